@@ -1,0 +1,12 @@
+//! Marks, syntax contexts, spans and identifiers: what tells one name of a program from another.
+#![tactic(auto)]
+
+mod context;
+mod ident;
+mod mark;
+mod span;
+
+pub use context::SyntaxContext;
+pub use ident::{Atom, Id, Ident, JsWord};
+pub use mark::Mark;
+pub use span::{BytePos, DUMMY_SP, Span};
