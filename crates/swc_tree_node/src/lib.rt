@@ -1,0 +1,12 @@
+//! The syntax tree as one recursive type, and the table of what stands where in it.
+#![tactic(auto)]
+
+mod kind;
+mod node;
+mod slot;
+mod table;
+
+pub use kind::{Class, Kind, Word, WordClass};
+pub use node::Node;
+pub use slot::{Content, Field, Role, Scope, Slot};
+pub use table::{fields_of, is_identifier, kinds_of, name_of, scope_of, spelling_of, words_of};

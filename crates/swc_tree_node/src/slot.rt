@@ -1,0 +1,60 @@
+//! What the table says of a field.
+use crate::kind::{Class, WordClass};
+
+/// What one node or leaf must be.
+#[derive(Clone, Copy, Debug, PartialEq, Eq)]
+pub enum Content {
+    Span,
+    Text,
+    Flag,
+    Word(WordClass),
+    Node(Class),
+}
+
+/// What stands in a field.
+#[derive(Clone, Copy, Debug, PartialEq, Eq)]
+pub enum Slot {
+    One(Content),
+    /// One, or nothing.
+    Optional(Content),
+    List(Content),
+}
+
+/// What an identifier is that stands in a field, or in what stands there.
+#[derive(Clone, Copy, Debug, PartialEq, Eq)]
+pub enum Role {
+    /// No name that a scope declares.
+    Plain,
+    /// What it is in the whole node: in parts of a pattern and items of a list.
+    Inherited,
+    /// An identifier reference (ECMA-262, IdentifierReference).
+    Reference,
+    /// A name that is bound as the keyword beside it says: by `var` in the function, else in the block.
+    Declared,
+    /// The name of a function declaration.
+    Function,
+    /// A name that a parameter binds.
+    Parameter,
+    /// A name that `var` binds.
+    Variable,
+    /// A name that `let` or `const` binds.
+    Lexical,
+    /// No name; the block here is the body of a function, and no scope of its own.
+    FunctionBody,
+}
+
+/// The kinds of scopes.
+#[derive(Clone, Copy, Debug, PartialEq, Eq)]
+pub enum Scope {
+    Program,
+    Function,
+    Block,
+}
+
+/// A field of a kind: its key in JSON, what stands in it, and what an identifier is there.
+#[derive(Clone, Copy, Debug)]
+pub struct Field {
+    pub key: &'static str,
+    pub slot: Slot,
+    pub role: Role,
+}
