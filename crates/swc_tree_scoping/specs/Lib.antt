@@ -1,0 +1,3 @@
+pub mod Places
+pub mod Scopes
+pub mod Resolved

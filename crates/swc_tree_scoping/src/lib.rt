@@ -1,0 +1,9 @@
+//! Scopes, and what an identifier means: the definitions on which the passes rest.
+//!
+//! They stand in `specs/`: `Places` says where identifiers stand and in which role, `Scopes` which scope
+//! declares a name and which one a reference means, `Resolved` what a resolver may answer.
+#![tactic(auto)]
+
+mod roles;
+
+pub use roles::{is_binding, opened, role_of_word, takes};
