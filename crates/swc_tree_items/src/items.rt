@@ -50,6 +50,17 @@ impl<T> Items<T> {
         items
     }
 
+    /// The elements as an array, where their number is known.
+    pub fn into_array<const N: usize>(self) -> [T; N]
+        requires { length self ≡ N }
+        ensures { result ≡ self }
+    {
+        match <[T; N]>::try_from(self.into_vec()) {
+            Ok(items) => items,
+            Err(_) => unreachable!(),
+        }
+    }
+
     /// The elements in place.
     pub fn as_slice(&self) -> &[T]
         ensures { result.now ≡ self.now }
