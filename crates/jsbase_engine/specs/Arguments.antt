@@ -1,0 +1,12 @@
+-- The words of the command line.
+use Rattle.std.specs.Prelude.{ℕ, List, codes}
+use Rattle.jsbase_engine.specs.declared.arguments.Command.{Command}
+use Rattle.jsbase_engine.specs.declared.arguments.Command.TheVariants as command
+use Rattle.jsbase_engine.specs.declared.arguments.Kind.{Kind}
+use Rattle.jsbase_engine.specs.declared.arguments.Kind.TheVariants as kind
+
+abbrev pub command_word : Command → List ℕ
+command_word command.Resolve = codes "resolve"
+
+abbrev pub kind_word : Kind → List ℕ
+kind_word kind.Module = codes "module"

@@ -1,0 +1,60 @@
+ghost use Rattle.std.specs.Prelude.{◌≡◌, ◌≢◌, [], ◌∷◌, map, string_bytes, IfOk, IfErr, IfSome, IfNone};
+ghost use Rattle.jsbase_engine.specs.declared.fault.Fault.TheVariants.{Usage};
+ghost use Rattle.jsbase_engine.specs.declared.arguments.Command.{Command};
+ghost use Rattle.jsbase_engine.specs.declared.arguments.Kind.{Kind};
+ghost use Rattle.jsbase_engine.specs.Arguments.{command_word, kind_word};
+
+use crate::fault::Fault;
+
+/// What is done with a program.
+#[derive(Clone, Copy, Debug, PartialEq, Eq)]
+pub enum Command {
+    /// Each identifier gets the mark of its scope.
+    Resolve,
+}
+
+/// The goal symbol of a program (ECMA-262, Script and Module).
+#[derive(Clone, Copy, Debug, PartialEq, Eq)]
+pub enum Kind {
+    Module,
+}
+
+fn command_named(word: &str) -> Option<Command>
+    ensures found { IfSome result (λ c. command_word c ≡ word.now) }
+    ensures missing { IfNone result ((c : Command) → command_word c ≢ word.now) }
+{
+    match word {
+        "resolve" => Some(Command::Resolve),
+        _ => None,
+    }
+}
+
+fn kind_named(word: &str) -> Option<Kind>
+    ensures found { IfSome result (λ k. kind_word k ≡ word.now) }
+    ensures missing { IfNone result ((k : Kind) → kind_word k ≢ word.now) }
+{
+    match word {
+        "module" => Some(Kind::Module),
+        _ => None,
+    }
+}
+
+/// The command and the kind that a program's two arguments name.
+///
+/// Any other number of arguments, or a word that names nothing, is `Usage`.
+pub fn words(arguments: &[String]) -> Result<(Command, Kind), Fault>
+    ensures named { IfOk result (λ w. map string_bytes arguments.now ≡ command_word w.0 ∷ kind_word w.1 ∷ []) }
+    ensures usage { IfErr result (λ fault. (fault ≡ Usage)
+        × ((c : Command) (k : Kind) → map string_bytes arguments.now ≢ command_word c ∷ kind_word k ∷ [])) }
+{
+    let [command, kind] = arguments else {
+        return Err(Fault::Usage);
+    };
+    let Some(command) = command_named(command.as_str()) else {
+        return Err(Fault::Usage);
+    };
+    let Some(kind) = kind_named(kind.as_str()) else {
+        return Err(Fault::Usage);
+    };
+    Ok((command, kind))
+}

@@ -1,0 +1,10 @@
+//! The engine of `jsbase`: from the bytes of an envelope to the bytes of an envelope.
+#![tactic(auto)]
+
+mod arguments;
+mod fault;
+#[cfg(test)]
+mod tests;
+
+pub use arguments::{Command, Kind, words};
+pub use fault::{Fault, report};
