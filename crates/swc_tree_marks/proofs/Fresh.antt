@@ -1,5 +1,5 @@
 -- What fresh marks add to a table.
-use Rattle.std.proofs.Common.{◌≡◌, ◌≢◌, ℕ, ◌+◌, ◌<◌, ◌↔◌, zero, suc, [], ◌∷◌, ◌++◌, ◌⊎◌, inl, inr, map, Option, Some, None, Contains, sym, ap, refl, ◌∙◌, arith, length, length-append, append_assoc, append-nil}
+use Rattle.std.proofs.Common.{◌≡◌, ◌≢◌, ℕ, ◌+◌, ◌<◌, ◌≤◌, ◌↔◌, zero, suc, [], ◌∷◌, ◌++◌, ◌⊎◌, inl, inr, map, Option, Some, None, Contains, sym, ap, refl, ◌∙◌, arith, length, length-append, append_assoc, append-nil}
 use Rattle.std.proofs.Math.Seq.{get_or-append_seam}
 use Rattle.std.specs.List.{range_with_len}
 use Rattle.std.specs.Option.{SomeIff, IsNone}
