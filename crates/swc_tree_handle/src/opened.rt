@@ -1,0 +1,42 @@
+//! What a node is, opened one level deep.
+ghost use Rattle.std.specs.Prelude.{◌≡◌, IfOk};
+ghost use Rattle.swc_tree_node.specs.declared.slot.Slot.TheVariants.{One};
+ghost use Rattle.swc_tree_node.specs.declared.slot.Content.TheVariants.{Node as Of};
+ghost use Rattle.swc_tree_node.specs.Fits.{Fits};
+
+use crate::class::Syntax;
+use crate::tree::Tree;
+use std::alloc::{AllocError, Global};
+use swc_tree_node::Node;
+
+/// A struct or a sum of the syntax tree, one level deep: its subtrees are `Tree`s and `Trees`. `C` is
+/// the class of the nodes that open to it.
+pub trait Opened<C> {
+    ghost use Rattle.swc_tree_node.specs.declared.kind.Class.{Class};
+    ghost use Rattle.swc_tree_node.specs.declared.node.Node.{Node};
+
+    /// The class `C`.
+    ghost class: { Class };
+
+    /// The node that an opened value is.
+    ghost node: { Self → Node };
+
+    /// Takes a node apart, with no copy of what is below it.
+    fn of_node(closed: Node) -> Self
+        requires { Fits closed (One (Of class)) }
+        ensures { node result ≡ closed };
+
+    /// Puts the node together. Where memory is refused, the value is dropped.
+    fn into_node(self, alloc: Global) -> Result<Node, AllocError>
+        ensures { IfOk result (λ closed. (closed ≡ node self) × Fits closed (One (Of class))) };
+}
+
+impl<C: Syntax> Tree<C> {
+    /// Takes the node apart, one level deep, with no copy of what is below it.
+    pub fn open<T: Opened<C>>(self) -> T
+        requires { T.class ≡ C.class }
+        ensures { T.node result ≡ self }
+    {
+        T::of_node(self.into_node())
+    }
+}
