@@ -1,6 +1,6 @@
 -- Two kinds of one number are one.
 --
--- Printed by tools/print_tree.py from tools/tree.txt.
+-- Printed by tools/print_table.py from tools/tree.txt.
 use Rattle.std.proofs.Common.{◌≡◌, ℕ, List, [], ◌∷◌, slice_index_or, refl, ap}
 use Rattle.swc_tree_node.specs.declared.kind.Kind.{Kind}
 use Rattle.swc_tree_node.specs.declared.kind.Kind.TheVariants as kind

@@ -1,14 +1,17 @@
 //! The classes of nodes, as types.
 //!
-//! Printed by tools/print_tree.py from tools/tree.txt.
+//! Printed by tools/print_table.py from tools/tree.txt.
 
-/// A class, as a type. It has no value that matters: it only says what a `Tree` or `Trees` holds.
+/// A class, as a type: what a `Tree` or a `Trees` holds.
 pub trait Syntax {
     ghost use Rattle.swc_tree_node.specs.declared.kind.Class.{Class};
 
+    /// The class.
     ghost class: { Class };
 }
 
+/// The class `Module`.
+#[derive(Clone, Copy, Debug)]
 pub struct Module;
 
 impl Syntax for Module {
@@ -17,6 +20,8 @@ impl Syntax for Module {
     ghost class = { class.Module };
 }
 
+/// The class `BlockStmt`.
+#[derive(Clone, Copy, Debug)]
 pub struct BlockStmt;
 
 impl Syntax for BlockStmt {
@@ -25,6 +30,8 @@ impl Syntax for BlockStmt {
     ghost class = { class.BlockStmt };
 }
 
+/// The class `ReturnStmt`.
+#[derive(Clone, Copy, Debug)]
 pub struct ReturnStmt;
 
 impl Syntax for ReturnStmt {
@@ -33,6 +40,8 @@ impl Syntax for ReturnStmt {
     ghost class = { class.ReturnStmt };
 }
 
+/// The class `ExprStmt`.
+#[derive(Clone, Copy, Debug)]
 pub struct ExprStmt;
 
 impl Syntax for ExprStmt {
@@ -41,6 +50,8 @@ impl Syntax for ExprStmt {
     ghost class = { class.ExprStmt };
 }
 
+/// The class `FnDecl`.
+#[derive(Clone, Copy, Debug)]
 pub struct FnDecl;
 
 impl Syntax for FnDecl {
@@ -49,6 +60,8 @@ impl Syntax for FnDecl {
     ghost class = { class.FnDecl };
 }
 
+/// The class `VarDecl`.
+#[derive(Clone, Copy, Debug)]
 pub struct VarDecl;
 
 impl Syntax for VarDecl {
@@ -57,6 +70,8 @@ impl Syntax for VarDecl {
     ghost class = { class.VarDecl };
 }
 
+/// The class `VarDeclarator`.
+#[derive(Clone, Copy, Debug)]
 pub struct VarDeclarator;
 
 impl Syntax for VarDeclarator {
@@ -65,6 +80,8 @@ impl Syntax for VarDeclarator {
     ghost class = { class.VarDeclarator };
 }
 
+/// The class `Function`.
+#[derive(Clone, Copy, Debug)]
 pub struct Function;
 
 impl Syntax for Function {
@@ -73,6 +90,8 @@ impl Syntax for Function {
     ghost class = { class.Function };
 }
 
+/// The class `Param`.
+#[derive(Clone, Copy, Debug)]
 pub struct Param;
 
 impl Syntax for Param {
@@ -81,6 +100,8 @@ impl Syntax for Param {
     ghost class = { class.Param };
 }
 
+/// The class `Ident`.
+#[derive(Clone, Copy, Debug)]
 pub struct Ident;
 
 impl Syntax for Ident {
@@ -89,6 +110,8 @@ impl Syntax for Ident {
     ghost class = { class.Ident };
 }
 
+/// The class `BindingIdent`.
+#[derive(Clone, Copy, Debug)]
 pub struct BindingIdent;
 
 impl Syntax for BindingIdent {
@@ -97,6 +120,8 @@ impl Syntax for BindingIdent {
     ghost class = { class.BindingIdent };
 }
 
+/// The class `Str`.
+#[derive(Clone, Copy, Debug)]
 pub struct Str;
 
 impl Syntax for Str {
@@ -105,6 +130,8 @@ impl Syntax for Str {
     ghost class = { class.Str };
 }
 
+/// The class `Number`.
+#[derive(Clone, Copy, Debug)]
 pub struct Number;
 
 impl Syntax for Number {
@@ -113,6 +140,8 @@ impl Syntax for Number {
     ghost class = { class.Number };
 }
 
+/// The class `BinExpr`.
+#[derive(Clone, Copy, Debug)]
 pub struct BinExpr;
 
 impl Syntax for BinExpr {
@@ -121,6 +150,8 @@ impl Syntax for BinExpr {
     ghost class = { class.BinExpr };
 }
 
+/// The class `CallExpr`.
+#[derive(Clone, Copy, Debug)]
 pub struct CallExpr;
 
 impl Syntax for CallExpr {
@@ -129,6 +160,8 @@ impl Syntax for CallExpr {
     ghost class = { class.CallExpr };
 }
 
+/// The class `ExprOrSpread`.
+#[derive(Clone, Copy, Debug)]
 pub struct ExprOrSpread;
 
 impl Syntax for ExprOrSpread {
@@ -137,6 +170,8 @@ impl Syntax for ExprOrSpread {
     ghost class = { class.ExprOrSpread };
 }
 
+/// The class `ParenExpr`.
+#[derive(Clone, Copy, Debug)]
 pub struct ParenExpr;
 
 impl Syntax for ParenExpr {
@@ -145,6 +180,8 @@ impl Syntax for ParenExpr {
     ghost class = { class.ParenExpr };
 }
 
+/// The class `ModuleItem`.
+#[derive(Clone, Copy, Debug)]
 pub struct ModuleItem;
 
 impl Syntax for ModuleItem {
@@ -153,6 +190,8 @@ impl Syntax for ModuleItem {
     ghost class = { class.ModuleItem };
 }
 
+/// The class `Stmt`.
+#[derive(Clone, Copy, Debug)]
 pub struct Stmt;
 
 impl Syntax for Stmt {
@@ -161,6 +200,8 @@ impl Syntax for Stmt {
     ghost class = { class.Stmt };
 }
 
+/// The class `Decl`.
+#[derive(Clone, Copy, Debug)]
 pub struct Decl;
 
 impl Syntax for Decl {
@@ -169,6 +210,8 @@ impl Syntax for Decl {
     ghost class = { class.Decl };
 }
 
+/// The class `Pat`.
+#[derive(Clone, Copy, Debug)]
 pub struct Pat;
 
 impl Syntax for Pat {
@@ -177,6 +220,8 @@ impl Syntax for Pat {
     ghost class = { class.Pat };
 }
 
+/// The class `Expr`.
+#[derive(Clone, Copy, Debug)]
 pub struct Expr;
 
 impl Syntax for Expr {
@@ -185,6 +230,8 @@ impl Syntax for Expr {
     ghost class = { class.Expr };
 }
 
+/// The class `Lit`.
+#[derive(Clone, Copy, Debug)]
 pub struct Lit;
 
 impl Syntax for Lit {
@@ -193,6 +240,8 @@ impl Syntax for Lit {
     ghost class = { class.Lit };
 }
 
+/// The class `Callee`.
+#[derive(Clone, Copy, Debug)]
 pub struct Callee;
 
 impl Syntax for Callee {

@@ -11,7 +11,7 @@ use swc_tree_node::Node;
 
 /// A struct or a sum of the syntax tree, one level deep: its subtrees are `Tree`s and `Trees`. `C` is
 /// the class of the nodes that open to it.
-pub trait Opened<C> {
+pub trait Opened<C>: Sized {
     ghost use Rattle.swc_tree_node.specs.declared.kind.Class.{Class};
     ghost use Rattle.swc_tree_node.specs.declared.node.Node.{Node};
 
@@ -29,6 +29,16 @@ pub trait Opened<C> {
     /// Puts the node together. Where memory is refused, the value is dropped.
     fn into_node(self, alloc: Global) -> Result<Node, AllocError>
         ensures { IfOk result (λ closed. (closed ≡ node self) × Fits closed (One (Of class))) };
+
+    /// Puts the node together, with its class. Where memory is refused, the value is dropped.
+    final fn close(self, alloc: Global) -> Result<Tree<C>, AllocError>
+    where
+        C: Syntax,
+        requires { class ≡ C.class }
+        ensures { IfOk result (λ tree. tree ≡ node self) }
+    {
+        Ok(Tree::of(self.into_node(alloc)?))
+    }
 }
 
 impl<C: Syntax> Tree<C> {

@@ -15,10 +15,7 @@ use swc_tree_marks::Ident;
 use swc_tree_node::{Kind, Node};
 
 /// The fields of a node as a list. Where memory is refused, they are dropped.
-pub fn collect<const N: usize>(
-    alloc: Global,
-    fields: [Node; N],
-) -> Result<Items<Node>, AllocError>
+pub fn collect<const N: usize>(alloc: Global, fields: [Node; N]) -> Result<Items<Node>, AllocError>
     ensures { IfOk result (λ list. list ≡ fields.entry) }
 {
     Ok(Items::from_vec(Vec::from_array(alloc, fields)?))
