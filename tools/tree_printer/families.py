@@ -193,10 +193,12 @@ def entry_rt(tree, entry):
 
 
 def lib_rt(tree, family):
+    about = tree.families[family]
     names = sorted((entry.name for entry in printed_entries(tree, family)), key=module_of)
-    return ('//! %s Each struct and sum stands one level deep, and opens from a `Tree` of its class.\n//!\n//! %s\n'
-            '#![tactic(auto)]\n\n' % (tree.families[family], PRINTED)
-            + ''.join('mod %s;\n' % module_of(name) for name in names) + '\n'
+    modules = sorted([module_of(name) for name in names] + about.by_hand)
+    return ('//! %s\n//!\n//! Each struct and sum stands one level deep: its subtrees are `Tree`s and `Trees`.\n//! %s\n'
+            '#![tactic(auto)]\n\n' % (about.doc, PRINTED)
+            + ''.join('mod %s;\n' % module for module in modules) + '\n'
             + ''.join('pub use %s::%s;\n' % (module_of(name), name) for name in names))
 
 

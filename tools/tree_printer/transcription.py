@@ -18,6 +18,13 @@ class Field:
         self.type = type_.strip('[]?')
 
 
+class Family:
+    """A crate of structs and sums: what they are, and the crate's modules that are written by hand."""
+
+    def __init__(self, name, doc, by_hand):
+        self.name, self.doc, self.by_hand = name, doc, by_hand
+
+
 class Entry:
     """What has a line of its own: its name, its crate and what it is."""
 
@@ -65,11 +72,15 @@ class Tree:
         if line.startswith('/// '):
             self.doc = line[4:]
         elif line.startswith('family '):
-            self.family, _, text = line[len('family '):].partition(': ')
-            self.families.setdefault(self.family, text)
+            self.read_family(line[len('family '):])
         else:
             self.read_entry(line)
             self.doc = None
+
+    def read_family(self, line):
+        head, _, text = line.partition(': ')
+        self.family, *by_hand = head.split(' and ')
+        self.families.setdefault(self.family, Family(self.family, text, by_hand))
 
     def read_entry(self, line):
         about = (self.family, self.doc)

@@ -1,18 +1,16 @@
 -- A node that fits one class fits another that takes its kind.
-use Rattle.std.proofs.Common.{◌≡◌, zero, suc, slice_get, slice_set, List, [], ◌∷◌, ℕ, Bool, true, false, not, ◌&&◌, ◌||◌, ◌==◌, IsTrue, map, Option, Some, None, rules, refl, ap, subst, arith}
+use Rattle.std.proofs.Common.{◌≡◌, zero, suc, slice_get, slice_set, List, [], ◌∷◌, ℕ, Bool, true, false, not, ◌||◌, ◌==◌, IsTrue, Some, refl, ap, subst, arith}
 use Rattle.std.specs.List.{list_any, list_all}
-use Rattle.swc_tree_marks.specs.declared.span.Span.{Span as Span'}
 use Rattle.swc_tree_marks.specs.declared.ident.Ident.{Ident}
 use Rattle.swc_tree_node.specs.declared.kind.Kind.{Kind}
 use Rattle.swc_tree_node.specs.declared.kind.Class.{Class}
-use Rattle.swc_tree_node.specs.declared.slot.Content.{Content}
 use Rattle.swc_tree_node.specs.declared.slot.Content.TheVariants as content
 use Rattle.swc_tree_node.specs.declared.slot.Slot.{Slot}
 use Rattle.swc_tree_node.specs.declared.slot.Slot.TheVariants as slot
-use Rattle.swc_tree_node.specs.declared.node.Node.{Node, Absent, Flag, Word, Text, Span, List as Many, Identifier, Tree}
+use Rattle.swc_tree_node.specs.declared.node.Node.{Node, Identifier, Tree}
 use Rattle.swc_tree_node.specs.declared.node.Node.TheVariants.{outs-Identifier, outs-Tree}
 use Rattle.swc_tree_node.specs.Table.{slots_of, is_identifier, kinds_of, kind_number}
-use Rattle.swc_tree_node.specs.Fits.{fits, Fits, belongs, FieldsFit, AllFit}
+use Rattle.swc_tree_node.specs.Fits.{Fits, belongs, FieldsFit, AllFit}
 use Rattle.swc_tree_node.proofs.Fit.{tree_opens, tree_closes, both, and_both, fits-Identifier}
 use Rattle.swc_tree_handle.proofs.Numbers.{same_kind}
 use Rattle.swc_tree_handle.specs.Handles.{kind_of, takes, is_of, is_within}

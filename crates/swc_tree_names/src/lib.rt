@@ -1,5 +1,6 @@
-//! Names and literals: what holds no subtree. Each struct and sum stands one level deep, and opens from a `Tree` of its class.
+//! Names and literals: what holds no subtree.
 //!
+//! Each struct and sum stands one level deep: its subtrees are `Tree`s and `Trees`.
 //! Printed by tools/print_table.py from tools/tree.txt.
 #![tactic(auto)]
 
