@@ -16,7 +16,6 @@ pub trait Syntax {
 
 CLASS = '''
 /// The class `%(name)s`.
-#[derive(Clone, Copy, Debug)]
 pub struct %(name)s;
 
 impl Syntax for %(name)s {

@@ -2,6 +2,7 @@
 from tree_printer.classes import PRINTED
 from tree_printer.forms import HANDLE, MARKS, NODE, form_of, owner_of, snake, spec_module, spec_name
 
+# Names that no module may have: the module's name has an underscore after them.
 KEYWORDS = {'super', 'module'}
 PRELUDE = 'Rattle.std.specs.Prelude'
 SLOT_USES = ('ghost use Rattle.swc_tree_node.specs.declared.slot.Slot.TheVariants.{One};\n'
@@ -57,14 +58,14 @@ def opened_head(family, spec, uses):
 
 def struct_rt(tree, struct):
     forms = [form_of(tree, field) for field in struct.fields]
-    name, keys = struct.name, ', '.join(field.key for field in struct.fields)
+    name, keys = struct.name, ', '.join(field.name for field in struct.fields)
     uses = set().union(*(form.uses | form.types for form in forms)) | {(HANDLE, 'collect')}
     declared = '/// %s\n#[derive(Debug, Drop)]\npub struct %s {\n%s}\n' % (
-        struct.doc, name, ''.join('    pub %s: %s,\n' % (f.key, form.type) for f, form in zip(struct.fields, forms)))
+        struct.doc, name, ''.join('    pub %s: %s,\n' % (f.name, form.type) for f, form in zip(struct.fields, forms)))
     of_node = '''        let fields = Tree::<class::%s>::of(closed).into_fields(Kind::%s);
         let [%s] = fields.into_array::<%d>();
         %s { %s }
-''' % (name, name, keys, len(forms), name, ', '.join('%s: %s' % (f.key, form.open) for f, form in zip(struct.fields, forms)))
+''' % (name, name, keys, len(forms), name, ', '.join('%s: %s' % (f.name, form.open) for f, form in zip(struct.fields, forms)))
     into_node = '''        let %s { %s } = self;
         let fields = collect(alloc, [%s])?;
         Ok(Tree::<class::%s>::of_fields(Kind::%s, fields).into_node())
@@ -232,6 +233,13 @@ def words_spec(words):
         '%s %s.%s = word.%s\n' % (spec, snake(words.name), v, v) for _, v in words.words))
 
 
+def held_by_value(tree, entry):
+    """The structs and sums that stand in a struct or sum themselves, and not as a subtree."""
+    if entry.name in tree.sums:
+        return [member for _, member in entry.variants]
+    return [field.type for field in entry.fields if tree.is_leaf(field.type) and not field.many]
+
+
 def in_order(tree, family):
     """The structs and sums of a family, each after those that it holds by value."""
     mine = {entry.name: entry for entry in printed_entries(tree, family) if entry.name not in tree.words}
@@ -241,8 +249,7 @@ def in_order(tree, family):
         if name not in mine or mine[name] in ordered:
             return
         entry = mine[name]
-        held = [m for _, m in entry.variants] if name in tree.sums else [f.type for f in entry.fields if f.type in tree.structs and tree.is_leaf(f.type)]
-        for other in held:
+        for other in held_by_value(tree, entry):
             visit(other)
         ordered.append(entry)
 

@@ -33,7 +33,7 @@ def leaf(field):
     name = field.type.lower()
     rust = {'Span': 'Span', 'Text': 'Atom', 'Flag': 'bool'}[field.type]
     types = {(MARKS, rust)} - {(MARKS, 'bool')}
-    key = field.key
+    key = field.name
     if field.optional:
         to, of = 'to_maybe_' + name, 'from_maybe_' + name
         return Form('Option<%s>' % rust, '%s(%s)' % (to, key), '%s(%s)' % (of, key), 'maybe_%s x.%s' % (name, key),
@@ -45,8 +45,10 @@ def leaf(field):
 
 def word(tree, field):
     """A word of a list of words."""
+    if field.optional or field.many:
+        raise SystemExit('no form for an optional word or a list of words: ' + field.key)
     words = tree.words[field.type]
-    key, name = field.key, snake(field.type)
+    key, name = field.name, snake(field.type)
     return Form(field.type, '%s::of_node(%s)' % (field.type, key), '%s.into_node()' % key,
                 'node.Word (%s_word x.%s)' % (name, key), (), {(words.family, field.type)},
                 {(words.family + '.specs.Nodes', name + '_word')})
@@ -54,22 +56,21 @@ def word(tree, field):
 
 def by_value(tree, field):
     """A struct that holds no subtree."""
-    struct, key = tree.structs[field.type], field.key
+    key = field.name
     owner = owner_of(tree, field.type)
     spec = spec_name(tree, field.type)
-    types = {(owner, field.type)}
-    of_node = '%s::of_node(%s)' % (field.type, key)
+    types, specs = {(owner, field.type)}, {(spec_module(tree, field.type), spec)}
     if field.optional:
-        return Form('Option<%s>' % field.type, 'Tree::<class::%s>::of_maybe(%s).map(Tree::open)' % (field.type, key),
-                    'Tree::into_maybe(close_maybe(alloc, %s)?)' % key, 'maybe_node (option_map %s x.%s)' % (spec, key),
-                    {(HANDLE, 'Tree')}, types, {(HANDLES, 'maybe_node'), (spec_module(tree, field.type), spec)})
-    return Form(field.type, of_node, '%s.into_node(alloc)?' % key, '%s x.%s' % (spec, key),
-                (), types, {(spec_module(tree, field.type), spec)})
+        return Form('Option<%s>' % field.type, '%s::of_optional(%s)' % (field.type, key),
+                    '%s::into_optional(%s, alloc)?' % (field.type, key), 'maybe_node (option_map %s x.%s)' % (spec, key),
+                    (), types, specs | {(HANDLES, 'maybe_node')})
+    return Form(field.type, '%s::of_node(%s)' % (field.type, key), '%s.into_node(alloc)?' % key, '%s x.%s' % (spec, key),
+                (), types, specs)
 
 
 def handle(field):
     """A subtree, or a list of subtrees."""
-    key, of = field.key, 'class::' + field.type
+    key, of = field.name, 'class::' + field.type
     if field.many:
         return Form('Trees<%s>' % of, 'Trees::of(%s)' % key, '%s.into_node()' % key, 'node.List x.%s' % key,
                     {(HANDLE, 'Trees')}, {(HANDLE, 'Trees'), (HANDLE, 'class')})

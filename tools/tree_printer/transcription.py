@@ -4,14 +4,18 @@ import re
 ROLES = {'': 'Plain', 'reference': 'Reference', 'inherited': 'Inherited', 'declared': 'Declared',
          'function': 'Function', 'parameter': 'Parameter', 'body': 'FunctionBody'}
 
+# Words that no contract can use as the name of a field: the field's name has an underscore after them.
+CLAUSE_WORDS = {'class', 'with'}
+
 
 class Field:
-    """A field of a struct: its key, what stands in it, and what an identifier is there."""
+    """A field of a struct: its key in JSON, its name in code, what stands in it, and what an identifier is there."""
 
     def __init__(self, text):
         key, rest = text.strip().split(' ', 1)
         type_, role = (rest.split(' ', 1) + [''])[:2]
         self.key = key
+        self.name = key + '_' if key in CLAUSE_WORDS else key
         self.role = ROLES[role.strip()]
         self.many = type_.startswith('[')
         self.optional = type_.endswith('?')

@@ -11,7 +11,6 @@ pub trait Syntax {
 }
 
 /// The class `Module`.
-#[derive(Clone, Copy, Debug)]
 pub struct Module;
 
 impl Syntax for Module {
@@ -21,7 +20,6 @@ impl Syntax for Module {
 }
 
 /// The class `BlockStmt`.
-#[derive(Clone, Copy, Debug)]
 pub struct BlockStmt;
 
 impl Syntax for BlockStmt {
@@ -31,7 +29,6 @@ impl Syntax for BlockStmt {
 }
 
 /// The class `ReturnStmt`.
-#[derive(Clone, Copy, Debug)]
 pub struct ReturnStmt;
 
 impl Syntax for ReturnStmt {
@@ -41,7 +38,6 @@ impl Syntax for ReturnStmt {
 }
 
 /// The class `ExprStmt`.
-#[derive(Clone, Copy, Debug)]
 pub struct ExprStmt;
 
 impl Syntax for ExprStmt {
@@ -51,7 +47,6 @@ impl Syntax for ExprStmt {
 }
 
 /// The class `FnDecl`.
-#[derive(Clone, Copy, Debug)]
 pub struct FnDecl;
 
 impl Syntax for FnDecl {
@@ -61,7 +56,6 @@ impl Syntax for FnDecl {
 }
 
 /// The class `VarDecl`.
-#[derive(Clone, Copy, Debug)]
 pub struct VarDecl;
 
 impl Syntax for VarDecl {
@@ -71,7 +65,6 @@ impl Syntax for VarDecl {
 }
 
 /// The class `VarDeclarator`.
-#[derive(Clone, Copy, Debug)]
 pub struct VarDeclarator;
 
 impl Syntax for VarDeclarator {
@@ -81,7 +74,6 @@ impl Syntax for VarDeclarator {
 }
 
 /// The class `Function`.
-#[derive(Clone, Copy, Debug)]
 pub struct Function;
 
 impl Syntax for Function {
@@ -91,7 +83,6 @@ impl Syntax for Function {
 }
 
 /// The class `Param`.
-#[derive(Clone, Copy, Debug)]
 pub struct Param;
 
 impl Syntax for Param {
@@ -101,7 +92,6 @@ impl Syntax for Param {
 }
 
 /// The class `Ident`.
-#[derive(Clone, Copy, Debug)]
 pub struct Ident;
 
 impl Syntax for Ident {
@@ -111,7 +101,6 @@ impl Syntax for Ident {
 }
 
 /// The class `BindingIdent`.
-#[derive(Clone, Copy, Debug)]
 pub struct BindingIdent;
 
 impl Syntax for BindingIdent {
@@ -121,7 +110,6 @@ impl Syntax for BindingIdent {
 }
 
 /// The class `Str`.
-#[derive(Clone, Copy, Debug)]
 pub struct Str;
 
 impl Syntax for Str {
@@ -131,7 +119,6 @@ impl Syntax for Str {
 }
 
 /// The class `Number`.
-#[derive(Clone, Copy, Debug)]
 pub struct Number;
 
 impl Syntax for Number {
@@ -141,7 +128,6 @@ impl Syntax for Number {
 }
 
 /// The class `BinExpr`.
-#[derive(Clone, Copy, Debug)]
 pub struct BinExpr;
 
 impl Syntax for BinExpr {
@@ -151,7 +137,6 @@ impl Syntax for BinExpr {
 }
 
 /// The class `CallExpr`.
-#[derive(Clone, Copy, Debug)]
 pub struct CallExpr;
 
 impl Syntax for CallExpr {
@@ -161,7 +146,6 @@ impl Syntax for CallExpr {
 }
 
 /// The class `ExprOrSpread`.
-#[derive(Clone, Copy, Debug)]
 pub struct ExprOrSpread;
 
 impl Syntax for ExprOrSpread {
@@ -171,7 +155,6 @@ impl Syntax for ExprOrSpread {
 }
 
 /// The class `ParenExpr`.
-#[derive(Clone, Copy, Debug)]
 pub struct ParenExpr;
 
 impl Syntax for ParenExpr {
@@ -181,7 +164,6 @@ impl Syntax for ParenExpr {
 }
 
 /// The class `ModuleItem`.
-#[derive(Clone, Copy, Debug)]
 pub struct ModuleItem;
 
 impl Syntax for ModuleItem {
@@ -191,7 +173,6 @@ impl Syntax for ModuleItem {
 }
 
 /// The class `Stmt`.
-#[derive(Clone, Copy, Debug)]
 pub struct Stmt;
 
 impl Syntax for Stmt {
@@ -201,7 +182,6 @@ impl Syntax for Stmt {
 }
 
 /// The class `Decl`.
-#[derive(Clone, Copy, Debug)]
 pub struct Decl;
 
 impl Syntax for Decl {
@@ -211,7 +191,6 @@ impl Syntax for Decl {
 }
 
 /// The class `Pat`.
-#[derive(Clone, Copy, Debug)]
 pub struct Pat;
 
 impl Syntax for Pat {
@@ -221,7 +200,6 @@ impl Syntax for Pat {
 }
 
 /// The class `Expr`.
-#[derive(Clone, Copy, Debug)]
 pub struct Expr;
 
 impl Syntax for Expr {
@@ -231,7 +209,6 @@ impl Syntax for Expr {
 }
 
 /// The class `Lit`.
-#[derive(Clone, Copy, Debug)]
 pub struct Lit;
 
 impl Syntax for Lit {
@@ -241,7 +218,6 @@ impl Syntax for Lit {
 }
 
 /// The class `Callee`.
-#[derive(Clone, Copy, Debug)]
 pub struct Callee;
 
 impl Syntax for Callee {

@@ -1,8 +1,10 @@
 //! What a node is, opened one level deep.
 ghost use Rattle.std.specs.Prelude.{◌≡◌, IfOk};
-ghost use Rattle.swc_tree_node.specs.declared.slot.Slot.TheVariants.{One};
+ghost use Rattle.std.specs.Option.{option_map};
+ghost use Rattle.swc_tree_node.specs.declared.slot.Slot.TheVariants.{One, Optional};
 ghost use Rattle.swc_tree_node.specs.declared.slot.Content.TheVariants.{Node as Of};
 ghost use Rattle.swc_tree_node.specs.Fits.{Fits};
+ghost use Rattle.swc_tree_handle.specs.Handles.{maybe_node};
 
 use crate::class::Syntax;
 use crate::tree::Tree;
@@ -29,6 +31,32 @@ pub trait Opened<C>: Sized {
     /// Puts the node together. Where memory is refused, the value is dropped.
     fn into_node(self, alloc: Global) -> Result<Node, AllocError>
         ensures { IfOk result (λ closed. (closed ≡ node self) × Fits closed (One (Of class))) };
+
+    /// Takes apart what an optional place holds.
+    #[tactic(auto, using(swc_tree_node::proofs::Fit::fitting))]
+    final fn of_optional(closed: Node) -> Option<Self>
+        requires { Fits closed (Optional (Of class)) }
+        ensures { maybe_node (option_map node result) ≡ closed }
+    {
+        match closed {
+            Node::Absent => None,
+            closed => Some(Self::of_node(closed)),
+        }
+    }
+
+    /// Puts together what an optional place is to hold. Where memory is refused, the value is dropped.
+    #[tactic(auto, using(swc_tree_node::proofs::Fit::fitting))]
+    final fn into_optional(opened: Option<Self>, alloc: Global) -> Result<Node, AllocError>
+        ensures { IfOk result (λ closed. (closed ≡ maybe_node (option_map node opened)) × Fits closed (Optional (Of class))) }
+    {
+        match opened {
+            None => Ok(Node::Absent),
+            Some(opened) => {
+                let closed = opened.into_node(alloc)?;
+                Ok(closed)
+            }
+        }
+    }
 
     /// Puts the node together, with its class. Where memory is refused, the value is dropped.
     final fn close(self, alloc: Global) -> Result<Tree<C>, AllocError>

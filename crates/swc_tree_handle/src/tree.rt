@@ -9,6 +9,7 @@ ghost use Rattle.swc_tree_handle.specs.Handles.{kind_of, is_of, is_within, maybe
 
 use crate::class::Syntax;
 use std::alloc::{AllocError, Global};
+use std::fmt;
 use std::marker::{Model, PhantomData};
 use swc_tree_items::{Boxed, Items};
 use swc_tree_marks::Ident;
@@ -22,7 +23,7 @@ pub fn collect<const N: usize>(alloc: Global, fields: [Node; N]) -> Result<Items
 }
 
 /// A node of the class `C`. Contracts see it as the node.
-#[derive(Debug, Drop)]
+#[derive(Drop)]
 pub struct Tree<C: Syntax> {
     node: Node,
     of: PhantomData<C>,
@@ -187,5 +188,11 @@ impl<C: Syntax> Tree<C> {
         ensures { IfOk result (λ tree. tree ≡ Identifier kind ident) }
     {
         Ok(Tree::of(Node::Identifier(kind, Boxed::new(alloc, ident)?)))
+    }
+}
+
+impl<C: Syntax> fmt::Debug for Tree<C> {
+    fn fmt<W: fmt::Write>(&self, f: &mut fmt::Formatter<W>) -> fmt::Result {
+        fmt::Debug::fmt(&self.node, f)
     }
 }

@@ -8,12 +8,13 @@ ghost use Rattle.swc_tree_node.specs.Fits.{Fits, AllFit};
 use crate::class::Syntax;
 use crate::tree::Tree;
 use std::alloc::{AllocError, Global};
+use std::fmt;
 use std::marker::{Model, PhantomData};
 use swc_tree_items::Items;
 use swc_tree_node::Node;
 
 /// Nodes of the class `C`. Contracts see them as the list of the nodes.
-#[derive(Debug, Drop)]
+#[derive(Drop)]
 pub struct Trees<C: Syntax> {
     nodes: Items<Node>,
     of: PhantomData<C>,
@@ -139,5 +140,11 @@ impl<C: Syntax> Trees<C> {
         ensures list { self.new ≡ slice_set self.old index tree }
     {
         Tree::of(self.nodes.replace(index, tree.into_node()))
+    }
+}
+
+impl<C: Syntax> fmt::Debug for Trees<C> {
+    fn fmt<W: fmt::Write>(&self, f: &mut fmt::Formatter<W>) -> fmt::Result {
+        fmt::Debug::fmt(&self.nodes, f)
     }
 }
