@@ -1,0 +1,14 @@
+-- What every pass leaves.
+use Rattle.std.specs.Prelude.{◌≡◌, [], ◌++◌, None}
+use Rattle.swc_tree_marks.specs.Globals.{Table}
+use Rattle.swc_tree_modules.specs.declared.module_.Module.{Module}
+
+-- the program as a refused pass leaves it: of the same span, with no item and no `#!` line
+pub record IsEmptied (before after : Module) : Type 0 where
+  pub span : after.span ≡ before.span
+  pub no_body : after.body ≡ []
+  pub no_shebang : after.shebang ≡ None
+
+-- the table has all that it had, and perhaps more after it
+abbrev pub IsExtended : Table → Table → Type 0
+IsExtended before after = (more : Table) × (after ≡ before ++ more)

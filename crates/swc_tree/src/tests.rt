@@ -1,0 +1,278 @@
+ghost use Rattle.std.specs.Prelude.{◌≡◌};
+
+use super::*;
+use std::alloc::{AllocError, Global};
+
+fn ident(alloc: Global, text: &str) -> Result<Ident, AllocError> {
+    Ok(Ident {
+        span: DUMMY_SP,
+        ctxt: SyntaxContext::empty(alloc),
+        sym: Text::new(alloc, text)?,
+    })
+}
+
+fn reference(alloc: Global, text: &str) -> Result<Tree<class::Expr>, AllocError> {
+    Expr::Ident(ident(alloc, text)?).close(alloc)
+}
+
+fn number(alloc: Global, text: &str) -> Result<Tree<class::Expr>, AllocError> {
+    let number = Number {
+        span: DUMMY_SP,
+        text: Text::new(alloc, text)?,
+    };
+    Expr::Lit(Lit::Num(number)).close(alloc)
+}
+
+fn operation(
+    alloc: Global,
+    op: BinaryOp,
+    left: Tree<class::Expr>,
+    right: Tree<class::Expr>,
+) -> Result<Tree<class::Expr>, AllocError> {
+    let operation = BinExpr {
+        span: DUMMY_SP,
+        op,
+        left,
+        right,
+    };
+    Expr::Bin(operation).close(alloc)
+}
+
+/// `a + b * c`, taken apart from the top.
+#[test]
+fn opens_expressions(rt: HostRuntime) -> Result<(), AllocError> {
+    let alloc = rt.alloc();
+    let product = operation(
+        alloc,
+        BinaryOp::Mul,
+        reference(alloc, "b")?,
+        reference(alloc, "c")?,
+    )?;
+    let sum = operation(alloc, BinaryOp::Add, reference(alloc, "a")?, product)?;
+    assert_eq!(rt; sum.kind(), Kind::BinExpr);
+    let Expr::Bin(
+        BinExpr {
+            op,
+            left,
+            right,
+            ..
+        },
+    ) = sum.open()
+    else {
+        panic!(rt; "a sum")
+    };
+    assert_eq!(rt; op, BinaryOp::Add);
+    let Expr::Ident(left) = left.open() else {
+        panic!(rt; "a name")
+    };
+    assert_eq!(rt; left.sym.as_str(), "a");
+    let Expr::Bin(product) = right.open() else {
+        panic!(rt; "a product")
+    };
+    assert_eq!(rt; product.op, BinaryOp::Mul);
+    Ok(())
+}
+
+/// `function f(x) { return x }`
+fn function(alloc: Global) -> Result<Stmt, AllocError> {
+    let pat = Pat::Ident(BindingIdent {
+        id: ident(alloc, "x")?,
+    });
+    let param = Param {
+        span: DUMMY_SP,
+        pat: pat.close(alloc)?,
+    };
+    let mut params = Trees::new(alloc);
+    params.push(param.close(alloc)?)?;
+    let answer = ReturnStmt {
+        span: DUMMY_SP,
+        arg: Some(reference(alloc, "x")?),
+    };
+    let mut stmts = Trees::new(alloc);
+    stmts.push(Stmt::Return(answer).close(alloc)?)?;
+    let body = BlockStmt {
+        span: DUMMY_SP,
+        stmts,
+    };
+    let function = Function {
+        span: DUMMY_SP,
+        params,
+        body: body.close(alloc)?,
+        is_generator: false,
+        is_async: true,
+    };
+    Ok(Stmt::Decl(Decl::Fn(FnDecl {
+        ident: ident(alloc, "f")?,
+        function: function.close(alloc)?,
+    })))
+}
+
+/// `const y = (f(1)), z`
+fn variables(alloc: Global) -> Result<Stmt, AllocError> {
+    let mut args = Trees::new(alloc);
+    let argument = ExprOrSpread {
+        spread: None,
+        expr: number(alloc, "1")?,
+    };
+    args.push(argument.close(alloc)?)?;
+    let call = CallExpr {
+        span: DUMMY_SP,
+        callee: Callee::Expr(Expr::Ident(ident(alloc, "f")?)).close(alloc)?,
+        args,
+    };
+    let paren = ParenExpr {
+        span: DUMMY_SP,
+        expr: Expr::Call(call).close(alloc)?,
+    };
+    let inits = [("y", Some(Expr::Paren(paren).close(alloc)?)), ("z", None)];
+    let mut decls = Trees::new(alloc);
+    for (name, init) in inits {
+        let pat = Pat::Ident(BindingIdent {
+            id: ident(alloc, name)?,
+        });
+        let declarator = VarDeclarator {
+            span: DUMMY_SP,
+            name: pat.close(alloc)?,
+            init,
+        };
+        decls.push(declarator.close(alloc)?)?;
+    }
+    Ok(Stmt::Decl(Decl::Var(VarDecl {
+        span: DUMMY_SP,
+        kind: VarDeclKind::Const,
+        decls,
+    })))
+}
+
+fn program(alloc: Global) -> Result<Module, AllocError> {
+    let text = Str {
+        span: DUMMY_SP,
+        value: Text::new(alloc, "use strict")?,
+        raw: None,
+    };
+    let directive = ExprStmt {
+        span: DUMMY_SP,
+        expr: Expr::Lit(Lit::Str(text)).close(alloc)?,
+    };
+    let mut body = Trees::new(alloc);
+    for stmt in [Stmt::Expr(directive), function(alloc)?, variables(alloc)?] {
+        body.push(ModuleItem::Stmt(stmt).close(alloc)?)?;
+    }
+    Ok(Module {
+        span: Span { lo: 1, hi: 2 },
+        body,
+        shebang: Some(Text::new(alloc, "node")?),
+    })
+}
+
+/// A program closed, opened, and each part of it looked at, the last item first.
+#[test]
+fn opens_programs(rt: HostRuntime) -> Result<(), AllocError> {
+    let alloc = rt.alloc();
+    let closed = program(alloc)?.close(alloc)?;
+    let mut module: Module = closed.open();
+    assert_eq!(rt; module.body.len(), 3);
+    let Some(ModuleItem::Stmt(Stmt::Decl(Decl::Var(mut var)))) = module.body.pop().map(Tree::open)
+    else {
+        panic!(rt; "variables")
+    };
+    assert_eq!(rt; var.kind, VarDeclKind::Const);
+    let Some(last) = var.decls.pop() else {
+        panic!(rt; "a declarator")
+    };
+    let VarDeclarator { name, init, .. } = last.open();
+    let Pat::Ident(name) = name.open();
+    assert_eq!(rt; name.id.sym.as_str(), "z");
+    assert!(rt; init.is_none());
+    let Some(ModuleItem::Stmt(Stmt::Decl(Decl::Fn(FnDecl { ident, function })))) = module
+        .body
+        .pop()
+        .map(Tree::open)
+    else {
+        panic!(rt; "a function")
+    };
+    assert_eq!(rt; ident.sym.as_str(), "f");
+    let function: Function = function.open();
+    assert!(rt; function.is_async && !function.is_generator);
+    let body: BlockStmt = function.body.open();
+    assert_eq!(rt; body.stmts.len(), 1);
+    Ok(())
+}
+
+/// A pass that takes the items out and puts them back.
+#[derive(Drop)]
+struct Nothing;
+
+impl JsPass for Nothing {
+    ghost visits = { λ pass table before held after. (held ≡ table) × (after ≡ before) };
+
+    fn visit_mut_module(
+        &mut self,
+        alloc: Global,
+        globals: &mut Globals,
+        program: &mut Module,
+    ) -> Result<(), PassError> {
+        let (items, shebang) = program.take(alloc);
+        program.put(items, shebang);
+        Ok(())
+    }
+}
+
+/// A pass that is refused once it has the items.
+#[derive(Drop)]
+struct Refused;
+
+impl JsPass for Refused {
+    ghost visits = { λ pass table before held after. ⊥ };
+
+    fn visit_mut_module(
+        &mut self,
+        alloc: Global,
+        globals: &mut Globals,
+        program: &mut Module,
+    ) -> Result<(), PassError> {
+        let _taken = program.take(alloc);
+        Err(PassError::CounterSpent)
+    }
+}
+
+/// How many items a pass leaves, and whether it leaves the `#!` line.
+#[test]
+fn passes_take_and_put(rt: HostRuntime) -> Result<(), AllocError> {
+    let alloc = rt.alloc();
+    let mut globals = Globals::new(alloc);
+    let mut module = program(alloc)?;
+    let done = Nothing.visit_mut_module(alloc, &mut globals, &mut module);
+    assert_eq!(rt; done, Ok(()));
+    assert_eq!(rt; module.body.len(), 3);
+    assert!(rt; module.shebang.is_some());
+    let done = Refused.visit_mut_module(alloc, &mut globals, &mut module);
+    assert_eq!(rt; done, Err(PassError::CounterSpent));
+    assert!(rt; module.body.is_empty() && module.shebang.is_none());
+    assert_eq!(rt; module.span, Span { lo: 1, hi: 2 });
+    Ok(())
+}
+
+/// A list read and written in place.
+#[test]
+fn lists_change_in_place(rt: HostRuntime) -> Result<(), AllocError> {
+    let alloc = rt.alloc();
+    let mut exprs = Trees::new(alloc);
+    for name in ["a", "b"] {
+        exprs.push(reference(alloc, name)?)?;
+    }
+    assert!(rt; exprs.len() == 2);
+    let Expr::Ident(first) = exprs.replace(0, number(alloc, "1")?).open() else {
+        panic!(rt; "a name")
+    };
+    assert_eq!(rt; first.sym.as_str(), "a");
+    for (node, kind) in exprs.as_slice().iter().zip([Kind::Number, Kind::Ident]) {
+        match node {
+            Node::Tree(of, _) | Node::Identifier(of, _) => assert_eq!(rt; *of, kind),
+            _ => panic!(rt; "no struct"),
+        }
+    }
+    let exprs = Trees::<class::Expr>::from_nodes(exprs.into_nodes());
+    assert_eq!(rt; exprs.len(), 2);
+    Ok(())
+}

@@ -1,0 +1,49 @@
+//! Printed by tools/print_table.py from tools/tree.txt.
+ghost use Rattle.std.specs.Prelude.{◌≡◌, IfOk};
+ghost use Rattle.swc_tree_node.specs.declared.kind.Class.TheVariants as class;
+ghost use Rattle.swc_tree_node.specs.declared.slot.Slot.TheVariants.{One};
+ghost use Rattle.swc_tree_node.specs.declared.slot.Content.TheVariants.{Node as Of};
+ghost use Rattle.swc_tree_node.specs.Fits.{Fits};
+ghost use Rattle.swc_tree_expressions.specs.Nodes.{of_callee};
+
+use crate::expr::Expr;
+use std::alloc::{AllocError, Global};
+use swc_tree_handle::{Opened, Tree, class};
+use swc_tree_node::{Kind, Node};
+
+/// What is called.
+#[derive(Debug, Drop)]
+pub enum Callee {
+    Expr(Expr),
+}
+
+impl Opened<class::Callee> for Callee {
+    ghost class = { class.Callee };
+
+    ghost node = { of_callee };
+
+    fn of_node(closed: Node) -> Callee
+        requires { Fits closed (One (Of class.Callee)) }
+        ensures { of_callee result ≡ closed }
+    {
+        let tree = Tree::<class::Callee>::of(closed);
+        match tree.kind() {
+            Kind::Ident
+            | Kind::Str
+            | Kind::Number
+            | Kind::BinExpr
+            | Kind::CallExpr
+            | Kind::ParenExpr => Callee::Expr(tree.narrow::<class::Expr>().open()),
+            _ => unreachable!(),
+        }
+    }
+
+    fn into_node(self, alloc: Global) -> Result<Node, AllocError>
+        ensures { IfOk result (λ closed. (closed ≡ of_callee self) × Fits closed (One (Of class.Callee))) }
+    {
+        let tree: Tree<class::Callee> = match self {
+            Callee::Expr(opened) => opened.close(alloc)?.widen(),
+        };
+        Ok(tree.into_node())
+    }
+}

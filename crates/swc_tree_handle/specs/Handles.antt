@@ -1,0 +1,49 @@
+-- Nodes with their class, and leaves as nodes.
+use Rattle.std.specs.Prelude.{ℕ, Bool, false, List, Option, Some, None}
+use Rattle.std.specs.List.{list_all}
+use Rattle.swc_tree_marks.specs.declared.span.Span.{Span as Span'}
+use Rattle.swc_tree_marks.specs.declared.ident.Ident.{Ident}
+use Rattle.swc_tree_node.specs.declared.kind.Kind.{Kind}
+use Rattle.swc_tree_node.specs.declared.kind.Kind.TheVariants as kind
+use Rattle.swc_tree_node.specs.declared.kind.Class.{Class}
+use Rattle.swc_tree_node.specs.declared.node.Node.{Node, Absent, Text, Span, Identifier, out-Node}
+use Rattle.swc_tree_node.specs.declared.node.Node.TheOpen.{Node-F}
+use Rattle.swc_tree_node.specs.Table.{kinds_of}
+use Rattle.swc_tree_node.specs.Fits.{belongs}
+
+abbrev pub kind_in : Node-F Node → Option Kind
+kind_in (Node-F.Identifier k i) = Some k
+kind_in (Node-F.Tree k ts) = Some k
+kind_in _ = None
+
+-- what struct the node is, if it is one
+abbrev pub kind_of : Node → Option Kind
+kind_of t = kind_in (out-Node t)
+
+abbrev pub takes : Class → Option Kind → Bool
+takes c None = false
+takes c (Some k) = belongs k c
+
+-- the node is of one of the class's kinds
+abbrev pub is_of : Node → Class → Bool
+is_of t c = takes c (kind_of t)
+
+-- each kind of the one class is a kind of the other
+abbrev pub is_within : Class → Class → Bool
+is_within c d = list_all (λ k. belongs k d) (kinds_of c)
+
+-- what an optional place holds
+abbrev pub maybe_node : Option Node → Node
+maybe_node None = Absent
+maybe_node (Some t) = t
+
+abbrev pub maybe_span : Option Span' → Node
+maybe_span None = Absent
+maybe_span (Some s) = Span s
+
+abbrev pub maybe_text : Option (List ℕ) → Node
+maybe_text None = Absent
+maybe_text (Some x) = Text x
+
+abbrev pub ident_node : Ident → Node
+ident_node x = Identifier kind.Ident x

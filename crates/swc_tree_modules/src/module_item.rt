@@ -1,0 +1,45 @@
+//! Printed by tools/print_table.py from tools/tree.txt.
+ghost use Rattle.std.specs.Prelude.{◌≡◌, IfOk};
+ghost use Rattle.swc_tree_node.specs.declared.kind.Class.TheVariants as class;
+ghost use Rattle.swc_tree_node.specs.declared.slot.Slot.TheVariants.{One};
+ghost use Rattle.swc_tree_node.specs.declared.slot.Content.TheVariants.{Node as Of};
+ghost use Rattle.swc_tree_node.specs.Fits.{Fits};
+ghost use Rattle.swc_tree_modules.specs.Nodes.{of_module_item};
+
+use std::alloc::{AllocError, Global};
+use swc_tree_handle::{Opened, Tree, class};
+use swc_tree_node::{Kind, Node};
+use swc_tree_statements::Stmt;
+
+/// An item of a program (ECMA-262, ModuleItem).
+#[derive(Debug, Drop)]
+pub enum ModuleItem {
+    Stmt(Stmt),
+}
+
+impl Opened<class::ModuleItem> for ModuleItem {
+    ghost class = { class.ModuleItem };
+
+    ghost node = { of_module_item };
+
+    fn of_node(closed: Node) -> ModuleItem
+        requires { Fits closed (One (Of class.ModuleItem)) }
+        ensures { of_module_item result ≡ closed }
+    {
+        let tree = Tree::<class::ModuleItem>::of(closed);
+        match tree.kind() {
+            Kind::BlockStmt | Kind::ReturnStmt | Kind::FnDecl | Kind::VarDecl | Kind::ExprStmt =>
+                ModuleItem::Stmt(tree.narrow::<class::Stmt>().open()),
+            _ => unreachable!(),
+        }
+    }
+
+    fn into_node(self, alloc: Global) -> Result<Node, AllocError>
+        ensures { IfOk result (λ closed. (closed ≡ of_module_item self) × Fits closed (One (Of class.ModuleItem))) }
+    {
+        let tree: Tree<class::ModuleItem> = match self {
+            ModuleItem::Stmt(opened) => opened.close(alloc)?.widen(),
+        };
+        Ok(tree.into_node())
+    }
+}

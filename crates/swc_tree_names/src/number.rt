@@ -1,0 +1,46 @@
+//! Printed by tools/print_table.py from tools/tree.txt.
+ghost use Rattle.std.specs.Prelude.{◌≡◌, IfOk};
+ghost use Rattle.swc_tree_node.specs.declared.kind.Class.TheVariants as class;
+ghost use Rattle.swc_tree_node.specs.declared.slot.Slot.TheVariants.{One};
+ghost use Rattle.swc_tree_node.specs.declared.slot.Content.TheVariants.{Node as Of};
+ghost use Rattle.swc_tree_node.specs.Fits.{Fits};
+ghost use Rattle.swc_tree_names.specs.Nodes.{number_node};
+
+use std::alloc::{AllocError, Global};
+use swc_tree_handle::{Opened, Tree, class, collect, from_span, from_text, to_span, to_text};
+use swc_tree_marks::{Atom, Span};
+use swc_tree_node::{Kind, Node};
+
+/// A number literal, as it is written (ECMA-262, NumericLiteral).
+#[derive(Debug, Drop)]
+pub struct Number {
+    pub span: Span,
+    pub text: Atom,
+}
+
+impl Opened<class::Number> for Number {
+    ghost class = { class.Number };
+
+    ghost node = { number_node };
+
+    #[tactic(auto, using(swc_tree_node::proofs::Fit::lengths))]
+    fn of_node(closed: Node) -> Number
+        requires { Fits closed (One (Of class.Number)) }
+        ensures { number_node result ≡ closed }
+    {
+        let fields = Tree::<class::Number>::of(closed).into_fields(Kind::Number);
+        let [span, text] = fields.into_array::<2>();
+        Number {
+            span: to_span(span),
+            text: to_text(text),
+        }
+    }
+
+    fn into_node(self, alloc: Global) -> Result<Node, AllocError>
+        ensures { IfOk result (λ closed. (closed ≡ number_node self) × Fits closed (One (Of class.Number))) }
+    {
+        let Number { span, text } = self;
+        let fields = collect(alloc, [from_span(span), from_text(text)])?;
+        Ok(Tree::<class::Number>::of_fields(Kind::Number, fields).into_node())
+    }
+}

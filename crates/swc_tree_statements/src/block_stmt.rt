@@ -1,0 +1,46 @@
+//! Printed by tools/print_table.py from tools/tree.txt.
+ghost use Rattle.std.specs.Prelude.{◌≡◌, IfOk};
+ghost use Rattle.swc_tree_node.specs.declared.kind.Class.TheVariants as class;
+ghost use Rattle.swc_tree_node.specs.declared.slot.Slot.TheVariants.{One};
+ghost use Rattle.swc_tree_node.specs.declared.slot.Content.TheVariants.{Node as Of};
+ghost use Rattle.swc_tree_node.specs.Fits.{Fits};
+ghost use Rattle.swc_tree_statements.specs.Nodes.{block_stmt_node};
+
+use std::alloc::{AllocError, Global};
+use swc_tree_handle::{Opened, Tree, Trees, class, collect, from_span, to_span};
+use swc_tree_marks::Span;
+use swc_tree_node::{Kind, Node};
+
+/// A block, or the body of a function (ECMA-262, Block and FunctionBody).
+#[derive(Debug, Drop)]
+pub struct BlockStmt {
+    pub span: Span,
+    pub stmts: Trees<class::Stmt>,
+}
+
+impl Opened<class::BlockStmt> for BlockStmt {
+    ghost class = { class.BlockStmt };
+
+    ghost node = { block_stmt_node };
+
+    #[tactic(auto, using(swc_tree_node::proofs::Fit::lengths))]
+    fn of_node(closed: Node) -> BlockStmt
+        requires { Fits closed (One (Of class.BlockStmt)) }
+        ensures { block_stmt_node result ≡ closed }
+    {
+        let fields = Tree::<class::BlockStmt>::of(closed).into_fields(Kind::BlockStmt);
+        let [span, stmts] = fields.into_array::<2>();
+        BlockStmt {
+            span: to_span(span),
+            stmts: Trees::of(stmts),
+        }
+    }
+
+    fn into_node(self, alloc: Global) -> Result<Node, AllocError>
+        ensures { IfOk result (λ closed. (closed ≡ block_stmt_node self) × Fits closed (One (Of class.BlockStmt))) }
+    {
+        let BlockStmt { span, stmts } = self;
+        let fields = collect(alloc, [from_span(span), stmts.into_node()])?;
+        Ok(Tree::<class::BlockStmt>::of_fields(Kind::BlockStmt, fields).into_node())
+    }
+}

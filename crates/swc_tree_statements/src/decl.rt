@@ -1,0 +1,48 @@
+//! Printed by tools/print_table.py from tools/tree.txt.
+ghost use Rattle.std.specs.Prelude.{◌≡◌, IfOk};
+ghost use Rattle.swc_tree_node.specs.declared.kind.Class.TheVariants as class;
+ghost use Rattle.swc_tree_node.specs.declared.slot.Slot.TheVariants.{One};
+ghost use Rattle.swc_tree_node.specs.declared.slot.Content.TheVariants.{Node as Of};
+ghost use Rattle.swc_tree_node.specs.Fits.{Fits};
+ghost use Rattle.swc_tree_statements.specs.Nodes.{of_decl};
+
+use crate::fn_decl::FnDecl;
+use crate::var_decl::VarDecl;
+use std::alloc::{AllocError, Global};
+use swc_tree_handle::{Opened, Tree, class};
+use swc_tree_node::{Kind, Node};
+
+/// A declaration (ECMA-262, Declaration and VariableStatement).
+#[derive(Debug, Drop)]
+pub enum Decl {
+    Fn(FnDecl),
+    Var(VarDecl),
+}
+
+impl Opened<class::Decl> for Decl {
+    ghost class = { class.Decl };
+
+    ghost node = { of_decl };
+
+    fn of_node(closed: Node) -> Decl
+        requires { Fits closed (One (Of class.Decl)) }
+        ensures { of_decl result ≡ closed }
+    {
+        let tree = Tree::<class::Decl>::of(closed);
+        match tree.kind() {
+            Kind::FnDecl => Decl::Fn(tree.narrow::<class::FnDecl>().open()),
+            Kind::VarDecl => Decl::Var(tree.narrow::<class::VarDecl>().open()),
+            _ => unreachable!(),
+        }
+    }
+
+    fn into_node(self, alloc: Global) -> Result<Node, AllocError>
+        ensures { IfOk result (λ closed. (closed ≡ of_decl self) × Fits closed (One (Of class.Decl))) }
+    {
+        let tree: Tree<class::Decl> = match self {
+            Decl::Fn(opened) => opened.close(alloc)?.widen(),
+            Decl::Var(opened) => opened.close(alloc)?.widen(),
+        };
+        Ok(tree.into_node())
+    }
+}

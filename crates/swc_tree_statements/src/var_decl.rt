@@ -1,0 +1,52 @@
+//! Printed by tools/print_table.py from tools/tree.txt.
+ghost use Rattle.std.specs.Prelude.{◌≡◌, IfOk};
+ghost use Rattle.swc_tree_node.specs.declared.kind.Class.TheVariants as class;
+ghost use Rattle.swc_tree_node.specs.declared.slot.Slot.TheVariants.{One};
+ghost use Rattle.swc_tree_node.specs.declared.slot.Content.TheVariants.{Node as Of};
+ghost use Rattle.swc_tree_node.specs.Fits.{Fits};
+ghost use Rattle.swc_tree_statements.specs.Nodes.{var_decl_node};
+
+use crate::var_decl_kind::VarDeclKind;
+use std::alloc::{AllocError, Global};
+use swc_tree_handle::{Opened, Tree, Trees, class, collect, from_span, to_span};
+use swc_tree_marks::Span;
+use swc_tree_node::{Kind, Node};
+
+/// Variables that one keyword declares (ECMA-262, VariableStatement and LexicalDeclaration).
+#[derive(Debug, Drop)]
+pub struct VarDecl {
+    pub span: Span,
+    pub kind: VarDeclKind,
+    pub decls: Trees<class::VarDeclarator>,
+}
+
+impl Opened<class::VarDecl> for VarDecl {
+    ghost class = { class.VarDecl };
+
+    ghost node = { var_decl_node };
+
+    #[tactic(auto, using(swc_tree_node::proofs::Fit::lengths))]
+    fn of_node(closed: Node) -> VarDecl
+        requires { Fits closed (One (Of class.VarDecl)) }
+        ensures { var_decl_node result ≡ closed }
+    {
+        let fields = Tree::<class::VarDecl>::of(closed).into_fields(Kind::VarDecl);
+        let [span, kind, decls] = fields.into_array::<3>();
+        VarDecl {
+            span: to_span(span),
+            kind: VarDeclKind::of_node(kind),
+            decls: Trees::of(decls),
+        }
+    }
+
+    fn into_node(self, alloc: Global) -> Result<Node, AllocError>
+        ensures { IfOk result (λ closed. (closed ≡ var_decl_node self) × Fits closed (One (Of class.VarDecl))) }
+    {
+        let VarDecl { span, kind, decls } = self;
+        let fields = collect(
+            alloc,
+            [from_span(span), kind.into_node(), decls.into_node()],
+        )?;
+        Ok(Tree::<class::VarDecl>::of_fields(Kind::VarDecl, fields).into_node())
+    }
+}

@@ -1,0 +1,66 @@
+//! Printed by tools/print_table.py from tools/tree.txt.
+ghost use Rattle.std.specs.Prelude.{◌≡◌, IsTrue};
+ghost use Rattle.swc_tree_node.specs.declared.kind.WordClass.TheVariants as word_class;
+ghost use Rattle.swc_tree_node.specs.declared.node.Node.TheVariants as leaf;
+ghost use Rattle.swc_tree_node.specs.declared.slot.Slot.TheVariants.{One};
+ghost use Rattle.swc_tree_node.specs.declared.slot.Content.TheVariants.{Word as Of};
+ghost use Rattle.swc_tree_node.specs.Fits.{Fits, is_among};
+ghost use Rattle.swc_tree_statements.specs.Nodes.{var_decl_kind_word};
+
+use swc_tree_node::{Node, Word};
+
+/// The keyword of a declaration.
+#[derive(Clone, Copy, Debug, PartialEq, Eq, Hash)]
+pub enum VarDeclKind {
+    Var,
+    Let,
+    Const,
+}
+
+impl VarDeclKind {
+    /// The word.
+    pub fn word(self) -> Word
+        ensures is { result ≡ var_decl_kind_word self }
+        ensures among { IsTrue (is_among result word_class.VarDeclKind) }
+    {
+        match self {
+            VarDeclKind::Var => Word::Var,
+            VarDeclKind::Let => Word::Let,
+            VarDeclKind::Const => Word::Const,
+        }
+    }
+
+    /// What the word is here.
+    pub fn of_word(word: Word) -> VarDeclKind
+        requires { IsTrue (is_among word word_class.VarDeclKind) }
+        ensures { var_decl_kind_word result ≡ word }
+    {
+        match word {
+            Word::Var => VarDeclKind::Var,
+            Word::Let => VarDeclKind::Let,
+            Word::Const => VarDeclKind::Const,
+            _ => unreachable!(),
+        }
+    }
+
+    /// The word that a node is.
+    #[tactic(auto, using(swc_tree_node::proofs::Fit::fitting))]
+    pub fn of_node(node: Node) -> VarDeclKind
+        requires { Fits node (One (Of word_class.VarDeclKind)) }
+        ensures { leaf.Word (var_decl_kind_word result) ≡ node }
+    {
+        match node {
+            Node::Word(word) => VarDeclKind::of_word(word),
+            _ => unreachable!(),
+        }
+    }
+
+    /// The word as a node.
+    #[tactic(auto, using(swc_tree_node::proofs::Fit::fitting))]
+    pub fn into_node(self) -> Node
+        ensures is { result ≡ leaf.Word (var_decl_kind_word self) }
+        ensures fits { Fits result (One (Of word_class.VarDeclKind)) }
+    {
+        Node::Word(self.word())
+    }
+}

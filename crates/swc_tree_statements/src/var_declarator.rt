@@ -1,0 +1,51 @@
+//! Printed by tools/print_table.py from tools/tree.txt.
+ghost use Rattle.std.specs.Prelude.{◌≡◌, IfOk};
+ghost use Rattle.swc_tree_node.specs.declared.kind.Class.TheVariants as class;
+ghost use Rattle.swc_tree_node.specs.declared.slot.Slot.TheVariants.{One};
+ghost use Rattle.swc_tree_node.specs.declared.slot.Content.TheVariants.{Node as Of};
+ghost use Rattle.swc_tree_node.specs.Fits.{Fits};
+ghost use Rattle.swc_tree_statements.specs.Nodes.{var_declarator_node};
+
+use std::alloc::{AllocError, Global};
+use swc_tree_handle::{Opened, Tree, class, collect, from_span, to_span};
+use swc_tree_marks::Span;
+use swc_tree_node::{Kind, Node};
+
+/// One declared variable or pattern, with its initializer (ECMA-262, VariableDeclaration and LexicalBinding).
+#[derive(Debug, Drop)]
+pub struct VarDeclarator {
+    pub span: Span,
+    pub name: Tree<class::Pat>,
+    pub init: Option<Tree<class::Expr>>,
+}
+
+impl Opened<class::VarDeclarator> for VarDeclarator {
+    ghost class = { class.VarDeclarator };
+
+    ghost node = { var_declarator_node };
+
+    #[tactic(auto, using(swc_tree_node::proofs::Fit::lengths))]
+    fn of_node(closed: Node) -> VarDeclarator
+        requires { Fits closed (One (Of class.VarDeclarator)) }
+        ensures { var_declarator_node result ≡ closed }
+    {
+        let fields = Tree::<class::VarDeclarator>::of(closed).into_fields(Kind::VarDeclarator);
+        let [span, name, init] = fields.into_array::<3>();
+        VarDeclarator {
+            span: to_span(span),
+            name: Tree::of(name),
+            init: Tree::of_maybe(init),
+        }
+    }
+
+    fn into_node(self, alloc: Global) -> Result<Node, AllocError>
+        ensures { IfOk result (λ closed. (closed ≡ var_declarator_node self) × Fits closed (One (Of class.VarDeclarator))) }
+    {
+        let VarDeclarator { span, name, init } = self;
+        let fields = collect(
+            alloc,
+            [from_span(span), name.into_node(), Tree::into_maybe(init)],
+        )?;
+        Ok(Tree::<class::VarDeclarator>::of_fields(Kind::VarDeclarator, fields).into_node())
+    }
+}

@@ -1,0 +1,1 @@
+"""Prints what repeats for each struct and sum of the tree, from the one transcription of it."""

@@ -1,0 +1,292 @@
+"""The structs, the sums and the words of a family of the tree, one level deep, each family a crate."""
+from tree_printer.classes import PRINTED
+from tree_printer.forms import HANDLE, MARKS, NODE, form_of, owner_of, snake, spec_module, spec_name
+
+# Names that no module may have: the module's name has an underscore after them.
+KEYWORDS = {'super', 'module'}
+PRELUDE = 'Rattle.std.specs.Prelude'
+SLOT_USES = ('ghost use Rattle.swc_tree_node.specs.declared.slot.Slot.TheVariants.{One};\n'
+             'ghost use Rattle.swc_tree_node.specs.declared.slot.Content.TheVariants.{%s as Of};\n'
+             'ghost use Rattle.swc_tree_node.specs.Fits.{%s};\n')
+FIT = 'swc_tree_node::proofs::Fit::'
+
+
+def module_of(name):
+    return snake(name) + ('_' if snake(name) in KEYWORDS else '')
+
+
+def use_lines(family, uses):
+    """The imports of a file of a crate, from pairs of a crate and a name."""
+    paths = {}
+    for crate, name in uses:
+        path = 'crate::' + module_of(name) if crate == family else crate
+        paths.setdefault(path, set()).add(name)
+    order = sorted(paths, key=lambda path: (path.split('::')[0] != 'crate', path))
+    return ''.join('use %s::{%s};\n' % (path, ', '.join(sorted(paths[path], key=str.lower))) for path in order)
+
+
+def opened_impl(entry, tree, tactic, of_node, into_node):
+    """An `impl Opened`, from the bodies of its two functions."""
+    name, spec = entry.name, spec_name(tree, entry.name)
+    return '''
+impl Opened<class::%(name)s> for %(name)s {
+    ghost class = { class.%(name)s };
+
+    ghost node = { %(spec)s };
+
+%(tactic)s    fn of_node(closed: Node) -> %(name)s
+        requires { Fits closed (One (Of class.%(name)s)) }
+        ensures { %(spec)s result ≡ closed }
+    {
+%(of_node)s    }
+
+    fn into_node(self, alloc: Global) -> Result<Node, AllocError>
+        ensures { IfOk result (λ closed. (closed ≡ %(spec)s self) × Fits closed (One (Of class.%(name)s))) }
+    {
+%(into_node)s    }
+}
+''' % {'name': name, 'spec': spec, 'tactic': tactic, 'of_node': of_node, 'into_node': into_node}
+
+
+def opened_head(family, spec, uses):
+    return ('//! %s\n' % PRINTED + 'ghost use %s.{◌≡◌, IfOk};\n' % PRELUDE
+            + 'ghost use Rattle.swc_tree_node.specs.declared.kind.Class.TheVariants as class;\n'
+            + SLOT_USES % ('Node', 'Fits') + 'ghost use Rattle.%s.specs.Nodes.{%s};\n\n' % (family, spec)
+            + use_lines(family, uses | {('std::alloc', 'AllocError'), ('std::alloc', 'Global'), (NODE, 'Kind'),
+                                        (NODE, 'Node'), (HANDLE, 'Opened'), (HANDLE, 'Tree'), (HANDLE, 'class')}) + '\n')
+
+
+def struct_rt(tree, struct):
+    forms = [form_of(tree, field) for field in struct.fields]
+    name, keys = struct.name, ', '.join(field.name for field in struct.fields)
+    uses = set().union(*(form.uses | form.types for form in forms)) | {(HANDLE, 'collect')}
+    declared = '/// %s\n#[derive(Debug, Drop)]\npub struct %s {\n%s}\n' % (
+        struct.doc, name, ''.join('    pub %s: %s,\n' % (f.name, form.type) for f, form in zip(struct.fields, forms)))
+    of_node = '''        let fields = Tree::<class::%s>::of(closed).into_fields(Kind::%s);
+        let [%s] = fields.into_array::<%d>();
+        %s { %s }
+''' % (name, name, keys, len(forms), name, ', '.join('%s: %s' % (f.name, form.open) for f, form in zip(struct.fields, forms)))
+    into_node = '''        let %s { %s } = self;
+        let fields = collect(alloc, [%s])?;
+        Ok(Tree::<class::%s>::of_fields(Kind::%s, fields).into_node())
+''' % (name, keys, ', '.join(form.close for form in forms), name, name)
+    tactic = '    #[tactic(auto, using(%slengths))]\n' % FIT
+    return (opened_head(struct.family, spec_name(tree, name), uses) + declared
+            + opened_impl(struct, tree, tactic, of_node, into_node))
+
+
+def identifier_rt(tree, struct):
+    name = struct.name
+    declared = '/// %s\n#[derive(Debug, Drop, PartialEq, Eq, Hash)]\npub struct %s {\n    pub id: Ident,\n}\n' % (struct.doc, name)
+    of_node = '''        %s { id: Tree::<class::%s>::of(closed).into_identifier(Kind::%s) }
+''' % (name, name, name)
+    into_node = '''        let tree = Tree::<class::%s>::of_identifier(alloc, Kind::%s, self.id)?;
+        Ok(tree.into_node())
+''' % (name, name)
+    return (opened_head(struct.family, spec_name(tree, name), {(MARKS, 'Ident')}) + declared
+            + opened_impl(struct, tree, '', of_node, into_node))
+
+
+def sum_rt(tree, sum_):
+    name = sum_.name
+    declared = '/// %s\n#[derive(Debug, Drop)]\npub enum %s {\n%s}\n' % (
+        sum_.doc, name, ''.join('    %s(%s),\n' % variant for variant in sum_.variants))
+    arms, seen = '', set()
+    for variant, member in sum_.variants:
+        kinds = [kind for kind in tree.kinds_of(member) if kind not in seen]
+        seen.update(kinds)
+        if kinds:
+            arms += '            %s => %s::%s(tree.narrow::<class::%s>().open()),\n' % (
+                ' | '.join('Kind::' + kind for kind in kinds), name, variant, member)
+    of_node = '''        let tree = Tree::<class::%s>::of(closed);
+        match tree.kind() {
+%s            _ => unreachable!(),
+        }
+''' % (name, arms)
+    into_node = '''        let tree: Tree<class::%s> = match self {
+%s        };
+        Ok(tree.into_node())
+''' % (name, ''.join('            %s::%s(opened) => opened.close(alloc)?.widen(),\n' % (name, variant) for variant, _ in sum_.variants))
+    uses = {(owner_of(tree, member), member) for _, member in sum_.variants}
+    return opened_head(sum_.family, spec_name(tree, name), uses) + declared + opened_impl(sum_, tree, '', of_node, into_node)
+
+
+WORDS = '''//! %(printed)s
+ghost use %(prelude)s.{◌≡◌, IsTrue};
+ghost use Rattle.swc_tree_node.specs.declared.kind.WordClass.TheVariants as word_class;
+ghost use Rattle.swc_tree_node.specs.declared.node.Node.TheVariants as leaf;
+%(slots)sghost use Rattle.%(family)s.specs.Nodes.{%(spec)s};
+
+use swc_tree_node::{Node, Word};
+
+/// %(doc)s
+#[derive(Clone, Copy, Debug, PartialEq, Eq, Hash)]
+pub enum %(name)s {
+%(variants)s}
+
+impl %(name)s {
+    /// The word.
+    pub fn word(self) -> Word
+        ensures is { result ≡ %(spec)s self }
+        ensures among { IsTrue (is_among result word_class.%(name)s) }
+    {
+        match self {
+%(to)s        }
+    }
+
+    /// What the word is here.
+    pub fn of_word(word: Word) -> %(name)s
+        requires { IsTrue (is_among word word_class.%(name)s) }
+        ensures { %(spec)s result ≡ word }
+    {
+        match word {
+%(of)s            _ => unreachable!(),
+        }
+    }
+
+    /// The word that a node is.
+    #[tactic(auto, using(%(fit)sfitting))]
+    pub fn of_node(node: Node) -> %(name)s
+        requires { Fits node (One (Of word_class.%(name)s)) }
+        ensures { leaf.Word (%(spec)s result) ≡ node }
+    {
+        match node {
+            Node::Word(word) => %(name)s::of_word(word),
+            _ => unreachable!(),
+        }
+    }
+
+    /// The word as a node.
+    #[tactic(auto, using(%(fit)sfitting))]
+    pub fn into_node(self) -> Node
+        ensures is { result ≡ leaf.Word (%(spec)s self) }
+        ensures fits { Fits result (One (Of word_class.%(name)s)) }
+    {
+        Node::Word(self.word())
+    }
+}
+'''
+
+
+def words_rt(words):
+    variants = [variant for _, variant in words.words]
+    name = words.name
+    return WORDS % {
+        'printed': PRINTED, 'prelude': PRELUDE, 'slots': SLOT_USES % ('Word', 'Fits, is_among'), 'family': words.family,
+        'spec': snake(name) + '_word', 'doc': words.doc, 'name': name, 'fit': FIT,
+        'variants': ''.join('    %s,\n' % v for v in variants),
+        'to': ''.join('            %s::%s => Word::%s,\n' % (name, v, v) for v in variants),
+        'of': ''.join('            Word::%s => %s::%s,\n' % (v, name, v) for v in variants)}
+
+
+def printed_entries(tree, family):
+    """The words, structs and sums that a family declares."""
+    return (tree.of_family(family, tree.words)
+            + [s for s in tree.of_family(family, tree.structs) if s.name != 'Ident'] + tree.of_family(family, tree.sums))
+
+
+def entry_rt(tree, entry):
+    if entry.name in tree.words:
+        return words_rt(entry)
+    if entry.name in tree.sums:
+        return sum_rt(tree, entry)
+    return identifier_rt(tree, entry) if entry.identifier else struct_rt(tree, entry)
+
+
+def lib_rt(tree, family):
+    about = tree.families[family]
+    names = sorted((entry.name for entry in printed_entries(tree, family)), key=module_of)
+    modules = sorted([module_of(name) for name in names] + about.by_hand)
+    return ('//! %s\n//!\n//! Each struct and sum stands one level deep: its subtrees are `Tree`s and `Trees`.\n//! %s\n'
+            '#![tactic(auto)]\n\n' % (about.doc, PRINTED)
+            + ''.join('mod %s;\n' % module for module in modules) + '\n'
+            + ''.join('pub use %s::%s;\n' % (module_of(name), name) for name in names))
+
+
+def declared(family, entry, variants):
+    path = 'use Rattle.%s.specs.declared.%s.%s.' % (family, module_of(entry.name), entry.name)
+    return path + '{%s}\n' % entry.name + (path + 'TheVariants as %s\n' % snake(entry.name) if variants else '')
+
+
+def struct_spec(tree, struct):
+    spec = spec_name(tree, struct.name)
+    if struct.identifier:
+        term, specs = 'node.Identifier kind.%s x.id' % struct.name, set()
+    else:
+        forms = [form_of(tree, field) for field in struct.fields]
+        specs = set().union(*(form.specs for form in forms))
+        term = 'node.Tree kind.%s (%s)' % (struct.name, ' ∷ '.join([form.term for form in forms] + ['[]']))
+    return '\nabbrev pub %s : %s → Node\n%s x = %s\n' % (spec, struct.name, spec, term), specs
+
+
+def sum_spec(tree, sum_):
+    spec = spec_name(tree, sum_.name)
+    cases = ''.join('%s (%s.%s x) = %s x\n' % (spec, snake(sum_.name), variant, spec_name(tree, member))
+                    for variant, member in sum_.variants)
+    specs = {(spec_module(tree, member), spec_name(tree, member)) for _, member in sum_.variants}
+    return '\nabbrev pub %s : %s → Node\n%s' % (spec, sum_.name, cases), specs
+
+
+def words_spec(words):
+    spec = snake(words.name) + '_word'
+    return '\nabbrev pub %s : %s → Word\n%s' % (spec, words.name, ''.join(
+        '%s %s.%s = word.%s\n' % (spec, snake(words.name), v, v) for _, v in words.words))
+
+
+def held_by_value(tree, entry):
+    """The structs and sums that stand in a struct or sum themselves, and not as a subtree."""
+    if entry.name in tree.sums:
+        return [member for _, member in entry.variants]
+    return [field.type for field in entry.fields if tree.is_leaf(field.type) and not field.many]
+
+
+def in_order(tree, family):
+    """The structs and sums of a family, each after those that it holds by value."""
+    mine = {entry.name: entry for entry in printed_entries(tree, family) if entry.name not in tree.words}
+    ordered = []
+
+    def visit(name):
+        if name not in mine or mine[name] in ordered:
+            return
+        entry = mine[name]
+        for other in held_by_value(tree, entry):
+            visit(other)
+        ordered.append(entry)
+
+    for name in mine:
+        visit(name)
+    return ordered
+
+
+def nodes_antt(tree, family):
+    words = tree.of_family(family, tree.words)
+    body, specs, uses = ''.join(words_spec(w) for w in words), set(), ''.join(declared(family, w, True) for w in words)
+    for entry in in_order(tree, family):
+        is_sum = entry.name in tree.sums
+        text, needed = sum_spec(tree, entry) if is_sum else struct_spec(tree, entry)
+        body, specs, uses = body + text, specs | needed, uses + declared(family, entry, is_sum)
+    here = family + '.specs.Nodes'
+    for module in sorted({module for module, _ in specs} - {here}):
+        uses += 'use Rattle.%s.{%s}\n' % (module, ', '.join(sorted(name for m, name in specs if m == module)))
+    return ('-- Which node each struct and sum is.\n--\n-- %s\n' % PRINTED + nodes_imports(body) + uses + body)
+
+
+def nodes_imports(body):
+    node = 'Rattle.swc_tree_node.specs.declared.'
+    lines = [('∷', 'use %s.{[], ◌∷◌}\n' % PRELUDE), ('option_map', 'use Rattle.std.specs.Option.{option_map}\n'),
+             ('kind.', 'use %skind.Kind.TheVariants as kind\n' % node), ('→ Word', 'use %skind.Word.{Word}\n' % node),
+             (' word.', 'use %skind.Word.TheVariants as word\n' % node), ('→ Node', 'use %snode.Node.{Node}\n' % node),
+             ('node.', 'use %snode.Node.TheVariants as node\n' % node)]
+    return ''.join(line for mark, line in lines if mark in body)
+
+
+def files(tree):
+    printed = {}
+    for family in tree.families:
+        crate = 'crates/%s/' % family
+        printed[crate + 'src/lib.rt'] = lib_rt(tree, family)
+        printed[crate + 'specs/Lib.antt'] = 'pub mod Nodes\n'
+        printed[crate + 'specs/Nodes.antt'] = nodes_antt(tree, family)
+        for entry in printed_entries(tree, family):
+            printed[crate + 'src/%s.rt' % module_of(entry.name)] = entry_rt(tree, entry)
+    return printed

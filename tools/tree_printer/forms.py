@@ -1,0 +1,100 @@
+"""What stands in a field, by the form of its place: the type, and the code and the term that lead there and back."""
+import re
+
+HANDLE, MARKS, NODE = 'swc_tree_handle', 'swc_tree_marks', 'swc_tree_node'
+SYNTAX = 'swc_tree_handle::class'
+
+
+def snake(name):
+    return re.sub(r'(?<!^)([A-Z])', r'_\1', name).lower()
+
+
+def spec_name(tree, name):
+    """The definition that says which node an opened struct or sum is."""
+    return 'of_' + snake(name) if name in tree.sums else snake(name) + '_node'
+
+
+class Form:
+    """A field's type, how it is opened and closed, its node as a term, and what these need.
+
+    `uses` are pairs of a crate and a name that the code needs, `types` those that the type needs, `specs` pairs of a
+    module of definitions and a name."""
+
+    def __init__(self, type_, open_, close, term, uses=(), types=(), specs=()):
+        self.type, self.open, self.close, self.term = type_, open_, close, term
+        self.uses, self.types, self.specs = set(uses), set(types), set(specs)
+
+
+HANDLES = HANDLE + '.specs.Handles'
+
+
+def leaf(field):
+    """A span, a text or a flag."""
+    name = field.type.lower()
+    rust = {'Span': 'Span', 'Text': 'Atom', 'Flag': 'bool'}[field.type]
+    types = {(MARKS, rust)} - {(MARKS, 'bool')}
+    key = field.name
+    if field.optional:
+        to, of = 'to_maybe_' + name, 'from_maybe_' + name
+        return Form('Option<%s>' % rust, '%s(%s)' % (to, key), '%s(%s)' % (of, key), 'maybe_%s x.%s' % (name, key),
+                    {(HANDLE, to), (HANDLE, of)}, types, {(HANDLES, 'maybe_' + name)})
+    to, of = 'to_' + name, 'from_' + name
+    return Form(rust, '%s(%s)' % (to, key), '%s(%s)' % (of, key), 'node.%s x.%s' % (field.type, key),
+                {(HANDLE, to), (HANDLE, of)}, types)
+
+
+def word(tree, field):
+    """A word of a list of words."""
+    if field.optional or field.many:
+        raise SystemExit('no form for an optional word or a list of words: ' + field.key)
+    words = tree.words[field.type]
+    key, name = field.name, snake(field.type)
+    return Form(field.type, '%s::of_node(%s)' % (field.type, key), '%s.into_node()' % key,
+                'node.Word (%s_word x.%s)' % (name, key), (), {(words.family, field.type)},
+                {(words.family + '.specs.Nodes', name + '_word')})
+
+
+def by_value(tree, field):
+    """A struct that holds no subtree."""
+    key = field.name
+    owner = owner_of(tree, field.type)
+    spec = spec_name(tree, field.type)
+    types, specs = {(owner, field.type)}, {(spec_module(tree, field.type), spec)}
+    if field.optional:
+        return Form('Option<%s>' % field.type, '%s::of_optional(%s)' % (field.type, key),
+                    '%s::into_optional(%s, alloc)?' % (field.type, key), 'maybe_node (option_map %s x.%s)' % (spec, key),
+                    (), types, specs | {(HANDLES, 'maybe_node')})
+    return Form(field.type, '%s::of_node(%s)' % (field.type, key), '%s.into_node(alloc)?' % key, '%s x.%s' % (spec, key),
+                (), types, specs)
+
+
+def handle(field):
+    """A subtree, or a list of subtrees."""
+    key, of = field.name, 'class::' + field.type
+    if field.many:
+        return Form('Trees<%s>' % of, 'Trees::of(%s)' % key, '%s.into_node()' % key, 'node.List x.%s' % key,
+                    {(HANDLE, 'Trees')}, {(HANDLE, 'Trees'), (HANDLE, 'class')})
+    types = {(HANDLE, 'Tree'), (HANDLE, 'class')}
+    if field.optional:
+        return Form('Option<Tree<%s>>' % of, 'Tree::of_maybe(%s)' % key, 'Tree::into_maybe(%s)' % key,
+                    'maybe_node x.%s' % key, {(HANDLE, 'Tree')}, types, {(HANDLES, 'maybe_node')})
+    return Form('Tree<%s>' % of, 'Tree::of(%s)' % key, '%s.into_node()' % key, 'x.%s' % key, {(HANDLE, 'Tree')}, types)
+
+
+def form_of(tree, field):
+    if field.type in ('Span', 'Text', 'Flag'):
+        return leaf(field)
+    if field.type in tree.words:
+        return word(tree, field)
+    if tree.is_leaf(field.type) and not field.many:
+        return by_value(tree, field)
+    return handle(field)
+
+
+def owner_of(tree, name):
+    """The crate that declares a struct or a sum. `Ident` stands below the tree."""
+    return MARKS if name == 'Ident' else tree.entry(name).family
+
+
+def spec_module(tree, name):
+    return HANDLES if name == 'Ident' else tree.entry(name).family + '.specs.Nodes'

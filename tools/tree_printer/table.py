@@ -1,0 +1,136 @@
+"""The table, in the crate swc_tree_node: kinds, classes and words, and what stands in each field."""
+
+
+def content(tree, type_):
+    """What one node or leaf of a field must be: the variant of `Content`, and what it names."""
+    if type_ in ('Span', 'Text', 'Flag'):
+        return type_, None
+    return ('Word' if type_ in tree.words else 'Node'), type_
+
+
+def slot(field):
+    return 'List' if field.many else 'Optional' if field.optional else 'One'
+
+
+def rust_content(tree, type_):
+    variant, of = content(tree, type_)
+    if of is None:
+        return 'Content::' + variant
+    return 'Content::%s(%s::%s)' % (variant, 'WordClass' if variant == 'Word' else 'Class', of)
+
+
+def spec_content(tree, type_):
+    variant, of = content(tree, type_)
+    if of is None:
+        return 'content.' + variant
+    return '(content.%s %s.%s)' % (variant, 'word_class' if variant == 'Word' else 'class', of)
+
+
+def rust_enum(doc, name, variants):
+    return '/// %s\n#[derive(Clone, Copy, Debug, PartialEq, Eq)]\npub enum %s {\n%s}\n' % (
+        doc, name, ''.join('    %s,\n' % v for v in variants))
+
+
+def kind_rt(tree):
+    return '\n'.join([
+        '//! The kinds of nodes, the classes of what may stand in one place, and the words of operators.\n'
+        '//!\n//! Printed by tools/print_table.py from tools/tree.txt.\n',
+        rust_enum('What a node is: the struct of the syntax tree that it stands for.', 'Kind', tree.structs),
+        rust_enum('What a place takes: one struct, or one of the structs of a sum.', 'Class', tree.classes()),
+        rust_enum('A word that a node holds: an operator or the keyword of a declaration.', 'Word', tree.spellings()),
+        rust_enum('Which words a place takes.', 'WordClass', tree.words),
+    ])
+
+
+def rust_match(name, doc, argument, type_, result, ensures, arms):
+    """A function that answers by one `match` of all variants."""
+    parameter = argument
+    return '/// %s\npub fn %s(%s: %s) -> %s\n    ensures { %s }\n{\n    match %s {\n%s    }\n}\n' % (
+        doc, name, parameter, type_, result, ensures, argument, ''.join('        %s => %s,\n' % arm for arm in arms))
+
+
+def table_rt(tree):
+    imports = ('ghost use Rattle.std.specs.Prelude.{◌≡◌, map};\n'
+               'ghost use Rattle.swc_tree_node.specs.Table.{kinds_of, name_of, fields_of, words_of, spelling_of, scope_of, is_identifier};\n\n'
+               'use crate::kind::{Class, Kind, Word, WordClass};\n'
+               'use crate::slot::{Content, Field, Role, Scope, Slot};\n')
+    fields = []
+    for s in tree.structs.values():
+        rows = ''.join('Field { key: "%s", slot: Slot::%s(%s), role: Role::%s },' % (
+            f.key, slot(f), rust_content(tree, f.type), f.role) for f in s.fields)
+        fields.append(('Kind::' + s.name, '&[%s]' % rows))
+    scopes = [('Kind::' + s.name, 'Some(Scope::%s)' % s.scope) for s in tree.structs.values() if s.scope]
+    identifiers = ' | '.join('Kind::' + s.name for s in tree.structs.values() if s.identifier)
+    return '\n'.join([
+        '//! The table: what each kind of node is called and holds.\n'
+        '//!\n//! Printed by tools/print_table.py from tools/tree.txt.\n',
+        imports,
+        rust_match('name_of', 'The name of the struct, as it stands in JSON.', 'kind', 'Kind', "&'static str",
+                   'result.now ≡ name_of kind', [('Kind::' + s, '"%s"' % s) for s in tree.structs]),
+        rust_match('kinds_of', 'The kinds that may stand in a place of a class.', 'class', 'Class', "&'static [Kind]",
+                   'result.now ≡ kinds_of class',
+                   [('Class::' + c, '&[%s]' % ', '.join('Kind::' + k for k in tree.kinds_of(c))) for c in tree.classes()]),
+        rust_match('fields_of', 'The fields of a kind, in the order in which they are read. An identifier has none here.',
+                   'kind', 'Kind', "&'static [Field]",
+                   'map (λ f. (f.key.now, f.slot, f.role)) result.now ≡ fields_of kind', fields),
+        rust_match('words_of', 'The words of a place.', 'words', 'WordClass', "&'static [Word]",
+                   'result.now ≡ words_of words',
+                   [('WordClass::' + n, '&[%s]' % ', '.join('Word::' + v for _, v in ws.words)) for n, ws in tree.words.items()]),
+        rust_match('spelling_of', 'A word as it is written.', 'word', 'Word', "&'static str",
+                   'result.now ≡ spelling_of word', [('Word::' + v, '"%s"' % s) for v, s in tree.spellings().items()]),
+        rust_match('scope_of', 'The scope that a node of the kind opens, if it opens one.', 'kind', 'Kind', 'Option<Scope>',
+                   'result ≡ scope_of kind', scopes + [('_', 'None')]),
+        '/// Whether the kind is that of an identifier.\npub fn is_identifier(kind: Kind) -> bool\n'
+        '    ensures { result ≡ is_identifier kind }\n{\n    matches!(kind, %s)\n}\n' % identifiers,
+    ])
+
+
+def spec_list(items):
+    return ' ∷ '.join(items + ['[]'])
+
+
+def spec_cases(comment, name, type_, cases):
+    return '-- %s\nabbrev pub %s : %s\n%s' % (comment, name, type_, ''.join('%s %s = %s\n' % (name, a, b) for a, b in cases))
+
+
+def table_antt(tree):
+    of = lambda module, name: 'use Rattle.swc_tree_node.specs.declared.%s.%s.{%s}\n' % (module, name, name)
+    variants = lambda module, name, as_: 'use Rattle.swc_tree_node.specs.declared.%s.%s.TheVariants as %s\n' % (module, name, as_)
+    head = ('-- The table: what each kind of node is called and holds.\n--\n-- Printed by tools/print_table.py from tools/tree.txt.\n'
+            'use Rattle.std.specs.Prelude.{ℕ, List, [], ◌∷◌, codes, Bool, true, false, Option, Some, None, map}\n'
+            + of('kind', 'Kind') + variants('kind', 'Kind', 'kind') + of('kind', 'Class') + variants('kind', 'Class', 'class')
+            + of('kind', 'Word') + variants('kind', 'Word', 'word') + of('kind', 'WordClass') + variants('kind', 'WordClass', 'word_class')
+            + variants('slot', 'Content', 'content') + of('slot', 'Slot') + variants('slot', 'Slot', 'slot')
+            + of('slot', 'Role') + variants('slot', 'Role', 'role') + of('slot', 'Scope') + variants('slot', 'Scope', 'scope'))
+    rows = []
+    for s in tree.structs.values():
+        rows.append(('kind.' + s.name, spec_list(['(codes "%s", slot.%s %s, role.%s)' % (
+            f.key, slot(f), spec_content(tree, f.type), f.role) for f in s.fields])))
+    return '\n'.join([
+        head,
+        spec_cases('the name of the struct, as it stands in JSON', 'name_of', 'Kind → List ℕ',
+                   [('kind.' + s, 'codes "%s"' % s) for s in tree.structs]),
+        spec_cases('the kinds that may stand in a place of a class', 'kinds_of', 'Class → List Kind',
+                   [('class.' + c, spec_list(['kind.' + k for k in tree.kinds_of(c)])) for c in tree.classes()]),
+        spec_cases('the fields of a kind, in the order in which they are read: key, what stands there, role of an identifier there',
+                   'fields_of', 'Kind → List (List ℕ × Slot × Role)', rows),
+        spec_cases('the words of a place', 'words_of', 'WordClass → List Word',
+                   [('word_class.' + n, spec_list(['word.' + v for _, v in ws.words])) for n, ws in tree.words.items()]),
+        spec_cases('a word as it is written', 'spelling_of', 'Word → List ℕ',
+                   [('word.' + v, 'codes "%s"' % s) for v, s in tree.spellings().items()]),
+        spec_cases('the scope that a node of the kind opens, if it opens one', 'scope_of', 'Kind → Option Scope',
+                   [('kind.' + s.name, 'Some scope.%s' % s.scope) for s in tree.structs.values() if s.scope] + [('_', 'None')]),
+        spec_cases('whether the kind is that of an identifier', 'is_identifier', 'Kind → Bool',
+                   [('kind.' + s.name, 'true') for s in tree.structs.values() if s.identifier] + [('_', 'false')]),
+        spec_cases('kinds, numbered, so that two can be compared', 'kind_number', 'Kind → ℕ',
+                   [('kind.' + s, str(i)) for i, s in enumerate(tree.structs)]),
+        spec_cases('words, numbered', 'word_number', 'Word → ℕ',
+                   [('word.' + v, str(i)) for i, v in enumerate(tree.spellings())]),
+        '-- what stands in each field\nabbrev pub slots_of : Kind → List Slot\nslots_of k = map (λ f. f.1) (fields_of k)\n',
+    ])
+
+
+def files(tree):
+    crate = 'crates/swc_tree_node/'
+    return {crate + 'src/kind.rt': kind_rt(tree), crate + 'src/table.rt': table_rt(tree),
+            crate + 'specs/Table.antt': table_antt(tree)}

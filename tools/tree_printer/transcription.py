@@ -1,0 +1,137 @@
+"""Reads tools/tree.txt: the structs, the sums and the words of the tree, and the crate of each."""
+import re
+
+ROLES = {'': 'Plain', 'reference': 'Reference', 'inherited': 'Inherited', 'declared': 'Declared',
+         'function': 'Function', 'parameter': 'Parameter', 'body': 'FunctionBody'}
+
+# Words that no contract can use as the name of a field: the field's name has an underscore after them.
+CLAUSE_WORDS = {'class', 'with'}
+
+
+class Field:
+    """A field of a struct: its key in JSON, its name in code, what stands in it, and what an identifier is there."""
+
+    def __init__(self, text):
+        key, rest = text.strip().split(' ', 1)
+        type_, role = (rest.split(' ', 1) + [''])[:2]
+        self.key = key
+        self.name = key + '_' if key in CLAUSE_WORDS else key
+        self.role = ROLES[role.strip()]
+        self.many = type_.startswith('[')
+        self.optional = type_.endswith('?')
+        self.type = type_.strip('[]?')
+
+
+class Family:
+    """A crate of structs and sums: what they are, and the crate's modules that are written by hand."""
+
+    def __init__(self, name, doc, by_hand):
+        self.name, self.doc, self.by_hand = name, doc, by_hand
+
+
+class Entry:
+    """What has a line of its own: its name, its crate and what it is."""
+
+    def __init__(self, name, family, doc):
+        self.name, self.family, self.doc = name, family, doc
+
+
+class Struct(Entry):
+    def __init__(self, name, family, doc, marks, fields):
+        super().__init__(name, family, doc)
+        self.identifier = 'identifier' in marks
+        self.scope = marks[marks.index('scope') + 1] if 'scope' in marks else None
+        self.fields = fields
+
+
+class Sum(Entry):
+    """A sum, with its variants: pairs of a variant's name and the struct or sum that it holds."""
+
+    def __init__(self, name, family, doc, variants):
+        super().__init__(name, family, doc)
+        self.variants = variants
+
+
+class Words(Entry):
+    """The words of a place: pairs of a spelling and a variant's name."""
+
+    def __init__(self, name, family, doc, words):
+        super().__init__(name, family, doc)
+        self.words = words
+
+
+class Tree:
+    """The transcription: families, structs, sums and words, by name and in order."""
+
+    def __init__(self, path):
+        self.families, self.structs, self.sums, self.words = {}, {}, {}, {}
+        self.family, self.doc = None, None
+        with open(path, encoding='utf-8') as lines:
+            for line in lines:
+                line = line.rstrip('\n')
+                if line and not line.startswith('#'):
+                    self.read(line)
+
+    def read(self, line):
+        if line.startswith('/// '):
+            self.doc = line[4:]
+        elif line.startswith('family '):
+            self.read_family(line[len('family '):])
+        else:
+            self.read_entry(line)
+            self.doc = None
+
+    def read_family(self, line):
+        head, _, text = line.partition(': ')
+        self.family, *by_hand = head.split(' and ')
+        self.families.setdefault(self.family, Family(self.family, text, by_hand))
+
+    def read_entry(self, line):
+        about = (self.family, self.doc)
+        if not self.family or not self.doc:
+            raise SystemExit('no family, or no /// line, before: ' + line)
+        words = re.match(r'words (\w+): (.*)', line)
+        sum_ = re.match(r'(\w+) = (.*)', line)
+        if words:
+            pairs = [tuple(item.strip().rsplit(' ', 1)) for item in words[2].split(', ')]
+            self.words[words[1]] = Words(words[1], *about, pairs)
+        elif sum_:
+            variants = [(v.split()[0], v.split()[-1]) for v in sum_[2].split(', ')]
+            self.sums[sum_[1]] = Sum(sum_[1], *about, variants)
+        else:
+            head, _, fields = line.partition(':')
+            name, *marks = head.split()
+            fields = [Field(f) for f in fields.split(', ')] if fields else []
+            self.structs[name] = Struct(name, *about, marks, fields)
+
+    def entry(self, name):
+        return self.structs.get(name) or self.sums.get(name) or self.words[name]
+
+    def kinds_of(self, name):
+        """The structs that a struct or sum may be, each once, in order."""
+        if name in self.structs:
+            return [name]
+        kinds = []
+        for _, member in self.sums[name].variants:
+            kinds += [k for k in self.kinds_of(member) if k not in kinds]
+        return kinds
+
+    def classes(self):
+        return list(self.structs) + list(self.sums)
+
+    def spellings(self):
+        """Every word once: its variant and its spelling."""
+        seen = {}
+        for words in self.words.values():
+            for spelling, variant in words.words:
+                if seen.setdefault(variant, spelling) != spelling:
+                    raise SystemExit('one variant for two words: ' + variant)
+        return seen
+
+    def is_leaf(self, name):
+        """Whether a struct holds no subtree, so that it is held by value."""
+        fields = self.structs[name].fields if name in self.structs else None
+        return fields is not None and not any(f.type in self.structs or f.type in self.sums for f in fields)
+
+    def of_family(self, family, entries):
+        return [e for e in entries.values() if e.family == family]
