@@ -1,0 +1,4 @@
+pub mod Reads
+pub mod Steps
+pub mod Leaves
+pub mod Trees
