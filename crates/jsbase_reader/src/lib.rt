@@ -1,13 +1,12 @@
-// A library with one function.
+//! Reading syntax trees from JSON.
+//!
+//! What a value is read as stands in `jsbase_form`. Nothing is copied: texts are moved out of the
+//! JSON value, and its parts are let go as they are read.
 #![tactic(auto)]
 
-ghost use Rattle.std.specs.Prelude.{◌≡◌};
-ghost use Rattle.jsbase_reader.specs.Echo.{echo_of};
+mod error;
+mod leaves;
+mod nodes;
 
-// The `ensures` clause is the contract: what `echo` returns is `echo_of` of its argument, a definition
-// in `specs/Echo.antt`, which a caller's clause can cite too.
-pub fn echo(x: usize) -> usize
-    ensures { result ≡ echo_of x }
-{
-    x
-}
+pub use error::ReadError;
+pub use nodes::read;

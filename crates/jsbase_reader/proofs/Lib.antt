@@ -1,0 +1,4 @@
+pub mod Items
+pub mod Loops
+pub mod Members
+pub mod Fields
