@@ -1,22 +1,19 @@
 -- How numbers, spans, contexts, texts, flags and words are read from JSON.
-use Rattle.std.specs.Prelude.{ℕ, suc, ◌^◌, List, [], ◌∷◌, Bool, not, ◌&&◌, ◌==◌, nat_lt, if◌then◌else◌, Option, Some, None, option_and_then, Ok, Err, find}
+use Rattle.std.specs.Prelude.{ℕ, suc, ◌^◌, List, [], ◌∷◌, Bool, not, ◌&&◌, ◌==◌, nat_eq, nat_lt, if◌then◌else◌, Option, Some, None, option_and_then, Ok, Err, find}
 use Rattle.std.specs.List.{list_any}
 use Rattle.std.specs.Str.{bytes_eq}
 use Rattle.serde_json.specs.Data.{Data, Items, no_items, item}
 use Rattle.serde_json.specs.Find.{as_bool, as_number, as_str, as_array, as_u64}
+use Rattle.swc_tree_marks.specs.Globals.{Table, numbers}
 use Rattle.swc_tree_marks.specs.declared.span.Span.{Span}
 use Rattle.swc_tree_node.specs.declared.kind.Word.{Word}
 use Rattle.swc_tree_node.specs.declared.kind.WordClass.{WordClass}
 use Rattle.swc_tree_node.specs.Table.{words_of, spelling_of}
 use Rattle.jsbase_form.specs.Reads.{Read, ◌>>=◌, at, found, index}
 
--- of each mark its number and its parent's
-abbrev pub Table : Type 0
-Table = List (ℕ × ℕ)
-
 -- a mark of the table, and not the root
 abbrev pub is_marked : Table → ℕ → Bool
-is_marked table mark = not (mark == 0) && list_any (λ row. row.0 == mark) table
+is_marked table mark = not (mark == 0) && list_any (nat_eq mark) (numbers table)
 
 abbrev pub small : ℕ → Read ℕ
 small n = if nat_lt n (2 ^ 32) then Ok n else Err []

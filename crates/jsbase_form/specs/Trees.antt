@@ -5,6 +5,7 @@ use Rattle.std.specs.Cmp.Lexicographic.{slice_cmp}
 use Rattle.std.specs.Str.{bytes_eq}
 use Rattle.serde_json.specs.Data.{Data, null, boolean, number, string, array, object, Items, no_items, item, Members, no_members, member}
 use Rattle.serde_json.specs.Find.{as_str, get_member}
+use Rattle.swc_tree_marks.specs.Globals.{Table}
 use Rattle.swc_tree_marks.specs.declared.ident.Ident.{Ident}
 use Rattle.swc_tree_node.specs.declared.kind.Kind.{Kind}
 use Rattle.swc_tree_node.specs.declared.kind.Class.{Class}
@@ -16,7 +17,7 @@ use Rattle.swc_tree_node.specs.declared.slot.Role.{Role}
 use Rattle.swc_tree_node.specs.declared.node.Node.{Node, Absent, Flag, Word, Text, Span, List as Many, Identifier, Tree}
 use Rattle.swc_tree_node.specs.Table.{kinds_of, name_of, fields_of, is_identifier}
 use Rattle.jsbase_form.specs.Reads.{Read, ◌>>=◌, at, found, key, index}
-use Rattle.jsbase_form.specs.Leaves.{Table, span_at, context_at, text_at, flag_at, word_at}
+use Rattle.jsbase_form.specs.Leaves.{span_at, context_at, text_at, flag_at, word_at}
 
 -- a single leaf; a node is read from an object alone
 abbrev pub leaf_at : Content → Data → Read Node

@@ -7,6 +7,7 @@ use Rattle.std.proofs.lemmas.Slice.Eq.{bytes_eq-Decides}
 use Rattle.std.proofs.Math.Seq.{drop-cons}
 use Rattle.serde_json.specs.Data.{Data, null, Members, no_members, member}
 use Rattle.serde_json.specs.Find.{get_member}
+use Rattle.swc_tree_marks.specs.Globals.{Table}
 use Rattle.swc_tree_node.specs.declared.kind.Kind.{Kind}
 use Rattle.swc_tree_node.specs.declared.kind.Kind.TheVariants as kind
 use Rattle.swc_tree_node.specs.declared.slot.Field.{Field}
@@ -15,7 +16,6 @@ use Rattle.swc_tree_node.specs.declared.slot.Role.{Role}
 use Rattle.swc_tree_node.specs.declared.node.Node.{Node}
 use Rattle.swc_tree_node.specs.Table.{fields_of}
 use Rattle.jsbase_form.specs.Reads.{Path, Read, ◌>>=◌, at, key}
-use Rattle.jsbase_form.specs.Leaves.{Table}
 use Rattle.jsbase_form.specs.Trees.{seen, null_as, members_seen, fields_at, value_of}
 use Rattle.jsbase_reader.specs.Keys.{all_differ}
 use Rattle.jsbase_reader.proofs.Loops.{after, after-cons}

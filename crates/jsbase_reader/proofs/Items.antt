@@ -3,10 +3,11 @@ use Rattle.std.proofs.Common.{◌≡◌, ◌≤◌, ℕ, suc, ◌+◌, List, [],
 use Rattle.serde_json.specs.Data.{depth, items_depth}
 use Rattle.serde_json.specs.View.{view, items_view}
 use Rattle.serde_json.specs.declared.value.Value.{Value}
+use Rattle.swc_tree_marks.specs.Globals.{Table}
 use Rattle.swc_tree_node.specs.declared.slot.Slot.{Slot}
 use Rattle.swc_tree_node.specs.declared.node.Node.{Node}
 use Rattle.jsbase_form.specs.Reads.{Path, Read, ◌>>=◌, at, index}
-use Rattle.jsbase_form.specs.Leaves.{Table, span_of}
+use Rattle.jsbase_form.specs.Leaves.{span_of}
 use Rattle.jsbase_form.specs.Trees.{seen, items_seen}
 use Rattle.jsbase_reader.proofs.Loops.{after, after-cons}
 

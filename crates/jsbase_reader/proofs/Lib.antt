@@ -2,3 +2,4 @@ pub mod Items
 pub mod Loops
 pub mod Members
 pub mod Fields
+pub mod Marks

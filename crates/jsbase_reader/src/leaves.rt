@@ -1,6 +1,5 @@
 //! Reading what has no nodes in it: numbers, spans, contexts, texts, flags and words.
-ghost use Rattle.std.specs.Prelude.{◌≡◌, ◌==◌};
-ghost use Rattle.std.specs.List.{list_any};
+ghost use Rattle.std.specs.Prelude.{◌≡◌};
 ghost use Rattle.serde_json.specs.View.{view, items_view};
 ghost use Rattle.jsbase_form.specs.Leaves.{is_marked, number_at, span_at, mark_at, marks_of, context_at, text_at, flag_at, word_at, spelled};
 ghost use Rattle.jsbase_reader.specs.Answers.{Gives};
@@ -10,7 +9,7 @@ use jsbase_form::Step;
 use serde_json::Value;
 use std::alloc::Global;
 use swc_tree_items::Text;
-use swc_tree_marks::{Mark, Span, SyntaxContext};
+use swc_tree_marks::{Globals, Mark, Span, SyntaxContext};
 use swc_tree_node::{Word, WordClass, spelling_of, words_of};
 
 #[tactic(auto, unfolding(jsbase_form::specs::Leaves::number_at))]
@@ -44,29 +43,23 @@ pub(crate) fn read_span(alloc: Global, value: &Value) -> Result<Span, ReadError>
     }
 }
 
-/// Whether a number is that of a mark of the table.
-fn is_marked(table: &[(u32, u32)], number: u32) -> bool
-    ensures { result ≡ is_marked table.now number }
+/// Whether a number is that of a mark of the globals, and not the root's.
+pub(crate) fn is_marked(globals: &Globals, number: u32) -> bool
+    ensures { result ≡ is_marked globals.now number }
 {
-    number != 0 && is_listed(table, number)
-}
-
-fn is_listed(table: &[(u32, u32)], number: u32) -> bool
-    ensures { result ≡ list_any (λ row. row.0 == number) table.now }
-{
-    table.iter().any(|row| row.0 == number)
+    number != 0 && globals.knows(Mark::from_u32(number))
 }
 
 #[tactic(auto, unfolding(jsbase_form::specs::Leaves::mark_at))]
 pub(crate) fn read_mark(
     alloc: Global,
-    table: &[(u32, u32)],
+    globals: &Globals,
     value: &Value,
 ) -> Result<Mark, ReadError>
-    ensures { Gives result (mark_at table.now (view value.now)) }
+    ensures { Gives result (mark_at globals.now (view value.now)) }
 {
     let number = read_number(alloc, value)?;
-    if is_marked(table, number) {
+    if is_marked(globals, number) {
         Ok(Mark::from_u32(number))
     } else {
         fault(alloc)
@@ -75,14 +68,14 @@ pub(crate) fn read_mark(
 
 fn read_marks(
     alloc: Global,
-    table: &[(u32, u32)],
+    globals: &Globals,
     values: &[Value],
 ) -> Result<SyntaxContext, ReadError>
-    ensures { Gives result (marks_of table.now 0 (items_view values.now)) }
+    ensures { Gives result (marks_of globals.now 0 (items_view values.now)) }
 {
     let mut context = SyntaxContext::empty(alloc);
     for (i, value) in values.iter().enumerate() {
-        let mark = under(Step::Index(i), read_mark(alloc, table, value))?;
+        let mark = under(Step::Index(i), read_mark(alloc, globals, value))?;
         context.apply_mark(mark)?;
     }
     Ok(context)
@@ -91,13 +84,13 @@ fn read_marks(
 #[tactic(auto, unfolding(jsbase_form::specs::Leaves::context_at))]
 pub(crate) fn read_context(
     alloc: Global,
-    table: &[(u32, u32)],
+    globals: &Globals,
     value: &Value,
 ) -> Result<SyntaxContext, ReadError>
-    ensures { Gives result (context_at table.now (view value.now)) }
+    ensures { Gives result (context_at globals.now (view value.now)) }
 {
     match value.as_array() {
-        Some(values) => read_marks(alloc, table, values),
+        Some(values) => read_marks(alloc, globals, values),
         None => fault(alloc),
     }
 }

@@ -14,7 +14,7 @@ use jsbase_form::Step;
 use serde_json::{Map, Value};
 use std::alloc::Global;
 use swc_tree_items::{Boxed, Items};
-use swc_tree_marks::Ident;
+use swc_tree_marks::{Globals, Ident};
 use swc_tree_node::{
     Class, Content, Field, Kind, Node, Slot, fields_of, is_identifier, kinds_of, name_of,
 };
@@ -105,15 +105,15 @@ fn read_kind(alloc: Global, class: Class, members: &Map<String, Value>) -> Resul
 #[tactic(auto, unfolding(jsbase_form::specs::Trees::ident_at))]
 fn read_ident(
     alloc: Global,
-    table: &[(u32, u32)],
+    globals: &Globals,
     members: &mut Map<String, Value>,
 ) -> Result<Ident, ReadError>
-    ensures { Gives result (ident_at table.now (members_view members.old.entries)) }
+    ensures { Gives result (ident_at globals.now (members_view members.old.entries)) }
 {
     let span = take_value(members, "span");
     let span = under(Step::Key("span"), read_span(alloc, &span))?;
     let ctxt = take_value(members, "ctxt");
-    let ctxt = under(Step::Key("ctxt"), read_context(alloc, table, &ctxt))?;
+    let ctxt = under(Step::Key("ctxt"), read_context(alloc, globals, &ctxt))?;
     let sym = take_value(members, "sym");
     let sym = under(Step::Key("sym"), read_text(alloc, sym))?;
     Ok(Ident { span, ctxt, sym })
@@ -123,18 +123,18 @@ fn read_ident(
 #[cycle(read)]
 pub fn read(
     alloc: Global,
-    table: &[(u32, u32)],
+    globals: &Globals,
     value: Value,
     slot: Slot,
 ) -> Result<Node, ReadError>
-    ensures { Gives result (seen table.now (view value) slot) }
+    ensures { Gives result (seen globals.now (view value) slot) }
 {
     match value {
         Value::Null => read_null(alloc, slot),
         Value::Bool(_) | Value::Number(_) | Value::String(_) => read_single(alloc, slot, value),
         Value::Array(values) => match slot {
             Slot::List(content) => {
-                let nodes = read_items(alloc, table, values, Slot::One(content))?;
+                let nodes = read_items(alloc, globals, values, Slot::One(content))?;
                 Ok(Node::List(nodes))
             }
             Slot::One(content) | Slot::Optional(content) => {
@@ -143,7 +143,7 @@ pub fn read(
         },
         Value::Object(members) => match slot {
             Slot::One(Content::Node(class)) | Slot::Optional(Content::Node(class)) => {
-                read_node(alloc, table, members, class)
+                read_node(alloc, globals, members, class)
             }
             _ => fault(alloc),
         },
@@ -153,37 +153,37 @@ pub fn read(
 #[cycle(read)]
 fn read_items(
     alloc: Global,
-    table: &[(u32, u32)],
+    globals: &Globals,
     values: Vec<Value>,
     slot: Slot,
 ) -> Result<Items<Node>, ReadError>
-    ensures { Gives result (items_seen table.now 0 (items_view values.items) slot) }
+    ensures { Gives result (items_seen globals.now 0 (items_view values.items) slot) }
 {
-    let mut nodes = Vec::with_capacity(alloc, values.len())?;
+    let mut nodes = Items::with_capacity(alloc, values.len())?;
     for (i, value) in values.into_iter().enumerate() {
-        let node = under(Step::Index(i), read(alloc, table, value, slot))?;
+        let node = under(Step::Index(i), read(alloc, globals, value, slot))?;
         nodes.push(node)?;
     }
-    Ok(Items::from_vec(nodes))
+    Ok(nodes)
 }
 
 #[cycle(read)]
 #[tactic(auto, unfolding(jsbase_form::specs::Trees::body_at))]
 fn read_node(
     alloc: Global,
-    table: &[(u32, u32)],
+    globals: &Globals,
     mut members: Map<String, Value>,
     class: Class,
 ) -> Result<Node, ReadError>
-    ensures { Gives result (node_at table.now (members_view members.entries)
-        (members_seen table.now (members_view members.entries)) class) }
+    ensures { Gives result (node_at globals.now (members_view members.entries)
+        (members_seen globals.now (members_view members.entries)) class) }
 {
     let kind = read_kind(alloc, class, &members)?;
     if is_identifier(kind) {
-        let ident = read_ident(alloc, table, &mut members)?;
+        let ident = read_ident(alloc, globals, &mut members)?;
         Ok(Node::Identifier(kind, Boxed::new(alloc, ident)?))
     } else {
-        let fields = read_fields(alloc, table, members, fields_of(kind))?;
+        let fields = read_fields(alloc, globals, members, fields_of(kind))?;
         Ok(Node::Tree(kind, fields))
     }
 }
@@ -191,19 +191,19 @@ fn read_node(
 #[cycle(read)]
 fn read_fields(
     alloc: Global,
-    table: &[(u32, u32)],
+    globals: &Globals,
     mut members: Map<String, Value>,
     fields: &[Field],
 ) -> Result<Items<Node>, ReadError>
     requires { IsTrue (all_differ (map (λ f. f.key.now) fields.now)) }
-    ensures { Gives result (fields_at (members_seen table.now (members_view members.entries))
+    ensures { Gives result (fields_at (members_seen globals.now (members_view members.entries))
         (map (λ f. (f.key.now, f.slot, f.role)) fields.now)) }
 {
-    let mut nodes = Vec::with_capacity(alloc, fields.len())?;
+    let mut nodes = Items::with_capacity(alloc, fields.len())?;
     for field in fields {
         let value = take_value(&mut members, field.key);
-        let node = under(Step::Key(field.key), read(alloc, table, value, field.slot))?;
+        let node = under(Step::Key(field.key), read(alloc, globals, value, field.slot))?;
         nodes.push(node)?;
     }
-    Ok(Items::from_vec(nodes))
+    Ok(nodes)
 }

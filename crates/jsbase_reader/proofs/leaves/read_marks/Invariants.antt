@@ -5,4 +5,4 @@ use Rattle.jsbase_reader.proofs.Loops.{after}
 use Rattle.jsbase_reader.proofs.leaves.read_marks.Given as goal
 
 abbrev pub invariant-loop-i : goal.invariant-loop-i
-invariant-loop-i l = marks_of l.fn.table 0 (items_view l.values) ≡ after l.context (marks_of l.fn.table l.i (items_view (drop l.i l.values)))
+invariant-loop-i l = marks_of l.fn.globals 0 (items_view l.values) ≡ after l.context (marks_of l.fn.globals l.i (items_view (drop l.i l.values)))

@@ -22,13 +22,13 @@ read_fields-loop-field-preserved t c =
     let l = c.loop-field in
     let old = members_view l.members.entries in
     let new = members_view c.take_value-value.new.members.entries in
-    let next = field_read c.args.table.now old new c.args.fields.now l.field-index _ l.nodes.items _ (view c.take_value-value.result) c.in_ok-node.node c.loop-field-test.true l.invariant.0 l.invariant.1
+    let next = field_read c.args.globals.now old new c.args.fields.now l.field-index _ l.nodes _ (view c.take_value-value.result) c.in_ok-node.node c.loop-field-test.true l.invariant.0 l.invariant.1
     c.take_value-value.ensures.value c.take_value-value.ensures.others (c.in_ok-node.ensures _ c.read.ensures) in
-    (rw c.in_ok-push.ensures.items next.0, next.1, omega (arith, l.invariant.2, c.take_value-value.ensures.left_depth))
+    (rw c.in_ok-push.ensures.ok next.0, next.1, omega (arith, l.invariant.2, c.take_value-value.ensures.left_depth))
 
 pub read_fields-returns-in_err-node : goal.read_fields-returns-in_err-node
 read_fields-returns-in_err-node t c =
     let l = c.loop-field in
     gives_error c.in_err-node.field-0.0 c.from_residual-in_err-node.result _ _ c.from_residual-in_err-node.ensures.1 (c.in_err-node.ensures _ c.read.ensures)
-    (λ p here. field_fails c.args.table.now (members_view l.members.entries) c.args.fields.now l.field-index _ l.nodes.items _ (view c.take_value-value.result) p c.loop-field-test.true l.invariant.0
+    (λ p here. field_fails c.args.globals.now (members_view l.members.entries) c.args.fields.now l.field-index _ l.nodes _ (view c.take_value-value.result) p c.loop-field-test.true l.invariant.0
     c.take_value-value.ensures.value here)

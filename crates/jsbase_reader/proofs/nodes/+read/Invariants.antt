@@ -22,13 +22,13 @@ abbrev pub invariant-read_items-loop-i : goal.invariant-read_items-loop-i
 invariant-read_items-loop-i l =
     let all = items_view l.fn.values.items in
     let rest = items_view l.i-iterator.iter.rest.items in
-    (items_seen l.table 0 all l.slot ≡ after l.nodes.items (items_seen l.table l.i-iterator.count rest l.slot)) × (items_depth rest ≤ items_depth all)
+    (items_seen l.globals 0 all l.slot ≡ after l.nodes (items_seen l.globals l.i-iterator.count rest l.slot)) × (items_depth rest ≤ items_depth all)
 
 abbrev pub invariant-read_fields-loop-field : goal.invariant-read_fields-loop-field
 invariant-read_fields-loop-field l =
-    let keys = members_seen l.table (members_view l.initial.members.entries) in
-    let left = members_seen l.table (members_view l.members.entries) in
+    let keys = members_seen l.globals (members_view l.initial.members.entries) in
+    let left = members_seen l.globals (members_view l.members.entries) in
     let rest = drop l.field-index l.fields in
-    (fields_at keys (map (λ f. (f.key.now, f.slot, f.role)) l.fields) ≡ after l.nodes.items (fields_at left (map (λ f. (f.key.now, f.slot, f.role)) rest)))
+    (fields_at keys (map (λ f. (f.key.now, f.slot, f.role)) l.fields) ≡ after l.nodes (fields_at left (map (λ f. (f.key.now, f.slot, f.role)) rest)))
     × IsTrue (all_differ (map (λ f. f.key.now) rest))
     × (members_depth (members_view l.members.entries) ≤ members_depth (members_view l.initial.members.entries))
