@@ -1,5 +1,5 @@
 -- The text of a path, step by step.
-use Rattle.std.proofs.Common.{◌≡◌, ℕ, List, [], ◌∷◌, ◌++◌, length, map, reverse, codes, refl, sym, ap, ◌∙◌, append_assoc, append-nil, arith}
+use Rattle.std.proofs.Common.{◌≡◌, ℕ, List, [], ◌∷◌, ◌++◌, length, codes, refl, sym, ap, ◌∙◌, append_assoc, append-nil, arith}
 use Rattle.std.proofs.lemmas.List.{reverse-append, map-append}
 use Rattle.jsbase_form.specs.declared.path.Step.{Step}
 use Rattle.jsbase_form.specs.Reads.{Path, part_text, parts_text, path_text}

@@ -2,3 +2,4 @@ pub mod Reads
 pub mod Steps
 pub mod Leaves
 pub mod Trees
+pub mod Known

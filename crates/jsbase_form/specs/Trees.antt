@@ -1,5 +1,5 @@
 -- The tree that a JSON value stands for, or the path to its first fault.
-use Rattle.std.specs.Prelude.{ℕ, suc, List, [], ◌∷◌, map, codes, unwrap_or, Option, Some, None, option_and_then, Ok, Err, find, if◌then◌else◌}
+use Rattle.std.specs.Prelude.{ℕ, suc, List, [], ◌∷◌, codes, unwrap_or, Option, option_and_then, Ok, Err, find, if◌then◌else◌}
 use Rattle.std.specs.Ordering.{nat_cmp, match_ordering}
 use Rattle.std.specs.Cmp.Lexicographic.{slice_cmp}
 use Rattle.std.specs.Str.{bytes_eq}
