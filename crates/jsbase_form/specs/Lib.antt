@@ -2,4 +2,5 @@ pub mod Reads
 pub mod Steps
 pub mod Leaves
 pub mod Trees
+pub mod Tables
 pub mod Known

@@ -3,3 +3,5 @@ pub mod Loops
 pub mod Members
 pub mod Fields
 pub mod Marks
+pub mod Tables
+pub mod Texts

@@ -6,7 +6,7 @@ use Rattle.std.proofs.lemmas.Map.Views.{list_any-from_Contains, Contains-from_an
 use Rattle.swc_tree_marks.specs.Globals.{Table, numbers, Knows}
 use Rattle.jsbase_form.specs.Leaves.{is_marked}
 
-same_number : (x y : ℕ) → nat_eq x y ≡ true → x ≡ y
+pub same_number : (x y : ℕ) → nat_eq x y ≡ true → x ≡ y
 same_number x y e = grind arith
 
 in_table : (table : Table) (n : ℕ) (b found : Bool) → list_any (nat_eq n) (numbers table) ≡ found → (n ≡ 0 → ⊥) → (IsTrue b ↔ Knows table n) → b ≡ found

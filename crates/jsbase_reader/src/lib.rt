@@ -4,9 +4,11 @@
 //! JSON value, and its parts are let go as they are read.
 #![tactic(auto)]
 
+mod envelope;
 mod error;
 mod leaves;
 mod nodes;
 
+pub use envelope::{Envelope, read_bytes, read_envelope};
 pub use error::ReadError;
 pub use nodes::read;

@@ -50,7 +50,7 @@ fn read_null(alloc: Global, slot: Slot) -> Result<Node, ReadError>
 }
 
 /// Takes the value of a key out of an object; an absent key counts as null.
-fn take_value(members: &mut Map<String, Value>, key: &str) -> Value
+pub(crate) fn take_value(members: &mut Map<String, Value>, key: &str) -> Value
     ensures value { view result ≡ value_of key.now (members_view members.old.entries) }
     ensures others { (k : List ℕ) → k ≢ key.now
         → get_member k (members_view members.new.entries) ≡ get_member k (members_view members.old.entries) }
