@@ -191,3 +191,9 @@ mutual
   members_sound table no_members k s t h = null_sound table s t h
   members_sound table (member l d ms) k s t h =
       either_sound (slice_cmp nat_cmp k l) table s (members_seen table ms k s) (seen table d s) t (members_sound table ms k s t) (seen_sound table d s t) h
+
+pub seen_fits : (table : Table) (d : Data) (s : Slot) (t : Node) → seen table d s ≡ Ok t → Fits t s
+seen_fits table d s t h = (seen_sound table d s t h).0
+
+pub seen_known : (table : Table) (d : Data) (s : Slot) (t : Node) → seen table d s ≡ Ok t → MarksKnown table t
+seen_known table d s t h = (seen_sound table d s t h).1

@@ -1,5 +1,5 @@
 -- A table of marks, checked pair by pair.
-use Rattle.std.proofs.Common.{◌≡◌, ℕ, zero, suc, ◌+◌, ◌<◌, ◌≤◌, List, [], ◌∷◌, ◌++◌, length, take, drop, get_or, Bool, true, false, ◌&&◌, ◌||◌, ◌==◌, nat_eq, nat_lt, cond, Contains, ◌⊎◌, inl, inr, Ok, Err, refl, sym, ap, ◌∙◌, subst, arith, add-one, eq-eqb, rules, tests}
+use Rattle.std.proofs.Common.{◌≡◌, ℕ, zero, suc, ◌+◌, ◌<◌, ◌≤◌, List, [], ◌∷◌, ◌++◌, length, take, drop, Bool, true, false, ◌&&◌, ◌||◌, ◌==◌, nat_eq, nat_lt, cond, inl, inr, Ok, Err, refl, sym, ap, ◌∙◌, arith, add-one, eq-eqb}
 use Rattle.std.specs.List.{list_any}
 use Rattle.std.specs.Cmp.{nat_eq_equiv}
 use Rattle.std.proofs.lemmas.Map.Views.{list_any-from_Contains, Contains-from_any}
@@ -8,7 +8,7 @@ use Rattle.std.proofs.Math.Seq.{take-length, drop-length, drop-cons}
 use Rattle.serde_json.specs.View.{items_view}
 use Rattle.serde_json.specs.declared.value.Value.{Value}
 use Rattle.swc_tree_marks.specs.Globals.{Table, numbers, greatest, Knows, Follows, row_at, IsTable, IsFirstBad}
-use Rattle.jsbase_form.specs.Reads.{Read, index}
+use Rattle.jsbase_form.specs.Reads.{index}
 use Rattle.jsbase_form.specs.Tables.{pair_of, may_follow, checked}
 use Rattle.jsbase_reader.proofs.Marks.{same_number}
 

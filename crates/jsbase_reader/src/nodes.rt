@@ -1,9 +1,11 @@
 //! Reading nodes.
-ghost use Rattle.std.specs.Prelude.{◌≡◌, ◌≢◌, ◌≤◌, ℕ, List, map, IsTrue, option_map, option_and_then};
+ghost use Rattle.std.specs.Prelude.{◌≡◌, ◌≢◌, ◌≤◌, ℕ, List, map, IsTrue, IfOk, option_map, option_and_then};
 ghost use Rattle.serde_json.specs.Data.{depth, members_depth};
 ghost use Rattle.serde_json.specs.Find.{get_member, as_str};
 ghost use Rattle.serde_json.specs.View.{view, items_view, members_view};
 ghost use Rattle.jsbase_form.specs.Trees.{seen, items_seen, members_seen, fields_at, body_at, node_at, ident_at, kind_at, leaf_at, single_as, null_as, named, value_of};
+ghost use Rattle.jsbase_form.specs.Known.{MarksKnown};
+ghost use Rattle.swc_tree_node.specs.Fits.{Fits};
 ghost use Rattle.jsbase_reader.specs.Keys.{all_differ};
 ghost use Rattle.swc_tree_node.specs.Table.{kinds_of};
 ghost use Rattle.jsbase_reader.specs.Answers.{Gives};
@@ -119,9 +121,28 @@ fn read_ident(
     Ok(Ident { span, ctxt, sym })
 }
 
-/// The tree of a JSON value, or the path of the first fault.
+/// The tree that a JSON value is in a place.
+///
+/// Nothing is copied: texts are moved out of the value, and its parts are let go as they are read.
+/// The time is in step with the size of the value, but for looking up keys and marks, which costs the
+/// logarithm of how many there are.
+///
+/// # Errors
+///
+/// `Fault` with the path to the first fault, in the order in which fields are read; `NoMemory` where
+/// memory is refused.
+#[tactic(auto, using(jsbase_form::proofs::Seen::seen_fits, jsbase_form::proofs::Seen::seen_known))]
+pub fn read(alloc: Global, globals: &Globals, value: Value, slot: Slot) -> Result<Node, ReadError>
+    ensures tree { Gives result (seen globals.now (view value) slot) }
+    ensures fits { IfOk result (λ tree. Fits tree slot) }
+    ensures known { IfOk result (λ tree. MarksKnown globals.now tree) }
+{
+    let tree = read_value(alloc, globals, value, slot)?;
+    Ok(tree)
+}
+
 #[cycle(read)]
-pub fn read(
+fn read_value(
     alloc: Global,
     globals: &Globals,
     value: Value,
@@ -161,7 +182,7 @@ fn read_items(
 {
     let mut nodes = Items::with_capacity(alloc, values.len())?;
     for (i, value) in values.into_iter().enumerate() {
-        let node = under(Step::Index(i), read(alloc, globals, value, slot))?;
+        let node = under(Step::Index(i), read_value(alloc, globals, value, slot))?;
         nodes.push(node)?;
     }
     Ok(nodes)
@@ -202,7 +223,7 @@ fn read_fields(
     let mut nodes = Items::with_capacity(alloc, fields.len())?;
     for field in fields {
         let value = take_value(&mut members, field.key);
-        let node = under(Step::Key(field.key), read(alloc, globals, value, field.slot))?;
+        let node = under(Step::Key(field.key), read_value(alloc, globals, value, field.slot))?;
         nodes.push(node)?;
     }
     Ok(nodes)

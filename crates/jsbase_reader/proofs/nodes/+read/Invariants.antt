@@ -6,8 +6,8 @@ use Rattle.jsbase_reader.specs.Keys.{all_differ}
 use Rattle.jsbase_reader.proofs.Loops.{after}
 use Rattle.jsbase_reader.proofs.nodes.+read.Given as goal
 
-abbrev pub decreases-read : goal.decreases-read
-decreases-read l = 4 * depth (view l.value)
+abbrev pub decreases-read_value : goal.decreases-read_value
+decreases-read_value l = 4 * depth (view l.value)
 
 abbrev pub decreases-read_items : goal.decreases-read_items
 decreases-read_items l = 4 * items_depth (items_view l.values.items) + 1
