@@ -4,3 +4,4 @@ pub mod Leaves
 pub mod Trees
 pub mod Tables
 pub mod Known
+pub mod Writing

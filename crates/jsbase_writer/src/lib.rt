@@ -1,13 +1,9 @@
-// A library with one function.
+//! Writing syntax trees as JSON.
+//!
+//! What a tree is written as stands in `jsbase_form`. Texts are moved into the JSON value, and the
+//! parts of the tree are let go as they are written.
 #![tactic(auto)]
 
-ghost use Rattle.std.specs.Prelude.{◌≡◌};
-ghost use Rattle.jsbase_writer.specs.Echo.{echo_of};
+mod nodes;
 
-// The `ensures` clause is the contract: what `echo` returns is `echo_of` of its argument, a definition
-// in `specs/Echo.antt`, which a caller's clause can cite too.
-pub fn echo(x: usize) -> usize
-    ensures { result ≡ echo_of x }
-{
-    x
-}
+
