@@ -1,0 +1,4 @@
+pub mod Paths
+pub mod Successes
+pub mod Folds
+pub mod Seen

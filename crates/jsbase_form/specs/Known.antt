@@ -1,0 +1,42 @@
+-- Trees whose marks a table knows, and whose numbers have 32 bits.
+use Rattle.std.specs.Prelude.{◌^◌, List, [], ◌∷◌, Bool, true, ◌&&◌, IsTrue, nat_lt}
+use Rattle.std.specs.List.{list_all}
+use Rattle.swc_tree_marks.specs.Globals.{Table}
+use Rattle.swc_tree_marks.specs.declared.span.Span.{Span}
+use Rattle.swc_tree_node.specs.declared.node.Node.{Node, fold-Node}
+use Rattle.swc_tree_node.specs.declared.node.Node.TheOpen.{Node-F}
+use Rattle.jsbase_form.specs.Leaves.{is_marked}
+
+abbrev pub all_of : List Bool → Bool
+all_of [] = true
+all_of (b ∷ bs) = b && all_of bs
+
+abbrev pub marks_step : Table → Node-F Bool → Bool
+marks_step table (Node-F.Identifier k i) = list_all (is_marked table) i.ctxt
+marks_step table (Node-F.List bs) = all_of bs
+marks_step table (Node-F.Tree k bs) = all_of bs
+marks_step table _ = true
+
+abbrev pub marks_known : Table → Node → Bool
+marks_known table = fold-Node Bool (marks_step table)
+
+-- each mark of each context stands in the table, and is not the root
+abbrev pub MarksKnown : Table → Node → Type 0
+MarksKnown table t = IsTrue (marks_known table t)
+
+abbrev pub span_short : Span → Bool
+span_short s = nat_lt s.lo (2 ^ 32) && nat_lt s.hi (2 ^ 32)
+
+abbrev pub short_step : Node-F Bool → Bool
+short_step (Node-F.Span s) = span_short s
+short_step (Node-F.Identifier k i) = span_short i.span && list_all (λ mark. nat_lt mark (2 ^ 32)) i.ctxt
+short_step (Node-F.List bs) = all_of bs
+short_step (Node-F.Tree k bs) = all_of bs
+short_step _ = true
+
+abbrev pub numbers_short : Node → Bool
+numbers_short = fold-Node Bool short_step
+
+-- the ends of spans and the marks have 32 bits
+abbrev pub NumbersShort : Node → Type 0
+NumbersShort t = IsTrue (numbers_short t)

@@ -1,0 +1,7 @@
+pub mod Reads
+pub mod Steps
+pub mod Leaves
+pub mod Trees
+pub mod Tables
+pub mod Known
+pub mod Writing

@@ -1,0 +1,10 @@
+//! The JSON form of syntax trees: definitions that the reader's and the writer's contracts cite, and
+//! paths to faults.
+//!
+//! A node is an object with `type`, the name of its kind, and each field under its key. The
+//! definitions stand in `specs/`, what follows from them in `proofs/`.
+#![tactic(auto)]
+
+mod path;
+
+pub use path::{FaultPath, Step};

@@ -1,0 +1,20 @@
+-- What a reader's answer says.
+use Rattle.std.specs.Prelude.{◌≡◌, Result, Ok, Err, ⊤}
+use Rattle.serde_json.specs.Data.{Data}
+use Rattle.serde_json.specs.View.{view}
+use Rattle.serde_json.specs.declared.value.Value.{Value}
+use Rattle.jsbase_form.specs.Reads.{Read}
+use Rattle.jsbase_reader.specs.declared.error.ReadError.{ReadError}
+use Rattle.jsbase_reader.specs.declared.error.ReadError.TheVariants as error
+
+-- what a function answered is this, unless memory ran out
+abbrev pub Gives : {A : Type 0} → Result A ReadError → Read A → Type 0
+Gives (Ok x) read = read ≡ Ok x
+Gives (Err error.NoMemory) read = ⊤
+Gives (Err (error.Fault path)) read = read ≡ Err path
+
+-- the same of a JSON value that was answered, as contracts see it
+abbrev pub GivesView : Result Value ReadError → Read Data → Type 0
+GivesView (Ok value) read = read ≡ Ok (view value)
+GivesView (Err error.NoMemory) read = ⊤
+GivesView (Err (error.Fault path)) read = read ≡ Err path

@@ -1,0 +1,40 @@
+-- The envelope that a JSON value or a text stands for, or the path to its first fault.
+use Rattle.std.specs.Prelude.{List, ℕ, codes, Bool, false, if◌then◌else◌, Ok, Err, []}
+use Rattle.std.specs.Str.{is_utf8}
+use Rattle.serde_json.specs.Data.{Data, null, Members}
+use Rattle.serde_json.specs.Find.{as_object}
+use Rattle.serde_json.specs.Read as json
+use Rattle.swc_tree_node.specs.declared.kind.Class.{Class}
+use Rattle.swc_tree_node.specs.declared.slot.Content.TheVariants as content
+use Rattle.swc_tree_node.specs.declared.slot.Slot.TheVariants as slot
+use Rattle.jsbase_form.specs.Reads.{Read, ◌>>=◌, at, found, key}
+use Rattle.jsbase_form.specs.Leaves.{mark_at, flag_at}
+use Rattle.jsbase_form.specs.Tables.{table_at}
+use Rattle.jsbase_form.specs.Trees.{seen, value_of}
+use Rattle.jsbase_reader.specs.declared.envelope.Envelope.{Envelope}
+
+-- an option that is absent or null is false
+abbrev pub option_at : Data → Read Bool
+option_at null = Ok false
+option_at d = flag_at d
+
+unfoldable pub envelope_of : Class → Members → Read Envelope
+envelope_of class ms = at (key (codes "marks")) (table_at (value_of (codes "marks") ms)) >>= (λ table.
+    at (key (codes "unresolved")) (mark_at table (value_of (codes "unresolved") ms)) >>= (λ unresolved.
+    at (key (codes "top")) (mark_at table (value_of (codes "top") ms)) >>= (λ top.
+    at (key (codes "keepClassNames")) (option_at (value_of (codes "keepClassNames") ms)) >>= (λ keep_class_names.
+    at (key (codes "ignoreEval")) (option_at (value_of (codes "ignoreEval") ms)) >>= (λ ignore_eval.
+    at (key (codes "tree")) (seen table (value_of (codes "tree") ms) (slot.One (content.Node class))) >>= (λ tree.
+    Ok (record { globals = table; unresolved = unresolved; top = top; keep_class_names = keep_class_names; ignore_eval = ignore_eval; tree = tree })))))))
+
+-- the envelope whose tree is of the class
+abbrev pub envelope_in : Class → Data → Read Envelope
+envelope_in class d = found (as_object d) >>= envelope_of class
+
+-- the JSON value of a text; bytes that are not UTF-8 have none
+abbrev pub text_in : List ℕ → Read Data
+text_in bytes = if is_utf8 bytes then found (json.read bytes) else Err []
+
+-- the envelope of a text
+abbrev pub envelope_in_text : Class → List ℕ → Read Envelope
+envelope_in_text class bytes = text_in bytes >>= envelope_in class

@@ -1,0 +1,148 @@
+//! Reading envelopes: a tree with its table of marks and its options.
+ghost use Rattle.serde_json.specs.View.{view, items_view, members_view};
+ghost use Rattle.jsbase_form.specs.Tables.{pair_at, pairs_of, pairs_at, table_at};
+ghost use Rattle.jsbase_reader.specs.Answers.{Gives, GivesView};
+ghost use Rattle.jsbase_reader.specs.Envelopes.{option_at, envelope_of, envelope_in, text_in, envelope_in_text};
+
+use crate::error::{ReadError, fault, under};
+use crate::leaves::{read_flag, read_mark, read_number};
+use crate::nodes::{read, take_value};
+use jsbase_form::Step;
+use serde_json::error::Category;
+use serde_json::{Map, Value};
+use std::alloc::Global;
+use swc_tree_items::Items;
+use swc_tree_marks::{Globals, Mark, MarkError};
+use swc_tree_node::{Class, Content, Node, Slot};
+
+/// A tree with what a pass over it has to know.
+#[derive(Debug, Drop)]
+pub struct Envelope {
+    pub globals: Globals,
+    /// The mark of names that no scope declares.
+    pub unresolved: Mark,
+    /// The mark of the outermost scope.
+    pub top: Mark,
+    pub keep_class_names: bool,
+    pub ignore_eval: bool,
+    pub tree: Node,
+}
+
+#[tactic(auto, using(crate::proofs::Tables::no_pair), unfolding(jsbase_form::specs::Tables::pair_at))]
+fn read_pair(alloc: Global, value: &Value) -> Result<(u32, u32), ReadError>
+    ensures { Gives result (pair_at (view value.now)) }
+{
+    let Some(numbers) = value.as_array() else {
+        return fault(alloc);
+    };
+    match numbers.as_slice() {
+        [mark, parent] => {
+            let mark = under(Step::Index(0), read_number(alloc, mark))?;
+            let parent = under(Step::Index(1), read_number(alloc, parent))?;
+            Ok((mark, parent))
+        }
+        _ => fault(alloc),
+    }
+}
+
+fn read_rows(alloc: Global, values: &[Value]) -> Result<Items<(u32, u32)>, ReadError>
+    ensures { Gives result (pairs_of 0 (items_view values.now)) }
+{
+    let mut rows = Items::with_capacity(alloc, values.len())?;
+    for (i, value) in values.iter().enumerate() {
+        let row = under(Step::Index(i), read_pair(alloc, value))?;
+        rows.push(row)?;
+    }
+    Ok(rows)
+}
+
+#[tactic(auto, unfolding(jsbase_form::specs::Tables::pairs_at))]
+fn read_pairs(alloc: Global, value: &Value) -> Result<Items<(u32, u32)>, ReadError>
+    ensures { Gives result (pairs_at (view value.now)) }
+{
+    match value.as_array() {
+        Some(values) => read_rows(alloc, values),
+        None => fault(alloc),
+    }
+}
+
+/// The table of marks: all its pairs are read before the first of them is checked.
+#[tactic(auto, using(crate::proofs::Tables::good_table, crate::proofs::Tables::bad_table), unfolding(jsbase_form::specs::Tables::table_at))]
+fn read_globals(alloc: Global, value: &Value) -> Result<Globals, ReadError>
+    ensures { Gives result (table_at (view value.now)) }
+{
+    let rows = read_pairs(alloc, value)?;
+    match Globals::from_table(alloc, rows.as_slice()) {
+        Ok(globals) => Ok(globals),
+        Err(MarkError::BadTable(index)) => under(Step::Index(index), fault(alloc)),
+        Err(MarkError::NoMemory | MarkError::MarksSpent) => Err(ReadError::NoMemory),
+    }
+}
+
+/// A flag, or false where there is none.
+fn read_option(alloc: Global, value: &Value) -> Result<bool, ReadError>
+    ensures { Gives result (option_at (view value.now)) }
+{
+    if value.is_null() {
+        Ok(false)
+    } else {
+        read_flag(alloc, value)
+    }
+}
+
+#[tactic(auto, unfolding(crate::specs::Envelopes::envelope_of))]
+fn read_members(
+    alloc: Global,
+    class: Class,
+    mut members: Map<String, Value>,
+) -> Result<Envelope, ReadError>
+    ensures { Gives result (envelope_of class (members_view members.entries)) }
+{
+    let marks = take_value(&mut members, "marks");
+    let globals = under(Step::Key("marks"), read_globals(alloc, &marks))?;
+    let unresolved = take_value(&mut members, "unresolved");
+    let unresolved = under(Step::Key("unresolved"), read_mark(alloc, &globals, &unresolved))?;
+    let top = take_value(&mut members, "top");
+    let top = under(Step::Key("top"), read_mark(alloc, &globals, &top))?;
+    let keep_class_names = take_value(&mut members, "keepClassNames");
+    let keep_class_names = under(Step::Key("keepClassNames"), read_option(alloc, &keep_class_names))?;
+    let ignore_eval = take_value(&mut members, "ignoreEval");
+    let ignore_eval = under(Step::Key("ignoreEval"), read_option(alloc, &ignore_eval))?;
+    let tree = take_value(&mut members, "tree");
+    let slot = Slot::One(Content::Node(class));
+    let tree = under(Step::Key("tree"), read(alloc, &globals, tree, slot))?;
+    Ok(Envelope { globals, unresolved, top, keep_class_names, ignore_eval, tree })
+}
+
+/// The envelope of a JSON value, whose tree is of the class, or the path of the first fault.
+pub fn read_envelope(alloc: Global, class: Class, value: Value) -> Result<Envelope, ReadError>
+    ensures { Gives result (envelope_in class (view value)) }
+{
+    match value {
+        Value::Object(members) => read_members(alloc, class, members),
+        Value::Null | Value::Bool(_) | Value::Number(_) | Value::String(_) | Value::Array(_) => {
+            fault(alloc)
+        }
+    }
+}
+
+/// The JSON value of a text.
+fn parse(alloc: Global, bytes: &[u8]) -> Result<Value, ReadError>
+    ensures { GivesView result (text_in bytes.now) }
+{
+    match Value::from_slice(alloc, bytes) {
+        Ok(value) => Ok(value),
+        Err(error) => match error.classify() {
+            Category::Memory => Err(ReadError::NoMemory),
+            _ => fault(alloc),
+        },
+    }
+}
+
+/// The envelope of a text.
+pub fn read_bytes(alloc: Global, class: Class, bytes: &[u8]) -> Result<Envelope, ReadError>
+    ensures { Gives result (envelope_in_text class bytes.now) }
+{
+    let value = parse(alloc, bytes)?;
+    read_envelope(alloc, class, value)
+}

@@ -1,0 +1,140 @@
+//! Reading what has no nodes in it: numbers, spans, contexts, texts, flags and words.
+ghost use Rattle.std.specs.Prelude.{◌≡◌};
+ghost use Rattle.serde_json.specs.View.{view, items_view};
+ghost use Rattle.jsbase_form.specs.Leaves.{is_marked, number_at, span_at, mark_at, marks_of, context_at, text_at, flag_at, word_at, spelled};
+ghost use Rattle.jsbase_reader.specs.Answers.{Gives};
+
+use crate::error::{ReadError, fault, under};
+use jsbase_form::Step;
+use serde_json::Value;
+use std::alloc::Global;
+use swc_tree_items::Text;
+use swc_tree_marks::{Globals, Mark, Span, SyntaxContext};
+use swc_tree_node::{Word, WordClass, spelling_of, words_of};
+
+#[tactic(auto, unfolding(jsbase_form::specs::Leaves::number_at))]
+pub(crate) fn read_number(alloc: Global, value: &Value) -> Result<u32, ReadError>
+    ensures { Gives result (number_at (view value.now)) }
+{
+    match value.as_u64() {
+        Some(number) => if number <= u32::MAX as u64 {
+            Ok(number as u32)
+        } else {
+            fault(alloc)
+        },
+        None => fault(alloc),
+    }
+}
+
+#[tactic(auto, using(crate::proofs::Items::not_a_pair), unfolding(jsbase_form::specs::Leaves::span_at))]
+pub(crate) fn read_span(alloc: Global, value: &Value) -> Result<Span, ReadError>
+    ensures { Gives result (span_at (view value.now)) }
+{
+    let Some(ends) = value.as_array() else {
+        return fault(alloc);
+    };
+    match ends.as_slice() {
+        [lo, hi] => {
+            let lo = under(Step::Index(0), read_number(alloc, lo))?;
+            let hi = under(Step::Index(1), read_number(alloc, hi))?;
+            Ok(Span { lo, hi })
+        }
+        _ => fault(alloc),
+    }
+}
+
+/// Whether a number is that of a mark of the globals, and not the root's.
+pub(crate) fn is_marked(globals: &Globals, number: u32) -> bool
+    ensures { result ≡ is_marked globals.now number }
+{
+    number != 0 && globals.knows(Mark::from_u32(number))
+}
+
+#[tactic(auto, unfolding(jsbase_form::specs::Leaves::mark_at))]
+pub(crate) fn read_mark(
+    alloc: Global,
+    globals: &Globals,
+    value: &Value,
+) -> Result<Mark, ReadError>
+    ensures { Gives result (mark_at globals.now (view value.now)) }
+{
+    let number = read_number(alloc, value)?;
+    if is_marked(globals, number) {
+        Ok(Mark::from_u32(number))
+    } else {
+        fault(alloc)
+    }
+}
+
+fn read_marks(
+    alloc: Global,
+    globals: &Globals,
+    values: &[Value],
+) -> Result<SyntaxContext, ReadError>
+    ensures { Gives result (marks_of globals.now 0 (items_view values.now)) }
+{
+    let mut context = SyntaxContext::empty(alloc);
+    for (i, value) in values.iter().enumerate() {
+        let mark = under(Step::Index(i), read_mark(alloc, globals, value))?;
+        context.apply_mark(mark)?;
+    }
+    Ok(context)
+}
+
+#[tactic(auto, unfolding(jsbase_form::specs::Leaves::context_at))]
+pub(crate) fn read_context(
+    alloc: Global,
+    globals: &Globals,
+    value: &Value,
+) -> Result<SyntaxContext, ReadError>
+    ensures { Gives result (context_at globals.now (view value.now)) }
+{
+    match value.as_array() {
+        Some(values) => read_marks(alloc, globals, values),
+        None => fault(alloc),
+    }
+}
+
+#[tactic(auto, unfolding(jsbase_form::specs::Leaves::text_at))]
+pub(crate) fn read_text(alloc: Global, value: Value) -> Result<Text, ReadError>
+    ensures { Gives result (text_at (view value)) }
+{
+    match value {
+        Value::String(text) => Ok(Text::from_string(text)),
+        Value::Null | Value::Bool(_) | Value::Number(_) | Value::Array(_) | Value::Object(_) =>
+            fault(alloc),
+    }
+}
+
+#[tactic(auto, unfolding(jsbase_form::specs::Leaves::flag_at))]
+pub(crate) fn read_flag(alloc: Global, value: &Value) -> Result<bool, ReadError>
+    ensures { Gives result (flag_at (view value.now)) }
+{
+    match value.as_bool() {
+        Some(flag) => Ok(flag),
+        None => fault(alloc),
+    }
+}
+
+/// The word of a list that is spelled so.
+fn spelled(text: &str, words: &[Word]) -> Option<Word>
+    ensures { result ≡ spelled text.now words.now }
+{
+    words
+        .iter()
+        .copied()
+        .find(|word| spelling_of(*word) == text)
+}
+
+#[tactic(auto, unfolding(jsbase_form::specs::Leaves::word_at))]
+pub(crate) fn read_word(alloc: Global, words: WordClass, value: &Value) -> Result<Word, ReadError>
+    ensures { Gives result (word_at words (view value.now)) }
+{
+    let Some(text) = value.as_str() else {
+        return fault(alloc);
+    };
+    match spelled(text, words_of(words)) {
+        Some(word) => Ok(word),
+        None => fault(alloc),
+    }
+}

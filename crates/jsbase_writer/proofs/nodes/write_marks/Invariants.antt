@@ -1,0 +1,7 @@
+use Rattle.std.proofs.Common.{◌≡◌, map, take}
+use Rattle.serde_json.specs.View.{view}
+use Rattle.jsbase_form.specs.Writing.{natural}
+use Rattle.jsbase_writer.proofs.nodes.write_marks.Given as goal
+
+abbrev pub invariant-loop-mark : goal.invariant-loop-mark
+invariant-loop-mark l = map view l.values.items ≡ map natural (take l.mark-index l.marks)

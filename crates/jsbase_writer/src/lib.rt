@@ -1,0 +1,9 @@
+//! Writing syntax trees as JSON.
+//!
+//! What a tree is written as stands in `jsbase_form`. Texts are moved into the JSON value, and the
+//! parts of the tree are let go as they are written.
+#![tactic(auto)]
+
+mod nodes;
+
+
