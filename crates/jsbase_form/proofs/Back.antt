@@ -1,9 +1,9 @@
 -- Leaves, identifiers and fields that are read back as they were written.
-use Rattle.std.proofs.Common.{◌≡◌, ◌≢◌, ◌^◌, ℕ, suc, List, [], ◌∷◌, Bool, true, false, not, ◌&&◌, ◌||◌, ◌==◌, cond, IsTrue, map, codes, Option, Some, None, Ok, Err, nat_lt, bytes_eq, unwrap_or, refl, sym, ap, ◌∙◌, subst, eq-eqb, option_and_then, arith}
+use Rattle.std.proofs.Common.{◌≡◌, ◌^◌, ℕ, suc, List, [], ◌∷◌, Bool, true, false, not, ◌||◌, ◌==◌, cond, IsTrue, map, codes, Some, Ok, nat_lt, bytes_eq, unwrap_or, refl, sym, ap, ◌∙◌, arith}
 use Rattle.std.specs.List.{find, list_any, list_all}
 use Rattle.std.proofs.lemmas.Slice.Eq.{bytes_eq-Decides}
-use Rattle.serde_json.specs.Data.{Data, null, string, object, array, Members, put, no_members}
-use Rattle.serde_json.specs.Find.{get_member, as_str, as_array}
+use Rattle.serde_json.specs.Data.{Data, null, string, Members, put}
+use Rattle.serde_json.specs.Find.{get_member}
 use Rattle.serde_json.specs.View.{items_of}
 use Rattle.serde_json.proofs.Views.{get_member-put, get_member-put_other}
 use Rattle.swc_tree_marks.specs.Globals.{Table}
@@ -15,14 +15,13 @@ use Rattle.swc_tree_node.specs.declared.kind.Word.{Word}
 use Rattle.swc_tree_node.specs.declared.kind.WordClass.{WordClass}
 use Rattle.swc_tree_node.specs.declared.slot.Slot.{Slot}
 use Rattle.swc_tree_node.specs.declared.slot.Role.{Role}
-use Rattle.swc_tree_node.specs.Table.{kinds_of, name_of, fields_of, words_of, spelling_of, kind_number, word_number}
+use Rattle.swc_tree_node.specs.Table.{kinds_of, name_of, words_of, spelling_of, kind_number, word_number}
 use Rattle.swc_tree_node.specs.Fits.{belongs, is_among}
-use Rattle.jsbase_form.specs.Reads.{Read, ◌>>=◌, at, found, key, index}
-use Rattle.jsbase_form.specs.Keys.{all_differ}
-use Rattle.jsbase_form.specs.Leaves.{is_marked, small, marked, number_at, span_at, mark_at, marks_of, context_at, text_at, word_at, spelled}
-use Rattle.jsbase_form.specs.Trees.{ident_at, kind_at, named, value_of}
+use Rattle.jsbase_form.specs.Reads.{found}
+use Rattle.jsbase_form.specs.Leaves.{is_marked, number_at, span_at, mark_at, marks_of, context_at, text_at, word_at}
+use Rattle.jsbase_form.specs.Trees.{ident_at, kind_at, value_of}
 use Rattle.jsbase_form.specs.Known.{span_short}
-use Rattle.jsbase_form.specs.Writing.{natural, numbers_json, span_json, typed, ident_json, fields_put}
+use Rattle.jsbase_form.specs.Writing.{natural, numbers_json, span_json, typed, fields_put}
 use Rattle.jsbase_form.proofs.Members.{apart, neither, split}
 use Rattle.jsbase_form.proofs.Numbers.{same_kind, kind_told, same_word, word_told}
 

@@ -1,5 +1,5 @@
 -- Reading what was written gives the tree back.
-use Rattle.std.proofs.Common.{◌≡◌, ℕ, suc, List, [], ◌∷◌, Bool, true, false, not, ◌&&◌, cond, IsTrue, map, codes, Option, Some, None, Ok, Err, bytes_eq, refl, sym, ap, ◌∙◌, subst, rules}
+use Rattle.std.proofs.Common.{◌≡◌, ℕ, suc, List, [], ◌∷◌, Bool, true, false, not, ◌&&◌, IsTrue, map, codes, Option, Some, Ok, bytes_eq, refl, ap, ◌∙◌, subst, rules}
 use Rattle.std.specs.List.{list_any, list_all}
 use Rattle.serde_json.specs.Data.{Data, null, boolean, string, array, object, Members, put}
 use Rattle.serde_json.specs.Find.{get_member}
@@ -20,13 +20,13 @@ use Rattle.swc_tree_node.specs.declared.node.Node.{Node, Absent, Flag, Word, Tex
 use Rattle.swc_tree_node.specs.Table.{name_of, fields_of, slots_of, spelling_of, is_identifier}
 use Rattle.swc_tree_node.specs.Fits.{Fits, FieldsFit, AllFit, fits, single, belongs, is_among, absent_fits, flag_fits, word_fits, text_fits, span_fits, list_fits, identifier_fits, tree_fits, each_fits}
 use Rattle.swc_tree_node.proofs.Fit.{fits-Absent, fits-Flag, fits-Word, fits-Text, fits-Span, fits-List, fits-Identifier, fits-Tree, fields_open, all_open}
-use Rattle.jsbase_form.specs.Reads.{Read, ◌>>=◌, at, key, index}
+use Rattle.jsbase_form.specs.Reads.{◌>>=◌}
 use Rattle.jsbase_form.specs.Keys.{all_differ}
-use Rattle.jsbase_form.specs.Leaves.{is_marked, flag_at, span_at, text_at, word_at}
-use Rattle.jsbase_form.specs.Trees.{Keys, leaf_at, kind_at, fields_at, body_at, node_at, null_as, single_as, array_as, object_of, object_as, seen, items_seen, members_seen, ident_at, value_of}
-use Rattle.jsbase_form.specs.Known.{all_of, MarksKnown, marks_known, NumbersShort, numbers_short, span_short}
+use Rattle.jsbase_form.specs.Leaves.{flag_at}
+use Rattle.jsbase_form.specs.Trees.{Keys, leaf_at, fields_at, body_at, node_at, null_as, single_as, object_of, seen, items_seen, members_seen, ident_at, value_of}
+use Rattle.jsbase_form.specs.Known.{ReadsAs, all_of, MarksKnown, marks_known, NumbersShort, numbers_short, span_short}
 use Rattle.jsbase_form.specs.Writing.{json, span_json, typed, ident_json, fields_put}
-use Rattle.jsbase_form.proofs.Members.{member_seen, table_differs, neither, split}
+use Rattle.jsbase_form.proofs.Members.{member_seen, table_differs, split}
 use Rattle.jsbase_form.proofs.Folds.{known-List, known-Identifier, known-Tree, short-Span, short-List, short-Identifier, short-Tree}
 use Rattle.jsbase_form.proofs.Induction.{AllOf, by_parts}
 use Rattle.jsbase_form.proofs.Back.{word_back, kind_back, span_back, text_back, ident_members, ident_type, ident_back, fields_put_other, first_put}
@@ -219,3 +219,6 @@ seen_json table t = by_parts (ReadsBack table) (record {
   identifier = identifiers_back table;
   tree = trees_back table;
 }) t
+
+pub reads_as : (d : Data) (t : Node) → d ≡ json t → ReadsAs d t
+reads_as d t e table s fit known short = ap (λ d. seen table d s) e ∙ seen_json table t s fit known short
