@@ -1,5 +1,5 @@
 -- The tests over a tree, at each form of a node.
-use Rattle.std.proofs.Common.{◌≡◌, ℕ, List, Bool, true, map, rules}
+use Rattle.std.proofs.Common.{◌≡◌, ℕ, List, Bool, true, ◌&&◌, ◌^◌, nat_lt, map, rules}
 use Rattle.std.specs.List.{list_all}
 use Rattle.swc_tree_marks.specs.Globals.{Table}
 use Rattle.swc_tree_marks.specs.declared.span.Span.{Span as Span'}
@@ -39,3 +39,9 @@ short-Span x = search (rules, the_lemmas)
 
 pub short-List : (ts : List Node) → numbers_short (Many ts) ≡ all_of (map numbers_short ts)
 short-List ts = search (rules, the_lemmas)
+
+pub short-Identifier : (k : Kind) (i : Ident) → numbers_short (Identifier k i) ≡ (span_short i.span && list_all (λ mark. nat_lt mark (2 ^ 32)) i.ctxt)
+short-Identifier k i = search (rules, the_lemmas)
+
+pub short-Tree : (k : Kind) (ts : List Node) → numbers_short (Tree k ts) ≡ all_of (map numbers_short ts)
+short-Tree k ts = search (rules, the_lemmas)

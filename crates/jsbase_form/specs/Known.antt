@@ -1,11 +1,15 @@
 -- Trees whose marks a table knows, and whose numbers have 32 bits.
-use Rattle.std.specs.Prelude.{◌^◌, List, [], ◌∷◌, Bool, true, ◌&&◌, IsTrue, nat_lt}
+use Rattle.std.specs.Prelude.{◌≡◌, Ok, ◌^◌, List, [], ◌∷◌, Bool, true, ◌&&◌, IsTrue, nat_lt}
 use Rattle.std.specs.List.{list_all}
+use Rattle.serde_json.specs.Data.{Data}
 use Rattle.swc_tree_marks.specs.Globals.{Table}
 use Rattle.swc_tree_marks.specs.declared.span.Span.{Span}
+use Rattle.swc_tree_node.specs.declared.slot.Slot.{Slot}
 use Rattle.swc_tree_node.specs.declared.node.Node.{Node, fold-Node}
 use Rattle.swc_tree_node.specs.declared.node.Node.TheOpen.{Node-F}
+use Rattle.swc_tree_node.specs.Fits.{Fits}
 use Rattle.jsbase_form.specs.Leaves.{is_marked}
+use Rattle.jsbase_form.specs.Trees.{seen}
 
 abbrev pub all_of : List Bool → Bool
 all_of [] = true
@@ -40,3 +44,7 @@ numbers_short = fold-Node Bool short_step
 -- the ends of spans and the marks have 32 bits
 abbrev pub NumbersShort : Node → Type 0
 NumbersShort t = IsTrue (numbers_short t)
+
+-- the value reads as the tree, wherever the tree fits, with any table that knows its marks
+abbrev pub ReadsAs : Data → Node → Type 0
+ReadsAs d t = (table : Table) (s : Slot) → Fits t s → MarksKnown table t → NumbersShort t → seen table d s ≡ Ok t

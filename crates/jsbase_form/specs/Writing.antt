@@ -1,6 +1,6 @@
 -- The JSON of a tree.
 use Rattle.std.specs.Prelude.{ℕ, List, [], ◌∷◌, map, codes}
-use Rattle.serde_json.specs.Data.{Data, null, boolean, number, unsigned, string, array, object, no_items, item, Members, no_members, put}
+use Rattle.serde_json.specs.Data.{Data, null, boolean, number, unsigned, string, array, object, Members, no_members, put}
 use Rattle.serde_json.specs.View.{items_of}
 use Rattle.swc_tree_marks.specs.declared.span.Span.{Span}
 use Rattle.swc_tree_marks.specs.declared.ident.Ident.{Ident}

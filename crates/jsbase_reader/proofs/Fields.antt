@@ -1,23 +1,20 @@
 -- Fields that are read one after another, each value taken out of the object.
-use Rattle.std.proofs.Common.{◌≡◌, ◌≢◌, ◌<◌, ℕ, suc, ◌+◌, List, [], ◌∷◌, ◌++◌, length, map, drop, get_or, Bool, true, false, not, ◌&&◌, ◌||◌, IsTrue, Ok, Err, Option, Some, None, Ordering, Less, Equal, Greater, nat_cmp, bytes_eq, unwrap_or, refl, sym, ap, ◌∙◌, subst, add-one}
+use Rattle.std.proofs.Common.{◌≡◌, ◌≢◌, ◌<◌, ℕ, suc, ◌+◌, List, [], ◌∷◌, ◌++◌, length, map, drop, get_or, not, IsTrue, Ok, Err, bytes_eq, codes, unwrap_or, refl, sym, ap, ◌∙◌, subst, add-one}
 use Rattle.std.specs.List.{list_any}
-use Rattle.std.specs.Ordering.{match_ordering}
-use Rattle.std.specs.Cmp.Lexicographic.{slice_cmp}
-use Rattle.std.proofs.lemmas.Slice.Eq.{bytes_eq-Decides}
 use Rattle.std.proofs.Math.Seq.{drop-cons}
-use Rattle.serde_json.specs.Data.{Data, null, Members, no_members, member}
+use Rattle.serde_json.specs.Data.{Data, null, Members}
 use Rattle.serde_json.specs.Find.{get_member}
 use Rattle.swc_tree_marks.specs.Globals.{Table}
 use Rattle.swc_tree_node.specs.declared.kind.Kind.{Kind}
-use Rattle.swc_tree_node.specs.declared.kind.Kind.TheVariants as kind
 use Rattle.swc_tree_node.specs.declared.slot.Field.{Field}
 use Rattle.swc_tree_node.specs.declared.slot.Slot.{Slot}
 use Rattle.swc_tree_node.specs.declared.slot.Role.{Role}
 use Rattle.swc_tree_node.specs.declared.node.Node.{Node}
 use Rattle.swc_tree_node.specs.Table.{fields_of}
 use Rattle.jsbase_form.specs.Reads.{Path, Read, ◌>>=◌, at, key}
-use Rattle.jsbase_form.specs.Trees.{seen, null_as, members_seen, fields_at, value_of}
-use Rattle.jsbase_reader.specs.Keys.{all_differ}
+use Rattle.jsbase_form.specs.Trees.{seen, members_seen, fields_at, value_of}
+use Rattle.jsbase_form.specs.Keys.{all_differ}
+use Rattle.jsbase_form.proofs.Members.{member_seen, table_differs, apart, neither, split}
 use Rattle.jsbase_reader.proofs.Loops.{after, after-cons}
 
 -- a field as the table's definition has it
@@ -28,48 +25,9 @@ keys_of_rows : (fs : List Field) → map (λ f. f.key.now) fs ≡ map (λ f. f.0
 keys_of_rows [] = refl
 keys_of_rows (f ∷ fs) = ap (λ ks. f.key.now ∷ ks) (keys_of_rows fs)
 
-table_differs : (k : Kind) → IsTrue (all_differ (map (λ f. f.0) (fields_of k)))
-table_differs kind.Module = refl
-table_differs _ = refl
-
 -- the keys of a kind differ
 pub fields_differ : (fs : List Field) (k : Kind) → map row fs ≡ fields_of k → IsTrue (all_differ (map (λ f. f.key.now) fs))
-fields_differ fs k e = subst (λ ks. IsTrue (all_differ ks)) (sym (keys_of_rows fs ∙ ap (map (λ f. f.0)) e)) (table_differs k)
-
-abbrev value_seen : Table → Option Data → Slot → Read Node
-value_seen table (Some d) s = seen table d s
-value_seen table None s = null_as s
-
-either : (o : Ordering) (table : Table) (a b : Option Data) (s : Slot) → match_ordering o (value_seen table a s) (value_seen table b s) (value_seen table a s) ≡ value_seen table (match_ordering o a b a) s
-either Less table a b s = refl
-either Equal table a b s = refl
-either Greater table a b s = refl
-
-members_seen_is : (table : Table) (ms : Members) (k : List ℕ) (s : Slot) → members_seen table ms k s ≡ value_seen table (get_member k ms) s
-members_seen_is table no_members k s = refl
-members_seen_is table (member l d ms) k s = rw (members_seen_is table ms k s) (either (slice_cmp nat_cmp k l) table (get_member k ms) (Some d) s)
-
-found_seen : (table : Table) (o : Option Data) (s : Slot) (ms : Members) (k : List ℕ) → get_member k ms ≡ o → value_seen table o s ≡ seen table (value_of k ms) s
-found_seen table None s ms k e = rw e refl
-found_seen table (Some d) s ms k e = rw e refl
-
--- a key reads as its value does
-pub member_seen : (table : Table) (ms : Members) (k : List ℕ) (s : Slot) → members_seen table ms k s ≡ seen table (value_of k ms) s
-member_seen table ms k s = members_seen_is table ms k s ∙ found_seen table (get_member k ms) s ms k refl
-
-apart : (k l : List ℕ) → bytes_eq k l ≡ false → l ≢ k
-apart k l h e = absurd (differs (bytes_eq k l) h ((bytes_eq-Decides k l).1 (sym e)))
-  where
-    differs : (b : Bool) → b ≡ false → b ≡ true → ⊥
-    differs b is_false is_true = cc
-
-neither : (a b : Bool) → IsTrue (not (a || b)) → (a ≡ false) × IsTrue (not b)
-neither true b h = absurd (cc)
-neither false b h = (refl, h)
-
-split : (a b : Bool) → IsTrue (a && b) → IsTrue a × IsTrue b
-split true b h = (refl, h)
-split false b h = absurd (cc)
+fields_differ fs k e = subst (λ ks. IsTrue (all_differ ks)) (sym (keys_of_rows fs ∙ ap (map (λ f. f.0)) e)) (split (not (list_any (λ other. bytes_eq (codes "type") other) (map (λ f. f.0) (fields_of k)))) (all_differ (map (λ f. f.0) (fields_of k))) (table_differs k)).1
 
 -- fields that read alike from two objects
 fields_same : (table : Table) (old new : Members) (k : List ℕ) → ((q : List ℕ) → q ≢ k → get_member q new ≡ get_member q old) → (fs : List Field)

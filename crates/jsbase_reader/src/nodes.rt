@@ -6,7 +6,7 @@ ghost use Rattle.serde_json.specs.View.{view, items_view, members_view};
 ghost use Rattle.jsbase_form.specs.Trees.{seen, items_seen, members_seen, fields_at, body_at, node_at, ident_at, kind_at, leaf_at, single_as, null_as, named, value_of};
 ghost use Rattle.jsbase_form.specs.Known.{MarksKnown};
 ghost use Rattle.swc_tree_node.specs.Fits.{Fits};
-ghost use Rattle.jsbase_reader.specs.Keys.{all_differ};
+ghost use Rattle.jsbase_form.specs.Keys.{all_differ};
 ghost use Rattle.swc_tree_node.specs.Table.{kinds_of};
 ghost use Rattle.jsbase_reader.specs.Answers.{Gives};
 

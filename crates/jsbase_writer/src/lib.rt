@@ -4,6 +4,10 @@
 //! parts of the tree are let go as they are written.
 #![tactic(auto)]
 
+mod envelope;
 mod nodes;
+
+pub use envelope::write_envelope;
+pub use nodes::write;
 
 

@@ -2,6 +2,7 @@
 ghost use Rattle.std.specs.Prelude.{◌≡◌, IfOk, OnOk, map};
 ghost use Rattle.serde_json.specs.Data.{put, string};
 ghost use Rattle.serde_json.specs.View.{view, items_view, members_view, items_of};
+ghost use Rattle.jsbase_form.specs.Known.{ReadsAs};
 ghost use Rattle.jsbase_form.specs.Writing.{json, natural, numbers_json, span_json, typed, ident_json, fields_put};
 
 use serde_json::{Map, Value};
@@ -9,7 +10,7 @@ use std::alloc::{AllocError, Global};
 use swc_tree_marks::{Ident, Mark, Span};
 use swc_tree_node::{Field, Kind, Node, fields_of, name_of, spelling_of};
 
-fn write_numbers(alloc: Global, numbers: &[u32]) -> Result<Vec<Value>, AllocError>
+pub(crate) fn write_numbers(alloc: Global, numbers: &[u32]) -> Result<Vec<Value>, AllocError>
     ensures { IfOk result (λ values. items_view values.items ≡ items_of (map natural numbers.now)) }
 {
     let mut values = Vec::with_capacity(alloc, numbers.len())?;
@@ -44,7 +45,7 @@ fn write_text(alloc: Global, text: &str) -> Result<Value, AllocError>
 }
 
 /// Puts a value at a key.
-fn put_value(
+pub(crate) fn put_value(
     alloc: Global,
     members: &mut Map<String, Value>,
     key: &str,
@@ -78,6 +79,24 @@ fn write_ident(alloc: Global, kind: Kind, ident: Ident) -> Result<Value, AllocEr
     put_value(alloc, &mut members, "ctxt", Value::Array(marks))?;
     put_value(alloc, &mut members, "sym", Value::String(ident.sym.into_string()))?;
     Ok(Value::Object(members))
+}
+
+/// The JSON value of a tree.
+///
+/// Nothing is copied: texts are moved into the value, and the parts of the tree are let go as they are
+/// written. The time is in step with the tree's size, but for putting members into an object, which
+/// costs the logarithm of how many there are.
+///
+/// # Errors
+///
+/// Where memory is refused.
+#[tactic(auto, using(jsbase_form::proofs::RoundTrip::reads_as))]
+pub fn write(alloc: Global, tree: Node) -> Result<Value, AllocError>
+    ensures value { IfOk result (λ value. view value ≡ json tree) }
+    ensures reads_back { IfOk result (λ value. ReadsAs (view value) tree) }
+{
+    let value = write_value(alloc, tree)?;
+    Ok(value)
 }
 
 #[cycle(write)]

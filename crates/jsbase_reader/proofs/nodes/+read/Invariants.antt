@@ -2,7 +2,7 @@ use Rattle.std.proofs.Common.{◌≡◌, ◌≤◌, ◌+◌, ◌*◌, drop, map,
 use Rattle.serde_json.specs.Data.{depth, items_depth, members_depth}
 use Rattle.serde_json.specs.View.{view, items_view, members_view}
 use Rattle.jsbase_form.specs.Trees.{items_seen, members_seen, fields_at}
-use Rattle.jsbase_reader.specs.Keys.{all_differ}
+use Rattle.jsbase_form.specs.Keys.{all_differ}
 use Rattle.jsbase_reader.proofs.Loops.{after}
 use Rattle.jsbase_reader.proofs.nodes.+read.Given as goal
 

@@ -1,0 +1,56 @@
+-- How the value of a key is read, and keys that differ.
+use Rattle.std.proofs.Common.{◌≡◌, ◌≢◌, ℕ, List, ◌∷◌, Bool, true, false, not, ◌&&◌, ◌||◌, IsTrue, map, codes, Option, Some, None, Ordering, Less, Equal, Greater, nat_cmp, bytes_eq, refl, sym, ◌∙◌}
+use Rattle.std.specs.Ordering.{match_ordering}
+use Rattle.std.specs.Cmp.Lexicographic.{slice_cmp}
+use Rattle.std.proofs.lemmas.Slice.Eq.{bytes_eq-Decides}
+use Rattle.serde_json.specs.Data.{Data, Members, no_members, member}
+use Rattle.serde_json.specs.Find.{get_member}
+use Rattle.swc_tree_marks.specs.Globals.{Table}
+use Rattle.swc_tree_node.specs.declared.kind.Kind.{Kind}
+use Rattle.swc_tree_node.specs.declared.kind.Kind.TheVariants as kind
+use Rattle.swc_tree_node.specs.declared.slot.Slot.{Slot}
+use Rattle.swc_tree_node.specs.declared.node.Node.{Node}
+use Rattle.swc_tree_node.specs.Table.{fields_of}
+use Rattle.jsbase_form.specs.Reads.{Read}
+use Rattle.jsbase_form.specs.Keys.{all_differ}
+use Rattle.jsbase_form.specs.Trees.{seen, null_as, members_seen, value_of}
+
+abbrev value_seen : Table → Option Data → Slot → Read Node
+value_seen table (Some d) s = seen table d s
+value_seen table None s = null_as s
+
+either : (o : Ordering) (table : Table) (a b : Option Data) (s : Slot) → match_ordering o (value_seen table a s) (value_seen table b s) (value_seen table a s) ≡ value_seen table (match_ordering o a b a) s
+either Less table a b s = refl
+either Equal table a b s = refl
+either Greater table a b s = refl
+
+members_seen_is : (table : Table) (ms : Members) (k : List ℕ) (s : Slot) → members_seen table ms k s ≡ value_seen table (get_member k ms) s
+members_seen_is table no_members k s = refl
+members_seen_is table (member l d ms) k s = rw (members_seen_is table ms k s) (either (slice_cmp nat_cmp k l) table (get_member k ms) (Some d) s)
+
+found_seen : (table : Table) (o : Option Data) (s : Slot) (ms : Members) (k : List ℕ) → get_member k ms ≡ o → value_seen table o s ≡ seen table (value_of k ms) s
+found_seen table None s ms k e = rw e refl
+found_seen table (Some d) s ms k e = rw e refl
+
+-- a key reads as its value does
+pub member_seen : (table : Table) (ms : Members) (k : List ℕ) (s : Slot) → members_seen table ms k s ≡ seen table (value_of k ms) s
+member_seen table ms k s = members_seen_is table ms k s ∙ found_seen table (get_member k ms) s ms k refl
+
+-- the keys of a kind differ, and none is `type`
+pub table_differs : (k : Kind) → IsTrue (all_differ (codes "type" ∷ map (λ f. f.0) (fields_of k)))
+table_differs kind.Module = refl
+table_differs _ = refl
+
+differs : (b : Bool) → b ≡ false → b ≡ true → ⊥
+differs b is_false is_true = cc
+
+pub apart : (k l : List ℕ) → bytes_eq k l ≡ false → l ≢ k
+apart k l h e = absurd (differs (bytes_eq k l) h ((bytes_eq-Decides k l).1 (sym e)))
+
+pub neither : (a b : Bool) → IsTrue (not (a || b)) → (a ≡ false) × IsTrue (not b)
+neither true b h = absurd (cc)
+neither false b h = (refl, h)
+
+pub split : (a b : Bool) → IsTrue (a && b) → IsTrue a × IsTrue b
+split true b h = (refl, h)
+split false b h = absurd (cc)
