@@ -1,0 +1,51 @@
+-- What the engine answers on an input.
+use Rattle.std.specs.Prelude.{◌≡◌, ℕ, ◌+◌, ◌-◌, ◌<◌, ◌⊎◌, List, Ok, Err, string_bytes}
+use Rattle.swc_tree_marks.specs.Globals.{Table, greatest}
+use Rattle.swc_tree_marks.specs.declared.error.PassError.{PassError}
+use Rattle.swc_tree_marks.specs.declared.error.PassError.TheVariants as refusal
+use Rattle.swc_tree_node.specs.declared.kind.Class.{Class}
+use Rattle.swc_tree_node.specs.declared.kind.Class.TheVariants as class
+use Rattle.swc_tree_node.specs.declared.node.Node.{Node}
+use Rattle.swc_tree_node.specs.declared.slot.Role.TheVariants as role
+use Rattle.swc_tree_scoping.specs.Scopes.{scope_count}
+use Rattle.swc_tree_scoping.specs.Resolved.{Resolved}
+use Rattle.jsbase_form.specs.Reads.{Path, path_text}
+use Rattle.jsbase_reader.specs.declared.envelope.Envelope.{Envelope}
+use Rattle.jsbase_reader.specs.Envelopes.{envelope_in_text}
+use Rattle.jsbase_writer.specs.Envelopes.{envelope_text}
+use Rattle.jsbase_engine.specs.declared.arguments.Command.{Command}
+use Rattle.jsbase_engine.specs.declared.arguments.Command.TheVariants as command
+use Rattle.jsbase_engine.specs.declared.arguments.Kind.{Kind}
+use Rattle.jsbase_engine.specs.declared.arguments.Kind.TheVariants as kind
+use Rattle.jsbase_engine.specs.declared.fault.Fault.{Fault}
+use Rattle.jsbase_engine.specs.declared.fault.Fault.TheVariants.{Usage, Refused, NotATree}
+
+-- what a program of the kind is in the tree
+abbrev pub class_of : Kind → Class
+class_of kind.Module = class.Module
+
+-- the output is the envelope of the tree, resolved
+pub record IsResolved (envelope : Envelope) (output : List ℕ) : Type 0 where
+  pub table : Table
+  pub answer : Node
+  pub resolved : Resolved envelope.unresolved envelope.top envelope.globals table envelope.tree answer
+  pub written : output ≡ envelope_text table envelope.top answer envelope.unresolved
+
+-- what the command is to make of an envelope
+abbrev pub Does : Command → Envelope → List ℕ → Type 0
+Does command.Resolve envelope output = IsResolved envelope output
+
+-- why the command may be refused on an envelope, beside want of memory
+abbrev pub IsRefusalOf : Command → Envelope → PassError → Type 0
+IsRefusalOf command.Resolve envelope refusal.MarksSpent = 4294967295 < greatest envelope.globals + (scope_count role.Plain envelope.tree - 1)
+IsRefusalOf command.Resolve envelope _ = ⊥
+
+-- the output is what the command makes of the envelope that the input is
+abbrev pub Answers : Command → Kind → List ℕ → List ℕ → Type 0
+Answers c k input output = (envelope : Envelope) × (envelope_in_text (class_of k) input ≡ Ok envelope) × Does c envelope output
+
+-- the fault is the input's first, by its path; else memory was refused, or the command's pass for its own cause
+abbrev pub IsFaultOf : Command → Kind → List ℕ → Fault → Type 0
+IsFaultOf c k input Usage = ⊥
+IsFaultOf c k input (NotATree text) = (path : Path) × (envelope_in_text (class_of k) input ≡ Err path) × (string_bytes text ≡ path_text path)
+IsFaultOf c k input (Refused error) = (error ≡ refusal.NoMemory) ⊎ ((envelope : Envelope) × (envelope_in_text (class_of k) input ≡ Ok envelope) × IsRefusalOf c envelope error)
