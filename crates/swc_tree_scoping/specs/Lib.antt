@@ -1,3 +1,4 @@
 pub mod Places
+pub mod Folds
 pub mod Scopes
 pub mod Resolved
