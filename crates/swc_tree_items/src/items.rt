@@ -1,4 +1,4 @@
-ghost use Rattle.std.specs.Prelude.{◌≡◌, [], ◌∷◌, ◌++◌, ◌<◌, length, slice_get, slice_set, remove, ◌↔◌, IsTrue, IfOk, MatchOption, OnOk, OnErr, OnSome};
+ghost use Rattle.std.specs.Prelude.{◌≡◌, [], ◌∷◌, ◌++◌, ◌<◌, length, slice_get, slice_set, remove, reverse as reversed, ◌↔◌, IsTrue, IfOk, MatchOption, OnOk, OnErr, OnSome};
 ghost use Rattle.std.specs.Option.{option_copied};
 
 use std::alloc::{AllocError, Global};
@@ -8,7 +8,8 @@ use std::mem;
 /// An owned list, which contracts see as the list of its elements.
 ///
 /// Reading, replacing and taking out an element costs constant time, `remove` and `reverse` time in
-/// step with the length. Only `append`, `push` and `from_slice` take memory.
+/// step with the length. Only `append`, `push`,
+/// `from_slice` and `with_capacity` take memory.
 #[derive(Debug, Drop)]
 pub struct Items<T> {
     items: Vec<T>,
@@ -33,6 +34,14 @@ impl<T> Items<T> {
         Items {
             items: Vec::new(alloc),
         }
+    }
+
+    /// The empty list, with memory for `capacity` elements.
+    pub fn with_capacity(alloc: Global, capacity: usize) -> Result<Items<T>, AllocError>
+        ensures { IfOk result (λ it. it ≡ []) }
+    {
+        let items = Vec::with_capacity(alloc, capacity)?;
+        Ok(Items { items })
     }
 
     /// The elements of a `Vec`, with its memory.
@@ -107,6 +116,13 @@ impl<T> Items<T> {
     {
         let Items { mut items } = more;
         self.items.append(&mut items)
+    }
+
+    /// Puts the elements into the opposite order.
+    pub fn reverse(&mut self)
+        ensures { self.new ≡ reversed self.old }
+    {
+        self.items.reverse();
     }
 
     /// Takes the last element out.
