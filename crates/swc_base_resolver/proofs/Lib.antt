@@ -1,0 +1,3 @@
+pub mod Sets
+pub mod Open
+pub mod FirstWalk

@@ -1,0 +1,4 @@
+pub mod Names
+pub mod Collected
+pub mod Walk
+pub mod Layers

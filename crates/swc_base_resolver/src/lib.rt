@@ -1,0 +1,6 @@
+//! The resolver: gives each identifier of a program the mark of the scope that it is declared in or means.
+#![tactic(auto)]
+
+mod collect;
+mod env;
+mod names;
