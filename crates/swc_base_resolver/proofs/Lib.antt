@@ -1,3 +1,5 @@
 pub mod Sets
 pub mod Open
 pub mod FirstWalk
+pub mod Counted
+pub mod Walked

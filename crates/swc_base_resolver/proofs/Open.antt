@@ -4,7 +4,7 @@ use Rattle.swc_base_resolver.specs.declared.env.Layer.{Layer}
 use Rattle.swc_base_resolver.specs.declared.env.Env.{Env, out-Env, fold_out-Env, map-Env, the_lemmas}
 use Rattle.swc_base_resolver.specs.declared.env.Env.TheVariants.{In, outs-In}
 use Rattle.swc_base_resolver.specs.declared.env.Env.TheOpen.{Env-F}
-use Rattle.swc_base_resolver.specs.Walk.{Open, found}
+use Rattle.swc_base_resolver.specs.SecondWalk.{Open, found}
 use Rattle.swc_base_resolver.specs.Layers.{layers, open_of}
 
 pub layers_top : (env : Env) → out-Env env ≡ Env-F.Top → layers env ≡ []

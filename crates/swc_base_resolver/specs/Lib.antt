@@ -1,4 +1,4 @@
 pub mod Names
 pub mod Collected
-pub mod Walk
+pub mod SecondWalk
 pub mod Layers

@@ -2,7 +2,7 @@
 ghost use Rattle.std.specs.Prelude.{◌≡◌};
 ghost use Rattle.swc_tree_scoping.specs.Scopes.{is_taken};
 ghost use Rattle.swc_base_resolver.specs.Layers.{layers};
-ghost use Rattle.swc_base_resolver.specs.Walk.{found};
+ghost use Rattle.swc_base_resolver.specs.SecondWalk.{found};
 
 use crate::collect::ScopeNames;
 use swc_tree_marks::Mark;

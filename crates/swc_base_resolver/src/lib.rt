@@ -4,3 +4,4 @@
 mod collect;
 mod env;
 mod names;
+mod walk;

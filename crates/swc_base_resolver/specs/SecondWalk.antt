@@ -25,7 +25,7 @@ marks_from top first (suc n) = top ∷ range_with_len first n
 
 -- the number of scopes that begin before a child, its parent counted in
 abbrev pub before : Role → Node → ℕ → ℕ
-before r t i = one_if (is_some (opened r t)) + total (take i (each_in scope_count (role_below r t) (children_in (out-Node t))))
+before r t i = one_if (is_some (opened r t)) + total (each_in scope_count (role_below r t) (take i (children_in (out-Node t))))
 
 -- the number of scopes that begin before a path
 abbrev pub number : Role → Node → Path → ℕ
