@@ -3,3 +3,4 @@ pub mod Open
 pub mod FirstWalk
 pub mod Counted
 pub mod Walked
+pub mod Declares

@@ -2,3 +2,4 @@ pub mod Names
 pub mod Collected
 pub mod SecondWalk
 pub mod Layers
+pub mod DeclaredAt
