@@ -4,3 +4,6 @@ pub mod FirstWalk
 pub mod Counted
 pub mod Walked
 pub mod Declares
+pub mod Numbers
+pub mod Rounds
+pub mod Fresh

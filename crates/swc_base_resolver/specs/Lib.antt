@@ -3,3 +3,4 @@ pub mod Collected
 pub mod SecondWalk
 pub mod Layers
 pub mod DeclaredAt
+pub mod Marked

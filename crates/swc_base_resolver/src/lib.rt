@@ -3,5 +3,6 @@
 
 mod collect;
 mod env;
+mod marks;
 mod names;
 mod walk;

@@ -1,21 +1,54 @@
 -- The first of a list of paths with a property, and that what binds in a program is declared in it.
 use Rattle.std.proofs.Common.{◌≡◌, ℕ, zero, suc, Bool, true, false, ◌&&◌, IsTrue, ◌⊎◌, ◌↔◌, inl, inr, Option, Some, None, List, [], ◌∷◌, ◌++◌, map, refl, sym, ap, ◌∙◌, subst, rules, arith, cond}
+use Rattle.std.specs.Option.{is_some}
 use Rattle.swc_tree_node.specs.declared.slot.Role.{Role}
 use Rattle.swc_tree_node.specs.declared.slot.Role.TheVariants as role
+use Rattle.swc_tree_node.specs.declared.slot.Scope.{Scope}
 use Rattle.swc_tree_node.specs.declared.slot.Scope.TheVariants as scope
 use Rattle.swc_tree_node.specs.declared.node.Node.{Node, out-Node}
 use Rattle.swc_tree_scoping.specs.Places.{Path, child, given, place_at, role_below}
-use Rattle.swc_tree_scoping.specs.Scopes.{is_binding, opened, first_that, is_taken, declaring, First}
-use Rattle.swc_tree_scoping.proofs.Under.{declaring_under, no_place_under, joined}
+use Rattle.swc_tree_scoping.specs.Scopes.{is_binding, opened, scope_at, itself, scopes_round, first_that, is_taken, declaring, First}
+use Rattle.swc_tree_scoping.proofs.Under.{declaring_under, no_place_under, scope_under, joined}
+
+-- each of a list of paths
+abbrev pub Each : (Path → Type 0) → List Path → Type 0
+Each P [] = Unit {0}
+Each P (s ∷ ss) = P s × Each P ss
+
+pub Each-map : (P Q : Path → Type 0) → ((s : Path) → P s → Q s) → (ss : List Path) → Each P ss → Each Q ss
+Each-map P Q f [] h = tt
+Each-map P Q f (s ∷ ss) h = (f s h.0, Each-map P Q f ss h.1)
+
+Each-under : (P Q : Path → Type 0) (i : ℕ) → ((s : Path) → P s → Q (i ∷ s)) → (ss us : List Path) → Each P ss → Each Q us → Each Q (map (λ s. i ∷ s) ss ++ us)
+Each-under P Q i f [] us h g = g
+Each-under P Q i f (s ∷ ss) us h g = (f s h.0, Each-under P Q i f ss us h.1 g)
 
 -- where the property is decided by a test, the first that passes the test
-pub first_holds : (P : Path → Type 0) (f : Path → Bool) → ((s : Path) → IsTrue (f s) ↔ P s) → (ss : List Path) → First P ss (first_that f ss)
-first_holds P f e [] = refl
-first_holds P f e (s ∷ ss) = next (f s) (e s) (first_holds P f e ss)
+pub first_holds : (P : Path → Type 0) (f : Path → Bool) (ss : List Path) → Each (λ s. IsTrue (f s) ↔ P s) ss → First P ss (first_that f ss)
+first_holds P f [] e = refl
+first_holds P f (s ∷ ss) e = next (f s) e.0 (first_holds P f ss e.1)
   where
     next : (b : Bool) → IsTrue b ↔ P s → First P ss (first_that f ss) → First P (s ∷ ss) (cond b (Some s) (first_that f ss))
     next true d h = inl (d.0 refl, refl)
     next false d h = inr (λ p. absurd (let q = d.1 p in grind arith), h)
+
+-- the scopes round a path are scopes
+abbrev Opens : Role → Node → Path → Type 0
+Opens r t s = IsTrue (is_some (scope_at r t s))
+
+itself_opens : (r : Role) (t : Node) (b : Bool) → is_some (opened r t) ≡ b → Each (Opens r t) (itself b)
+itself_opens r t true e = (e, tt)
+itself_opens r t false e = tt
+
+pub round_opens : (p : Path) (r : Role) (t : Node) → Each (λ s. IsTrue (is_some (scope_at r t s))) (scopes_round r t p)
+round_opens [] r t = tt
+round_opens (i ∷ p) r t = at (child t i) refl (λ c. round_opens p (role_below r t i) c)
+  where
+    at : (o : Option Node) → child t i ≡ o → ((c : Node) → Each (Opens (role_below r t i) c) (scopes_round (role_below r t i) c p))
+        → Each (Opens r t) (map (λ s. i ∷ s) (given o [] (λ c. scopes_round (role_below r t i) c p)) ++ itself (is_some (opened r t)))
+    at None h below = itself_opens r t (is_some (opened r t)) refl
+    at (Some c) h below = Each-under (Opens (role_below r t i) c) (Opens r t) i (λ s o. subst (λ (z : Option Scope). IsTrue (is_some z)) (sym (scope_under r t c i s h)) o)
+        (scopes_round (role_below r t i) c p) (itself (is_some (opened r t))) (below c) (itself_opens r t (is_some (opened r t)) refl)
 
 -- a binding in a tree whose root takes its role is declared in a scope
 joined_some : (i : ℕ) (o : Option Path) → (s : Path) × (joined i true o ≡ Some s)
