@@ -7,3 +7,5 @@ pub mod Declares
 pub mod Numbers
 pub mod Rounds
 pub mod Fresh
+pub mod Theorem
+pub mod Program

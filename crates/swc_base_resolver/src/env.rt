@@ -9,19 +9,11 @@ use swc_tree_marks::Mark;
 use swc_tree_node::{Role, Scope};
 use swc_tree_scoping::takes;
 
-/// A scope that is open, with its mark and the names that it declares.
-#[derive(Clone, Copy)]
-pub struct Layer<'a> {
-    pub scope: Scope,
-    pub mark: Mark,
-    pub names: &'a ScopeNames,
-}
-
-/// The open scopes, the innermost first.
+/// The open scopes, the innermost first, each with its mark and the names that it declares.
 #[derive(Clone, Copy)]
 pub enum Env<'a> {
     Top,
-    In(Layer<'a>, &'a Env<'a>),
+    In(Scope, Mark, &'a ScopeNames, &'a Env<'a>),
 }
 
 /// The mark of the innermost scope that declares the name, else `unresolved`. It costs one look-up a scope.
@@ -31,9 +23,9 @@ pub fn mark_of_name(env: &Env, name: &str, unresolved: Mark) -> Mark
 {
     match env {
         Env::Top => unresolved,
-        Env::In(layer, outer) => {
-            if layer.names.has(name) {
-                layer.mark
+        Env::In(_, mark, names, outer) => {
+            if names.has(name) {
+                *mark
             } else {
                 mark_of_name(outer, name, unresolved)
             }
@@ -48,9 +40,9 @@ pub fn mark_of_role(env: &Env, role: Role, unresolved: Mark) -> Mark
 {
     match env {
         Env::Top => unresolved,
-        Env::In(layer, outer) => {
-            if takes(role, layer.scope) {
-                layer.mark
+        Env::In(scope, mark, _, outer) => {
+            if takes(role, *scope) {
+                *mark
             } else {
                 mark_of_role(outer, role, unresolved)
             }

@@ -5,4 +5,8 @@ mod collect;
 mod env;
 mod marks;
 mod names;
+mod resolver;
 mod walk;
+
+pub use marks::marks_ok;
+pub use resolver::resolve_program;

@@ -1,14 +1,15 @@
 //! The second walk: writes the context of each identifier.
-ghost use Rattle.std.specs.Prelude.{◌≡◌, ◌+◌, ◌≤◌, [], ◌∷◌, length, IfOk, OnOk, MatchOption};
+ghost use Rattle.std.specs.Prelude.{◌≡◌, ◌+◌, ◌≤◌, [], ◌∷◌, length, map, IfOk, OnOk, MatchOption};
 ghost use Rattle.swc_tree_scoping.specs.Folds.{each_in};
 ghost use Rattle.swc_tree_scoping.specs.RolesBelow.{role_at};
 ghost use Rattle.swc_tree_scoping.specs.Scopes.{scope_count, total};
 ghost use Rattle.swc_tree_scoping.specs.Resolved.{remarked};
+ghost use Rattle.swc_base_resolver.specs.Collected.{declared_by};
 ghost use Rattle.swc_base_resolver.specs.Layers.{layers, scopes_in};
 ghost use Rattle.swc_base_resolver.specs.SecondWalk.{context_of, fresh_context, walked, written};
 
 use crate::collect::ScopeNames;
-use crate::env::{Env, Layer, mark_of_name, mark_of_role};
+use crate::env::{Env, mark_of_name, mark_of_role};
 use std::alloc::AllocError;
 use swc_tree_items::Items;
 use swc_tree_marks::{Ident, Mark};
@@ -17,14 +18,32 @@ use swc_tree_scoping::{RolesBelow, opened, roles_of_fields, roles_of_items};
 
 /// The marks of the scopes and the names that they declare, the scopes from the front.
 #[derive(Clone, Copy)]
-pub struct ScopeTable<'a> {
-    pub marks: &'a [Mark],
-    pub names: &'a [ScopeNames],
+struct ScopeTable<'a> {
+    marks: &'a [Mark],
+    names: &'a [ScopeNames],
 }
 
-/// The node with the context of each identifier that had none; `next` is how many scopes begin before it.
+/// The tree with the context of each identifier that had none. The marks of the scopes and what they declare are
+/// given from the front.
+pub fn write_contexts(
+    tree: Node,
+    marks: &[Mark],
+    names: &[ScopeNames],
+    unresolved: Mark,
+) -> Result<Node, AllocError>
+    requires marks { scope_count Role.Plain tree ≤ length marks.now }
+    requires names { scope_count Role.Plain tree ≤ length names.now }
+    ensures { IfOk result (λ answer. answer ≡ remarked (written (record { marks = marks.now; names = map declared_by names.now }) unresolved [] 0 Role.Plain tree) tree) }
+{
+    let mut next = 0;
+    let table = ScopeTable { marks, names };
+    let answer = resolve(tree, Role::Plain, &table, &Env::Top, unresolved, &mut next)?;
+    Ok(answer)
+}
+
+// The node with the context of each identifier that had none; `next` is how many scopes begin before it.
 #[cycle(resolve)]
-pub fn resolve(
+fn resolve(
     node: Node,
     role: Role,
     table: &ScopeTable,
@@ -51,13 +70,8 @@ pub fn resolve(
             let roles = roles_of_fields(role, kind, fields.as_slice());
             match opened(role, kind) {
                 Some(scope) => {
-                    let layer = Layer {
-                        scope,
-                        mark: table.marks[*next],
-                        names: &table.names[*next],
-                    };
+                    let inner = Env::In(scope, table.marks[*next], &table.names[*next], &*env);
                     *next += 1;
-                    let inner = Env::In(layer, &*env);
                     let fields = resolve_children(fields, roles, &*table, &inner, unresolved, next)?;
                     Ok(Node::Tree(kind, fields))
                 }

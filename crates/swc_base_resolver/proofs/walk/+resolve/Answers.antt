@@ -59,7 +59,7 @@ resolve-returns-in_ok-fields-in-Some-clause-answer t c =
     let in_names : c.args.next.now < length c.args.table.now.names.now = omega (arith, all, c.requires.names) in
     scope_done (scopes_in c.args.table.now) c.args.unresolved (layers c.args.env.now) c.args.next.now c.args.role c.args.node c.in-Tree.fields (role_at c.roles_of_fields-roles.result) c.in-Tree.kind c.in-Tree.is
       (c.roles_of_fields-roles.ensures ∙ ap (λ ts. role_below c.args.role (Tree c.in-Tree.kind ts)) c.as_slice-in-Tree.ensures)
-      c.in-Some.scope _ _ _ c.in_ok-fields-in-Some.fields c.in_ok-fields-in-Some.ensures.answer (layers_inside _ _) refl c.in-Some.ensures refl
+      c.in-Some.scope _ _ _ c.in_ok-fields-in-Some.fields c.in_ok-fields-in-Some.ensures.answer (layers_inside _ _ _ _) refl c.in-Some.ensures refl
       (index_or c.args.table.now.marks.now c.args.next.now _ 0 in_marks)
       (index_map declared_by c.args.table.now.names.now c.args.next.now _ no_name in_names)
 
