@@ -1,4 +1,6 @@
 ghost use Rattle.std.specs.Prelude.{◌≡◌, IfOk};
+ghost use Rattle.std.specs.Borrow.{Lends, sem};
+ghost use Rattle.swc_tree_items.specs.contracts.boxed.Boxed.{the_row};
 
 use std::alloc::{AllocError, Global};
 use std::marker::Model;
@@ -10,6 +12,8 @@ pub struct Boxed<T> {
 }
 
 impl<T> Model for Boxed<T> {
+    ghost use Rattle.std.specs.Prelude.{◌≡◌};
+
     ghost Value = { T };
 
     ghost coded = { T.code };
@@ -23,6 +27,14 @@ impl<T> Boxed<T> {
         ensures { result.now ≡ self.now }
     {
         &self.inner
+    }
+
+    /// What the box holds, to be changed in place.
+    pub fn get_mut(&mut self) -> &mut T
+        ensures value { result.now ≡ self.old }
+        ensures* writes_back { sem 𝓛 (Lends (the_row T.row) T.row self.entry result (λ w. w)) }
+    {
+        &mut self.inner
     }
 
     /// The value, taken out of its box.

@@ -1,3 +1,5 @@
 pub mod Places
+pub mod Folds
 pub mod Scopes
 pub mod Resolved
+pub mod RolesBelow

@@ -5,6 +5,7 @@
 use Rattle.std.specs.Prelude.{ℕ, Option, Some, None, List, [], ◌∷◌, map, slice_get, unwrap_or, option_map}
 use Rattle.swc_tree_node.specs.declared.kind.Word.{Word}
 use Rattle.swc_tree_node.specs.declared.kind.Word.TheVariants as word
+use Rattle.swc_tree_node.specs.declared.kind.Kind.{Kind}
 use Rattle.swc_tree_node.specs.declared.slot.Role.{Role}
 use Rattle.swc_tree_node.specs.declared.slot.Role.TheVariants as role
 use Rattle.swc_tree_node.specs.declared.node.Node.{Node, out-Node}
@@ -41,16 +42,19 @@ role_by_keyword [] = role.Plain
 role_by_keyword (None ∷ ws) = role_by_keyword ws
 role_by_keyword (Some w ∷ ws) = role_of_word w
 
--- the role of a field: the table's, but for those that go by the whole node
-abbrev pub role_in_field : Role → List (Option Word) → Role → Role
-role_in_field whole words role.Inherited = whole
-role_in_field whole words role.Declared = role_by_keyword words
-role_in_field whole words r = r
+-- the role of a field by the table; some go by the role of the whole node, or by the keyword's
+abbrev pub role_in_field : Role → Role → Role → Role
+role_in_field whole keyword role.Inherited = whole
+role_in_field whole keyword role.Declared = keyword
+role_in_field whole keyword r = r
+
+abbrev pub field_role : Kind → ℕ → Role
+field_role k i = unwrap_or (option_map (λ f. f.2) (slice_get (fields_of k) i)) role.Plain
 
 -- the role of a child of a node, whose own role and whose children's words are given
 abbrev pub role_in : {X : Type 0} → Role → Node-F X → List (Option Word) → ℕ → Role
 role_in whole (Node-F.List ts) words i = whole
-role_in whole (Node-F.Tree k ts) words i = role_in_field whole words (unwrap_or (option_map (λ f. f.2) (slice_get (fields_of k) i)) role.Plain)
+role_in whole (Node-F.Tree k ts) words i = role_in_field whole (role_by_keyword words) (field_role k i)
 role_in whole _ words i = role.Plain
 
 abbrev pub words_below : Node → List (Option Word)

@@ -3,7 +3,6 @@
 use Rattle.std.specs.Prelude.{◌≡◌, ℕ, zero, suc, ◌+◌, ◌⊎◌, Bool, true, false, IsTrue, Option, Some, None, is_some, option_and_then, List, [], ◌∷◌, ◌++◌, map, if◌then◌else◌}
 use Rattle.swc_tree_marks.specs.declared.ident.Ident.{Ident}
 use Rattle.swc_tree_node.specs.declared.kind.Kind.{Kind}
-use Rattle.swc_tree_node.specs.declared.kind.Word.{Word}
 use Rattle.swc_tree_node.specs.declared.slot.Role.{Role}
 use Rattle.swc_tree_node.specs.declared.slot.Role.TheVariants as role
 use Rattle.swc_tree_node.specs.declared.slot.Scope.{Scope}
@@ -11,7 +10,8 @@ use Rattle.swc_tree_node.specs.declared.slot.Scope.TheVariants as scope
 use Rattle.swc_tree_node.specs.declared.node.Node.{Node, Identifier, out-Node, fold-Node}
 use Rattle.swc_tree_node.specs.declared.node.Node.TheOpen.{Node-F}
 use Rattle.swc_tree_node.specs.Table.{scope_of}
-use Rattle.swc_tree_scoping.specs.Places.{Path, children_in, child, word_in, role_in, role_below, given, place_at}
+use Rattle.swc_tree_scoping.specs.Places.{Path, children_in, child, role_below, given, place_at}
+use Rattle.swc_tree_scoping.specs.Folds.{fold_in_role}
 
 -- an identifier of that role binds its name
 abbrev pub is_binding : Role → Bool
@@ -52,24 +52,12 @@ abbrev pub one_if : Bool → ℕ
 one_if true = 1
 one_if false = 0
 
--- what is counted below a node goes by the node's role
-pub record Counted : Type 0 where
-  pub word : Option Word
-  pub in_role : Role → ℕ
-
-abbrev pub counted_each : (ℕ → Role) → List Counted → List ℕ
-counted_each roles [] = []
-counted_each roles (c ∷ cs) = c.in_role (roles zero) ∷ counted_each (λ i. roles (suc i)) cs
-
-abbrev pub count_step : Node-F Counted → Counted
-count_step y = record {
-  word = word_in y;
-  in_role = λ r. one_if (is_some (opened_in r y)) + total (counted_each (role_in r y (map (λ c. c.word) (children_in y))) (children_in y));
-}
+abbrev pub count_step : Role → Node-F ℕ → ℕ
+count_step r y = one_if (is_some (opened_in r y)) + total (children_in y)
 
 -- how many scopes a node of that role opens, itself and below
 abbrev pub scope_count : Role → Node → ℕ
-scope_count r t = (fold-Node Counted count_step t).in_role r
+scope_count = fold_in_role count_step
 
 -- the scopes round a path, the innermost first: those of its proper beginnings at which a scope opens.
 -- The region of a scope is all that stands below it.

@@ -4,6 +4,8 @@
 //! declares a name and which one a reference means, `Resolved` what a resolver may answer.
 #![tactic(auto)]
 
+mod below;
 mod roles;
 
+pub use below::{RolesBelow, roles_of_fields, roles_of_items};
 pub use roles::{is_binding, opened, role_of_word, takes};
