@@ -9,5 +9,3 @@ mod nodes;
 
 pub use envelope::write_envelope;
 pub use nodes::write;
-
-
