@@ -1,6 +1,6 @@
-use Rattle.std.proofs.Common.{◌<◌, ◌≤◌, inl, inr, sym, ap, ◌∙◌, arith}
+use Rattle.std.proofs.Common.{inl, inr, sym, ◌∙◌}
 use Rattle.serde_json.specs.View.{view, members_view}
-use Rattle.jsbase_writer.proofs.Heights.{first_within, rest_within, height-List, height-Tree}
+use Rattle.jsbase_writer.proofs.Heights.{rest_within}
 use Rattle.jsbase_writer.proofs.Written.{field_put, no_fields, no_nodes}
 use Rattle.jsbase_writer.proofs.nodes.+write.Goals as goal
 
