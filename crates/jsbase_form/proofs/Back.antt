@@ -97,7 +97,6 @@ ident_back table k i known span short = rw (span_back i.span span, context_back 
 
 -- ---- fields
 
-
 -- the other keys keep their values
 pub fields_put_other : (q : List ℕ) (fs : List (List ℕ × Slot × Role)) (ds : List Data) (ms : Members) → IsTrue (not (list_any (λ other. bytes_eq q other) (map (λ f. f.0) fs))) → get_member q (fields_put fs ds ms) ≡ get_member q ms
 fields_put_other q [] ds ms h = refl

@@ -6,5 +6,7 @@
 #![tactic(auto)]
 
 mod path;
+#[cfg(test)]
+mod tests;
 
 pub use path::{FaultPath, Step};

@@ -5,3 +5,4 @@ pub mod Fields
 pub mod Marks
 pub mod Tables
 pub mod Texts
+pub mod Sound

@@ -1,6 +1,9 @@
 //! Reading envelopes: a tree with its table of marks and its options.
+ghost use Rattle.std.specs.Prelude.{IfOk};
 ghost use Rattle.serde_json.specs.View.{view, items_view, members_view};
 ghost use Rattle.jsbase_form.specs.Tables.{pair_at, pairs_of, pairs_at, table_at};
+ghost use Rattle.jsbase_form.specs.Known.{MarksKnown};
+ghost use Rattle.swc_tree_node.specs.Fits.{Fits};
 ghost use Rattle.jsbase_reader.specs.Answers.{Gives, GivesView};
 ghost use Rattle.jsbase_reader.specs.Envelopes.{option_at, envelope_of, envelope_in, text_in, envelope_in_text};
 
@@ -101,21 +104,33 @@ fn read_members(
     let marks = take_value(&mut members, "marks");
     let globals = under(Step::Key("marks"), read_globals(alloc, &marks))?;
     let unresolved = take_value(&mut members, "unresolved");
-    let unresolved = under(Step::Key("unresolved"), read_mark(alloc, &globals, &unresolved))?;
+    let unresolved = under(
+        Step::Key("unresolved"),
+        read_mark(alloc, &globals, &unresolved),
+    )?;
     let top = take_value(&mut members, "top");
     let top = under(Step::Key("top"), read_mark(alloc, &globals, &top))?;
     let keep_class_names = take_value(&mut members, "keepClassNames");
-    let keep_class_names = under(Step::Key("keepClassNames"), read_option(alloc, &keep_class_names))?;
+    let keep_class_names = under(
+        Step::Key("keepClassNames"),
+        read_option(alloc, &keep_class_names),
+    )?;
     let ignore_eval = take_value(&mut members, "ignoreEval");
     let ignore_eval = under(Step::Key("ignoreEval"), read_option(alloc, &ignore_eval))?;
     let tree = take_value(&mut members, "tree");
     let slot = Slot::One(Content::Node(class));
     let tree = under(Step::Key("tree"), read(alloc, &globals, tree, slot))?;
-    Ok(Envelope { globals, unresolved, top, keep_class_names, ignore_eval, tree })
+    Ok(Envelope {
+        globals,
+        unresolved,
+        top,
+        keep_class_names,
+        ignore_eval,
+        tree,
+    })
 }
 
-/// The envelope of a JSON value, whose tree is of the class, or the path of the first fault.
-pub fn read_envelope(alloc: Global, class: Class, value: Value) -> Result<Envelope, ReadError>
+fn read_object(alloc: Global, class: Class, value: Value) -> Result<Envelope, ReadError>
     ensures { Gives result (envelope_in class (view value)) }
 {
     match value {
@@ -124,6 +139,24 @@ pub fn read_envelope(alloc: Global, class: Class, value: Value) -> Result<Envelo
             fault(alloc)
         }
     }
+}
+
+/// The envelope that a JSON value is, whose tree is of a class.
+///
+/// Its members are read in this order: `marks`, `unresolved`, `top`, `keepClassNames`, `ignoreEval`,
+/// `tree`. Others are let go.
+///
+/// # Errors
+///
+/// `Fault` with the path to the first fault; `NoMemory` where memory is refused.
+#[tactic(auto, using(crate::proofs::Sound::envelope_fits, crate::proofs::Sound::envelope_known))]
+pub fn read_envelope(alloc: Global, class: Class, value: Value) -> Result<Envelope, ReadError>
+    ensures envelope { Gives result (envelope_in class (view value)) }
+    ensures fits { IfOk result (λ e. Fits e.tree (Slot.One (Content.Node class))) }
+    ensures known { IfOk result (λ e. MarksKnown e.globals e.tree) }
+{
+    let envelope = read_object(alloc, class, value)?;
+    Ok(envelope)
 }
 
 /// The JSON value of a text.
@@ -139,10 +172,18 @@ fn parse(alloc: Global, bytes: &[u8]) -> Result<Value, ReadError>
     }
 }
 
-/// The envelope of a text.
+/// The envelope that a text is, whose tree is of a class.
+///
+/// # Errors
+///
+/// `Fault` with the path to the first fault, which is empty where the bytes are not UTF-8 or no JSON, or
+/// nest deeper than 127 arrays and objects; `NoMemory` where memory is refused.
 pub fn read_bytes(alloc: Global, class: Class, bytes: &[u8]) -> Result<Envelope, ReadError>
-    ensures { Gives result (envelope_in_text class bytes.now) }
+    ensures envelope { Gives result (envelope_in_text class bytes.now) }
+    ensures fits { IfOk result (λ e. Fits e.tree (Slot.One (Content.Node class))) }
+    ensures known { IfOk result (λ e. MarksKnown e.globals e.tree) }
 {
     let value = parse(alloc, bytes)?;
-    read_envelope(alloc, class, value)
+    let envelope = read_envelope(alloc, class, value)?;
+    Ok(envelope)
 }

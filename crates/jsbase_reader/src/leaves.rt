@@ -51,11 +51,7 @@ pub(crate) fn is_marked(globals: &Globals, number: u32) -> bool
 }
 
 #[tactic(auto, unfolding(jsbase_form::specs::Leaves::mark_at))]
-pub(crate) fn read_mark(
-    alloc: Global,
-    globals: &Globals,
-    value: &Value,
-) -> Result<Mark, ReadError>
+pub(crate) fn read_mark(alloc: Global, globals: &Globals, value: &Value) -> Result<Mark, ReadError>
     ensures { Gives result (mark_at globals.now (view value.now)) }
 {
     let number = read_number(alloc, value)?;

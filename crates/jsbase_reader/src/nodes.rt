@@ -142,12 +142,7 @@ pub fn read(alloc: Global, globals: &Globals, value: Value, slot: Slot) -> Resul
 }
 
 #[cycle(read)]
-fn read_value(
-    alloc: Global,
-    globals: &Globals,
-    value: Value,
-    slot: Slot,
-) -> Result<Node, ReadError>
+fn read_value(alloc: Global, globals: &Globals, value: Value, slot: Slot) -> Result<Node, ReadError>
     ensures { Gives result (seen globals.now (view value) slot) }
 {
     match value {
@@ -223,7 +218,10 @@ fn read_fields(
     let mut nodes = Items::with_capacity(alloc, fields.len())?;
     for field in fields {
         let value = take_value(&mut members, field.key);
-        let node = under(Step::Key(field.key), read_value(alloc, globals, value, field.slot))?;
+        let node = under(
+            Step::Key(field.key),
+            read_value(alloc, globals, value, field.slot),
+        )?;
         nodes.push(node)?;
     }
     Ok(nodes)

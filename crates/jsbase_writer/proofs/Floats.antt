@@ -1,22 +1,21 @@
 -- No float is written.
-use Rattle.std.proofs.Common.{◌≡◌, ℕ, List, [], ◌∷◌, Bool, true, false, ◌||◌, map, codes, Ordering, Less, Equal, Greater, nat_cmp, refl, sym, ap, ◌∙◌}
+use Rattle.std.proofs.Common.{◌≡◌, ℕ, List, [], ◌∷◌, Bool, true, false, ◌||◌, map, codes, Ordering, Less, Equal, Greater, nat_cmp, refl, ap, ◌∙◌}
 use Rattle.std.specs.Ordering.{match_ordering}
 use Rattle.std.specs.Cmp.Lexicographic.{slice_cmp}
 use Rattle.serde_json.specs.Data.{Data, Members, no_members, member, put, string}
 use Rattle.serde_json.specs.Written.{has_float, items_have_float, members_have_float}
-use Rattle.serde_json.specs.View.{view, items_of}
-use Rattle.serde_json.specs.declared.value.Value.{Value}
+use Rattle.serde_json.specs.View.{items_of}
 use Rattle.swc_tree_marks.specs.Globals.{Table}
 use Rattle.swc_tree_marks.specs.declared.ident.Ident.{Ident}
 use Rattle.swc_tree_node.specs.declared.kind.Kind.{Kind}
 use Rattle.swc_tree_node.specs.declared.slot.Slot.{Slot}
 use Rattle.swc_tree_node.specs.declared.slot.Role.{Role}
-use Rattle.swc_tree_node.specs.declared.node.Node.{Node, Tree, Identifier}
+use Rattle.swc_tree_node.specs.declared.node.Node.{Node}
 use Rattle.swc_tree_node.specs.Table.{fields_of}
 use Rattle.jsbase_form.specs.Writing.{json, natural, numbers_json, span_json, typed, ident_json, fields_put}
 use Rattle.jsbase_form.proofs.Induction.{AllOf, by_parts}
 use Rattle.jsbase_form.proofs.RoundTrip.{json-Absent, json-Flag, json-Word, json-Text, json-Span, json-List, json-Identifier, json-Tree}
-use Rattle.jsbase_writer.specs.Envelopes.{row_json, table_json, envelope_json}
+use Rattle.jsbase_writer.specs.Envelopes.{row_json, envelope_json}
 
 abbrev Floatless : Node → Type 0
 Floatless t = has_float (json t) ≡ false

@@ -1,8 +1,8 @@
 -- Fields that are written one after another.
-use Rattle.std.proofs.Common.{◌≡◌, ℕ, List, [], ◌∷◌, ◌++◌, length, map, ◌⊎◌, inl, inr, refl, sym, ap, ◌∙◌, append_assoc, append-nil, arith, rules}
+use Rattle.std.proofs.Common.{◌≡◌, ℕ, List, [], ◌∷◌, ◌++◌, length, map, refl, sym, ap, ◌∙◌, append_assoc, append-nil, arith}
 use Rattle.std.proofs.lemmas.List.{map-append}
-use Rattle.serde_json.specs.Data.{Data, Members, put, array}
-use Rattle.serde_json.specs.View.{view, items_of}
+use Rattle.serde_json.specs.Data.{Data, Members, put}
+use Rattle.serde_json.specs.View.{view}
 use Rattle.serde_json.specs.declared.value.Value.{Value}
 use Rattle.swc_tree_node.specs.declared.slot.Field.{Field}
 use Rattle.swc_tree_node.specs.declared.slot.Slot.{Slot}

@@ -32,10 +32,20 @@ fn write_members(
     let mut members = Map::new(alloc);
     let rows = write_rows(alloc, globals.table())?;
     put_value(alloc, &mut members, "marks", Value::Array(rows))?;
-    put_value(alloc, &mut members, "top", Value::from(u64::from(top.as_u32())))?;
+    put_value(
+        alloc,
+        &mut members,
+        "top",
+        Value::from(u64::from(top.as_u32())),
+    )?;
     let tree = write(alloc, tree)?;
     put_value(alloc, &mut members, "tree", tree)?;
-    put_value(alloc, &mut members, "unresolved", Value::from(u64::from(unresolved.as_u32())))?;
+    put_value(
+        alloc,
+        &mut members,
+        "unresolved",
+        Value::from(u64::from(unresolved.as_u32())),
+    )?;
     Ok(Value::Object(members))
 }
 

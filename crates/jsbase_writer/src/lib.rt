@@ -6,8 +6,8 @@
 
 mod envelope;
 mod nodes;
+#[cfg(test)]
+mod tests;
 
 pub use envelope::write_envelope;
 pub use nodes::write;
-
-

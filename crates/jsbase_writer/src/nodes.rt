@@ -77,7 +77,12 @@ fn write_ident(alloc: Global, kind: Kind, ident: Ident) -> Result<Value, AllocEr
     put_value(alloc, &mut members, "span", span)?;
     let marks = write_marks(alloc, ident.ctxt.marks())?;
     put_value(alloc, &mut members, "ctxt", Value::Array(marks))?;
-    put_value(alloc, &mut members, "sym", Value::String(ident.sym.into_string()))?;
+    put_value(
+        alloc,
+        &mut members,
+        "sym",
+        Value::String(ident.sym.into_string()),
+    )?;
     Ok(Value::Object(members))
 }
 

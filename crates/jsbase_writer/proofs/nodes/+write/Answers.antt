@@ -1,15 +1,16 @@
-use Rattle.std.proofs.Common.{◌<◌, ◌≤◌, inl, inr, sym, ap, ◌∙◌, arith}
+use Rattle.std.proofs.Common.{inl, inr, sym, ◌∙◌}
 use Rattle.serde_json.specs.View.{view, members_view}
-use Rattle.jsbase_writer.proofs.Heights.{first_within, rest_within, height-List, height-Tree}
+use Rattle.jsbase_writer.proofs.Heights.{rest_within}
 use Rattle.jsbase_writer.proofs.Written.{field_put, no_fields, no_nodes}
 use Rattle.jsbase_writer.proofs.nodes.+write.Goals as goal
 
 pub write_fields-loop-field-preserved : goal.write_fields-loop-field-preserved
 write_fields-loop-field-preserved t c =
     let i = c.loop-field.field-iterator in
-    let steps = c.in-Some.ensures.steps in
-    (field_put i.a.rest.now _ c.in-Some.field.now i.b.rest.items _ c.in-Some.node (view c.in_ok-value.value) (members_view c.loop-field.members.entries) _ _ c.loop-field.invariant.0 steps.0 steps.1.0 c.in_ok-value.ensures c.in_ok-put_value.ensures,
-    rest_within i.b.rest.items _ c.in-Some.node _ steps.1.0 c.loop-field.invariant.1)
+    let steps = c.in-Some.ensures.steps in (
+      field_put i.a.rest.now _ c.in-Some.field.now i.b.rest.items _ c.in-Some.node (view c.in_ok-value.value) (members_view c.loop-field.members.entries) _ _ c.loop-field.invariant.0 steps.0 steps.1.0 c.in_ok-value.ensures c.in_ok-put_value.ensures,
+      rest_within i.b.rest.items _ c.in-Some.node _ steps.1.0 c.loop-field.invariant.1,
+    )
 
 pub write_fields-returns : goal.write_fields-returns
 write_fields-returns t c =

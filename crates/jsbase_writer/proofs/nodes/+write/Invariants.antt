@@ -22,5 +22,5 @@ invariant-write_fields-loop-field l =
     let fields = l.field-iterator.a.rest.now in
     let nodes = l.field-iterator.b.rest.items in
     (fields_put (map (λ f. (f.key.now, f.slot, f.role)) l.fn.fields) (map json l.fn.nodes.items) (members_view l.fn.members.entries)
-      ≡ fields_put (map (λ f. (f.key.now, f.slot, f.role)) fields) (map json nodes) (members_view l.members.entries))
+    ≡ fields_put (map (λ f. (f.key.now, f.slot, f.role)) fields) (map json nodes) (members_view l.members.entries))
     × (greatest (map height nodes) ≤ greatest (map height l.fn.nodes.items))

@@ -1,5 +1,5 @@
 use Rattle.std.proofs.Common.{ap, ◌∙◌}
-use Rattle.serde_json.specs.View.{view, members_view}
+use Rattle.serde_json.specs.View.{members_view}
 use Rattle.serde_json.proofs.Views.{members_view-insert_entry}
 use Rattle.jsbase_writer.proofs.nodes.put_value.Goals as goal
 
