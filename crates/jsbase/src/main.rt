@@ -1,4 +1,5 @@
-//! `jsbase COMMAND KIND`: reads an envelope with a syntax tree from standard input and writes the answer.
+//! `jsbase COMMAND KIND`: reads an envelope with a syntax tree from standard input, and writes the answer to
+//! standard output or one line on standard error.
 #![tactic(auto)]
 
 use jsbase_engine::{Fault, report, run, words};
@@ -7,11 +8,11 @@ use std::process::ExitCode;
 use std::{env, io};
 use swc_tree_marks::PassError;
 
-/// Why there is no answer on standard output.
+/// Why there is no answer.
 enum Failure {
     Fault(Fault),
-    /// Standard input could not be read, or standard output not be written.
-    Io(io::Error),
+    /// The outside failed, as the text says.
+    Outside(&'static str),
 }
 
 impl From<Fault> for Failure {
@@ -20,15 +21,49 @@ impl From<Fault> for Failure {
     }
 }
 
-impl From<io::Error> for Failure {
-    fn from(error: io::Error) -> Failure {
-        Failure::Io(error)
+// What comes after the program's name; with no name to be had, wrong arguments.
+fn arguments(rt: &HostRuntime) -> Result<Vec<String>, Fault> {
+    let Ok(all) = env::args(rt) else {
+        return Err(Fault::Usage);
+    };
+    let mut given = Vec::new(rt.alloc());
+    for argument in all.skip(1) {
+        if given.push(argument).is_err() {
+            return Err(Fault::Refused(PassError::NoMemory));
+        }
     }
+    Ok(given)
+}
+
+// A want of memory while the input is read is a refusal like any other.
+fn unread(error: &io::Error) -> Failure {
+    if error.kind() == io::ErrorKind::OutOfMemory {
+        return Failure::Fault(Fault::Refused(PassError::NoMemory));
+    }
+    Failure::Outside("read failed")
+}
+
+fn serve(rt: &HostRuntime) -> Result<(), Failure> {
+    let given = arguments(rt)?;
+    let (command, kind) = words(given.as_slice())?;
+    let mut input = Vec::new(rt.alloc());
+    if let Err(error) = rt.stdin().read_to_end(&mut input) {
+        return Err(unread(&error));
+    }
+    let output = run(rt.alloc(), command, kind, input.as_slice())?;
+    if rt.stdout().write_all(output.as_slice()).is_err() {
+        return Err(Failure::Outside("write failed"));
+    }
+    Ok(())
 }
 
 fn main(rt: HostRuntime) -> ExitCode {
     match serve(&rt) {
         Ok(()) => ExitCode::SUCCESS,
-        Err(fault) => ExitCode::from(report(&fault, &mut rt.stderr())),
+        Err(Failure::Fault(fault)) => ExitCode::from(report(&fault, &mut rt.stderr())),
+        Err(Failure::Outside(what)) => {
+            let _ = rt.eprintln(what);
+            ExitCode::from(4)
+        }
     }
 }

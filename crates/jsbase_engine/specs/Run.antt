@@ -11,6 +11,8 @@ use Rattle.swc_tree_scoping.specs.Scopes.{scope_count}
 use Rattle.swc_tree_scoping.specs.Resolved.{Resolved}
 use Rattle.jsbase_form.specs.Reads.{Path, path_text}
 use Rattle.jsbase_reader.specs.declared.envelope.Envelope.{Envelope}
+use Rattle.jsbase_reader.specs.declared.error.ReadError.{ReadError}
+use Rattle.jsbase_reader.specs.declared.error.ReadError.TheVariants as read
 use Rattle.jsbase_reader.specs.Envelopes.{envelope_in_text}
 use Rattle.jsbase_writer.specs.Envelopes.{envelope_text}
 use Rattle.jsbase_engine.specs.declared.arguments.Command.{Command}
@@ -39,6 +41,17 @@ Does command.Resolve envelope output = IsResolved envelope output
 abbrev pub IsRefusalOf : Command → Envelope → PassError → Type 0
 IsRefusalOf command.Resolve envelope refusal.MarksSpent = 4294967295 < greatest envelope.globals + (scope_count role.Plain envelope.tree - 1)
 IsRefusalOf command.Resolve envelope _ = ⊥
+
+-- memory was refused, or the command's pass for its own cause
+abbrev pub IsRefusedFor : Command → Envelope → PassError → Type 0
+IsRefusedFor c envelope error = (error ≡ refusal.NoMemory) ⊎ IsRefusalOf c envelope error
+
+-- the fault says why an input was not read: the path in it, unless memory was refused
+abbrev pub IsReadFault : ReadError → Fault → Type 0
+IsReadFault read.NoMemory fault = fault ≡ Refused refusal.NoMemory
+IsReadFault (read.Fault path) Usage = ⊥
+IsReadFault (read.Fault path) (Refused error) = error ≡ refusal.NoMemory
+IsReadFault (read.Fault path) (NotATree text) = string_bytes text ≡ path_text path
 
 -- the output is what the command makes of the envelope that the input is
 abbrev pub Answers : Command → Kind → List ℕ → List ℕ → Type 0

@@ -2,9 +2,12 @@
 #![tactic(auto)]
 
 mod arguments;
+mod engine;
 mod fault;
+
 #[cfg(test)]
 mod tests;
 
 pub use arguments::{Command, Kind, words};
 pub use fault::{Fault, report};
+pub use engine::run;

@@ -1,0 +1,61 @@
+ghost use Rattle.std.specs.Prelude.{◌≡◌, ◌≢◌, ◌+◌, ◌-◌, ◌<◌, OnOk, OnErr, IfErr, IsErrOf};
+ghost use Rattle.swc_tree_marks.specs.Globals.{greatest};
+ghost use Rattle.swc_tree_scoping.specs.Scopes.{scope_count};
+ghost use Rattle.swc_tree_scoping.specs.Resolved.{Resolved};
+ghost use Rattle.swc_base_resolver.specs.Marked.{IsRefusal, MarksOk, OnlyContexts};
+ghost use Rattle.swc_tree.specs.Passes.{IsEmptied, IsExtended};
+ghost use Rattle.swc_tree_modules.specs.Nodes.{module_node};
+
+use std::alloc::Global;
+use std::mem;
+use swc_base_resolver::resolve_program;
+use swc_tree::JsPass;
+use swc_tree_handle::{Opened, Trees};
+use swc_tree_marks::{Globals, Mark, PassError};
+use swc_tree_modules::Module;
+use swc_tree_node::Role;
+
+/// The pass that gives each identifier the mark of its scope.
+#[derive(Clone, Copy, Debug)]
+pub struct Resolver {
+    /// The mark of names that no scope declares.
+    pub unresolved_mark: Mark,
+    /// The mark of the program's own scope.
+    pub top_level_mark: Mark,
+}
+
+impl JsPass for Resolver {
+    ghost use Rattle.swc_base_resolver_pass.specs.Visits.{Resolves};
+
+    ghost visits = { Resolves };
+
+    /// Resolves a program. Each run is by itself: nothing is kept from an earlier one.
+    ///
+    /// # Errors
+    ///
+    /// `MarksSpent` only where the table's greatest number plus the number of scopes in the program is above
+    /// 4294967295; `NoMemory`. The program is then empty, with its span and no `#!` line.
+    fn visit_mut_module(
+        &mut self,
+        alloc: Global,
+        globals: &mut Globals,
+        program: &mut Module,
+    ) -> Result<(), PassError>
+        ensures done { OnOk result (Resolves self.old globals.old program.old globals.new program.new) }
+        ensures refused { OnErr result (IsEmptied program.old program.new) }
+        ensures marks { IsExtended globals.old globals.new }
+        ensures refusal { IfErr result IsRefusal }
+        ensures spent { IsErrOf result PassError.MarksSpent → 4294967295 < greatest globals.old + (scope_count Role.Plain (module_node program.old) - 1) }
+    {
+        let empty = Module {
+            span: program.span,
+            body: Trees::new(alloc),
+            shebang: None,
+        };
+        let lent = mem::replace(program, empty);
+        let node = lent.into_node(alloc)?;
+        let answer = resolve_program(alloc, globals, self.unresolved_mark, self.top_level_mark, node)?;
+        *program = Module::of_node(answer);
+        Ok(())
+    }
+}
