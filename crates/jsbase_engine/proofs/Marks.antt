@@ -52,9 +52,10 @@ members_marks class ms e h =
     let ignore = bound (at (key (codes "ignoreEval")) (option_at (value_of (codes "ignoreEval") ms))) _ e keep.2 in
     let tree = bound (at (key (codes "tree")) (seen table.0 (value_of (codes "tree") ms) (slot.One (content.Node class)))) _ e ignore.2 in
     let same = ok_same (record { globals = table.0; unresolved = unresolved.0; top = top.0; keep_class_names = keep.0; ignore_eval = ignore.0; tree = tree.0 }) e tree.2 in
-    subst HasMarks same
-      (mark_ok table.0 (value_of (codes "unresolved") ms) unresolved.0 (at_ok (key (codes "unresolved")) _ unresolved.0 unresolved.1),
-        mark_ok table.0 (value_of (codes "top") ms) top.0 (at_ok (key (codes "top")) _ top.0 top.1))
+    subst HasMarks same (
+      mark_ok table.0 (value_of (codes "unresolved") ms) unresolved.0 (at_ok (key (codes "unresolved")) _ unresolved.0 unresolved.1),
+      mark_ok table.0 (value_of (codes "top") ms) top.0 (at_ok (key (codes "top")) _ top.0 top.1),
+    )
 
 pub envelope_marks : (class : Class) (bytes : List ℕ) (e : Envelope) → envelope_in_text class bytes ≡ Ok e → MarksOk e.globals e.unresolved e.top
 envelope_marks class bytes e h =

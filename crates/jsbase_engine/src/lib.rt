@@ -4,10 +4,9 @@
 mod arguments;
 mod engine;
 mod fault;
-
 #[cfg(test)]
 mod tests;
 
 pub use arguments::{Command, Kind, words};
-pub use fault::{Fault, report};
 pub use engine::run;
+pub use fault::{Fault, report};

@@ -1,5 +1,5 @@
 -- A table with fresh marks more holds what it held.
-use Rattle.std.proofs.Common.{◌≡◌, ℕ, zero, suc, ◌+◌, [], ◌∷◌, ◌++◌, refl, sym, ap, ◌∙◌, append_assoc, append-nil}
+use Rattle.std.proofs.Common.{ℕ, zero, suc, ◌+◌, [], ◌∷◌, ◌++◌, sym, ap, ◌∙◌, append_assoc, append-nil}
 use Rattle.swc_tree_marks.specs.Globals.{Table, greatest, recorded, with_fresh_marks}
 use Rattle.swc_tree.specs.Passes.{IsExtended}
 

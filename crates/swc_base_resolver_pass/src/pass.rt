@@ -54,7 +54,13 @@ impl JsPass for Resolver {
         };
         let lent = mem::replace(program, empty);
         let node = lent.into_node(alloc)?;
-        let answer = resolve_program(alloc, globals, self.unresolved_mark, self.top_level_mark, node)?;
+        let answer = resolve_program(
+            alloc,
+            globals,
+            self.unresolved_mark,
+            self.top_level_mark,
+            node,
+        )?;
         *program = Module::of_node(answer);
         Ok(())
     }
