@@ -45,8 +45,6 @@ def leaf(field):
 
 def word(tree, field):
     """A word of a list of words."""
-    if field.optional or field.many:
-        raise SystemExit('no form for an optional word or a list of words: ' + field.key)
     words = tree.words[field.type]
     key, name = field.name, snake(field.type)
     return Form(field.type, '%s::from_node(%s)' % (field.type, key), '%s.into_node()' % key,
@@ -82,6 +80,10 @@ def handle(field):
 
 
 def form_of(tree, field):
+    """The form of a field."""
+    is_subtree = field.type in tree.structs or field.type in tree.sums
+    if (field.many and not is_subtree) or (field.optional and field.type in [*tree.words, 'Flag']):
+        raise SystemExit('no form for the field ' + field.key)
     if field.type in ('Span', 'Text', 'Flag'):
         return leaf(field)
     if field.type in tree.words:
