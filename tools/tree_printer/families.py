@@ -25,7 +25,7 @@ def use_lines(family, uses):
     return ''.join('use %s::{%s};\n' % (path, ', '.join(sorted(paths[path], key=str.lower))) for path in order)
 
 
-def opened_impl(entry, tree, tactic, of_node, into_node):
+def opened_impl(entry, tree, tactic, from_node, into_node):
     """An `impl Opened`, from the bodies of its two functions."""
     name, spec = entry.name, spec_name(tree, entry.name)
     return '''
@@ -34,18 +34,18 @@ impl Opened<class::%(name)s> for %(name)s {
 
     ghost node = { %(spec)s };
 
-%(tactic)s    fn of_node(closed: Node) -> %(name)s
+%(tactic)s    fn from_node(closed: Node) -> %(name)s
         requires { Fits closed (One (Of class.%(name)s)) }
         ensures { %(spec)s result ≡ closed }
     {
-%(of_node)s    }
+%(from_node)s    }
 
     fn into_node(self, alloc: Global) -> Result<Node, AllocError>
         ensures { IfOk result (λ closed. (closed ≡ %(spec)s self) × Fits closed (One (Of class.%(name)s))) }
     {
 %(into_node)s    }
 }
-''' % {'name': name, 'spec': spec, 'tactic': tactic, 'of_node': of_node, 'into_node': into_node}
+''' % {'name': name, 'spec': spec, 'tactic': tactic, 'from_node': from_node, 'into_node': into_node}
 
 
 def opened_head(family, spec, uses):
@@ -62,29 +62,29 @@ def struct_rt(tree, struct):
     uses = set().union(*(form.uses | form.types for form in forms)) | {(HANDLE, 'collect')}
     declared = '/// %s\n#[derive(Debug, Drop)]\npub struct %s {\n%s}\n' % (
         struct.doc, name, ''.join('    pub %s: %s,\n' % (f.name, form.type) for f, form in zip(struct.fields, forms)))
-    of_node = '''        let fields = Tree::<class::%s>::of(closed).into_fields(Kind::%s);
+    from_node = '''        let fields = Tree::<class::%s>::from_node(closed).into_fields(Kind::%s);
         let [%s] = fields.into_array::<%d>();
         %s { %s }
 ''' % (name, name, keys, len(forms), name, ', '.join('%s: %s' % (f.name, form.open) for f, form in zip(struct.fields, forms)))
     into_node = '''        let %s { %s } = self;
         let fields = collect(alloc, [%s])?;
-        Ok(Tree::<class::%s>::of_fields(Kind::%s, fields).into_node())
+        Ok(Tree::<class::%s>::from_fields(Kind::%s, fields).into_node())
 ''' % (name, keys, ', '.join(form.close for form in forms), name, name)
     tactic = '    #[tactic(auto, using(%slengths))]\n' % FIT
     return (opened_head(struct.family, spec_name(tree, name), uses) + declared
-            + opened_impl(struct, tree, tactic, of_node, into_node))
+            + opened_impl(struct, tree, tactic, from_node, into_node))
 
 
 def identifier_rt(tree, struct):
     name = struct.name
     declared = '/// %s\n#[derive(Debug, Drop, PartialEq, Eq, Hash)]\npub struct %s {\n    pub id: Ident,\n}\n' % (struct.doc, name)
-    of_node = '''        %s { id: Tree::<class::%s>::of(closed).into_identifier(Kind::%s) }
+    from_node = '''        %s { id: Tree::<class::%s>::from_node(closed).into_identifier(Kind::%s) }
 ''' % (name, name, name)
-    into_node = '''        let tree = Tree::<class::%s>::of_identifier(alloc, Kind::%s, self.id)?;
+    into_node = '''        let tree = Tree::<class::%s>::from_identifier(alloc, Kind::%s, self.id)?;
         Ok(tree.into_node())
 ''' % (name, name)
     return (opened_head(struct.family, spec_name(tree, name), {(MARKS, 'Ident')}) + declared
-            + opened_impl(struct, tree, '', of_node, into_node))
+            + opened_impl(struct, tree, '', from_node, into_node))
 
 
 def sum_rt(tree, sum_):
@@ -98,7 +98,7 @@ def sum_rt(tree, sum_):
         if kinds:
             arms += '            %s => %s::%s(tree.narrow::<class::%s>().open()),\n' % (
                 ' | '.join('Kind::' + kind for kind in kinds), name, variant, member)
-    of_node = '''        let tree = Tree::<class::%s>::of(closed);
+    from_node = '''        let tree = Tree::<class::%s>::from_node(closed);
         match tree.kind() {
 %s            _ => unreachable!(),
         }
@@ -108,7 +108,7 @@ def sum_rt(tree, sum_):
         Ok(tree.into_node())
 ''' % (name, ''.join('            %s::%s(opened) => opened.close(alloc)?.widen(),\n' % (name, variant) for variant, _ in sum_.variants))
     uses = {(owner_of(tree, member), member) for _, member in sum_.variants}
-    return opened_head(sum_.family, spec_name(tree, name), uses) + declared + opened_impl(sum_, tree, '', of_node, into_node)
+    return opened_head(sum_.family, spec_name(tree, name), uses) + declared + opened_impl(sum_, tree, '', from_node, into_node)
 
 
 WORDS = '''//! %(printed)s
@@ -135,7 +135,7 @@ impl %(name)s {
     }
 
     /// What the word is here.
-    pub fn of_word(word: Word) -> %(name)s
+    pub fn from_word(word: Word) -> %(name)s
         requires { IsTrue (is_among word word_class.%(name)s) }
         ensures { %(spec)s result ≡ word }
     {
@@ -146,12 +146,12 @@ impl %(name)s {
 
     /// The word that a node is.
     #[tactic(auto, using(%(fit)sfitting))]
-    pub fn of_node(node: Node) -> %(name)s
+    pub fn from_node(node: Node) -> %(name)s
         requires { Fits node (One (Of word_class.%(name)s)) }
         ensures { leaf.Word (%(spec)s result) ≡ node }
     {
         match node {
-            Node::Word(word) => %(name)s::of_word(word),
+            Node::Word(word) => %(name)s::from_word(word),
             _ => unreachable!(),
         }
     }

@@ -20,6 +20,8 @@ class Field:
         self.many = type_.startswith('[')
         self.optional = type_.endswith('?')
         self.type = type_.strip('[]?')
+        if self.many and '?' in type_:
+            raise SystemExit('no slot for a list that has gaps or may be absent: ' + text)
 
 
 class Family:

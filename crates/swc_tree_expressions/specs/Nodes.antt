@@ -17,7 +17,7 @@ use Rattle.swc_tree_expressions.specs.declared.expr.Expr.{Expr}
 use Rattle.swc_tree_expressions.specs.declared.expr.Expr.TheVariants as expr
 use Rattle.swc_tree_expressions.specs.declared.callee.Callee.{Callee}
 use Rattle.swc_tree_expressions.specs.declared.callee.Callee.TheVariants as callee
-use Rattle.swc_tree_handle.specs.Handles.{ident_node, maybe_span}
+use Rattle.swc_tree_handle.specs.Handles.{ident_node, optional_span}
 use Rattle.swc_tree_names.specs.Nodes.{of_lit}
 
 abbrev pub binary_op_word : BinaryOp → Word
@@ -54,7 +54,7 @@ abbrev pub call_expr_node : CallExpr → Node
 call_expr_node x = node.Tree kind.CallExpr (node.Span x.span ∷ x.callee ∷ node.List x.args ∷ [])
 
 abbrev pub expr_or_spread_node : ExprOrSpread → Node
-expr_or_spread_node x = node.Tree kind.ExprOrSpread (maybe_span x.spread ∷ x.expr ∷ [])
+expr_or_spread_node x = node.Tree kind.ExprOrSpread (optional_span x.spread ∷ x.expr ∷ [])
 
 abbrev pub paren_expr_node : ParenExpr → Node
 paren_expr_node x = node.Tree kind.ParenExpr (node.Span x.span ∷ x.expr ∷ [])

@@ -22,11 +22,11 @@ impl Opened<class::Callee> for Callee {
 
     ghost node = { of_callee };
 
-    fn of_node(closed: Node) -> Callee
+    fn from_node(closed: Node) -> Callee
         requires { Fits closed (One (Of class.Callee)) }
         ensures { of_callee result ≡ closed }
     {
-        let tree = Tree::<class::Callee>::of(closed);
+        let tree = Tree::<class::Callee>::from_node(closed);
         match tree.kind() {
             Kind::Ident
             | Kind::Str

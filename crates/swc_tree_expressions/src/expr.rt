@@ -30,11 +30,11 @@ impl Opened<class::Expr> for Expr {
 
     ghost node = { of_expr };
 
-    fn of_node(closed: Node) -> Expr
+    fn from_node(closed: Node) -> Expr
         requires { Fits closed (One (Of class.Expr)) }
         ensures { of_expr result ≡ closed }
     {
-        let tree = Tree::<class::Expr>::of(closed);
+        let tree = Tree::<class::Expr>::from_node(closed);
         match tree.kind() {
             Kind::Ident => Expr::Ident(tree.narrow::<class::Ident>().open()),
             Kind::Str | Kind::Number => Expr::Lit(tree.narrow::<class::Lit>().open()),

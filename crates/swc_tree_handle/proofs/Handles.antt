@@ -1,17 +1,20 @@
 -- A node that fits one class fits another that takes its kind.
-use Rattle.std.proofs.Common.{◌≡◌, zero, suc, slice_get, slice_set, List, [], ◌∷◌, ℕ, Bool, true, false, not, ◌||◌, ◌==◌, IsTrue, Some, refl, ap, subst, arith}
+use Rattle.std.proofs.Common.{◌≡◌, zero, suc, slice_get, slice_set, List, [], ◌∷◌, ℕ, Bool, true, false, not, ◌||◌, ◌==◌, IsTrue, Some, refl, ap, subst, sym, map, arith}
 use Rattle.std.specs.List.{list_any, list_all}
 use Rattle.swc_tree_marks.specs.declared.ident.Ident.{Ident}
 use Rattle.swc_tree_node.specs.declared.kind.Kind.{Kind}
 use Rattle.swc_tree_node.specs.declared.kind.Class.{Class}
 use Rattle.swc_tree_node.specs.declared.slot.Content.TheVariants as content
+use Rattle.swc_tree_node.specs.declared.kind.Word.{Word as Word'}
+use Rattle.swc_tree_marks.specs.declared.span.Span.{Span as Span'}
 use Rattle.swc_tree_node.specs.declared.slot.Slot.{Slot}
 use Rattle.swc_tree_node.specs.declared.slot.Slot.TheVariants as slot
-use Rattle.swc_tree_node.specs.declared.node.Node.{Node, Identifier, Tree}
-use Rattle.swc_tree_node.specs.declared.node.Node.TheVariants.{outs-Identifier, outs-Tree}
+use Rattle.swc_tree_node.specs.declared.node.Node.{Node, Absent, Flag, Word, Text, Span, List as Many, Identifier, Tree, ind-Node, roll-Node, map-Node}
+use Rattle.swc_tree_node.specs.declared.node.Node.TheOpen.{Node-F}
+use Rattle.swc_tree_node.specs.declared.node.Node.TheVariants.{outs-Identifier, outs-Tree, rolls-Absent, rolls-Flag, rolls-Word, rolls-Text, rolls-Span, rolls-List, rolls-Identifier, rolls-Tree}
 use Rattle.swc_tree_node.specs.Table.{slots_of, is_identifier, kinds_of, kind_number}
 use Rattle.swc_tree_node.specs.Fits.{Fits, belongs, FieldsFit, AllFit}
-use Rattle.swc_tree_node.proofs.Fit.{tree_opens, tree_closes, both, and_both, fits-Identifier}
+use Rattle.swc_tree_node.proofs.Fit.{tree_opens, tree_closes, both, and_both, fits-Absent, fits-Flag, fits-Word, fits-Text, fits-Span, fits-List, fits-Identifier}
 use Rattle.swc_tree_handle.proofs.Numbers.{same_kind}
 use Rattle.swc_tree_handle.specs.Handles.{kind_of, takes, is_of, is_within}
 
@@ -94,3 +97,43 @@ pub all_set : (s : Slot) (ts : List Node) (i : ℕ) (t : Node) → AllFit s ts �
 all_set s [] i t h f = tt
 all_set s (x ∷ ts) zero t h f = (f, h.1)
 all_set s (x ∷ ts) (suc i) t h f = (h.0, all_set s ts i t h.1 f)
+
+no : {X : Type 0} → IsTrue false → X
+no h = absurd (grind arith)
+
+clash : (b : Bool) → IsTrue (not b) → IsTrue b → IsTrue false
+clash true h g = h
+clash false h g = g
+
+-- what holds of each form of a node holds of every node
+by_form : (P : Node → Type 0) → P Absent → ((x : Bool) → P (Flag x)) → ((w : Word') → P (Word w)) → ((x : List ℕ) → P (Text x)) → ((x : Span') → P (Span x)) → ((ts : List Node) → P (Many ts)) → ((k : Kind) (i : Ident) → P (Identifier k i)) → ((k : Kind) (ts : List Node) → P (Tree k ts)) → (t : Node) → P t
+by_form P absent flag word text span list identifier tree t = ind-Node P (λ x all e. subst (λ x. P (roll-Node x)) e (layer all)) t
+  where
+    layer : (y : Node-F ((t : Node) × P t)) → P (roll-Node (map-Node ((t : Node) × P t) Node (λ e. e.0) y))
+    layer Node-F.Absent = subst P (sym rolls-Absent) absent
+    layer (Node-F.Flag x) = subst P (sym (rolls-Flag x)) (flag x)
+    layer (Node-F.Word w) = subst P (sym (rolls-Word w)) (word w)
+    layer (Node-F.Text x) = subst P (sym (rolls-Text x)) (text x)
+    layer (Node-F.Span x) = subst P (sym (rolls-Span x)) (span x)
+    layer (Node-F.List es) = subst P (sym (rolls-List (map (λ e. e.0) es))) (list (map (λ e. e.0) es))
+    layer (Node-F.Identifier k i) = subst P (sym (rolls-Identifier k i)) (identifier k i)
+    layer (Node-F.Tree k es) = subst P (sym (rolls-Tree k (map (λ e. e.0) es))) (tree k (map (λ e. e.0) es))
+
+-- a node whose class takes one kind, and that no identifier's, is of that kind
+pub sole_fields : (t : Node) (c : Class) (l : Kind) → Fits t (slot.One (content.Node c)) → kinds_of c ≡ l ∷ [] → IsTrue (not (is_identifier l)) → (ts : List Node) × (t ≡ Tree l ts)
+sole_fields t c l h e n = by_form P
+    (λ g. no (rw (← fits-Absent (slot.One (content.Node c))) g))
+    (λ x g. no (rw (← fits-Flag x (slot.One (content.Node c))) g))
+    (λ w g. no (rw (← fits-Word w (slot.One (content.Node c))) g))
+    (λ x g. no (rw (← fits-Text x (slot.One (content.Node c))) g))
+    (λ x g. no (rw (← fits-Span x (slot.One (content.Node c))) g))
+    (λ ts g. no (rw (← fits-List ts (slot.One (content.Node c))) g))
+    (λ k i g. no (clash (is_identifier l) n (sole_identifier k i c l g e).1))
+    (λ k ts g. (ts, ap (λ x. Tree x ts) (sole_tree k ts c l g e).0))
+    t h
+  where
+    P : Node → Type 0
+    P t = Fits t (slot.One (content.Node c)) → (ts : List Node) × (t ≡ Tree l ts)
+
+pub tree_belongs : (k : Kind) (ts : List Node) (c : Class) → Fits (Tree k ts) (slot.One (content.Node c)) → IsTrue (belongs k c)
+tree_belongs k ts c h = (tree_opens k ts c h).1

@@ -33,17 +33,17 @@ abbrev pub is_within : Class → Class → Bool
 is_within c d = list_all (λ k. belongs k d) (kinds_of c)
 
 -- what an optional place holds
-abbrev pub maybe_node : Option Node → Node
-maybe_node None = Absent
-maybe_node (Some t) = t
+abbrev pub optional_node : Option Node → Node
+optional_node None = Absent
+optional_node (Some t) = t
 
-abbrev pub maybe_span : Option Span' → Node
-maybe_span None = Absent
-maybe_span (Some s) = Span s
+abbrev pub optional_span : Option Span' → Node
+optional_span None = Absent
+optional_span (Some s) = Span s
 
-abbrev pub maybe_text : Option (List ℕ) → Node
-maybe_text None = Absent
-maybe_text (Some x) = Text x
+abbrev pub optional_text : Option (List ℕ) → Node
+optional_text None = Absent
+optional_text (Some x) = Text x
 
 abbrev pub ident_node : Ident → Node
 ident_node x = Identifier kind.Ident x

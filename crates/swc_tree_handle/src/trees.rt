@@ -71,7 +71,7 @@ impl<C: Syntax> Trees<C> {
 
     /// The list that a node is.
     #[tactic(auto, using(swc_tree_node::proofs::Fit::fitting, swc_tree_node::proofs::Fit::list_opens))]
-    pub fn of(node: Node) -> Trees<C>
+    pub fn from_node(node: Node) -> Trees<C>
         requires { Fits node (Several (Of C.class)) }
         ensures { Many result ≡ node }
     {
@@ -127,7 +127,7 @@ impl<C: Syntax> Trees<C> {
         ensures { MatchOption result ((self.old ≡ []) × (self.new ≡ [])) (λ last. self.old ≡ self.new ++ last ∷ []) }
     {
         match self.nodes.pop() {
-            Some(node) => Some(Tree::of(node)),
+            Some(node) => Some(Tree::from_node(node)),
             None => None,
         }
     }
@@ -139,7 +139,7 @@ impl<C: Syntax> Trees<C> {
         ensures taken { slice_get self.old index ≡ Some result }
         ensures list { self.new ≡ slice_set self.old index tree }
     {
-        Tree::of(self.nodes.replace(index, tree.into_node()))
+        Tree::from_node(self.nodes.replace(index, tree.into_node()))
     }
 }
 

@@ -10,13 +10,13 @@ use Rattle.swc_tree_names.specs.declared.str.Str.{Str}
 use Rattle.swc_tree_names.specs.declared.number.Number.{Number}
 use Rattle.swc_tree_names.specs.declared.lit.Lit.{Lit}
 use Rattle.swc_tree_names.specs.declared.lit.Lit.TheVariants as lit
-use Rattle.swc_tree_handle.specs.Handles.{maybe_text}
+use Rattle.swc_tree_handle.specs.Handles.{optional_text}
 
 abbrev pub binding_ident_node : BindingIdent → Node
 binding_ident_node x = node.Identifier kind.BindingIdent x.id
 
 abbrev pub str_node : Str → Node
-str_node x = node.Tree kind.Str (node.Span x.span ∷ node.Text x.value ∷ maybe_text x.raw ∷ [])
+str_node x = node.Tree kind.Str (node.Span x.span ∷ node.Text x.value ∷ optional_text x.raw ∷ [])
 
 abbrev pub number_node : Number → Node
 number_node x = node.Tree kind.Number (node.Span x.span ∷ node.Text x.text ∷ [])

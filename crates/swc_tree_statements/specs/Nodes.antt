@@ -23,7 +23,7 @@ use Rattle.swc_tree_statements.specs.declared.stmt.Stmt.{Stmt}
 use Rattle.swc_tree_statements.specs.declared.stmt.Stmt.TheVariants as stmt
 use Rattle.swc_tree_statements.specs.declared.pat.Pat.{Pat}
 use Rattle.swc_tree_statements.specs.declared.pat.Pat.TheVariants as pat
-use Rattle.swc_tree_handle.specs.Handles.{ident_node, maybe_node}
+use Rattle.swc_tree_handle.specs.Handles.{ident_node, optional_node}
 use Rattle.swc_tree_names.specs.Nodes.{binding_ident_node}
 
 abbrev pub var_decl_kind_word : VarDeclKind → Word
@@ -35,7 +35,7 @@ abbrev pub block_stmt_node : BlockStmt → Node
 block_stmt_node x = node.Tree kind.BlockStmt (node.Span x.span ∷ node.List x.stmts ∷ [])
 
 abbrev pub return_stmt_node : ReturnStmt → Node
-return_stmt_node x = node.Tree kind.ReturnStmt (node.Span x.span ∷ maybe_node x.arg ∷ [])
+return_stmt_node x = node.Tree kind.ReturnStmt (node.Span x.span ∷ optional_node x.arg ∷ [])
 
 abbrev pub expr_stmt_node : ExprStmt → Node
 expr_stmt_node x = node.Tree kind.ExprStmt (node.Span x.span ∷ x.expr ∷ [])
@@ -47,7 +47,7 @@ abbrev pub var_decl_node : VarDecl → Node
 var_decl_node x = node.Tree kind.VarDecl (node.Span x.span ∷ node.Word (var_decl_kind_word x.kind) ∷ node.List x.decls ∷ [])
 
 abbrev pub var_declarator_node : VarDeclarator → Node
-var_declarator_node x = node.Tree kind.VarDeclarator (node.Span x.span ∷ x.name ∷ maybe_node x.init ∷ [])
+var_declarator_node x = node.Tree kind.VarDeclarator (node.Span x.span ∷ x.name ∷ optional_node x.init ∷ [])
 
 abbrev pub function_node : Function → Node
 function_node x = node.Tree kind.Function (node.Span x.span ∷ node.List x.params ∷ x.body ∷ node.Flag x.is_generator ∷ node.Flag x.is_async ∷ [])
