@@ -8,4 +8,4 @@ pub mod Numbers
 pub mod Rounds
 pub mod Fresh
 pub mod Theorem
-pub mod Program
+pub mod Walks

@@ -1,4 +1,4 @@
-//! The resolver.
+//! Resolving a program.
 ghost use Rattle.std.specs.Prelude.{◌≡◌, ℕ, ◌+◌, ◌-◌, ◌<◌, ◌≤◌, IfOk, IfErr, IsErrOf};
 ghost use Rattle.swc_tree_marks.specs.Globals.{greatest, with_fresh_marks};
 ghost use Rattle.swc_tree_node.specs.declared.slot.Slot.{Slot as Slot'};
