@@ -14,3 +14,6 @@ pub use build::resolver;
 pub use marks::marks_ok;
 pub use pass::Resolver;
 pub use program::resolve_program;
+
+#[cfg(test)]
+mod tests;
