@@ -9,3 +9,4 @@ pub mod Rounds
 pub mod Fresh
 pub mod Theorem
 pub mod Walks
+pub mod Meant
