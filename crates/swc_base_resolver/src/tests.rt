@@ -30,7 +30,11 @@ fn declaration(alloc: Global, word: Word, name: &str) -> Result<Node, AllocError
     let name = identifier(alloc, Kind::BindingIdent, name)?;
     let declarator = tree(alloc, Kind::VarDeclarator, [span(), name, Node::Absent])?;
     let declarators = list(alloc, [declarator])?;
-    tree(alloc, Kind::VarDecl, [span(), Node::Word(word), declarators])
+    tree(
+        alloc,
+        Kind::VarDecl,
+        [span(), Node::Word(word), declarators],
+    )
 }
 
 fn mention(alloc: Global, name: &str) -> Result<Node, AllocError> {
@@ -50,7 +54,13 @@ fn function(alloc: Global, name: &str, parameter: &str, body: Node) -> Result<No
     let function = tree(
         alloc,
         Kind::Function,
-        [span(), parameters, body, Node::Flag(false), Node::Flag(false)],
+        [
+            span(),
+            parameters,
+            body,
+            Node::Flag(false),
+            Node::Flag(false),
+        ],
     )?;
     let name = identifier(alloc, Kind::Ident, name)?;
     tree(alloc, Kind::FnDecl, [name, function])
@@ -69,7 +79,11 @@ fn names_into(node: &Node, text: &mut String) -> Result<(), AllocError> {
             text.push_str(ident.sym.as_str())?;
             for mark in ident.ctxt.marks() {
                 text.push(':')?;
-                text.push_str(if mark.as_u32() < 10 { DIGITS[mark.as_u32() as usize] } else { "?" })?;
+                text.push_str(if mark.as_u32() < 10 {
+                    DIGITS[mark.as_u32() as usize]
+                } else {
+                    "?"
+                })?;
             }
             text.push(' ')?;
         }
