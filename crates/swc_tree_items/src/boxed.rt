@@ -56,3 +56,40 @@ impl<T: Drop> Boxed<T> {
         })
     }
 }
+
+#[cfg(test)]
+mod tests {
+    use super::*;
+    use std::test::Fail;
+
+    #[derive(Drop)]
+    enum Chain {
+        Link(u32, Boxed<Chain>),
+        End,
+    }
+
+    fn length(chain: &Chain) -> u64 {
+        match chain {
+            Chain::Link(_, rest) => length(rest.get()).saturating_add(1),
+            Chain::End => 0,
+        }
+    }
+
+    #[test]
+    fn gives_its_value_back(rt: HostRuntime) -> Result<(), Fail> {
+        let boxed = Boxed::new(rt.alloc(), 7)?;
+        assert_eq!(rt; *boxed.get(), 7);
+        assert_eq!(rt; boxed.into_inner(), 7);
+        Ok(())
+    }
+
+    #[test]
+    fn holds_what_holds_it(rt: HostRuntime) -> Result<(), Fail> {
+        let mut chain = Chain::End;
+        for number in [1, 2, 3] {
+            chain = Chain::Link(number, Boxed::new(rt.alloc(), chain)?);
+        }
+        assert_eq!(rt; length(&chain), 3);
+        Ok(())
+    }
+}

@@ -177,3 +177,72 @@ impl<T: Drop> Items<T> {
         self.items.clear();
     }
 }
+
+#[cfg(test)]
+mod tests {
+    use super::*;
+    use std::test::Fail;
+
+    #[derive(Drop)]
+    struct Folder {
+        size: u32,
+        folders: Items<Folder>,
+    }
+
+    fn total(folder: &Folder) -> u64 {
+        let mut sum = u64::from(folder.size);
+        for inner in folder.folders.as_slice() {
+            sum = sum.saturating_add(total(inner));
+        }
+        sum
+    }
+
+    #[test]
+    fn changes_a_list(rt: HostRuntime) -> Result<(), Fail> {
+        let mut list = Items::with_capacity(rt.alloc(), 4)?;
+        assert!(rt; list.is_empty());
+        for number in [3, 1, 4] {
+            list.push(number)?;
+        }
+        list.append(Items::from_slice(rt.alloc(), &[1, 5])?)?;
+        assert_eq!(rt; list.as_slice(), [3, 1, 4, 1, 5].as_slice());
+        assert!(rt; list.len() == 5);
+        assert_eq!(rt; list.replace(2, 9), 4);
+        list.set(0, 2);
+        assert_eq!(rt; list.remove(1), 1);
+        list.reverse();
+        assert_eq!(rt; list.as_slice(), [5, 1, 9, 2].as_slice());
+        assert_eq!(rt; list.get(3), Some(&2));
+        assert_eq!(rt; list.get(4), None);
+        assert_eq!(rt; list.pop(), Some(2));
+        list.clear();
+        assert_eq!(rt; list.pop(), None);
+        Ok(())
+    }
+
+    #[test]
+    fn takes_a_list_apart(rt: HostRuntime) -> Result<(), Fail> {
+        let list = Items::from_slice(rt.alloc(), &[7, 8, 9])?;
+        let [first, second, third] = list.into_array::<3>();
+        assert_eq!(rt; (first, second, third), (7, 8, 9));
+        let none: [u8; 0] = Items::new(rt.alloc()).into_array::<0>();
+        assert_eq!(rt; none.len(), 0);
+        let vec = Items::from_vec(Vec::from_slice(rt.alloc(), &[1, 2])?).into_vec();
+        assert_eq!(rt; vec.as_slice(), [1, 2].as_slice());
+        Ok(())
+    }
+
+    #[test]
+    fn holds_what_holds_it(rt: HostRuntime) -> Result<(), Fail> {
+        let mut root = Folder {
+            size: 1,
+            folders: Items::new(rt.alloc()),
+        };
+        for size in [20, 300] {
+            let folders = Items::new(rt.alloc());
+            root.folders.push(Folder { size, folders })?;
+        }
+        assert_eq!(rt; total(&root), 321);
+        Ok(())
+    }
+}

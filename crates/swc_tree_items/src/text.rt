@@ -1,4 +1,4 @@
-ghost use Rattle.std.specs.Prelude.{◌≡◌, IfOk, string_bytes, nat_eq};
+ghost use Rattle.std.specs.Prelude.{◌≡◌, IfOk, Some, string_bytes, nat_eq};
 ghost use Rattle.std.specs.Hash as fed;
 ghost use Rattle.std.specs.Cmp.{on_equiv, on_per, partial_equiv_from_equiv};
 ghost use Rattle.std.specs.Cmp.Lexicographic.{pointwise, nat_list_eq_equiv};
@@ -92,7 +92,37 @@ impl Hash for Text {
 }
 
 impl fmt::Display for Text {
+    ghost output = { λ text. Some text };
+
     fn fmt<W: fmt::Write>(&self, f: &mut fmt::Formatter<W>) -> fmt::Result {
         f.write_str(self.as_str())
+    }
+}
+
+#[cfg(test)]
+mod tests {
+    use super::*;
+    use std::hash::DefaultHasher;
+    use std::test::Fail;
+
+    fn hash_of(text: &Text) -> u64 {
+        let mut hasher = DefaultHasher::new();
+        text.hash(&mut hasher);
+        hasher.finish()
+    }
+
+    #[test]
+    fn keeps_a_text(rt: HostRuntime) -> Result<(), Fail> {
+        for given in ["", "a", "größe", "\u{1f600}"] {
+            let text = Text::new(rt.alloc(), given)?;
+            assert_eq!(rt; text.as_str(), given);
+            let copy = text.clone()?;
+            assert!(rt; copy == text, "{given}");
+            assert_eq!(rt; hash_of(&copy), hash_of(&text));
+            assert_eq!(rt; format!(in rt.alloc(); "<{text}>")?.as_str(), format!(in rt.alloc(); "<{given}>")?.as_str());
+            assert_eq!(rt; Text::from_string(copy.into_string()).as_str(), given);
+        }
+        assert!(rt; Text::new(rt.alloc(), "a")? != Text::new(rt.alloc(), "b")?);
+        Ok(())
     }
 }

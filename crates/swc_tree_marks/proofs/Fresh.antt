@@ -1,5 +1,5 @@
 -- What fresh marks add to a table.
-use Rattle.std.proofs.Common.{◌≡◌, ◌≢◌, ℕ, ◌+◌, ◌<◌, ◌↔◌, zero, suc, [], ◌∷◌, ◌++◌, ◌⊎◌, inl, inr, map, Option, Some, None, Contains, sym, ap, refl, ◌∙◌, arith, length, length-append, append_assoc, append-nil}
+use Rattle.std.proofs.Common.{◌≡◌, ◌≢◌, ℕ, ◌+◌, ◌<◌, ◌≤◌, ◌↔◌, zero, suc, [], ◌∷◌, ◌++◌, ◌⊎◌, inl, inr, map, Option, Some, None, Contains, sym, ap, refl, ◌∙◌, arith, length, length-append, append_assoc, append-nil}
 use Rattle.std.proofs.Math.Seq.{get_or-append_seam}
 use Rattle.std.specs.List.{range_with_len}
 use Rattle.std.specs.Option.{SomeIff, IsNone}
@@ -58,6 +58,9 @@ Knows-append t row mark = (forth, back) where
   back (inl (inr has)) = inr (rw joined (Contains-append_left (numbers t) (row.0 ∷ []) mark has))
   back (inr new) = inr (Contains-from_place (t ++ row ∷ []) mark (length t) (last_place t row mark new))
 
+pub Knows-with_fresh : (t : Table) (parent mark : ℕ) → Knows (with_fresh t parent) mark ↔ (Knows t mark ⊎ (mark ≡ greatest t + 1))
+Knows-with_fresh t parent mark = Knows-append t (greatest t + 1, recorded t parent) mark
+
 -- a limit on the numbers is taken exactly where the greatest number is the limit
 pub limit_taken : (t : Table) (limit : ℕ) → greatest t ≡ limit → limit ≢ 0 → Contains (numbers t) limit
 limit_taken t limit full some =
@@ -102,3 +105,7 @@ with_fresh_marks-known t parent (suc count) known =
     ∙ append_assoc t (map row (range_with_len first count)) (row (first + count) ∷ [])
     ∙ ap (λ rows. t ++ rows) (sym (map-range_with_len_more row first count (first + count) refl))
     ∙ ap (λ n. t ++ map row (range_with_len first n)) one_more
+
+-- so a number among theirs is at most the last of them
+pub Contains-with_fresh_marks : (t : Table) (parent count number : ℕ) → Contains (numbers (with_fresh_marks t parent count)) number → number ≤ greatest t + count
+Contains-with_fresh_marks t parent count number has = omega (arith, Contains-le-greatest (with_fresh_marks t parent count) number has, greatest-with_fresh_marks t parent count)

@@ -127,3 +127,35 @@ impl From<NoMemory> for PassError {
         PassError::NoMemory
     }
 }
+
+#[cfg(test)]
+mod tests {
+    use super::*;
+    use std::test::Fail;
+
+    #[test]
+    fn says_what_was_refused(rt: HostRuntime) -> Result<(), Fail> {
+        for (error, name, text) in [
+            (PassError::NoMemory, "NoMemory", "no memory"),
+            (PassError::MarksSpent, "MarksSpent", "marks are spent"),
+            (PassError::CounterSpent, "CounterSpent", "counter is spent"),
+            (PassError::NotAssignable, "NotAssignable", "not assignable"),
+        ] {
+            assert_eq!(rt; error.name(), name);
+            assert_eq!(rt; format!(in rt.alloc(); "{error}")?.as_str(), text);
+        }
+        for (error, text) in [
+            (MarkError::NoMemory, "no memory"),
+            (MarkError::MarksSpent, "marks are spent"),
+            (MarkError::BadTable(3), "bad table at 3"),
+        ] {
+            assert_eq!(rt; format!(in rt.alloc(); "{error}")?.as_str(), text);
+        }
+        assert_eq!(rt; format!(in rt.alloc(); "{NoMemory}")?.as_str(), "no memory");
+        let spent = PassError::from_fresh(MarkError::MarksSpent);
+        assert_eq!(rt; spent, PassError::MarksSpent);
+        assert_eq!(rt; PassError::from(NoMemory), PassError::NoMemory);
+        assert_eq!(rt; MarkError::from(NoMemory), MarkError::NoMemory);
+        Ok(())
+    }
+}

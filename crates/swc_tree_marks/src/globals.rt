@@ -211,3 +211,80 @@ fn is_known(table: &[(u32, u32)], number: u32) -> bool
 {
     number == 0 || place_of(table, number).is_some()
 }
+
+#[cfg(test)]
+mod tests {
+    use super::*;
+    use std::test::Fail;
+
+    #[test]
+    fn refuses_the_first_bad_pair(rt: HostRuntime) -> Result<(), Fail> {
+        for (table, bad) in [
+            ([(2, 0), (2, 0)], 1),
+            ([(0, 0), (1, 0)], 0),
+            ([(1, 1), (2, 0)], 0),
+            ([(1, 0), (3, 2)], 1),
+            ([(3, 0), (1, 0)], 1),
+        ] {
+            let refusal = Globals::from_table(rt.alloc(), &table).err();
+            assert_eq!(rt; refusal, Some(MarkError::BadTable(bad)), "{table:?}");
+        }
+        let globals = Globals::from_table(rt.alloc(), &[(1, 0), (4, 1), (9, 0)])?;
+        assert_eq!(rt; globals.table(), [(1, 0), (4, 1), (9, 0)].as_slice());
+        for (number, known) in [
+            (0, true),
+            (1, true),
+            (2, false),
+            (4, true),
+            (9, true),
+            (10, false),
+        ] {
+            assert_eq!(rt; globals.knows(Mark::from_u32(number)), known, "{number}");
+        }
+        Ok(())
+    }
+
+    #[test]
+    fn makes_fresh_marks(rt: HostRuntime) -> Result<(), Fail> {
+        let mut globals = Globals::new(rt.alloc());
+        assert_eq!(rt; Mark::new(&mut globals)?.as_u32(), 1);
+        assert_eq!(rt; Mark::new(&mut globals)?.as_u32(), 2);
+        assert_eq!(rt; Mark::fresh(&mut globals, Mark::from_u32(2))?.as_u32(), 3);
+        assert_eq!(rt; Mark::fresh(&mut globals, Mark::from_u32(7))?.as_u32(), 4);
+        assert_eq!(rt;
+            globals.table(),
+            [(1, 0), (2, 0), (3, 2), (4, 0)].as_slice()
+        );
+
+        let mut spent = Globals::from_table(rt.alloc(), &[(4294967295, 0)])?;
+        let refusal = Mark::fresh(&mut spent, Mark::root()).err();
+        assert_eq!(rt; refusal, Some(MarkError::MarksSpent));
+        assert_eq!(rt; spent.table(), [(4294967295, 0)].as_slice());
+        Ok(())
+    }
+
+    #[test]
+    fn finds_ancestors(rt: HostRuntime) -> Result<(), Fail> {
+        let globals = Globals::from_table(rt.alloc(), &[(1, 0), (2, 1), (3, 0), (5, 2)])?;
+        for (mark, ancestor, under) in [
+            (5, 5, true),
+            (5, 2, true),
+            (5, 1, true),
+            (5, 0, true),
+            (5, 3, false),
+            (1, 2, false),
+            (3, 1, false),
+            (0, 0, true),
+            (0, 1, false),
+            (4, 4, true),
+            (4, 0, true),
+            (4, 1, false),
+            (5, 4, false),
+        ] {
+            let (mark, ancestor) = (Mark::from_u32(mark), Mark::from_u32(ancestor));
+            let found = mark.is_descendant_of(&globals, ancestor);
+            assert_eq!(rt; found, under, "{mark:?} under {ancestor:?}");
+        }
+        Ok(())
+    }
+}

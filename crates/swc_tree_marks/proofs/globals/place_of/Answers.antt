@@ -8,4 +8,4 @@ pub returns : goal.returns
 returns c =
     let facts = c.binary_search_by_key.ensures in
     let by_number = facts.position (λ row. row.0) (answers_always _ _ _ (λ f a r g called. search rules)) in
-    rw c.ok.ensures.value (searched c.args.table.now c.requires c.args.number _ facts.bound by_number)
+    rw c.ok.ensures.value (searched c.args.table.now c.requires c.args.number c.binary_search_by_key.result facts.bound by_number)
