@@ -1,5 +1,5 @@
 -- How many scopes a node has, by its children.
-use Rattle.std.proofs.Common.{◌≡◌, ℕ, zero, suc, ◌+◌, ◌<◌, ◌≤◌, Bool, true, false, Option, Some, None, List, [], ◌∷◌, ◌++◌, take, length, refl, sym, ap, ◌∙◌, subst, rules, arith, add-one}
+use Rattle.std.proofs.Common.{◌≡◌, ℕ, zero, suc, ◌+◌, ◌<◌, ◌≤◌, Option, Some, List, [], ◌∷◌, take, refl, sym, ap, ◌∙◌, arith, add-one}
 use Rattle.std.specs.List.{slice_get}
 use Rattle.std.specs.Option.{is_some}
 use Rattle.swc_tree_node.specs.declared.kind.Kind.{Kind}
@@ -27,7 +27,7 @@ module _ (r : Role) (t : Node) (ts : List Node) (roles : ℕ → Role) where
   pub count_list : t ≡ Many ts → roles ≡ role_below r (Many ts) → scope_count r t ≡ total (each_in scope_count roles ts)
   count_list is e =
       let all = count_out r t ∙ ap (λ y. one_if (is_some (opened_in r y)) + total (each_in scope_count (role_below r t) (children_in y))) (ap out-Node is ∙ outs-List ts)
-            ∙ ap (λ roles. 0 + total (each_in scope_count roles ts)) (ap (role_below r) is ∙ sym e) in
+      ∙ ap (λ roles. 0 + total (each_in scope_count roles ts)) (ap (role_below r) is ∙ sym e) in
       omega (arith, all)
 
   pub count_tree : (k : Kind) (o : Option Scope) → t ≡ Tree k ts → roles ≡ role_below r (Tree k ts) → o ≡ opened_as r k → scope_count r t ≡ one_if (is_some o) + total (each_in scope_count roles ts)

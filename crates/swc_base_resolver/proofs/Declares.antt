@@ -1,6 +1,6 @@
 -- The names that the first walk collects are those that the scopes declare.
-use Rattle.std.proofs.Common.{◌≡◌, ℕ, zero, suc, Bool, true, false, not, ◌&&◌, ◌||◌, IsTrue, ◌⊎◌, ◌↔◌, inl, inr, ⊎_elim, Option, Some, None, List, [], ◌∷◌, ◌++◌, map, refl, sym, ap, ◌∙◌, subst, rules, arith, cond}
-use Rattle.std.specs.List.{slice_get, list_any}
+use Rattle.std.proofs.Common.{◌≡◌, ℕ, zero, suc, Bool, true, false, not, ◌&&◌, ◌||◌, IsTrue, ◌⊎◌, ◌↔◌, inl, inr, ⊎_elim, Option, Some, None, List, [], ◌∷◌, refl, sym, ap, ◌∙◌, subst, arith, cond}
+use Rattle.std.specs.List.{slice_get}
 use Rattle.std.specs.Str.{bytes_eq}
 use Rattle.std.proofs.lemmas.Slice.Eq.{bytes_eq-Decides}
 use Rattle.swc_tree_marks.specs.declared.ident.Ident.{Ident}
@@ -8,17 +8,16 @@ use Rattle.swc_tree_node.specs.declared.kind.Kind.{Kind}
 use Rattle.swc_tree_node.specs.declared.slot.Role.{Role}
 use Rattle.swc_tree_node.specs.declared.slot.Role.TheVariants as role
 use Rattle.swc_tree_node.specs.declared.slot.Scope.{Scope}
-use Rattle.swc_tree_node.specs.declared.slot.Scope.TheVariants as scope
 use Rattle.swc_tree_node.specs.declared.node.Node.{Node, Identifier, out-Node}
 use Rattle.swc_tree_node.specs.declared.node.Node.TheOpen.{Node-F}
 use Rattle.swc_tree_node.specs.declared.node.Node.TheVariants.{outs-Identifier}
 use Rattle.swc_tree_scoping.specs.Places.{Path, children_in, child, role_below, given, place_at}
 use Rattle.swc_tree_scoping.specs.Folds.{each_in, layer_in}
-use Rattle.swc_tree_scoping.specs.Scopes.{opened, opened_in, takes, is_taken, declaring, Declares}
+use Rattle.swc_tree_scoping.specs.Scopes.{opened, opened_in, is_taken, declaring, Declares}
 use Rattle.swc_tree_scoping.proofs.Under.{by_children, fold_in_role_out, opened-layer, children-layer, place_under, no_place_under, declaring_under, joined}
 use Rattle.swc_tree_scoping.proofs.Remarked.{identifier_is}
 use Rattle.swc_base_resolver.specs.Names.{NameTest, no_name}
-use Rattle.swc_base_resolver.specs.Collected.{Collected, goes_with, is_unmarked, identifier_binds, itself_binds, children_bind, passes, declared_in, collect_step, collected}
+use Rattle.swc_base_resolver.specs.Collected.{goes_with, is_unmarked, identifier_binds, itself_binds, children_bind, passes, collect_step, collected}
 use Rattle.swc_base_resolver.specs.DeclaredAt.{collected_below, declared_if, declared_at}
 
 or_cases : (a b : Bool) → IsTrue (a || b) → IsTrue a ⊎ IsTrue b
@@ -104,7 +103,7 @@ child_binds : (roles : ℕ → Role) (ts : List Node) (q : Role) (x : List ℕ) 
 child_binds roles [] q x h = absurd (grind arith)
 child_binds roles (t ∷ ts) q x h =
     ⊎_elim (λ a. (zero, t, refl, a)) (λ a. child_later roles t ts q x (child_binds (λ i. roles (suc i)) ts q x a))
-      (or_cases ((collected (roles zero) t).binds q x) (children_bind q (each_in collected (λ i. roles (suc i)) ts) x) h)
+    (or_cases ((collected (roles zero) t).binds q x) (children_bind q (each_in collected (λ i. roles (suc i)) ts) x) h)
 
 children_have : (roles : ℕ → Role) (ts : List Node) (q : Role) (x : List ℕ) (i : ℕ) (c : Node) → slice_get ts i ≡ Some c → IsTrue ((collected (roles i) c).binds q x) → IsTrue (children_bind q (each_in collected roles ts) x)
 children_have roles [] q x i c g h = absurd (cc)
@@ -129,8 +128,15 @@ abbrev TakenAt : Role → Node → Path → List ℕ → Type 0
 TakenAt r0 t s x = (b : Binding r0 t x) × (declaring r0 b.binds_as t b.place ≡ Some s)
 
 abbrev under : (r0 : Role) (t c : Node) (i : ℕ) (x : List ℕ) → child t i ≡ Some c → Binding (role_below r0 t i) c x → Binding r0 t x
-under r0 t c i x h b = record { place = i ∷ b.place; binds_as = b.binds_as; kind = b.kind; identifier = b.identifier;
-  stands = place_under r0 t c i b.place h ∙ b.stands; named = b.named; unmarked = b.unmarked }
+under r0 t c i x h b = record {
+  place = i ∷ b.place;
+  binds_as = b.binds_as;
+  kind = b.kind;
+  identifier = b.identifier;
+  stands = place_under r0 t c i b.place h ∙ b.stands;
+  named = b.named;
+  unmarked = b.unmarked;
+}
 
 no_marks : (xs : List ℕ) → IsTrue (is_unmarked xs) → xs ≡ []
 no_marks [] h = refl
@@ -156,19 +162,21 @@ itself_untaken r0 t q x (Node-F.List z) o h = absurd (grind arith)
 itself_untaken r0 t q x (Node-F.Tree k z) o h = absurd (grind arith)
 
 child_untaken : (r0 : Role) (t c : Node) (i : ℕ) (q : Role) (x : List ℕ) → child t i ≡ Some c → is_taken q (opened r0 t) ≡ false → Untaken (role_below r0 t i) c q x → Untaken r0 t q x
-child_untaken r0 t c i q x h free (b, goes, decl) =
-    (under r0 t c i x h b, goes,
-      declaring_under r0 b.binds_as t c i b.place h ∙ ap (joined i (is_taken b.binds_as (opened r0 t))) decl
-      ∙ ap (λ z. cond {A = Option Path} z (Some []) None) (goes_taken q b.binds_as (opened r0 t) goes ∙ free))
+child_untaken r0 t c i q x h free (b, goes, decl) = (
+  under r0 t c i x h b,
+  goes,
+  declaring_under r0 b.binds_as t c i b.place h ∙ ap (joined i (is_taken b.binds_as (opened r0 t))) decl
+      ∙ ap (λ z. cond {A = Option Path} z (Some []) None) (goes_taken q b.binds_as (opened r0 t) goes ∙ free),
+)
 
 binds_sound : (t : Node) (r0 q : Role) (x : List ℕ) → IsTrue ((collected r0 t).binds q x) → Untaken r0 t q x
 binds_sound = by_children (λ t. (r0 q : Role) (x : List ℕ) → IsTrue ((collected r0 t).binds q x) → Untaken r0 t q x)
     (λ t below r0 q x h.
-      ⊎_elim (λ a. itself_untaken r0 t q x (out-Node t) refl a)
-        (λ a. let p = both (not (is_taken q (opened r0 t))) _ a in
-          let f = child_binds (role_below r0 t) (children_in (out-Node t)) q x p.1 in
-          child_untaken r0 t f.1 f.0 q x f.2 (not_true _ p.0) (below f.0 f.1 f.2 (role_below r0 t f.0) q x f.3))
-        (or_cases (itself_binds r0 (out-Node t) q x) (passes q (opened r0 t) (children_bind q (collected_below r0 t)) x) (rw (← binds_is r0 t q x) h)))
+    ⊎_elim (λ a. itself_untaken r0 t q x (out-Node t) refl a)
+    (λ a. let p = both (not (is_taken q (opened r0 t))) _ a in
+    let f = child_binds (role_below r0 t) (children_in (out-Node t)) q x p.1 in
+    child_untaken r0 t f.1 f.0 q x f.2 (not_true _ p.0) (below f.0 f.1 f.2 (role_below r0 t f.0) q x f.3))
+    (or_cases (itself_binds r0 (out-Node t) q x) (passes q (opened r0 t) (children_bind q (collected_below r0 t)) x) (rw (← binds_is r0 t q x) h)))
 
 -- and each that is untaken is collected
 role_of_place : Option (Role × Node) → Role → Role
@@ -185,7 +193,7 @@ itself_has r0 t q r k i place none goes =
     let same_role : r0 ≡ r = ap (λ o. role_of_place o r0) place in
     let same_node : t ≡ Identifier k i = ap (λ o. node_of_place o t) place in
     let here : itself_binds r0 (out-Node t) q i.sym ≡ identifier_binds r q i i.sym
-          = ap (λ y. itself_binds r0 y q i.sym) (ap out-Node same_node ∙ outs-Identifier k i) ∙ ap (λ r. identifier_binds r q i i.sym) same_role in
+    = ap (λ y. itself_binds r0 y q i.sym) (ap out-Node same_node ∙ outs-Identifier k i) ∙ ap (λ r. identifier_binds r q i i.sym) same_role in
     let free : IsTrue (is_unmarked i.ctxt) = rw none refl in
     rw (binds_is r0 t q i.sym) (or_left (itself_binds r0 (out-Node t) q i.sym) _ (rw here (and_both (goes_with q r) _ goes (and_both (is_unmarked i.ctxt) _ free (own_name i.sym i.sym refl)))))
 
@@ -208,23 +216,24 @@ binds_complete (j ∷ p) t r0 q r k i place none goes decl = at (child t j) refl
         let found = below c (sym (place_under r0 t c j p h) ∙ place) none goes d.1 in
         let free = not_false (is_taken q (opened r0 t)) (sym (goes_taken q r (opened r0 t) goes) ∙ d.0) in
         rw (binds_is r0 t q i.sym) (or_right (itself_binds r0 (out-Node t) q i.sym) _
-          (and_both (not (is_taken q (opened r0 t))) _ free (children_have (role_below r0 t) (children_in (out-Node t)) q i.sym j c h found)))
+        (and_both (not (is_taken q (opened r0 t))) _ free (children_have (role_below r0 t) (children_in (out-Node t)) q i.sym j c h found)))
 
 -- a scope's names: each is declared there
 own_taken : (r0 : Role) (t : Node) (q : Role) (x : List ℕ) → is_taken q (opened r0 t) ≡ true → IsTrue (children_bind q (collected_below r0 t) x) → TakenAt r0 t [] x
 own_taken r0 t q x taken h =
     let f = child_binds (role_below r0 t) (children_in (out-Node t)) q x h in
-    let u = binds_sound f.1 (role_below r0 t f.0) q x f.3 in
-    (under r0 t f.1 f.0 x f.2 u.0,
+    let u = binds_sound f.1 (role_below r0 t f.0) q x f.3 in (
+      under r0 t f.1 f.0 x f.2 u.0,
       declaring_under r0 u.0.binds_as t f.1 f.0 u.0.place f.2 ∙ ap (joined f.0 (is_taken u.0.binds_as (opened r0 t))) u.2
-      ∙ ap (λ z. cond {A = Option Path} z (Some []) None) (goes_taken q u.0.binds_as (opened r0 t) u.1 ∙ taken))
+          ∙ ap (λ z. cond {A = Option Path} z (Some []) None) (goes_taken q u.0.binds_as (opened r0 t) u.1 ∙ taken),
+    )
 
 own_declared : (r0 : Role) (t : Node) (x : List ℕ) (o : Option Scope) → opened r0 t ≡ o → IsTrue (declared_if o (collected_below r0 t) x) → TakenAt r0 t [] x
 own_declared r0 t x None e h = absurd (grind arith)
 own_declared r0 t x (Some s) e h =
     ⊎_elim (λ a. let p = both (is_taken role.Lexical (Some s)) _ a in own_taken r0 t role.Lexical x (ap (is_taken role.Lexical) e ∙ p.0) p.1)
-      (λ a. let p = both (is_taken role.Variable (Some s)) _ a in own_taken r0 t role.Variable x (ap (is_taken role.Variable) e ∙ p.0) p.1)
-      (or_cases (is_taken role.Lexical (Some s) && children_bind role.Lexical (collected_below r0 t) x) (is_taken role.Variable (Some s) && children_bind role.Variable (collected_below r0 t) x) h)
+    (λ a. let p = both (is_taken role.Variable (Some s)) _ a in own_taken r0 t role.Variable x (ap (is_taken role.Variable) e ∙ p.0) p.1)
+    (or_cases (is_taken role.Lexical (Some s) && children_bind role.Lexical (collected_below r0 t) x) (is_taken role.Variable (Some s) && children_bind role.Variable (collected_below r0 t) x) h)
 
 taken_under : (r0 : Role) (t c : Node) (i : ℕ) (s : Path) (x : List ℕ) → child t i ≡ Some c → TakenAt (role_below r0 t i) c s x → TakenAt r0 t (i ∷ s) x
 taken_under r0 t c i s x h (b, decl) = (under r0 t c i x h b, declaring_under r0 b.binds_as t c i b.place h ∙ ap (joined i (is_taken b.binds_as (opened r0 t))) decl)
@@ -257,7 +266,7 @@ own_has r0 t c i q x (Some s) e h taken (inl l) b =
 own_has r0 t c i q x (Some s) e h taken (inr v) b =
     let have = children_have (role_below r0 t) (children_in (out-Node t)) q x i c h b in
     or_right (is_taken role.Lexical (Some s) && children_bind role.Lexical (collected_below r0 t) x) _
-      (and_both (is_taken role.Variable (Some s)) _ (subst (λ q. is_taken q (Some s) ≡ true) v taken) (subst (λ q. IsTrue (children_bind q (collected_below r0 t) x)) v have))
+    (and_both (is_taken role.Variable (Some s)) _ (subst (λ q. is_taken q (Some s) ≡ true) v taken) (subst (λ q. IsTrue (children_bind q (collected_below r0 t) x)) v have))
 
 declared_complete : (s : Path) (r0 : Role) (t : Node) (p : Path) (r : Role) (k : Kind) (i : Ident) → place_at r0 t p ≡ Some (r, Identifier k i) → i.ctxt ≡ [] → declaring r0 r t p ≡ Some s → IsTrue (declared_at r0 t s i.sym)
 declared_complete s r0 t [] r k i place none decl = absurd (cc)
@@ -269,8 +278,8 @@ declared_complete [] r0 t (j ∷ p) r k i place none decl = at (child t j) refl
         let d = some_joined j (is_taken r (opened r0 t)) (declaring (role_below r0 t j) r c p) (sym (declaring_under r0 r t c j p h) ∙ decl) in
         let stands = sym (place_under r0 t c j p h) ∙ place in
         ⊎_elim (λ g. own_has r0 t c j role.Lexical i.sym (opened r0 t) refl h (sym (goes_taken role.Lexical r (opened r0 t) g) ∙ d.0) (inl refl) (binds_complete p c (role_below r0 t j) role.Lexical r k i stands none g d.1))
-          (λ g. own_has r0 t c j role.Variable i.sym (opened r0 t) refl h (sym (goes_taken role.Variable r (opened r0 t) g) ∙ d.0) (inr refl) (binds_complete p c (role_below r0 t j) role.Variable r k i stands none g d.1))
-          (taken_goes r (opened r0 t) d.0)
+        (λ g. own_has r0 t c j role.Variable i.sym (opened r0 t) refl h (sym (goes_taken role.Variable r (opened r0 t) g) ∙ d.0) (inr refl) (binds_complete p c (role_below r0 t j) role.Variable r k i stands none g d.1))
+        (taken_goes r (opened r0 t) d.0)
 declared_complete (m ∷ s) r0 t (j ∷ p) r k i place none decl = at (child t j) refl (λ c. declared_complete s (role_below r0 t j) c p r k i)
   where
     at : (o : Option Node) → child t j ≡ o
@@ -288,5 +297,6 @@ names_declared t s x = (sound, complete)
     sound : IsTrue (declared_at role.Plain t s x) → Declares t s x
     sound h = let (b, decl) = declared_sound s role.Plain t x h in
         record { place = b.place; binds_as = b.binds_as; kind = b.kind; identifier = b.identifier; stands = b.stands; named = b.named; unmarked = b.unmarked; declared = decl }
+
     complete : Declares t s x → IsTrue (declared_at role.Plain t s x)
     complete d = subst (λ x. IsTrue (declared_at role.Plain t s x)) d.named (declared_complete s role.Plain t d.place d.binds_as d.kind d.identifier d.stands d.unmarked d.declared)

@@ -1,7 +1,7 @@
 -- What the first walk makes of a node, form by form.
-use Rattle.std.proofs.Common.{◌≡◌, ℕ, zero, suc, ◌+◌, ◌<◌, Bool, true, false, not, ◌&&◌, ◌||◌, ◌==◌, ◌⊎◌, inl, inr, Option, Some, None, List, [], ◌∷◌, ◌++◌, map, take, length, get_or, refl, sym, ap, ◌∙◌, subst, rules, arith, add-one, append_assoc, append-nil, length-append}
+use Rattle.std.proofs.Common.{◌≡◌, ℕ, zero, suc, ◌+◌, ◌<◌, Bool, true, false, ◌||◌, ◌==◌, ◌⊎◌, inl, inr, Option, Some, List, [], ◌∷◌, ◌++◌, map, take, length, refl, sym, ap, ◌∙◌, arith, add-one, append_assoc, append-nil, length-append}
 use Rattle.std.proofs.lemmas.Bool.Decides.{nat_tests}
-use Rattle.std.specs.List.{slice_get, slice_set, list_any, flat_map}
+use Rattle.std.specs.List.{slice_get, slice_set}
 use Rattle.std.proofs.lemmas.List.{map-append}
 use Rattle.std.proofs.lemmas.List.Folds.{list_any-append}
 use Rattle.swc_tree_marks.specs.declared.ident.Ident.{Ident}
@@ -18,7 +18,7 @@ use Rattle.swc_tree_scoping.specs.Scopes.{opened_as}
 use Rattle.swc_tree_scoping.proofs.Under.{fold_in_role_out}
 use Rattle.swc_tree_node.specs.declared.node.Node.TheVariants.{outs-Identifier, outs-List, outs-Tree}
 use Rattle.swc_base_resolver.specs.declared.collect.ScopeNames.{ScopeNames}
-use Rattle.swc_base_resolver.specs.Names.{NameTest, members, no_name, one_more, either}
+use Rattle.swc_base_resolver.specs.Names.{NameTest, no_name, one_more, either}
 use Rattle.swc_base_resolver.specs.Collected.{Collected, identifier_binds, children_bind, passes, declared_in, own_scope, scopes_below, collect_step, collected, declared_by}
 use Rattle.swc_base_resolver.proofs.Sets.{either-none, either_assoc}
 

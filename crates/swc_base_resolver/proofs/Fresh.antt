@@ -1,12 +1,12 @@
 -- Fresh marks in a row, and why one is refused.
-use Rattle.std.proofs.Common.{◌≡◌, ℕ, zero, suc, ◌+◌, ◌-◌, ◌<◌, ◌≤◌, List, [], ◌∷◌, ◌++◌, length, refl, sym, ap, ◌∙◌, arith, add-one}
+use Rattle.std.proofs.Common.{◌≡◌, ℕ, zero, suc, ◌+◌, List, [], ◌∷◌, ◌++◌, refl, sym, ap, ◌∙◌, arith, add-one}
 use Rattle.std.specs.List.{range_with_len}
 use Rattle.swc_tree_marks.specs.declared.error.MarkError.{MarkError}
 use Rattle.swc_tree_marks.specs.declared.error.MarkError.TheVariants as mark
 use Rattle.swc_tree_marks.specs.declared.error.PassError.{PassError}
 use Rattle.swc_tree_marks.specs.declared.error.PassError.TheVariants as pass
 use Rattle.swc_tree_marks.specs.Errors.{IsFreshError, IsSameRefusal}
-use Rattle.swc_tree_marks.specs.Globals.{Table, greatest, with_fresh, with_fresh_marks}
+use Rattle.swc_tree_marks.specs.Globals.{Table, with_fresh, with_fresh_marks}
 
 pub spent_is : (e : MarkError) (p : PassError) → IsFreshError e → IsSameRefusal e p → p ≡ pass.MarksSpent → e ≡ mark.MarksSpent
 spent_is mark.MarksSpent p f s h = refl

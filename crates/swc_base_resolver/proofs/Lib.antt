@@ -8,4 +8,5 @@ pub mod Numbers
 pub mod Rounds
 pub mod Fresh
 pub mod Theorem
-pub mod Program
+pub mod Walks
+pub mod Meant

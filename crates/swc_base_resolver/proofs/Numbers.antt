@@ -1,16 +1,15 @@
 -- The scopes have the numbers from 0 on, one each, and the first walk lists what they declare in that order.
-use Rattle.std.proofs.Common.{◌≡◌, ℕ, zero, suc, ◌+◌, ◌-◌, ◌<◌, ◌≤◌, Bool, true, false, IsTrue, ◌⊎◌, inl, inr, ⊎_elim, Option, Some, None, List, [], ◌∷◌, ◌++◌, map, take, length, get_or, refl, sym, ap, ◌∙◌, subst, rules, arith, length-append}
-use Rattle.std.specs.List.{slice_get, slice_index_or, flat_map}
+use Rattle.std.proofs.Common.{◌≡◌, ℕ, zero, suc, ◌+◌, ◌-◌, ◌<◌, Bool, true, false, IsTrue, ◌⊎◌, inl, inr, ⊎_elim, Option, Some, None, List, [], ◌∷◌, ◌++◌, take, length, get_or, refl, sym, ap, ◌∙◌, subst, arith, length-append}
+use Rattle.std.specs.List.{slice_get}
 use Rattle.std.specs.Option.{is_some}
 use Rattle.std.proofs.lemmas.List.{get_or_append_left, get_or-append-add}
 use Rattle.std.proofs.lemmas.Bool.{cases_lt}
 use Rattle.swc_tree_node.specs.declared.slot.Role.{Role}
 use Rattle.swc_tree_node.specs.declared.slot.Scope.{Scope}
 use Rattle.swc_tree_node.specs.declared.node.Node.{Node, out-Node}
-use Rattle.swc_tree_node.specs.declared.node.Node.TheOpen.{Node-F}
 use Rattle.swc_tree_scoping.specs.Places.{Path, children_in, child, role_below, given}
 use Rattle.swc_tree_scoping.specs.Folds.{each_in, layer_in}
-use Rattle.swc_tree_scoping.specs.Scopes.{opened, opened_in, scope_at, one_if, total, scope_count}
+use Rattle.swc_tree_scoping.specs.Scopes.{opened, scope_at, one_if, total, scope_count}
 use Rattle.swc_tree_scoping.proofs.Under.{by_children, fold_in_role_out, opened-layer, children-layer, scope_under, no_scope_under}
 use Rattle.swc_base_resolver.specs.Names.{NameTest, no_name}
 use Rattle.swc_base_resolver.specs.Collected.{Collected, own_scope, scopes_below, collect_step, collected}
@@ -74,12 +73,13 @@ one_number (i ∷ s) (j ∷ u) r t o q e = at (child t i) (child t j) refl refl 
         let a = number_under r t c i s h in
         let b = number_under r t c i u h in
         rw (k, below c (opens_under r t c i s h o) (opens_under r t c i u h q2) (omega (arith, a, b, e2))) refl
+
     at : (f g : Option Node) → child t i ≡ f → child t j ≡ g → ((c : Node) → OpensAt (role_below r t i) c s → OpensAt (role_below r t i) c u → number (role_below r t i) c s ≡ number (role_below r t i) c u → s ≡ u) → i ∷ s ≡ j ∷ u
     at None g h k below = absurd (none_opens r t i s h o)
     at (Some c) None h k below = absurd (none_opens r t j u k q)
     at (Some c) (Some d) h k below =
         ⊎_elim (λ l. absurd (apart r t c i j s u l h (opens_under r t c i s h o) e))
-          (λ m. ⊎_elim (λ l. absurd (apart r t d j i u s l k (opens_under r t d j u k q) (sym e))) (λ l. same c h l below) m) (which i j)
+        (λ m. ⊎_elim (λ l. absurd (apart r t d j i u s l k (opens_under r t d j u k q) (sym e))) (λ l. same c h l below) m) (which i j)
 
 -- each number below the count is that of a scope
 abbrev Within : (ℕ → Role) → List Node → ℕ → Type 0
@@ -92,8 +92,8 @@ within : (roles : ℕ → Role) (ts : List Node) (m : ℕ) → m < total (each_i
 within roles [] m l = absurd (omega arith)
 within roles (t ∷ ts) m l =
     ⊎_elim (λ a. (zero, t, m, refl, a, omega arith))
-      (λ a. let rest : ℕ = m - scope_count (roles zero) t in within_later roles t ts m rest (within (λ i. roles (suc i)) ts rest (omega (arith, l, a))) (omega (arith, a)))
-      (cases_lt m (scope_count (roles zero) t))
+    (λ a. let rest : ℕ = m - scope_count (roles zero) t in within_later roles t ts m rest (within (λ i. roles (suc i)) ts rest (omega (arith, l, a))) (omega (arith, a)))
+    (cases_lt m (scope_count (roles zero) t))
 
 abbrev Numbered : Role → Node → ℕ → Type 0
 Numbered r t n = (s : Path) × OpensAt r t s × (number r t s ≡ n)
@@ -141,11 +141,11 @@ below_length roles (t ∷ ts) h =
 pub scopes_length : (t : Node) (r : Role) → length (collected r t).scopes ≡ scope_count r t
 scopes_length = by_children (λ t. (r : Role) → length (collected r t).scopes ≡ scope_count r t)
     (λ t below r.
-      let a = ap length (scopes_out r t) ∙ length-append (own_scope (opened r t) (collected_below r t)) (scopes_below (collected_below r t)) in
-      let b = own_length (opened r t) (collected_below r t) in
-      let d = below_length (role_below r t) (children_in (out-Node t)) below in
-      let e = count_out r t in
-      omega (arith, a, b, d, e))
+    let a = ap length (scopes_out r t) ∙ length-append (own_scope (opened r t) (collected_below r t)) (scopes_below (collected_below r t)) in
+    let b = own_length (opened r t) (collected_below r t) in
+    let d = below_length (role_below r t) (children_in (out-Node t)) below in
+    let e = count_out r t in
+    omega (arith, a, b, d, e))
 
 below_at : (roles : ℕ → Role) (ts : List Node) (i : ℕ) (c : Node) (m : ℕ) → slice_get ts i ≡ Some c → m < scope_count (roles i) c
     → get_or (scopes_below (each_in collected roles ts)) (total (each_in scope_count roles (take i ts)) + m) no_name ≡ get_or (collected (roles i) c).scopes m no_name

@@ -1,9 +1,9 @@
 -- What is found among the open scopes.
-use Rattle.std.proofs.Common.{◌≡◌, ℕ, Bool, true, false, Some, List, [], ◌∷◌, refl, sym, ap, ◌∙◌, Bor}
+use Rattle.std.proofs.Common.{◌≡◌, ℕ, Bool, true, false, Some, [], ◌∷◌, refl, Bor}
 use Rattle.swc_tree_node.specs.declared.slot.Scope.{Scope}
 use Rattle.swc_base_resolver.specs.declared.collect.ScopeNames.{ScopeNames}
 use Rattle.swc_base_resolver.specs.Collected.{declared_by}
-use Rattle.swc_base_resolver.specs.declared.env.Env.{Env, out-Env, fold_out-Env, map-Env, the_lemmas}
+use Rattle.swc_base_resolver.specs.declared.env.Env.{Env, out-Env, fold_out-Env}
 use Rattle.swc_base_resolver.specs.declared.env.Env.TheVariants.{In, outs-In}
 use Rattle.swc_base_resolver.specs.declared.env.Env.TheOpen.{Env-F}
 use Rattle.swc_base_resolver.specs.SecondWalk.{Open, found}

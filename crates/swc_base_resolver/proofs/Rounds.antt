@@ -1,9 +1,9 @@
 -- The scopes that are open at a path are those round it, and what is found there is what the scopes say.
-use Rattle.std.proofs.Common.{◌≡◌, ℕ, zero, suc, ◌+◌, Bool, true, false, Option, Some, None, List, [], ◌∷◌, ◌++◌, map, refl, sym, ap, ◌∙◌, subst, rules, arith, cond}
+use Rattle.std.proofs.Common.{◌≡◌, ℕ, ◌+◌, Bool, true, false, Option, Some, None, List, [], ◌∷◌, ◌++◌, map, refl, sym, ap, ◌∙◌, arith, cond}
 use Rattle.std.specs.List.{slice_index_or}
 use Rattle.std.specs.Option.{is_some}
 use Rattle.swc_tree_node.specs.declared.slot.Role.{Role}
-use Rattle.swc_tree_node.specs.declared.node.Node.{Node, out-Node}
+use Rattle.swc_tree_node.specs.declared.node.Node.{Node}
 use Rattle.swc_tree_scoping.specs.Places.{Path, child, role_below, given}
 use Rattle.swc_tree_scoping.specs.Scopes.{opened, scope_at, itself, scopes_round, first_that}
 use Rattle.swc_tree_scoping.specs.Resolved.{mark_in}
@@ -28,6 +28,7 @@ module _ (ss : Scopes) where
     where
       down : number r t (i ∷ s) ≡ before r t i + number (role_below r t i) c s
       down = ap (λ o. before r t i + given o 0 (λ c. number (role_below r t i) c s)) h
+
       shift : n + number r t (i ∷ s) ≡ n + before r t i + number (role_below r t i) c s
       shift = omega (arith, down)
 
@@ -40,11 +41,11 @@ module _ (ss : Scopes) where
       at : (o : Option Node) → child t i ≡ o
           → ((c : Node) → open_round ss (entered ss env n r t) (n + before r t i) (role_below r t i) c p ≡ map (open_at ss (n + before r t i) (role_below r t i) c) (scopes_round (role_below r t i) c p) ++ entered ss env n r t)
           → given o (entered ss env n r t) (λ c. open_round ss (entered ss env n r t) (n + before r t i) (role_below r t i) c p)
-            ≡ map (open_at ss n r t) (map (λ s. i ∷ s) (given o [] (λ c. scopes_round (role_below r t i) c p))) ++ entered ss env n r t
+          ≡ map (open_at ss n r t) (map (λ s. i ∷ s) (given o [] (λ c. scopes_round (role_below r t i) c p))) ++ entered ss env n r t
       at None h below = refl
       at (Some c) h below =
           below c ∙ ap (λ l. l ++ entered ss env n r t)
-            (ap (λ f. map f (scopes_round (role_below r t i) c p)) (λ j s. sym (open_under n r t c i s h) j) ∙ sym (map_map (open_at ss n r t) (λ s. i ∷ s) (scopes_round (role_below r t i) c p)))
+          (ap (λ f. map f (scopes_round (role_below r t i) c p)) (λ j s. sym (open_under n r t c i s h) j) ∙ sym (map_map (open_at ss n r t) (λ s. i ∷ s) (scopes_round (role_below r t i) c p)))
 
 -- the mark of the first that passes a test
 pub found_first : (free : ℕ) (f : Open → Bool) (g : Path → Open) (ss : List Path) → found free f (map g ss ++ []) ≡ mark_in (λ s. (g s).mark) free (first_that (λ s. f (g s)) ss)

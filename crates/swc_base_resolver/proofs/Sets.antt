@@ -1,5 +1,5 @@
 -- Laws of sets of names.
-use Rattle.std.proofs.Common.{◌≡◌, ℕ, Bool, true, false, ◌||◌, ◌&&◌, List, refl, sym, ap, ◌∙◌, cond}
+use Rattle.std.proofs.Common.{◌≡◌, ℕ, Bool, true, false, ◌||◌, List, refl, ap, ◌∙◌, cond}
 use Rattle.std.specs.Str.{bytes_eq}
 use Rattle.swc_base_resolver.specs.Names.{NameTest, no_name, one_more, either}
 

@@ -1,5 +1,5 @@
 -- What the two walks write is right by the scopes.
-use Rattle.std.proofs.Common.{◌≡◌, ◌≢◌, ℕ, zero, suc, ◌+◌, ◌-◌, ◌<◌, ◌≤◌, Bool, true, false, IsTrue, ◌⊎◌, ◌↔◌, inl, inr, ⊎_elim, Option, Some, None, List, [], ◌∷◌, ◌++◌, map, length, get_or, Contains, refl, sym, ap, ◌∙◌, subst, rules, arith, cond}
+use Rattle.std.proofs.Common.{◌≡◌, ◌≢◌, ℕ, zero, suc, ◌+◌, ◌-◌, ◌<◌, true, IsTrue, ◌⊎◌, ◌↔◌, inl, inr, ⊎_elim, Option, Some, List, [], ◌∷◌, ◌++◌, map, length, get_or, Contains, refl, sym, ap, ◌∙◌, subst, arith}
 use Rattle.std.specs.List.{slice_index_or, range_with_len}
 use Rattle.std.specs.Option.{is_some}
 use Rattle.std.proofs.lemmas.List.{length-map, get_or-map}
@@ -17,14 +17,13 @@ use Rattle.swc_tree_node.specs.declared.slot.Scope.TheVariants as scope
 use Rattle.swc_tree_node.specs.declared.node.Node.{Node, Identifier, out-Node}
 use Rattle.swc_tree_node.specs.declared.node.Node.TheVariants.{outs-Identifier}
 use Rattle.swc_tree_scoping.specs.Places.{Path, place_at}
-use Rattle.swc_tree_scoping.specs.Scopes.{opened, scope_at, scope_count, scopes_round, is_binding, is_taken, one_if, declaring, Declares, First, Means}
+use Rattle.swc_tree_scoping.specs.Scopes.{opened, scope_count, scopes_round, is_binding, is_taken, one_if, Declares}
 use Rattle.swc_tree_scoping.specs.Resolved.{remarked, mark_in, HasDeclaringMark, HasContext, Resolved}
-use Rattle.swc_tree_scoping.proofs.First.{Each, Each-map, first_holds, round_opens, program_declares}
+use Rattle.swc_tree_scoping.proofs.First.{Each-map, first_holds, round_opens, program_declares}
 use Rattle.swc_base_resolver.specs.Names.{no_name}
 use Rattle.swc_base_resolver.specs.Collected.{collected}
-use Rattle.swc_base_resolver.specs.DeclaredAt.{declared_at}
 use Rattle.swc_base_resolver.specs.SecondWalk.{Scopes, Open, marks_from, number, open_at, open_round, found, fresh_context, kept_or, context_of, context_in, context_at, written}
-use Rattle.swc_base_resolver.specs.Marked.{IsMark, OnlyContexts}
+use Rattle.swc_base_resolver.specs.Marked.{IsMark}
 use Rattle.swc_base_resolver.proofs.Declares.{names_declared}
 use Rattle.swc_base_resolver.proofs.Numbers.{OpensAt, number_less, one_number, scope_numbered, names_at_number}
 use Rattle.swc_base_resolver.proofs.Rounds.{rounds_are, found_first}
@@ -108,10 +107,12 @@ module _ (ss : Scopes) (unresolved : ℕ) (t : Node) where
         subst (λ f. IsTrue (f x) ↔ Declares t s x) (sym same) (names_declared t s x)
 
     meant : (p : Path) (x : List ℕ) → HasContext mark unresolved t p x role.Reference (found unresolved (λ o. o.names x) (round p) ∷ [])
-    meant p x =
-        (_, first_holds (λ s. Declares t s x) (λ s. (open_at ss 0 role.Plain t s).names x) (scopes_round role.Plain t p)
-              (Each-map (OpensAt role.Plain t) (λ s. IsTrue ((open_at ss 0 role.Plain t s).names x) ↔ Declares t s x) (λ s o. names_are s x o) (scopes_round role.Plain t p) (round_opens p role.Plain t)),
-          ap (λ m. m ∷ []) (found_first unresolved (λ o. o.names x) (open_at ss 0 role.Plain t) (scopes_round role.Plain t p)))
+    meant p x = (
+      _,
+      first_holds (λ s. Declares t s x) (λ s. (open_at ss 0 role.Plain t s).names x) (scopes_round role.Plain t p)
+          (Each-map (OpensAt role.Plain t) (λ s. IsTrue ((open_at ss 0 role.Plain t s).names x) ↔ Declares t s x) (λ s o. names_are s x o) (scopes_round role.Plain t p) (round_opens p role.Plain t)),
+      ap (λ m. m ∷ []) (found_first unresolved (λ o. o.names x) (open_at ss 0 role.Plain t) (scopes_round role.Plain t p)),
+    )
 
     declared : (p : Path) (r : Role) (d : Node) → is_binding r ≡ true → place_at role.Plain t p ≡ Some (r, d) → HasDeclaringMark mark t p r (found unresolved (λ o. is_taken r o.scope) (round p) ∷ [])
     declared p r d b h =
@@ -173,9 +174,12 @@ module _ (ss : Scopes) (unresolved : ℕ) (t : Node) where
 
       given_to : (m k : ℕ) → k < scope_count role.Plain t - 1 → m ≡ first + k → GivenTo m
       given_to m k l e =
-          let (s, o, n) = scope_numbered t role.Plain (suc k) (omega (arith, l)) in
-          (s, o, (λ root. let zero_is : number role.Plain t s ≡ 0 = ap (number role.Plain t) root in omega (arith, n, zero_is)),
-            (let some : 0 < number role.Plain t s = omega (arith, n) in let at = later_mark top first (number role.Plain t s) some in let is = mark_is s o in omega (arith, n, e, at, is)))
+          let (s, o, n) = scope_numbered t role.Plain (suc k) (omega (arith, l)) in (
+            s,
+            o,
+            (λ root. let zero_is : number role.Plain t s ≡ 0 = ap (number role.Plain t) root in omega (arith, n, zero_is)),
+            (let some : 0 < number role.Plain t s = omega (arith, n) in let at = later_mark top first (number role.Plain t s) some in let is = mark_is s o in omega (arith, n, e, at, is)),
+          )
 
       in_row : (m : ℕ) (s : Path) → OpensAt role.Plain t s → s ≢ [] → mark s ≡ m → Contains (fresh_rows top first (scope_count role.Plain t - 1)) (m, top)
       in_row m s o ne e =
@@ -192,11 +196,12 @@ module _ (ss : Scopes) (unresolved : ℕ) (t : Node) where
           forth : Contains new (m, parent) → Contains old (m, parent) ⊎ ((parent ≡ top) × GivenTo m)
           forth h = ⊎_elim inl (λ a. let (k, l, e, f) = from_rows top first (scope_count role.Plain t - 1) m parent a in inr (f, given_to m k l e))
               (Contains-append_cases old (fresh_rows top first (scope_count role.Plain t - 1)) (m, parent) (subst (λ l. Contains l (m, parent)) rows h))
+
           back : Contains old (m, parent) ⊎ ((parent ≡ top) × GivenTo m) → Contains new (m, parent)
           back (inl h) = subst (λ l. Contains l (m, parent)) (sym rows) (Contains-append_left old (fresh_rows top first (scope_count role.Plain t - 1)) (m, parent) h)
           back (inr (f, (s, o, ne, e))) =
               subst (λ l. Contains l (m, parent)) (sym rows) (Contains-append_right old (fresh_rows top first (scope_count role.Plain t - 1)) (m, parent)
-                (subst (λ q. Contains (fresh_rows top first (scope_count role.Plain t - 1)) (m, q)) (sym f) (in_row m s o ne e)))
+              (subst (λ q. Contains (fresh_rows top first (scope_count role.Plain t - 1)) (m, q)) (sym f) (in_row m s o ne e)))
 
       pub resolves : (answer : Node) → answer ≡ remarked (written ss unresolved [] 0 role.Plain t) t → Resolved unresolved top old new t answer
       resolves answer e = record {

@@ -1,22 +1,20 @@
 -- What the second walk leaves of a node, form by form.
-use Rattle.std.proofs.Common.{◌≡◌, ℕ, zero, suc, ◌+◌, ◌<◌, ◌≤◌, ◌==◌, Bool, true, false, Option, Some, None, List, [], ◌∷◌, ◌++◌, map, take, drop, length, get_or, refl, sym, ap, ◌∙◌, subst, rules, arith, add-one}
+use Rattle.std.proofs.Common.{◌≡◌, ℕ, zero, suc, ◌+◌, ◌<◌, ◌≤◌, Option, Some, None, List, [], ◌∷◌, ◌++◌, map, take, drop, length, get_or, refl, sym, ap, ◌∙◌, arith, add-one}
 use denote.Param.Weighed.{most}
 use Rattle.std.specs.List.{slice_get, slice_set, slice_index_or}
 use Rattle.std.specs.Option.{is_some}
-use Rattle.swc_tree_marks.specs.declared.ident.Ident.{Ident}
 use Rattle.swc_tree_node.specs.declared.kind.Kind.{Kind}
 use Rattle.swc_tree_node.specs.declared.slot.Role.{Role}
 use Rattle.swc_tree_node.specs.declared.slot.Scope.{Scope}
-use Rattle.swc_tree_node.specs.declared.node.Node.{Node, Identifier, List as Many, Tree, out-Node}
-use Rattle.swc_tree_node.specs.declared.node.Node.TheOpen.{Node-F}
-use Rattle.swc_tree_node.specs.declared.node.Node.TheVariants.{outs-Identifier, outs-List, outs-Tree}
+use Rattle.swc_tree_node.specs.declared.node.Node.{Node, List as Many, Tree, out-Node}
+use Rattle.swc_tree_node.specs.declared.node.Node.TheVariants.{outs-List, outs-Tree}
 use Rattle.swc_tree_scoping.specs.Places.{Path, children_in, child, role_below, given, place_at}
 use Rattle.swc_tree_scoping.specs.Folds.{each_in}
 use Rattle.swc_tree_scoping.specs.Scopes.{opened, opened_in, opened_as, itself, one_if, total, scope_count}
 use Rattle.swc_tree_scoping.specs.Resolved.{Contexts, remarked}
-use Rattle.swc_tree_scoping.proofs.Remarked.{each_remarked, remarked-List, remarked-Tree, remarked-Identifier}
-use Rattle.swc_base_resolver.specs.Names.{NameTest, no_name}
-use Rattle.swc_base_resolver.specs.SecondWalk.{Scopes, Open, before, open_at, entered, open_round, context_at, context_of, written, walked}
+use Rattle.swc_tree_scoping.proofs.Remarked.{each_remarked, remarked-List, remarked-Tree}
+use Rattle.swc_base_resolver.specs.Names.{no_name}
+use Rattle.swc_base_resolver.specs.SecondWalk.{Scopes, Open, before, open_at, entered, open_round, context_at, written, walked}
 use Rattle.swc_base_resolver.proofs.Counted.{total_next}
 
 module _ (ss : Scopes) (free : ℕ) where
@@ -27,7 +25,7 @@ module _ (ss : Scopes) (free : ℕ) where
   each_walked env (t ∷ ts) m roles n h =
       let first : m zero ≡ written ss free env n (roles zero) t = h zero t refl ∙ ap (λ z. written ss free env z (roles zero) t) (omega arith) in
       let rest = each_walked env ts (λ i. m (suc i)) (λ i. roles (suc i)) (n + scope_count (roles zero) t)
-          (λ i c g. h (suc i) c g ∙ ap (λ z. written ss free env z (roles (suc i)) c) (omega arith)) in
+      (λ i c g. h (suc i) c g ∙ ap (λ z. written ss free env z (roles (suc i)) c) (omega arith)) in
       ap (λ q. remarked q t ∷ each_remarked (λ i. m (suc i)) ts) first ∙ ap (λ l. remarked (written ss free env n (roles zero) t) t ∷ l) rest
 
   pub written_under : (env : List Open) (n : ℕ) (r : Role) (t c : Node) (i : ℕ) → child t i ≡ Some c
@@ -38,7 +36,7 @@ module _ (ss : Scopes) (free : ℕ) where
   -- the children of a node
   children_walked : (env : List Open) (n : ℕ) (r : Role) (t : Node)
       → each_remarked (λ i p. written ss free env n r t (i ∷ p)) (children_in (out-Node t))
-        ≡ walked ss free (entered ss env n r t) (n + one_if (is_some (opened r t))) (role_below r t) (children_in (out-Node t))
+      ≡ walked ss free (entered ss env n r t) (n + one_if (is_some (opened r t))) (role_below r t) (children_in (out-Node t))
   children_walked env n r t = each_walked (entered ss env n r t) (children_in (out-Node t)) (λ i p. written ss free env n r t (i ∷ p)) (role_below r t) (n + one_if (is_some (opened r t)))
       (λ i c h. (λ j p. written_under env n r t c i h p j) ∙ ap (λ z. written ss free (entered ss env n r t) z (role_below r t i) c) (omega arith))
 
@@ -47,8 +45,8 @@ module _ (ss : Scopes) (free : ℕ) where
     list_done rs is e h =
         let start : n ≡ n + 0 = omega arith in
         ap (λ l. Many l) (h ∙ ap (λ z. walked ss free env z roles ts) start ∙ ap (λ roles. walked ss free env (n + 0) roles ts) (e ∙ ap (role_below r) (sym is))
-          ∙ sym (ap (λ y. walked ss free (map (open_at ss n r t) (itself (is_some (opened_in r y))) ++ env) (n + one_if (is_some (opened_in r y))) (role_below r t) (children_in y)) (ap out-Node is ∙ outs-List ts))
-          ∙ sym (children_walked env n r t) ∙ ap (λ y. each_remarked (λ i p. written ss free env n r t (i ∷ p)) (children_in y)) (ap out-Node is ∙ outs-List ts))
+        ∙ sym (ap (λ y. walked ss free (map (open_at ss n r t) (itself (is_some (opened_in r y))) ++ env) (n + one_if (is_some (opened_in r y))) (role_below r t) (children_in y)) (ap out-Node is ∙ outs-List ts))
+        ∙ sym (children_walked env n r t) ∙ ap (λ y. each_remarked (λ i p. written ss free env n r t (i ∷ p)) (children_in y)) (ap out-Node is ∙ outs-List ts))
         ∙ sym (remarked-List (written ss free env n r t) ts) ∙ ap (remarked (written ss free env n r t)) (sym is)
 
     module _ (k : Kind) (is : t ≡ Tree k ts) (e : roles ≡ role_below r (Tree k ts)) (o : Option Scope) (opens : o ≡ opened_as r k) where
@@ -56,10 +54,10 @@ module _ (ss : Scopes) (free : ℕ) where
           → rs ≡ walked ss free inner m roles ts → Tree k rs ≡ remarked (written ss free env n r t) t
       tree_done inner m rs i s h =
           ap (λ l. Tree k l) (h ∙ ap (λ inner. walked ss free inner m roles ts) i ∙ ap (λ z. walked ss free (map (open_at ss n r t) (itself (is_some o)) ++ env) z roles ts) s
-            ∙ ap (λ o. walked ss free (map (open_at ss n r t) (itself (is_some o)) ++ env) (n + one_if (is_some o)) roles ts) opens
-            ∙ ap (λ roles. walked ss free (map (open_at ss n r t) (itself (is_some (opened_as r k))) ++ env) (n + one_if (is_some (opened_as r k))) roles ts) (e ∙ ap (role_below r) (sym is))
-            ∙ sym (ap (λ y. walked ss free (map (open_at ss n r t) (itself (is_some (opened_in r y))) ++ env) (n + one_if (is_some (opened_in r y))) (role_below r t) (children_in y)) (ap out-Node is ∙ outs-Tree k ts))
-            ∙ sym (children_walked env n r t) ∙ ap (λ y. each_remarked (λ i p. written ss free env n r t (i ∷ p)) (children_in y)) (ap out-Node is ∙ outs-Tree k ts))
+          ∙ ap (λ o. walked ss free (map (open_at ss n r t) (itself (is_some o)) ++ env) (n + one_if (is_some o)) roles ts) opens
+          ∙ ap (λ roles. walked ss free (map (open_at ss n r t) (itself (is_some (opened_as r k))) ++ env) (n + one_if (is_some (opened_as r k))) roles ts) (e ∙ ap (role_below r) (sym is))
+          ∙ sym (ap (λ y. walked ss free (map (open_at ss n r t) (itself (is_some (opened_in r y))) ++ env) (n + one_if (is_some (opened_in r y))) (role_below r t) (children_in y)) (ap out-Node is ∙ outs-Tree k ts))
+          ∙ sym (children_walked env n r t) ∙ ap (λ y. each_remarked (λ i p. written ss free env n r t (i ∷ p)) (children_in y)) (ap out-Node is ∙ outs-Tree k ts))
           ∙ sym (remarked-Tree (written ss free env n r t) k ts) ∙ ap (remarked (written ss free env n r t)) (sym is)
 
     module _ (k : Kind) (is : t ≡ Tree k ts) (e : roles ≡ role_below r (Tree k ts)) where
@@ -72,6 +70,7 @@ module _ (ss : Scopes) (free : ℕ) where
         where
           start : n ≡ n + 0
           start = omega arith
+
           own : o ≡ open_at ss n r t []
           own = ap (λ z. record { scope = z; mark = o.mark; names = o.names }) (is_scope ∙ opens ∙ ap (opened_in r) (sym (ap out-Node is ∙ outs-Tree k ts)))
               ∙ ap (λ m. record { scope = opened r t; mark = m; names = o.names }) (is_mark ∙ ap (λ n. slice_index_or ss.marks n 0) start)

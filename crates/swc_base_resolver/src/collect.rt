@@ -45,7 +45,14 @@ pub fn scopes_of(alloc: Global, tree: &Node) -> Result<Vec<ScopeNames>, AllocErr
     let mut scopes = Vec::new(alloc);
     let mut lexical = Names::new(alloc);
     let mut variables = Names::new(alloc);
-    collect(alloc, tree, Role::Plain, &mut lexical, &mut variables, &mut scopes)?;
+    collect(
+        alloc,
+        tree,
+        Role::Plain,
+        &mut lexical,
+        &mut variables,
+        &mut scopes,
+    )?;
     Ok(scopes)
 }
 
@@ -70,7 +77,14 @@ fn collect(
         }
         Node::List(items) => {
             let items = items.as_slice();
-            collect_children(alloc, items, roles_of_items(role, items), lexical, variables, scopes)?;
+            collect_children(
+                alloc,
+                items,
+                roles_of_items(role, items),
+                lexical,
+                variables,
+                scopes,
+            )?;
             Ok(())
         }
         Node::Tree(kind, fields) => {
@@ -114,7 +128,14 @@ fn collect_scope(
             Ok(())
         }
         Scope::Program | Scope::Function => {
-            collect_children(alloc, fields, roles, &mut own.lexical, &mut own.variables, scopes)?;
+            collect_children(
+                alloc,
+                fields,
+                roles,
+                &mut own.lexical,
+                &mut own.variables,
+                scopes,
+            )?;
             scopes[place] = own;
             Ok(())
         }
@@ -141,7 +162,13 @@ fn collect_children(
 }
 
 // Adds the name of an identifier that binds it and that no pass has marked.
-fn bind(alloc: Global, ident: &Ident, role: Role, lexical: &mut Names, variables: &mut Names) -> Result<(), AllocError>
+fn bind(
+    alloc: Global,
+    ident: &Ident,
+    role: Role,
+    lexical: &mut Names,
+    variables: &mut Names,
+) -> Result<(), AllocError>
     ensures lexical { OnOk result (members lexical.new ≡ either (members lexical.old) (identifier_binds role Role.Lexical ident.now)) }
     ensures variables { OnOk result (members variables.new ≡ either (members variables.old) (identifier_binds role Role.Variable ident.now)) }
 {

@@ -16,7 +16,8 @@ pub enum Env<'a> {
     In(Scope, Mark, &'a ScopeNames, &'a Env<'a>),
 }
 
-/// The mark of the innermost scope that declares the name, else `unresolved`. It costs one look-up a scope.
+/// The mark of the innermost scope that declares the name, else `unresolved`. It costs two look-ups a scope, at
+/// most.
 #[tactic(auto, using(crate::proofs::Open::found_top, crate::proofs::Open::found_here, crate::proofs::Open::found_outer))]
 pub fn mark_of_name(env: &Env, name: &str, unresolved: Mark) -> Mark
     ensures { result ≡ found unresolved (λ o. o.names name.now) (layers env.now) }

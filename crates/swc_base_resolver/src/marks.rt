@@ -15,7 +15,12 @@ pub fn marks_ok(globals: &Globals, unresolved: Mark, top: Mark) -> bool
 }
 
 /// The marks of so many scopes: the top mark, and after it fresh ones under it.
-pub fn marks_of(alloc: Global, globals: &mut Globals, top: Mark, count: usize) -> Result<Vec<Mark>, PassError>
+pub fn marks_of(
+    alloc: Global,
+    globals: &mut Globals,
+    top: Mark,
+    count: usize,
+) -> Result<Vec<Mark>, PassError>
     ensures marks { IfOk result (λ marks. marks.items ≡ marks_from top (greatest globals.old + 1) count) }
     ensures table { IfOk result (λ _. globals.new ≡ with_fresh_marks globals.old top (count - 1)) }
     ensures gained { (fresh : ℕ) × (fresh ≤ count - 1) × (globals.new ≡ with_fresh_marks globals.old top fresh) }

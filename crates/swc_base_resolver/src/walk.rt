@@ -72,7 +72,9 @@ fn resolve(
                 Some(scope) => {
                     let inner = Env::In(scope, table.marks[*next], &table.names[*next], &*env);
                     *next += 1;
-                    let fields = resolve_children(fields, roles, &*table, &inner, unresolved, next)?;
+                    let fields = resolve_children(
+                        fields, roles, &*table, &inner, unresolved, next,
+                    )?;
                     Ok(Node::Tree(kind, fields))
                 }
                 None => {
@@ -108,7 +110,12 @@ fn resolve_children(
 }
 
 // Writes the context of an identifier that has none.
-fn mark_identifier(ident: &mut Ident, role: Role, env: &Env, unresolved: Mark) -> Result<(), AllocError>
+fn mark_identifier(
+    ident: &mut Ident,
+    role: Role,
+    env: &Env,
+    unresolved: Mark,
+) -> Result<(), AllocError>
     ensures { OnOk result (ident.new ≡ record ident.old { ctxt = context_of unresolved role (layers env.now) ident.old }) }
 {
     if !ident.ctxt.marks().is_empty() {

@@ -1,5 +1,5 @@
 -- The roles below a node are those that the code keeps.
-use Rattle.std.proofs.Common.{◌≡◌, ℕ, zero, suc, ◌+◌, ◌<◌, Option, Some, None, List, [], ◌∷◌, map, length, get_or, drop, refl, sym, ap, ◌∙◌, rules, arith, drop-cons, add-one}
+use Rattle.std.proofs.Common.{◌≡◌, ℕ, zero, suc, ◌+◌, Option, Some, None, List, [], ◌∷◌, map, drop, sym, ap, ◌∙◌, add-one}
 use Rattle.std.specs.List.{slice_get}
 use Rattle.std.specs.Option.{option_map, unwrap_or}
 use Rattle.std.proofs.lemmas.Option.{slice_get-map}
@@ -13,7 +13,7 @@ use Rattle.swc_tree_node.specs.declared.node.Node.{Node, List as Many, Tree, out
 use Rattle.swc_tree_node.specs.declared.node.Node.TheVariants.{outs-List, outs-Tree}
 use Rattle.swc_tree_node.specs.declared.node.Node.TheOpen.{Node-F}
 use Rattle.swc_tree_node.specs.Table.{fields_of}
-use Rattle.swc_tree_scoping.specs.Places.{field_role, role_of_word, word_in, role_below, role_in, role_by_keyword, word_of, words_below, children_in}
+use Rattle.swc_tree_scoping.specs.Places.{field_role, role_of_word, word_in, role_below, role_in, role_by_keyword, word_of, children_in}
 use Rattle.swc_tree_scoping.specs.declared.below.RolesBelow.TheVariants as below
 use Rattle.swc_tree_scoping.specs.RolesBelow.{role_at}
 

@@ -1,11 +1,11 @@
 -- The first of a list of paths with a property, and that what binds in a program is declared in it.
-use Rattle.std.proofs.Common.{◌≡◌, ℕ, zero, suc, Bool, true, false, ◌&&◌, IsTrue, ◌⊎◌, ◌↔◌, inl, inr, Option, Some, None, List, [], ◌∷◌, ◌++◌, map, refl, sym, ap, ◌∙◌, subst, rules, arith, cond}
+use Rattle.std.proofs.Common.{◌≡◌, ℕ, Bool, true, false, IsTrue, ◌↔◌, inl, inr, Option, Some, None, List, [], ◌∷◌, ◌++◌, map, refl, sym, ap, ◌∙◌, subst, arith, cond}
 use Rattle.std.specs.Option.{is_some}
 use Rattle.swc_tree_node.specs.declared.slot.Role.{Role}
 use Rattle.swc_tree_node.specs.declared.slot.Role.TheVariants as role
 use Rattle.swc_tree_node.specs.declared.slot.Scope.{Scope}
 use Rattle.swc_tree_node.specs.declared.slot.Scope.TheVariants as scope
-use Rattle.swc_tree_node.specs.declared.node.Node.{Node, out-Node}
+use Rattle.swc_tree_node.specs.declared.node.Node.{Node}
 use Rattle.swc_tree_scoping.specs.Places.{Path, child, given, place_at, role_below}
 use Rattle.swc_tree_scoping.specs.Scopes.{is_binding, opened, scope_at, itself, scopes_round, first_that, is_taken, declaring, First}
 use Rattle.swc_tree_scoping.proofs.Under.{declaring_under, no_place_under, scope_under, joined}

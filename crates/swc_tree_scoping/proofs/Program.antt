@@ -1,17 +1,16 @@
 -- What fits the place of a module opens the program's scope.
-use Rattle.std.proofs.Common.{◌≡◌, Bool, true, false, ◌&&◌, IsTrue, Option, Some, None, List, [], ◌∷◌, refl, sym, ap, ◌∙◌, subst, rules, arith}
+use Rattle.std.proofs.Common.{◌≡◌, ◌&&◌, IsTrue, Some, refl, ap, ◌∙◌, subst, arith}
 use Rattle.swc_tree_node.specs.declared.kind.Kind.{Kind}
 use Rattle.swc_tree_node.specs.declared.kind.Kind.TheVariants as kind
 use Rattle.swc_tree_node.specs.declared.kind.Class.TheVariants as class
 use Rattle.swc_tree_node.specs.declared.slot.Role.TheVariants as role
 use Rattle.swc_tree_node.specs.declared.slot.Slot.TheVariants as slot
 use Rattle.swc_tree_node.specs.declared.slot.Content.TheVariants as content
-use Rattle.swc_tree_node.specs.declared.slot.Scope.{Scope}
 use Rattle.swc_tree_node.specs.declared.slot.Scope.TheVariants as scope
 use Rattle.swc_tree_node.specs.declared.node.Node.{Node, out-Node, map-Node, fold_out-Node}
 use Rattle.swc_tree_node.specs.declared.node.Node.TheOpen.{Node-F}
-use Rattle.swc_tree_node.specs.Table.{scope_of, slots_of, is_identifier}
-use Rattle.swc_tree_node.specs.Fits.{belongs, each_fits, fits, Fits, Test, fit_step}
+use Rattle.swc_tree_node.specs.Table.{scope_of, is_identifier}
+use Rattle.swc_tree_node.specs.Fits.{belongs, fits, Fits, Test, fit_step}
 use Rattle.swc_tree_node.proofs.Fit.{both}
 use Rattle.swc_tree_scoping.specs.Scopes.{opened, opened_in}
 
@@ -27,6 +26,7 @@ module_opens t h = at (out-Node t) refl
   where
     layer : (y : Node-F Node) → out-Node t ≡ y → IsTrue (fit_step (map-Node Node Test fits y) (slot.One (content.Node class.Module)))
     layer y o = subst (λ (f : Test). IsTrue (f (slot.One (content.Node class.Module)))) (fold_out-Node Test fit_step t ∙ ap (λ y. fit_step (map-Node Node Test fits y)) o) h
+
     at : (y : Node-F Node) → out-Node t ≡ y → opened role.Plain t ≡ Some scope.Program
     at Node-F.Absent o = let q = layer Node-F.Absent o in absurd (grind arith)
     at (Node-F.Flag x) o = let q = layer (Node-F.Flag x) o in absurd (grind arith)

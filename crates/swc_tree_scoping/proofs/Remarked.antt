@@ -1,17 +1,15 @@
 -- A tree with new contexts: its layer, its places, and that it fits where the tree did.
-use Rattle.std.proofs.Common.{◌≡◌, ℕ, zero, suc, Bool, true, false, not, ◌&&◌, Option, Some, None, List, [], ◌∷◌, map, refl, sym, ap, ◌∙◌, subst, rules, arith}
+use Rattle.std.proofs.Common.{◌≡◌, ℕ, zero, suc, Bool, true, false, Some, List, [], ◌∷◌, map, refl, sym, ap, ◌∙◌}
 use Rattle.std.specs.List.{slice_get}
 use Rattle.swc_tree_marks.specs.declared.ident.Ident.{Ident}
 use Rattle.swc_tree_node.specs.declared.kind.Kind.{Kind}
 use Rattle.swc_tree_node.specs.declared.slot.Slot.{Slot}
-use Rattle.swc_tree_node.specs.declared.slot.Content.{Content}
-use Rattle.swc_tree_node.specs.declared.node.Node.{Node, Absent, Flag, Word, Text, Span, List as Many, Identifier, Tree, out-Node, roll-Node, map-Node, fold-Node, fold_out-Node, out-roll-Node, roll-out-Node}
+use Rattle.swc_tree_node.specs.declared.node.Node.{Node, List as Many, Identifier, Tree, out-Node, roll-Node, map-Node, fold-Node, fold_out-Node, roll-out-Node}
 use Rattle.swc_tree_node.specs.declared.node.Node.TheOpen.{Node-F}
 use Rattle.swc_tree_node.specs.declared.node.Node.TheVariants.{rolls-Absent, rolls-Flag, rolls-Word, rolls-Text, rolls-Span, rolls-List, rolls-Identifier, rolls-Tree, outs-List, outs-Tree, outs-Identifier}
-use Rattle.swc_tree_node.specs.Table.{slots_of}
-use Rattle.swc_tree_node.specs.Fits.{fits, fit_step, Test, all_fit, each_fits, list_fits, tree_fits, single}
+use Rattle.swc_tree_node.specs.Fits.{fits, list_fits, tree_fits, single}
 use Rattle.swc_tree_node.proofs.Fit.{fits-List, fits-Tree, fits-Identifier}
-use Rattle.swc_tree_scoping.specs.Places.{Path, children_in, child}
+use Rattle.swc_tree_scoping.specs.Places.{children_in, child}
 use Rattle.swc_tree_scoping.specs.Resolved.{Contexts, each_child, remark_step, remarked}
 use Rattle.swc_tree_scoping.proofs.Under.{by_children}
 
@@ -87,16 +85,16 @@ alike t below (Node-F.List ts) o c =
     let same : t ≡ Many ts = list_is t ts o in
     let inner = each_alike ts (λ i p. c (i ∷ p)) (λ i d h. below i d (ap (λ y. slice_get (children_in y) i) o ∙ h)) in
     λ j s. (ap (λ t. fits (remarked c t) s) same ∙ ap (λ t. fits t s) (remarked-List c ts) ∙ fits-List (each_remarked (λ i p. c (i ∷ p)) ts) s ∙ ap (λ l. list_fits l s) inner
-      ∙ sym (fits-List ts s) ∙ ap (λ t. fits t s) (sym same)) j
+    ∙ sym (fits-List ts s) ∙ ap (λ t. fits t s) (sym same)) j
 alike t below (Node-F.Identifier k i) o c =
     let same : t ≡ Identifier k i = identifier_is t k i o in
     λ j s. (ap (λ t. fits (remarked c t) s) same ∙ ap (λ t. fits t s) (remarked-Identifier c k i) ∙ fits-Identifier k (record i { ctxt = c [] }) s
-      ∙ sym (fits-Identifier k i s) ∙ ap (λ t. fits t s) (sym same)) j
+    ∙ sym (fits-Identifier k i s) ∙ ap (λ t. fits t s) (sym same)) j
 alike t below (Node-F.Tree k ts) o c =
     let same : t ≡ Tree k ts = tree_is t k ts o in
     let inner = each_alike ts (λ i p. c (i ∷ p)) (λ i d h. below i d (ap (λ y. slice_get (children_in y) i) o ∙ h)) in
     λ j s. (ap (λ t. fits (remarked c t) s) same ∙ ap (λ t. fits t s) (remarked-Tree c k ts) ∙ fits-Tree k (each_remarked (λ i p. c (i ∷ p)) ts) s ∙ ap (λ l. tree_fits k l (single s)) inner
-      ∙ sym (fits-Tree k ts s) ∙ ap (λ t. fits t s) (sym same)) j
+    ∙ sym (fits-Tree k ts s) ∙ ap (λ t. fits t s) (sym same)) j
 alike t below Node-F.Absent o c = ap fits (remarked-leaf c t _ o refl)
 alike t below (Node-F.Flag x) o c = ap fits (remarked-leaf c t _ o refl)
 alike t below (Node-F.Word w) o c = ap fits (remarked-leaf c t _ o refl)

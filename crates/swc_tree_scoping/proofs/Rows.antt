@@ -1,5 +1,5 @@
 -- What the definitions say of two small programs.
-use Rattle.std.proofs.Common.{◌≡◌, ℕ, ◌⊎◌, inl, inr, true, false, Option, Some, None, List, [], ◌∷◌, refl, sym, subst, ◌∙◌, rules, arith}
+use Rattle.std.proofs.Common.{◌≡◌, ℕ, inl, false, Some, None, List, [], ◌∷◌, refl, sym, subst, rules}
 use Rattle.std.specs.Prelude.{codes}
 use Rattle.swc_tree_marks.specs.declared.ident.Ident.{Ident}
 use Rattle.swc_tree_node.specs.declared.kind.Kind.TheVariants as kind
@@ -7,9 +7,9 @@ use Rattle.swc_tree_node.specs.declared.kind.Word.{Word as Word'}
 use Rattle.swc_tree_node.specs.declared.kind.Word.TheVariants as word
 use Rattle.swc_tree_node.specs.declared.slot.Role.TheVariants as role
 use Rattle.swc_tree_node.specs.declared.slot.Scope.TheVariants as scope
-use Rattle.swc_tree_node.specs.declared.node.Node.{Node, Absent, Flag, Word, Text, Span, List as Many, Identifier, Tree, the_lemmas}
+use Rattle.swc_tree_node.specs.declared.node.Node.{Node, Absent, Flag, Word, Span, List as Many, Identifier, Tree, the_lemmas}
 use Rattle.swc_tree_node.specs.declared.node.Node.TheVariants.{outs-Absent, outs-Flag, outs-Span, outs-Word, outs-Identifier, outs-List, outs-Tree}
-use Rattle.swc_tree_scoping.specs.Places.{Path, place_at}
+use Rattle.swc_tree_scoping.specs.Places.{place_at}
 use Rattle.swc_tree_scoping.specs.Scopes.{scope_at, scope_count, scopes_round, declaring, Declares, First, Means}
 
 abbrev here : Node
@@ -87,12 +87,28 @@ inner_scope : declaring role.Plain role.Lexical shadowed (1 ∷ 1 ∷ 1 ∷ 0 �
 inner_scope = simp computed refl
 
 declared_outside : Declares shadowed [] a_
-declared_outside = record { place = 1 ∷ 0 ∷ 2 ∷ 0 ∷ 1 ∷ []; binds_as = role.Lexical; kind = kind.BindingIdent; identifier = unmarked a_;
-  stands = outer_binding; named = refl; unmarked = refl; declared = outer_scope }
+declared_outside = record {
+  place = 1 ∷ 0 ∷ 2 ∷ 0 ∷ 1 ∷ [];
+  binds_as = role.Lexical;
+  kind = kind.BindingIdent;
+  identifier = unmarked a_;
+  stands = outer_binding;
+  named = refl;
+  unmarked = refl;
+  declared = outer_scope;
+}
 
 declared_inside : Declares shadowed (1 ∷ 1 ∷ []) a_
-declared_inside = record { place = 1 ∷ 1 ∷ 1 ∷ 0 ∷ 2 ∷ 0 ∷ 1 ∷ []; binds_as = role.Lexical; kind = kind.BindingIdent; identifier = unmarked a_;
-  stands = inner_binding; named = refl; unmarked = refl; declared = inner_scope }
+declared_inside = record {
+  place = 1 ∷ 1 ∷ 1 ∷ 0 ∷ 2 ∷ 0 ∷ 1 ∷ [];
+  binds_as = role.Lexical;
+  kind = kind.BindingIdent;
+  identifier = unmarked a_;
+  stands = inner_binding;
+  named = refl;
+  unmarked = refl;
+  declared = inner_scope;
+}
 
 -- the reference in the block means the block's name, the last one the program's
 round_inside : scopes_round role.Plain shadowed (1 ∷ 1 ∷ 1 ∷ 1 ∷ 1 ∷ 2 ∷ 0 ∷ 1 ∷ []) ≡ (1 ∷ 1 ∷ []) ∷ [] ∷ []
@@ -144,4 +160,3 @@ block_in_body = simp computed refl
 
 round_in_body : scopes_round role.Plain hoisted (1 ∷ 0 ∷ 1 ∷ 2 ∷ 1 ∷ 1 ∷ 1 ∷ 1 ∷ 1 ∷ []) ≡ (1 ∷ 0 ∷ 1 ∷ 2 ∷ 1 ∷ 1 ∷ []) ∷ (1 ∷ 0 ∷ 1 ∷ []) ∷ [] ∷ []
 round_in_body = simp computed refl
-

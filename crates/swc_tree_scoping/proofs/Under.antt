@@ -1,15 +1,12 @@
 -- A node and its children: induction, folds, and a path from a node down by its first step.
-use Rattle.std.proofs.Common.{◌≡◌, ℕ, zero, suc, ◌+◌, Bool, true, false, ◌&&◌, IsTrue, Option, Some, None, List, [], ◌∷◌, ◌++◌, map, refl, sym, ap, ◌∙◌, subst, rules, arith, cond}
+use Rattle.std.proofs.Common.{◌≡◌, ℕ, zero, suc, Bool, true, false, ◌&&◌, Option, Some, None, List, [], ◌∷◌, ◌++◌, map, refl, sym, ap, ◌∙◌, subst, cond}
 use Rattle.std.specs.List.{slice_get}
 use Rattle.std.specs.Option.{is_some, option_and_then}
-use Rattle.swc_tree_node.specs.declared.kind.Kind.{Kind}
-use Rattle.swc_tree_node.specs.declared.kind.Word.{Word as Word'}
 use Rattle.swc_tree_node.specs.declared.slot.Role.{Role}
-use Rattle.swc_tree_node.specs.declared.slot.Role.TheVariants as role
 use Rattle.swc_tree_node.specs.declared.slot.Scope.{Scope}
-use Rattle.swc_tree_node.specs.declared.node.Node.{Node, out-Node, roll-Node, map-Node, ind-Node, fold-Node, fold_out-Node, out-roll-Node, the_lemmas}
+use Rattle.swc_tree_node.specs.declared.node.Node.{Node, out-Node, roll-Node, map-Node, ind-Node, fold-Node, fold_out-Node, out-roll-Node}
 use Rattle.swc_tree_node.specs.declared.node.Node.TheOpen.{Node-F}
-use Rattle.swc_tree_scoping.specs.Places.{Path, children_in, child, word_in, word_of, role_in, words_below, role_below, given, place_at}
+use Rattle.swc_tree_scoping.specs.Places.{Path, children_in, child, word_in, word_of, role_in, role_below, given, place_at}
 use Rattle.swc_tree_scoping.specs.Folds.{each_in, layer_in, InRole, role_step, fold_in_role}
 use Rattle.swc_tree_scoping.specs.Scopes.{opened_in, opened, scope_at, itself, scopes_round, first_that, is_taken, declaring}
 
@@ -73,7 +70,7 @@ by_children P step t = ind-Node P (λ x all e. subst (λ x. P (roll-Node x)) e (
     below : (y : Node-F (Proved P)) (i : ℕ) (c : Node) → child (roll-Node (map-Node (Proved P) Node (λ e. e.0) y)) i ≡ Some c → P c
     below y i c h =
         let same : children_in (out-Node (roll-Node (map-Node (Proved P) Node (λ e. e.0) y))) ≡ map (λ e. e.0) (children_in y)
-              = ap children_in (out-roll-Node (map-Node (Proved P) Node (λ e. e.0) y)) ∙ children-map (λ e. e.0) y in
+        = ap children_in (out-roll-Node (map-Node (Proved P) Node (λ e. e.0) y)) ∙ children-map (λ e. e.0) y in
         proved_at P (children_in y) i c (ap (λ l. slice_get l i) (sym same) ∙ h)
 
 -- a fold by roles: its step at the node's layer
@@ -88,12 +85,14 @@ pub fold_in_role_out : {A : Type 0} (step : Role → Node-F A → A) (r : Role) 
 fold_in_role_out {A = A} step r t =
     ap (λ c. c.in_role r) (fold_out-Node (InRole A) (role_step step) t)
     ∙ ap (step r) (layer-map (λ q c. c.in_role q) (fold-Node (InRole A) (role_step step)) roles (out-Node t)
-      ∙ ap (λ roles. layer_in (fold_in_role step) roles (out-Node t)) same)
+    ∙ ap (λ roles. layer_in (fold_in_role step) roles (out-Node t)) same)
   where
     layer : Node-F (InRole A)
     layer = map-Node Node (InRole A) (fold-Node (InRole A) (role_step step)) (out-Node t)
+
     roles : ℕ → Role
     roles = role_in r layer (map (λ c. c.word) (children_in layer))
+
     same : roles ≡ role_below r t
     same = ap (λ f. f (map (λ c. c.word) (children_in layer))) (roles-map (fold-Node (InRole A) (role_step step)) r (out-Node t))
         ∙ ap (λ l. role_in r (out-Node t) l) (ap (map (λ c. c.word)) (children-map (fold-Node (InRole A) (role_step step)) (out-Node t)) ∙ words_folded step (children_in (out-Node t)))

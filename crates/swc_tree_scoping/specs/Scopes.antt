@@ -1,13 +1,13 @@
 -- Which scopes stand round a place, what each declares, and what a name means (ECMA-262, 9.1 Environment
 -- Records, 8.2 BoundNames, LexicallyScopedDeclarations and VarScopedDeclarations).
-use Rattle.std.specs.Prelude.{◌≡◌, ℕ, zero, suc, ◌+◌, ◌⊎◌, Bool, true, false, IsTrue, Option, Some, None, is_some, option_and_then, List, [], ◌∷◌, ◌++◌, map, if◌then◌else◌}
+use Rattle.std.specs.Prelude.{◌≡◌, ℕ, ◌+◌, ◌⊎◌, Bool, true, false, IsTrue, Option, Some, None, is_some, option_and_then, List, [], ◌∷◌, ◌++◌, map, if◌then◌else◌}
 use Rattle.swc_tree_marks.specs.declared.ident.Ident.{Ident}
 use Rattle.swc_tree_node.specs.declared.kind.Kind.{Kind}
 use Rattle.swc_tree_node.specs.declared.slot.Role.{Role}
 use Rattle.swc_tree_node.specs.declared.slot.Role.TheVariants as role
 use Rattle.swc_tree_node.specs.declared.slot.Scope.{Scope}
 use Rattle.swc_tree_node.specs.declared.slot.Scope.TheVariants as scope
-use Rattle.swc_tree_node.specs.declared.node.Node.{Node, Identifier, out-Node, fold-Node}
+use Rattle.swc_tree_node.specs.declared.node.Node.{Node, Identifier, out-Node}
 use Rattle.swc_tree_node.specs.declared.node.Node.TheOpen.{Node-F}
 use Rattle.swc_tree_node.specs.Table.{scope_of}
 use Rattle.swc_tree_scoping.specs.Places.{Path, children_in, child, role_below, given, place_at}

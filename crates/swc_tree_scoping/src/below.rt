@@ -22,7 +22,11 @@ impl RolesBelow {
     {
         match self {
             RolesBelow::Items(role) => *role,
-            RolesBelow::Fields(kind, whole, keyword) => in_field(*whole, *keyword, role_of_field(*kind, index)),
+            RolesBelow::Fields(kind, whole, keyword) => in_field(
+                *whole,
+                *keyword,
+                role_of_field(*kind, index),
+            ),
         }
     }
 }

@@ -1,4 +1,4 @@
-use Rattle.std.proofs.Common.{arith, rules, refl, sym, ap, ◌∙◌, ◌≡◌, map, length}
+use Rattle.std.proofs.Common.{arith, refl, sym, ap, ◌∙◌, ◌≡◌, map, length}
 use Rattle.swc_tree_node.specs.declared.slot.Role.TheVariants as role
 use Rattle.swc_tree_node.specs.declared.node.Node.{List as Many, Tree}
 use Rattle.std.specs.List.{slice_set}
@@ -13,52 +13,52 @@ use Rattle.swc_base_resolver.proofs.collect.+collect.Goals as goal
 pub collect-returns-in_ok-bind-in-Identifier-clause-lexical : goal.collect-returns-in_ok-bind-in-Identifier-clause-lexical
 collect-returns-in_ok-bind-in-Identifier-clause-lexical t c =
     identifier_collected c.args.role c.args.node.now role.Lexical _ c.in-Identifier.ident (members c.args.lexical.now) _ c.in-Identifier.is
-      (c.in_ok-bind-in-Identifier.ensures.lexical ∙ ap (λ i. either (members c.args.lexical.now) (identifier_binds c.args.role role.Lexical i)) c.get.ensures)
+    (c.in_ok-bind-in-Identifier.ensures.lexical ∙ ap (λ i. either (members c.args.lexical.now) (identifier_binds c.args.role role.Lexical i)) c.get.ensures)
 
 pub collect-returns-in_ok-bind-in-Identifier-clause-variables : goal.collect-returns-in_ok-bind-in-Identifier-clause-variables
 collect-returns-in_ok-bind-in-Identifier-clause-variables t c =
     identifier_collected c.args.role c.args.node.now role.Variable _ c.in-Identifier.ident (members c.args.variables.now) _ c.in-Identifier.is
-      (c.in_ok-bind-in-Identifier.ensures.variables ∙ ap (λ i. either (members c.args.variables.now) (identifier_binds c.args.role role.Variable i)) c.get.ensures)
+    (c.in_ok-bind-in-Identifier.ensures.variables ∙ ap (λ i. either (members c.args.variables.now) (identifier_binds c.args.role role.Variable i)) c.get.ensures)
 
 pub collect-returns-in_ok-collect_children-in-List-clause-lexical : goal.collect-returns-in_ok-collect_children-in-List-clause-lexical
 collect-returns-in_ok-collect_children-in-List-clause-lexical t c =
     list_collected c.args.role c.args.node.now c.as_slice-items.result.now (role_at c.roles_of_items.result) (c.in-List.is ∙ ap (λ ts. Many ts) (sym c.as_slice-items.ensures)) c.roles_of_items.ensures
-      role.Lexical (members c.args.lexical.now) _ c.in_ok-collect_children-in-List.ensures.lexical
+    role.Lexical (members c.args.lexical.now) _ c.in_ok-collect_children-in-List.ensures.lexical
 
 pub collect-returns-in_ok-collect_children-in-List-clause-variables : goal.collect-returns-in_ok-collect_children-in-List-clause-variables
 collect-returns-in_ok-collect_children-in-List-clause-variables t c =
     list_collected c.args.role c.args.node.now c.as_slice-items.result.now (role_at c.roles_of_items.result) (c.in-List.is ∙ ap (λ ts. Many ts) (sym c.as_slice-items.ensures)) c.roles_of_items.ensures
-      role.Variable (members c.args.variables.now) _ c.in_ok-collect_children-in-List.ensures.variables
+    role.Variable (members c.args.variables.now) _ c.in_ok-collect_children-in-List.ensures.variables
 
 pub collect-returns-in_ok-collect_children-in-List-clause-scopes : goal.collect-returns-in_ok-collect_children-in-List-clause-scopes
 collect-returns-in_ok-collect_children-in-List-clause-scopes t c =
     list_scopes c.args.role c.args.node.now c.as_slice-items.result.now (role_at c.roles_of_items.result) (c.in-List.is ∙ ap (λ ts. Many ts) (sym c.as_slice-items.ensures)) c.roles_of_items.ensures
-      (map declared_by c.args.scopes.now.items) _ c.in_ok-collect_children-in-List.ensures.scopes
+    (map declared_by c.args.scopes.now.items) _ c.in_ok-collect_children-in-List.ensures.scopes
 
 pub collect-returns-in_ok-collect_scope-in-Some-clause-variables : goal.collect-returns-in_ok-collect_scope-in-Some-clause-variables
 collect-returns-in_ok-collect_scope-in-Some-clause-variables t c =
     tree_collected c.args.role c.args.node.now c.as_slice-fields.result.now (role_at c.roles_of_fields-roles.result) c.in-Tree.kind (c.in-Tree.is ∙ ap (λ ts. Tree c.in-Tree.kind ts) (sym c.as_slice-fields.ensures))
-      c.roles_of_fields-roles.ensures _ c.in-Some.ensures role.Variable (members c.args.variables.now) _ c.in_ok-collect_scope-in-Some.ensures.variables
+    c.roles_of_fields-roles.ensures _ c.in-Some.ensures role.Variable (members c.args.variables.now) _ c.in_ok-collect_scope-in-Some.ensures.variables
 
 pub collect-returns-in_ok-collect_scope-in-Some-clause-scopes : goal.collect-returns-in_ok-collect_scope-in-Some-clause-scopes
 collect-returns-in_ok-collect_scope-in-Some-clause-scopes t c =
     tree_scopes c.args.role c.args.node.now c.as_slice-fields.result.now (role_at c.roles_of_fields-roles.result) c.in-Tree.kind (c.in-Tree.is ∙ ap (λ ts. Tree c.in-Tree.kind ts) (sym c.as_slice-fields.ensures))
-      c.roles_of_fields-roles.ensures _ c.in-Some.ensures (map declared_by c.args.scopes.now.items) _ c.in_ok-collect_scope-in-Some.ensures.scopes
+    c.roles_of_fields-roles.ensures _ c.in-Some.ensures (map declared_by c.args.scopes.now.items) _ c.in_ok-collect_scope-in-Some.ensures.scopes
 
 pub collect-returns-in_ok-collect_children-in-None-clause-lexical : goal.collect-returns-in_ok-collect_children-in-None-clause-lexical
 collect-returns-in_ok-collect_children-in-None-clause-lexical t c =
     tree_collected c.args.role c.args.node.now c.as_slice-fields.result.now (role_at c.roles_of_fields-roles.result) c.in-Tree.kind (c.in-Tree.is ∙ ap (λ ts. Tree c.in-Tree.kind ts) (sym c.as_slice-fields.ensures))
-      c.roles_of_fields-roles.ensures _ c.in-None.ensures role.Lexical (members c.args.lexical.now) _ c.in_ok-collect_children-in-None.ensures.lexical
+    c.roles_of_fields-roles.ensures _ c.in-None.ensures role.Lexical (members c.args.lexical.now) _ c.in_ok-collect_children-in-None.ensures.lexical
 
 pub collect-returns-in_ok-collect_children-in-None-clause-variables : goal.collect-returns-in_ok-collect_children-in-None-clause-variables
 collect-returns-in_ok-collect_children-in-None-clause-variables t c =
     tree_collected c.args.role c.args.node.now c.as_slice-fields.result.now (role_at c.roles_of_fields-roles.result) c.in-Tree.kind (c.in-Tree.is ∙ ap (λ ts. Tree c.in-Tree.kind ts) (sym c.as_slice-fields.ensures))
-      c.roles_of_fields-roles.ensures _ c.in-None.ensures role.Variable (members c.args.variables.now) _ c.in_ok-collect_children-in-None.ensures.variables
+    c.roles_of_fields-roles.ensures _ c.in-None.ensures role.Variable (members c.args.variables.now) _ c.in_ok-collect_children-in-None.ensures.variables
 
 pub collect-returns-in_ok-collect_children-in-None-clause-scopes : goal.collect-returns-in_ok-collect_children-in-None-clause-scopes
 collect-returns-in_ok-collect_children-in-None-clause-scopes t c =
     tree_scopes c.args.role c.args.node.now c.as_slice-fields.result.now (role_at c.roles_of_fields-roles.result) c.in-Tree.kind (c.in-Tree.is ∙ ap (λ ts. Tree c.in-Tree.kind ts) (sym c.as_slice-fields.ensures))
-      c.roles_of_fields-roles.ensures _ c.in-None.ensures (map declared_by c.args.scopes.now.items) _ c.in_ok-collect_children-in-None.ensures.scopes
+    c.roles_of_fields-roles.ensures _ c.in-None.ensures (map declared_by c.args.scopes.now.items) _ c.in_ok-collect_children-in-None.ensures.scopes
 
 pub collect_children-loop-i-preserved : goal.collect_children-loop-i-preserved
 collect_children-loop-i-preserved t c =
@@ -88,9 +88,9 @@ collect_scope-returns-in_ok-collect_children-in-Block-clause-scopes t c =
     let below = each_in collected (role_at c.args.roles) c.args.fields.now in
     let last : c.len-place.result ≡ length c.args.scopes.now.items = omega arith in
     scope_placed c.args.scope below c.args.scopes.now.items c.push.new.self.items c.collect_children.new.scopes.items _ c.new.result _
-      c.in_ok-push.ensures.items c.in_ok-collect_children-in-Block.ensures.scopes
-      (ap (λ n. slice_set c.collect_children.new.scopes.items n (record { lexical = c.collect_children.new.lexical; variables = c.new-own.result.variables })) last)
-      (declared_block c.args.scope below _ _ c.in-Block.is (c.in_ok-collect_children-in-Block.ensures.lexical ∙ ap (λ f. either f (children_bind role.Lexical below)) c.new-own.ensures.lexical) c.new-own.ensures.variables)
+    c.in_ok-push.ensures.items c.in_ok-collect_children-in-Block.ensures.scopes
+    (ap (λ n. slice_set c.collect_children.new.scopes.items n (record { lexical = c.collect_children.new.lexical; variables = c.new-own.result.variables })) last)
+    (declared_block c.args.scope below _ _ c.in-Block.is (c.in_ok-collect_children-in-Block.ensures.lexical ∙ ap (λ f. either f (children_bind role.Lexical below)) c.new-own.ensures.lexical) c.new-own.ensures.variables)
 
 pub collect_scope-returns-in_ok-collect_children-in-Program : goal.collect_scope-returns-in_ok-collect_children-in-Program
 collect_scope-returns-in_ok-collect_children-in-Program t c =
@@ -99,8 +99,8 @@ collect_scope-returns-in_ok-collect_children-in-Program t c =
     record {
       variables = passed_no_more c.args.scope (members c.args.variables.now) below c.in-Program.is;
       scopes = scope_placed c.args.scope below c.args.scopes.now.items c.push.new.self.items c.collect_children-in-Program.new.scopes.items _ c.new.result _
-        c.in_ok-push.ensures.items c.in_ok-collect_children-in-Program.ensures.scopes
-        (ap (λ n. slice_set c.collect_children-in-Program.new.scopes.items n (record { lexical = c.collect_children-in-Program.new.lexical; variables = c.collect_children-in-Program.new.variables })) last)
-        (declared_other c.args.scope below _ _ c.in-Program.is (c.in_ok-collect_children-in-Program.ensures.lexical ∙ ap (λ f. either f (children_bind role.Lexical below)) c.new-own.ensures.lexical)
+          c.in_ok-push.ensures.items c.in_ok-collect_children-in-Program.ensures.scopes
+          (ap (λ n. slice_set c.collect_children-in-Program.new.scopes.items n (record { lexical = c.collect_children-in-Program.new.lexical; variables = c.collect_children-in-Program.new.variables })) last)
+          (declared_other c.args.scope below _ _ c.in-Program.is (c.in_ok-collect_children-in-Program.ensures.lexical ∙ ap (λ f. either f (children_bind role.Lexical below)) c.new-own.ensures.lexical)
           (c.in_ok-collect_children-in-Program.ensures.variables ∙ ap (λ f. either f (children_bind role.Variable below)) c.new-own.ensures.variables));
     }

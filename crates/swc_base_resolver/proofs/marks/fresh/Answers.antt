@@ -1,4 +1,4 @@
-use Rattle.std.proofs.Common.{◌≡◌, ap, arith, Err}
+use Rattle.std.proofs.Common.{◌≡◌, ap, Err}
 use Rattle.swc_tree_marks.specs.declared.error.PassError.TheVariants as pass
 use Rattle.swc_tree_marks.proofs.Tables.{Contains-le-greatest}
 use Rattle.swc_base_resolver.proofs.Fresh.{spent_is}

@@ -1,6 +1,6 @@
-use Rattle.std.proofs.Common.{◌≡◌, ◌∙◌, ◌+◌, ◌<◌, ◌≤◌, ap, sym, Err, rules, arith, add-one}
+use Rattle.std.proofs.Common.{◌≡◌, ◌∙◌, ◌+◌, ap, sym, Err, arith}
 use Rattle.swc_tree_marks.specs.declared.error.PassError.TheVariants as pass
-use Rattle.swc_tree_marks.specs.Globals.{greatest, with_fresh, with_fresh_marks}
+use Rattle.swc_tree_marks.specs.Globals.{greatest}
 use Rattle.swc_tree_marks.proofs.Fresh.{greatest-with_fresh_marks}
 use Rattle.swc_base_resolver.proofs.Fresh.{marks_more, fresh_more}
 use Rattle.swc_base_resolver.proofs.marks.marks_of.Goals as goal

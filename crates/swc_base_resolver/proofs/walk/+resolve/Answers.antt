@@ -1,5 +1,4 @@
-use Rattle.std.proofs.Common.{ℕ, arith, rules, refl, sym, ap, ◌≡◌, ◌∙◌, ◌<◌, ◌≤◌, ◌+◌, Some, None, length, length-set, length-append}
-use Rattle.std.specs.List.{slice_get}
+use Rattle.std.proofs.Common.{ℕ, arith, rules, refl, sym, ap, ◌∙◌, ◌<◌, ◌+◌, length, length-set}
 use Rattle.swc_tree_node.specs.declared.node.Node.{Node, List as Many, Tree, the_lemmas}
 use Rattle.swc_tree_scoping.specs.Places.{role_below}
 use Rattle.swc_tree_scoping.specs.Scopes.{scope_count}
@@ -30,7 +29,7 @@ resolve-resolve_children-requires-in-None t c =
 pub resolve-returns-in_ok-items-in-List-clause-answer : goal.resolve-returns-in_ok-items-in-List-clause-answer
 resolve-returns-in_ok-items-in-List-clause-answer t c =
     list_done (scopes_in c.args.table.now) c.args.unresolved (layers c.args.env.now) c.args.next.now c.args.role c.args.node c.in-List.items (role_at c.roles_of_items-roles.result) c.in_ok-items-in-List.items c.in-List.is
-      (c.roles_of_items-roles.ensures ∙ ap (λ ts. role_below c.args.role (Many ts)) c.as_slice.ensures) c.in_ok-items-in-List.ensures.answer
+    (c.roles_of_items-roles.ensures ∙ ap (λ ts. role_below c.args.role (Many ts)) c.as_slice.ensures) c.in_ok-items-in-List.ensures.answer
 
 pub resolve-returns-in_ok-items-in-List-clause-next : goal.resolve-returns-in_ok-items-in-List-clause-next
 resolve-returns-in_ok-items-in-List-clause-next t c =
@@ -40,7 +39,7 @@ resolve-returns-in_ok-items-in-List-clause-next t c =
 pub resolve-returns-in_ok-fields-in-None-clause-answer : goal.resolve-returns-in_ok-fields-in-None-clause-answer
 resolve-returns-in_ok-fields-in-None-clause-answer t c =
     plain_done (scopes_in c.args.table.now) c.args.unresolved (layers c.args.env.now) c.args.next.now c.args.role c.args.node c.in-Tree.fields (role_at c.roles_of_fields-roles.result) c.in-Tree.kind c.in-Tree.is
-      (c.roles_of_fields-roles.ensures ∙ ap (λ ts. role_below c.args.role (Tree c.in-Tree.kind ts)) c.as_slice-in-Tree.ensures) c.in_ok-fields-in-None.fields c.in-None.ensures c.in_ok-fields-in-None.ensures.answer
+    (c.roles_of_fields-roles.ensures ∙ ap (λ ts. role_below c.args.role (Tree c.in-Tree.kind ts)) c.as_slice-in-Tree.ensures) c.in_ok-fields-in-None.fields c.in-None.ensures c.in_ok-fields-in-None.ensures.answer
 
 pub resolve-returns-in_ok-fields-in-None-clause-next : goal.resolve-returns-in_ok-fields-in-None-clause-next
 resolve-returns-in_ok-fields-in-None-clause-next t c =
@@ -58,15 +57,15 @@ resolve-returns-in_ok-fields-in-Some-clause-answer t c =
     let in_marks : c.args.next.now < length c.args.table.now.marks.now = omega (arith, all, c.requires.marks) in
     let in_names : c.args.next.now < length c.args.table.now.names.now = omega (arith, all, c.requires.names) in
     scope_done (scopes_in c.args.table.now) c.args.unresolved (layers c.args.env.now) c.args.next.now c.args.role c.args.node c.in-Tree.fields (role_at c.roles_of_fields-roles.result) c.in-Tree.kind c.in-Tree.is
-      (c.roles_of_fields-roles.ensures ∙ ap (λ ts. role_below c.args.role (Tree c.in-Tree.kind ts)) c.as_slice-in-Tree.ensures)
-      c.in-Some.scope _ _ _ c.in_ok-fields-in-Some.fields c.in_ok-fields-in-Some.ensures.answer (layers_inside _ _ _ _) refl c.in-Some.ensures refl
-      (index_or c.args.table.now.marks.now c.args.next.now _ 0 in_marks)
-      (index_map declared_by c.args.table.now.names.now c.args.next.now _ no_name in_names)
+    (c.roles_of_fields-roles.ensures ∙ ap (λ ts. role_below c.args.role (Tree c.in-Tree.kind ts)) c.as_slice-in-Tree.ensures)
+    c.in-Some.scope _ _ _ c.in_ok-fields-in-Some.fields c.in_ok-fields-in-Some.ensures.answer (layers_inside _ _ _ _) refl c.in-Some.ensures refl
+    (index_or c.args.table.now.marks.now c.args.next.now _ 0 in_marks)
+    (index_map declared_by c.args.table.now.names.now c.args.next.now _ no_name in_names)
 
 pub resolve_children-resolve-requires : goal.resolve_children-resolve-requires
 resolve_children-resolve-requires t c =
     let here = child_is (scopes_in c.args.table.now) c.args.unresolved (layers c.args.env.now) c.args.nodes c.loop-i.nodes (role_at c.args.roles) c.args.next.now c.loop-i.i c.loop-i.next c.replace-node.result
-          (omega arith) c.loop-i.invariant.done c.replace-node.ensures.taken c.loop-i.invariant.count c.at.result c.at.ensures in
+    (omega arith) c.loop-i.invariant.done c.replace-node.ensures.taken c.loop-i.invariant.count c.at.result c.at.ensures in
     let part = total_part (role_at c.args.roles) c.args.nodes c.loop-i.i c.replace-node.result here in
     let same = ap (λ r. scope_count r c.replace-node.result) c.at.ensures in
     let smaller = λ (μ : Node → ℕ). got_at_most μ c.args.nodes c.loop-i.i c.replace-node.result here in

@@ -1,11 +1,9 @@
-use Rattle.std.proofs.Common.{◌≡◌, ℕ, ◌∙◌, ◌+◌, ◌-◌, ◌≤◌, ap, sym, Err, map, length, rules, arith}
+use Rattle.std.proofs.Common.{◌≡◌, ◌∙◌, ◌+◌, ap, sym, Err, map, length, arith}
 use Rattle.swc_tree_marks.specs.declared.error.PassError.TheVariants as pass
 use Rattle.swc_tree_marks.specs.Globals.{greatest}
-use Rattle.swc_tree_node.specs.declared.slot.Role.TheVariants as role
-use Rattle.swc_tree_scoping.specs.Scopes.{scope_count}
 use Rattle.swc_base_resolver.specs.Collected.{declared_by}
-use Rattle.swc_base_resolver.proofs.Program.{listed, marks_length, fits_alike, program_resolved}
-use Rattle.swc_base_resolver.proofs.resolver.resolve_program.Goals as goal
+use Rattle.swc_base_resolver.proofs.Walks.{listed, marks_length, only_contexts, fits_alike, program_resolved}
+use Rattle.swc_base_resolver.proofs.program.resolve_program.Goals as goal
 
 pub returns-in_err-marks-clause-table : goal.returns-in_err-marks-clause-table
 returns-in_err-marks-clause-table c =
@@ -51,4 +49,7 @@ pub returns-clause-resolved : goal.returns-clause-resolved
 returns-clause-resolved c =
     let counted : c.len.result ≡ length c.in_ok-names.names.items = omega arith in
     program_resolved c.args.program c.in_ok-answer.answer c.args.unresolved c.as_slice.result.now c.as_slice-2.result.now c.in_ok-answer.ensures c.args.globals.now c.marks_of.new.globals c.args.top c.len.result
-      (ap (map declared_by) c.as_slice-2.ensures.value ∙ c.in_ok-names.ensures) (counted ∙ ap length (sym c.as_slice-2.ensures.value)) (c.as_slice.ensures.value ∙ c.in_ok-marks.ensures.marks) c.in_ok-marks.ensures.table
+    (ap (map declared_by) c.as_slice-2.ensures.value ∙ c.in_ok-names.ensures) (counted ∙ ap length (sym c.as_slice-2.ensures.value)) (c.as_slice.ensures.value ∙ c.in_ok-marks.ensures.marks) c.in_ok-marks.ensures.table
+
+pub returns-clause-contexts : goal.returns-clause-contexts
+returns-clause-contexts c = only_contexts c.args.program c.in_ok-answer.answer c.args.unresolved c.as_slice.result.now c.as_slice-2.result.now c.in_ok-answer.ensures

@@ -1,4 +1,4 @@
-//! The resolver.
+//! Resolving a program.
 ghost use Rattle.std.specs.Prelude.{◌≡◌, ℕ, ◌+◌, ◌-◌, ◌<◌, ◌≤◌, IfOk, IfErr, IsErrOf};
 ghost use Rattle.swc_tree_marks.specs.Globals.{greatest, with_fresh_marks};
 ghost use Rattle.swc_tree_node.specs.declared.slot.Slot.{Slot as Slot'};
@@ -18,9 +18,9 @@ use swc_tree_node::{Node, Role, Scope};
 /// or means. The program has the top mark, each other scope a fresh one under it, in the order in which they
 /// begin, and a name that no scope declares has the unresolved mark.
 ///
-/// An identifier that has marks keeps them, and declares nothing. The node is changed in place: only contexts
-/// and the names of declarations take memory. Each walk costs time in step with the size of the tree, the second
-/// one a look-up for each identifier and each scope round it.
+/// An identifier that has marks keeps them, and declares nothing. The tree is changed in place: only contexts, the
+/// marks of the scopes and the names that they declare take memory. It costs two walks over the tree, and in the
+/// second one two hashed look-ups, at most, for each reference and each scope round it.
 ///
 /// # Errors
 ///
