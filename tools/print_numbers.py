@@ -14,7 +14,7 @@ NUMBERS = os.path.join(ROOT, 'crates', 'jsbase_form', 'proofs', 'Numbers.antt')
 HEAD = '''-- Kinds and words are told apart by their numbers, and by how they are written.
 --
 -- Printed by tools/print_numbers.py from crates/swc_tree_node/specs/Table.antt.
-use Rattle.std.proofs.Common.{◌≡◌, ℕ, List, [], ◌∷◌, true, Some, slice_index_or, bytes_eq, refl, sym, ap, ◌∙◌}
+use Rattle.std.proofs.Common.{◌≡◌, List, [], ◌∷◌, true, Some, slice_index_or, bytes_eq, refl, sym, ap, ◌∙◌}
 use Rattle.std.specs.List.{find}
 use Rattle.std.proofs.lemmas.Slice.Eq.{bytes_eq-Decides}
 use Rattle.swc_tree_node.specs.declared.kind.Kind.{Kind}
