@@ -119,7 +119,10 @@ mod tests {
             let copy = text.clone()?;
             assert!(rt; copy == text, "{given}");
             assert_eq!(rt; hash_of(&copy), hash_of(&text));
-            assert_eq!(rt; format!(in rt.alloc(); "<{text}>")?.as_str(), format!(in rt.alloc(); "<{given}>")?.as_str());
+            assert_eq!(rt;
+                format!(in rt.alloc(); "<{text}>")?.as_str(),
+                format!(in rt.alloc(); "<{given}>")?.as_str()
+            );
             assert_eq!(rt; Text::from_string(copy.into_string()).as_str(), given);
         }
         assert!(rt; Text::new(rt.alloc(), "a")? != Text::new(rt.alloc(), "b")?);
