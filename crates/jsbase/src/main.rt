@@ -21,10 +21,19 @@ impl From<Fault> for Failure {
     }
 }
 
-// What comes after the program's name; with no name to be had, wrong arguments.
+// A want of memory is a refusal; else what the arguments are is not known, and they count as wrong.
+fn unknown(error: &io::Error) -> Fault {
+    if error.kind() == io::ErrorKind::OutOfMemory {
+        return Fault::Refused(PassError::NoMemory);
+    }
+    Fault::Usage
+}
+
+// What comes after the program's name.
 fn arguments(rt: &HostRuntime) -> Result<Vec<String>, Fault> {
-    let Ok(all) = env::args(rt) else {
-        return Err(Fault::Usage);
+    let all = match env::args(rt) {
+        Ok(all) => all,
+        Err(error) => return Err(unknown(&error)),
     };
     let mut given = Vec::new(rt.alloc());
     for argument in all.skip(1) {

@@ -77,7 +77,7 @@ fn resolve(alloc: Global, envelope: Envelope) -> Result<String, PassError>
         ignore_eval: _,
         tree,
     } = envelope;
-    let mut program = Module::of_node(tree);
+    let mut program = Module::from_node(tree);
     resolver(unresolved, top).visit_mut_module(alloc, &mut globals, &mut program)?;
     let answer = program.into_node(alloc)?;
     let text = write_envelope(alloc, &globals, top, answer, unresolved)?;

@@ -61,7 +61,7 @@ impl JsPass for Resolver {
             self.top_level_mark,
             node,
         )?;
-        *program = Module::of_node(answer);
+        *program = Module::from_node(answer);
         Ok(())
     }
 }
