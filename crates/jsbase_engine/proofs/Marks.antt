@@ -1,6 +1,5 @@
 -- The two marks of an envelope that was read stand in its table.
-use Rattle.std.proofs.Common.{◌≡◌, ◌≢◌, ℕ, List, [], ◌∷◌, Bool, true, false, not, ◌&&◌, ◌||◌, ◌==◌, cond, Ok, Contains, IsTrue, nat_eq, codes, sym, ap, ◌∙◌, subst, rules, arith}
-use Rattle.std.specs.Str.{is_utf8}
+use Rattle.std.proofs.Common.{◌≡◌, ℕ, List, true, not, ◌==◌, Ok, IsTrue, nat_eq, codes, subst, rules, arith}
 use Rattle.std.specs.List.{list_any}
 use Rattle.serde_json.specs.Data.{Data, Members}
 use Rattle.serde_json.specs.Find.{as_object}
@@ -13,7 +12,7 @@ use Rattle.swc_tree_marks.specs.declared.error.PassError.{PassError}
 use Rattle.jsbase_engine.specs.declared.arguments.Command.{Command}
 use Rattle.jsbase_engine.specs.declared.arguments.Command.TheVariants as command
 use Rattle.jsbase_engine.specs.Run.{IsResolved, Does, IsRefusalOf}
-use Rattle.jsbase_form.specs.Reads.{Read, at, found, key}
+use Rattle.jsbase_form.specs.Reads.{at, found, key}
 use Rattle.jsbase_form.specs.Leaves.{is_marked, number_at, marked, mark_at}
 use Rattle.jsbase_form.specs.Tables.{table_at}
 use Rattle.jsbase_form.specs.Trees.{seen, value_of}

@@ -12,7 +12,7 @@ use crate::fault::Fault;
 use jsbase_reader::{Envelope, ReadError, read_bytes};
 use jsbase_writer::write_envelope;
 use std::alloc::Global;
-use swc_base_resolver_pass::resolver;
+use swc_base_resolver::resolver;
 use swc_tree::JsPass;
 use swc_tree_handle::Opened;
 use swc_tree_marks::PassError;

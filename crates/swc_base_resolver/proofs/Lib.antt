@@ -10,3 +10,4 @@ pub mod Fresh
 pub mod Theorem
 pub mod Walks
 pub mod Meant
+pub mod Extended

@@ -1,5 +1,5 @@
 -- What the names of two small programs mean, where it takes that a scope does not declare a name.
-use Rattle.std.proofs.Common.{◌≡◌, ℕ, true, false, ◌⊎◌, inl, inr, Some, None, List, [], ◌∷◌, refl, sym, ap, ◌∙◌, subst, rules, arith}
+use Rattle.std.proofs.Common.{◌≡◌, ℕ, true, false, inl, inr, Some, None, List, [], ◌∷◌, refl, sym, ◌∙◌, subst, rules}
 use Rattle.swc_tree_node.specs.declared.slot.Role.TheVariants as role
 use Rattle.swc_tree_node.specs.declared.node.Node.{Node, the_lemmas}
 use Rattle.swc_tree_node.specs.declared.node.Node.TheVariants.{outs-Absent, outs-Flag, outs-Word, outs-Span, outs-List, outs-Identifier, outs-Tree}

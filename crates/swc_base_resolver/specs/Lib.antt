@@ -4,3 +4,4 @@ pub mod SecondWalk
 pub mod Layers
 pub mod DeclaredAt
 pub mod Marked
+pub mod Visits

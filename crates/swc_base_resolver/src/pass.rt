@@ -1,8 +1,21 @@
 //! The resolver as a pass.
-ghost use Rattle.std.specs.Prelude.{◌≡◌, ◌≢◌};
+ghost use Rattle.std.specs.Prelude.{◌≡◌, ◌≢◌, ◌+◌, ◌-◌, ◌<◌, OnOk, OnErr, IfErr, IsErrOf};
+ghost use Rattle.swc_tree_marks.specs.Globals.{greatest};
+ghost use Rattle.swc_tree_scoping.specs.Scopes.{scope_count};
+ghost use Rattle.swc_tree.specs.Passes.{IsEmptied, IsExtended};
+ghost use Rattle.swc_tree_modules.specs.Nodes.{module_node};
+ghost use Rattle.swc_base_resolver.specs.Marked.{IsRefusal};
+ghost use Rattle.swc_base_resolver.specs.Visits.{Resolves};
 
+use crate::program::resolve_program;
+use std::alloc::Global;
 use std::marker::Model;
-use swc_tree_marks::Mark;
+use std::mem;
+use swc_tree::JsPass;
+use swc_tree_handle::{Opened, Trees};
+use swc_tree_marks::{Globals, Mark, PassError};
+use swc_tree_modules::Module;
+use swc_tree_node::Role;
 
 /// The resolver of programs whose top mark and whose mark of names that nothing declares are these. Contracts see
 /// it as the pair of the two, the unresolved mark first; neither is the root.
@@ -33,5 +46,45 @@ impl Resolver {
             unresolved_mark,
             top_level_mark,
         }
+    }
+}
+
+impl JsPass for Resolver {
+    ghost visits = { Resolves };
+
+    /// Resolves a program. Each run is by itself: nothing is kept from an earlier one.
+    ///
+    /// # Errors
+    ///
+    /// `MarksSpent` only where the table's greatest number plus the number of scopes in the program is above
+    /// 4294967295; `NoMemory`. The program is then empty, with its span and no `#!` line.
+    fn visit_mut_module(
+        &mut self,
+        alloc: Global,
+        globals: &mut Globals,
+        program: &mut Module,
+    ) -> Result<(), PassError>
+        ensures done { OnOk result (Resolves self.old globals.old program.old globals.new program.new) }
+        ensures refused { OnErr result (IsEmptied program.old program.new) }
+        ensures marks { IsExtended globals.old globals.new }
+        ensures refusal { IfErr result IsRefusal }
+        ensures spent { IsErrOf result PassError.MarksSpent → 4294967295 < greatest globals.old + (scope_count Role.Plain (module_node program.old) - 1) }
+    {
+        let empty = Module {
+            span: program.span,
+            body: Trees::new(alloc),
+            shebang: None,
+        };
+        let lent = mem::replace(program, empty);
+        let node = lent.into_node(alloc)?;
+        let answer = resolve_program(
+            alloc,
+            globals,
+            self.unresolved_mark,
+            self.top_level_mark,
+            node,
+        )?;
+        *program = Module::from_node(answer);
+        Ok(())
     }
 }

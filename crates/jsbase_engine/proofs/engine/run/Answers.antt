@@ -1,7 +1,6 @@
-use Rattle.std.proofs.Common.{◌≡◌, inl, inr, ⊎_elim, ap, sym, ◌∙◌, subst}
-use Rattle.std.specs.String.{string_bytes}
+use Rattle.std.proofs.Common.{inl, inr, ⊎_elim, ap, sym, ◌∙◌, subst}
 use Rattle.jsbase_reader.specs.Envelopes.{envelope_in_text}
-use Rattle.jsbase_engine.specs.Run.{Answers, IsResolved}
+use Rattle.jsbase_engine.specs.Run.{IsResolved}
 use Rattle.jsbase_engine.proofs.Marks.{envelope_marks, does, refuses}
 use Rattle.jsbase_engine.proofs.engine.run.Goals as goal
 
