@@ -90,14 +90,16 @@ def identifier_rt(tree, struct):
 def sum_rt(tree, sum_):
     name = sum_.name
     declared = '/// %s\n#[derive(Debug, Drop)]\npub enum %s {\n%s}\n' % (
-        sum_.doc, name, ''.join('    %s(%s),\n' % variant for variant in sum_.variants))
+        sum_.doc, name, ''.join('    %s(%s),\n' % (v.name, 'Tree<class::%s>' % v.member if v.is_subtree else v.member)
+                                for v in sum_.variants))
     arms, seen = '', set()
-    for variant, member in sum_.variants:
-        kinds = [kind for kind in tree.kinds_of(member) if kind not in seen]
+    for variant in sum_.variants:
+        kinds = [kind for kind in tree.kinds_of(variant.member) if kind not in seen]
         seen.update(kinds)
         if kinds:
-            arms += '            %s => %s::%s(tree.narrow::<class::%s>().open()),\n' % (
-                ' | '.join('Kind::' + kind for kind in kinds), name, variant, member)
+            arms += '            %s => %s::%s(tree.narrow%s),\n' % (
+                ' | '.join('Kind::' + kind for kind in kinds), name, variant.name,
+                '()' if variant.is_subtree else '::<class::%s>().open()' % variant.member)
     of_node = '''        let tree = Tree::<class::%s>::of(closed);
         match tree.kind() {
 %s            _ => unreachable!(),
@@ -106,8 +108,9 @@ def sum_rt(tree, sum_):
     into_node = '''        let tree: Tree<class::%s> = match self {
 %s        };
         Ok(tree.into_node())
-''' % (name, ''.join('            %s::%s(opened) => opened.close(alloc)?.widen(),\n' % (name, variant) for variant, _ in sum_.variants))
-    uses = {(owner_of(tree, member), member) for _, member in sum_.variants}
+''' % (name, ''.join('            %s::%s(%s,\n' % (name, v.name, 'tree) => tree.widen()' if v.is_subtree else 'opened) => opened.close(alloc)?.widen()')
+                     for v in sum_.variants))
+    uses = {(owner_of(tree, v.member), v.member) for v in sum_.variants if not v.is_subtree}
     return opened_head(sum_.family, spec_name(tree, name), uses) + declared + opened_impl(sum_, tree, '', of_node, into_node)
 
 
@@ -221,9 +224,9 @@ def struct_spec(tree, struct):
 
 def sum_spec(tree, sum_):
     spec = spec_name(tree, sum_.name)
-    cases = ''.join('%s (%s.%s x) = %s x\n' % (spec, snake(sum_.name), variant, spec_name(tree, member))
-                    for variant, member in sum_.variants)
-    specs = {(spec_module(tree, member), spec_name(tree, member)) for _, member in sum_.variants}
+    cases = ''.join('%s (%s.%s x) = %s\n' % (spec, snake(sum_.name), v.name, 'x' if v.is_subtree else spec_name(tree, v.member) + ' x')
+                    for v in sum_.variants)
+    specs = {(spec_module(tree, v.member), spec_name(tree, v.member)) for v in sum_.variants if not v.is_subtree}
     return '\nabbrev pub %s : %s → Node\n%s' % (spec, sum_.name, cases), specs
 
 
@@ -236,8 +239,8 @@ def words_spec(words):
 def held_by_value(tree, entry):
     """The structs and sums that stand in a struct or sum themselves, and not as a subtree."""
     if entry.name in tree.sums:
-        return [member for _, member in entry.variants]
-    return [field.type for field in entry.fields if tree.is_leaf(field.type) and not field.many]
+        return [variant.member for variant in entry.variants if not variant.is_subtree]
+    return [field.type for field in entry.fields if field.is_single() and tree.is_leaf(field.type)]
 
 
 def in_order(tree, family):

@@ -30,6 +30,9 @@ identifier_opens k i c h = both (is_identifier k) (belongs k c) (rw (← fits-Id
 pub identifier_closes : (k : Kind) (i : Ident) (c : Class) → IsTrue (is_identifier k) → IsTrue (belongs k c) → Fits (Identifier k i) (slot.One (content.Node c))
 identifier_closes k i c h g = rw (fits-Identifier k i (slot.One (content.Node c))) (and_both (is_identifier k) (belongs k c) h g)
 
+pub tree_belongs : (k : Kind) (ts : List Node) (c : Class) → Fits (Tree k ts) (slot.One (content.Node c)) → IsTrue (belongs k c)
+tree_belongs k ts c h = (tree_opens k ts c h).1
+
 pub identifier_moves : (k : Kind) (i : Ident) (c d : Class) → Fits (Identifier k i) (slot.One (content.Node c)) → IsTrue (is_of (Identifier k i) d) → Fits (Identifier k i) (slot.One (content.Node d))
 identifier_moves k i c d h g = identifier_closes k i d (identifier_opens k i c h).0 (rw (← ap (takes d) (kind_of-Identifier k i)) g)
 
@@ -70,17 +73,27 @@ only k l h = same_kind k l (grind arith)
 sole : (k l : Kind) (c : Class) → kinds_of c ≡ l ∷ [] → IsTrue (belongs k c) → k ≡ l
 sole k l c e h = only k l (subst (λ ks. IsTrue (list_any (λ x. kind_number k == kind_number x) ks)) e h)
 
+clash : (b : Bool) → IsTrue b → IsTrue (not b) → ⊥
+clash true h g = absurd (grind arith)
+clash false h g = absurd (grind arith)
+
 pub sole_tree : (k : Kind) (ts : List Node) (c : Class) (l : Kind) → Fits (Tree k ts) (slot.One (content.Node c)) → kinds_of c ≡ l ∷ [] → (k ≡ l) × FieldsFit (slots_of l) ts
 sole_tree k ts c l h e =
     let o = tree_opens k ts c h in
     let s = sole k l c e o.1 in
     (s, subst (λ x. FieldsFit (slots_of x) ts) s o.2)
 
+pub sole_tree_kind : (k : Kind) (ts : List Node) (c : Class) (l : Kind) → Fits (Tree k ts) (slot.One (content.Node c)) → kinds_of c ≡ l ∷ [] → k ≡ l
+sole_tree_kind k ts c l h e = (sole_tree k ts c l h e).0
+
 pub sole_identifier : (k : Kind) (i : Ident) (c : Class) (l : Kind) → Fits (Identifier k i) (slot.One (content.Node c)) → kinds_of c ≡ l ∷ [] → (k ≡ l) × IsTrue (is_identifier l)
 sole_identifier k i c l h e =
     let o = identifier_opens k i c h in
     let s = sole k l c e o.1 in
     (s, subst (λ x. IsTrue (is_identifier x)) s o.0)
+
+pub sole_unnamed : (k : Kind) (i : Ident) (c : Class) (l : Kind) → Fits (Identifier k i) (slot.One (content.Node c)) → kinds_of c ≡ l ∷ [] → IsTrue (not (is_identifier l)) → ⊥
+sole_unnamed k i c l h e = clash (is_identifier l) (sole_identifier k i c l h e).1
 
 pub sole_plain : (k : Kind) (ts : List Node) (c : Class) (l : Kind) → Fits (Tree k ts) (slot.One (content.Node c)) → kinds_of c ≡ l ∷ [] → IsTrue (not (is_identifier l))
 sole_plain k ts c l h e = subst (λ x. IsTrue (not (is_identifier x))) (sole_tree k ts c l h e).0 (tree_opens k ts c h).0

@@ -1,9 +1,10 @@
 //! Lists of nodes with their class.
 ghost use Rattle.std.specs.Prelude.{◌≡◌, [], ◌++◌, ◌∷◌, ◌<◌, ◌↔◌, IsTrue, OnOk, OnErr, MatchOption, Some, length, slice_get, slice_set};
 ghost use Rattle.swc_tree_node.specs.declared.node.Node.{List as Many};
-ghost use Rattle.swc_tree_node.specs.declared.slot.Slot.TheVariants.{One, List as Several};
+ghost use Rattle.swc_tree_node.specs.declared.slot.Slot.TheVariants.{One, List as Several, OptionalList};
 ghost use Rattle.swc_tree_node.specs.declared.slot.Content.TheVariants.{Node as Of};
 ghost use Rattle.swc_tree_node.specs.Fits.{Fits, AllFit};
+ghost use Rattle.swc_tree_handle.specs.Handles.{maybe_list};
 
 use crate::class::Syntax;
 use crate::tree::Tree;
@@ -88,6 +89,31 @@ impl<C: Syntax> Trees<C> {
         ensures fits { Fits result (Several (Of C.class)) }
     {
         Node::List(self.into_nodes())
+    }
+
+    /// What a place holds that takes a list, or nothing.
+    #[tactic(auto, using(swc_tree_node::proofs::Fit::fitting, swc_tree_node::proofs::Fit::optional_list_opens))]
+    pub fn of_maybe(node: Node) -> Option<Trees<C>>
+        requires { Fits node (OptionalList (Of C.class)) }
+        ensures { maybe_list result ≡ node }
+    {
+        match node {
+            Node::Absent => None,
+            Node::List(nodes) => Some(Trees::from_nodes(nodes)),
+            _ => unreachable!(),
+        }
+    }
+
+    /// What a place is to hold that takes a list, or nothing.
+    #[tactic(auto, using(swc_tree_node::proofs::Fit::fitting, swc_tree_node::proofs::Fit::optional_list_closes))]
+    pub fn into_maybe(trees: Option<Trees<C>>) -> Node
+        ensures is { result ≡ maybe_list trees }
+        ensures fits { Fits result (OptionalList (Of C.class)) }
+    {
+        match trees {
+            Some(trees) => Node::List(trees.into_nodes()),
+            None => Node::Absent,
+        }
     }
 
     /// The nodes in place.
