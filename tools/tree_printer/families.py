@@ -87,6 +87,43 @@ def identifier_rt(tree, struct):
             + opened_impl(struct, tree, '', of_node, into_node))
 
 
+# Beyond so many kinds the last variant of a sum takes all kinds that the others leave.
+WIDE = 12
+
+
+def has_wide_end(tree, sum_):
+    return len(tree.kinds_of(sum_.variants[-1].member)) > WIDE
+
+
+WIDE_PROOF = '''-- The kinds that the variants before leave are those of the last one.
+--
+-- %(printed)s
+use Rattle.swc_tree_handle.proofs.Handles.{other, is_of_kind}
+use Rattle.swc_tree_node.specs.declared.kind.Class.TheVariants as class
+use Rattle.swc_tree_node.specs.declared.kind.Kind.TheVariants as kind
+use Rattle.%(module)s.Goals as goal
+
+pub narrow-requires-in_default : goal.narrow-requires-in_default
+narrow-requires-in_default c = is_of_kind _ _ class.%(last)s c.kind.ensures.is (%(left)s)
+'''
+
+
+def wide_proof(tree, sum_):
+    """The path and the text of the proof that the last variant of a sum takes what the others leave."""
+    last = sum_.variants[-1].member
+    left, seen = 'c.kind.ensures.belongs', []
+    for variant in sum_.variants[:-1]:
+        seen += [kind for kind in tree.kinds_of(variant.member) if kind not in seen]
+    if set(seen) & set(tree.kinds_of(last)):
+        raise SystemExit('a kind of the last variant is a kind of another, in ' + sum_.name)
+    for kind in seen:
+        left = 'other _ kind.%s _ (%s) c.in_default.not-%s' % (kind, left, kind)
+    function = '%s/%sOpenedClass%s/of_node' % (module_of(sum_.name), sum_.name, sum_.name)
+    module = '%s.proofs.%s' % (sum_.family, function.replace('/', '.'))
+    return ('crates/%s/proofs/%s/Answers.antt' % (sum_.family, function),
+            WIDE_PROOF % {'printed': PRINTED, 'module': module, 'last': last, 'left': left})
+
+
 def sum_rt(tree, sum_):
     name = sum_.name
     declared = '/// %s\n#[derive(Debug, Drop)]\npub enum %s {\n%s}\n' % (
@@ -97,13 +134,15 @@ def sum_rt(tree, sum_):
         kinds = [kind for kind in tree.kinds_of(variant.member) if kind not in seen]
         seen.update(kinds)
         if kinds:
+            takes_rest = variant is sum_.variants[-1] and has_wide_end(tree, sum_)
             arms += '            %s => %s::%s(tree.narrow%s),\n' % (
-                ' | '.join('Kind::' + kind for kind in kinds), name, variant.name,
+                '_' if takes_rest else ' | '.join('Kind::' + kind for kind in kinds), name, variant.name,
                 '()' if variant.is_subtree else '::<class::%s>().open()' % variant.member)
+    if not has_wide_end(tree, sum_):
+        arms += '            _ => unreachable!(),\n'
     of_node = '''        let tree = Tree::<class::%s>::of(closed);
         match tree.kind() {
-%s            _ => unreachable!(),
-        }
+%s        }
 ''' % (name, arms)
     into_node = '''        let tree: Tree<class::%s> = match self {
 %s        };
@@ -292,4 +331,7 @@ def files(tree):
         printed[crate + 'specs/Nodes.antt'] = nodes_antt(tree, family)
         for entry in printed_entries(tree, family):
             printed[crate + 'src/%s.rt' % module_of(entry.name)] = entry_rt(tree, entry)
+            if entry.name in tree.sums and has_wide_end(tree, entry):
+                path, text = wide_proof(tree, entry)
+                printed[path] = text
     return printed

@@ -32,38 +32,7 @@ impl Opened<class::Callee> for Callee {
         match tree.kind() {
             Kind::Super => Callee::Super(tree.narrow::<class::Super>().open()),
             Kind::Import => Callee::Import(tree.narrow::<class::Import>().open()),
-            Kind::ThisExpr
-            | Kind::ArrayLit
-            | Kind::ObjectLit
-            | Kind::FnExpr
-            | Kind::UnaryExpr
-            | Kind::UpdateExpr
-            | Kind::BinExpr
-            | Kind::AssignExpr
-            | Kind::MemberExpr
-            | Kind::SuperPropExpr
-            | Kind::CondExpr
-            | Kind::CallExpr
-            | Kind::NewExpr
-            | Kind::SeqExpr
-            | Kind::Ident
-            | Kind::Str
-            | Kind::Bool
-            | Kind::Null
-            | Kind::Number
-            | Kind::BigInt
-            | Kind::Regex
-            | Kind::Tpl
-            | Kind::TaggedTpl
-            | Kind::ArrowExpr
-            | Kind::ClassExpr
-            | Kind::YieldExpr
-            | Kind::MetaPropExpr
-            | Kind::AwaitExpr
-            | Kind::ParenExpr
-            | Kind::PrivateName
-            | Kind::OptChainExpr => Callee::Expr(tree.narrow()),
-            _ => unreachable!(),
+            _ => Callee::Expr(tree.narrow()),
         }
     }
 

@@ -1,5 +1,5 @@
 -- A node that fits one class fits another that takes its kind.
-use Rattle.std.proofs.Common.{◌≡◌, zero, suc, slice_get, slice_set, List, [], ◌∷◌, ℕ, Bool, true, false, not, ◌||◌, ◌==◌, IsTrue, Some, refl, ap, subst, arith}
+use Rattle.std.proofs.Common.{◌≡◌, zero, suc, slice_get, slice_set, List, [], ◌∷◌, ℕ, Bool, true, false, not, ◌||◌, ◌==◌, IsTrue, Some, sym, refl, ap, subst, arith}
 use Rattle.std.specs.List.{list_any, list_all}
 use Rattle.swc_tree_marks.specs.declared.ident.Ident.{Ident}
 use Rattle.swc_tree_node.specs.declared.kind.Kind.{Kind}
@@ -107,3 +107,14 @@ pub all_set : (s : Slot) (ts : List Node) (i : ℕ) (t : Node) → AllFit s ts �
 all_set s [] i t h f = tt
 all_set s (x ∷ ts) zero t h f = (f, h.1)
 all_set s (x ∷ ts) (suc i) t h f = (h.0, all_set s ts i t h.1 f)
+
+alike : (k l : Kind) (b c : Bool) → (kind_number k == kind_number l) ≡ c → IsTrue (c || b) → (k ≡ l → ⊥) → IsTrue b
+alike k l b true e h n = absurd (n (same_kind k l (grind arith)))
+alike k l b false e h n = h
+
+-- a kind that is not the first of a list is one of the rest
+pub other : (k l : Kind) (b : Bool) → IsTrue ((kind_number k == kind_number l) || b) → (k ≡ l → ⊥) → IsTrue b
+other k l b h n = alike k l b (kind_number k == kind_number l) refl h n
+
+pub is_of_kind : (t : Node) (k : Kind) (d : Class) → kind_of t ≡ Some k → IsTrue (belongs k d) → IsTrue (is_of t d)
+is_of_kind t k d e h = subst (λ o. IsTrue (takes d o)) (sym e) h

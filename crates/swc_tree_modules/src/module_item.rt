@@ -36,29 +36,7 @@ impl Opened<class::ModuleItem> for ModuleItem {
             | Kind::ExportDefaultDecl
             | Kind::ExportDefaultExpr
             | Kind::ExportAll => ModuleItem::ModuleDecl(tree.narrow::<class::ModuleDecl>().open()),
-            Kind::BlockStmt
-            | Kind::EmptyStmt
-            | Kind::DebuggerStmt
-            | Kind::WithStmt
-            | Kind::ReturnStmt
-            | Kind::LabeledStmt
-            | Kind::BreakStmt
-            | Kind::ContinueStmt
-            | Kind::IfStmt
-            | Kind::SwitchStmt
-            | Kind::ThrowStmt
-            | Kind::TryStmt
-            | Kind::WhileStmt
-            | Kind::DoWhileStmt
-            | Kind::ForStmt
-            | Kind::ForInStmt
-            | Kind::ForOfStmt
-            | Kind::ClassDecl
-            | Kind::FnDecl
-            | Kind::VarDecl
-            | Kind::UsingDecl
-            | Kind::ExprStmt => ModuleItem::Stmt(tree.narrow::<class::Stmt>().open()),
-            _ => unreachable!(),
+            _ => ModuleItem::Stmt(tree.narrow::<class::Stmt>().open()),
         }
     }
 

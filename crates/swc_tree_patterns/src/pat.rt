@@ -42,38 +42,7 @@ impl Opened<class::Pat> for Pat {
             Kind::RestPat => Pat::Rest(tree.narrow::<class::RestPat>().open()),
             Kind::ObjectPat => Pat::Object(tree.narrow::<class::ObjectPat>().open()),
             Kind::AssignPat => Pat::Assign(tree.narrow::<class::AssignPat>().open()),
-            Kind::ThisExpr
-            | Kind::ArrayLit
-            | Kind::ObjectLit
-            | Kind::FnExpr
-            | Kind::UnaryExpr
-            | Kind::UpdateExpr
-            | Kind::BinExpr
-            | Kind::AssignExpr
-            | Kind::MemberExpr
-            | Kind::SuperPropExpr
-            | Kind::CondExpr
-            | Kind::CallExpr
-            | Kind::NewExpr
-            | Kind::SeqExpr
-            | Kind::Ident
-            | Kind::Str
-            | Kind::Bool
-            | Kind::Null
-            | Kind::Number
-            | Kind::BigInt
-            | Kind::Regex
-            | Kind::Tpl
-            | Kind::TaggedTpl
-            | Kind::ArrowExpr
-            | Kind::ClassExpr
-            | Kind::YieldExpr
-            | Kind::MetaPropExpr
-            | Kind::AwaitExpr
-            | Kind::ParenExpr
-            | Kind::PrivateName
-            | Kind::OptChainExpr => Pat::Expr(tree.narrow()),
-            _ => unreachable!(),
+            _ => Pat::Expr(tree.narrow()),
         }
     }
 

@@ -30,38 +30,7 @@ impl Opened<class::BlockStmtOrExpr> for BlockStmtOrExpr {
         let tree = Tree::<class::BlockStmtOrExpr>::of(closed);
         match tree.kind() {
             Kind::BlockStmt => BlockStmtOrExpr::BlockStmt(tree.narrow::<class::BlockStmt>().open()),
-            Kind::ThisExpr
-            | Kind::ArrayLit
-            | Kind::ObjectLit
-            | Kind::FnExpr
-            | Kind::UnaryExpr
-            | Kind::UpdateExpr
-            | Kind::BinExpr
-            | Kind::AssignExpr
-            | Kind::MemberExpr
-            | Kind::SuperPropExpr
-            | Kind::CondExpr
-            | Kind::CallExpr
-            | Kind::NewExpr
-            | Kind::SeqExpr
-            | Kind::Ident
-            | Kind::Str
-            | Kind::Bool
-            | Kind::Null
-            | Kind::Number
-            | Kind::BigInt
-            | Kind::Regex
-            | Kind::Tpl
-            | Kind::TaggedTpl
-            | Kind::ArrowExpr
-            | Kind::ClassExpr
-            | Kind::YieldExpr
-            | Kind::MetaPropExpr
-            | Kind::AwaitExpr
-            | Kind::ParenExpr
-            | Kind::PrivateName
-            | Kind::OptChainExpr => BlockStmtOrExpr::Expr(tree.narrow()),
-            _ => unreachable!(),
+            _ => BlockStmtOrExpr::Expr(tree.narrow()),
         }
     }
 

@@ -34,43 +34,7 @@ impl Opened<class::ForHead> for ForHead {
         match tree.kind() {
             Kind::VarDecl => ForHead::VarDecl(tree.narrow::<class::VarDecl>().open()),
             Kind::UsingDecl => ForHead::UsingDecl(tree.narrow::<class::UsingDecl>().open()),
-            Kind::BindingIdent
-            | Kind::ArrayPat
-            | Kind::RestPat
-            | Kind::ObjectPat
-            | Kind::AssignPat
-            | Kind::ThisExpr
-            | Kind::ArrayLit
-            | Kind::ObjectLit
-            | Kind::FnExpr
-            | Kind::UnaryExpr
-            | Kind::UpdateExpr
-            | Kind::BinExpr
-            | Kind::AssignExpr
-            | Kind::MemberExpr
-            | Kind::SuperPropExpr
-            | Kind::CondExpr
-            | Kind::CallExpr
-            | Kind::NewExpr
-            | Kind::SeqExpr
-            | Kind::Ident
-            | Kind::Str
-            | Kind::Bool
-            | Kind::Null
-            | Kind::Number
-            | Kind::BigInt
-            | Kind::Regex
-            | Kind::Tpl
-            | Kind::TaggedTpl
-            | Kind::ArrowExpr
-            | Kind::ClassExpr
-            | Kind::YieldExpr
-            | Kind::MetaPropExpr
-            | Kind::AwaitExpr
-            | Kind::ParenExpr
-            | Kind::PrivateName
-            | Kind::OptChainExpr => ForHead::Pat(tree.narrow::<class::Pat>().open()),
-            _ => unreachable!(),
+            _ => ForHead::Pat(tree.narrow::<class::Pat>().open()),
         }
     }
 
