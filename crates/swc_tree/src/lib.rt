@@ -1,26 +1,33 @@
 //! The syntax tree of JavaScript, as passes and their callers use it.
 //!
-//! A program is a `Module`. Its items are `Trees`, lists of nodes that fit their class, and each
-//! struct and sum of the tree stands here under its name, one level deep: `Tree::open` takes a node
-//! apart, `Opened::close` puts it together, and no ill-formed tree can be made of them. A pass is a
-//! `JsPass`: it takes the items out of a program, works on the nodes in place, and puts them back.
+//! A program is a `Module` or a `Script`. Its items are `Trees`, lists of nodes that fit their class,
+//! and each struct and sum of the tree stands here under its name, one level deep: `Tree::open` takes
+//! a node apart, `Opened::close` puts it together, and no ill-formed tree can be made of them. A pass
+//! is a `JsPass`: it takes the items out of a program, works on the nodes in place, and puts them
+//! back. A `Check` looks at a program and says whether it is to be handled. What stands where in the
+//! tree is data too, in `table`.
 #![tactic(auto)]
 
+mod check;
 mod pass;
+pub mod table;
 #[cfg(test)]
 mod tests;
+mod version;
 
-pub use pass::JsPass;
-pub use swc_tree_handle::{Opened, Tree, Trees, class};
+pub use check::{Check, Checked, should_work};
+pub use pass::{JsPass, Noop, noop};
+pub use swc_tree_ext::{
+    AsOptExpr, ExprRefExt, StmtLike, find_pat_ids, is_use_strict, prepend_stmts,
+};
+pub use swc_tree_handle::{Holes, Opened, Pairs, Tree, Trees, class};
 pub use swc_tree_items::{Boxed, Items, Text};
 pub use swc_tree_marks::{
     Atom, BytePos, DUMMY_SP, Globals, Id, Ident, JsWord, Mark, MarkError, NoMemory, PassError,
     Span, SyntaxContext,
 };
-pub use swc_tree_node::{
-    Class, Content, Field, Kind, Node, Role, Scope, Slot, Word, WordClass, fields_of,
-    is_identifier, kinds_of, name_of, scope_of, spelling_of, words_of,
-};
+pub use swc_tree_node::{Kind, Node};
+pub use version::EsVersion;
 
 // From here on printed by tools/print_table.py from tools/tree.txt.
 pub use swc_tree_expressions::ArrayLit;

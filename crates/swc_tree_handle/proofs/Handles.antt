@@ -1,5 +1,5 @@
 -- A node that fits one class fits another that takes its kind.
-use Rattle.std.proofs.Common.{◌≡◌, zero, suc, slice_get, slice_set, List, [], ◌∷◌, ℕ, Bool, true, false, not, ◌||◌, ◌==◌, IsTrue, Some, sym, refl, ap, subst, arith}
+use Rattle.std.proofs.Common.{◌≡◌, zero, suc, slice_get, slice_set, take, drop, ◌++◌, List, [], ◌∷◌, ℕ, Bool, true, false, not, ◌||◌, ◌==◌, IsTrue, Some, sym, refl, ap, subst, arith}
 use Rattle.std.specs.List.{list_any, list_all}
 use Rattle.swc_tree_marks.specs.declared.ident.Ident.{Ident}
 use Rattle.swc_tree_node.specs.declared.kind.Kind.{Kind}
@@ -118,3 +118,23 @@ other k l b h n = alike k l b (kind_number k == kind_number l) refl h n
 
 pub is_of_kind : (t : Node) (k : Kind) (d : Class) → kind_of t ≡ Some k → IsTrue (belongs k d) → IsTrue (is_of t d)
 is_of_kind t k d e h = subst (λ o. IsTrue (takes d o)) (sym e) h
+
+all_join : (s : Slot) (ts us : List Node) → AllFit s ts → AllFit s us → AllFit s (ts ++ us)
+all_join s [] us h g = g
+all_join s (t ∷ ts) us h g = (h.0, all_join s ts us h.1 g)
+
+all_take : (s : Slot) (ts : List Node) (i : ℕ) → AllFit s ts → AllFit s (take i ts)
+all_take s [] zero h = tt
+all_take s [] (suc i) h = tt
+all_take s (t ∷ ts) zero h = tt
+all_take s (t ∷ ts) (suc i) h = (h.0, all_take s ts i h.1)
+
+all_drop : (s : Slot) (ts : List Node) (i : ℕ) → AllFit s ts → AllFit s (drop i ts)
+all_drop s [] zero h = tt
+all_drop s [] (suc i) h = tt
+all_drop s (t ∷ ts) zero h = h
+all_drop s (t ∷ ts) (suc i) h = all_drop s ts i h.1
+
+-- what stands round what was put in fits as before
+pub all_inserted : (s : Slot) (ts us : List Node) (i : ℕ) → AllFit s ts → AllFit s us → AllFit s (take i ts ++ us ++ drop i ts)
+all_inserted s ts us i h g = all_join s (take i ts) (us ++ drop i ts) (all_take s ts i h) (all_join s us (drop i ts) g (all_drop s ts i h))

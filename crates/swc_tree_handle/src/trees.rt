@@ -1,5 +1,5 @@
 //! Lists of nodes with their class.
-ghost use Rattle.std.specs.Prelude.{◌≡◌, [], ◌++◌, ◌∷◌, ◌<◌, ◌↔◌, IsTrue, OnOk, OnErr, MatchOption, Some, length, slice_get, slice_set};
+ghost use Rattle.std.specs.Prelude.{◌≡◌, [], ◌++◌, ◌∷◌, ◌<◌, ◌≤◌, ◌↔◌, IsTrue, OnOk, OnErr, MatchOption, Some, length, slice_get, slice_set, take, drop as drop_first};
 ghost use Rattle.swc_tree_node.specs.declared.node.Node.{List as Many};
 ghost use Rattle.swc_tree_node.specs.declared.slot.Slot.TheVariants.{One, List as Several, OptionalList};
 ghost use Rattle.swc_tree_node.specs.declared.slot.Content.TheVariants.{Node as Of};
@@ -145,6 +145,18 @@ impl<C: Syntax> Trees<C> {
         ensures err { OnErr result (self.new ≡ self.old) }
     {
         self.nodes.push(tree.into_node())
+    }
+
+    /// Moves the nodes of `more` to before the node at an index, or to the end. Where memory is refused,
+    /// the list stays and `more` is dropped.
+    #[tactic(auto, using(crate::proofs::Handles::all_inserted))]
+    pub fn insert_all(&mut self, index: usize, more: Trees<C>) -> Result<(), AllocError>
+        requires { index ≤ length self.old }
+        ensures ok { OnOk result (self.new ≡ take index self.old ++ more ++ drop_first index self.old) }
+        ensures err { OnErr result (self.new ≡ self.old) }
+    {
+        self.nodes.insert_all(index, more.into_nodes())?;
+        Ok(())
     }
 
     /// Takes the last node out.

@@ -1,0 +1,1 @@
+-- Strings as statements, form by form.
