@@ -137,4 +137,4 @@ all_drop s (t ∷ ts) (suc i) h = all_drop s ts i h.1
 
 -- what stands round what was put in fits as before
 pub all_inserted : (s : Slot) (ts us : List Node) (i : ℕ) → AllFit s ts → AllFit s us → AllFit s (take i ts ++ us ++ drop i ts)
-all_inserted s ts us i h g = all_join s (take i ts) (us ++ drop i ts) (all_take s ts i h) (all_join s us (drop i ts) g (all_drop s ts i h))
+all_inserted s ts us i h g = all_join s (take i ts ++ us) (drop i ts) (all_join s (take i ts) us (all_take s ts i h) g) (all_drop s ts i h)

@@ -12,7 +12,7 @@ use std::alloc::{AllocError, Global};
 use std::fmt;
 use std::marker::{Model, PhantomData};
 use swc_tree_items::Items;
-use swc_tree_node::Node;
+use swc_tree_node::{Node, copy_nodes};
 
 /// Nodes of the class `C`, some of which may be left out. Contracts see them as the list of the nodes,
 /// `Absent` where there is none.
@@ -142,6 +142,18 @@ impl<C: Syntax> Holes<C> {
         ensures list { self.new ≡ slice_set self.old index (maybe_node tree) }
     {
         Tree::of_maybe(self.nodes.replace(index, Tree::into_maybe(tree)))
+    }
+}
+
+impl<C: Syntax> Clone for Holes<C> {
+    ghost is_clone = { λ holes copy. copy ≡ holes };
+
+    fn clone(&self) -> Result<Holes<C>, AllocError> {
+        let nodes = copy_nodes(&self.nodes)?;
+        Ok(Holes {
+            nodes,
+            of: PhantomData,
+        })
     }
 }
 

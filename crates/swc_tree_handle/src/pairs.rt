@@ -10,7 +10,7 @@ use std::alloc::{AllocError, Global};
 use std::marker::Model;
 use swc_tree_items::Items;
 use swc_tree_marks::Atom;
-use swc_tree_node::Node;
+use swc_tree_node::{Node, copy_nodes};
 
 /// Pairs of texts, as the attributes of an import. Contracts see them as the list of their nodes.
 #[derive(Debug, Drop)]
@@ -111,6 +111,15 @@ impl Pairs {
             Some(node) => Some(to_pair(node)),
             None => None,
         }
+    }
+}
+
+impl Clone for Pairs {
+    ghost is_clone = { λ pairs copy. copy ≡ pairs };
+
+    fn clone(&self) -> Result<Pairs, AllocError> {
+        let nodes = copy_nodes(&self.nodes)?;
+        Ok(Pairs { nodes })
     }
 }
 

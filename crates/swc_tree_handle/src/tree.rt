@@ -192,6 +192,18 @@ impl<C: Syntax> Tree<C> {
     }
 }
 
+impl<C: Syntax> Clone for Tree<C> {
+    ghost is_clone = { λ tree copy. copy ≡ tree };
+
+    fn clone(&self) -> Result<Tree<C>, AllocError> {
+        let node = self.node.clone()?;
+        Ok(Tree {
+            node,
+            of: PhantomData,
+        })
+    }
+}
+
 impl<C: Syntax> fmt::Debug for Tree<C> {
     fn fmt<W: fmt::Write>(&self, f: &mut fmt::Formatter<W>) -> fmt::Result {
         fmt::Debug::fmt(&self.node, f)

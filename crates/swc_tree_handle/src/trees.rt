@@ -12,7 +12,7 @@ use std::alloc::{AllocError, Global};
 use std::fmt;
 use std::marker::{Model, PhantomData};
 use swc_tree_items::Items;
-use swc_tree_node::Node;
+use swc_tree_node::{Node, copy_nodes};
 
 /// Nodes of the class `C`. Contracts see them as the list of the nodes.
 #[derive(Drop)]
@@ -149,7 +149,6 @@ impl<C: Syntax> Trees<C> {
 
     /// Moves the nodes of `more` to before the node at an index, or to the end. Where memory is refused,
     /// the list stays and `more` is dropped.
-    #[tactic(auto, using(crate::proofs::Handles::all_inserted))]
     pub fn insert_all(&mut self, index: usize, more: Trees<C>) -> Result<(), AllocError>
         requires { index ≤ length self.old }
         ensures ok { OnOk result (self.new ≡ take index self.old ++ more ++ drop_first index self.old) }
@@ -178,6 +177,18 @@ impl<C: Syntax> Trees<C> {
         ensures list { self.new ≡ slice_set self.old index tree }
     {
         Tree::of(self.nodes.replace(index, tree.into_node()))
+    }
+}
+
+impl<C: Syntax> Clone for Trees<C> {
+    ghost is_clone = { λ trees copy. copy ≡ trees };
+
+    fn clone(&self) -> Result<Trees<C>, AllocError> {
+        let nodes = copy_nodes(&self.nodes)?;
+        Ok(Trees {
+            nodes,
+            of: PhantomData,
+        })
     }
 }
 

@@ -23,14 +23,15 @@ fn copy(node: &Node) -> Result<Node, AllocError>
         Node::Word(word) => Ok(Node::Word(*word)),
         Node::Text(text) => Ok(Node::Text(text.clone()?)),
         Node::Span(span) => Ok(Node::Span(*span)),
-        Node::List(items) => Ok(Node::List(copy_all(items)?)),
+        Node::List(items) => Ok(Node::List(copy_nodes(items)?)),
         Node::Identifier(kind, ident) => Ok(Node::Identifier(*kind, ident.clone()?)),
-        Node::Tree(kind, fields) => Ok(Node::Tree(*kind, copy_all(fields)?)),
+        Node::Tree(kind, fields) => Ok(Node::Tree(*kind, copy_nodes(fields)?)),
     }
 }
 
+/// A copy of each of some nodes. `Items<Node>` has no `clone` that says so much.
 #[cycle(copy)]
-fn copy_all(nodes: &Items<Node>) -> Result<Items<Node>, AllocError>
+pub fn copy_nodes(nodes: &Items<Node>) -> Result<Items<Node>, AllocError>
     ensures { IfOk result (λ others. others ≡ nodes.now) }
 {
     let mut others = Items::with_capacity(nodes.allocator(), nodes.len())?;

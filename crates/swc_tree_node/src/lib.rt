@@ -7,6 +7,7 @@ mod node;
 mod slot;
 mod table;
 
+pub use copies::copy_nodes;
 pub use kind::{Class, Kind, Word, WordClass};
 pub use node::Node;
 pub use slot::{Content, Field, Role, Scope, Slot};
