@@ -23,6 +23,7 @@ mod module_item;
 mod named_export;
 mod program;
 mod script;
+mod script_program;
 
 pub use default_decl::DefaultDecl;
 pub use export_all::ExportAll;
