@@ -1,6 +1,6 @@
 //! Checks, which look at a program and say whether it is to be handled.
 ghost use Rattle.std.specs.Prelude.{◌≡◌};
-ghost use mathlib.Core.Logic.{inl, inr};
+ghost use Rattle.std.proofs.Common.{inl, inr};
 ghost use Rattle.swc_tree.specs.Checks.{IsVerdict};
 
 use swc_tree_modules::{Module, Script};

@@ -1,1 +1,3 @@
-pub mod Ids
+pub mod BoundIds
+pub mod Directives
+pub mod Exprs

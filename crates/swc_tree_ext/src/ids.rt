@@ -2,7 +2,7 @@
 ghost use Rattle.std.specs.Prelude.{◌≡◌, [], ◌++◌, map, OnOk, IfOk};
 ghost use Rattle.swc_tree_node.specs.declared.slot.Role.TheVariants as role;
 ghost use Rattle.swc_tree_patterns.specs.Nodes.{of_pat};
-ghost use Rattle.swc_tree_ext.specs.Ids.{bound_ids, field_role, in_part, in_parts, own_id};
+ghost use Rattle.swc_tree_ext.specs.BoundIds.{bound_ids, field_role, in_part, in_parts, own_id};
 
 use std::alloc::{AllocError, Global};
 use swc_tree_marks::{Id, Ident, NoMemory};
@@ -17,6 +17,7 @@ use swc_tree_patterns::Pat;
 /// # Errors
 ///
 /// `NoMemory` where memory was refused.
+#[tactic(auto, using(crate::proofs::Bound::bound))]
 pub fn find_pat_ids(alloc: Global, pat: &Pat) -> Result<Vec<Id>, NoMemory>
     ensures { IfOk result (λ ids. ids.items ≡ bound_ids (of_pat pat.now)) }
 {
@@ -34,12 +35,13 @@ pub fn find_pat_ids(alloc: Global, pat: &Pat) -> Result<Vec<Id>, NoMemory>
 
 // Adds what a part of a pattern binds, by its role in the pattern.
 #[cycle(add_ids)]
+#[tactic(auto, using(crate::proofs::Bound::bound, crate::proofs::Bound::no_part))]
 fn add_ids(role: Role, part: &Node, ids: &mut Vec<Id>) -> Result<(), AllocError>
     ensures { OnOk result (ids.new.items ≡ ids.old.items ++ in_part role (bound_ids part.now)) }
 {
-    if role != Role::Inherited {
+    let Role::Inherited = role else {
         return Ok(());
-    }
+    };
     match part {
         Node::Identifier(kind, ident) => {
             add_own(*kind, ident.get(), ids)?;

@@ -2,6 +2,10 @@
 //! through what holds them.
 #![tactic(auto)]
 
+mod expr;
 mod ids;
+mod stmts;
 
+pub use expr::{AsOptExpr, ExprRefExt};
 pub use ids::find_pat_ids;
+pub use stmts::{StmtLike, is_use_strict, prepend_stmts};

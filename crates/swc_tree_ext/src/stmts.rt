@@ -46,11 +46,18 @@ fn leading_strings(stmts: &[Node]) -> usize
     ensures { result ≡ prefix_len is_string stmts.now }
 {
     for (i, stmt) in stmts.iter().enumerate() {
-        if string(stmt).is_none() {
+        if !is_string(stmt) {
             return i;
         }
     }
     stmts.len()
+}
+
+// Whether a statement is a string.
+fn is_string(stmt: &Node) -> bool
+    ensures { result ≡ is_string stmt.now }
+{
+    string(stmt).is_some()
 }
 
 // The string that a statement is, if it is one.
@@ -78,7 +85,7 @@ fn literal(expr: &Node) -> Option<&str>
 
 // The text that a node is, if there is one and it is a text.
 fn text(node: Option<&Node>) -> Option<&str>
-    ensures { option_copied result ≡ text_of (option_copied node) }
+    ensures { option_copied result ≡ text_of (option_copied node.entry) }
 {
     match node {
         Some(Node::Text(text)) => Some(text.as_str()),

@@ -1,1 +1,0 @@
--- Strings as statements, form by form.
