@@ -9,14 +9,18 @@
 #![tactic(auto)]
 
 mod check;
+mod idle;
 mod pass;
+mod passes;
 pub mod table;
 #[cfg(test)]
 mod tests;
 mod version;
 
 pub use check::{Check, Checked, should_work};
-pub use pass::{JsPass, Noop, noop};
+pub use idle::Noop;
+pub use pass::JsPass;
+pub use passes::noop;
 pub use swc_tree_ext::{
     AsOptExpr, ExprRefExt, StmtLike, find_pat_ids, is_use_strict, prepend_stmts,
 };

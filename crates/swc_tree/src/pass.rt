@@ -1,5 +1,5 @@
 //! Passes over programs.
-ghost use Rattle.std.specs.Prelude.{◌≡◌, IfOk, OnOk, OnErr};
+ghost use Rattle.std.specs.Prelude.{IfOk, OnOk, OnErr};
 ghost use Rattle.swc_tree.specs.Passes.{IsEmptied, IsEmptiedScript, IsExtended};
 
 use std::alloc::Global;
@@ -87,38 +87,5 @@ pub trait JsPass {
         let mut program = program;
         self.visit_mut_script(alloc, globals, &mut program)?;
         Ok(program)
-    }
-}
-
-/// The pass that leaves every program as it is.
-#[derive(Clone, Copy, Debug, Default)]
-pub struct Noop;
-
-/// The pass that leaves every program as it is.
-pub fn noop() -> Noop {
-    Noop
-}
-
-impl JsPass for Noop {
-    ghost visits = { λ pass table before held after. (held ≡ table) × (after ≡ before) };
-
-    ghost visits_script = { λ pass table before held after. (held ≡ table) × (after ≡ before) };
-
-    fn visit_mut_module(
-        &mut self,
-        alloc: Global,
-        globals: &mut Globals,
-        program: &mut Module,
-    ) -> Result<(), PassError> {
-        Ok(())
-    }
-
-    fn visit_mut_script(
-        &mut self,
-        alloc: Global,
-        globals: &mut Globals,
-        program: &mut Script,
-    ) -> Result<(), PassError> {
-        Ok(())
     }
 }
