@@ -8,7 +8,7 @@ use Rattle.swc_tree_node.specs.declared.kind.Word.{Word as Word'}
 use Rattle.swc_tree_node.specs.declared.slot.Role.{Role}
 use Rattle.swc_tree_node.specs.declared.slot.Role.TheVariants as role
 use Rattle.swc_tree_node.specs.declared.node.Node.{Node, Absent, Flag, Word, Text, Span, List as Many, Identifier, Tree, the_lemmas}
-use Rattle.swc_tree_ext.specs.BoundIds.{Id, own_id, field_role, in_part, in_parts, bound_ids, bound_step}
+use Rattle.swc_tree_ext.specs.BoundIds.{Id, own_id, field_role, in_part, in_parts, bound_ids}
 
 pub bound-Absent : bound_ids Absent ≡ []
 bound-Absent = search (rules, the_lemmas)

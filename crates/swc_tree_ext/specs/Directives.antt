@@ -1,5 +1,5 @@
 -- Statements that are strings, as directives are (ECMA-262, 11.2.1).
-use Rattle.std.specs.Prelude.{ℕ, List, Bool, true, false, Option, Some, None, slice_get, is_some}
+use Rattle.std.specs.Prelude.{ℕ, List, Bool, Option, Some, None, slice_get, is_some}
 use Rattle.swc_tree_node.specs.declared.kind.Kind.TheVariants as kind
 use Rattle.swc_tree_node.specs.declared.node.Node.{Node, out-Node}
 use Rattle.swc_tree_node.specs.declared.node.Node.TheOpen.{Node-F}

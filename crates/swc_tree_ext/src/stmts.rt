@@ -4,8 +4,8 @@ ghost use Rattle.std.specs.List.{prefix_len};
 ghost use Rattle.std.specs.Option.{option_copied};
 ghost use Rattle.swc_tree_ext.specs.Directives.{is_string, literal_of, string_in, string_of, text_of};
 
-use swc_tree_handle::class::{self, Syntax};
 use swc_tree_handle::Trees;
+use swc_tree_handle::class::{self, Syntax};
 use swc_tree_marks::NoMemory;
 use swc_tree_node::{Kind, Node};
 use swc_tree_statements::Stmt;
