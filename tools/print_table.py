@@ -20,8 +20,9 @@ class Field:
         type_, role = (rest.split(' ', 1) + [''])[:2]
         self.key = key
         self.role = ROLES[role.strip()]
-        self.many = type_.startswith('[')
-        self.optional = type_.endswith('?')
+        self.slot = ('Pairs' if type_ == 'Pairs' else
+                     'OptionalList' if type_.endswith(']?') else 'Holes' if type_.endswith('?]') else
+                     'List' if type_.endswith(']') else 'Optional' if type_.endswith('?') else 'One')
         self.type = type_.strip('[]?')
 
 
@@ -51,7 +52,7 @@ class Tree:
             return
         sum_ = re.match(r'(\w+) = (.*)', line)
         if sum_:
-            self.sums[sum_[1]] = [m.strip() for m in sum_[2].split(',')]
+            self.sums[sum_[1]] = [m.split()[-1] for m in sum_[2].split(',')]
             return
         head, _, fields = line.partition(':')
         name, *marks = head.split()
@@ -85,8 +86,6 @@ class Tree:
             return 'Content', 'Word', type_
         return 'Content', 'Node', type_
 
-    def slot(self, field):
-        return 'List' if field.many else 'Optional' if field.optional else 'One'
 
 
 def rust_content(tree, type_):
@@ -101,6 +100,18 @@ def spec_content(tree, type_):
     if of is None:
         return 'content.' + variant
     return '(content.%s %s.%s)' % (variant, 'word_class' if variant == 'Word' else 'class', of)
+
+
+def rust_slot(tree, field):
+    if field.slot == 'Pairs':
+        return 'Slot::Pairs'
+    return 'Slot::%s(%s)' % (field.slot, rust_content(tree, field.type))
+
+
+def spec_slot(tree, field):
+    if field.slot == 'Pairs':
+        return 'slot.Pairs'
+    return 'slot.%s %s' % (field.slot, spec_content(tree, field.type))
 
 
 def rust_enum(doc, name, variants):
@@ -133,8 +144,8 @@ def table_rt(tree):
                'use crate::slot::{Content, Field, Role, Scope, Slot};\n')
     fields = []
     for s in tree.structs.values():
-        rows = ''.join('Field { key: "%s", slot: Slot::%s(%s), role: Role::%s },' % (
-            f.key, tree.slot(f), rust_content(tree, f.type), f.role) for f in s.fields)
+        rows = ''.join('Field { key: "%s", slot: %s, role: Role::%s },' % (
+            f.key, rust_slot(tree, f), f.role) for f in s.fields)
         fields.append(('Kind::' + s.name, '&[%s]' % rows))
     scopes = [('Kind::' + s.name, 'Some(Scope::%s)' % s.scope) for s in tree.structs.values() if s.scope]
     identifiers = ' | '.join('Kind::' + s.name for s in tree.structs.values() if s.identifier)
@@ -181,8 +192,8 @@ def table_antt(tree):
             + of('slot', 'Role') + variants('slot', 'Role', 'role') + of('slot', 'Scope') + variants('slot', 'Scope', 'scope'))
     rows = []
     for s in tree.structs.values():
-        rows.append(('kind.' + s.name, spec_list(['(codes "%s", slot.%s %s, role.%s)' % (
-            f.key, tree.slot(f), spec_content(tree, f.type), f.role) for f in s.fields])))
+        rows.append(('kind.' + s.name, spec_list(['(codes "%s", %s, role.%s)' % (
+            f.key, spec_slot(tree, f), f.role) for f in s.fields])))
     return '\n'.join([
         head,
         spec_cases('the name of the struct, as it stands in JSON', 'name_of', 'Kind → List ℕ',

@@ -18,6 +18,14 @@ pub enum Slot {
     /// One, or nothing.
     Optional(Content),
     List(Content),
+    /// A list in which items may be left out.
+    Holes(Content),
+    /// A list, or nothing.
+    OptionalList(Content),
+    /// Two texts.
+    Pair,
+    /// A list of pairs of texts, or nothing.
+    Pairs,
 }
 
 /// What an identifier is that stands in a field, or in what stands there.
