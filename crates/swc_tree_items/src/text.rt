@@ -55,7 +55,6 @@ impl Text {
     {
         self.string.as_str()
     }
-
 }
 
 impl Clone for Text {

@@ -2,11 +2,15 @@
 #![tactic(auto)]
 
 mod context;
+mod error;
+mod globals;
 mod ident;
 mod mark;
 mod span;
 
 pub use context::SyntaxContext;
+pub use error::{MarkError, NoMemory, PassError};
+pub use globals::Globals;
 pub use ident::{Atom, Id, Ident, JsWord};
 pub use mark::Mark;
 pub use span::{BytePos, DUMMY_SP, Span};

@@ -1,0 +1,4 @@
+pub mod Ancestors
+pub mod Fresh
+pub mod Search
+pub mod Tables
