@@ -11,7 +11,9 @@ import sys
 ROOT = os.path.dirname(os.path.dirname(os.path.abspath(__file__)))
 CRATE = os.path.join(ROOT, 'crates', 'swc_tree_node')
 ROLES = {'': 'Plain', 'reference': 'Reference', 'inherited': 'Inherited', 'declared': 'Declared',
-         'function': 'Function', 'parameter': 'Parameter', 'body': 'FunctionBody'}
+         'lexical': 'Lexical', 'function': 'Function', 'class': 'Class', 'own_name': 'OwnName', 'parameter': 'Parameter',
+         'catch': 'Catch', 'import': 'Import', 'body': 'FunctionBody', 'label': 'Label', 'imported': 'Imported',
+         'exported': 'Exported', 'export_local': 'ExportLocal'}
 
 
 class Field:

@@ -2,6 +2,7 @@ ghost use Rattle.std.specs.Prelude.{◌≡◌, IfOk};
 
 use std::alloc::{AllocError, Global};
 use std::marker::Model;
+use std::mem;
 
 /// An owned value on the heap, which contracts see as the value.
 #[derive(Debug, Drop)]
@@ -23,6 +24,14 @@ impl<T> Boxed<T> {
         ensures { result.now ≡ self.now }
     {
         &self.inner
+    }
+
+    /// Puts a value in the place of the one in the box, which it answers.
+    pub fn replace(&mut self, value: T) -> T
+        ensures taken { result ≡ self.old }
+        ensures put { self.new ≡ value }
+    {
+        mem::replace(&mut *self.inner, value)
     }
 
     /// The value, taken out of its box.

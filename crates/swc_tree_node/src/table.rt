@@ -636,12 +636,12 @@ pub fn fields_of(kind: Kind) -> &'static [Field]
             Field {
                 key: "local",
                 slot: Slot::One(Content::Node(Class::Ident)),
-                role: Role::Plain,
+                role: Role::Import,
             },
             Field {
                 key: "imported",
                 slot: Slot::Optional(Content::Node(Class::ModuleExportName)),
-                role: Role::Plain,
+                role: Role::Imported,
             },
         ],
         Kind::ImportDefaultSpecifier => &[
@@ -653,7 +653,7 @@ pub fn fields_of(kind: Kind) -> &'static [Field]
             Field {
                 key: "local",
                 slot: Slot::One(Content::Node(Class::Ident)),
-                role: Role::Plain,
+                role: Role::Import,
             },
         ],
         Kind::ImportStarAsSpecifier => &[
@@ -665,7 +665,7 @@ pub fn fields_of(kind: Kind) -> &'static [Field]
             Field {
                 key: "local",
                 slot: Slot::One(Content::Node(Class::Ident)),
-                role: Role::Plain,
+                role: Role::Import,
             },
         ],
         Kind::ExportDecl => &[
@@ -689,7 +689,7 @@ pub fn fields_of(kind: Kind) -> &'static [Field]
             Field {
                 key: "specifiers",
                 slot: Slot::List(Content::Node(Class::ExportSpecifier)),
-                role: Role::Plain,
+                role: Role::ExportLocal,
             },
             Field {
                 key: "src",
@@ -711,7 +711,7 @@ pub fn fields_of(kind: Kind) -> &'static [Field]
             Field {
                 key: "name",
                 slot: Slot::One(Content::Node(Class::ModuleExportName)),
-                role: Role::Plain,
+                role: Role::Exported,
             },
         ],
         Kind::ExportNamedSpecifier => &[
@@ -723,12 +723,12 @@ pub fn fields_of(kind: Kind) -> &'static [Field]
             Field {
                 key: "orig",
                 slot: Slot::One(Content::Node(Class::ModuleExportName)),
-                role: Role::Plain,
+                role: Role::Inherited,
             },
             Field {
                 key: "exported",
                 slot: Slot::Optional(Content::Node(Class::ModuleExportName)),
-                role: Role::Plain,
+                role: Role::Exported,
             },
         ],
         Kind::ExportDefaultDecl => &[
@@ -802,7 +802,7 @@ pub fn fields_of(kind: Kind) -> &'static [Field]
             Field {
                 key: "ident",
                 slot: Slot::One(Content::Node(Class::Ident)),
-                role: Role::Plain,
+                role: Role::Class,
             },
             Field {
                 key: "class",
@@ -853,7 +853,7 @@ pub fn fields_of(kind: Kind) -> &'static [Field]
             Field {
                 key: "decls",
                 slot: Slot::List(Content::Node(Class::VarDeclarator)),
-                role: Role::Declared,
+                role: Role::Lexical,
             },
         ],
         Kind::VarDeclarator => &[
@@ -1285,7 +1285,7 @@ pub fn fields_of(kind: Kind) -> &'static [Field]
             Field {
                 key: "ident",
                 slot: Slot::Optional(Content::Node(Class::Ident)),
-                role: Role::Plain,
+                role: Role::OwnName,
             },
             Field {
                 key: "function",
@@ -1297,7 +1297,7 @@ pub fn fields_of(kind: Kind) -> &'static [Field]
             Field {
                 key: "ident",
                 slot: Slot::Optional(Content::Node(Class::Ident)),
-                role: Role::Plain,
+                role: Role::OwnName,
             },
             Field {
                 key: "class",
@@ -1814,7 +1814,7 @@ pub fn fields_of(kind: Kind) -> &'static [Field]
             Field {
                 key: "label",
                 slot: Slot::One(Content::Node(Class::Ident)),
-                role: Role::Plain,
+                role: Role::Label,
             },
             Field {
                 key: "body",
@@ -1831,7 +1831,7 @@ pub fn fields_of(kind: Kind) -> &'static [Field]
             Field {
                 key: "label",
                 slot: Slot::Optional(Content::Node(Class::Ident)),
-                role: Role::Plain,
+                role: Role::Label,
             },
         ],
         Kind::ContinueStmt => &[
@@ -1843,7 +1843,7 @@ pub fn fields_of(kind: Kind) -> &'static [Field]
             Field {
                 key: "label",
                 slot: Slot::Optional(Content::Node(Class::Ident)),
-                role: Role::Plain,
+                role: Role::Label,
             },
         ],
         Kind::IfStmt => &[
@@ -1933,7 +1933,7 @@ pub fn fields_of(kind: Kind) -> &'static [Field]
             Field {
                 key: "param",
                 slot: Slot::Optional(Content::Node(Class::Pat)),
-                role: Role::Plain,
+                role: Role::Catch,
             },
             Field {
                 key: "body",
