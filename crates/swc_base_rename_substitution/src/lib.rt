@@ -1,0 +1,9 @@
+//! Substitution: the names of a tree are given anew, as a map says.
+#![tactic(auto)]
+
+mod config;
+mod names;
+mod place;
+
+pub use config::Config;
+pub use names::Names;

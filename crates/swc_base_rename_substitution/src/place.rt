@@ -1,0 +1,50 @@
+//! Where an identifier stands.
+ghost use Rattle.std.specs.Prelude.{◌≡◌};
+ghost use Rattle.swc_base_rename_substitution.specs.Places.{place_below as is_below, field_role as role_in_table};
+
+use swc_tree_node::{Kind, Role, fields_of};
+
+/// What an identifier is at its place, as far as substitution goes by it.
+#[derive(Clone, Copy, Debug, PartialEq, Eq)]
+pub enum Place {
+    /// A binding or a reference.
+    Name,
+    /// A shorthand property of an object literal: the key, and a reference.
+    Shorthand,
+    /// A name right below `export`, as in `export class A {}`.
+    Exported,
+    /// The name of a class expression, where classes keep their names.
+    ClassName,
+    /// A label, or an imported or exported name.
+    Other,
+}
+
+/// The role of a field, as the table has it.
+pub fn field_role(kind: Kind, field: usize) -> Role
+    ensures { result ≡ role_in_table kind field }
+{
+    match fields_of(kind).get(field) {
+        Some(field) => field.role,
+        None => Role::Plain,
+    }
+}
+
+/// The place that is a field of a node at `place`.
+///
+/// `sourced` says whether the node is an export list with a source, `keeps_classes` whether classes keep
+/// their names.
+pub fn place_below(keeps_classes: bool, place: Place, sourced: bool, kind: Kind, role: Role) -> Place
+    ensures { result ≡ is_below keeps_classes place sourced kind role }
+{
+    match kind {
+        Kind::ObjectLit => Place::Shorthand,
+        Kind::ExportDecl => Place::Exported,
+        Kind::ClassExpr if keeps_classes => Place::ClassName,
+        _ => match role {
+            Role::Inherited => place,
+            Role::Plain | Role::Label | Role::Imported | Role::Exported => Place::Other,
+            Role::ExportLocal if sourced => Place::Other,
+            _ => Place::Name,
+        },
+    }
+}
