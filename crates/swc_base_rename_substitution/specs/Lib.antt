@@ -1,2 +1,6 @@
 pub mod Names
 pub mod Places
+pub mod Identifiers
+pub mod Classes
+pub mod Exports
+pub mod Substituted
