@@ -12,10 +12,15 @@ use Rattle.swc_base_rename_substitution.specs.declared.place.Place.TheVariants a
 abbrev pub field_role : Kind → ℕ → Role
 field_role k i = unwrap_or (option_map (λ f. f.2) (slice_get (fields_of k) i)) role.Plain
 
+-- parts of what binds or means names do so too
+abbrev pub within : Place → Place
+within place.Other = place.Other
+within p = place.Name
+
 -- labels, imported names and exported names are neither bindings nor references; the local side of an export
 -- list is a reference, unless the list has a source
 abbrev pub by_role : Place → Bool → Role → Place
-by_role whole sourced role.Inherited = whole
+by_role whole sourced role.Inherited = within whole
 by_role whole sourced role.Plain = place.Other
 by_role whole sourced role.Label = place.Other
 by_role whole sourced role.Imported = place.Other

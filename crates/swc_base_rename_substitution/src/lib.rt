@@ -2,6 +2,7 @@
 #![tactic(auto)]
 
 mod config;
+mod identifiers;
 mod names;
 mod place;
 

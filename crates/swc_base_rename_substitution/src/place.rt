@@ -1,6 +1,6 @@
 //! Where an identifier stands.
 ghost use Rattle.std.specs.Prelude.{◌≡◌};
-ghost use Rattle.swc_base_rename_substitution.specs.Places.{place_below as is_below, field_role as role_in_table};
+ghost use Rattle.swc_base_rename_substitution.specs.Places.{place_below as is_below, within as is_within, field_role as role_in_table};
 
 use swc_tree_node::{Kind, Role, fields_of};
 
@@ -29,6 +29,16 @@ pub fn field_role(kind: Kind, field: usize) -> Role
     }
 }
 
+// The place of a part of what stands at a place.
+fn within(place: Place) -> Place
+    ensures { result ≡ is_within place }
+{
+    match place {
+        Place::Other => Place::Other,
+        _ => Place::Name,
+    }
+}
+
 /// The place that is a field of a node at `place`.
 ///
 /// `sourced` says whether the node is an export list with a source, `keeps_classes` whether classes keep
@@ -41,7 +51,7 @@ pub fn place_below(keeps_classes: bool, place: Place, sourced: bool, kind: Kind,
         Kind::ExportDecl => Place::Exported,
         Kind::ClassExpr if keeps_classes => Place::ClassName,
         _ => match role {
-            Role::Inherited => place,
+            Role::Inherited => within(place),
             Role::Plain | Role::Label | Role::Imported | Role::Exported => Place::Other,
             Role::ExportLocal if sourced => Place::Other,
             _ => Place::Name,
