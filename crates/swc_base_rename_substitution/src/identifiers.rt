@@ -1,7 +1,7 @@
 //! Identifiers that get their new names, and the nodes that write a changed name out.
 ghost use Rattle.std.specs.Prelude.{◌≡◌, IfOk, unwrap_or};
 ghost use Rattle.swc_base_rename_substitution.specs.Names.{new_id};
-ghost use Rattle.swc_base_rename_substitution.specs.Identifiers.{changed, identifier_to, key_of as is_key_of, property_key as is_property_key};
+ghost use Rattle.swc_base_rename_substitution.specs.Identifiers.{changed, identifier_to, kept_name, key_of as is_key_of, property_key as is_property_key};
 ghost use Rattle.swc_base_rename_substitution.specs.Substituted.{if_changed};
 
 use crate::names::Names;
@@ -55,5 +55,73 @@ pub fn rename(
             });
             Ok((ident, None))
         }
+    }
+}
+
+/// The identifier as a name that is kept: with the empty context.
+pub fn keep_name(alloc: Global, mut ident: Boxed<Ident>) -> Boxed<Ident>
+    ensures { result ≡ kept_name ident }
+{
+    let Ident { span, sym, .. } = ident.replace(blank(alloc));
+    ident.replace(Ident {
+        span,
+        ctxt: SyntaxContext::empty(alloc),
+        sym,
+    });
+    ident
+}
+
+/// A node of a kind with these fields.
+pub fn tree<const N: usize>(alloc: Global, kind: Kind, fields: [Node; N]) -> Result<Node, NoMemory>
+    ensures { IfOk result (λ node. node ≡ Node.Tree kind fields.entry) }
+{
+    let fields = Vec::from_array(alloc, fields)?;
+    Ok(Node::Tree(kind, Items::from_vec(fields)))
+}
+
+// The key of a property, by a name.
+fn key_of(alloc: Global, name: Ident) -> Result<Node, NoMemory>
+    ensures { IfOk result (λ node. node ≡ is_key_of name) }
+{
+    let node = tree(alloc, Kind::IdentName, [Node::Span(name.span), Node::Text(name.sym)])?;
+    Ok(node)
+}
+
+// The key of the property that a shorthand made.
+fn property_key(alloc: Global, name: Ident) -> Result<Node, NoMemory>
+    ensures { IfOk result (λ node. node ≡ is_property_key name) }
+{
+    if name.sym.as_str() != "__proto__" {
+        let key = key_of(alloc, name)?;
+        return Ok(key);
+    }
+    let span = name.span;
+    let text = tree(alloc, Kind::Str, [Node::Span(span), Node::Text(name.sym), Node::Absent])?;
+    let key = tree(alloc, Kind::ComputedPropName, [Node::Span(span), text])?;
+    Ok(key)
+}
+
+/// What stands in the place of an identifier.
+pub fn substitute_identifier(
+    alloc: Global,
+    names: &Names,
+    place: Place,
+    kind: Kind,
+    ident: Boxed<Ident>,
+) -> Result<Node, NoMemory>
+    ensures { IfOk result (λ node. node ≡ identifier_to place kind ident (changed (new_id names.now) place ident)) }
+{
+    if place == Place::ClassName {
+        return Ok(Node::Identifier(kind, keep_name(alloc, ident)));
+    }
+    let (ident, old) = rename(alloc, &*names, place, ident)?;
+    let ident = Node::Identifier(kind, ident);
+    match old {
+        Some(old) if place == Place::Shorthand => {
+            let key = property_key(alloc, old)?;
+            let property = tree(alloc, Kind::KeyValueProp, [key, ident])?;
+            Ok(property)
+        }
+        _ => Ok(ident),
     }
 }
