@@ -79,8 +79,8 @@ pub fn tree<const N: usize>(alloc: Global, kind: Kind, fields: [Node; N]) -> Res
     Ok(Node::Tree(kind, Items::from_vec(fields)))
 }
 
-// The key of a property, by a name.
-fn key_of(alloc: Global, name: Ident) -> Result<Node, NoMemory>
+/// The key of a property, by a name.
+pub fn key_of(alloc: Global, name: Ident) -> Result<Node, NoMemory>
     ensures { IfOk result (λ node. node ≡ is_key_of name) }
 {
     let node = tree(alloc, Kind::IdentName, [Node::Span(name.span), Node::Text(name.sym)])?;

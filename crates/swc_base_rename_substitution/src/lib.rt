@@ -5,6 +5,7 @@ mod config;
 mod identifiers;
 mod names;
 mod place;
+mod written_out;
 
 pub use config::Config;
 pub use names::Names;
