@@ -6,7 +6,7 @@ use Rattle.swc_tree_node.specs.declared.kind.Kind.TheVariants as kind
 use Rattle.swc_tree_node.specs.declared.kind.Word.TheVariants as word
 use Rattle.swc_tree_node.specs.declared.node.Node.{Node, Word, Span, List as Many, Identifier, Tree, out-Node}
 use Rattle.swc_tree_node.specs.declared.node.Node.TheOpen.{Node-F}
-use Rattle.swc_base_rename_substitution.specs.Identifiers.{kept_name}
+use Rattle.swc_base_rename_substitution.specs.Identifiers.{identifier_in, kept_name}
 
 -- `let` of the name `j`, with a class expression whose name is `i`'s text
 abbrev pub let_of_class : Span' → Ident → Ident → Node → Node
@@ -27,11 +27,11 @@ class_span_in y = None
 abbrev pub class_span : Node → Option Span'
 class_span t = class_span_in (out-Node t)
 
-abbrev pub let_if : Option Span' → Ident → Ident → List Node → Node → Node
-let_if None i j ts class = Tree kind.ClassDecl ts
-let_if (Some s) i j ts class = let_of_class s i j class
+abbrev pub let_if : Option Ident → Option Span' → Ident → Node → Node → Node
+let_if (Some j) (Some s) i name class = let_of_class s i j class
+let_if j s i name class = Tree kind.ClassDecl (name ∷ class ∷ [])
 
--- a class declaration whose name was `i` and is `j`, where it keeps its name in a class expression
-abbrev pub kept_class : Option Ident → Option Ident → List Node → Node
-kept_class (Some i) (Some j) (name ∷ class ∷ []) = let_if (class_span class) i j (name ∷ class ∷ []) class
-kept_class i j ts = Tree kind.ClassDecl ts
+-- a class declaration of these fields, whose name was `i`, where it keeps that name in a class expression
+abbrev pub kept_class : Option Ident → List Node → Node
+kept_class (Some i) (name ∷ class ∷ []) = let_if (identifier_in (out-Node name)) (class_span class) i name class
+kept_class i ts = Tree kind.ClassDecl ts

@@ -40,7 +40,7 @@ is_exported p = false
 abbrev pub tree_for : Changes → Bool → Place → Kind → List Node → List Node → Node
 tree_for m keeps whole kind.ClassDecl before ts =
     if keeps && not (is_exported whole)
-    then kept_class (identifier_at before 0) (identifier_at ts 0) ts
+    then kept_class (identifier_at before 0) ts
     else Tree kind.ClassDecl ts
 tree_for m keeps whole k before ts = written_out_if k (if_changed m (places keeps whole k before 1) (identifier_at before 1)) ts
 

@@ -1,6 +1,7 @@
 //! Substitution: the names of a tree are given anew, as a map says.
 #![tactic(auto)]
 
+mod classes;
 mod config;
 mod identifiers;
 mod names;
