@@ -11,7 +11,7 @@ use Rattle.swc_tree_node.specs.declared.node.Node.TheOpen.{Node-F}
 use Rattle.swc_base_rename_substitution.specs.declared.place.Place.{Place}
 use Rattle.swc_base_rename_substitution.specs.Identifiers.{Changes, changed, identifier_to}
 use Rattle.swc_base_rename_substitution.specs.Exports.{items_for}
-use Rattle.swc_base_rename_substitution.specs.Substituted.{Renewed, renewed, renewed_at, renew_step, substituted, tree_for, each_at, all_before, places}
+use Rattle.swc_base_rename_substitution.specs.Substituted.{Renewed, renewed, renewed_at, renew_step, substituted, tree_for, each_at, all_before, places, each_substituted, items_substituted}
 
 before-List : (m : Changes) (keeps : Bool) (ts : List Node) → (renewed m keeps (Many ts)).before ≡ Many (all_before (map (renewed m keeps) ts))
 before-List m keeps ts = search (rules, the_lemmas)
@@ -76,16 +76,12 @@ each_item m keeps p (t ∷ ts) =
     ∙ ap (λ l. items_for m t (substituted m keeps p t) ++ l) (each_item m keeps p ts)
 
 pub substituted-List : (m : Changes) (keeps : Bool) (p : Place) (ts : List Node)
-    → substituted m keeps p (Many ts) ≡ Many (flat_map (λ t. items_for m t (substituted m keeps p t)) ts)
+    → substituted m keeps p (Many ts) ≡ Many (items_substituted m keeps p ts)
 substituted-List m keeps p ts = folded-List m keeps p ts ∙ ap Many (each_item m keeps p ts)
 
 folded-Tree : (m : Changes) (keeps : Bool) (p : Place) (k : Kind) (ts : List Node)
     → substituted m keeps p (Tree k ts) ≡ tree_for m keeps p k (all_before (map (renewed m keeps) ts)) (each_at (places keeps p k (all_before (map (renewed m keeps) ts))) (map (renewed m keeps) ts))
 folded-Tree m keeps p k ts = search (rules, the_lemmas)
-
--- each node in its place
-abbrev pub each_substituted : Changes → Bool → (ℕ → Place) → List Node → List Node
-each_substituted m keeps ps ts = each_at ps (map (renewed m keeps) ts)
 
 pub substituted-Tree : (m : Changes) (keeps : Bool) (p : Place) (k : Kind) (ts : List Node)
     → substituted m keeps p (Tree k ts) ≡ tree_for m keeps p k ts (each_substituted m keeps (places keeps p k ts) ts)

@@ -22,9 +22,12 @@ holds_bound role.Class = true
 holds_bound role.Inherited = true
 holds_bound r = false
 
+abbrev pub bound_in : Role → List Id → List Id
+bound_in r xs = if holds_bound r then xs else []
+
 abbrev pub bound_below : (ℕ → Role) → List (List Id) → List Id
 bound_below roles [] = []
-bound_below roles (xs ∷ xss) = (if holds_bound (roles zero) then xs else []) ++ bound_below (λ i. roles (suc i)) xss
+bound_below roles (xs ∷ xss) = bound_in (roles zero) xs ++ bound_below (λ i. roles (suc i)) xss
 
 abbrev pub bound_step : Node-F (List Id) → List Id
 bound_step (Node-F.Identifier k i) = id_of i ∷ []
@@ -76,10 +79,27 @@ abbrev pub declaration_in : Node → Node-F Node → Node
 declaration_in t (Node-F.Tree kind.ExportDecl (span ∷ declaration ∷ [])) = declaration
 declaration_in t y = t
 
+-- the declaration without its `export`
+abbrev pub declaration_of : Node → Node
+declaration_of t = declaration_in t (out-Node t)
+
+-- the export list of the names of an exported declaration, where one of them changes
+abbrev pub exports_of : Changes → List Id → Option Node
+exports_of m xs = if list_any (λ x. is_some (m x)) xs then Some (export_list m xs) else None
+
+abbrev pub with_exports : Node → Option Node → List Node
+with_exports t None = t ∷ []
+with_exports t (Some exports) = declaration_of t ∷ exports ∷ []
+
 -- what stands for an item of a list, which was `before` and is now `t`: where a name of an exported
--- declaration changed, the declaration and right after it an export list of all its names
+-- declaration changes, the declaration and right after it an export list of all its names
 abbrev pub items_for : Changes → Node → Node → List Node
-items_for m before t =
-    if list_any (λ x. is_some (m x)) (exported_ids before)
-    then declaration_in t (out-Node t) ∷ export_list m (exported_ids before) ∷ []
-    else t ∷ []
+items_for m before t = with_exports t (exports_of m (exported_ids before))
+
+abbrev pub is_exported_in : Node-F Node → Bool
+is_exported_in (Node-F.Tree kind.ExportDecl ts) = true
+is_exported_in y = false
+
+-- whether the node is an exported declaration
+abbrev pub is_exported_declaration : Node → Bool
+is_exported_declaration t = is_exported_in (out-Node t)

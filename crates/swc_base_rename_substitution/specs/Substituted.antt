@@ -79,6 +79,14 @@ renewed m keeps = fold-Node Renewed (renew_step m keeps)
 abbrev pub substituted : Changes → Bool → Place → Node → Node
 substituted m keeps p t = (renewed m keeps t).at p
 
+-- each node at its place
+abbrev pub each_substituted : Changes → Bool → (ℕ → Place) → List Node → List Node
+each_substituted m keeps ps ts = each_at ps (map (renewed m keeps) ts)
+
+-- what the items of a list become
+abbrev pub items_substituted : Changes → Bool → Place → List Node → List Node
+items_substituted m keeps p ts = flat_map (λ t. items_for m t (substituted m keeps p t)) ts
+
 -- `answer` is the tree with its names given anew
 abbrev pub Substituted : Changes → Bool → Node → Node → Type 0
 Substituted m keeps tree answer = answer ≡ substituted m keeps place.Other tree

@@ -1,8 +1,10 @@
 //! Substitution: the names of a tree are given anew, as a map says.
 #![tactic(auto)]
 
+mod bound;
 mod classes;
 mod config;
+mod exports;
 mod identifiers;
 mod names;
 mod place;

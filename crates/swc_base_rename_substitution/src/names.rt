@@ -1,5 +1,5 @@
 //! The names to be given.
-ghost use Rattle.std.specs.Prelude.{◌≡◌, IfOk};
+ghost use Rattle.std.specs.Prelude.{◌≡◌, IfOk, is_some};
 ghost use Rattle.swc_base_rename_substitution.specs.Names.{new_id};
 
 use std::alloc::Global;
@@ -32,6 +32,22 @@ impl Names<'_> {
             Names::Ids(map) => match map.get(id) {
                 Some(new) if new.0 != id.0 => Ok(Some((new.0.clone()?, new.1.clone()?))),
                 _ => Ok(None),
+            },
+        }
+    }
+
+    /// Whether the map has another text for an id.
+    pub fn changes(&self, id: &Id) -> bool
+        ensures { result ≡ is_some (new_id self.now id.now) }
+    {
+        match self {
+            Names::Texts(map) => match map.get(id) {
+                Some(text) => *text != id.0,
+                None => false,
+            },
+            Names::Ids(map) => match map.get(id) {
+                Some(new) => new.0 != id.0,
+                None => false,
             },
         }
     }
