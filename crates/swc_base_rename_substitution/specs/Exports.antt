@@ -41,7 +41,7 @@ bound_ids = fold-Node (List Id) bound_step
 
 abbrev pub without : Id → List Id → List Id
 without x [] = []
-without x (y ∷ ys) = if same_id x y then without x ys else y ∷ without x ys
+without x (y ∷ ys) = if same_id y x then without x ys else y ∷ without x ys
 
 -- each once, in the order in which they first stand
 abbrev pub distinct : List Id → List Id

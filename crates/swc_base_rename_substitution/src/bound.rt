@@ -85,3 +85,17 @@ fn contains(ids: &[Id], id: &Id) -> bool
     }
     false
 }
+
+/// The ids, each once, in the order in which they first stand.
+#[tactic(auto, using(crate::proofs::Distinct::one_more_kept, crate::proofs::Distinct::one_more_met))]
+pub fn distinct(alloc: Global, ids: Items<Id>) -> Result<Items<Id>, NoMemory>
+    ensures { IfOk result (λ kept. kept ≡ are_distinct ids) }
+{
+    let mut kept = Items::new(alloc);
+    for id in ids.into_vec() {
+        if !contains(kept.as_slice(), &id) {
+            kept.push(id)?;
+        }
+    }
+    Ok(kept)
+}

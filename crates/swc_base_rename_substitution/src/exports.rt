@@ -2,8 +2,9 @@
 ghost use Rattle.std.specs.Prelude.{◌≡◌, ◌++◌, IfOk, OnOk, is_some, map};
 ghost use Rattle.std.specs.List.{list_any};
 ghost use Rattle.swc_base_rename_substitution.specs.Names.{new_id};
-ghost use Rattle.swc_base_rename_substitution.specs.Exports.{made as is_made, specifier_to as is_specifier_to, specifier as is_specifier, export_list as is_export_list, declaration_of as is_declaration_of, with_exports, is_exported_declaration};
+ghost use Rattle.swc_base_rename_substitution.specs.Exports.{made as is_made, specifier_to as is_specifier_to, specifier as is_specifier, export_list as is_export_list, declaration_of as is_declaration_of, exported_ids as are_exported, exports_of as is_exports_of, with_exports, is_exported_declaration};
 
+use crate::bound::{bound_ids, distinct};
 use crate::identifiers::tree;
 use crate::names::Names;
 use std::alloc::Global;
@@ -62,6 +63,54 @@ fn specifier(alloc: Global, names: &Names, id: Id) -> Result<Node, NoMemory>
     let new = names.new_id(alloc, &id)?;
     let specifier = specifier_to(alloc, id, new)?;
     Ok(specifier)
+}
+
+// `export { a1 as a, b };`
+fn export_list(alloc: Global, names: &Names, ids: Items<Id>) -> Result<Node, NoMemory>
+    ensures { IfOk result (λ node. node ≡ is_export_list (new_id names.now) ids) }
+{
+    let mut specifiers = Items::new(alloc);
+    for id in ids.into_vec() {
+        let specifier = specifier(alloc, &*names, id)?;
+        specifiers.push(specifier)?;
+    }
+    let fields = [
+        Node::Span(DUMMY_SP),
+        Node::List(specifiers),
+        Node::Absent,
+        Node::Absent,
+    ];
+    let list = tree(alloc, Kind::NamedExport, fields)?;
+    Ok(list)
+}
+
+// The ids that an exported declaration binds, each once; of any other node none.
+fn exported_ids(alloc: Global, item: &Node) -> Result<Items<Id>, NoMemory>
+    ensures { IfOk result (λ ids. ids ≡ are_exported item.now) }
+{
+    let mut ids = Items::new(alloc);
+    match item {
+        Node::Tree(Kind::ExportDecl, fields) => {
+            if fields.len() == 2 {
+                bound_ids(&fields.as_slice()[1], &mut ids)?;
+            }
+        }
+        _ => {}
+    }
+    let ids = distinct(alloc, ids)?;
+    Ok(ids)
+}
+
+/// The export list of an item's names, where it is an exported declaration one of whose names changes.
+pub fn exports_of(alloc: Global, names: &Names, item: &Node) -> Result<Option<Node>, NoMemory>
+    ensures { IfOk result (λ exports. exports ≡ is_exports_of (new_id names.now) (are_exported item.now)) }
+{
+    let ids = exported_ids(alloc, item)?;
+    if !any_changes(&*names, ids.as_slice()) {
+        return Ok(None);
+    }
+    let list = export_list(alloc, names, ids)?;
+    Ok(Some(list))
 }
 
 // Whether the node is an exported declaration.
