@@ -61,8 +61,8 @@ substituted-Text m keeps p x = search (rules, the_lemmas)
 pub substituted-Span : (m : Changes) (keeps : Bool) (p : Place) (x : Span') → substituted m keeps p (Span x) ≡ Span x
 substituted-Span m keeps p x = search (rules, the_lemmas)
 
-pub substituted-Identifier : (m : Changes) (keeps : Bool) (p : Place) (k : Kind) (i : Ident) → substituted m keeps p (Identifier k i) ≡ identifier_to p k i (changed m p i)
-substituted-Identifier m keeps p k i = search (rules, the_lemmas)
+pub substituted_identifier : (m : Changes) (keeps : Bool) (p : Place) (k : Kind) (i : Ident) → substituted m keeps p (Identifier k i) ≡ identifier_to p k i (changed m p i)
+substituted_identifier m keeps p k i = search (rules, the_lemmas)
 
 folded-List : (m : Changes) (keeps : Bool) (p : Place) (ts : List Node)
     → substituted m keeps p (Many ts) ≡ Many (flat_map (λ x. items_for m x.before (x.at p)) (map (renewed m keeps) ts))
@@ -75,16 +75,18 @@ each_item m keeps p (t ∷ ts) =
     ap (λ u. items_for m u (substituted m keeps p t) ++ flat_map (λ x. items_for m x.before (x.at p)) (map (renewed m keeps) ts)) (before_is m keeps t)
     ∙ ap (λ l. items_for m t (substituted m keeps p t) ++ l) (each_item m keeps p ts)
 
-pub substituted-List : (m : Changes) (keeps : Bool) (p : Place) (ts : List Node)
+pub substituted_list : (m : Changes) (keeps : Bool) (p : Place) (ts : List Node)
     → substituted m keeps p (Many ts) ≡ Many (items_substituted m keeps p ts)
-substituted-List m keeps p ts = folded-List m keeps p ts ∙ ap Many (each_item m keeps p ts)
+substituted_list m keeps p ts = folded-List m keeps p ts ∙ ap Many (each_item m keeps p ts)
 
 folded-Tree : (m : Changes) (keeps : Bool) (p : Place) (k : Kind) (ts : List Node)
     → substituted m keeps p (Tree k ts) ≡ tree_for m keeps p k (all_before (map (renewed m keeps) ts)) (each_at (places keeps p k (all_before (map (renewed m keeps) ts))) (map (renewed m keeps) ts))
 folded-Tree m keeps p k ts = search (rules, the_lemmas)
 
-pub substituted-Tree : (m : Changes) (keeps : Bool) (p : Place) (k : Kind) (ts : List Node)
+pub substituted_tree : (m : Changes) (keeps : Bool) (p : Place) (k : Kind) (ts : List Node)
     → substituted m keeps p (Tree k ts) ≡ tree_for m keeps p k ts (each_substituted m keeps (places keeps p k ts) ts)
-substituted-Tree m keeps p k ts =
+substituted_tree m keeps p k ts =
     folded-Tree m keeps p k ts
     ∙ ap (λ us. tree_for m keeps p k us (each_at (places keeps p k us) (map (renewed m keeps) ts))) (all_before_are m keeps ts)
+
+pub ruleset substituted_leaves = (substituted-Absent, substituted-Flag, substituted-Word, substituted-Text, substituted-Span)

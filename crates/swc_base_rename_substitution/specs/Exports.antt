@@ -91,6 +91,10 @@ abbrev pub with_exports : Node → Option Node → List Node
 with_exports t None = t ∷ []
 with_exports t (Some exports) = declaration_of t ∷ exports ∷ []
 
+abbrev pub each_with_exports : List Node → List (Option Node) → List Node
+each_with_exports (t ∷ ts) (exports ∷ lists) = with_exports t exports ++ each_with_exports ts lists
+each_with_exports ts lists = []
+
 -- what stands for an item of a list, which was `before` and is now `t`: where a name of an exported
 -- declaration changes, the declaration and right after it an export list of all its names
 abbrev pub items_for : Changes → Node → Node → List Node

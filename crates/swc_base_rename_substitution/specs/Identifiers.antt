@@ -1,5 +1,5 @@
 -- What stands in the place of an identifier whose text changes, and of a node that it names.
-use Rattle.std.specs.Prelude.{ℕ, nat_eq, codes, Option, Some, None, option_map, option_and_then, slice_get, List, [], ◌∷◌, if◌then◌else◌}
+use Rattle.std.specs.Prelude.{ℕ, nat_eq, codes, Bool, true, false, ◌&&◌, Option, Some, None, is_some, option_map, option_and_then, slice_get, List, [], ◌∷◌, if◌then◌else◌}
 use Rattle.std.specs.Cmp.Lexicographic.{pointwise}
 use Rattle.swc_tree_marks.specs.declared.ident.Ident.{Ident}
 use Rattle.swc_tree_node.specs.declared.kind.Kind.{Kind}
@@ -80,6 +80,17 @@ written_out kind.AssignPatProp i (s ∷ target ∷ value ∷ []) = Tree kind.Key
 written_out kind.ImportNamedSpecifier i (s ∷ local ∷ imported ∷ []) = Tree kind.ImportNamedSpecifier (s ∷ local ∷ or_kept i imported ∷ [])
 written_out kind.ExportNamedSpecifier i (s ∷ orig ∷ exported ∷ []) = Tree kind.ExportNamedSpecifier (s ∷ orig ∷ or_kept i exported ∷ [])
 written_out k i ts = Tree k ts
+
+-- the kinds that write a changed name out
+abbrev pub writes_out : Kind → Bool
+writes_out kind.AssignPatProp = true
+writes_out kind.ImportNamedSpecifier = true
+writes_out kind.ExportNamedSpecifier = true
+writes_out k = false
+
+-- whether a node of that kind with these fields has a name to write out
+abbrev pub writes_name : Kind → List Node → Bool
+writes_name k ts = writes_out k && is_some (identifier_at ts 1)
 
 abbrev pub written_out_if : Kind → Option Ident → List Node → Node
 written_out_if k None ts = Tree k ts

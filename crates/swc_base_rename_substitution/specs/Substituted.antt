@@ -1,7 +1,7 @@
 -- What a tree becomes where the names in it are given anew.
 --
 -- `m` gives the new id of an id where its text changes; `keeps` says whether classes keep their names.
-use Rattle.std.specs.Prelude.{ℕ, zero, suc, ◌≡◌, Bool, true, false, not, ◌&&◌, Option, Some, None, is_some, option_and_then, List, [], ◌∷◌, map, if◌then◌else◌}
+use Rattle.std.specs.Prelude.{ℕ, zero, suc, ◌≡◌, Bool, true, false, not, ◌&&◌, Option, Some, None, is_some, option_and_then, unwrap_or, slice_get, slice_set, List, [], ◌∷◌, map, if◌then◌else◌}
 use Rattle.std.specs.List.{flat_map}
 use Rattle.swc_tree_marks.specs.declared.ident.Ident.{Ident}
 use Rattle.swc_tree_node.specs.declared.kind.Kind.{Kind}
@@ -32,17 +32,27 @@ places keeps whole k ts i = place_below keeps whole (has_source k ts) k (field_r
 abbrev pub if_changed : Changes → Place → Option Ident → Option Ident
 if_changed m p i = option_and_then (λ i. if is_some (changed m p i) then Some i else None) i
 
+-- `t` is a node of that kind with these fields, with the identifier in the second renamed as at place `p`
+abbrev pub IsRenamed : Changes → Place → Kind → List Node → Node → Type 0
+IsRenamed m p k ts t =
+    (name_kind : Kind) (i : Ident) → slice_get ts 1 ≡ Some (Identifier name_kind i)
+    → t ≡ written_out_if k (if_changed m p (Some i)) (slice_set ts 1 (Identifier name_kind (unwrap_or (changed m p i) i)))
+
 abbrev pub is_exported : Place → Bool
 is_exported place.Exported = true
 is_exported p = false
 
+-- where classes keep their names, a class declaration that is not exported becomes `let`
+abbrev pub keeps_name : Bool → Place → Kind → Bool
+keeps_name keeps p kind.ClassDecl = keeps && not (is_exported p)
+keeps_name keeps p k = false
+
 -- a node of that kind, whose fields were `before` and are now `ts`
 abbrev pub tree_for : Changes → Bool → Place → Kind → List Node → List Node → Node
-tree_for m keeps whole kind.ClassDecl before ts =
-    if keeps && not (is_exported whole)
+tree_for m keeps whole k before ts =
+    if keeps_name keeps whole k
     then kept_class (identifier_at before 0) ts
-    else Tree kind.ClassDecl ts
-tree_for m keeps whole k before ts = written_out_if k (if_changed m (places keeps whole k before 1) (identifier_at before 1)) ts
+    else written_out_if k (if_changed m (places keeps whole k before 1) (identifier_at before 1)) ts
 
 -- a node as it was, and what it becomes at a place
 pub record Renewed : Type 0 where

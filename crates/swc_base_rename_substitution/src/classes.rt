@@ -33,15 +33,33 @@ fn class_span(class: &Node) -> Option<Span>
 }
 
 // `let` of a name, with a class expression of the old name's text.
-fn let_of_class(alloc: Global, span: Span, old: Ident, name: Boxed<Ident>, class: Node) -> Result<Node, NoMemory>
+fn let_of_class(
+    alloc: Global,
+    span: Span,
+    old: Ident,
+    name: Boxed<Ident>,
+    class: Node,
+) -> Result<Node, NoMemory>
     ensures { IfOk result (λ node. node ≡ is_let_of_class span old name class) }
 {
     let old = keep_name(alloc, Boxed::new(alloc, old)?);
-    let expression = tree(alloc, Kind::ClassExpr, [Node::Identifier(Kind::Ident, old), class])?;
+    let expression = tree(
+        alloc,
+        Kind::ClassExpr,
+        [Node::Identifier(Kind::Ident, old), class],
+    )?;
     let name = Node::Identifier(Kind::BindingIdent, name);
-    let declarator = tree(alloc, Kind::VarDeclarator, [Node::Span(span), name, expression])?;
+    let declarator = tree(
+        alloc,
+        Kind::VarDeclarator,
+        [Node::Span(span), name, expression],
+    )?;
     let declarators = Items::from_vec(vec![in alloc; declarator]?);
-    let fields = [Node::Span(span), Node::Word(Word::Let), Node::List(declarators)];
+    let fields = [
+        Node::Span(span),
+        Node::Word(Word::Let),
+        Node::List(declarators),
+    ];
     let declaration = tree(alloc, Kind::VarDecl, fields)?;
     Ok(declaration)
 }
@@ -63,7 +81,11 @@ fn let_if(alloc: Global, old: Ident, name: Node, class: Node) -> Result<Node, No
 }
 
 /// A class declaration of these fields, where it keeps the name that it had in a class expression.
-pub fn kept_class(alloc: Global, old: Option<Ident>, mut fields: Items<Node>) -> Result<Node, NoMemory>
+pub fn kept_class(
+    alloc: Global,
+    old: Option<Ident>,
+    mut fields: Items<Node>,
+) -> Result<Node, NoMemory>
     ensures { IfOk result (λ node. node ≡ is_kept_class old fields) }
 {
     match old {

@@ -1,8 +1,8 @@
 //! Exported declarations, whose names stay as they were for other modules.
-ghost use Rattle.std.specs.Prelude.{◌≡◌, ◌++◌, IfOk, OnOk, is_some, map};
+ghost use Rattle.std.specs.Prelude.{◌≡◌, ◌++◌, IfOk, OnOk, is_some, length, map};
 ghost use Rattle.std.specs.List.{list_any};
 ghost use Rattle.swc_base_rename_substitution.specs.Names.{new_id};
-ghost use Rattle.swc_base_rename_substitution.specs.Exports.{made as is_made, specifier_to as is_specifier_to, specifier as is_specifier, export_list as is_export_list, declaration_of as is_declaration_of, exported_ids as are_exported, exports_of as is_exports_of, with_exports, is_exported_declaration};
+ghost use Rattle.swc_base_rename_substitution.specs.Exports.{made as is_made, specifier_to as is_specifier_to, specifier as is_specifier, export_list as is_export_list, declaration_of as is_declaration_of, exported_ids as are_exported, exports_of as is_exports_of, with_exports, each_with_exports, is_exported_declaration};
 
 use crate::bound::{bound_ids, distinct};
 use crate::identifiers::tree;
@@ -101,8 +101,8 @@ fn exported_ids(alloc: Global, item: &Node) -> Result<Items<Id>, NoMemory>
     Ok(ids)
 }
 
-/// The export list of an item's names, where it is an exported declaration one of whose names changes.
-pub fn exports_of(alloc: Global, names: &Names, item: &Node) -> Result<Option<Node>, NoMemory>
+// The export list of an item's names, where it is an exported declaration one of whose names changes.
+fn exports_of(alloc: Global, names: &Names, item: &Node) -> Result<Option<Node>, NoMemory>
     ensures { IfOk result (λ exports. exports ≡ is_exports_of (new_id names.now) (are_exported item.now)) }
 {
     let ids = exported_ids(alloc, item)?;
@@ -111,6 +111,22 @@ pub fn exports_of(alloc: Global, names: &Names, item: &Node) -> Result<Option<No
     }
     let list = export_list(alloc, names, ids)?;
     Ok(Some(list))
+}
+
+/// The same for each of the items.
+pub fn exports_of_all(
+    alloc: Global,
+    names: &Names,
+    items: &[Node],
+) -> Result<Items<Option<Node>>, NoMemory>
+    ensures { IfOk result (λ exports. exports ≡ map (λ item. is_exports_of (new_id names.now) (are_exported item)) items.now) }
+{
+    let mut all = Items::new(alloc);
+    for item in items {
+        let exports = exports_of(alloc, &*names, item)?;
+        all.push(exports)?;
+    }
+    Ok(all)
 }
 
 // Whether the node is an exported declaration.
@@ -153,8 +169,12 @@ fn declaration_of(node: Node) -> Node
     }
 }
 
-/// Adds an item and, where it has one, its export list.
-pub fn push_with_exports(items: &mut Items<Node>, item: Node, exports: Option<Node>) -> Result<(), NoMemory>
+// Adds an item and, where it has one, its export list.
+fn push_with_exports(
+    items: &mut Items<Node>,
+    item: Node,
+    exports: Option<Node>,
+) -> Result<(), NoMemory>
     ensures { OnOk result (items.new ≡ items.old ++ with_exports item exports) }
 {
     match exports {
@@ -165,4 +185,22 @@ pub fn push_with_exports(items: &mut Items<Node>, item: Node, exports: Option<No
         }
     }
     Ok(())
+}
+
+/// The items, each with its export list where it has one.
+pub fn with_all_exports(
+    alloc: Global,
+    mut items: Items<Node>,
+    mut exports: Items<Option<Node>>,
+) -> Result<Items<Node>, NoMemory>
+    requires { length items ≡ length exports }
+    ensures { IfOk result (λ all. all ≡ each_with_exports items exports) }
+{
+    let mut all = Items::new(alloc);
+    for i in 0..items.len() {
+        let item = items.replace(i, Node::Absent);
+        let exports = exports.replace(i, None);
+        push_with_exports(&mut all, item, exports)?;
+    }
+    Ok(all)
 }

@@ -83,7 +83,11 @@ pub fn tree<const N: usize>(alloc: Global, kind: Kind, fields: [Node; N]) -> Res
 pub fn key_of(alloc: Global, name: Ident) -> Result<Node, NoMemory>
     ensures { IfOk result (λ node. node ≡ is_key_of name) }
 {
-    let node = tree(alloc, Kind::IdentName, [Node::Span(name.span), Node::Text(name.sym)])?;
+    let node = tree(
+        alloc,
+        Kind::IdentName,
+        [Node::Span(name.span), Node::Text(name.sym)],
+    )?;
     Ok(node)
 }
 
@@ -96,7 +100,11 @@ fn property_key(alloc: Global, name: Ident) -> Result<Node, NoMemory>
         return Ok(key);
     }
     let span = name.span;
-    let text = tree(alloc, Kind::Str, [Node::Span(span), Node::Text(name.sym), Node::Absent])?;
+    let text = tree(
+        alloc,
+        Kind::Str,
+        [Node::Span(span), Node::Text(name.sym), Node::Absent],
+    )?;
     let key = tree(alloc, Kind::ComputedPropName, [Node::Span(span), text])?;
     Ok(key)
 }

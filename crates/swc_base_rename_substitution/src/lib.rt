@@ -8,6 +8,7 @@ mod exports;
 mod identifiers;
 mod names;
 mod place;
+mod substitution;
 mod written_out;
 
 pub use config::Config;

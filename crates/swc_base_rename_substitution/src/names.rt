@@ -26,7 +26,10 @@ impl Names<'_> {
     {
         match self {
             Names::Texts(map) => match map.get(id) {
-                Some(text) if *text != id.0 => Ok(Some((text.clone()?, SyntaxContext::empty(alloc)))),
+                Some(text) if *text != id.0 => Ok(Some((
+                    text.clone()?,
+                    SyntaxContext::empty(alloc),
+                ))),
                 _ => Ok(None),
             },
             Names::Ids(map) => match map.get(id) {

@@ -1,9 +1,13 @@
 //! Nodes that write a changed name out.
-ghost use Rattle.std.specs.Prelude.{◌≡◌, IfOk, length};
+ghost use Rattle.std.specs.Prelude.{◌≡◌, ◌<◌, IfOk, length};
 ghost use Rattle.swc_base_rename_substitution.specs.Identifiers.{or_kept as is_or_kept, with_default as is_with_default, written_out as is_written_out, written_out_if as is_written_out_if};
+ghost use Rattle.swc_base_rename_substitution.specs.Names.{new_id};
+ghost use Rattle.swc_base_rename_substitution.specs.Substituted.{IsRenamed};
 ghost use Rattle.swc_tree_node.specs.declared.kind.Kind.TheVariants as kind;
 
-use crate::identifiers::{keep_name, key_of, tree};
+use crate::identifiers::{keep_name, key_of, rename, tree};
+use crate::names::Names;
+use crate::place::Place;
 use std::alloc::Global;
 use swc_tree_items::{Boxed, Items};
 use swc_tree_marks::{Ident, NoMemory};
@@ -50,7 +54,11 @@ fn pattern_property(alloc: Global, old: Ident, mut fields: Items<Node>) -> Resul
 }
 
 // The fields of a specifier, whose name was `old` and changed.
-fn specifier_fields(alloc: Global, old: Ident, mut fields: Items<Node>) -> Result<Items<Node>, NoMemory>
+fn specifier_fields(
+    alloc: Global,
+    old: Ident,
+    mut fields: Items<Node>,
+) -> Result<Items<Node>, NoMemory>
     requires { length fields ≡ 3 }
     ensures import { IfOk result (λ fields'. Node.Tree kind.ImportNamedSpecifier fields' ≡ is_written_out kind.ImportNamedSpecifier old fields) }
     ensures export { IfOk result (λ fields'. Node.Tree kind.ExportNamedSpecifier fields' ≡ is_written_out kind.ExportNamedSpecifier old fields) }
@@ -81,8 +89,13 @@ fn written_out(alloc: Global, kind: Kind, old: Ident, fields: Items<Node>) -> Re
     }
 }
 
-/// The same where the name may have stayed.
-pub fn written_out_if(alloc: Global, kind: Kind, old: Option<Ident>, fields: Items<Node>) -> Result<Node, NoMemory>
+// The same where the name may have stayed.
+fn written_out_if(
+    alloc: Global,
+    kind: Kind,
+    old: Option<Ident>,
+    fields: Items<Node>,
+) -> Result<Node, NoMemory>
     ensures { IfOk result (λ node. node ≡ is_written_out_if kind old fields) }
 {
     match old {
@@ -90,6 +103,31 @@ pub fn written_out_if(alloc: Global, kind: Kind, old: Option<Ident>, fields: Ite
         Some(old) => {
             let node = written_out(alloc, kind, old, fields)?;
             Ok(node)
+        }
+    }
+}
+
+/// A node of a kind and with these fields, where the identifier in the second is still to be renamed.
+pub fn rename_named(
+    alloc: Global,
+    names: &Names,
+    place: Place,
+    kind: Kind,
+    mut fields: Items<Node>,
+) -> Result<Node, NoMemory>
+    requires { 1 < length fields }
+    ensures { IfOk result (IsRenamed (new_id names.now) place kind fields) }
+{
+    match fields.replace(1, Node::Absent) {
+        Node::Identifier(name_kind, name) => {
+            let (name, old) = rename(alloc, &*names, place, name)?;
+            fields.set(1, Node::Identifier(name_kind, name));
+            let node = written_out_if(alloc, kind, old, fields)?;
+            Ok(node)
+        }
+        other => {
+            fields.set(1, other);
+            Ok(Node::Tree(kind, fields))
         }
     }
 }
