@@ -4,3 +4,4 @@ pub mod Identifiers
 pub mod Classes
 pub mod Exports
 pub mod Substituted
+pub mod Room

@@ -21,7 +21,7 @@ impl Names<'_> {
     /// # Errors
     ///
     /// `NoMemory` where memory is refused.
-    pub fn new_id(&self, alloc: Global, id: &Id) -> Result<Option<Id>, NoMemory>
+    pub(crate) fn new_id(&self, alloc: Global, id: &Id) -> Result<Option<Id>, NoMemory>
         ensures { IfOk result (λ new. new ≡ new_id self.now id.now) }
     {
         match self {
@@ -40,7 +40,7 @@ impl Names<'_> {
     }
 
     /// Whether the map has another text for an id.
-    pub fn changes(&self, id: &Id) -> bool
+    pub(crate) fn changes(&self, id: &Id) -> bool
         ensures { result ≡ is_some (new_id self.now id.now) }
     {
         match self {
