@@ -70,7 +70,7 @@ specifiers_fit m (x ∷ xs) = (specifier_fits x (m x), specifiers_fit m xs)
 pairs_absent : Fits Absent slot.Pairs
 pairs_absent = rw (fits-Absent slot.Pairs) yes
 
-export_list_fits : (m : Changes) (xs : List Id) (s : Slot) (c : Class) → single s ≡ Some (content.Node c) → IsTrue (belongs kind.NamedExport c) → Fits (export_list m xs) s
+pub export_list_fits : (m : Changes) (xs : List Id) (s : Slot) (c : Class) → single s ≡ Some (content.Node c) → IsTrue (belongs kind.NamedExport c) → Fits (export_list m xs) s
 export_list_fits m xs s c e b = tree_close kind.NamedExport _ s c e yes b (span_fits _, (list_closes (map (specifier m) xs) (content.Node class.ExportSpecifier) (specifiers_fit m xs), (absent_fits _, (pairs_absent, tt))))
 
 -- ---- identifiers
@@ -94,7 +94,7 @@ shorthand_fits kind.BindingIdent i j s c e a b r =
     absurd (cc)
 shorthand_fits k i j s c e a b r = absurd (grind arith)
 
-identifier_fits : (p : Place) (k : Kind) (i : Ident) (j : Option Ident) (s : Slot) → (is_short p ≡ true → key_room s ≡ true) → Fits (Identifier k i) s → Fits (identifier_to p k i j) s
+pub identifier_fits : (p : Place) (k : Kind) (i : Ident) (j : Option Ident) (s : Slot) → (is_short p ≡ true → key_room s ≡ true) → Fits (Identifier k i) s → Fits (identifier_to p k i j) s
 identifier_fits place.ClassName k i j s r h = let o = identifier_open k i s h in identifier_close k (kept_name i) s o.0 o.1 o.2 o.3
 identifier_fits place.Name k i None s r h = h
 identifier_fits place.Shorthand k i None s r h = h
@@ -208,7 +208,7 @@ class_fits : (i : Option Ident) (ts : List Node) (s : Slot) (c : Class) → sing
 class_fits (Some i) (name ∷ class' ∷ []) s c e b more f = let_if_fits (identifier_in (out-Node name)) (class_span class') i name class' s c e b more f
 class_fits i ts s c e b more f = tree_close kind.ClassDecl ts s c e yes b f
 
-tree_kept : (m : Changes) (keeps : Bool) (p : Place) (k : Kind) (ts rs : List Node) (s : Slot) (c : Class) → single s ≡ Some (content.Node c) → IsTrue (not (is_identifier k)) → IsTrue (belongs k c)
+pub tree_kept : (m : Changes) (keeps : Bool) (p : Place) (k : Kind) (ts rs : List Node) (s : Slot) (c : Class) → single s ≡ Some (content.Node c) → IsTrue (not (is_identifier k)) → IsTrue (belongs k c)
     → takes_written (content.Node c) ≡ true → FieldsFit (slots_of k) rs → Fits (tree_for m keeps p k ts rs) s
 tree_kept m keeps p kind.ClassDecl ts rs s c e n b r f =
     either (keeps_name keeps p kind.ClassDecl) (kept_class (identifier_at ts 0) rs) (written_out_if kind.ClassDecl (if_changed m (places keeps p kind.ClassDecl ts 1) (identifier_at ts 1)) rs) s
