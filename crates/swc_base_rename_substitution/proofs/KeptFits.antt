@@ -17,12 +17,13 @@ use Rattle.swc_tree_node.specs.Table.{slots_of}
 use Rattle.swc_tree_node.specs.Fits.{fits, Fits, FieldsFit, AllFit, single, belongs, list_fits}
 use Rattle.swc_tree_node.proofs.Fit.{fits-List, all_open, all_close, fields_open, fields_close}
 use Rattle.swc_base_rename_substitution.specs.declared.place.Place.{Place}
+use Rattle.swc_base_rename_substitution.specs.declared.place.Place.TheVariants as place
 use Rattle.swc_base_rename_substitution.specs.Names.{Id}
 use Rattle.swc_base_rename_substitution.specs.Places.{field_role}
 use Rattle.swc_base_rename_substitution.specs.Identifiers.{Changes, changed}
 use Rattle.swc_base_rename_substitution.specs.Exports.{exported_in, exported_ids, exports_of, export_list, declaration_in, declaration_of, with_exports, items_for}
-use Rattle.swc_base_rename_substitution.specs.Substituted.{substituted, each_substituted, items_substituted, places, has_source}
-use Rattle.swc_base_rename_substitution.specs.Room.{implies, takes_written, takes_exports, has_room}
+use Rattle.swc_base_rename_substitution.specs.Substituted.{Substituted, substituted, each_substituted, items_substituted, places, has_source}
+use Rattle.swc_base_rename_substitution.specs.Room.{implies, takes_written, takes_exports, has_room, FitsAs}
 use Rattle.swc_base_rename_substitution.proofs.Equations.{substituted-Absent, substituted-Flag, substituted-Word, substituted-Text, substituted-Span, substituted_identifier, substituted_list, substituted_tree}
 use Rattle.swc_base_rename_substitution.proofs.Room.{table_has_room, takes_keys, key_room, is_short, short_places, implied, left, right, tree_open, tree_close}
 use Rattle.swc_base_rename_substitution.proofs.KeptFit.{wider, export_list_fits, identifier_fits, tree_kept}
@@ -159,3 +160,6 @@ layer m keeps (Node-F.Tree k es) = subst (Keeps m keeps) (sym (rolls-Tree k (nod
 
 pub keeps_fit : (m : Changes) (keeps : Bool) (t : Node) → Keeps m keeps t
 keeps_fit m keeps t = ind-Node (Keeps m keeps) (λ x all e. subst (λ x. Keeps m keeps (roll-Node x)) e (layer m keeps all)) t
+
+pub substituted_fits : (m : Changes) (keeps : Bool) (t answer : Node) → Substituted m keeps t answer → FitsAs t answer
+substituted_fits m keeps t answer e s r h = rw e (keeps_fit m keeps t place.Other s r (λ z. absurd (cc)) h)

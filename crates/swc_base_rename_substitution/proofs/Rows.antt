@@ -4,6 +4,10 @@ use Rattle.std.specs.Prelude.{codes}
 use Rattle.swc_tree_node.specs.declared.kind.Kind.TheVariants as kind
 use Rattle.swc_tree_node.specs.declared.kind.Word.TheVariants as word
 use Rattle.swc_tree_node.specs.declared.node.Node.{Node, Absent, Word, Text, Span, List as Many, Identifier, Tree, the_lemmas}
+use Rattle.swc_tree_node.specs.declared.kind.Class.TheVariants as class
+use Rattle.swc_tree_node.specs.declared.slot.Content.TheVariants as content
+use Rattle.swc_tree_node.specs.declared.slot.Slot.TheVariants as slot
+use Rattle.swc_base_rename_substitution.specs.Room.{has_room}
 use Rattle.swc_base_rename_substitution.specs.Names.{Id, same_id, if_other_text}
 use Rattle.swc_base_rename_substitution.specs.Identifiers.{Changes}
 use Rattle.swc_base_rename_substitution.specs.Substituted.{Substituted}
@@ -141,3 +145,8 @@ shorthand_row = search (rules, the_lemmas)
 -- to the same text with another context
 same_text_row : if_other_text (a, 1 ∷ []) (Some (a, 2 ∷ [])) ≡ None
 same_text_row = search rules
+
+-- programs, their lists of items and expressions have room for what is written out
+room_row : (has_room (slot.One (content.Node class.Module)) ≡ true) × (has_room (slot.One (content.Node class.Script)) ≡ true) × (has_room (slot.List (content.Node class.ModuleItem)) ≡ true)
+    × (has_room (slot.List (content.Node class.Stmt)) ≡ true) × (has_room (slot.One (content.Node class.Expr)) ≡ true)
+room_row = (refl, refl, refl, refl, refl)

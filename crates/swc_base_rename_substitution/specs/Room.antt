@@ -1,5 +1,5 @@
 -- Places that take what is written out.
-use Rattle.std.specs.Prelude.{Bool, true, false, not, ◌&&◌, ◌||◌, Option, Some, None}
+use Rattle.std.specs.Prelude.{Bool, true, false, not, ◌&&◌, ◌||◌, IsTrue}
 use Rattle.swc_tree_node.specs.declared.kind.Kind.{Kind}
 use Rattle.swc_tree_node.specs.declared.kind.Kind.TheVariants as kind
 use Rattle.swc_tree_node.specs.declared.kind.Class.{Class}
@@ -7,7 +7,8 @@ use Rattle.swc_tree_node.specs.declared.slot.Content.{Content}
 use Rattle.swc_tree_node.specs.declared.slot.Content.TheVariants as content
 use Rattle.swc_tree_node.specs.declared.slot.Slot.{Slot}
 use Rattle.swc_tree_node.specs.declared.slot.Slot.TheVariants as slot
-use Rattle.swc_tree_node.specs.Fits.{belongs}
+use Rattle.swc_tree_node.specs.declared.node.Node.{Node}
+use Rattle.swc_tree_node.specs.Fits.{belongs, Fits}
 
 abbrev pub implies : Bool → Bool → Bool
 implies a b = not a || b
@@ -33,3 +34,7 @@ has_room (slot.List c) = takes_written c && takes_exports c
 has_room (slot.Holes c) = takes_written c && takes_exports c
 has_room (slot.OptionalList c) = takes_written c && takes_exports c
 has_room s = true
+
+-- a node that fits each place with room that another fits
+abbrev pub FitsAs : Node → Node → Type 0
+FitsAs before t = (s : Slot) → IsTrue (has_room s) → Fits before s → Fits t s
