@@ -1,7 +1,6 @@
 -- What fits its place still does when its names are given anew.
-use Rattle.std.proofs.Common.{◌≡◌, ℕ, zero, suc, Bool, true, false, not, ◌&&◌, ◌||◌, IsTrue, Option, Some, None, List, [], ◌∷◌, ◌++◌, map, refl, sym, ap, ◌∙◌, subst, rules, arith}
-use Rattle.std.specs.Prelude.{is_some, if◌then◌else◌}
-use Rattle.std.specs.List.{list_all, list_any, flat_map}
+use Rattle.std.proofs.Common.{◌≡◌, ℕ, Bool, true, false, not, IsTrue, Option, Some, None, List, [], ◌∷◌, map, refl, sym, ap, ◌∙◌, subst, arith}
+use Rattle.std.specs.Prelude.{if◌then◌else◌}
 use Rattle.swc_tree_marks.specs.declared.span.Span.{Span as Span'}
 use Rattle.swc_tree_marks.specs.declared.ident.Ident.{Ident}
 use Rattle.swc_tree_node.specs.declared.kind.Kind.{Kind}
@@ -13,23 +12,21 @@ use Rattle.swc_tree_node.specs.declared.slot.Content.{Content}
 use Rattle.swc_tree_node.specs.declared.slot.Content.TheVariants as content
 use Rattle.swc_tree_node.specs.declared.slot.Slot.{Slot}
 use Rattle.swc_tree_node.specs.declared.slot.Slot.TheVariants as slot
-use Rattle.swc_tree_node.specs.declared.node.Node.{Node, Absent, Flag, Word, Text, Span, List as Many, Identifier, Tree, out-Node, roll-Node, map-Node, ind-Node, roll-out-Node}
-use Rattle.swc_tree_node.specs.declared.node.Node.TheVariants.{rolls-Absent, rolls-Flag, rolls-Word, rolls-Text, rolls-Span, rolls-List, rolls-Identifier, rolls-Tree, outs-Tree}
+use Rattle.swc_tree_node.specs.declared.node.Node.{Node, Absent, Flag, Word, Text, Span, List as Many, Identifier, Tree, out-Node, roll-Node, roll-out-Node}
+use Rattle.swc_tree_node.specs.declared.node.Node.TheVariants.{rolls-Absent, rolls-Flag, rolls-Word, rolls-Text, rolls-Span, rolls-List, rolls-Identifier, rolls-Tree}
 use Rattle.swc_tree_node.specs.declared.node.Node.TheOpen.{Node-F}
 use Rattle.swc_tree_node.specs.Table.{slots_of, is_identifier}
-use Rattle.swc_tree_node.specs.Fits.{fits, Fits, FieldsFit, AllFit, single, belongs, list_fits}
-use Rattle.swc_tree_node.proofs.Fit.{fits-Absent, fits-Flag, fits-Word, fits-Identifier, fits-Tree, fits-Text, fits-Span, fits-List, list_closes, all_open, all_close, fields_open, fields_close}
+use Rattle.swc_tree_node.specs.Fits.{fits, Fits, FieldsFit, AllFit, single, belongs}
+use Rattle.swc_tree_node.proofs.Fit.{fits-Absent, fits-Flag, fits-Word, fits-Identifier, fits-Tree, fits-Text, fits-Span, fits-List, list_closes}
 use Rattle.swc_base_rename_substitution.specs.declared.place.Place.{Place}
 use Rattle.swc_base_rename_substitution.specs.declared.place.Place.TheVariants as place
 use Rattle.swc_base_rename_substitution.specs.Names.{Id}
-use Rattle.swc_base_rename_substitution.specs.Places.{field_role, place_below}
-use Rattle.swc_base_rename_substitution.specs.Identifiers.{Changes, changed, identifier_at, identifier_in, identifier_to, kept_name, key_of, property_key, with_default, default_in, or_kept, kept_in, written_out, writes_out, written_out_if}
+use Rattle.swc_base_rename_substitution.specs.Identifiers.{Changes, identifier_at, identifier_in, identifier_to, kept_name, key_of, property_key, default_in, kept_in, written_out, written_out_if}
 use Rattle.swc_base_rename_substitution.specs.Classes.{class_span, kept_class, let_if, let_of_class}
-use Rattle.swc_base_rename_substitution.specs.Exports.{exported_in, exported_ids, exports_of, export_list, specifier, specifier_to, made, nowhere, declaration_in, declaration_of, with_exports, items_for}
-use Rattle.swc_base_rename_substitution.specs.Substituted.{substituted, each_substituted, items_substituted, if_changed, keeps_name, places, has_source, tree_for}
-use Rattle.swc_base_rename_substitution.specs.Room.{implies, takes_written, takes_exports, has_room}
-use Rattle.swc_base_rename_substitution.proofs.Equations.{substituted-Absent, substituted-Flag, substituted-Word, substituted-Text, substituted-Span, substituted_identifier, substituted_list, substituted_tree}
-use Rattle.swc_base_rename_substitution.proofs.Room.{yes, table_has_room, takes_keys, key_room, is_short, short_places, implied, left, right, tree_open, tree_close, identifier_open, identifier_close}
+use Rattle.swc_base_rename_substitution.specs.Exports.{export_list, specifier, specifier_to, made}
+use Rattle.swc_base_rename_substitution.specs.Substituted.{if_changed, keeps_name, places, tree_for}
+use Rattle.swc_base_rename_substitution.specs.Room.{implies, takes_written}
+use Rattle.swc_base_rename_substitution.proofs.Room.{yes, takes_keys, key_room, is_short, implied, left, right, tree_open, tree_close, identifier_open, identifier_close}
 
 span_fits : (x : Span') → Fits (Span x) (slot.One content.Span)
 span_fits x = rw (fits-Span x (slot.One content.Span)) yes
@@ -174,7 +171,7 @@ written_fits : (k : Kind) (i : Ident) (ts : List Node) (s : Slot) (c : Class) �
 written_fits kind.AssignPatProp i (a ∷ target ∷ value ∷ []) s c e n b r f =
     let more : IsTrue (belongs kind.KeyValuePatProp c) = implied (belongs kind.AssignPatProp c) (belongs kind.KeyValuePatProp c) (right _ _ r) b in
     tree_close kind.KeyValuePatProp _ s c e yes more
-      (key_fits i, (default_fits (out-Node value) i target value (sym (roll-out-Node value)) (wider target _ class.BindingIdent class.Pat refl targets_wide f.1.0) f.1.1.0, tt))
+    (key_fits i, (default_fits (out-Node value) i target value (sym (roll-out-Node value)) (wider target _ class.BindingIdent class.Pat refl targets_wide f.1.0) f.1.1.0, tt))
 written_fits kind.ImportNamedSpecifier i (a ∷ name ∷ other ∷ []) s c e n b r f =
     tree_close kind.ImportNamedSpecifier _ s c e n b (f.0, (f.1.0, (kept_fits (out-Node other) i other f.1.1.0, tt)))
 written_fits kind.ExportNamedSpecifier i (a ∷ name ∷ other ∷ []) s c e n b r f =
@@ -192,9 +189,9 @@ let_fits : (x : Span') (i j : Ident) (class' : Node) (s : Slot) (c : Class) → 
     → Fits (let_of_class x i j class') s
 let_fits x i j class' s c e b f =
     let expression : Fits (Tree kind.ClassExpr (Identifier kind.Ident (kept_name i) ∷ class' ∷ [])) (slot.Optional (content.Node class.Expr))
-          = tree_close kind.ClassExpr _ _ class.Expr refl yes yes (name_fits (kept_name i) _ class.Ident refl yes, (f, tt)) in
+    = tree_close kind.ClassExpr _ _ class.Expr refl yes yes (name_fits (kept_name i) _ class.Ident refl yes, (f, tt)) in
     let declarator : Fits (Tree kind.VarDeclarator (Span x ∷ Identifier kind.BindingIdent j ∷ Tree kind.ClassExpr (Identifier kind.Ident (kept_name i) ∷ class' ∷ []) ∷ [])) (slot.One (content.Node class.VarDeclarator))
-          = tree_close kind.VarDeclarator _ _ class.VarDeclarator refl yes yes (span_fits x, (identifier_close kind.BindingIdent j _ class.Pat refl yes yes, (expression, tt))) in
+    = tree_close kind.VarDeclarator _ _ class.VarDeclarator refl yes yes (span_fits x, (identifier_close kind.BindingIdent j _ class.Pat refl yes yes, (expression, tt))) in
     tree_close kind.VarDecl _ s c e yes b (span_fits x, (rw (fits-Word word.Let _) yes, (list_closes _ (content.Node class.VarDeclarator) (declarator, tt), tt)))
 
 let_if_fits : (j : Option Ident) (x : Option Span') (i : Ident) (name class' : Node) (s : Slot) (c : Class) → single s ≡ Some (content.Node c) → IsTrue (belongs kind.ClassDecl c) → IsTrue (belongs kind.VarDecl c)
@@ -212,6 +209,6 @@ pub tree_kept : (m : Changes) (keeps : Bool) (p : Place) (k : Kind) (ts rs : Lis
     → takes_written (content.Node c) ≡ true → FieldsFit (slots_of k) rs → Fits (tree_for m keeps p k ts rs) s
 tree_kept m keeps p kind.ClassDecl ts rs s c e n b r f =
     either (keeps_name keeps p kind.ClassDecl) (kept_class (identifier_at ts 0) rs) (written_out_if kind.ClassDecl (if_changed m (places keeps p kind.ClassDecl ts 1) (identifier_at ts 1)) rs) s
-      (class_fits (identifier_at ts 0) rs s c e b (implied (belongs kind.ClassDecl c) (belongs kind.VarDecl c) (left _ _ r) b) f)
-      (written_if_fits kind.ClassDecl (if_changed m (places keeps p kind.ClassDecl ts 1) (identifier_at ts 1)) rs s c e n b r f)
+    (class_fits (identifier_at ts 0) rs s c e b (implied (belongs kind.ClassDecl c) (belongs kind.VarDecl c) (left _ _ r) b) f)
+    (written_if_fits kind.ClassDecl (if_changed m (places keeps p kind.ClassDecl ts 1) (identifier_at ts 1)) rs s c e n b r f)
 tree_kept m keeps p k ts rs s c e n b r f = written_if_fits k (if_changed m (places keeps p k ts 1) (identifier_at ts 1)) rs s c e n b r f

@@ -1,7 +1,7 @@
 -- What fits its place still does when its names are given anew: lists, and the whole.
-use Rattle.std.proofs.Common.{◌≡◌, ℕ, zero, suc, Bool, true, false, ◌&&◌, IsTrue, Option, Some, None, List, [], ◌∷◌, ◌++◌, map, refl, sym, ap, ◌∙◌, subst, rules, arith}
+use Rattle.std.proofs.Common.{◌≡◌, ℕ, zero, suc, Bool, true, false, ◌&&◌, IsTrue, Option, Some, None, List, [], ◌∷◌, ◌++◌, map, refl, sym, ap, ◌∙◌, subst}
 use Rattle.std.specs.Prelude.{is_some, if◌then◌else◌}
-use Rattle.std.specs.List.{list_all, list_any, flat_map}
+use Rattle.std.specs.List.{list_all, list_any}
 use Rattle.swc_tree_node.specs.declared.kind.Kind.{Kind}
 use Rattle.swc_tree_node.specs.declared.kind.Kind.TheVariants as kind
 use Rattle.swc_tree_node.specs.declared.kind.Class.{Class}
@@ -10,7 +10,7 @@ use Rattle.swc_tree_node.specs.declared.slot.Content.{Content}
 use Rattle.swc_tree_node.specs.declared.slot.Content.TheVariants as content
 use Rattle.swc_tree_node.specs.declared.slot.Slot.{Slot}
 use Rattle.swc_tree_node.specs.declared.slot.Slot.TheVariants as slot
-use Rattle.swc_tree_node.specs.declared.node.Node.{Node, Absent, Flag, Word, Text, Span, List as Many, Identifier, Tree, out-Node, roll-Node, map-Node, ind-Node, roll-out-Node}
+use Rattle.swc_tree_node.specs.declared.node.Node.{Node, Absent, Flag, Word, Text, Span, List as Many, Tree, out-Node, roll-Node, map-Node, ind-Node, roll-out-Node}
 use Rattle.swc_tree_node.specs.declared.node.Node.TheVariants.{rolls-Absent, rolls-Flag, rolls-Word, rolls-Text, rolls-Span, rolls-List, rolls-Identifier, rolls-Tree}
 use Rattle.swc_tree_node.specs.declared.node.Node.TheOpen.{Node-F}
 use Rattle.swc_tree_node.specs.Table.{slots_of}
@@ -21,11 +21,11 @@ use Rattle.swc_base_rename_substitution.specs.declared.place.Place.TheVariants a
 use Rattle.swc_base_rename_substitution.specs.Names.{Id}
 use Rattle.swc_base_rename_substitution.specs.Places.{field_role}
 use Rattle.swc_base_rename_substitution.specs.Identifiers.{Changes, changed}
-use Rattle.swc_base_rename_substitution.specs.Exports.{exported_in, exported_ids, exports_of, export_list, declaration_in, declaration_of, with_exports, items_for}
+use Rattle.swc_base_rename_substitution.specs.Exports.{exported_in, exports_of, export_list, declaration_in, declaration_of, with_exports, items_for}
 use Rattle.swc_base_rename_substitution.specs.Substituted.{Substituted, substituted, each_substituted, items_substituted, places, has_source}
-use Rattle.swc_base_rename_substitution.specs.Room.{implies, takes_written, takes_exports, has_room, FitsAs}
+use Rattle.swc_base_rename_substitution.specs.Room.{takes_written, takes_exports, has_room, FitsAs}
 use Rattle.swc_base_rename_substitution.proofs.Equations.{substituted-Absent, substituted-Flag, substituted-Word, substituted-Text, substituted-Span, substituted_identifier, substituted_list, substituted_tree}
-use Rattle.swc_base_rename_substitution.proofs.Room.{table_has_room, takes_keys, key_room, is_short, short_places, implied, left, right, tree_open, tree_close}
+use Rattle.swc_base_rename_substitution.proofs.Room.{table_has_room, key_room, is_short, short_places, implied, left, right, tree_open}
 use Rattle.swc_base_rename_substitution.proofs.KeptFit.{wider, export_list_fits, identifier_fits, tree_kept}
 
 -- room for exports, where items of that content stand
@@ -58,7 +58,7 @@ exports_fit m (Node-F.Tree kind.ExportDecl (a ∷ d ∷ [])) t u s e r h g =
     let room : takes_exports (content.Node o.0) ≡ true = ap exports_room (sym o.1) ∙ r in
     let ids : List Id = exported_in (Node-F.Tree kind.ExportDecl (a ∷ d ∷ [])) in
     chosen_fits (list_any (λ x. is_some (m x)) ids) u (export_list m ids) s g (declaration_fits (out-Node u) u s (sym (roll-out-Node u)) r g)
-      (export_list_fits m ids s o.0 o.1 (left _ _ (implied (belongs kind.ExportDecl o.0) _ room o.3)))
+    (export_list_fits m ids s o.0 o.1 (left _ _ (implied (belongs kind.ExportDecl o.0) _ room o.3)))
 exports_fit m y t u s e r h g = (g, tt)
 
 items_fit : (m : Changes) (t u : Node) (s : Slot) → exports_room (single s) ≡ true → Fits t s → Fits u s → AllFit s (items_for m t u)
@@ -86,14 +86,15 @@ each_field m keeps ps [] (e ∷ es) r q h = absurd h
 each_field m keeps ps (s ∷ ss) [] r q h = absurd h
 each_field m keeps ps (s ∷ ss) (e ∷ es) r q h = (
   e.1 (ps zero) s (left (has_room s) (list_all has_room ss) r) (λ z. left (key_room s) (list_all key_room ss) (q zero z)) h.0,
-  each_field m keeps (λ i. ps (suc i)) ss es (right (has_room s) (list_all has_room ss) r) (λ i z. right (key_room s) (list_all key_room ss) (q (suc i) z)) h.1)
+  each_field m keeps (λ i. ps (suc i)) ss es (right (has_room s) (list_all has_room ss) r) (λ i z. right (key_room s) (list_all key_room ss) (q (suc i) z)) h.1,
+)
 
 each_item : (m : Changes) (keeps : Bool) (p : Place) (s : Slot) (es : List (Kept m keeps)) → has_room s ≡ true → exports_room (single s) ≡ true → (is_short p ≡ true → key_room s ≡ true)
     → AllFit s (nodes m keeps es) → AllFit s (items_substituted m keeps p (nodes m keeps es))
 each_item m keeps p s [] r x q h = tt
 each_item m keeps p s (e ∷ es) r x q h =
     all_append s (items_for m e.0 (substituted m keeps p e.0)) (items_substituted m keeps p (nodes m keeps es))
-      (items_fit m e.0 (substituted m keeps p e.0) s x h.0 (e.1 p s r q h.0)) (each_item m keeps p s es r x q h.1)
+    (items_fit m e.0 (substituted m keeps p e.0) s x h.0 (e.1 p s r q h.0)) (each_item m keeps p s es r x q h.1)
 
 -- a text stays alone
 plain_text : (y : Node-F Node) (t : Node) → t ≡ roll-Node y → Fits t (slot.One content.Text) → exported_in y ≡ []
@@ -110,9 +111,9 @@ pair_fits m keeps p (a ∷ b ∷ []) h =
     let first = substituted m keeps p a.0 in
     let second = substituted m keeps p b.0 in
     let same : items_substituted m keeps p (nodes m keeps (a ∷ b ∷ [])) ≡ first ∷ second ∷ []
-          = ap (λ l. l ++ items_substituted m keeps p (nodes m keeps (b ∷ []))) (text_alone m a.0 first h.0) ∙ ap (λ l. first ∷ (l ++ [])) (text_alone m b.0 second h.1.0) in
+    = ap (λ l. l ++ items_substituted m keeps p (nodes m keeps (b ∷ []))) (text_alone m a.0 first h.0) ∙ ap (λ l. first ∷ (l ++ [])) (text_alone m b.0 second h.1.0) in
     subst (FieldsFit (slot.One content.Text ∷ slot.One content.Text ∷ [])) (sym same)
-      (a.1 p (slot.One content.Text) refl (λ z. refl) h.0, (b.1 p (slot.One content.Text) refl (λ z. refl) h.1.0, tt))
+    (a.1 p (slot.One content.Text) refl (λ z. refl) h.0, (b.1 p (slot.One content.Text) refl (λ z. refl) h.1.0, tt))
 pair_fits m keeps p [] h = absurd h
 pair_fits m keeps p (a ∷ []) h = absurd h.1
 pair_fits m keeps p (a ∷ b ∷ c ∷ es) h = absurd h.1.1
@@ -141,8 +142,8 @@ tree_is_kept m keeps k es p s r q h =
     let ts : List Node = nodes m keeps es in
     let o = tree_open k ts s h in
     rw (substituted_tree m keeps p k ts)
-      (tree_kept m keeps p k ts (each_substituted m keeps (places keeps p k ts) ts) s o.0 o.1 o.2 o.3 (room_single s (content.Node o.0) r o.1)
-        (each_field m keeps (places keeps p k ts) (slots_of k) es (table_has_room k) (λ i z. short_places keeps p (has_source k ts) k (field_role k i) z) o.4))
+    (tree_kept m keeps p k ts (each_substituted m keeps (places keeps p k ts) ts) s o.0 o.1 o.2 o.3 (room_single s (content.Node o.0) r o.1)
+    (each_field m keeps (places keeps p k ts) (slots_of k) es (table_has_room k) (λ i z. short_places keeps p (has_source k ts) k (field_role k i) z) o.4))
 
 same : (m : Changes) (keeps : Bool) (t : Node) → ((p : Place) → substituted m keeps p t ≡ t) → Keeps m keeps t
 same m keeps t e p s r q h = subst (λ u. Fits u s) (sym (e p)) h

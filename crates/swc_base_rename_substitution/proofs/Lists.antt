@@ -1,15 +1,13 @@
 -- Lists of nodes, as they are substituted one after another.
-use Rattle.std.proofs.Common.{◌≡◌, ℕ, zero, suc, ◌+◌, ◌<◌, Bool, true, false, ◌||◌, Option, Some, None, List, [], ◌∷◌, ◌++◌, length, map, take, drop, get_or, append_assoc, append-nil, refl, sym, ap, ◌∙◌, subst, rules, arith, add-one}
-use Rattle.std.specs.List.{slice_get, slice_set, flat_map, list_any}
-use Rattle.swc_tree_node.specs.declared.kind.Kind.{Kind}
+use Rattle.std.proofs.Common.{◌≡◌, ℕ, zero, suc, ◌+◌, ◌<◌, Bool, true, false, ◌||◌, Option, Some, List, [], ◌∷◌, ◌++◌, length, map, take, drop, append_assoc, refl, sym, ap, ◌∙◌, arith, add-one}
+use Rattle.std.specs.List.{slice_get, slice_set, list_any}
 use Rattle.swc_tree_node.specs.declared.kind.Kind.TheVariants as kind
 use Rattle.swc_tree_node.specs.declared.node.Node.{Node, out-Node}
 use Rattle.swc_tree_node.specs.declared.node.Node.TheOpen.{Node-F}
 use Rattle.swc_base_rename_substitution.specs.declared.place.Place.{Place}
-use Rattle.swc_base_rename_substitution.specs.Names.{Id}
 use Rattle.swc_base_rename_substitution.specs.Identifiers.{Changes}
-use Rattle.swc_base_rename_substitution.specs.Exports.{exported_in, exported_ids, exports_of, is_exported_in, is_exported_declaration, items_for, with_exports, each_with_exports}
-use Rattle.swc_base_rename_substitution.specs.Substituted.{Renewed, renewed, substituted, each_at, each_substituted, items_substituted}
+use Rattle.swc_base_rename_substitution.specs.Exports.{exported_in, exported_ids, exports_of, is_exported_in, is_exported_declaration, with_exports, each_with_exports}
+use Rattle.swc_base_rename_substitution.specs.Substituted.{substituted, each_substituted, items_substituted}
 
 done_at : (m : Changes) (keeps : Bool) (ps : ℕ → Place) (ts : List Node) (i : ℕ) (d x : Node) → i < length ts → slice_get (each_substituted m keeps ps (take i ts) ++ drop i ts) i ≡ Some x
     → slice_set (slice_set (each_substituted m keeps ps (take i ts) ++ drop i ts) i d) i (substituted m keeps (ps i) x) ≡ each_substituted m keeps ps (take (suc i) ts) ++ drop (suc i) ts

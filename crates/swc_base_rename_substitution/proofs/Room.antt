@@ -1,5 +1,5 @@
 -- Where there is room for what is written out.
-use Rattle.std.proofs.Common.{◌≡◌, ℕ, Bool, true, false, not, ◌&&◌, ◌||◌, IsTrue, Option, Some, None, List, [], ◌∷◌, map, refl, sym, ap, ◌∙◌, subst, rules, arith}
+use Rattle.std.proofs.Common.{◌≡◌, Bool, true, false, not, ◌&&◌, IsTrue, Option, Some, List, map, refl, rules, arith}
 use Rattle.std.specs.List.{list_all}
 use Rattle.swc_tree_marks.specs.declared.ident.Ident.{Ident}
 use Rattle.swc_tree_node.specs.declared.kind.Kind.{Kind}
@@ -18,7 +18,7 @@ use Rattle.swc_tree_node.proofs.Fit.{fits-Tree, fits-Identifier, both, and_both,
 use Rattle.swc_base_rename_substitution.specs.declared.place.Place.{Place}
 use Rattle.swc_base_rename_substitution.specs.declared.place.Place.TheVariants as place
 use Rattle.swc_base_rename_substitution.specs.Places.{within, by_role, in_kind, place_below}
-use Rattle.swc_base_rename_substitution.specs.Room.{implies, takes_written, takes_exports, has_room}
+use Rattle.swc_base_rename_substitution.specs.Room.{implies, has_room}
 
 pub yes : IsTrue true
 yes = grind rules
@@ -98,7 +98,7 @@ tree_open k ts s h = tree_at k ts s (single s) refl (rw (← fits-Tree k ts s) h
 pub tree_close : (k : Kind) (ts : List Node) (s : Slot) (c : Class) → single s ≡ Some (content.Node c) → IsTrue (not (is_identifier k)) → IsTrue (belongs k c) → FieldsFit (slots_of k) ts → Fits (Tree k ts) s
 tree_close k ts s c e i b f =
     rw (fits-Tree k ts s, e) (and_both (not (is_identifier k)) (belongs k c && each_fits (slots_of k) (map fits ts)) i
-      (and_both (belongs k c) (each_fits (slots_of k) (map fits ts)) b (fields_close (slots_of k) ts f)))
+    (and_both (belongs k c) (each_fits (slots_of k) (map fits ts)) b (fields_close (slots_of k) ts f)))
 
 identifier_at : (k : Kind) (s : Slot) (o : Option Content) → single s ≡ o → IsTrue (identifier_fits k o) → (c : Class) × (single s ≡ Some (content.Node c)) × IsTrue (is_identifier k) × IsTrue (belongs k c)
 identifier_at k s (Some (content.Node c)) e h = let p = both (is_identifier k) (belongs k c) h in (c, e, p.0, p.1)

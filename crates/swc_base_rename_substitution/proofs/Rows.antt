@@ -1,5 +1,5 @@
 -- What the definition says of small programs.
-use Rattle.std.proofs.Common.{◌≡◌, ℕ, true, false, Bool, Option, Some, None, List, [], ◌∷◌, refl, rules, cond}
+use Rattle.std.proofs.Common.{◌≡◌, ℕ, true, false, Some, None, List, [], ◌∷◌, refl, rules, cond}
 use Rattle.std.specs.Prelude.{codes}
 use Rattle.swc_tree_node.specs.declared.kind.Kind.TheVariants as kind
 use Rattle.swc_tree_node.specs.declared.kind.Word.TheVariants as word
@@ -8,7 +8,7 @@ use Rattle.swc_tree_node.specs.declared.kind.Class.TheVariants as class
 use Rattle.swc_tree_node.specs.declared.slot.Content.TheVariants as content
 use Rattle.swc_tree_node.specs.declared.slot.Slot.TheVariants as slot
 use Rattle.swc_base_rename_substitution.specs.Room.{has_room}
-use Rattle.swc_base_rename_substitution.specs.Names.{Id, same_id, if_other_text}
+use Rattle.swc_base_rename_substitution.specs.Names.{same_id, if_other_text}
 use Rattle.swc_base_rename_substitution.specs.Identifiers.{Changes}
 use Rattle.swc_base_rename_substitution.specs.Substituted.{Substituted}
 

@@ -1,5 +1,5 @@
 -- The new names of ids, as a map has them.
-use Rattle.std.specs.Prelude.{ℕ, nat_eq, Bool, true, false, ◌&&◌, Option, Some, None, option_map, List, [], if◌then◌else◌}
+use Rattle.std.specs.Prelude.{ℕ, nat_eq, Bool, ◌&&◌, Option, Some, None, option_map, List, [], if◌then◌else◌}
 use Rattle.std.specs.Cmp.Lexicographic.{pointwise}
 use Rattle.std.specs.HashMap.{get}
 use Rattle.swc_base_rename_substitution.specs.declared.names.Names.{Names}

@@ -1,4 +1,4 @@
-use Rattle.std.proofs.Common.{arith, length-set}
+use Rattle.std.proofs.Common.{length-set}
 use Rattle.swc_base_rename_substitution.proofs.Lists.{next_with_exports}
 use Rattle.swc_base_rename_substitution.proofs.exports.with_all_exports.Goals as goal
 
