@@ -22,11 +22,12 @@ use Rattle.swc_base_rename_substitution.specs.Names.{Id}
 use Rattle.swc_base_rename_substitution.specs.Places.{field_role}
 use Rattle.swc_base_rename_substitution.specs.Identifiers.{Changes, changed}
 use Rattle.swc_base_rename_substitution.specs.Exports.{exported_in, exports_of, export_list, declaration_in, declaration_of, with_exports, items_for}
-use Rattle.swc_base_rename_substitution.specs.Substituted.{Substituted, substituted, each_substituted, items_substituted, places, has_source}
+use Rattle.swc_base_rename_substitution.specs.Substituted.{Substituted, substituted, places, has_source}
 use Rattle.swc_base_rename_substitution.specs.Room.{takes_written, takes_exports, has_room, FitsAs}
 use Rattle.swc_base_rename_substitution.proofs.Equations.{substituted-Absent, substituted-Flag, substituted-Word, substituted-Text, substituted-Span, substituted_identifier, substituted_list, substituted_tree}
 use Rattle.swc_base_rename_substitution.proofs.Room.{table_has_room, key_room, is_short, short_places, implied, left, right, tree_open}
 use Rattle.swc_base_rename_substitution.proofs.KeptFit.{wider, export_list_fits, identifier_fits, tree_kept}
+use Rattle.swc_base_rename_substitution.specs.Walk.{each_substituted, items_substituted}
 
 -- room for exports, where items of that content stand
 abbrev exports_room : Option Content → Bool

@@ -6,8 +6,9 @@ use Rattle.swc_tree_node.specs.declared.node.Node.{Node, out-Node}
 use Rattle.swc_tree_node.specs.declared.node.Node.TheOpen.{Node-F}
 use Rattle.swc_base_rename_substitution.specs.declared.place.Place.{Place}
 use Rattle.swc_base_rename_substitution.specs.Identifiers.{Changes}
-use Rattle.swc_base_rename_substitution.specs.Exports.{exported_in, exported_ids, exports_of, is_exported_in, is_exported_declaration, with_exports, each_with_exports}
-use Rattle.swc_base_rename_substitution.specs.Substituted.{substituted, each_substituted, items_substituted}
+use Rattle.swc_base_rename_substitution.specs.Exports.{exported_in, exported_ids, exports_of, with_exports}
+use Rattle.swc_base_rename_substitution.specs.Substituted.{substituted}
+use Rattle.swc_base_rename_substitution.specs.Walk.{is_exported_in, is_exported_declaration, each_with_exports, each_substituted, items_substituted}
 
 done_at : (m : Changes) (keeps : Bool) (ps : ℕ → Place) (ts : List Node) (i : ℕ) (d x : Node) → i < length ts → slice_get (each_substituted m keeps ps (take i ts) ++ drop i ts) i ≡ Some x
     → slice_set (slice_set (each_substituted m keeps ps (take i ts) ++ drop i ts) i d) i (substituted m keeps (ps i) x) ≡ each_substituted m keeps ps (take (suc i) ts) ++ drop (suc i) ts

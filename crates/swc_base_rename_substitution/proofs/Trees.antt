@@ -12,11 +12,12 @@ use Rattle.swc_tree_node.specs.declared.node.Node.TheOpen.{Node-F}
 use Rattle.swc_base_rename_substitution.specs.declared.place.Place.{Place}
 use Rattle.swc_base_rename_substitution.specs.declared.place.Place.TheVariants as place
 use Rattle.swc_base_rename_substitution.specs.declared.place.Below.TheVariants as below
-use Rattle.swc_base_rename_substitution.specs.Places.{within, place_in}
+use Rattle.swc_base_rename_substitution.specs.Places.{within}
 use Rattle.swc_base_rename_substitution.specs.Identifiers.{Changes, changed, identifier_at, identifier_in, identifier_to, written_out, writes_out, writes_name, written_out_if}
 use Rattle.swc_base_rename_substitution.specs.Classes.{kept_class}
-use Rattle.swc_base_rename_substitution.specs.Substituted.{substituted, each_substituted, has_source, if_changed, keeps_name, places, tree_for, IsRenamed}
+use Rattle.swc_base_rename_substitution.specs.Substituted.{substituted, has_source, if_changed, keeps_name, places, tree_for}
 use Rattle.swc_base_rename_substitution.proofs.Equations.{substituted_tree, substituted_identifier}
+use Rattle.swc_base_rename_substitution.specs.Walk.{place_in, each_substituted, IsRenamed}
 
 not_written : (k : Kind) (i : Ident) (ts : List Node) → writes_out k ≡ false → written_out k i ts ≡ Tree k ts
 not_written kind.AssignPatProp i ts h = absurd (cc)

@@ -89,19 +89,7 @@ abbrev pub with_exports : Node → Option Node → List Node
 with_exports t None = t ∷ []
 with_exports t (Some exports) = declaration_of t ∷ exports ∷ []
 
-abbrev pub each_with_exports : List Node → List (Option Node) → List Node
-each_with_exports (t ∷ ts) (exports ∷ lists) = with_exports t exports ++ each_with_exports ts lists
-each_with_exports ts lists = []
-
 -- what stands for an item of a list, which was `before` and is now `t`: where a name of an exported
 -- declaration changes, the declaration and right after it an export list of all its names
 abbrev pub items_for : Changes → Node → Node → List Node
 items_for m before t = with_exports t (exports_of m (exported_ids before))
-
-abbrev pub is_exported_in : Node-F Node → Bool
-is_exported_in (Node-F.Tree kind.ExportDecl ts) = true
-is_exported_in y = false
-
--- whether the node is an exported declaration
-abbrev pub is_exported_declaration : Node → Bool
-is_exported_declaration t = is_exported_in (out-Node t)

@@ -4,4 +4,5 @@ pub mod Identifiers
 pub mod Classes
 pub mod Exports
 pub mod Substituted
+pub mod Walk
 pub mod Room

@@ -7,8 +7,6 @@ use Rattle.swc_tree_node.specs.declared.slot.Role.TheVariants as role
 use Rattle.swc_tree_node.specs.Table.{fields_of}
 use Rattle.swc_base_rename_substitution.specs.declared.place.Place.{Place}
 use Rattle.swc_base_rename_substitution.specs.declared.place.Place.TheVariants as place
-use Rattle.swc_base_rename_substitution.specs.declared.place.Below.{Below}
-use Rattle.swc_base_rename_substitution.specs.declared.place.Below.TheVariants as below
 
 -- the role of a field, as the table has it
 abbrev pub field_role : Kind → ℕ → Role
@@ -39,10 +37,3 @@ in_kind keeps k p = p
 -- the place that a field of a node is; `whole` is the node's own
 abbrev pub place_below : Bool → Place → Bool → Kind → Role → Place
 place_below keeps whole sourced k r = in_kind keeps k (by_role whole sourced r)
-
--- the places of a list's items, or of a node's fields
-abbrev pub place_in : Bool → Below → ℕ → Place
-place_in keeps (below.Items p) i = p
-place_in keeps (below.Fields whole sourced k) i = place_below keeps whole sourced k (field_role k i)
-place_in keeps (below.Others whole sourced k) (suc zero) = place.Other
-place_in keeps (below.Others whole sourced k) i = place_below keeps whole sourced k (field_role k i)

@@ -32,12 +32,6 @@ places keeps whole k ts i = place_below keeps whole (has_source k ts) k (field_r
 abbrev pub if_changed : Changes → Place → Option Ident → Option Ident
 if_changed m p i = option_and_then (λ i. if is_some (changed m p i) then Some i else None) i
 
--- `t` is a node of that kind with these fields, with the identifier in the second renamed as at place `p`
-abbrev pub IsRenamed : Changes → Place → Kind → List Node → Node → Type 0
-IsRenamed m p k ts t =
-    (name_kind : Kind) (i : Ident) → slice_get ts 1 ≡ Some (Identifier name_kind i)
-    → t ≡ written_out_if k (if_changed m p (Some i)) (slice_set ts 1 (Identifier name_kind (unwrap_or (changed m p i) i)))
-
 abbrev pub is_exported : Place → Bool
 is_exported place.Exported = true
 is_exported p = false
@@ -88,14 +82,6 @@ renewed m keeps = fold-Node Renewed (renew_step m keeps)
 -- what a node at a place becomes
 abbrev pub substituted : Changes → Bool → Place → Node → Node
 substituted m keeps p t = (renewed m keeps t).at p
-
--- each node at its place
-abbrev pub each_substituted : Changes → Bool → (ℕ → Place) → List Node → List Node
-each_substituted m keeps ps ts = each_at ps (map (renewed m keeps) ts)
-
--- what the items of a list become
-abbrev pub items_substituted : Changes → Bool → Place → List Node → List Node
-items_substituted m keeps p ts = flat_map (λ t. items_for m t (substituted m keeps p t)) ts
 
 -- `answer` is the tree with its names given anew
 abbrev pub Substituted : Changes → Bool → Node → Node → Type 0

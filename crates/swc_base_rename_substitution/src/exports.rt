@@ -2,7 +2,8 @@
 ghost use Rattle.std.specs.Prelude.{◌≡◌, ◌++◌, IfOk, OnOk, is_some, length, map};
 ghost use Rattle.std.specs.List.{list_any};
 ghost use Rattle.swc_base_rename_substitution.specs.Names.{new_id};
-ghost use Rattle.swc_base_rename_substitution.specs.Exports.{made as is_made, specifier_to as is_specifier_to, specifier as is_specifier, export_list as is_export_list, declaration_of as is_declaration_of, exported_ids as are_exported, exports_of as is_exports_of, with_exports, each_with_exports, is_exported_declaration};
+ghost use Rattle.swc_base_rename_substitution.specs.Exports.{made as is_made, specifier_to as is_specifier_to, specifier as is_specifier, export_list as is_export_list, declaration_of as is_declaration_of, exported_ids as are_exported, exports_of as is_exports_of, with_exports};
+ghost use Rattle.swc_base_rename_substitution.specs.Walk.{each_with_exports, is_exported_declaration};
 
 use crate::bound::{bound_ids, distinct};
 use crate::identifiers::tree;

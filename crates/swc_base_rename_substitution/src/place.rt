@@ -1,6 +1,7 @@
 //! Where an identifier stands.
 ghost use Rattle.std.specs.Prelude.{◌≡◌};
-ghost use Rattle.swc_base_rename_substitution.specs.Places.{place_below as is_below, within as is_within, field_role as role_in_table, place_in};
+ghost use Rattle.swc_base_rename_substitution.specs.Places.{place_below as is_below, within as is_within, field_role as role_in_table};
+ghost use Rattle.swc_base_rename_substitution.specs.Walk.{place_in};
 
 use swc_tree_node::{Kind, Role, fields_of};
 

@@ -1,9 +1,9 @@
 //! The walk that gives the names of a tree anew.
 ghost use Rattle.std.specs.Prelude.{◌≡◌, IfOk, true};
 ghost use Rattle.swc_base_rename_substitution.specs.Names.{new_id};
-ghost use Rattle.swc_base_rename_substitution.specs.Places.{place_in};
 ghost use Rattle.swc_base_rename_substitution.specs.Identifiers.{writes_out as is_writing_out, writes_name as is_writing_name};
-ghost use Rattle.swc_base_rename_substitution.specs.Substituted.{has_source as has_source_in, keeps_name as is_keeping, substituted, each_substituted, items_substituted};
+ghost use Rattle.swc_base_rename_substitution.specs.Substituted.{has_source as has_source_in, keeps_name as is_keeping, substituted};
+ghost use Rattle.swc_base_rename_substitution.specs.Walk.{place_in, each_substituted, items_substituted};
 
 use crate::classes::{identifier_at, kept_class};
 use crate::exports::{any_exported, exports_of_all, with_all_exports};

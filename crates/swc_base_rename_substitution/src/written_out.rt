@@ -2,8 +2,8 @@
 ghost use Rattle.std.specs.Prelude.{◌≡◌, ◌<◌, IfOk, length};
 ghost use Rattle.swc_base_rename_substitution.specs.Identifiers.{or_kept as is_or_kept, with_default as is_with_default, written_out as is_written_out, written_out_if as is_written_out_if};
 ghost use Rattle.swc_base_rename_substitution.specs.Names.{new_id};
-ghost use Rattle.swc_base_rename_substitution.specs.Substituted.{IsRenamed};
 ghost use Rattle.swc_tree_node.specs.declared.kind.Kind.TheVariants as kind;
+ghost use Rattle.swc_base_rename_substitution.specs.Walk.{IsRenamed};
 
 use crate::identifiers::{keep_name, key_of, rename, tree};
 use crate::names::Names;

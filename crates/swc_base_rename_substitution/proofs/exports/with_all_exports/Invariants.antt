@@ -1,6 +1,6 @@
 use Rattle.std.proofs.Common.{◌≡◌, ◌++◌, drop, length}
-use Rattle.swc_base_rename_substitution.specs.Exports.{each_with_exports}
 use Rattle.swc_base_rename_substitution.proofs.exports.with_all_exports.Given as goal
+use Rattle.swc_base_rename_substitution.specs.Walk.{each_with_exports}
 
 abbrev pub invariant-loop-i : goal.invariant-loop-i
 invariant-loop-i l = record {

@@ -1,9 +1,9 @@
 use Rattle.std.proofs.Common.{arith, sym, ◌∙◌, length-set}
 use Rattle.swc_base_rename_substitution.specs.Names.{new_id}
-use Rattle.swc_base_rename_substitution.specs.Places.{place_in}
 use Rattle.swc_base_rename_substitution.proofs.Lists.{one_more, same_lengths, exports_done}
 use Rattle.swc_base_rename_substitution.proofs.Trees.{unnamed_done, class_done, named_done, longer}
 use Rattle.swc_base_rename_substitution.proofs.substitution.+substitute.Goals as goal
+use Rattle.swc_base_rename_substitution.specs.Walk.{place_in}
 
 pub substitute_each-loop-i-preserved : goal.substitute_each-loop-i-preserved
 substitute_each-loop-i-preserved t c = record {

@@ -1,8 +1,7 @@
 use Rattle.std.proofs.Common.{◌≡◌, ◌++◌, take, drop, length}
 use Rattle.swc_base_rename_substitution.specs.Names.{new_id}
-use Rattle.swc_base_rename_substitution.specs.Places.{place_in}
-use Rattle.swc_base_rename_substitution.specs.Substituted.{each_substituted}
 use Rattle.swc_base_rename_substitution.proofs.substitution.+substitute.Given as goal
+use Rattle.swc_base_rename_substitution.specs.Walk.{place_in, each_substituted}
 
 abbrev pub invariant-substitute_each-loop-i : goal.invariant-substitute_each-loop-i
 invariant-substitute_each-loop-i l = record {
