@@ -11,7 +11,6 @@ mod identifiers;
 mod names;
 mod pass;
 mod place;
-mod renaming;
 mod substitution;
 #[cfg(test)]
 mod tests;
@@ -20,4 +19,3 @@ mod written_out;
 pub use config::Config;
 pub use names::Names;
 pub use pass::substitute;
-pub use renaming::{RenameWith, remap, rename, rename_with_config};

@@ -1,5 +1,5 @@
 //! Substitution in small programs.
-use crate::{Config, Names, RenameWith, remap, rename, rename_with_config, substitute};
+use crate::{Config, Names, substitute};
 use std::alloc::Global;
 use std::collections::HashMap;
 use std::process::Abort;
@@ -542,25 +542,4 @@ fn gives_other_contexts_with_other_texts_alone(rt: HostRuntime) -> Result<(), Fa
         ),
     ]?;
     check(&rt, a, &Names::Ids(&other), false, rows)
-}
-
-// Whether the pass makes `b` of `a` with the mark 1.
-fn check_pass(rt: &impl Abort, alloc: Global, pass: &RenameWith) -> Result<(), Fail> {
-    let got = pass.fold_node(alloc, statement(alloc, name(alloc, "a", 1))?)?;
-    let got = format!(in alloc; "{got:?}")?;
-    let want = statement(alloc, name(alloc, "b", 0))?;
-    let want = format!(in alloc; "{want:?}")?;
-    assert_eq!(rt; got.as_str(), want.as_str());
-    Ok(())
-}
-
-#[test]
-fn borrows_either_map(rt: HostRuntime) -> Result<(), Fail> {
-    let a = rt.alloc();
-    let map = texts(a, "a", "b")?;
-    let mut ids = HashMap::new(a);
-    ids.insert(id(a, "a", 1)?, id(a, "b", 0)?)?;
-    check_pass(&rt, a, &rename(&map))?;
-    check_pass(&rt, a, &rename_with_config(&map, Config::default()))?;
-    check_pass(&rt, a, &remap(&ids, Config::default()))
 }
