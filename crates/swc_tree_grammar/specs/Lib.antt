@@ -1,0 +1,5 @@
+pub mod Shapes
+pub mod Stripped
+pub mod Blocks
+pub mod Targets
+pub mod Pairs
