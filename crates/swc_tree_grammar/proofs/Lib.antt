@@ -1,1 +1,3 @@
+pub mod Induction
+pub mod Stripped
 mod Rows

@@ -25,16 +25,17 @@ pub record Dropped : Type 0 where
   pub whole : Node
   pub effects : List Node
 
-abbrev pub itself : Node → Dropped
-itself t = record { whole = t; effects = t ∷ [] }
+abbrev pub effects_in : Node → Node-F Dropped → List Node
+effects_in t (Node-F.List es) = flat_map (λ e. e.effects) es
+effects_in t (Seq span exprs) = exprs.effects
+effects_in t (Unary span op arg) = if is_void op.whole then arg.effects else t ∷ []
+effects_in t _ = t ∷ []
+
+abbrev pub whole_in : Node-F Dropped → Node
+whole_in x = roll-Node (map-Node Dropped Node (λ e. e.whole) x)
 
 abbrev pub dropped_step : Node-F Dropped → Dropped
-dropped_step (Node-F.List es) = record { whole = Many (map (λ e. e.whole) es); effects = flat_map (λ e. e.effects) es }
-dropped_step (Seq span exprs) = record { whole = Tree kind.SeqExpr (span.whole ∷ exprs.whole ∷ []); effects = exprs.effects }
-dropped_step (Unary span op arg) = (
-    let whole = Tree kind.UnaryExpr (span.whole ∷ op.whole ∷ arg.whole ∷ []) in
-    record { whole = whole; effects = if is_void op.whole then arg.effects else whole ∷ [] })
-dropped_step t = itself (roll-Node (map-Node Dropped Node (λ e. e.whole) t))
+dropped_step x = record { whole = whole_in x; effects = effects_in (whole_in x) x }
 
 -- what an expression adds to a sequence before its last item: a sequence what its items add, `void` what
 -- its operand adds, any other itself
