@@ -1,3 +1,4 @@
+pub mod Walks
 pub mod Induction
 pub mod Stripped
 mod Rows

@@ -5,7 +5,7 @@ use Rattle.swc_tree_node.specs.declared.kind.Kind.{Kind}
 use Rattle.swc_tree_node.specs.declared.kind.Kind.TheVariants as kind
 use Rattle.swc_tree_node.specs.declared.node.Node.{Node, fold-Node}
 use Rattle.swc_tree_node.specs.declared.node.Node.TheOpen.{Node-F}
-use Rattle.swc_tree_grammar.specs.Shapes.{Paren, Seq, Assign}
+use Rattle.swc_tree_grammar.specs.Shapes.{Paren, Seq, Assign, children_in}
 
 -- identifiers, members and properties of `super`
 abbrev pub is_simple : Kind → Bool
@@ -26,16 +26,24 @@ pub record Seen : Type 0 where
 abbrev pub can_stand : Seen → Bool
 can_stand left = not left.is_pair || left.is_target
 
+abbrev pub pair_in : Node-F Seen → Bool
+pair_in (Node-F.Tree kind.ParenExpr es) = true
+pair_in _ = false
+
+abbrev pub target_in : Node-F Seen → Bool
+target_in (Paren span expr) = expr.is_target
+target_in (Seq span exprs) = exprs.is_target
+target_in (Node-F.Tree k es) = is_simple k
+target_in (Node-F.Identifier k i) = is_simple k
+target_in (Node-F.List (e ∷ [])) = e.is_target
+target_in _ = false
+
+abbrev pub bare_in : Node-F Seen → Bool
+bare_in (Assign span op left right) = can_stand left
+bare_in _ = true
+
 abbrev pub seen_step : Node-F Seen → Seen
-seen_step (Paren span expr) = record { is_pair = true; is_target = expr.is_target; all_bare = expr.all_bare }
-seen_step (Seq span exprs) = record { is_pair = false; is_target = exprs.is_target; all_bare = exprs.all_bare }
-seen_step (Assign span op left right) =
-    record { is_pair = false; is_target = false; all_bare = can_stand left && (left.all_bare && right.all_bare) }
-seen_step (Node-F.Tree k es) = record { is_pair = false; is_target = is_simple k; all_bare = list_all (λ e. e.all_bare) es }
-seen_step (Node-F.Identifier k i) = record { is_pair = false; is_target = is_simple k; all_bare = true }
-seen_step (Node-F.List (e ∷ [])) = record { is_pair = false; is_target = e.is_target; all_bare = e.all_bare }
-seen_step (Node-F.List es) = record { is_pair = false; is_target = false; all_bare = list_all (λ e. e.all_bare) es }
-seen_step _ = record { is_pair = false; is_target = false; all_bare = true }
+seen_step x = record { is_pair = pair_in x; is_target = target_in x; all_bare = bare_in x && list_all (λ e. e.all_bare) (children_in x) }
 
 abbrev pub seen : Node → Seen
 seen = fold-Node Seen seen_step
