@@ -1,5 +1,5 @@
 -- Which field of a node is looked at.
-use Rattle.std.specs.Prelude.{ℕ, List, [], ◌∷◌, Option, Some, None, if◌then◌else◌}
+use Rattle.std.specs.Prelude.{ℕ, Bool, true, false, List, [], ◌∷◌, Option, Some, None, if◌then◌else◌}
 use Rattle.swc_tree_node.specs.declared.kind.Kind.{Kind}
 use Rattle.swc_tree_node.specs.declared.kind.Kind.TheVariants as kind
 use Rattle.swc_tree_node.specs.declared.node.Node.{Node}
@@ -34,3 +34,8 @@ abbrev pub content_field : Kind → List Node → Option ℕ
 content_field kind.ParenExpr (span ∷ expr ∷ []) = Some 1
 content_field kind.SeqExpr (span ∷ exprs ∷ []) = Some 1
 content_field _ _ = None
+
+-- the third field is the target of an assignment
+abbrev pub is_assignment : Kind → List Node → Bool
+is_assignment kind.AssignExpr (span ∷ op ∷ left ∷ right ∷ []) = true
+is_assignment _ _ = false

@@ -1,3 +1,4 @@
+pub mod Spans
 pub mod Walks
 pub mod Induction
 pub mod Stripped

@@ -6,7 +6,8 @@ use Rattle.swc_tree_node.specs.declared.node.Node.{Node, Absent, Flag, Word, Tex
 use Rattle.swc_tree_grammar.specs.Stripped.{stripped}
 use Rattle.swc_tree_grammar.specs.Blocks.{with_blocks, no_span}
 use Rattle.swc_tree_grammar.specs.Targets.{all_bare}
-use Rattle.swc_tree_grammar.specs.Pairs.{Move, moves}
+use Rattle.swc_tree_grammar.specs.declared.pairs.Move.TheVariants.{Leading, Trailing}
+use Rattle.swc_tree_grammar.specs.Pairs.{moves}
 
 abbrev at : ℕ → ℕ → Node
 at lo hi = Span (record { lo = lo; hi = hi })
@@ -96,17 +97,17 @@ pair lo hi e = Tree kind.ParenExpr (at lo hi ∷ e ∷ [])
 abbrev statement : Node → Node
 statement e = Tree kind.ExprStmt (at 0 0 ∷ e ∷ [])
 
-inner_first : moves (statement (pair 0 5 (pair 1 4 (named 2 3)))) ≡ Move.Leading 1 2 ∷ Move.Trailing 4 3 ∷ Move.Leading 0 1 ∷ Move.Trailing 5 4 ∷ []
+inner_first : moves (statement (pair 0 5 (pair 1 4 (named 2 3)))) ≡ Leading 1 2 ∷ Trailing 4 3 ∷ Leading 0 1 ∷ Trailing 5 4 ∷ []
 inner_first = search (rules, the_lemmas)
 
-not_the_target : moves (statement (assign (pair 0 5 (pair 1 4 (named 2 3))))) ≡ Move.Leading 1 2 ∷ Move.Trailing 4 3 ∷ []
+not_the_target : moves (statement (assign (pair 0 5 (pair 1 4 (named 2 3))))) ≡ Leading 1 2 ∷ Trailing 4 3 ∷ []
 not_the_target = search (rules, the_lemmas)
 
 abbrev sum : ℕ → ℕ → Node → Node → Node
 sum lo hi left right = Tree kind.BinExpr (at lo hi ∷ Word word.Plus ∷ left ∷ right ∷ [])
 
 two_pairs : moves (statement (pair 0 9 (sum 1 8 (named 1 2) (pair 5 8 (named 6 7)))))
-    ≡ Move.Leading 5 6 ∷ Move.Trailing 8 7 ∷ Move.Leading 0 1 ∷ Move.Trailing 9 8 ∷ []
+    ≡ Leading 5 6 ∷ Trailing 8 7 ∷ Leading 0 1 ∷ Trailing 9 8 ∷ []
 two_pairs = search (rules, the_lemmas)
 
 abbrev choice : Node → Node → Node

@@ -7,13 +7,11 @@ use Rattle.std.specs.List.{flat_map}
 use Rattle.swc_tree_marks.specs.declared.span.Span.{Span as Range}
 use Rattle.swc_tree_node.specs.declared.node.Node.{Node, fold-Node, map-Node}
 use Rattle.swc_tree_node.specs.declared.node.Node.TheOpen.{Node-F}
+use Rattle.swc_tree_grammar.specs.declared.pairs.Pair.{Pair}
+use Rattle.swc_tree_grammar.specs.declared.pairs.Move.{Move}
+use Rattle.swc_tree_grammar.specs.declared.pairs.Move.TheVariants as move
 use Rattle.swc_tree_grammar.specs.Shapes.{Paren, Assign, children_in}
 use Rattle.swc_tree_grammar.specs.Blocks.{span_step}
-
--- a pair that is taken off: where its content stands, and where it stands itself
-pub record Pair : Type 0 where
-  pub content : Range
-  pub whole : Range
 
 -- where a node stands, the pair that it is, if it is one, and the pairs in it from the outside in
 pub record Found : Type 0 where
@@ -36,17 +34,20 @@ own_of _ = []
 abbrev pub found_step : Node-F Found → Found
 found_step t = record { span = span_step (map-Node Found Range (λ f. f.span) t); own = own_of t; inside = inside_of t }
 
+abbrev pub found : Node → Found
+found = fold-Node Found found_step
+
 -- the pairs at places of expressions, each before those in it, in the order of the source
 abbrev pub pairs : Node → List Pair
-pairs t = all_of (fold-Node Found found_step t)
+pairs t = all_of (found t)
 
--- a request to move comments from one position to another
-pub data Move : Type 0 where
-  Leading : ℕ → ℕ → Move
-  Trailing : ℕ → ℕ → Move
+-- those below a node, without the pair that the node is
+abbrev pub pairs_inside : Node → List Pair
+pairs_inside t = (found t).inside
 
+-- a pair's moves: from the pair's own ends to those of its content
 abbrev pub moves_of : Pair → List Move
-moves_of p = Leading p.whole.lo p.content.lo ∷ Trailing p.whole.hi p.content.hi ∷ []
+moves_of p = move.Leading p.whole.lo p.content.lo ∷ move.Trailing p.whole.hi p.content.hi ∷ []
 
 -- the last pair first
 abbrev pub moves : Node → List Move

@@ -4,3 +4,7 @@
 //! parentheses and idle expressions, `Blocks` which branches get a block, `Targets` which assignment targets
 //! may be bare, `Pairs` which comments move where parentheses go.
 #![tactic(auto)]
+
+mod pairs;
+
+pub use pairs::{Move, Pair};
