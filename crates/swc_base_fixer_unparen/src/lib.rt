@@ -15,3 +15,6 @@ pub use comments::{Comments, NoComments};
 pub use pass::remove_parens;
 pub use stripping::strip;
 pub use targets::all_bare;
+
+#[cfg(test)]
+mod tests;

@@ -1,3 +1,4 @@
+pub mod Places
 pub mod Spans
 pub mod Walks
 pub mod Induction
