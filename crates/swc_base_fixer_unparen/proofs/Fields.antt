@@ -1,5 +1,5 @@
 -- A node with a field changed.
-use Rattle.std.proofs.Common.{◌≡◌, ℕ, List, [], ◌∷◌, ◌++◌, Option, Some, None, length, take, slice_set, Bool, true, false, not, get_or, ◌≢◌, ◌∙◌, sym, refl, ap, rules, arith}
+use Rattle.std.proofs.Common.{◌≡◌, ℕ, List, [], ◌∷◌, ◌++◌, Option, Some, None, length, take, slice_set, Bool, true, false, not, get_or, ◌≢◌, ◌∙◌, refl, ap, arith}
 use Rattle.std.specs.List.{filter, flat_map, list_all, slice_get}
 use Rattle.swc_tree_node.specs.declared.kind.Kind.{Kind}
 use Rattle.swc_tree_node.specs.declared.kind.Kind.TheVariants as kind

@@ -33,13 +33,23 @@ pub trait Comments {
 pub struct NoComments;
 
 impl Comments for NoComments {
+    ghost use Rattle.std.specs.Prelude.{IsOk, OnOk, OnErr};
+
     ghost moved = { λ old _ new. new ≡ old };
 
-    fn move_leading(&mut self, _from: BytePos, _to: BytePos) -> Result<(), NoMemory> {
+    fn move_leading(&mut self, _from: BytePos, _to: BytePos) -> Result<(), NoMemory>
+        ensures made { OnOk result (self.new ≡ self.old) }
+        ensures refused { OnErr result (self.new ≡ self.old) }
+        ensures succeeds { IsOk result }
+    {
         Ok(())
     }
 
-    fn move_trailing(&mut self, _from: BytePos, _to: BytePos) -> Result<(), NoMemory> {
+    fn move_trailing(&mut self, _from: BytePos, _to: BytePos) -> Result<(), NoMemory>
+        ensures made { OnOk result (self.new ≡ self.old) }
+        ensures refused { OnErr result (self.new ≡ self.old) }
+        ensures succeeds { IsOk result }
+    {
         Ok(())
     }
 }

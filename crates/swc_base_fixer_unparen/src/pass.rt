@@ -1,5 +1,8 @@
-ghost use Rattle.std.specs.Prelude.{◌≡◌, ◌↔◌, ◌⊎◌, false, IfOk, IfErr, IsErrAnd};
+ghost use Rattle.std.specs.Prelude.{◌≡◌, ◌↔◌, ◌⊎◌, false, IfOk, IfErr, IsErrAnd, IsTrue};
 ghost use Rattle.swc_tree_marks.specs.declared.error.PassError.TheVariants as pass;
+ghost use Rattle.swc_tree_node.specs.declared.slot.Slot.{Slot};
+ghost use Rattle.swc_tree_node.specs.Fits.{Fits};
+ghost use Rattle.swc_tree_grammar.specs.Places.{is_open};
 ghost use Rattle.swc_tree_grammar.specs.Blocks.{with_blocks};
 ghost use Rattle.swc_tree_grammar.specs.Pairs.{moves};
 ghost use Rattle.swc_tree_grammar.specs.Stripped.{stripped};
@@ -36,8 +39,10 @@ fn unparen_with<C: Comments>(alloc: Global, comments: &mut C, node: Node) -> Res
 }
 
 /// The pass on a tree without comments.
+#[tactic(auto, using(swc_tree_grammar::proofs::BlocksKept::unparened_fits))]
 fn remove_parens_alone(alloc: Global, node: Node) -> Result<Node, PassError>
     ensures answer { IfOk result (λ t. t ≡ with_blocks (stripped node)) }
+    ensures fits { (s : Slot) → IsTrue (is_open s) → Fits node s → IfOk result (λ t. Fits t s) }
     ensures not_assignable { IsErrAnd result (λ e. e ≡ pass.NotAssignable) ↔ (bare node ≡ false) }
     ensures no_memory { IfErr result (λ e. (e ≡ pass.NotAssignable) ⊎ (e ≡ pass.NoMemory)) }
 {
@@ -49,12 +54,14 @@ fn remove_parens_alone(alloc: Global, node: Node) -> Result<Node, PassError>
 }
 
 /// The pass on a tree with comments.
+#[tactic(auto, using(swc_tree_grammar::proofs::BlocksKept::unparened_fits))]
 fn remove_parens_with<C: Comments>(
     alloc: Global,
     comments: &mut C,
     node: Node,
 ) -> Result<Node, PassError>
     ensures answer { IfOk result (λ t. t ≡ with_blocks (stripped node)) }
+    ensures fits { (s : Slot) → IsTrue (is_open s) → Fits node s → IfOk result (λ t. Fits t s) }
     ensures not_assignable { IsErrAnd result (λ e. e ≡ pass.NotAssignable) ↔ (bare node ≡ false) }
     ensures no_memory { IfErr result (λ e. (e ≡ pass.NotAssignable) ⊎ (e ≡ pass.NoMemory)) }
     ensures moved { Moved C.moved comments.old (moves node) comments.new result }
@@ -88,6 +95,7 @@ pub fn remove_parens<C: Comments>(
     node: Node,
 ) -> Result<Node, PassError>
     ensures answer { IfOk result (λ t. t ≡ with_blocks (stripped node)) }
+    ensures fits { (s : Slot) → IsTrue (is_open s) → Fits node s → IfOk result (λ t. Fits t s) }
     ensures not_assignable { IsErrAnd result (λ e. e ≡ pass.NotAssignable) ↔ (bare node ≡ false) }
     ensures no_memory { IfErr result (λ e. (e ≡ pass.NotAssignable) ⊎ (e ≡ pass.NoMemory)) }
     ensures moved { MovedIn C.moved comments.entry (moves node) comments.exit result }

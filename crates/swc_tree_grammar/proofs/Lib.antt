@@ -1,3 +1,7 @@
+pub mod BlocksKept
+pub mod Kept
+pub mod Simple
+pub mod Items
 pub mod Places
 pub mod Spans
 pub mod Walks

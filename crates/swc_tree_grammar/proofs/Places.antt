@@ -1,37 +1,33 @@
 -- What may stand in a place.
-use Rattle.std.proofs.Common.{◌≡◌, ℕ, Bool, true, false, not, ◌&&◌, ◌||◌, ◌==◌, IsTrue, Option, Some, None, List, [], ◌∷◌, ◌++◌, map, refl, sym, ap, ◌∙◌, subst, rules, arith}
+use Rattle.std.proofs.Common.{◌≡◌, ℕ, Bool, true, false, not, ◌&&◌, ◌||◌, ◌==◌, IsTrue, Option, Some, None, List, [], ◌∷◌, map, refl, sym, ◌∙◌, arith}
 use Rattle.std.proofs.lemmas.Bool.{eqb-true}
 use Rattle.std.specs.List.{list_any, list_all}
-use Rattle.swc_tree_marks.specs.declared.span.Span.{Span as Range}
 use Rattle.swc_tree_marks.specs.declared.ident.Ident.{Ident}
 use Rattle.swc_tree_node.specs.declared.kind.Kind.{Kind}
-use Rattle.swc_tree_node.specs.declared.kind.Kind.TheVariants as kind
 use Rattle.swc_tree_node.specs.declared.kind.Class.{Class}
-use Rattle.swc_tree_node.specs.declared.kind.Class.TheVariants as class
 use Rattle.swc_tree_node.specs.declared.slot.Content.{Content}
 use Rattle.swc_tree_node.specs.declared.slot.Content.TheVariants as content
 use Rattle.swc_tree_node.specs.declared.slot.Slot.{Slot}
 use Rattle.swc_tree_node.specs.declared.slot.Slot.TheVariants as slot
-use Rattle.swc_tree_node.specs.declared.node.Node.{Node, Absent, Flag, Word, Text, Span, List as Many, Identifier, Tree, the_lemmas}
+use Rattle.swc_tree_node.specs.declared.node.Node.{Node, Identifier, Tree}
 use Rattle.swc_tree_node.specs.Table.{slots_of, kinds_of, kind_number, is_identifier}
-use Rattle.swc_tree_node.specs.Fits.{fits, Fits, single, belongs, identifier_fits, tree_fits, each_fits, FieldsFit, AllFit}
-use Rattle.swc_tree_node.proofs.Fit.{fits-Absent, fits-Flag, fits-Word, fits-Text, fits-Span, fits-List, fits-Identifier, fits-Tree, both, and_both, fields_open, fields_close, tree_opens, tree_closes, list_opens}
-use Rattle.swc_tree_grammar.proofs.Induction.{Each, by_children}
+use Rattle.swc_tree_node.specs.Fits.{fits, Fits, single, belongs, tree_fits, each_fits, FieldsFit}
+use Rattle.swc_tree_node.proofs.Fit.{fits-Absent, fits-Flag, fits-Word, fits-Text, fits-Span, fits-List, fits-Identifier, fits-Tree, both, and_both, fields_open, fields_close, tree_opens}
+use Rattle.swc_tree_grammar.specs.Places.{takes_all}
+use Rattle.swc_tree_grammar.proofs.Induction.{by_children}
 
 abbrev pub one : Class → Slot
 one c = slot.One (content.Node c)
 
--- each kind of the one class is one of the other
-abbrev pub takes_all : Class → Class → Bool
-takes_all c d = list_all (λ k. belongs k d) (kinds_of c)
+among_first : (p : ℕ → Bool) (n : ℕ) (k : Kind) (ks : List Kind) (b : Bool) → (n == kind_number k) ≡ b
+    → IsTrue (b || list_any (λ x. n == kind_number x) ks) → IsTrue (p (kind_number k) && list_all (λ k. p (kind_number k)) ks)
+    → (IsTrue (list_any (λ x. n == kind_number x) ks) → IsTrue (list_all (λ k. p (kind_number k)) ks) → IsTrue (p n)) → IsTrue (p n)
+among_first p n k ks true e h g rest = let same : n ≡ kind_number k = eqb-true n (kind_number k) e in rw same ((both (p (kind_number k)) (list_all (λ k. p (kind_number k)) ks) g).0)
+among_first p n k ks false e h g rest = rest h ((both (p (kind_number k)) (list_all (λ k. p (kind_number k)) ks) g).1)
 
 among : (p : ℕ → Bool) (n : ℕ) (ks : List Kind) → IsTrue (list_any (λ x. n == kind_number x) ks) → IsTrue (list_all (λ k. p (kind_number k)) ks) → IsTrue (p n)
 among p n [] h g = absurd (grind arith)
-among p n (k ∷ ks) h g = first (n == kind_number k) refl h g
-  where
-    first : (b : Bool) → (n == kind_number k) ≡ b → IsTrue (b || list_any (λ x. n == kind_number x) ks) → IsTrue (p (kind_number k) && list_all (λ k. p (kind_number k)) ks) → IsTrue (p n)
-    first true e h g = let same : n ≡ kind_number k = eqb-true n (kind_number k) e in rw same ((both (p (kind_number k)) (list_all (λ k. p (kind_number k)) ks) g).0)
-    first false e h g = among p n ks h ((both (p (kind_number k)) (list_all (λ k. p (kind_number k)) ks) g).1)
+among p n (k ∷ ks) h g = among_first p n k ks (n == kind_number k) refl h g (among p n ks)
 
 pub belongs_too : (c d : Class) (k : Kind) → IsTrue (takes_all c d) → IsTrue (belongs k c) → IsTrue (belongs k d)
 belongs_too c d k t h = among (λ n. list_any (λ x. n == kind_number x) (kinds_of d)) (kind_number k) (kinds_of c) h t

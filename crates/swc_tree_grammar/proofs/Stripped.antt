@@ -1,6 +1,5 @@
 -- What stripping says at each form of a node.
-use Rattle.std.proofs.Common.{◌≡◌, ℕ, Bool, true, false, List, [], ◌∷◌, ◌++◌, map, refl, sym, ap, ◌∙◌, rules}
-use Rattle.std.specs.Prelude.{if◌then◌else◌}
+use Rattle.std.proofs.Common.{◌≡◌, ℕ, Bool, true, false, IsTrue, List, [], ◌∷◌, ◌++◌, map, refl, ap, ◌∙◌, rules}
 use Rattle.std.specs.List.{flat_map}
 use Rattle.swc_tree_marks.specs.declared.span.Span.{Span as Range}
 use Rattle.swc_tree_marks.specs.declared.ident.Ident.{Ident}
@@ -8,6 +7,7 @@ use Rattle.swc_tree_node.specs.declared.kind.Kind.{Kind}
 use Rattle.swc_tree_node.specs.declared.kind.Kind.TheVariants as kind
 use Rattle.swc_tree_node.specs.declared.kind.Word.{Word as Word'}
 use Rattle.swc_tree_node.specs.declared.node.Node.{Node, Absent, Flag, Word, Text, Span, List as Many, Identifier, Tree, fold-Node, the_lemmas}
+use Rattle.swc_tree_node.specs.declared.node.Node.TheVariants.{rolls-Tree}
 use Rattle.swc_tree_node.specs.declared.node.Node.TheOpen.{Node-F}
 use Rattle.swc_tree_grammar.specs.Stripped.{Dropped, dropped_step, effects_in, effects, is_void, strip_step, stripped}
 use Rattle.swc_tree_grammar.proofs.Induction.{Each, by_children}
@@ -84,3 +84,21 @@ stripped_of_tree k ts = search (rules, the_lemmas)
 pub effects_of_other : (span op arg : Node) → is_void op ≡ false → effects (Tree kind.UnaryExpr (span ∷ op ∷ arg ∷ [])) ≡ Tree kind.UnaryExpr (span ∷ op ∷ arg ∷ []) ∷ []
 effects_of_other span op arg h = effects_of_tree kind.UnaryExpr (span ∷ op ∷ arg ∷ [])
     ∙ (rw (whole op, h) refl)
+
+-- a kind on whose fields alone stripping works
+abbrev pub is_other : Kind → Bool
+is_other kind.ParenExpr = false
+is_other kind.SeqExpr = false
+is_other kind.AssignExpr = false
+is_other kind.Class = false
+is_other _ = true
+
+strip_other : (k : Kind) (ts : List Node) → IsTrue (is_other k) → strip_step (Node-F.Tree k ts) ≡ Tree k ts
+strip_other kind.ParenExpr ts o = absurd (cc)
+strip_other kind.SeqExpr ts o = absurd (cc)
+strip_other kind.AssignExpr ts o = absurd (cc)
+strip_other kind.Class ts o = absurd (cc)
+strip_other k ts o = rolls-Tree k ts
+
+pub stripped_other : (k : Kind) (ts : List Node) → IsTrue (is_other k) → stripped (Tree k ts) ≡ Tree k (map stripped ts)
+stripped_other k ts o = stripped_of_tree k ts ∙ strip_other k (map stripped ts) o

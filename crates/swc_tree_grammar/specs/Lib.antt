@@ -3,3 +3,4 @@ pub mod Stripped
 pub mod Blocks
 pub mod Targets
 pub mod Pairs
+pub mod Places

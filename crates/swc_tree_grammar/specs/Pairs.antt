@@ -2,7 +2,7 @@
 --
 -- A comment stands at a position of the source: leading comments at the start of what they lead, trailing ones
 -- at the end of what they trail. Those of a pair move to its content.
-use Rattle.std.specs.Prelude.{ℕ, List, [], ◌∷◌, ◌++◌, reverse}
+use Rattle.std.specs.Prelude.{List, [], ◌∷◌, ◌++◌, reverse}
 use Rattle.std.specs.List.{flat_map}
 use Rattle.swc_tree_marks.specs.declared.span.Span.{Span as Range}
 use Rattle.swc_tree_node.specs.declared.node.Node.{Node, fold-Node, map-Node}

@@ -4,7 +4,7 @@
 -- a sequence evaluates its items in order and takes the last one's value (13.16.2), `void` drops a value
 -- (13.5.2.1), a function, an arrow or a literal is evaluated with no effect, an empty class member defines
 -- nothing (15.7.14).
-use Rattle.std.specs.Prelude.{List, [], ◌∷◌, ◌++◌, map, Bool, true, false, not, take, if◌then◌else◌}
+use Rattle.std.specs.Prelude.{List, [], ◌∷◌, ◌++◌, Bool, true, false, not, take, if◌then◌else◌}
 use Rattle.std.specs.List.{flat_map, filter, list_all}
 use Rattle.swc_tree_node.specs.declared.kind.Kind.{Kind}
 use Rattle.swc_tree_node.specs.declared.kind.Kind.TheVariants as kind
