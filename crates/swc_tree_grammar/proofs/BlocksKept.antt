@@ -84,9 +84,14 @@ stays : (t : Node) → with_blocks t ≡ t → Keeps t
 stays t e s f = rw e f
 
 pub blocks_fit : (t : Node) (s : Slot) → Fits t s → Fits (with_blocks t) s
-blocks_fit t = by_children Keeps
-    (stays Absent (search (rules, the_lemmas)), λ x. stays (Flag x) (search (rules, the_lemmas)), λ w. stays (Word w) (search (rules, the_lemmas)),
-     λ x. stays (Text x) (search (rules, the_lemmas)), λ r. stays (Span r) (search (rules, the_lemmas)), λ k i. stays (Identifier k i) (search (rules, the_lemmas)))
+blocks_fit t = by_children Keeps (
+  stays Absent (search (rules, the_lemmas)),
+  λ x. stays (Flag x) (search (rules, the_lemmas)),
+  λ w. stays (Word w) (search (rules, the_lemmas)),
+  λ x. stays (Text x) (search (rules, the_lemmas)),
+  λ r. stays (Span r) (search (rules, the_lemmas)),
+  λ k i. stays (Identifier k i) (search (rules, the_lemmas)),
+)
     keeps_list keeps_tree t
 
 -- the stripped tree with its blocks stands where the tree does

@@ -29,13 +29,14 @@ pub record Listed (t : Node) (c : Content) : Type 0 where
   pub fit : AllFit (slot.One c) items
 
 pub listed : (t : Node) (c : Content) → Fits t (slot.List c) → Listed t c
-listed t c = by_children (λ t. Fits t (slot.List c) → Listed t c)
-    (λ h. absurd (cc (sym (fits-Absent (slot.List c)) ∙ h)),
-     λ x h. absurd (cc (sym (fits-Flag x (slot.List c)) ∙ h)),
-     λ w h. absurd (cc (sym (fits-Word w (slot.List c)) ∙ h)),
-     λ x h. absurd (cc (sym (fits-Text x (slot.List c)) ∙ h)),
-     λ r h. absurd (cc (sym (fits-Span r (slot.List c)) ∙ h)),
-     λ k i h. absurd (cc (sym (fits-Identifier k i (slot.List c)) ∙ h)))
+listed t c = by_children (λ t. Fits t (slot.List c) → Listed t c) (
+  λ h. absurd (cc (sym (fits-Absent (slot.List c)) ∙ h)),
+  λ x h. absurd (cc (sym (fits-Flag x (slot.List c)) ∙ h)),
+  λ w h. absurd (cc (sym (fits-Word w (slot.List c)) ∙ h)),
+  λ x h. absurd (cc (sym (fits-Text x (slot.List c)) ∙ h)),
+  λ r h. absurd (cc (sym (fits-Span r (slot.List c)) ∙ h)),
+  λ k i h. absurd (cc (sym (fits-Identifier k i (slot.List c)) ∙ h)),
+)
     (λ ts h g. record { items = ts; is = refl; fit = list_opens ts c g })
     (λ k ts h g. absurd (cc (sym (fits-Tree k ts (slot.List c)) ∙ g))) t
 
@@ -72,13 +73,14 @@ parts_tree kind.SeqExpr (span ∷ exprs ∷ []) h = items_fit exprs (content.Nod
 parts_tree k ts h = (h, tt)
 
 pub parts_fit : (t : Node) → Fits t expr → AllFit expr (parts t)
-parts_fit t = by_children (λ t. Fits t expr → AllFit expr (parts t))
-    (λ h. absurd (cc (sym (fits-Absent expr) ∙ h)),
-     λ x h. absurd (cc (sym (fits-Flag x expr) ∙ h)),
-     λ w h. absurd (cc (sym (fits-Word w expr) ∙ h)),
-     λ x h. absurd (cc (sym (fits-Text x expr) ∙ h)),
-     λ r h. absurd (cc (sym (fits-Span r expr) ∙ h)),
-     λ k i h. (let e : parts (Identifier k i) ≡ Identifier k i ∷ [] = search (rules, the_lemmas) in rw e (h, tt)))
+parts_fit t = by_children (λ t. Fits t expr → AllFit expr (parts t)) (
+  λ h. absurd (cc (sym (fits-Absent expr) ∙ h)),
+  λ x h. absurd (cc (sym (fits-Flag x expr) ∙ h)),
+  λ w h. absurd (cc (sym (fits-Word w expr) ∙ h)),
+  λ x h. absurd (cc (sym (fits-Text x expr) ∙ h)),
+  λ r h. absurd (cc (sym (fits-Span r expr) ∙ h)),
+  λ k i h. (let e : parts (Identifier k i) ≡ Identifier k i ∷ [] = search (rules, the_lemmas) in rw e (h, tt)),
+)
     (λ ts h g. absurd (cc (sym (fits-List ts expr) ∙ g)))
     (λ k ts h g. rw (parts_of_tree k ts) (parts_tree k ts g)) t
 
@@ -104,13 +106,14 @@ tree_left kind.UnaryExpr (span ∷ op ∷ arg ∷ []) l h = void_left (is_void o
 tree_left k ts l h = rw (effects_of_tree k ts) (h, tt)
 
 left : (t : Node) → Left t
-left t = by_children Left
-    ((λ h. absurd (cc (sym (fits-Absent expr) ∙ h)), λ h. absurd (cc (sym (fits-Absent (slot.List (content.Node class.Expr))) ∙ h))),
-     λ x. (λ h. absurd (cc (sym (fits-Flag x expr) ∙ h)), λ h. absurd (cc (sym (fits-Flag x (slot.List (content.Node class.Expr))) ∙ h))),
-     λ w. (λ h. absurd (cc (sym (fits-Word w expr) ∙ h)), λ h. absurd (cc (sym (fits-Word w (slot.List (content.Node class.Expr))) ∙ h))),
-     λ x. (λ h. absurd (cc (sym (fits-Text x expr) ∙ h)), λ h. absurd (cc (sym (fits-Text x (slot.List (content.Node class.Expr))) ∙ h))),
-     λ r. (λ h. absurd (cc (sym (fits-Span r expr) ∙ h)), λ h. absurd (cc (sym (fits-Span r (slot.List (content.Node class.Expr))) ∙ h))),
-     λ k i. (λ h. rw (effects_of_identifier k i) (h, tt), λ h. absurd (cc (sym (fits-Identifier k i (slot.List (content.Node class.Expr))) ∙ h))))
+left t = by_children Left (
+  (λ h. absurd (cc (sym (fits-Absent expr) ∙ h)), λ h. absurd (cc (sym (fits-Absent (slot.List (content.Node class.Expr))) ∙ h))),
+  λ x. (λ h. absurd (cc (sym (fits-Flag x expr) ∙ h)), λ h. absurd (cc (sym (fits-Flag x (slot.List (content.Node class.Expr))) ∙ h))),
+  λ w. (λ h. absurd (cc (sym (fits-Word w expr) ∙ h)), λ h. absurd (cc (sym (fits-Word w (slot.List (content.Node class.Expr))) ∙ h))),
+  λ x. (λ h. absurd (cc (sym (fits-Text x expr) ∙ h)), λ h. absurd (cc (sym (fits-Text x (slot.List (content.Node class.Expr))) ∙ h))),
+  λ r. (λ h. absurd (cc (sym (fits-Span r expr) ∙ h)), λ h. absurd (cc (sym (fits-Span r (slot.List (content.Node class.Expr))) ∙ h))),
+  λ k i. (λ h. rw (effects_of_identifier k i) (h, tt), λ h. absurd (cc (sym (fits-Identifier k i (slot.List (content.Node class.Expr))) ∙ h))),
+)
     (λ ts l. (λ h. absurd (cc (sym (fits-List ts expr) ∙ h)), λ h. rw (effects_of_list ts) (each_left ts l (list_opens ts (content.Node class.Expr) h))))
     (λ k ts l. (tree_left k ts l, λ h. absurd (cc (sym (fits-Tree k ts (slot.List (content.Node class.Expr))) ∙ h)))) t
 

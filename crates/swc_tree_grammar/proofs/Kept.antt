@@ -90,8 +90,13 @@ keeps_other : (k : Kind) (ts : List Node) → IsTrue (is_other k) → Each Keeps
 keeps_other k ts other h s b o f =
     let w = stands k ts s f in
     rw (stripped_other k ts other)
-      (stands_there k (map stripped ts) s (record { in_class = w.in_class; place = w.place; no_identifier = w.no_identifier; belonging = w.belonging;
-        fields = fields_kept (slots_of k) ts h (bare_below k ts b) (slots_open k other) w.fields }))
+    (stands_there k (map stripped ts) s (record {
+      in_class = w.in_class;
+      place = w.place;
+      no_identifier = w.no_identifier;
+      belonging = w.belonging;
+      fields = fields_kept (slots_of k) ts h (bare_below k ts b) (slots_open k other) w.fields;
+    }))
 
 keeps_pair : (ts : List Node) → Each Keeps ts → Keeps (Tree kind.ParenExpr ts)
 keeps_pair [] h s b o f = absurd (stands kind.ParenExpr [] s f).fields
@@ -101,7 +106,7 @@ keeps_pair (a ∷ e ∷ []) h s b o f =
     let w = stands kind.ParenExpr (a ∷ e ∷ []) s f in
     let below = fields_kept (slots_of kind.ParenExpr) (a ∷ e ∷ []) h (bare_below kind.ParenExpr (a ∷ e ∷ []) b) refl w.fields in
     rw (stripped_of_tree kind.ParenExpr (a ∷ e ∷ []))
-      (wider class.Expr w.in_class s w.place (by_first (belongs kind.ParenExpr w.in_class) (belongs kind.SeqExpr w.in_class) (takes_all class.Expr w.in_class) (takes_by s w.in_class w.place o) w.belonging) (stripped e) below.1.0)
+    (wider class.Expr w.in_class s w.place (by_first (belongs kind.ParenExpr w.in_class) (belongs kind.SeqExpr w.in_class) (takes_all class.Expr w.in_class) (takes_by s w.in_class w.place o) w.belonging) (stripped e) below.1.0)
 
 keeps_sequence : (ts : List Node) → Each Keeps ts → Keeps (Tree kind.SeqExpr ts)
 keeps_sequence [] h s b o f = absurd (stands kind.SeqExpr [] s f).fields
@@ -112,9 +117,9 @@ keeps_sequence (a ∷ e ∷ []) h s b o f =
     let below = fields_kept (slots_of kind.SeqExpr) (a ∷ e ∷ []) h (bare_below kind.SeqExpr (a ∷ e ∷ []) b) refl w.fields in
     let items = flat_fit (items_of (stripped e)) (items_fit (stripped e) (content.Node class.Expr) below.1.0) in
     rw (stripped_of_tree kind.SeqExpr (a ∷ e ∷ []))
-      (wider class.Expr w.in_class s w.place (by_second (belongs kind.ParenExpr w.in_class) (belongs kind.SeqExpr w.in_class) (takes_all class.Expr w.in_class) (takes_by s w.in_class w.place o) w.belonging)
-        (sequence (stripped a) (settled (flat_map parts (items_of (stripped e)))))
-        (sequence_fit (stripped a) (settled (flat_map parts (items_of (stripped e)))) below.0 (settled_fit (flat_map parts (items_of (stripped e))) items)))
+    (wider class.Expr w.in_class s w.place (by_second (belongs kind.ParenExpr w.in_class) (belongs kind.SeqExpr w.in_class) (takes_all class.Expr w.in_class) (takes_by s w.in_class w.place o) w.belonging)
+    (sequence (stripped a) (settled (flat_map parts (items_of (stripped e)))))
+    (sequence_fit (stripped a) (settled (flat_map parts (items_of (stripped e)))) below.0 (settled_fit (flat_map parts (items_of (stripped e))) items)))
 
 keeps_class : (ts : List Node) → Each Keeps ts → Keeps (Tree kind.Class ts)
 keeps_class [] h s b o f = absurd (stands kind.Class [] s f).fields
@@ -126,9 +131,14 @@ keeps_class (a ∷ c ∷ d ∷ []) h s b o f =
     let below = fields_kept (slots_of kind.Class) (a ∷ c ∷ d ∷ []) h (bare_below kind.Class (a ∷ c ∷ d ∷ []) b) refl w.fields in
     let members = all_filter (one class.ClassMember) is_member (items_of (stripped d)) (items_fit (stripped d) (content.Node class.ClassMember) below.1.1.0) in
     rw (stripped_of_tree kind.Class (a ∷ c ∷ d ∷ []))
-      (stands_there kind.Class (stripped a ∷ stripped c ∷ Many (filter is_member (items_of (stripped d))) ∷ []) s
-        (record { in_class = w.in_class; place = w.place; no_identifier = w.no_identifier; belonging = w.belonging;
-          fields = (below.0, (below.1.0, (list_closes (filter is_member (items_of (stripped d))) (content.Node class.ClassMember) members, tt))) }))
+    (stands_there kind.Class (stripped a ∷ stripped c ∷ Many (filter is_member (items_of (stripped d))) ∷ []) s
+    (record {
+      in_class = w.in_class;
+      place = w.place;
+      no_identifier = w.no_identifier;
+      belonging = w.belonging;
+      fields = (below.0, (below.1.0, (list_closes (filter is_member (items_of (stripped d))) (content.Node class.ClassMember) members, tt)));
+    }))
 
 -- targets
 target_tree : (k : Kind) (ts : List Node) → target (Tree k ts) ≡ Tree k ts
@@ -150,13 +160,14 @@ formed_fits kind.Ident ts h f = absurd (cc ((tree_opens kind.Ident ts class.Expr
 formed_fits k ts h f = absurd (cc)
 
 simple_fits : (t : Node) → IsTrue (simple t) → Fits t expr → Fits (target t) (one class.AssignTarget)
-simple_fits t = by_children (λ t. IsTrue (simple t) → Fits t expr → Fits (target t) (one class.AssignTarget))
-    (λ b h. absurd (cc (sym (fits-Absent expr) ∙ h)),
-     λ x b h. absurd (cc (sym (fits-Flag x expr) ∙ h)),
-     λ w b h. absurd (cc (sym (fits-Word w expr) ∙ h)),
-     λ x b h. absurd (cc (sym (fits-Text x expr) ∙ h)),
-     λ r b h. absurd (cc (sym (fits-Span r expr) ∙ h)),
-     λ k i b h. rw (target_identifier k i) (bound_fits k i (sym (simple_identifier k i) ∙ b) h))
+simple_fits t = by_children (λ t. IsTrue (simple t) → Fits t expr → Fits (target t) (one class.AssignTarget)) (
+  λ b h. absurd (cc (sym (fits-Absent expr) ∙ h)),
+  λ x b h. absurd (cc (sym (fits-Flag x expr) ∙ h)),
+  λ w b h. absurd (cc (sym (fits-Word w expr) ∙ h)),
+  λ x b h. absurd (cc (sym (fits-Text x expr) ∙ h)),
+  λ r b h. absurd (cc (sym (fits-Span r expr) ∙ h)),
+  λ k i b h. rw (target_identifier k i) (bound_fits k i (sym (simple_identifier k i) ∙ b) h),
+)
     (λ ts l b h. absurd (cc (sym (fits-List ts expr) ∙ h)))
     (λ k ts l b h. rw (target_tree k ts) (formed_fits k ts (sym (simple_tree k ts) ∙ b) h)) t
 
@@ -191,13 +202,14 @@ named_target kind.Ident i f = fits-Identifier kind.BindingIdent i (one class.Ass
 named_target k i f = f
 
 keeps_target : (t : Node) → Keeps t → IsTrue (can_stand (seen t)) → IsTrue (all_bare t) → Fits t (one class.AssignTarget) → Fits (target (stripped t)) (one class.AssignTarget)
-keeps_target t = by_children (λ t. Keeps t → IsTrue (can_stand (seen t)) → IsTrue (all_bare t) → Fits t (one class.AssignTarget) → Fits (target (stripped t)) (one class.AssignTarget))
-    (λ k c b h. absurd (cc (sym (fits-Absent (one class.AssignTarget)) ∙ h)),
-     λ x k c b h. absurd (cc (sym (fits-Flag x (one class.AssignTarget)) ∙ h)),
-     λ w k c b h. absurd (cc (sym (fits-Word w (one class.AssignTarget)) ∙ h)),
-     λ x k c b h. absurd (cc (sym (fits-Text x (one class.AssignTarget)) ∙ h)),
-     λ r k c b h. absurd (cc (sym (fits-Span r (one class.AssignTarget)) ∙ h)),
-     λ n i k c b h. (let same : stripped (Identifier n i) ≡ Identifier n i = search (rules, the_lemmas) in rw (same, target_identifier n i) (named_target n i h)))
+keeps_target t = by_children (λ t. Keeps t → IsTrue (can_stand (seen t)) → IsTrue (all_bare t) → Fits t (one class.AssignTarget) → Fits (target (stripped t)) (one class.AssignTarget)) (
+  λ k c b h. absurd (cc (sym (fits-Absent (one class.AssignTarget)) ∙ h)),
+  λ x k c b h. absurd (cc (sym (fits-Flag x (one class.AssignTarget)) ∙ h)),
+  λ w k c b h. absurd (cc (sym (fits-Word w (one class.AssignTarget)) ∙ h)),
+  λ x k c b h. absurd (cc (sym (fits-Text x (one class.AssignTarget)) ∙ h)),
+  λ r k c b h. absurd (cc (sym (fits-Span r (one class.AssignTarget)) ∙ h)),
+  λ n i k c b h. (let same : stripped (Identifier n i) ≡ Identifier n i = search (rules, the_lemmas) in rw (same, target_identifier n i) (named_target n i h)),
+)
     (λ ts l k c b h. absurd (cc (sym (fits-List ts (one class.AssignTarget)) ∙ h)))
     (λ k ts l. tree_target k ts) t
 
@@ -215,12 +227,23 @@ keeps_assignment (a ∷ p ∷ l ∷ r ∷ []) h s b o f =
     let third = both (all_bare l) (list_all all_bare (r ∷ [])) second.1 in
     let fourth = both (all_bare r) true third.1 in
     rw (stripped_of_tree kind.AssignExpr (a ∷ p ∷ l ∷ r ∷ []))
-      (stands_there kind.AssignExpr (stripped a ∷ stripped p ∷ target (stripped l) ∷ stripped r ∷ []) s
-        (record { in_class = w.in_class; place = w.place; no_identifier = w.no_identifier; belonging = w.belonging;
-          fields = (h.0 (slot.One content.Span) first.0 refl w.fields.0,
-                   (h.1.0 (slot.One (content.Word word_class.AssignOp)) second.0 refl w.fields.1.0,
-                   (keeps_target l h.1.1.0 bare.0 third.0 w.fields.1.1.0,
-                   (h.1.1.1.0 expr fourth.0 refl w.fields.1.1.1.0, tt)))) }))
+    (stands_there kind.AssignExpr (stripped a ∷ stripped p ∷ target (stripped l) ∷ stripped r ∷ []) s
+    (record {
+      in_class = w.in_class;
+      place = w.place;
+      no_identifier = w.no_identifier;
+      belonging = w.belonging;
+      fields = (
+        h.0 (slot.One content.Span) first.0 refl w.fields.0,
+        (
+          h.1.0 (slot.One (content.Word word_class.AssignOp)) second.0 refl w.fields.1.0,
+          (
+            keeps_target l h.1.1.0 bare.0 third.0 w.fields.1.1.0,
+            (h.1.1.1.0 expr fourth.0 refl w.fields.1.1.1.0, tt),
+          ),
+        ),
+      );
+    }))
 
 keeps_tree : (k : Kind) (ts : List Node) → Each Keeps ts → Keeps (Tree k ts)
 keeps_tree kind.ParenExpr ts h = keeps_pair ts h
@@ -233,7 +256,12 @@ stays : (t : Node) → stripped t ≡ t → Keeps t
 stays t e s b o f = rw e f
 
 pub stripped_fits : (t : Node) (s : Slot) → IsTrue (all_bare t) → IsTrue (is_open s) → Fits t s → Fits (stripped t) s
-stripped_fits t = by_children Keeps
-    (stays Absent (search (rules, the_lemmas)), λ x. stays (Flag x) (search (rules, the_lemmas)), λ w. stays (Word w) (search (rules, the_lemmas)),
-     λ x. stays (Text x) (search (rules, the_lemmas)), λ r. stays (Span r) (search (rules, the_lemmas)), λ k i. stays (Identifier k i) (search (rules, the_lemmas)))
+stripped_fits t = by_children Keeps (
+  stays Absent (search (rules, the_lemmas)),
+  λ x. stays (Flag x) (search (rules, the_lemmas)),
+  λ w. stays (Word w) (search (rules, the_lemmas)),
+  λ x. stays (Text x) (search (rules, the_lemmas)),
+  λ r. stays (Span r) (search (rules, the_lemmas)),
+  λ k i. stays (Identifier k i) (search (rules, the_lemmas)),
+)
     keeps_list keeps_tree t

@@ -7,4 +7,5 @@ pub mod Spans
 pub mod Walks
 pub mod Induction
 pub mod Stripped
-mod Rows
+pub mod Rows
+mod GrammarRows

@@ -71,12 +71,13 @@ wider_identifier c d s e t k i h =
     rw (fits-Identifier k i s, e) (and_both (is_identifier k) (belongs k d) p.0 (belongs_too c d k t p.1))
 
 pub wider : (c d : Class) (s : Slot) → single s ≡ Some (content.Node d) → IsTrue (takes_all c d) → (t : Node) → Fits t (one c) → Fits t s
-wider c d s e a t = by_children (λ t. Fits t (one c) → Fits t s)
-    (λ h. absurd (cc (sym (fits-Absent (one c)) ∙ h)),
-     λ x h. absurd (cc (sym (fits-Flag x (one c)) ∙ h)),
-     λ w h. absurd (cc (sym (fits-Word w (one c)) ∙ h)),
-     λ x h. absurd (cc (sym (fits-Text x (one c)) ∙ h)),
-     λ r h. absurd (cc (sym (fits-Span r (one c)) ∙ h)),
-     wider_identifier c d s e a)
+wider c d s e a t = by_children (λ t. Fits t (one c) → Fits t s) (
+  λ h. absurd (cc (sym (fits-Absent (one c)) ∙ h)),
+  λ x h. absurd (cc (sym (fits-Flag x (one c)) ∙ h)),
+  λ w h. absurd (cc (sym (fits-Word w (one c)) ∙ h)),
+  λ x h. absurd (cc (sym (fits-Text x (one c)) ∙ h)),
+  λ r h. absurd (cc (sym (fits-Span r (one c)) ∙ h)),
+  wider_identifier c d s e a,
+)
     (λ ts h g. absurd (cc (sym (fits-List ts (one c)) ∙ g)))
     (λ k ts h. wider_tree c d s e a k ts) t

@@ -9,40 +9,40 @@ use Rattle.swc_tree_grammar.specs.Targets.{all_bare}
 use Rattle.swc_tree_grammar.specs.declared.pairs.Move.TheVariants.{Leading, Trailing}
 use Rattle.swc_tree_grammar.specs.Pairs.{moves}
 
-abbrev at : ℕ → ℕ → Node
+abbrev pub at : ℕ → ℕ → Node
 at lo hi = Span (record { lo = lo; hi = hi })
 
-abbrev name : List ℕ → Node
+abbrev pub name : List ℕ → Node
 name text = Identifier kind.Ident (record { span = no_span; ctxt = []; sym = text })
 
-abbrev bound : List ℕ → Node
+abbrev pub bound : List ℕ → Node
 bound text = Identifier kind.BindingIdent (record { span = no_span; ctxt = []; sym = text })
 
-abbrev named : ℕ → ℕ → Node
+abbrev pub named : ℕ → ℕ → Node
 named lo hi = Identifier kind.Ident (record { span = record { lo = lo; hi = hi }; ctxt = []; sym = codes "a" })
 
-abbrev a : Node
+abbrev pub a : Node
 a = name (codes "a")
 
-abbrev x : Node
+abbrev pub x : Node
 x = name (codes "x")
 
-abbrev number : List ℕ → Node
+abbrev pub number : List ℕ → Node
 number text = Tree kind.Number (at 0 0 ∷ Text text ∷ [])
 
-abbrev call : List ℕ → Node
+abbrev pub call : List ℕ → Node
 call callee = Tree kind.CallExpr (at 0 0 ∷ name callee ∷ Many [] ∷ [])
 
-abbrev seq : List Node → Node
+abbrev pub seq : List Node → Node
 seq es = Tree kind.SeqExpr (at 0 0 ∷ Many es ∷ [])
 
-abbrev paren : Node → Node
+abbrev pub paren : Node → Node
 paren e = Tree kind.ParenExpr (at 0 0 ∷ e ∷ [])
 
 abbrev without_value : Node → Node
 without_value e = Tree kind.UnaryExpr (at 0 0 ∷ Word word.Void ∷ e ∷ [])
 
-abbrev assign : Node → Node
+abbrev pub assign : Node → Node
 assign left = Tree kind.AssignExpr (at 0 0 ∷ Word word.Assign ∷ left ∷ number (codes "1") ∷ [])
 
 abbrev array : Node
@@ -85,7 +85,7 @@ call_not = search (rules, the_lemmas)
 sequence_not : all_bare (assign (paren (seq (a ∷ x ∷ [])))) ≡ false
 sequence_not = search (rules, the_lemmas)
 
-abbrev chain : Node
+abbrev pub chain : Node
 chain = Tree kind.OptChainExpr (at 0 0 ∷ Flag true ∷ Tree kind.MemberExpr (at 0 0 ∷ a ∷ Tree kind.IdentName (at 0 0 ∷ Text (codes "b") ∷ []) ∷ []) ∷ [])
 
 chain_not : all_bare (assign (paren chain)) ≡ false
@@ -94,7 +94,7 @@ chain_not = search (rules, the_lemmas)
 abbrev pair : ℕ → ℕ → Node → Node
 pair lo hi e = Tree kind.ParenExpr (at lo hi ∷ e ∷ [])
 
-abbrev statement : Node → Node
+abbrev pub statement : Node → Node
 statement e = Tree kind.ExprStmt (at 0 0 ∷ e ∷ [])
 
 inner_first : moves (statement (pair 0 5 (pair 1 4 (named 2 3)))) ≡ Leading 1 2 ∷ Trailing 4 3 ∷ Leading 0 1 ∷ Trailing 5 4 ∷ []
@@ -103,17 +103,17 @@ inner_first = search (rules, the_lemmas)
 not_the_target : moves (statement (assign (pair 0 5 (pair 1 4 (named 2 3))))) ≡ Leading 1 2 ∷ Trailing 4 3 ∷ []
 not_the_target = search (rules, the_lemmas)
 
-abbrev sum : ℕ → ℕ → Node → Node → Node
+abbrev pub sum : ℕ → ℕ → Node → Node → Node
 sum lo hi left right = Tree kind.BinExpr (at lo hi ∷ Word word.Plus ∷ left ∷ right ∷ [])
 
 two_pairs : moves (statement (pair 0 9 (sum 1 8 (named 1 2) (pair 5 8 (named 6 7)))))
     ≡ Leading 5 6 ∷ Trailing 8 7 ∷ Leading 0 1 ∷ Trailing 9 8 ∷ []
 two_pairs = search (rules, the_lemmas)
 
-abbrev choice : Node → Node → Node
+abbrev pub choice : Node → Node → Node
 choice cons alt = Tree kind.IfStmt (at 3 9 ∷ a ∷ cons ∷ alt ∷ [])
 
-abbrev while : Node → Node
+abbrev pub while : Node → Node
 while body = Tree kind.WhileStmt (at 4 8 ∷ a ∷ body ∷ [])
 
 abbrev braces : ℕ → ℕ → Node → Node

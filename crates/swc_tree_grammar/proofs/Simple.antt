@@ -67,7 +67,7 @@ tree_bare kind.ParenExpr (span ∷ e ∷ []) l h f =
     rw (stripped_of_tree kind.ParenExpr (span ∷ e ∷ [])) (l.1.0.0 (sym (target_of_tree kind.ParenExpr (span ∷ e ∷ [])) ∙ h) ((tree_opens kind.ParenExpr (span ∷ e ∷ []) class.Expr f).2.1.0))
 tree_bare kind.SeqExpr (span ∷ e ∷ []) l h f =
     rw (stripped_of_tree kind.SeqExpr (span ∷ e ∷ []))
-      (stripped_sequence (stripped span) (items_of (stripped e)) (l.1.0.1 (sym (target_of_tree kind.SeqExpr (span ∷ e ∷ [])) ∙ h) ((tree_opens kind.SeqExpr (span ∷ e ∷ []) class.Expr f).2.1.0)))
+    (stripped_sequence (stripped span) (items_of (stripped e)) (l.1.0.1 (sym (target_of_tree kind.SeqExpr (span ∷ e ∷ [])) ∙ h) ((tree_opens kind.SeqExpr (span ∷ e ∷ []) class.Expr f).2.1.0)))
 tree_bare kind.MemberExpr ts l h f = rw (stripped_other kind.MemberExpr ts refl) (simple_tree kind.MemberExpr (map stripped ts))
 tree_bare kind.SuperPropExpr ts l h f = rw (stripped_other kind.SuperPropExpr ts refl) (simple_tree kind.SuperPropExpr (map stripped ts))
 tree_bare kind.Ident ts l h f = rw (stripped_other kind.Ident ts refl) (simple_tree kind.Ident (map stripped ts))
@@ -88,18 +88,19 @@ identifier_bare k i h =
 list_bare : (ts : List Node) → Each Bare ts → IsTrue (is_target (Many ts)) → Fits (Many ts) exprs → OneSimple (items_of (stripped (Many ts)))
 list_bare (t ∷ []) l h f =
     rw (stripped_of_list (t ∷ []), items_of_list (stripped t ∷ []))
-      (stripped t, refl, l.0.0 (sym (target_of_list (t ∷ [])) ∙ h) ((list_opens (t ∷ []) (content.Node class.Expr) f).0))
+    (stripped t, refl, l.0.0 (sym (target_of_list (t ∷ [])) ∙ h) ((list_opens (t ∷ []) (content.Node class.Expr) f).0))
 list_bare [] l h f = absurd (cc (sym (target_of_list []) ∙ h))
 list_bare (t ∷ u ∷ ts) l h f = absurd (cc (sym (target_of_list (t ∷ u ∷ ts)) ∙ h))
 
 bare : (t : Node) → Bare t
-bare t = by_children Bare
-    ((λ b h. absurd (cc (sym (fits-Absent expr) ∙ h)), λ b h. absurd (cc (sym (fits-Absent exprs) ∙ h))),
-     λ x. (λ b h. absurd (cc (sym (fits-Flag x expr) ∙ h)), λ b h. absurd (cc (sym (fits-Flag x exprs) ∙ h))),
-     λ w. (λ b h. absurd (cc (sym (fits-Word w expr) ∙ h)), λ b h. absurd (cc (sym (fits-Word w exprs) ∙ h))),
-     λ x. (λ b h. absurd (cc (sym (fits-Text x expr) ∙ h)), λ b h. absurd (cc (sym (fits-Text x exprs) ∙ h))),
-     λ r. (λ b h. absurd (cc (sym (fits-Span r expr) ∙ h)), λ b h. absurd (cc (sym (fits-Span r exprs) ∙ h))),
-     λ k i. (λ b h. identifier_bare k i b, λ b h. absurd (cc (sym (fits-Identifier k i exprs) ∙ h))))
+bare t = by_children Bare (
+  (λ b h. absurd (cc (sym (fits-Absent expr) ∙ h)), λ b h. absurd (cc (sym (fits-Absent exprs) ∙ h))),
+  λ x. (λ b h. absurd (cc (sym (fits-Flag x expr) ∙ h)), λ b h. absurd (cc (sym (fits-Flag x exprs) ∙ h))),
+  λ w. (λ b h. absurd (cc (sym (fits-Word w expr) ∙ h)), λ b h. absurd (cc (sym (fits-Word w exprs) ∙ h))),
+  λ x. (λ b h. absurd (cc (sym (fits-Text x expr) ∙ h)), λ b h. absurd (cc (sym (fits-Text x exprs) ∙ h))),
+  λ r. (λ b h. absurd (cc (sym (fits-Span r expr) ∙ h)), λ b h. absurd (cc (sym (fits-Span r exprs) ∙ h))),
+  λ k i. (λ b h. identifier_bare k i b, λ b h. absurd (cc (sym (fits-Identifier k i exprs) ∙ h))),
+)
     (λ ts l. (λ b h. absurd (cc (sym (fits-List ts expr) ∙ h)), list_bare ts l))
     (λ k ts l. (tree_bare k ts l, λ b h. absurd (cc (sym (fits-Tree k ts exprs) ∙ h)))) t
 

@@ -64,14 +64,19 @@ effects_of_void span op arg h = effects_of_tree kind.UnaryExpr (span ∷ op ∷ 
 
 pub effects_of_identifier : (k : Kind) (i : Ident) → effects (Identifier k i) ≡ Identifier k i ∷ []
 effects_of_identifier k i = search (rules, the_lemmas)
+
 pub effects_of_absent : effects Absent ≡ Absent ∷ []
 effects_of_absent = search (rules, the_lemmas)
+
 pub effects_of_flag : (x : Bool) → effects (Flag x) ≡ Flag x ∷ []
 effects_of_flag x = search (rules, the_lemmas)
+
 pub effects_of_word : (w : Word') → effects (Word w) ≡ Word w ∷ []
 effects_of_word w = search (rules, the_lemmas)
+
 pub effects_of_text : (x : List ℕ) → effects (Text x) ≡ Text x ∷ []
 effects_of_text x = search (rules, the_lemmas)
+
 pub effects_of_span : (s : Range) → effects (Span s) ≡ Span s ∷ []
 effects_of_span s = search (rules, the_lemmas)
 

@@ -1,4 +1,8 @@
 pub mod Shapes
+pub mod Levels
+pub mod Starts
+pub mod Forms
+pub mod Grammar
 pub mod Stripped
 pub mod Blocks
 pub mod Targets
