@@ -12,7 +12,7 @@ use Rattle.swc_tree_grammar.proofs.Rows.{at, a, x, named, number, seq, paren, ca
 abbrev sloppy : Context
 sloppy = record { with_in = true; strict = false }
 
-abbrev bin : Word' → Node → Node → Node
+abbrev pub bin : Word' → Node → Node → Node
 bin op left right = Tree kind.BinExpr (at 0 0 ∷ Word op ∷ left ∷ right ∷ [])
 
 abbrev unary : Word' → Node → Node

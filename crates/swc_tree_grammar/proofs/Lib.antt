@@ -8,4 +8,5 @@ pub mod Walks
 pub mod Induction
 pub mod Stripped
 pub mod Rows
-mod GrammarRows
+pub mod GrammarRows
+mod FormRows

@@ -3,6 +3,9 @@ pub mod Levels
 pub mod Starts
 pub mod Forms
 pub mod Grammar
+pub mod Normal
+pub mod Same
+pub mod Needed
 pub mod Stripped
 pub mod Blocks
 pub mod Targets
