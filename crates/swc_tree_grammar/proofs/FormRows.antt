@@ -9,8 +9,9 @@ use Rattle.swc_tree_node.specs.declared.node.Node.TheVariants.{outs-Tree, outs-L
 use Rattle.swc_tree_grammar.specs.Normal.{written_out}
 use Rattle.swc_tree_grammar.specs.Same.{Names, same_tree}
 use Rattle.swc_tree_grammar.specs.Needed.{without_pair}
-use Rattle.swc_tree_grammar.proofs.Rows.{at, a, x, name, bound, paren, choice, statement, while}
-use Rattle.swc_tree_grammar.proofs.GrammarRows.{bin}
+use Rattle.swc_tree_grammar.specs.Due.{Places, paired_by_level, callee_of_new, paired_in_heads, paired_at_starts}
+use Rattle.swc_tree_grammar.proofs.Rows.{at, a, x, name, bound, paren, call, choice, statement, while}
+use Rattle.swc_tree_grammar.proofs.GrammarRows.{bin, member}
 
 abbrev object : List Node → Node
 object props = Tree kind.ObjectLit (at 0 0 ∷ Many props ∷ [])
@@ -58,3 +59,31 @@ label = search (rules, the_lemmas)
 -- the pair of `a * (b + c)` taken off
 taken_off : without_pair (bin word.Mul a (paren (bin word.Plus a x))) (3 ∷ []) ≡ bin word.Mul a (bin word.Plus a x)
 taken_off = search (rules, the_lemmas)
+
+abbrev same_place : Places
+same_place s = s
+
+-- `a * b + c` with the sum as a factor gets its pair, and the product as a term none
+factor : paired_by_level same_place (bin word.Mul a (bin word.Plus a x)) ≡ bin word.Mul a (paren (bin word.Plus a x))
+factor = search (rules, the_lemmas)
+
+term : paired_by_level same_place (bin word.Plus (bin word.Mul a x) a) ≡ bin word.Plus (bin word.Mul a x) a
+term = search (rules, the_lemmas)
+
+-- of a callee of `new` the call on its left gets the pair
+new_spine : callee_of_new same_place false (member (call (codes "a"))) ≡ member (paren (call (codes "a")))
+new_spine = search (rules, the_lemmas)
+
+-- `for (x = (a in x);;) ;`
+abbrev assigned : Node → Node
+assigned right = Tree kind.AssignExpr (at 0 0 ∷ Word word.Assign ∷ bound (codes "x") ∷ right ∷ [])
+
+abbrev loop : Node → Node
+loop init = Tree kind.ForStmt (at 0 0 ∷ init ∷ Absent ∷ Absent ∷ Tree kind.EmptyStmt (at 0 0 ∷ []) ∷ [])
+
+in_head : paired_in_heads same_place (loop (assigned (bin word.In a x))) ≡ loop (assigned (paren (bin word.In a x)))
+in_head = search (rules, the_lemmas)
+
+-- `({}) + a`
+object_first : paired_at_starts same_place (statement (bin word.Plus (object []) a)) ≡ statement (bin word.Plus (paren (object [])) a)
+object_first = search (rules, the_lemmas)

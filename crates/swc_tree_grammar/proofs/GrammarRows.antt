@@ -18,7 +18,7 @@ bin op left right = Tree kind.BinExpr (at 0 0 ∷ Word op ∷ left ∷ right ∷
 abbrev unary : Word' → Node → Node
 unary op arg = Tree kind.UnaryExpr (at 0 0 ∷ Word op ∷ arg ∷ [])
 
-abbrev member : Node → Node
+abbrev pub member : Node → Node
 member e = Tree kind.MemberExpr (at 0 0 ∷ e ∷ Tree kind.IdentName (at 0 0 ∷ Text (codes "b") ∷ []) ∷ [])
 
 abbrev object : Node

@@ -6,6 +6,7 @@ pub mod Grammar
 pub mod Normal
 pub mod Same
 pub mod Needed
+pub mod Due
 pub mod Stripped
 pub mod Blocks
 pub mod Targets
