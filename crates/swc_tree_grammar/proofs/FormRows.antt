@@ -1,16 +1,17 @@
 -- Normal forms, sameness and needed pairs on small trees.
-use Rattle.std.proofs.Common.{◌≡◌, ℕ, zero, suc, List, [], ◌∷◌, Bool, true, false, codes, rules, refl, Some}
+use Rattle.std.proofs.Common.{◌≡◌, ℕ, List, [], ◌∷◌, true, false, codes, rules}
 use Rattle.std.specs.Prelude.{nat_eq}
 use Rattle.std.specs.Cmp.Lexicographic.{pointwise}
 use Rattle.swc_tree_node.specs.declared.kind.Kind.TheVariants as kind
 use Rattle.swc_tree_node.specs.declared.kind.Word.TheVariants as word
-use Rattle.swc_tree_node.specs.declared.node.Node.{Node, Absent, Flag, Word, Text, Span, List as Many, Identifier, Tree, the_lemmas}
-use Rattle.swc_tree_node.specs.declared.node.Node.TheVariants.{outs-Tree, outs-List}
+use Rattle.swc_tree_node.specs.declared.node.Node.{Node, Absent, Word, Text, List as Many, Tree, the_lemmas}
 use Rattle.swc_tree_grammar.specs.Normal.{written_out}
 use Rattle.swc_tree_grammar.specs.Same.{Names, same_tree}
 use Rattle.swc_tree_grammar.specs.Needed.{without_pair}
 use Rattle.swc_tree_grammar.specs.Due.{Places, paired_by_level, callee_of_new, paired_in_heads, paired_at_starts}
-use Rattle.swc_tree_grammar.proofs.Rows.{at, a, x, name, bound, paren, call, choice, statement, while}
+use Rattle.swc_tree_grammar.specs.Writable.{is_writable}
+use Rattle.swc_tree_node.specs.declared.kind.Word.{Word as Word'}
+use Rattle.swc_tree_grammar.proofs.Rows.{at, a, x, seq, array, name, bound, paren, call, choice, statement}
 use Rattle.swc_tree_grammar.proofs.GrammarRows.{bin, member}
 
 abbrev object : List Node → Node
@@ -37,7 +38,7 @@ exported = Tree kind.ExportDecl (at 0 0 ∷ Tree kind.VarDecl (at 0 0 ∷ Word w
 -- `export var a` is `var a; export { a as a }`
 split : written_out (Tree kind.Module (at 0 0 ∷ Many (exported ∷ []) ∷ Absent ∷ []))
     ≡ Tree kind.Module (at 0 0 ∷ Many (Tree kind.VarDecl (at 0 0 ∷ Word word.Var ∷ Many (Tree kind.VarDeclarator (at 0 0 ∷ bound (codes "a") ∷ Absent ∷ []) ∷ []) ∷ [])
-      ∷ Tree kind.NamedExport (at 0 0 ∷ Many (Tree kind.ExportNamedSpecifier (at 0 0 ∷ a ∷ a ∷ []) ∷ []) ∷ Absent ∷ Absent ∷ []) ∷ []) ∷ Absent ∷ [])
+    ∷ Tree kind.NamedExport (at 0 0 ∷ Many (Tree kind.ExportNamedSpecifier (at 0 0 ∷ a ∷ a ∷ []) ∷ []) ∷ Absent ∷ Absent ∷ []) ∷ []) ∷ Absent ∷ [])
 split = search (rules, the_lemmas)
 
 abbrev only_a : Names
@@ -87,3 +88,22 @@ in_head = search (rules, the_lemmas)
 -- `({}) + a`
 object_first : paired_at_starts same_place (statement (bin word.Plus (object []) a)) ≡ statement (bin word.Plus (paren (object [])) a)
 object_first = search (rules, the_lemmas)
+
+-- a label that is a reserved word, a sequence of one item, a pattern assigned to by `+=`
+reserved_label : is_writable (labeled (codes "if")) ≡ false
+reserved_label = search (rules, the_lemmas)
+
+plain_label : is_writable (labeled (codes "a")) ≡ true
+plain_label = search (rules, the_lemmas)
+
+short_sequence : is_writable (statement (seq (a ∷ []))) ≡ false
+short_sequence = search (rules, the_lemmas)
+
+abbrev destructured : Word' → Node
+destructured op = Tree kind.AssignExpr (at 0 0 ∷ Word op ∷ array ∷ x ∷ [])
+
+destructuring : is_writable (statement (destructured word.Assign)) ≡ true
+destructuring = search (rules, the_lemmas)
+
+no_destructuring : is_writable (statement (destructured word.AddAssign)) ≡ false
+no_destructuring = search (rules, the_lemmas)

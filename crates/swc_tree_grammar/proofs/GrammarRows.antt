@@ -1,13 +1,12 @@
 -- The grammar on small trees.
-use Rattle.std.proofs.Common.{◌≡◌, ℕ, List, [], ◌∷◌, Bool, true, false, codes, rules, refl}
-use Rattle.swc_tree_node.specs.declared.kind.Kind.{Kind}
+use Rattle.std.proofs.Common.{◌≡◌, [], ◌∷◌, true, false, codes, rules}
 use Rattle.swc_tree_node.specs.declared.kind.Kind.TheVariants as kind
 use Rattle.swc_tree_node.specs.declared.kind.Word.{Word as Word'}
 use Rattle.swc_tree_node.specs.declared.kind.Word.TheVariants as word
-use Rattle.swc_tree_node.specs.declared.node.Node.{Node, Absent, Flag, Word, Text, Span, List as Many, Identifier, Tree, the_lemmas}
+use Rattle.swc_tree_node.specs.declared.node.Node.{Node, Absent, Word, Text, List as Many, Tree, the_lemmas}
 use Rattle.swc_tree_grammar.specs.Levels.{level}
 use Rattle.swc_tree_grammar.specs.Grammar.{Context, derives}
-use Rattle.swc_tree_grammar.proofs.Rows.{at, a, x, named, number, seq, paren, call, chain, statement, sum, choice, while, assign}
+use Rattle.swc_tree_grammar.proofs.Rows.{at, a, x, number, paren, call, chain, statement, choice, while}
 
 abbrev sloppy : Context
 sloppy = record { with_in = true; strict = false }

@@ -45,7 +45,7 @@ without_value e = Tree kind.UnaryExpr (at 0 0 ∷ Word word.Void ∷ e ∷ [])
 abbrev pub assign : Node → Node
 assign left = Tree kind.AssignExpr (at 0 0 ∷ Word word.Assign ∷ left ∷ number (codes "1") ∷ [])
 
-abbrev array : Node
+abbrev pub array : Node
 array = Tree kind.ArrayPat (at 0 0 ∷ Many (bound (codes "a") ∷ []) ∷ [])
 
 nested : stripped (seq (seq (call (codes "f") ∷ number (codes "2") ∷ []) ∷ without_value (number (codes "3")) ∷ x ∷ [])) ≡ seq (call (codes "f") ∷ x ∷ [])

@@ -7,13 +7,13 @@ use Rattle.swc_tree_node.specs.declared.kind.Word.{Word}
 use Rattle.swc_tree_node.specs.declared.kind.Word.TheVariants as word
 use Rattle.swc_tree_node.specs.declared.node.Node.{Node, Span, List as Many, Identifier, Tree, out-Node, roll-Node, fold-Node, map-Node}
 use Rattle.swc_tree_node.specs.declared.node.Node.TheOpen.{Node-F}
-use Rattle.swc_tree_grammar.specs.Shapes.{Paren, SuperProp, Seq, Assign, Cond, Bin, Unary, Await, Update, Yield, Member, TaggedTpl, Call, New, OptChain, OptCall, Argument, Spread, KeyValue, Computed, ClassProp, PrivateProp, Arrow, Class, Declarator, AssignPat, AssignPatProp, VarDecl, Statement, ExportDefault, For, ForIn, ForOf, items_of}
-use Rattle.swc_tree_grammar.specs.Levels.{level, word_of, level_of_word, is_absent, is_called}
+use Rattle.swc_tree_grammar.specs.Shapes.{SuperProp, Seq, Assign, Cond, Bin, Unary, Await, Update, Yield, Member, TaggedTpl, Call, New, OptChain, OptCall, Argument, Spread, KeyValue, Computed, ClassProp, PrivateProp, Arrow, Class, Declarator, AssignPat, AssignPatProp, VarDecl, Statement, ExportDefault, For, ForIn, ForOf, items_of}
+use Rattle.swc_tree_grammar.specs.Levels.{level, word_of, level_of_word, is_absent}
 use Rattle.swc_tree_grammar.specs.Starts.{Start, start}
 use Rattle.swc_tree_grammar.specs.Starts.Start.{Let}
 use Rattle.swc_tree_grammar.specs.Forms.{holds}
 use Rattle.swc_tree_grammar.specs.Blocks.{span_of}
-use Rattle.swc_tree_grammar.specs.Grammar.{has_kind, is_chain, is_bare_new, is_nullish, is_block, is_async_name, key_level, may_begin_statement, may_begin_export, may_begin_body}
+use Rattle.swc_tree_grammar.specs.Grammar.{has_kind, is_chain, is_bare_new, is_nullish, is_block, is_async_name, may_begin_statement, may_begin_export, may_begin_body}
 
 -- where the pair round an expression stands, by where the expression does
 abbrev pub Places : Type 0
@@ -148,8 +148,8 @@ spine_in place t _ = pair place t
 
 abbrev pub spine_step : Places → Node-F Spine → Spine
 spine_step place x = (
-  let whole = roll-Node (map-Node Spine Node (λ e. e.whole) x) in
-  record { whole = whole; paired = spine_in place whole x })
+    let whole = roll-Node (map-Node Spine Node (λ e. e.whole) x) in
+    record { whole = whole; paired = spine_in place whole x })
 
 abbrev pub callee_of_new : Places → Bool → Node → Node
 callee_of_new place without_arguments e =
@@ -299,8 +299,8 @@ first_in place t _ = pair place t
 
 abbrev pub first_step : Places → Node-F Spine → Spine
 first_step place x = (
-  let whole = roll-Node (map-Node Spine Node (λ e. e.whole) x) in
-  record { whole = whole; paired = first_in place whole x })
+    let whole = roll-Node (map-Node Spine Node (λ e. e.whole) x) in
+    record { whole = whole; paired = first_in place whole x })
 
 abbrev pub begun : Places → (Start → Bool) → Node → Node
 begun place may_begin e = if may_begin (start e) then e else (fold-Node Spine (first_step place) e).paired

@@ -7,7 +7,7 @@ use Rattle.swc_tree_node.specs.declared.kind.Word.{Word}
 use Rattle.swc_tree_node.specs.declared.kind.Word.TheVariants as word
 use Rattle.swc_tree_node.specs.declared.node.Node.{Node, out-Node}
 use Rattle.swc_tree_node.specs.declared.node.Node.TheOpen.{Node-F}
-use Rattle.swc_tree_grammar.specs.Shapes.{Statement, Str, VarDecl, UsingDecl, FnDecl, Function, Declarator, Block, items_of}
+use Rattle.swc_tree_grammar.specs.Shapes.{Statement, Str, VarDecl, FnDecl, Function, Declarator, Block, items_of}
 use Rattle.swc_tree_grammar.specs.Levels.{word_of, is_absent}
 
 abbrev pub is_flag_in : Node-F Node → Bool

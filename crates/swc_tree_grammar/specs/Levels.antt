@@ -1,6 +1,6 @@
 -- How tightly an expression binds, from sequences (1) to what needs no parentheses anywhere (19): the productions
 -- of ECMA-262, 13.2 to 13.16, each of which takes what binds tighter.
-use Rattle.std.specs.Prelude.{ℕ, [], ◌∷◌, Bool, true, false, Option, Some, None, if◌then◌else◌}
+use Rattle.std.specs.Prelude.{ℕ, Bool, true, false, Option, Some, None, if◌then◌else◌}
 use Rattle.swc_tree_node.specs.declared.kind.Kind.{Kind}
 use Rattle.swc_tree_node.specs.declared.kind.Kind.TheVariants as kind
 use Rattle.swc_tree_node.specs.declared.kind.Word.{Word}

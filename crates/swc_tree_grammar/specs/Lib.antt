@@ -7,6 +7,7 @@ pub mod Normal
 pub mod Same
 pub mod Needed
 pub mod Due
+pub mod Writable
 pub mod Stripped
 pub mod Blocks
 pub mod Targets

@@ -1,10 +1,8 @@
 -- When a pair of parentheses is needed.
-use Rattle.std.specs.Prelude.{◌≡◌, ℕ, zero, suc, List, [], ◌∷◌, map, Bool, true, false}
-use Rattle.swc_tree_node.specs.declared.kind.Kind.TheVariants as kind
+use Rattle.std.specs.Prelude.{ℕ, zero, suc, List, [], ◌∷◌}
 use Rattle.swc_tree_node.specs.declared.node.Node.{Node, List as Many, Tree, out-Node}
 use Rattle.swc_tree_node.specs.declared.node.Node.TheOpen.{Node-F}
-use Rattle.swc_tree_grammar.specs.Shapes.{Paren, Assign}
-use Rattle.swc_tree_grammar.specs.Stripped.{target}
+use Rattle.swc_tree_grammar.specs.Shapes.{Paren}
 use Rattle.swc_tree_grammar.specs.Grammar.{FitsGrammar}
 
 -- the way from a node down: of each node the number of the field or item to go on with

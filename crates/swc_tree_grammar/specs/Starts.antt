@@ -1,5 +1,5 @@
 -- What an expression begins with (ECMA-262, the lookahead restrictions of 14.5, 15.3 and 16.2.3).
-use Rattle.std.specs.Prelude.{[], ◌∷◌, Bool, true, false, codes, nat_eq, if◌then◌else◌}
+use Rattle.std.specs.Prelude.{◌∷◌, true, codes, nat_eq, if◌then◌else◌}
 use Rattle.std.specs.Cmp.Lexicographic.{pointwise}
 use Rattle.swc_tree_node.specs.declared.kind.Kind.TheVariants as kind
 use Rattle.swc_tree_node.specs.declared.node.Node.{Node, fold-Node}
