@@ -5,7 +5,7 @@ ghost use Rattle.swc_tree_node.specs.Fits.{Fits};
 ghost use Rattle.swc_tree_grammar.specs.Places.{is_open};
 ghost use Rattle.swc_tree_grammar.specs.Blocks.{with_blocks};
 ghost use Rattle.swc_tree_grammar.specs.Pairs.{moves};
-ghost use Rattle.swc_tree_grammar.specs.Stripped.{stripped};
+ghost use Rattle.swc_tree_grammar.specs.Stripped.{is_pairless, stripped};
 ghost use Rattle.swc_tree_grammar.specs.Targets.{all_bare as bare};
 ghost use Rattle.swc_base_fixer_unparen.specs.Moves.{Moved, MovedIn};
 
@@ -39,10 +39,11 @@ fn unparen_with<C: Comments>(alloc: Global, comments: &mut C, node: Node) -> Res
 }
 
 /// The pass on a tree without comments.
-#[tactic(auto, using(swc_tree_grammar::proofs::BlocksKept::unparened_fits))]
+#[tactic(auto, using(swc_tree_grammar::proofs::BlocksKept::unparened_fits, swc_tree_grammar::proofs::Pairless::unparened_pairless))]
 fn remove_parens_alone(alloc: Global, node: Node) -> Result<Node, PassError>
     ensures answer { IfOk result (λ t. t ≡ with_blocks (stripped node)) }
     ensures fits { (s : Slot) → IsTrue (is_open s) → Fits node s → IfOk result (λ t. Fits t s) }
+    ensures pairless { (s : Slot) → Fits node s → IfOk result (λ t. IsTrue (is_pairless t)) }
     ensures not_assignable { IsErrAnd result (λ e. e ≡ pass.NotAssignable) ↔ (bare node ≡ false) }
     ensures no_memory { IfErr result (λ e. (e ≡ pass.NotAssignable) ⊎ (e ≡ pass.NoMemory)) }
 {
@@ -54,7 +55,7 @@ fn remove_parens_alone(alloc: Global, node: Node) -> Result<Node, PassError>
 }
 
 /// The pass on a tree with comments.
-#[tactic(auto, using(swc_tree_grammar::proofs::BlocksKept::unparened_fits))]
+#[tactic(auto, using(swc_tree_grammar::proofs::BlocksKept::unparened_fits, swc_tree_grammar::proofs::Pairless::unparened_pairless))]
 fn remove_parens_with<C: Comments>(
     alloc: Global,
     comments: &mut C,
@@ -62,6 +63,7 @@ fn remove_parens_with<C: Comments>(
 ) -> Result<Node, PassError>
     ensures answer { IfOk result (λ t. t ≡ with_blocks (stripped node)) }
     ensures fits { (s : Slot) → IsTrue (is_open s) → Fits node s → IfOk result (λ t. Fits t s) }
+    ensures pairless { (s : Slot) → Fits node s → IfOk result (λ t. IsTrue (is_pairless t)) }
     ensures not_assignable { IsErrAnd result (λ e. e ≡ pass.NotAssignable) ↔ (bare node ≡ false) }
     ensures no_memory { IfErr result (λ e. (e ≡ pass.NotAssignable) ⊎ (e ≡ pass.NoMemory)) }
     ensures moved { Moved C.moved comments.old (moves node) comments.new result }
@@ -96,6 +98,7 @@ pub fn remove_parens<C: Comments>(
 ) -> Result<Node, PassError>
     ensures answer { IfOk result (λ t. t ≡ with_blocks (stripped node)) }
     ensures fits { (s : Slot) → IsTrue (is_open s) → Fits node s → IfOk result (λ t. Fits t s) }
+    ensures pairless { (s : Slot) → Fits node s → IfOk result (λ t. IsTrue (is_pairless t)) }
     ensures not_assignable { IsErrAnd result (λ e. e ≡ pass.NotAssignable) ↔ (bare node ≡ false) }
     ensures no_memory { IfErr result (λ e. (e ≡ pass.NotAssignable) ⊎ (e ≡ pass.NoMemory)) }
     ensures moved { MovedIn C.moved comments.entry (moves node) comments.exit result }

@@ -1,3 +1,4 @@
+pub mod Pairless
 pub mod BlocksKept
 pub mod Kept
 pub mod Simple

@@ -118,3 +118,13 @@ strip_step t = roll-Node t
 -- the last of a sequence, and empty class members
 abbrev pub stripped : Node → Node
 stripped = fold-Node Node strip_step
+
+-- a tree that has no pair of parentheses
+abbrev pub pairless_step : Node-F Bool → Bool
+pairless_step (Node-F.Tree kind.ParenExpr bs) = false
+pairless_step (Node-F.Tree k bs) = list_all (λ b. b) bs
+pairless_step (Node-F.List bs) = list_all (λ b. b) bs
+pairless_step _ = true
+
+abbrev pub is_pairless : Node → Bool
+is_pairless = fold-Node Bool pairless_step
