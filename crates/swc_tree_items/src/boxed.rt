@@ -84,6 +84,14 @@ mod tests {
     }
 
     #[test]
+    fn changes_in_place(rt: HostRuntime) -> Result<(), Fail> {
+        let mut boxed = Boxed::new(rt.alloc(), 7)?;
+        *boxed.get_mut() = 8;
+        assert_eq!(rt; boxed.into_inner(), 8);
+        Ok(())
+    }
+
+    #[test]
     fn holds_what_holds_it(rt: HostRuntime) -> Result<(), Fail> {
         let mut chain = Chain::End;
         for number in [1, 2, 3] {
