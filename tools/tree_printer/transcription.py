@@ -2,7 +2,13 @@
 import re
 
 ROLES = {'': 'Plain', 'reference': 'Reference', 'inherited': 'Inherited', 'declared': 'Declared',
-         'function': 'Function', 'parameter': 'Parameter', 'body': 'FunctionBody'}
+         'function': 'Function', 'class': 'Class', 'own_name': 'OwnName', 'parameter': 'Parameter', 'catch': 'Catch',
+         'import': 'Import', 'lexical': 'Lexical', 'body': 'FunctionBody', 'label': 'Label', 'imported': 'Imported',
+         'exported': 'Exported', 'export_local': 'ExportLocal'}
+
+# The forms of places, each with what is written for it; `X` stands for a type.
+SLOTS = [('Pairs', r'Pairs()'), ('OptionalList', r'\[(\w+)\]\?'), ('Holes', r'\[(\w+)\?\]'), ('List', r'\[(\w+)\]'),
+         ('Optional', r'(\w+)\?'), ('One', r'(\w+)')]
 
 # Words that no contract can use as the name of a field: the field's name has an underscore after them.
 CLAUSE_WORDS = {'class', 'with'}
@@ -17,9 +23,11 @@ class Field:
         self.key = key
         self.name = key + '_' if key in CLAUSE_WORDS else key
         self.role = ROLES[role.strip()]
-        self.many = type_.startswith('[')
-        self.optional = type_.endswith('?')
-        self.type = type_.strip('[]?')
+        self.slot, self.type = next((slot, match[1]) for slot, form in SLOTS if (match := re.fullmatch(form, type_)))
+
+    def is_single(self):
+        """Whether one node or leaf stands here, or nothing."""
+        return self.slot in ('One', 'Optional')
 
 
 class Family:
@@ -44,8 +52,16 @@ class Struct(Entry):
         self.fields = fields
 
 
+class Variant:
+    """A variant of a sum, and the struct or sum that it holds: opened, or, after `*`, as a subtree."""
+
+    def __init__(self, text):
+        self.name, member = text.split()[0].lstrip('*'), text.split()[-1]
+        self.member, self.is_subtree = member.lstrip('*'), member.startswith('*')
+
+
 class Sum(Entry):
-    """A sum, with its variants: pairs of a variant's name and the struct or sum that it holds."""
+    """A sum, with its variants."""
 
     def __init__(self, name, family, doc, variants):
         super().__init__(name, family, doc)
@@ -96,8 +112,7 @@ class Tree:
             pairs = [tuple(item.strip().rsplit(' ', 1)) for item in words[2].split(', ')]
             self.words[words[1]] = Words(words[1], *about, pairs)
         elif sum_:
-            variants = [(v.split()[0], v.split()[-1]) for v in sum_[2].split(', ')]
-            self.sums[sum_[1]] = Sum(sum_[1], *about, variants)
+            self.sums[sum_[1]] = Sum(sum_[1], *about, [Variant(text) for text in sum_[2].split(', ')])
         else:
             head, _, fields = line.partition(':')
             name, *marks = head.split()
@@ -112,8 +127,8 @@ class Tree:
         if name in self.structs:
             return [name]
         kinds = []
-        for _, member in self.sums[name].variants:
-            kinds += [k for k in self.kinds_of(member) if k not in kinds]
+        for variant in self.sums[name].variants:
+            kinds += [k for k in self.kinds_of(variant.member) if k not in kinds]
         return kinds
 
     def classes(self):

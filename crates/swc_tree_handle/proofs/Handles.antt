@@ -1,5 +1,5 @@
 -- A node that fits one class fits another that takes its kind.
-use Rattle.std.proofs.Common.{◌≡◌, zero, suc, slice_get, slice_set, List, [], ◌∷◌, ℕ, Bool, true, false, not, ◌||◌, ◌==◌, IsTrue, Some, refl, ap, subst, arith}
+use Rattle.std.proofs.Common.{◌≡◌, zero, suc, slice_get, slice_set, take, drop, ◌++◌, List, [], ◌∷◌, ℕ, Bool, true, false, not, ◌||◌, ◌==◌, IsTrue, Some, sym, refl, ap, subst, arith}
 use Rattle.std.specs.List.{list_any, list_all}
 use Rattle.swc_tree_marks.specs.declared.ident.Ident.{Ident}
 use Rattle.swc_tree_node.specs.declared.kind.Kind.{Kind}
@@ -29,6 +29,9 @@ identifier_opens k i c h = both (is_identifier k) (belongs k c) (rw (← fits-Id
 
 pub identifier_closes : (k : Kind) (i : Ident) (c : Class) → IsTrue (is_identifier k) → IsTrue (belongs k c) → Fits (Identifier k i) (slot.One (content.Node c))
 identifier_closes k i c h g = rw (fits-Identifier k i (slot.One (content.Node c))) (and_both (is_identifier k) (belongs k c) h g)
+
+pub tree_belongs : (k : Kind) (ts : List Node) (c : Class) → Fits (Tree k ts) (slot.One (content.Node c)) → IsTrue (belongs k c)
+tree_belongs k ts c h = (tree_opens k ts c h).1
 
 pub identifier_moves : (k : Kind) (i : Ident) (c d : Class) → Fits (Identifier k i) (slot.One (content.Node c)) → IsTrue (is_of (Identifier k i) d) → Fits (Identifier k i) (slot.One (content.Node d))
 identifier_moves k i c d h g = identifier_closes k i d (identifier_opens k i c h).0 (rw (← ap (takes d) (kind_of-Identifier k i)) g)
@@ -70,17 +73,27 @@ only k l h = same_kind k l (grind arith)
 sole : (k l : Kind) (c : Class) → kinds_of c ≡ l ∷ [] → IsTrue (belongs k c) → k ≡ l
 sole k l c e h = only k l (subst (λ ks. IsTrue (list_any (λ x. kind_number k == kind_number x) ks)) e h)
 
+clash : (b : Bool) → IsTrue b → IsTrue (not b) → ⊥
+clash true h g = absurd (grind arith)
+clash false h g = absurd (grind arith)
+
 pub sole_tree : (k : Kind) (ts : List Node) (c : Class) (l : Kind) → Fits (Tree k ts) (slot.One (content.Node c)) → kinds_of c ≡ l ∷ [] → (k ≡ l) × FieldsFit (slots_of l) ts
 sole_tree k ts c l h e =
     let o = tree_opens k ts c h in
     let s = sole k l c e o.1 in
     (s, subst (λ x. FieldsFit (slots_of x) ts) s o.2)
 
+pub sole_tree_kind : (k : Kind) (ts : List Node) (c : Class) (l : Kind) → Fits (Tree k ts) (slot.One (content.Node c)) → kinds_of c ≡ l ∷ [] → k ≡ l
+sole_tree_kind k ts c l h e = (sole_tree k ts c l h e).0
+
 pub sole_identifier : (k : Kind) (i : Ident) (c : Class) (l : Kind) → Fits (Identifier k i) (slot.One (content.Node c)) → kinds_of c ≡ l ∷ [] → (k ≡ l) × IsTrue (is_identifier l)
 sole_identifier k i c l h e =
     let o = identifier_opens k i c h in
     let s = sole k l c e o.1 in
     (s, subst (λ x. IsTrue (is_identifier x)) s o.0)
+
+pub sole_unnamed : (k : Kind) (i : Ident) (c : Class) (l : Kind) → Fits (Identifier k i) (slot.One (content.Node c)) → kinds_of c ≡ l ∷ [] → IsTrue (not (is_identifier l)) → ⊥
+sole_unnamed k i c l h e = clash (is_identifier l) (sole_identifier k i c l h e).1
 
 pub sole_plain : (k : Kind) (ts : List Node) (c : Class) (l : Kind) → Fits (Tree k ts) (slot.One (content.Node c)) → kinds_of c ≡ l ∷ [] → IsTrue (not (is_identifier l))
 sole_plain k ts c l h e = subst (λ x. IsTrue (not (is_identifier x))) (sole_tree k ts c l h e).0 (tree_opens k ts c h).0
@@ -94,3 +107,34 @@ pub all_set : (s : Slot) (ts : List Node) (i : ℕ) (t : Node) → AllFit s ts �
 all_set s [] i t h f = tt
 all_set s (x ∷ ts) zero t h f = (f, h.1)
 all_set s (x ∷ ts) (suc i) t h f = (h.0, all_set s ts i t h.1 f)
+
+alike : (k l : Kind) (b c : Bool) → (kind_number k == kind_number l) ≡ c → IsTrue (c || b) → (k ≡ l → ⊥) → IsTrue b
+alike k l b true e h n = absurd (n (same_kind k l (grind arith)))
+alike k l b false e h n = h
+
+-- a kind that is not the first of a list is one of the rest
+pub other : (k l : Kind) (b : Bool) → IsTrue ((kind_number k == kind_number l) || b) → (k ≡ l → ⊥) → IsTrue b
+other k l b h n = alike k l b (kind_number k == kind_number l) refl h n
+
+pub is_of_kind : (t : Node) (k : Kind) (d : Class) → kind_of t ≡ Some k → IsTrue (belongs k d) → IsTrue (is_of t d)
+is_of_kind t k d e h = subst (λ o. IsTrue (takes d o)) (sym e) h
+
+all_join : (s : Slot) (ts us : List Node) → AllFit s ts → AllFit s us → AllFit s (ts ++ us)
+all_join s [] us h g = g
+all_join s (t ∷ ts) us h g = (h.0, all_join s ts us h.1 g)
+
+all_take : (s : Slot) (ts : List Node) (i : ℕ) → AllFit s ts → AllFit s (take i ts)
+all_take s [] zero h = tt
+all_take s [] (suc i) h = tt
+all_take s (t ∷ ts) zero h = tt
+all_take s (t ∷ ts) (suc i) h = (h.0, all_take s ts i h.1)
+
+all_drop : (s : Slot) (ts : List Node) (i : ℕ) → AllFit s ts → AllFit s (drop i ts)
+all_drop s [] zero h = tt
+all_drop s [] (suc i) h = tt
+all_drop s (t ∷ ts) zero h = h
+all_drop s (t ∷ ts) (suc i) h = all_drop s ts i h.1
+
+-- what stands round what was put in fits as before
+pub all_inserted : (s : Slot) (ts us : List Node) (i : ℕ) → AllFit s ts → AllFit s us → AllFit s (take i ts ++ us ++ drop i ts)
+all_inserted s ts us i h g = all_join s (take i ts ++ us) (drop i ts) (all_join s (take i ts) us (all_take s ts i h) g) (all_drop s ts i h)

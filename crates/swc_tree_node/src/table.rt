@@ -3,10 +3,19 @@
 //! Printed by tools/print_table.py from tools/tree.txt.
 
 ghost use Rattle.std.specs.Prelude.{◌≡◌, map};
-ghost use Rattle.swc_tree_node.specs.Table.{kinds_of, name_of, fields_of, words_of, spelling_of, scope_of, is_identifier};
+ghost use Rattle.swc_tree_node.specs.Table.{name_of, fields_of, words_of, spelling_of, scope_of, is_identifier};
 
-use crate::kind::{Class, Kind, Word, WordClass};
-use crate::slot::{Content, Field, Role, Scope, Slot};
+mod classes;
+mod expressions;
+mod functions;
+mod modules;
+mod names;
+mod patterns;
+mod statements;
+
+use crate::kind::{Kind, Word, WordClass};
+use crate::slot::{Field, Scope};
+pub use classes::kinds_of;
 
 /// The name of the struct, as it stands in JSON.
 pub fn name_of(kind: Kind) -> &'static str
@@ -14,80 +23,102 @@ pub fn name_of(kind: Kind) -> &'static str
 {
     match kind {
         Kind::Module => "Module",
-        Kind::BlockStmt => "BlockStmt",
-        Kind::ReturnStmt => "ReturnStmt",
-        Kind::ExprStmt => "ExprStmt",
-        Kind::FnDecl => "FnDecl",
-        Kind::VarDecl => "VarDecl",
-        Kind::VarDeclarator => "VarDeclarator",
-        Kind::Function => "Function",
-        Kind::Param => "Param",
+        Kind::Script => "Script",
+        Kind::ImportDecl => "ImportDecl",
+        Kind::ImportNamedSpecifier => "ImportNamedSpecifier",
+        Kind::ImportDefaultSpecifier => "ImportDefaultSpecifier",
+        Kind::ImportStarAsSpecifier => "ImportStarAsSpecifier",
+        Kind::ExportDecl => "ExportDecl",
+        Kind::NamedExport => "NamedExport",
+        Kind::ExportNamespaceSpecifier => "ExportNamespaceSpecifier",
+        Kind::ExportNamedSpecifier => "ExportNamedSpecifier",
+        Kind::ExportDefaultDecl => "ExportDefaultDecl",
+        Kind::ExportDefaultExpr => "ExportDefaultExpr",
+        Kind::ExportAll => "ExportAll",
         Kind::Ident => "Ident",
         Kind::BindingIdent => "BindingIdent",
+        Kind::IdentName => "IdentName",
+        Kind::PrivateName => "PrivateName",
         Kind::Str => "Str",
+        Kind::Bool => "Bool",
+        Kind::Null => "Null",
         Kind::Number => "Number",
-        Kind::BinExpr => "BinExpr",
-        Kind::CallExpr => "CallExpr",
+        Kind::BigInt => "BigInt",
+        Kind::Regex => "Regex",
+        Kind::TplElement => "TplElement",
+        Kind::ThisExpr => "ThisExpr",
+        Kind::Super => "Super",
+        Kind::Import => "Import",
+        Kind::MetaPropExpr => "MetaPropExpr",
+        Kind::EmptyStmt => "EmptyStmt",
+        Kind::DebuggerStmt => "DebuggerStmt",
+        Kind::BreakStmt => "BreakStmt",
+        Kind::ContinueStmt => "ContinueStmt",
+        Kind::Function => "Function",
+        Kind::Param => "Param",
+        Kind::FnExpr => "FnExpr",
+        Kind::ArrowExpr => "ArrowExpr",
+        Kind::Class => "Class",
+        Kind::ClassExpr => "ClassExpr",
+        Kind::Constructor => "Constructor",
+        Kind::ClassMethod => "ClassMethod",
+        Kind::PrivateMethod => "PrivateMethod",
+        Kind::ClassProp => "ClassProp",
+        Kind::PrivateProp => "PrivateProp",
+        Kind::StaticBlock => "StaticBlock",
+        Kind::ComputedPropName => "ComputedPropName",
+        Kind::MethodProp => "MethodProp",
+        Kind::GetterProp => "GetterProp",
+        Kind::SetterProp => "SetterProp",
+        Kind::ArrayPat => "ArrayPat",
+        Kind::RestPat => "RestPat",
+        Kind::ObjectPat => "ObjectPat",
+        Kind::AssignPat => "AssignPat",
+        Kind::KeyValuePatProp => "KeyValuePatProp",
+        Kind::AssignPatProp => "AssignPatProp",
+        Kind::ArrayLit => "ArrayLit",
         Kind::ExprOrSpread => "ExprOrSpread",
+        Kind::ObjectLit => "ObjectLit",
+        Kind::SpreadElement => "SpreadElement",
+        Kind::KeyValueProp => "KeyValueProp",
+        Kind::UnaryExpr => "UnaryExpr",
+        Kind::UpdateExpr => "UpdateExpr",
+        Kind::BinExpr => "BinExpr",
+        Kind::AssignExpr => "AssignExpr",
+        Kind::MemberExpr => "MemberExpr",
+        Kind::SuperPropExpr => "SuperPropExpr",
+        Kind::CondExpr => "CondExpr",
+        Kind::CallExpr => "CallExpr",
+        Kind::NewExpr => "NewExpr",
+        Kind::SeqExpr => "SeqExpr",
         Kind::ParenExpr => "ParenExpr",
-    }
-}
-
-/// The kinds that may stand in a place of a class.
-pub fn kinds_of(class: Class) -> &'static [Kind]
-    ensures { result.now ≡ kinds_of class }
-{
-    match class {
-        Class::Module => &[Kind::Module],
-        Class::BlockStmt => &[Kind::BlockStmt],
-        Class::ReturnStmt => &[Kind::ReturnStmt],
-        Class::ExprStmt => &[Kind::ExprStmt],
-        Class::FnDecl => &[Kind::FnDecl],
-        Class::VarDecl => &[Kind::VarDecl],
-        Class::VarDeclarator => &[Kind::VarDeclarator],
-        Class::Function => &[Kind::Function],
-        Class::Param => &[Kind::Param],
-        Class::Ident => &[Kind::Ident],
-        Class::BindingIdent => &[Kind::BindingIdent],
-        Class::Str => &[Kind::Str],
-        Class::Number => &[Kind::Number],
-        Class::BinExpr => &[Kind::BinExpr],
-        Class::CallExpr => &[Kind::CallExpr],
-        Class::ExprOrSpread => &[Kind::ExprOrSpread],
-        Class::ParenExpr => &[Kind::ParenExpr],
-        Class::ModuleItem => &[
-            Kind::BlockStmt,
-            Kind::ReturnStmt,
-            Kind::FnDecl,
-            Kind::VarDecl,
-            Kind::ExprStmt,
-        ],
-        Class::Stmt => &[
-            Kind::BlockStmt,
-            Kind::ReturnStmt,
-            Kind::FnDecl,
-            Kind::VarDecl,
-            Kind::ExprStmt,
-        ],
-        Class::Decl => &[Kind::FnDecl, Kind::VarDecl],
-        Class::Pat => &[Kind::BindingIdent],
-        Class::Expr => &[
-            Kind::Ident,
-            Kind::Str,
-            Kind::Number,
-            Kind::BinExpr,
-            Kind::CallExpr,
-            Kind::ParenExpr,
-        ],
-        Class::Lit => &[Kind::Str, Kind::Number],
-        Class::Callee => &[
-            Kind::Ident,
-            Kind::Str,
-            Kind::Number,
-            Kind::BinExpr,
-            Kind::CallExpr,
-            Kind::ParenExpr,
-        ],
+        Kind::AwaitExpr => "AwaitExpr",
+        Kind::YieldExpr => "YieldExpr",
+        Kind::Tpl => "Tpl",
+        Kind::TaggedTpl => "TaggedTpl",
+        Kind::OptChainExpr => "OptChainExpr",
+        Kind::OptCall => "OptCall",
+        Kind::ClassDecl => "ClassDecl",
+        Kind::FnDecl => "FnDecl",
+        Kind::VarDecl => "VarDecl",
+        Kind::UsingDecl => "UsingDecl",
+        Kind::VarDeclarator => "VarDeclarator",
+        Kind::BlockStmt => "BlockStmt",
+        Kind::ExprStmt => "ExprStmt",
+        Kind::WithStmt => "WithStmt",
+        Kind::ReturnStmt => "ReturnStmt",
+        Kind::ThrowStmt => "ThrowStmt",
+        Kind::LabeledStmt => "LabeledStmt",
+        Kind::IfStmt => "IfStmt",
+        Kind::SwitchStmt => "SwitchStmt",
+        Kind::SwitchCase => "SwitchCase",
+        Kind::TryStmt => "TryStmt",
+        Kind::CatchClause => "CatchClause",
+        Kind::WhileStmt => "WhileStmt",
+        Kind::DoWhileStmt => "DoWhileStmt",
+        Kind::ForStmt => "ForStmt",
+        Kind::ForInStmt => "ForInStmt",
+        Kind::ForOfStmt => "ForOfStmt",
     }
 }
 
@@ -96,238 +127,102 @@ pub fn fields_of(kind: Kind) -> &'static [Field]
     ensures { map (λ f. (f.key.now, f.slot, f.role)) result.now ≡ fields_of kind }
 {
     match kind {
-        Kind::Module => &[
-            Field {
-                key: "span",
-                slot: Slot::One(Content::Span),
-                role: Role::Plain,
-            },
-            Field {
-                key: "body",
-                slot: Slot::List(Content::Node(Class::ModuleItem)),
-                role: Role::Plain,
-            },
-            Field {
-                key: "shebang",
-                slot: Slot::Optional(Content::Text),
-                role: Role::Plain,
-            },
-        ],
-        Kind::BlockStmt => &[
-            Field {
-                key: "span",
-                slot: Slot::One(Content::Span),
-                role: Role::Plain,
-            },
-            Field {
-                key: "stmts",
-                slot: Slot::List(Content::Node(Class::Stmt)),
-                role: Role::Plain,
-            },
-        ],
-        Kind::ReturnStmt => &[
-            Field {
-                key: "span",
-                slot: Slot::One(Content::Span),
-                role: Role::Plain,
-            },
-            Field {
-                key: "arg",
-                slot: Slot::Optional(Content::Node(Class::Expr)),
-                role: Role::Reference,
-            },
-        ],
-        Kind::ExprStmt => &[
-            Field {
-                key: "span",
-                slot: Slot::One(Content::Span),
-                role: Role::Plain,
-            },
-            Field {
-                key: "expr",
-                slot: Slot::One(Content::Node(Class::Expr)),
-                role: Role::Reference,
-            },
-        ],
-        Kind::FnDecl => &[
-            Field {
-                key: "ident",
-                slot: Slot::One(Content::Node(Class::Ident)),
-                role: Role::Function,
-            },
-            Field {
-                key: "function",
-                slot: Slot::One(Content::Node(Class::Function)),
-                role: Role::Plain,
-            },
-        ],
-        Kind::VarDecl => &[
-            Field {
-                key: "span",
-                slot: Slot::One(Content::Span),
-                role: Role::Plain,
-            },
-            Field {
-                key: "kind",
-                slot: Slot::One(Content::Word(WordClass::VarDeclKind)),
-                role: Role::Plain,
-            },
-            Field {
-                key: "decls",
-                slot: Slot::List(Content::Node(Class::VarDeclarator)),
-                role: Role::Declared,
-            },
-        ],
-        Kind::VarDeclarator => &[
-            Field {
-                key: "span",
-                slot: Slot::One(Content::Span),
-                role: Role::Plain,
-            },
-            Field {
-                key: "name",
-                slot: Slot::One(Content::Node(Class::Pat)),
-                role: Role::Inherited,
-            },
-            Field {
-                key: "init",
-                slot: Slot::Optional(Content::Node(Class::Expr)),
-                role: Role::Reference,
-            },
-        ],
-        Kind::Function => &[
-            Field {
-                key: "span",
-                slot: Slot::One(Content::Span),
-                role: Role::Plain,
-            },
-            Field {
-                key: "params",
-                slot: Slot::List(Content::Node(Class::Param)),
-                role: Role::Plain,
-            },
-            Field {
-                key: "body",
-                slot: Slot::One(Content::Node(Class::BlockStmt)),
-                role: Role::FunctionBody,
-            },
-            Field {
-                key: "is_generator",
-                slot: Slot::One(Content::Flag),
-                role: Role::Plain,
-            },
-            Field {
-                key: "is_async",
-                slot: Slot::One(Content::Flag),
-                role: Role::Plain,
-            },
-        ],
-        Kind::Param => &[
-            Field {
-                key: "span",
-                slot: Slot::One(Content::Span),
-                role: Role::Plain,
-            },
-            Field {
-                key: "pat",
-                slot: Slot::One(Content::Node(Class::Pat)),
-                role: Role::Parameter,
-            },
-        ],
-        Kind::Ident => &[],
-        Kind::BindingIdent => &[],
-        Kind::Str => &[
-            Field {
-                key: "span",
-                slot: Slot::One(Content::Span),
-                role: Role::Plain,
-            },
-            Field {
-                key: "value",
-                slot: Slot::One(Content::Text),
-                role: Role::Plain,
-            },
-            Field {
-                key: "raw",
-                slot: Slot::Optional(Content::Text),
-                role: Role::Plain,
-            },
-        ],
-        Kind::Number => &[
-            Field {
-                key: "span",
-                slot: Slot::One(Content::Span),
-                role: Role::Plain,
-            },
-            Field {
-                key: "text",
-                slot: Slot::One(Content::Text),
-                role: Role::Plain,
-            },
-        ],
-        Kind::BinExpr => &[
-            Field {
-                key: "span",
-                slot: Slot::One(Content::Span),
-                role: Role::Plain,
-            },
-            Field {
-                key: "op",
-                slot: Slot::One(Content::Word(WordClass::BinaryOp)),
-                role: Role::Plain,
-            },
-            Field {
-                key: "left",
-                slot: Slot::One(Content::Node(Class::Expr)),
-                role: Role::Reference,
-            },
-            Field {
-                key: "right",
-                slot: Slot::One(Content::Node(Class::Expr)),
-                role: Role::Reference,
-            },
-        ],
-        Kind::CallExpr => &[
-            Field {
-                key: "span",
-                slot: Slot::One(Content::Span),
-                role: Role::Plain,
-            },
-            Field {
-                key: "callee",
-                slot: Slot::One(Content::Node(Class::Callee)),
-                role: Role::Reference,
-            },
-            Field {
-                key: "args",
-                slot: Slot::List(Content::Node(Class::ExprOrSpread)),
-                role: Role::Plain,
-            },
-        ],
-        Kind::ExprOrSpread => &[
-            Field {
-                key: "spread",
-                slot: Slot::Optional(Content::Span),
-                role: Role::Plain,
-            },
-            Field {
-                key: "expr",
-                slot: Slot::One(Content::Node(Class::Expr)),
-                role: Role::Reference,
-            },
-        ],
-        Kind::ParenExpr => &[
-            Field {
-                key: "span",
-                slot: Slot::One(Content::Span),
-                role: Role::Plain,
-            },
-            Field {
-                key: "expr",
-                slot: Slot::One(Content::Node(Class::Expr)),
-                role: Role::Reference,
-            },
-        ],
+        Kind::Module => modules::MODULE,
+        Kind::Script => modules::SCRIPT,
+        Kind::ImportDecl => modules::IMPORT_DECL,
+        Kind::ImportNamedSpecifier => modules::IMPORT_NAMED_SPECIFIER,
+        Kind::ImportDefaultSpecifier => modules::IMPORT_DEFAULT_SPECIFIER,
+        Kind::ImportStarAsSpecifier => modules::IMPORT_STAR_AS_SPECIFIER,
+        Kind::ExportDecl => modules::EXPORT_DECL,
+        Kind::NamedExport => modules::NAMED_EXPORT,
+        Kind::ExportNamespaceSpecifier => modules::EXPORT_NAMESPACE_SPECIFIER,
+        Kind::ExportNamedSpecifier => modules::EXPORT_NAMED_SPECIFIER,
+        Kind::ExportDefaultDecl => modules::EXPORT_DEFAULT_DECL,
+        Kind::ExportDefaultExpr => modules::EXPORT_DEFAULT_EXPR,
+        Kind::ExportAll => modules::EXPORT_ALL,
+        Kind::IdentName => names::IDENT_NAME,
+        Kind::PrivateName => names::PRIVATE_NAME,
+        Kind::Str => names::STR,
+        Kind::Bool => names::BOOL,
+        Kind::Null => names::NULL,
+        Kind::Number => names::NUMBER,
+        Kind::BigInt => names::BIG_INT,
+        Kind::Regex => names::REGEX,
+        Kind::TplElement => names::TPL_ELEMENT,
+        Kind::ThisExpr => names::THIS_EXPR,
+        Kind::Super => names::SUPER,
+        Kind::Import => names::IMPORT,
+        Kind::MetaPropExpr => names::META_PROP_EXPR,
+        Kind::EmptyStmt => names::EMPTY_STMT,
+        Kind::DebuggerStmt => names::DEBUGGER_STMT,
+        Kind::BreakStmt => names::BREAK_STMT,
+        Kind::ContinueStmt => names::CONTINUE_STMT,
+        Kind::Function => functions::FUNCTION,
+        Kind::Param => functions::PARAM,
+        Kind::FnExpr => functions::FN_EXPR,
+        Kind::ArrowExpr => functions::ARROW_EXPR,
+        Kind::Class => functions::CLASS,
+        Kind::ClassExpr => functions::CLASS_EXPR,
+        Kind::Constructor => functions::CONSTRUCTOR,
+        Kind::ClassMethod => functions::CLASS_METHOD,
+        Kind::PrivateMethod => functions::PRIVATE_METHOD,
+        Kind::ClassProp => functions::CLASS_PROP,
+        Kind::PrivateProp => functions::PRIVATE_PROP,
+        Kind::StaticBlock => functions::STATIC_BLOCK,
+        Kind::ComputedPropName => functions::COMPUTED_PROP_NAME,
+        Kind::MethodProp => functions::METHOD_PROP,
+        Kind::GetterProp => functions::GETTER_PROP,
+        Kind::SetterProp => functions::SETTER_PROP,
+        Kind::ArrayPat => patterns::ARRAY_PAT,
+        Kind::RestPat => patterns::REST_PAT,
+        Kind::ObjectPat => patterns::OBJECT_PAT,
+        Kind::AssignPat => patterns::ASSIGN_PAT,
+        Kind::KeyValuePatProp => patterns::KEY_VALUE_PAT_PROP,
+        Kind::AssignPatProp => patterns::ASSIGN_PAT_PROP,
+        Kind::ArrayLit => expressions::ARRAY_LIT,
+        Kind::ExprOrSpread => expressions::EXPR_OR_SPREAD,
+        Kind::ObjectLit => expressions::OBJECT_LIT,
+        Kind::SpreadElement => expressions::SPREAD_ELEMENT,
+        Kind::KeyValueProp => expressions::KEY_VALUE_PROP,
+        Kind::UnaryExpr => expressions::UNARY_EXPR,
+        Kind::UpdateExpr => expressions::UPDATE_EXPR,
+        Kind::BinExpr => expressions::BIN_EXPR,
+        Kind::AssignExpr => expressions::ASSIGN_EXPR,
+        Kind::MemberExpr => expressions::MEMBER_EXPR,
+        Kind::SuperPropExpr => expressions::SUPER_PROP_EXPR,
+        Kind::CondExpr => expressions::COND_EXPR,
+        Kind::CallExpr => expressions::CALL_EXPR,
+        Kind::NewExpr => expressions::NEW_EXPR,
+        Kind::SeqExpr => expressions::SEQ_EXPR,
+        Kind::ParenExpr => expressions::PAREN_EXPR,
+        Kind::AwaitExpr => expressions::AWAIT_EXPR,
+        Kind::YieldExpr => expressions::YIELD_EXPR,
+        Kind::Tpl => expressions::TPL,
+        Kind::TaggedTpl => expressions::TAGGED_TPL,
+        Kind::OptChainExpr => expressions::OPT_CHAIN_EXPR,
+        Kind::OptCall => expressions::OPT_CALL,
+        Kind::ClassDecl => statements::CLASS_DECL,
+        Kind::FnDecl => statements::FN_DECL,
+        Kind::VarDecl => statements::VAR_DECL,
+        Kind::UsingDecl => statements::USING_DECL,
+        Kind::VarDeclarator => statements::VAR_DECLARATOR,
+        Kind::BlockStmt => statements::BLOCK_STMT,
+        Kind::ExprStmt => statements::EXPR_STMT,
+        Kind::WithStmt => statements::WITH_STMT,
+        Kind::ReturnStmt => statements::RETURN_STMT,
+        Kind::ThrowStmt => statements::THROW_STMT,
+        Kind::LabeledStmt => statements::LABELED_STMT,
+        Kind::IfStmt => statements::IF_STMT,
+        Kind::SwitchStmt => statements::SWITCH_STMT,
+        Kind::SwitchCase => statements::SWITCH_CASE,
+        Kind::TryStmt => statements::TRY_STMT,
+        Kind::CatchClause => statements::CATCH_CLAUSE,
+        Kind::WhileStmt => statements::WHILE_STMT,
+        Kind::DoWhileStmt => statements::DO_WHILE_STMT,
+        Kind::ForStmt => statements::FOR_STMT,
+        Kind::ForInStmt => statements::FOR_IN_STMT,
+        Kind::ForOfStmt => statements::FOR_OF_STMT,
+        Kind::Ident | Kind::BindingIdent => &[],
     }
 }
 
@@ -336,7 +231,18 @@ pub fn words_of(words: WordClass) -> &'static [Word]
     ensures { result.now ≡ words_of words }
 {
     match words {
+        WordClass::MethodKind => &[Word::Method, Word::Getter, Word::Setter],
         WordClass::VarDeclKind => &[Word::Var, Word::Let, Word::Const],
+        WordClass::UnaryOp => &[
+            Word::Minus,
+            Word::Plus,
+            Word::Bang,
+            Word::Tilde,
+            Word::TypeOf,
+            Word::Void,
+            Word::Delete,
+        ],
+        WordClass::UpdateOp => &[Word::PlusPlus, Word::MinusMinus],
         WordClass::BinaryOp => &[
             Word::EqEq,
             Word::NotEq,
@@ -364,6 +270,25 @@ pub fn words_of(words: WordClass) -> &'static [Word]
             Word::Exp,
             Word::NullishCoalescing,
         ],
+        WordClass::AssignOp => &[
+            Word::Assign,
+            Word::AddAssign,
+            Word::SubAssign,
+            Word::MulAssign,
+            Word::DivAssign,
+            Word::ModAssign,
+            Word::LShiftAssign,
+            Word::RShiftAssign,
+            Word::ZeroFillRShiftAssign,
+            Word::BitOrAssign,
+            Word::BitXorAssign,
+            Word::BitAndAssign,
+            Word::ExpAssign,
+            Word::AndAssign,
+            Word::OrAssign,
+            Word::NullishAssign,
+        ],
+        WordClass::MetaPropKind => &[Word::NewTarget, Word::ImportMeta],
     }
 }
 
@@ -372,9 +297,21 @@ pub fn spelling_of(word: Word) -> &'static str
     ensures { result.now ≡ spelling_of word }
 {
     match word {
+        Word::Method => "method",
+        Word::Getter => "getter",
+        Word::Setter => "setter",
         Word::Var => "var",
         Word::Let => "let",
         Word::Const => "const",
+        Word::Minus => "-",
+        Word::Plus => "+",
+        Word::Bang => "!",
+        Word::Tilde => "~",
+        Word::TypeOf => "typeof",
+        Word::Void => "void",
+        Word::Delete => "delete",
+        Word::PlusPlus => "++",
+        Word::MinusMinus => "--",
         Word::EqEq => "==",
         Word::NotEq => "!=",
         Word::EqEqEq => "===",
@@ -400,6 +337,24 @@ pub fn spelling_of(word: Word) -> &'static str
         Word::InstanceOf => "instanceof",
         Word::Exp => "**",
         Word::NullishCoalescing => "??",
+        Word::Assign => "=",
+        Word::AddAssign => "+=",
+        Word::SubAssign => "-=",
+        Word::MulAssign => "*=",
+        Word::DivAssign => "/=",
+        Word::ModAssign => "%=",
+        Word::LShiftAssign => "<<=",
+        Word::RShiftAssign => ">>=",
+        Word::ZeroFillRShiftAssign => ">>>=",
+        Word::BitOrAssign => "|=",
+        Word::BitXorAssign => "^=",
+        Word::BitAndAssign => "&=",
+        Word::ExpAssign => "**=",
+        Word::AndAssign => "&&=",
+        Word::OrAssign => "||=",
+        Word::NullishAssign => "??=",
+        Word::NewTarget => "new.target",
+        Word::ImportMeta => "import.meta",
     }
 }
 
@@ -409,8 +364,9 @@ pub fn scope_of(kind: Kind) -> Option<Scope>
 {
     match kind {
         Kind::Module => Some(Scope::Program),
-        Kind::BlockStmt => Some(Scope::Block),
+        Kind::Script => Some(Scope::Program),
         Kind::Function => Some(Scope::Function),
+        Kind::BlockStmt => Some(Scope::Block),
         _ => None,
     }
 }

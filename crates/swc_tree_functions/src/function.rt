@@ -4,7 +4,7 @@ ghost use Rattle.swc_tree_node.specs.declared.kind.Class.TheVariants as class;
 ghost use Rattle.swc_tree_node.specs.declared.slot.Slot.TheVariants.{One};
 ghost use Rattle.swc_tree_node.specs.declared.slot.Content.TheVariants.{Node as Of};
 ghost use Rattle.swc_tree_node.specs.Fits.{Fits};
-ghost use Rattle.swc_tree_statements.specs.Nodes.{function_node};
+ghost use Rattle.swc_tree_functions.specs.Nodes.{function_node};
 
 use std::alloc::{AllocError, Global};
 use swc_tree_handle::{
@@ -13,7 +13,7 @@ use swc_tree_handle::{
 use swc_tree_marks::Span;
 use swc_tree_node::{Kind, Node};
 
-/// The parameters and the body of a function.
+/// The parameters and the body of a function (ECMA-262, 15.2).
 #[derive(Debug, Drop)]
 pub struct Function {
     pub span: Span,

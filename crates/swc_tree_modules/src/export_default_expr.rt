@@ -1,0 +1,48 @@
+//! Printed by tools/print_table.py from tools/tree.txt.
+ghost use Rattle.std.specs.Prelude.{◌≡◌, IfOk};
+ghost use Rattle.swc_tree_node.specs.declared.kind.Class.TheVariants as class;
+ghost use Rattle.swc_tree_node.specs.declared.slot.Slot.TheVariants.{One};
+ghost use Rattle.swc_tree_node.specs.declared.slot.Content.TheVariants.{Node as Of};
+ghost use Rattle.swc_tree_node.specs.Fits.{Fits};
+ghost use Rattle.swc_tree_modules.specs.Nodes.{export_default_expr_node};
+
+use std::alloc::{AllocError, Global};
+use swc_tree_handle::{Opened, Tree, class, collect, from_span, to_span};
+use swc_tree_marks::Span;
+use swc_tree_node::{Kind, Node};
+
+/// An expression as the default export (ECMA-262, ExportDeclaration).
+#[derive(Debug, Drop)]
+pub struct ExportDefaultExpr {
+    pub span: Span,
+    pub expr: Tree<class::Expr>,
+}
+
+impl Opened<class::ExportDefaultExpr> for ExportDefaultExpr {
+    ghost class = { class.ExportDefaultExpr };
+
+    ghost node = { export_default_expr_node };
+
+    #[tactic(auto, using(swc_tree_node::proofs::Fit::lengths))]
+    fn of_node(closed: Node) -> ExportDefaultExpr
+        requires { Fits closed (One (Of class.ExportDefaultExpr)) }
+        ensures { export_default_expr_node result ≡ closed }
+    {
+        let fields = Tree::<class::ExportDefaultExpr>::of(closed).into_fields(
+            Kind::ExportDefaultExpr,
+        );
+        let [span, expr] = fields.into_array::<2>();
+        ExportDefaultExpr {
+            span: to_span(span),
+            expr: Tree::of(expr),
+        }
+    }
+
+    fn into_node(self, alloc: Global) -> Result<Node, AllocError>
+        ensures { IfOk result (λ closed. (closed ≡ export_default_expr_node self) × Fits closed (One (Of class.ExportDefaultExpr))) }
+    {
+        let ExportDefaultExpr { span, expr } = self;
+        let fields = collect(alloc, [from_span(span), expr.into_node()])?;
+        Ok(Tree::<class::ExportDefaultExpr>::of_fields(Kind::ExportDefaultExpr, fields).into_node())
+    }
+}
