@@ -25,7 +25,7 @@ def use_lines(family, uses):
     return ''.join('use %s::{%s};\n' % (path, ', '.join(sorted(paths[path], key=str.lower))) for path in order)
 
 
-def opened_impl(entry, tree, tactic, of_node, into_node):
+def opened_impl(entry, tree, tactic, from_node, into_node):
     """An `impl Opened`, from the bodies of its two functions."""
     name, spec = entry.name, spec_name(tree, entry.name)
     return '''
@@ -34,18 +34,18 @@ impl Opened<class::%(name)s> for %(name)s {
 
     ghost node = { %(spec)s };
 
-%(tactic)s    fn of_node(closed: Node) -> %(name)s
+%(tactic)s    fn from_node(closed: Node) -> %(name)s
         requires { Fits closed (One (Of class.%(name)s)) }
         ensures { %(spec)s result ≡ closed }
     {
-%(of_node)s    }
+%(from_node)s    }
 
     fn into_node(self, alloc: Global) -> Result<Node, AllocError>
         ensures { IfOk result (λ closed. (closed ≡ %(spec)s self) × Fits closed (One (Of class.%(name)s))) }
     {
 %(into_node)s    }
 }
-''' % {'name': name, 'spec': spec, 'tactic': tactic, 'of_node': of_node, 'into_node': into_node}
+''' % {'name': name, 'spec': spec, 'tactic': tactic, 'from_node': from_node, 'into_node': into_node}
 
 
 def opened_head(family, spec, uses):
@@ -62,29 +62,29 @@ def struct_rt(tree, struct):
     uses = set().union(*(form.uses | form.types for form in forms)) | {(HANDLE, 'collect')}
     declared = '/// %s\n#[derive(Debug, Drop)]\npub struct %s {\n%s}\n' % (
         struct.doc, name, ''.join('    pub %s: %s,\n' % (f.name, form.type) for f, form in zip(struct.fields, forms)))
-    of_node = '''        let fields = Tree::<class::%s>::of(closed).into_fields(Kind::%s);
+    from_node = '''        let fields = Tree::<class::%s>::from_node(closed).into_fields(Kind::%s);
         let [%s] = fields.into_array::<%d>();
         %s { %s }
 ''' % (name, name, keys, len(forms), name, ', '.join('%s: %s' % (f.name, form.open) for f, form in zip(struct.fields, forms)))
     into_node = '''        let %s { %s } = self;
         let fields = collect(alloc, [%s])?;
-        Ok(Tree::<class::%s>::of_fields(Kind::%s, fields).into_node())
+        Ok(Tree::<class::%s>::from_fields(Kind::%s, fields).into_node())
 ''' % (name, keys, ', '.join(form.close for form in forms), name, name)
     tactic = '    #[tactic(auto, using(%slengths))]\n' % FIT
     return (opened_head(struct.family, spec_name(tree, name), uses) + declared
-            + opened_impl(struct, tree, tactic, of_node, into_node))
+            + opened_impl(struct, tree, tactic, from_node, into_node))
 
 
 def identifier_rt(tree, struct):
     name = struct.name
     declared = '/// %s\n#[derive(Debug, Drop, PartialEq, Eq, Hash)]\npub struct %s {\n    pub id: Ident,\n}\n' % (struct.doc, name)
-    of_node = '''        %s { id: Tree::<class::%s>::of(closed).into_identifier(Kind::%s) }
+    from_node = '''        %s { id: Tree::<class::%s>::from_node(closed).into_identifier(Kind::%s) }
 ''' % (name, name, name)
-    into_node = '''        let tree = Tree::<class::%s>::of_identifier(alloc, Kind::%s, self.id)?;
+    into_node = '''        let tree = Tree::<class::%s>::from_identifier(alloc, Kind::%s, self.id)?;
         Ok(tree.into_node())
 ''' % (name, name)
     return (opened_head(struct.family, spec_name(tree, name), {(MARKS, 'Ident')}) + declared
-            + opened_impl(struct, tree, '', of_node, into_node))
+            + opened_impl(struct, tree, '', from_node, into_node))
 
 
 # Beyond so many kinds the last variant of a sum takes all kinds that the others leave.
@@ -118,7 +118,7 @@ def wide_proof(tree, sum_):
         raise SystemExit('a kind of the last variant is a kind of another, in ' + sum_.name)
     for kind in seen:
         left = 'other _ kind.%s _ (%s) c.in_default.not-%s' % (kind, left, kind)
-    function = '%s/%sOpenedClass%s/of_node' % (module_of(sum_.name), sum_.name, sum_.name)
+    function = '%s/%sOpenedClass%s/from_node' % (module_of(sum_.name), sum_.name, sum_.name)
     module = '%s.proofs.%s' % (sum_.family, function.replace('/', '.'))
     return ('crates/%s/proofs/%s/Answers.antt' % (sum_.family, function),
             WIDE_PROOF % {'printed': PRINTED, 'module': module, 'last': last, 'left': left})
@@ -140,7 +140,7 @@ def sum_rt(tree, sum_):
                 '()' if variant.is_subtree else '::<class::%s>().open()' % variant.member)
     if not has_wide_end(tree, sum_):
         arms += '            _ => unreachable!(),\n'
-    of_node = '''        let tree = Tree::<class::%s>::of(closed);
+    from_node = '''        let tree = Tree::<class::%s>::from_node(closed);
         match tree.kind() {
 %s        }
 ''' % (name, arms)
@@ -150,7 +150,7 @@ def sum_rt(tree, sum_):
 ''' % (name, ''.join('            %s::%s(%s,\n' % (name, v.name, 'tree) => tree.widen()' if v.is_subtree else 'opened) => opened.close(alloc)?.widen()')
                      for v in sum_.variants))
     uses = {(owner_of(tree, v.member), v.member) for v in sum_.variants if not v.is_subtree}
-    return opened_head(sum_.family, spec_name(tree, name), uses) + declared + opened_impl(sum_, tree, '', of_node, into_node)
+    return opened_head(sum_.family, spec_name(tree, name), uses) + declared + opened_impl(sum_, tree, '', from_node, into_node)
 
 
 WORDS = '''//! %(printed)s
@@ -177,7 +177,7 @@ impl %(name)s {
     }
 
     /// What the word is here.
-    pub fn of_word(word: Word) -> %(name)s
+    pub fn from_word(word: Word) -> %(name)s
         requires { IsTrue (is_among word word_class.%(name)s) }
         ensures { %(spec)s result ≡ word }
     {
@@ -188,12 +188,12 @@ impl %(name)s {
 
     /// The word that a node is.
     #[tactic(auto, using(%(fit)sfitting))]
-    pub fn of_node(node: Node) -> %(name)s
+    pub fn from_node(node: Node) -> %(name)s
         requires { Fits node (One (Of word_class.%(name)s)) }
         ensures { leaf.Word (%(spec)s result) ≡ node }
     {
         match node {
-            Node::Word(word) => %(name)s::of_word(word),
+            Node::Word(word) => %(name)s::from_word(word),
             _ => unreachable!(),
         }
     }

@@ -35,9 +35,9 @@ def leaf(field):
     types = {(MARKS, rust)} - {(MARKS, 'bool')}
     key = field.name
     if field.slot == 'Optional':
-        to, of = 'to_maybe_' + name, 'from_maybe_' + name
-        return Form('Option<%s>' % rust, '%s(%s)' % (to, key), '%s(%s)' % (of, key), 'maybe_%s x.%s' % (name, key),
-                    {(HANDLE, to), (HANDLE, of)}, types, {(HANDLES, 'maybe_' + name)})
+        to, of = 'to_optional_' + name, 'from_optional_' + name
+        return Form('Option<%s>' % rust, '%s(%s)' % (to, key), '%s(%s)' % (of, key), 'optional_%s x.%s' % (name, key),
+                    {(HANDLE, to), (HANDLE, of)}, types, {(HANDLES, 'optional_' + name)})
     to, of = 'to_' + name, 'from_' + name
     return Form(rust, '%s(%s)' % (to, key), '%s(%s)' % (of, key), 'node.%s x.%s' % (field.type, key),
                 {(HANDLE, to), (HANDLE, of)}, types)
@@ -49,7 +49,7 @@ def word(tree, field):
         raise SystemExit('no form for an optional word or a list of words: ' + field.key)
     words = tree.words[field.type]
     key, name = field.name, snake(field.type)
-    return Form(field.type, '%s::of_node(%s)' % (field.type, key), '%s.into_node()' % key,
+    return Form(field.type, '%s::from_node(%s)' % (field.type, key), '%s.into_node()' % key,
                 'node.Word (%s_word x.%s)' % (name, key), (), {(words.family, field.type)},
                 {(words.family + '.specs.Nodes', name + '_word')})
 
@@ -61,10 +61,10 @@ def by_value(tree, field):
     spec = spec_name(tree, field.type)
     types, specs = {(owner, field.type)}, {(spec_module(tree, field.type), spec)}
     if field.slot == 'Optional':
-        return Form('Option<%s>' % field.type, '%s::of_optional(%s)' % (field.type, key),
-                    '%s::into_optional(%s, alloc)?' % (field.type, key), 'maybe_node (option_map %s x.%s)' % (spec, key),
-                    (), types, specs | {(HANDLES, 'maybe_node')})
-    return Form(field.type, '%s::of_node(%s)' % (field.type, key), '%s.into_node(alloc)?' % key, '%s x.%s' % (spec, key),
+        return Form('Option<%s>' % field.type, '%s::from_optional(%s)' % (field.type, key),
+                    '%s::into_optional(%s, alloc)?' % (field.type, key), 'optional_node (option_map %s x.%s)' % (spec, key),
+                    (), types, specs | {(HANDLES, 'optional_node')})
+    return Form(field.type, '%s::from_node(%s)' % (field.type, key), '%s.into_node(alloc)?' % key, '%s x.%s' % (spec, key),
                 (), types, specs)
 
 
@@ -73,9 +73,9 @@ def subtree(field):
     key, of = field.name, 'class::' + field.type
     types = {(HANDLE, 'Tree'), (HANDLE, 'class')}
     if field.slot == 'Optional':
-        return Form('Option<Tree<%s>>' % of, 'Tree::of_maybe(%s)' % key, 'Tree::into_maybe(%s)' % key,
-                    'maybe_node x.%s' % key, {(HANDLE, 'Tree')}, types, {(HANDLES, 'maybe_node')})
-    return Form('Tree<%s>' % of, 'Tree::of(%s)' % key, '%s.into_node()' % key, 'x.%s' % key, {(HANDLE, 'Tree')}, types)
+        return Form('Option<Tree<%s>>' % of, 'Tree::from_optional(%s)' % key, 'Tree::into_optional(%s)' % key,
+                    'optional_node x.%s' % key, {(HANDLE, 'Tree')}, types, {(HANDLES, 'optional_node')})
+    return Form('Tree<%s>' % of, 'Tree::from_node(%s)' % key, '%s.into_node()' % key, 'x.%s' % key, {(HANDLE, 'Tree')}, types)
 
 
 def several(field):
@@ -87,9 +87,9 @@ def several(field):
         name, types, type_ = 'Pairs', set(), 'Pairs'
     types.add((HANDLE, name))
     if field.slot in ('OptionalList', 'Pairs'):
-        return Form('Option<%s>' % type_, '%s::of_maybe(%s)' % (name, key), '%s::into_maybe(%s)' % (name, key),
-                    'maybe_list x.%s' % key, {(HANDLE, name)}, types, {(HANDLES, 'maybe_list')})
-    return Form(type_, '%s::of(%s)' % (name, key), '%s.into_node()' % key, 'node.List x.%s' % key, {(HANDLE, name)}, types)
+        return Form('Option<%s>' % type_, '%s::from_optional(%s)' % (name, key), '%s::into_optional(%s)' % (name, key),
+                    'optional_list x.%s' % key, {(HANDLE, name)}, types, {(HANDLES, 'optional_list')})
+    return Form(type_, '%s::from_node(%s)' % (name, key), '%s.into_node()' % key, 'node.List x.%s' % key, {(HANDLE, name)}, types)
 
 
 def form_of(tree, field):

@@ -58,7 +58,7 @@ use Rattle.swc_tree_expressions.specs.declared.callee.Callee.TheVariants as call
 use Rattle.swc_tree_expressions.specs.declared.opt_chain_base.OptChainBase.{OptChainBase}
 use Rattle.swc_tree_expressions.specs.declared.opt_chain_base.OptChainBase.TheVariants as opt_chain_base
 use Rattle.swc_tree_functions.specs.Nodes.{arrow_expr_node, class_expr_node, computed_prop_name_node, fn_expr_node, getter_prop_node, method_prop_node, setter_prop_node}
-use Rattle.swc_tree_handle.specs.Handles.{ident_node, maybe_list, maybe_node, maybe_span}
+use Rattle.swc_tree_handle.specs.Handles.{ident_node, optional_list, optional_node, optional_span}
 use Rattle.swc_tree_names.specs.Nodes.{binding_ident_node, ident_name_node, import_node, meta_prop_expr_node, of_lit, private_name_node, super_node, this_expr_node}
 use Rattle.swc_tree_patterns.specs.Nodes.{array_pat_node, object_pat_node}
 
@@ -124,7 +124,7 @@ abbrev pub array_lit_node : ArrayLit → Node
 array_lit_node x = node.Tree kind.ArrayLit (node.Span x.span ∷ node.List x.elems ∷ [])
 
 abbrev pub expr_or_spread_node : ExprOrSpread → Node
-expr_or_spread_node x = node.Tree kind.ExprOrSpread (maybe_span x.spread ∷ x.expr ∷ [])
+expr_or_spread_node x = node.Tree kind.ExprOrSpread (optional_span x.spread ∷ x.expr ∷ [])
 
 abbrev pub object_lit_node : ObjectLit → Node
 object_lit_node x = node.Tree kind.ObjectLit (node.Span x.span ∷ node.List x.props ∷ [])
@@ -160,7 +160,7 @@ abbrev pub call_expr_node : CallExpr → Node
 call_expr_node x = node.Tree kind.CallExpr (node.Span x.span ∷ x.callee ∷ node.List x.args ∷ [])
 
 abbrev pub new_expr_node : NewExpr → Node
-new_expr_node x = node.Tree kind.NewExpr (node.Span x.span ∷ x.callee ∷ maybe_list x.args ∷ [])
+new_expr_node x = node.Tree kind.NewExpr (node.Span x.span ∷ x.callee ∷ optional_list x.args ∷ [])
 
 abbrev pub seq_expr_node : SeqExpr → Node
 seq_expr_node x = node.Tree kind.SeqExpr (node.Span x.span ∷ node.List x.exprs ∷ [])
@@ -172,7 +172,7 @@ abbrev pub await_expr_node : AwaitExpr → Node
 await_expr_node x = node.Tree kind.AwaitExpr (node.Span x.span ∷ x.arg ∷ [])
 
 abbrev pub yield_expr_node : YieldExpr → Node
-yield_expr_node x = node.Tree kind.YieldExpr (node.Span x.span ∷ maybe_node x.arg ∷ node.Flag x.delegate ∷ [])
+yield_expr_node x = node.Tree kind.YieldExpr (node.Span x.span ∷ optional_node x.arg ∷ node.Flag x.delegate ∷ [])
 
 abbrev pub tpl_node : Tpl → Node
 tpl_node x = node.Tree kind.Tpl (node.Span x.span ∷ node.List x.exprs ∷ node.List x.quasis ∷ [])

@@ -24,15 +24,15 @@ impl Opened<class::ArrayLit> for ArrayLit {
     ghost node = { array_lit_node };
 
     #[tactic(auto, using(swc_tree_node::proofs::Fit::lengths))]
-    fn of_node(closed: Node) -> ArrayLit
+    fn from_node(closed: Node) -> ArrayLit
         requires { Fits closed (One (Of class.ArrayLit)) }
         ensures { array_lit_node result ≡ closed }
     {
-        let fields = Tree::<class::ArrayLit>::of(closed).into_fields(Kind::ArrayLit);
+        let fields = Tree::<class::ArrayLit>::from_node(closed).into_fields(Kind::ArrayLit);
         let [span, elems] = fields.into_array::<2>();
         ArrayLit {
             span: to_span(span),
-            elems: Holes::of(elems),
+            elems: Holes::from_node(elems),
         }
     }
 
@@ -41,6 +41,6 @@ impl Opened<class::ArrayLit> for ArrayLit {
     {
         let ArrayLit { span, elems } = self;
         let fields = collect(alloc, [from_span(span), elems.into_node()])?;
-        Ok(Tree::<class::ArrayLit>::of_fields(Kind::ArrayLit, fields).into_node())
+        Ok(Tree::<class::ArrayLit>::from_fields(Kind::ArrayLit, fields).into_node())
     }
 }

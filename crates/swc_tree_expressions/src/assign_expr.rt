@@ -27,17 +27,17 @@ impl Opened<class::AssignExpr> for AssignExpr {
     ghost node = { assign_expr_node };
 
     #[tactic(auto, using(swc_tree_node::proofs::Fit::lengths))]
-    fn of_node(closed: Node) -> AssignExpr
+    fn from_node(closed: Node) -> AssignExpr
         requires { Fits closed (One (Of class.AssignExpr)) }
         ensures { assign_expr_node result ≡ closed }
     {
-        let fields = Tree::<class::AssignExpr>::of(closed).into_fields(Kind::AssignExpr);
+        let fields = Tree::<class::AssignExpr>::from_node(closed).into_fields(Kind::AssignExpr);
         let [span, op, left, right] = fields.into_array::<4>();
         AssignExpr {
             span: to_span(span),
-            op: AssignOp::of_node(op),
-            left: Tree::of(left),
-            right: Tree::of(right),
+            op: AssignOp::from_node(op),
+            left: Tree::from_node(left),
+            right: Tree::from_node(right),
         }
     }
 
@@ -59,6 +59,6 @@ impl Opened<class::AssignExpr> for AssignExpr {
                 right.into_node(),
             ],
         )?;
-        Ok(Tree::<class::AssignExpr>::of_fields(Kind::AssignExpr, fields).into_node())
+        Ok(Tree::<class::AssignExpr>::from_fields(Kind::AssignExpr, fields).into_node())
     }
 }

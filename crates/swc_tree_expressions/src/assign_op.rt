@@ -57,7 +57,7 @@ impl AssignOp {
     }
 
     /// What the word is here.
-    pub fn of_word(word: Word) -> AssignOp
+    pub fn from_word(word: Word) -> AssignOp
         requires { IsTrue (is_among word word_class.AssignOp) }
         ensures { assign_op_word result ≡ word }
     {
@@ -84,12 +84,12 @@ impl AssignOp {
 
     /// The word that a node is.
     #[tactic(auto, using(swc_tree_node::proofs::Fit::fitting))]
-    pub fn of_node(node: Node) -> AssignOp
+    pub fn from_node(node: Node) -> AssignOp
         requires { Fits node (One (Of word_class.AssignOp)) }
         ensures { leaf.Word (assign_op_word result) ≡ node }
     {
         match node {
-            Node::Word(word) => AssignOp::of_word(word),
+            Node::Word(word) => AssignOp::from_word(word),
             _ => unreachable!(),
         }
     }

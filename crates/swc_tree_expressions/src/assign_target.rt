@@ -24,11 +24,11 @@ impl Opened<class::AssignTarget> for AssignTarget {
 
     ghost node = { of_assign_target };
 
-    fn of_node(closed: Node) -> AssignTarget
+    fn from_node(closed: Node) -> AssignTarget
         requires { Fits closed (One (Of class.AssignTarget)) }
         ensures { of_assign_target result ≡ closed }
     {
-        let tree = Tree::<class::AssignTarget>::of(closed);
+        let tree = Tree::<class::AssignTarget>::from_node(closed);
         match tree.kind() {
             Kind::BindingIdent | Kind::MemberExpr | Kind::SuperPropExpr | Kind::ParenExpr =>
                 AssignTarget::Simple(tree.narrow::<class::SimpleAssignTarget>().open()),

@@ -23,11 +23,11 @@ impl Opened<class::AssignTargetPat> for AssignTargetPat {
 
     ghost node = { of_assign_target_pat };
 
-    fn of_node(closed: Node) -> AssignTargetPat
+    fn from_node(closed: Node) -> AssignTargetPat
         requires { Fits closed (One (Of class.AssignTargetPat)) }
         ensures { of_assign_target_pat result ≡ closed }
     {
-        let tree = Tree::<class::AssignTargetPat>::of(closed);
+        let tree = Tree::<class::AssignTargetPat>::from_node(closed);
         match tree.kind() {
             Kind::ArrayPat => AssignTargetPat::Array(tree.narrow::<class::ArrayPat>().open()),
             Kind::ObjectPat => AssignTargetPat::Object(tree.narrow::<class::ObjectPat>().open()),

@@ -24,15 +24,15 @@ impl Opened<class::AwaitExpr> for AwaitExpr {
     ghost node = { await_expr_node };
 
     #[tactic(auto, using(swc_tree_node::proofs::Fit::lengths))]
-    fn of_node(closed: Node) -> AwaitExpr
+    fn from_node(closed: Node) -> AwaitExpr
         requires { Fits closed (One (Of class.AwaitExpr)) }
         ensures { await_expr_node result ≡ closed }
     {
-        let fields = Tree::<class::AwaitExpr>::of(closed).into_fields(Kind::AwaitExpr);
+        let fields = Tree::<class::AwaitExpr>::from_node(closed).into_fields(Kind::AwaitExpr);
         let [span, arg] = fields.into_array::<2>();
         AwaitExpr {
             span: to_span(span),
-            arg: Tree::of(arg),
+            arg: Tree::from_node(arg),
         }
     }
 
@@ -41,6 +41,6 @@ impl Opened<class::AwaitExpr> for AwaitExpr {
     {
         let AwaitExpr { span, arg } = self;
         let fields = collect(alloc, [from_span(span), arg.into_node()])?;
-        Ok(Tree::<class::AwaitExpr>::of_fields(Kind::AwaitExpr, fields).into_node())
+        Ok(Tree::<class::AwaitExpr>::from_fields(Kind::AwaitExpr, fields).into_node())
     }
 }

@@ -27,17 +27,17 @@ impl Opened<class::BinExpr> for BinExpr {
     ghost node = { bin_expr_node };
 
     #[tactic(auto, using(swc_tree_node::proofs::Fit::lengths))]
-    fn of_node(closed: Node) -> BinExpr
+    fn from_node(closed: Node) -> BinExpr
         requires { Fits closed (One (Of class.BinExpr)) }
         ensures { bin_expr_node result ≡ closed }
     {
-        let fields = Tree::<class::BinExpr>::of(closed).into_fields(Kind::BinExpr);
+        let fields = Tree::<class::BinExpr>::from_node(closed).into_fields(Kind::BinExpr);
         let [span, op, left, right] = fields.into_array::<4>();
         BinExpr {
             span: to_span(span),
-            op: BinaryOp::of_node(op),
-            left: Tree::of(left),
-            right: Tree::of(right),
+            op: BinaryOp::from_node(op),
+            left: Tree::from_node(left),
+            right: Tree::from_node(right),
         }
     }
 
@@ -59,6 +59,6 @@ impl Opened<class::BinExpr> for BinExpr {
                 right.into_node(),
             ],
         )?;
-        Ok(Tree::<class::BinExpr>::of_fields(Kind::BinExpr, fields).into_node())
+        Ok(Tree::<class::BinExpr>::from_fields(Kind::BinExpr, fields).into_node())
     }
 }

@@ -75,7 +75,7 @@ impl BinaryOp {
     }
 
     /// What the word is here.
-    pub fn of_word(word: Word) -> BinaryOp
+    pub fn from_word(word: Word) -> BinaryOp
         requires { IsTrue (is_among word word_class.BinaryOp) }
         ensures { binary_op_word result ≡ word }
     {
@@ -111,12 +111,12 @@ impl BinaryOp {
 
     /// The word that a node is.
     #[tactic(auto, using(swc_tree_node::proofs::Fit::fitting))]
-    pub fn of_node(node: Node) -> BinaryOp
+    pub fn from_node(node: Node) -> BinaryOp
         requires { Fits node (One (Of word_class.BinaryOp)) }
         ensures { leaf.Word (binary_op_word result) ≡ node }
     {
         match node {
-            Node::Word(word) => BinaryOp::of_word(word),
+            Node::Word(word) => BinaryOp::from_word(word),
             _ => unreachable!(),
         }
     }

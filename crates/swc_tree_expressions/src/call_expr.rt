@@ -25,16 +25,16 @@ impl Opened<class::CallExpr> for CallExpr {
     ghost node = { call_expr_node };
 
     #[tactic(auto, using(swc_tree_node::proofs::Fit::lengths))]
-    fn of_node(closed: Node) -> CallExpr
+    fn from_node(closed: Node) -> CallExpr
         requires { Fits closed (One (Of class.CallExpr)) }
         ensures { call_expr_node result ≡ closed }
     {
-        let fields = Tree::<class::CallExpr>::of(closed).into_fields(Kind::CallExpr);
+        let fields = Tree::<class::CallExpr>::from_node(closed).into_fields(Kind::CallExpr);
         let [span, callee, args] = fields.into_array::<3>();
         CallExpr {
             span: to_span(span),
-            callee: Tree::of(callee),
-            args: Trees::of(args),
+            callee: Tree::from_node(callee),
+            args: Trees::from_node(args),
         }
     }
 
@@ -46,6 +46,6 @@ impl Opened<class::CallExpr> for CallExpr {
             alloc,
             [from_span(span), callee.into_node(), args.into_node()],
         )?;
-        Ok(Tree::<class::CallExpr>::of_fields(Kind::CallExpr, fields).into_node())
+        Ok(Tree::<class::CallExpr>::from_fields(Kind::CallExpr, fields).into_node())
     }
 }

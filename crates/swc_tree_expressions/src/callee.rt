@@ -24,11 +24,11 @@ impl Opened<class::Callee> for Callee {
 
     ghost node = { of_callee };
 
-    fn of_node(closed: Node) -> Callee
+    fn from_node(closed: Node) -> Callee
         requires { Fits closed (One (Of class.Callee)) }
         ensures { of_callee result ≡ closed }
     {
-        let tree = Tree::<class::Callee>::of(closed);
+        let tree = Tree::<class::Callee>::from_node(closed);
         match tree.kind() {
             Kind::Super => Callee::Super(tree.narrow::<class::Super>().open()),
             Kind::Import => Callee::Import(tree.narrow::<class::Import>().open()),

@@ -26,17 +26,17 @@ impl Opened<class::CondExpr> for CondExpr {
     ghost node = { cond_expr_node };
 
     #[tactic(auto, using(swc_tree_node::proofs::Fit::lengths))]
-    fn of_node(closed: Node) -> CondExpr
+    fn from_node(closed: Node) -> CondExpr
         requires { Fits closed (One (Of class.CondExpr)) }
         ensures { cond_expr_node result ≡ closed }
     {
-        let fields = Tree::<class::CondExpr>::of(closed).into_fields(Kind::CondExpr);
+        let fields = Tree::<class::CondExpr>::from_node(closed).into_fields(Kind::CondExpr);
         let [span, test, cons, alt] = fields.into_array::<4>();
         CondExpr {
             span: to_span(span),
-            test: Tree::of(test),
-            cons: Tree::of(cons),
-            alt: Tree::of(alt),
+            test: Tree::from_node(test),
+            cons: Tree::from_node(cons),
+            alt: Tree::from_node(alt),
         }
     }
 
@@ -58,6 +58,6 @@ impl Opened<class::CondExpr> for CondExpr {
                 alt.into_node(),
             ],
         )?;
-        Ok(Tree::<class::CondExpr>::of_fields(Kind::CondExpr, fields).into_node())
+        Ok(Tree::<class::CondExpr>::from_fields(Kind::CondExpr, fields).into_node())
     }
 }

@@ -67,11 +67,11 @@ impl Opened<class::Expr> for Expr {
 
     ghost node = { of_expr };
 
-    fn of_node(closed: Node) -> Expr
+    fn from_node(closed: Node) -> Expr
         requires { Fits closed (One (Of class.Expr)) }
         ensures { of_expr result ≡ closed }
     {
-        let tree = Tree::<class::Expr>::of(closed);
+        let tree = Tree::<class::Expr>::from_node(closed);
         match tree.kind() {
             Kind::ThisExpr => Expr::This(tree.narrow::<class::ThisExpr>().open()),
             Kind::ArrayLit => Expr::Array(tree.narrow::<class::ArrayLit>().open()),

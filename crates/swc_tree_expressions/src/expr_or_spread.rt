@@ -7,7 +7,7 @@ ghost use Rattle.swc_tree_node.specs.Fits.{Fits};
 ghost use Rattle.swc_tree_expressions.specs.Nodes.{expr_or_spread_node};
 
 use std::alloc::{AllocError, Global};
-use swc_tree_handle::{Opened, Tree, class, collect, from_maybe_span, to_maybe_span};
+use swc_tree_handle::{Opened, Tree, class, collect, from_optional_span, to_optional_span};
 use swc_tree_marks::Span;
 use swc_tree_node::{Kind, Node};
 
@@ -24,15 +24,15 @@ impl Opened<class::ExprOrSpread> for ExprOrSpread {
     ghost node = { expr_or_spread_node };
 
     #[tactic(auto, using(swc_tree_node::proofs::Fit::lengths))]
-    fn of_node(closed: Node) -> ExprOrSpread
+    fn from_node(closed: Node) -> ExprOrSpread
         requires { Fits closed (One (Of class.ExprOrSpread)) }
         ensures { expr_or_spread_node result ≡ closed }
     {
-        let fields = Tree::<class::ExprOrSpread>::of(closed).into_fields(Kind::ExprOrSpread);
+        let fields = Tree::<class::ExprOrSpread>::from_node(closed).into_fields(Kind::ExprOrSpread);
         let [spread, expr] = fields.into_array::<2>();
         ExprOrSpread {
-            spread: to_maybe_span(spread),
-            expr: Tree::of(expr),
+            spread: to_optional_span(spread),
+            expr: Tree::from_node(expr),
         }
     }
 
@@ -40,7 +40,7 @@ impl Opened<class::ExprOrSpread> for ExprOrSpread {
         ensures { IfOk result (λ closed. (closed ≡ expr_or_spread_node self) × Fits closed (One (Of class.ExprOrSpread))) }
     {
         let ExprOrSpread { spread, expr } = self;
-        let fields = collect(alloc, [from_maybe_span(spread), expr.into_node()])?;
-        Ok(Tree::<class::ExprOrSpread>::of_fields(Kind::ExprOrSpread, fields).into_node())
+        let fields = collect(alloc, [from_optional_span(spread), expr.into_node()])?;
+        Ok(Tree::<class::ExprOrSpread>::from_fields(Kind::ExprOrSpread, fields).into_node())
     }
 }

@@ -23,15 +23,15 @@ impl Opened<class::KeyValueProp> for KeyValueProp {
     ghost node = { key_value_prop_node };
 
     #[tactic(auto, using(swc_tree_node::proofs::Fit::lengths))]
-    fn of_node(closed: Node) -> KeyValueProp
+    fn from_node(closed: Node) -> KeyValueProp
         requires { Fits closed (One (Of class.KeyValueProp)) }
         ensures { key_value_prop_node result ≡ closed }
     {
-        let fields = Tree::<class::KeyValueProp>::of(closed).into_fields(Kind::KeyValueProp);
+        let fields = Tree::<class::KeyValueProp>::from_node(closed).into_fields(Kind::KeyValueProp);
         let [key, value] = fields.into_array::<2>();
         KeyValueProp {
-            key: Tree::of(key),
-            value: Tree::of(value),
+            key: Tree::from_node(key),
+            value: Tree::from_node(value),
         }
     }
 
@@ -40,6 +40,6 @@ impl Opened<class::KeyValueProp> for KeyValueProp {
     {
         let KeyValueProp { key, value } = self;
         let fields = collect(alloc, [key.into_node(), value.into_node()])?;
-        Ok(Tree::<class::KeyValueProp>::of_fields(Kind::KeyValueProp, fields).into_node())
+        Ok(Tree::<class::KeyValueProp>::from_fields(Kind::KeyValueProp, fields).into_node())
     }
 }

@@ -25,16 +25,16 @@ impl Opened<class::MemberExpr> for MemberExpr {
     ghost node = { member_expr_node };
 
     #[tactic(auto, using(swc_tree_node::proofs::Fit::lengths))]
-    fn of_node(closed: Node) -> MemberExpr
+    fn from_node(closed: Node) -> MemberExpr
         requires { Fits closed (One (Of class.MemberExpr)) }
         ensures { member_expr_node result ≡ closed }
     {
-        let fields = Tree::<class::MemberExpr>::of(closed).into_fields(Kind::MemberExpr);
+        let fields = Tree::<class::MemberExpr>::from_node(closed).into_fields(Kind::MemberExpr);
         let [span, obj, prop] = fields.into_array::<3>();
         MemberExpr {
             span: to_span(span),
-            obj: Tree::of(obj),
-            prop: Tree::of(prop),
+            obj: Tree::from_node(obj),
+            prop: Tree::from_node(prop),
         }
     }
 
@@ -43,6 +43,6 @@ impl Opened<class::MemberExpr> for MemberExpr {
     {
         let MemberExpr { span, obj, prop } = self;
         let fields = collect(alloc, [from_span(span), obj.into_node(), prop.into_node()])?;
-        Ok(Tree::<class::MemberExpr>::of_fields(Kind::MemberExpr, fields).into_node())
+        Ok(Tree::<class::MemberExpr>::from_fields(Kind::MemberExpr, fields).into_node())
     }
 }

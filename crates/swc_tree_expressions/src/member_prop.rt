@@ -25,11 +25,11 @@ impl Opened<class::MemberProp> for MemberProp {
 
     ghost node = { of_member_prop };
 
-    fn of_node(closed: Node) -> MemberProp
+    fn from_node(closed: Node) -> MemberProp
         requires { Fits closed (One (Of class.MemberProp)) }
         ensures { of_member_prop result ≡ closed }
     {
-        let tree = Tree::<class::MemberProp>::of(closed);
+        let tree = Tree::<class::MemberProp>::from_node(closed);
         match tree.kind() {
             Kind::IdentName => MemberProp::Ident(tree.narrow::<class::IdentName>().open()),
             Kind::PrivateName => MemberProp::PrivateName(

@@ -25,16 +25,16 @@ impl Opened<class::NewExpr> for NewExpr {
     ghost node = { new_expr_node };
 
     #[tactic(auto, using(swc_tree_node::proofs::Fit::lengths))]
-    fn of_node(closed: Node) -> NewExpr
+    fn from_node(closed: Node) -> NewExpr
         requires { Fits closed (One (Of class.NewExpr)) }
         ensures { new_expr_node result ≡ closed }
     {
-        let fields = Tree::<class::NewExpr>::of(closed).into_fields(Kind::NewExpr);
+        let fields = Tree::<class::NewExpr>::from_node(closed).into_fields(Kind::NewExpr);
         let [span, callee, args] = fields.into_array::<3>();
         NewExpr {
             span: to_span(span),
-            callee: Tree::of(callee),
-            args: Trees::of_maybe(args),
+            callee: Tree::from_node(callee),
+            args: Trees::from_optional(args),
         }
     }
 
@@ -44,8 +44,8 @@ impl Opened<class::NewExpr> for NewExpr {
         let NewExpr { span, callee, args } = self;
         let fields = collect(
             alloc,
-            [from_span(span), callee.into_node(), Trees::into_maybe(args)],
+            [from_span(span), callee.into_node(), Trees::into_optional(args)],
         )?;
-        Ok(Tree::<class::NewExpr>::of_fields(Kind::NewExpr, fields).into_node())
+        Ok(Tree::<class::NewExpr>::from_fields(Kind::NewExpr, fields).into_node())
     }
 }

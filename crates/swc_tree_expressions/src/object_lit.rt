@@ -24,15 +24,15 @@ impl Opened<class::ObjectLit> for ObjectLit {
     ghost node = { object_lit_node };
 
     #[tactic(auto, using(swc_tree_node::proofs::Fit::lengths))]
-    fn of_node(closed: Node) -> ObjectLit
+    fn from_node(closed: Node) -> ObjectLit
         requires { Fits closed (One (Of class.ObjectLit)) }
         ensures { object_lit_node result ≡ closed }
     {
-        let fields = Tree::<class::ObjectLit>::of(closed).into_fields(Kind::ObjectLit);
+        let fields = Tree::<class::ObjectLit>::from_node(closed).into_fields(Kind::ObjectLit);
         let [span, props] = fields.into_array::<2>();
         ObjectLit {
             span: to_span(span),
-            props: Trees::of(props),
+            props: Trees::from_node(props),
         }
     }
 
@@ -41,6 +41,6 @@ impl Opened<class::ObjectLit> for ObjectLit {
     {
         let ObjectLit { span, props } = self;
         let fields = collect(alloc, [from_span(span), props.into_node()])?;
-        Ok(Tree::<class::ObjectLit>::of_fields(Kind::ObjectLit, fields).into_node())
+        Ok(Tree::<class::ObjectLit>::from_fields(Kind::ObjectLit, fields).into_node())
     }
 }

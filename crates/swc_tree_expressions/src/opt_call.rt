@@ -25,16 +25,16 @@ impl Opened<class::OptCall> for OptCall {
     ghost node = { opt_call_node };
 
     #[tactic(auto, using(swc_tree_node::proofs::Fit::lengths))]
-    fn of_node(closed: Node) -> OptCall
+    fn from_node(closed: Node) -> OptCall
         requires { Fits closed (One (Of class.OptCall)) }
         ensures { opt_call_node result ≡ closed }
     {
-        let fields = Tree::<class::OptCall>::of(closed).into_fields(Kind::OptCall);
+        let fields = Tree::<class::OptCall>::from_node(closed).into_fields(Kind::OptCall);
         let [span, callee, args] = fields.into_array::<3>();
         OptCall {
             span: to_span(span),
-            callee: Tree::of(callee),
-            args: Trees::of(args),
+            callee: Tree::from_node(callee),
+            args: Trees::from_node(args),
         }
     }
 
@@ -46,6 +46,6 @@ impl Opened<class::OptCall> for OptCall {
             alloc,
             [from_span(span), callee.into_node(), args.into_node()],
         )?;
-        Ok(Tree::<class::OptCall>::of_fields(Kind::OptCall, fields).into_node())
+        Ok(Tree::<class::OptCall>::from_fields(Kind::OptCall, fields).into_node())
     }
 }

@@ -24,11 +24,11 @@ impl Opened<class::OptChainBase> for OptChainBase {
 
     ghost node = { of_opt_chain_base };
 
-    fn of_node(closed: Node) -> OptChainBase
+    fn from_node(closed: Node) -> OptChainBase
         requires { Fits closed (One (Of class.OptChainBase)) }
         ensures { of_opt_chain_base result ≡ closed }
     {
-        let tree = Tree::<class::OptChainBase>::of(closed);
+        let tree = Tree::<class::OptChainBase>::from_node(closed);
         match tree.kind() {
             Kind::MemberExpr => OptChainBase::Member(tree.narrow::<class::MemberExpr>().open()),
             Kind::OptCall => OptChainBase::Call(tree.narrow::<class::OptCall>().open()),

@@ -25,16 +25,16 @@ impl Opened<class::OptChainExpr> for OptChainExpr {
     ghost node = { opt_chain_expr_node };
 
     #[tactic(auto, using(swc_tree_node::proofs::Fit::lengths))]
-    fn of_node(closed: Node) -> OptChainExpr
+    fn from_node(closed: Node) -> OptChainExpr
         requires { Fits closed (One (Of class.OptChainExpr)) }
         ensures { opt_chain_expr_node result ≡ closed }
     {
-        let fields = Tree::<class::OptChainExpr>::of(closed).into_fields(Kind::OptChainExpr);
+        let fields = Tree::<class::OptChainExpr>::from_node(closed).into_fields(Kind::OptChainExpr);
         let [span, optional, base] = fields.into_array::<3>();
         OptChainExpr {
             span: to_span(span),
             optional: to_flag(optional),
-            base: Tree::of(base),
+            base: Tree::from_node(base),
         }
     }
 
@@ -50,6 +50,6 @@ impl Opened<class::OptChainExpr> for OptChainExpr {
             alloc,
             [from_span(span), from_flag(optional), base.into_node()],
         )?;
-        Ok(Tree::<class::OptChainExpr>::of_fields(Kind::OptChainExpr, fields).into_node())
+        Ok(Tree::<class::OptChainExpr>::from_fields(Kind::OptChainExpr, fields).into_node())
     }
 }

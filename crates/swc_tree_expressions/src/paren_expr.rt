@@ -24,15 +24,15 @@ impl Opened<class::ParenExpr> for ParenExpr {
     ghost node = { paren_expr_node };
 
     #[tactic(auto, using(swc_tree_node::proofs::Fit::lengths))]
-    fn of_node(closed: Node) -> ParenExpr
+    fn from_node(closed: Node) -> ParenExpr
         requires { Fits closed (One (Of class.ParenExpr)) }
         ensures { paren_expr_node result ≡ closed }
     {
-        let fields = Tree::<class::ParenExpr>::of(closed).into_fields(Kind::ParenExpr);
+        let fields = Tree::<class::ParenExpr>::from_node(closed).into_fields(Kind::ParenExpr);
         let [span, expr] = fields.into_array::<2>();
         ParenExpr {
             span: to_span(span),
-            expr: Tree::of(expr),
+            expr: Tree::from_node(expr),
         }
     }
 
@@ -41,6 +41,6 @@ impl Opened<class::ParenExpr> for ParenExpr {
     {
         let ParenExpr { span, expr } = self;
         let fields = collect(alloc, [from_span(span), expr.into_node()])?;
-        Ok(Tree::<class::ParenExpr>::of_fields(Kind::ParenExpr, fields).into_node())
+        Ok(Tree::<class::ParenExpr>::from_fields(Kind::ParenExpr, fields).into_node())
     }
 }

@@ -28,11 +28,11 @@ impl Opened<class::Prop> for Prop {
 
     ghost node = { of_prop };
 
-    fn of_node(closed: Node) -> Prop
+    fn from_node(closed: Node) -> Prop
         requires { Fits closed (One (Of class.Prop)) }
         ensures { of_prop result ≡ closed }
     {
-        let tree = Tree::<class::Prop>::of(closed);
+        let tree = Tree::<class::Prop>::from_node(closed);
         match tree.kind() {
             Kind::Ident => Prop::Shorthand(tree.narrow::<class::Ident>().open()),
             Kind::KeyValueProp => Prop::KeyValue(tree.narrow::<class::KeyValueProp>().open()),

@@ -24,11 +24,11 @@ impl Opened<class::PropOrSpread> for PropOrSpread {
 
     ghost node = { of_prop_or_spread };
 
-    fn of_node(closed: Node) -> PropOrSpread
+    fn from_node(closed: Node) -> PropOrSpread
         requires { Fits closed (One (Of class.PropOrSpread)) }
         ensures { of_prop_or_spread result ≡ closed }
     {
-        let tree = Tree::<class::PropOrSpread>::of(closed);
+        let tree = Tree::<class::PropOrSpread>::from_node(closed);
         match tree.kind() {
             Kind::SpreadElement => PropOrSpread::Spread(
                 tree.narrow::<class::SpreadElement>().open(),

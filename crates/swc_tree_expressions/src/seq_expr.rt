@@ -24,15 +24,15 @@ impl Opened<class::SeqExpr> for SeqExpr {
     ghost node = { seq_expr_node };
 
     #[tactic(auto, using(swc_tree_node::proofs::Fit::lengths))]
-    fn of_node(closed: Node) -> SeqExpr
+    fn from_node(closed: Node) -> SeqExpr
         requires { Fits closed (One (Of class.SeqExpr)) }
         ensures { seq_expr_node result ≡ closed }
     {
-        let fields = Tree::<class::SeqExpr>::of(closed).into_fields(Kind::SeqExpr);
+        let fields = Tree::<class::SeqExpr>::from_node(closed).into_fields(Kind::SeqExpr);
         let [span, exprs] = fields.into_array::<2>();
         SeqExpr {
             span: to_span(span),
-            exprs: Trees::of(exprs),
+            exprs: Trees::from_node(exprs),
         }
     }
 
@@ -41,6 +41,6 @@ impl Opened<class::SeqExpr> for SeqExpr {
     {
         let SeqExpr { span, exprs } = self;
         let fields = collect(alloc, [from_span(span), exprs.into_node()])?;
-        Ok(Tree::<class::SeqExpr>::of_fields(Kind::SeqExpr, fields).into_node())
+        Ok(Tree::<class::SeqExpr>::from_fields(Kind::SeqExpr, fields).into_node())
     }
 }

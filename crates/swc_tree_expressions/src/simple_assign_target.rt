@@ -28,11 +28,11 @@ impl Opened<class::SimpleAssignTarget> for SimpleAssignTarget {
 
     ghost node = { of_simple_assign_target };
 
-    fn of_node(closed: Node) -> SimpleAssignTarget
+    fn from_node(closed: Node) -> SimpleAssignTarget
         requires { Fits closed (One (Of class.SimpleAssignTarget)) }
         ensures { of_simple_assign_target result ≡ closed }
     {
-        let tree = Tree::<class::SimpleAssignTarget>::of(closed);
+        let tree = Tree::<class::SimpleAssignTarget>::from_node(closed);
         match tree.kind() {
             Kind::BindingIdent => SimpleAssignTarget::Ident(
                 tree.narrow::<class::BindingIdent>().open(),

@@ -24,15 +24,15 @@ impl Opened<class::SpreadElement> for SpreadElement {
     ghost node = { spread_element_node };
 
     #[tactic(auto, using(swc_tree_node::proofs::Fit::lengths))]
-    fn of_node(closed: Node) -> SpreadElement
+    fn from_node(closed: Node) -> SpreadElement
         requires { Fits closed (One (Of class.SpreadElement)) }
         ensures { spread_element_node result ≡ closed }
     {
-        let fields = Tree::<class::SpreadElement>::of(closed).into_fields(Kind::SpreadElement);
+        let fields = Tree::<class::SpreadElement>::from_node(closed).into_fields(Kind::SpreadElement);
         let [dot3_token, expr] = fields.into_array::<2>();
         SpreadElement {
             dot3_token: to_span(dot3_token),
-            expr: Tree::of(expr),
+            expr: Tree::from_node(expr),
         }
     }
 
@@ -41,6 +41,6 @@ impl Opened<class::SpreadElement> for SpreadElement {
     {
         let SpreadElement { dot3_token, expr } = self;
         let fields = collect(alloc, [from_span(dot3_token), expr.into_node()])?;
-        Ok(Tree::<class::SpreadElement>::of_fields(Kind::SpreadElement, fields).into_node())
+        Ok(Tree::<class::SpreadElement>::from_fields(Kind::SpreadElement, fields).into_node())
     }
 }

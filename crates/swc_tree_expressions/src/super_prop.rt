@@ -24,11 +24,11 @@ impl Opened<class::SuperProp> for SuperProp {
 
     ghost node = { of_super_prop };
 
-    fn of_node(closed: Node) -> SuperProp
+    fn from_node(closed: Node) -> SuperProp
         requires { Fits closed (One (Of class.SuperProp)) }
         ensures { of_super_prop result ≡ closed }
     {
-        let tree = Tree::<class::SuperProp>::of(closed);
+        let tree = Tree::<class::SuperProp>::from_node(closed);
         match tree.kind() {
             Kind::IdentName => SuperProp::Ident(tree.narrow::<class::IdentName>().open()),
             Kind::ComputedPropName => SuperProp::Computed(

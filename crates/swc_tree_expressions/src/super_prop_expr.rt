@@ -26,16 +26,16 @@ impl Opened<class::SuperPropExpr> for SuperPropExpr {
     ghost node = { super_prop_expr_node };
 
     #[tactic(auto, using(swc_tree_node::proofs::Fit::lengths))]
-    fn of_node(closed: Node) -> SuperPropExpr
+    fn from_node(closed: Node) -> SuperPropExpr
         requires { Fits closed (One (Of class.SuperPropExpr)) }
         ensures { super_prop_expr_node result ≡ closed }
     {
-        let fields = Tree::<class::SuperPropExpr>::of(closed).into_fields(Kind::SuperPropExpr);
+        let fields = Tree::<class::SuperPropExpr>::from_node(closed).into_fields(Kind::SuperPropExpr);
         let [span, obj, prop] = fields.into_array::<3>();
         SuperPropExpr {
             span: to_span(span),
-            obj: Super::of_node(obj),
-            prop: Tree::of(prop),
+            obj: Super::from_node(obj),
+            prop: Tree::from_node(prop),
         }
     }
 
@@ -47,6 +47,6 @@ impl Opened<class::SuperPropExpr> for SuperPropExpr {
             alloc,
             [from_span(span), obj.into_node(alloc)?, prop.into_node()],
         )?;
-        Ok(Tree::<class::SuperPropExpr>::of_fields(Kind::SuperPropExpr, fields).into_node())
+        Ok(Tree::<class::SuperPropExpr>::from_fields(Kind::SuperPropExpr, fields).into_node())
     }
 }

@@ -25,16 +25,16 @@ impl Opened<class::TaggedTpl> for TaggedTpl {
     ghost node = { tagged_tpl_node };
 
     #[tactic(auto, using(swc_tree_node::proofs::Fit::lengths))]
-    fn of_node(closed: Node) -> TaggedTpl
+    fn from_node(closed: Node) -> TaggedTpl
         requires { Fits closed (One (Of class.TaggedTpl)) }
         ensures { tagged_tpl_node result ≡ closed }
     {
-        let fields = Tree::<class::TaggedTpl>::of(closed).into_fields(Kind::TaggedTpl);
+        let fields = Tree::<class::TaggedTpl>::from_node(closed).into_fields(Kind::TaggedTpl);
         let [span, tag, tpl] = fields.into_array::<3>();
         TaggedTpl {
             span: to_span(span),
-            tag: Tree::of(tag),
-            tpl: Tree::of(tpl),
+            tag: Tree::from_node(tag),
+            tpl: Tree::from_node(tpl),
         }
     }
 
@@ -43,6 +43,6 @@ impl Opened<class::TaggedTpl> for TaggedTpl {
     {
         let TaggedTpl { span, tag, tpl } = self;
         let fields = collect(alloc, [from_span(span), tag.into_node(), tpl.into_node()])?;
-        Ok(Tree::<class::TaggedTpl>::of_fields(Kind::TaggedTpl, fields).into_node())
+        Ok(Tree::<class::TaggedTpl>::from_fields(Kind::TaggedTpl, fields).into_node())
     }
 }

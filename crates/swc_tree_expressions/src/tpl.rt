@@ -25,16 +25,16 @@ impl Opened<class::Tpl> for Tpl {
     ghost node = { tpl_node };
 
     #[tactic(auto, using(swc_tree_node::proofs::Fit::lengths))]
-    fn of_node(closed: Node) -> Tpl
+    fn from_node(closed: Node) -> Tpl
         requires { Fits closed (One (Of class.Tpl)) }
         ensures { tpl_node result ≡ closed }
     {
-        let fields = Tree::<class::Tpl>::of(closed).into_fields(Kind::Tpl);
+        let fields = Tree::<class::Tpl>::from_node(closed).into_fields(Kind::Tpl);
         let [span, exprs, quasis] = fields.into_array::<3>();
         Tpl {
             span: to_span(span),
-            exprs: Trees::of(exprs),
-            quasis: Trees::of(quasis),
+            exprs: Trees::from_node(exprs),
+            quasis: Trees::from_node(quasis),
         }
     }
 
@@ -50,6 +50,6 @@ impl Opened<class::Tpl> for Tpl {
             alloc,
             [from_span(span), exprs.into_node(), quasis.into_node()],
         )?;
-        Ok(Tree::<class::Tpl>::of_fields(Kind::Tpl, fields).into_node())
+        Ok(Tree::<class::Tpl>::from_fields(Kind::Tpl, fields).into_node())
     }
 }

@@ -26,16 +26,16 @@ impl Opened<class::UnaryExpr> for UnaryExpr {
     ghost node = { unary_expr_node };
 
     #[tactic(auto, using(swc_tree_node::proofs::Fit::lengths))]
-    fn of_node(closed: Node) -> UnaryExpr
+    fn from_node(closed: Node) -> UnaryExpr
         requires { Fits closed (One (Of class.UnaryExpr)) }
         ensures { unary_expr_node result ≡ closed }
     {
-        let fields = Tree::<class::UnaryExpr>::of(closed).into_fields(Kind::UnaryExpr);
+        let fields = Tree::<class::UnaryExpr>::from_node(closed).into_fields(Kind::UnaryExpr);
         let [span, op, arg] = fields.into_array::<3>();
         UnaryExpr {
             span: to_span(span),
-            op: UnaryOp::of_node(op),
-            arg: Tree::of(arg),
+            op: UnaryOp::from_node(op),
+            arg: Tree::from_node(arg),
         }
     }
 
@@ -44,6 +44,6 @@ impl Opened<class::UnaryExpr> for UnaryExpr {
     {
         let UnaryExpr { span, op, arg } = self;
         let fields = collect(alloc, [from_span(span), op.into_node(), arg.into_node()])?;
-        Ok(Tree::<class::UnaryExpr>::of_fields(Kind::UnaryExpr, fields).into_node())
+        Ok(Tree::<class::UnaryExpr>::from_fields(Kind::UnaryExpr, fields).into_node())
     }
 }

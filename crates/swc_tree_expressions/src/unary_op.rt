@@ -39,7 +39,7 @@ impl UnaryOp {
     }
 
     /// What the word is here.
-    pub fn of_word(word: Word) -> UnaryOp
+    pub fn from_word(word: Word) -> UnaryOp
         requires { IsTrue (is_among word word_class.UnaryOp) }
         ensures { unary_op_word result ≡ word }
     {
@@ -57,12 +57,12 @@ impl UnaryOp {
 
     /// The word that a node is.
     #[tactic(auto, using(swc_tree_node::proofs::Fit::fitting))]
-    pub fn of_node(node: Node) -> UnaryOp
+    pub fn from_node(node: Node) -> UnaryOp
         requires { Fits node (One (Of word_class.UnaryOp)) }
         ensures { leaf.Word (unary_op_word result) ≡ node }
     {
         match node {
-            Node::Word(word) => UnaryOp::of_word(word),
+            Node::Word(word) => UnaryOp::from_word(word),
             _ => unreachable!(),
         }
     }

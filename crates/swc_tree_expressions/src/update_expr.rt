@@ -27,17 +27,17 @@ impl Opened<class::UpdateExpr> for UpdateExpr {
     ghost node = { update_expr_node };
 
     #[tactic(auto, using(swc_tree_node::proofs::Fit::lengths))]
-    fn of_node(closed: Node) -> UpdateExpr
+    fn from_node(closed: Node) -> UpdateExpr
         requires { Fits closed (One (Of class.UpdateExpr)) }
         ensures { update_expr_node result ≡ closed }
     {
-        let fields = Tree::<class::UpdateExpr>::of(closed).into_fields(Kind::UpdateExpr);
+        let fields = Tree::<class::UpdateExpr>::from_node(closed).into_fields(Kind::UpdateExpr);
         let [span, op, prefix, arg] = fields.into_array::<4>();
         UpdateExpr {
             span: to_span(span),
-            op: UpdateOp::of_node(op),
+            op: UpdateOp::from_node(op),
             prefix: to_flag(prefix),
-            arg: Tree::of(arg),
+            arg: Tree::from_node(arg),
         }
     }
 
@@ -59,6 +59,6 @@ impl Opened<class::UpdateExpr> for UpdateExpr {
                 arg.into_node(),
             ],
         )?;
-        Ok(Tree::<class::UpdateExpr>::of_fields(Kind::UpdateExpr, fields).into_node())
+        Ok(Tree::<class::UpdateExpr>::from_fields(Kind::UpdateExpr, fields).into_node())
     }
 }

@@ -29,7 +29,7 @@ impl UpdateOp {
     }
 
     /// What the word is here.
-    pub fn of_word(word: Word) -> UpdateOp
+    pub fn from_word(word: Word) -> UpdateOp
         requires { IsTrue (is_among word word_class.UpdateOp) }
         ensures { update_op_word result ≡ word }
     {
@@ -42,12 +42,12 @@ impl UpdateOp {
 
     /// The word that a node is.
     #[tactic(auto, using(swc_tree_node::proofs::Fit::fitting))]
-    pub fn of_node(node: Node) -> UpdateOp
+    pub fn from_node(node: Node) -> UpdateOp
         requires { Fits node (One (Of word_class.UpdateOp)) }
         ensures { leaf.Word (update_op_word result) ≡ node }
     {
         match node {
-            Node::Word(word) => UpdateOp::of_word(word),
+            Node::Word(word) => UpdateOp::from_word(word),
             _ => unreachable!(),
         }
     }

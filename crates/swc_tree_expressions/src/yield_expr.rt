@@ -25,15 +25,15 @@ impl Opened<class::YieldExpr> for YieldExpr {
     ghost node = { yield_expr_node };
 
     #[tactic(auto, using(swc_tree_node::proofs::Fit::lengths))]
-    fn of_node(closed: Node) -> YieldExpr
+    fn from_node(closed: Node) -> YieldExpr
         requires { Fits closed (One (Of class.YieldExpr)) }
         ensures { yield_expr_node result ≡ closed }
     {
-        let fields = Tree::<class::YieldExpr>::of(closed).into_fields(Kind::YieldExpr);
+        let fields = Tree::<class::YieldExpr>::from_node(closed).into_fields(Kind::YieldExpr);
         let [span, arg, delegate] = fields.into_array::<3>();
         YieldExpr {
             span: to_span(span),
-            arg: Tree::of_maybe(arg),
+            arg: Tree::from_optional(arg),
             delegate: to_flag(delegate),
         }
     }
@@ -48,8 +48,8 @@ impl Opened<class::YieldExpr> for YieldExpr {
         } = self;
         let fields = collect(
             alloc,
-            [from_span(span), Tree::into_maybe(arg), from_flag(delegate)],
+            [from_span(span), Tree::into_optional(arg), from_flag(delegate)],
         )?;
-        Ok(Tree::<class::YieldExpr>::of_fields(Kind::YieldExpr, fields).into_node())
+        Ok(Tree::<class::YieldExpr>::from_fields(Kind::YieldExpr, fields).into_node())
     }
 }

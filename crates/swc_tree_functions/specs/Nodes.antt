@@ -30,7 +30,7 @@ use Rattle.swc_tree_functions.specs.declared.class_member.ClassMember.{ClassMemb
 use Rattle.swc_tree_functions.specs.declared.class_member.ClassMember.TheVariants as class_member
 use Rattle.swc_tree_functions.specs.declared.prop_name.PropName.{PropName}
 use Rattle.swc_tree_functions.specs.declared.prop_name.PropName.TheVariants as prop_name
-use Rattle.swc_tree_handle.specs.Handles.{ident_node, maybe_node}
+use Rattle.swc_tree_handle.specs.Handles.{ident_node, optional_node}
 use Rattle.swc_tree_names.specs.Nodes.{big_int_node, empty_stmt_node, ident_name_node, number_node, private_name_node, str_node}
 
 abbrev pub method_kind_word : MethodKind → Word
@@ -45,16 +45,16 @@ abbrev pub param_node : Param → Node
 param_node x = node.Tree kind.Param (node.Span x.span ∷ x.pat ∷ [])
 
 abbrev pub fn_expr_node : FnExpr → Node
-fn_expr_node x = node.Tree kind.FnExpr (maybe_node (option_map ident_node x.ident) ∷ x.function ∷ [])
+fn_expr_node x = node.Tree kind.FnExpr (optional_node (option_map ident_node x.ident) ∷ x.function ∷ [])
 
 abbrev pub arrow_expr_node : ArrowExpr → Node
 arrow_expr_node x = node.Tree kind.ArrowExpr (node.Span x.span ∷ node.List x.params ∷ x.body ∷ node.Flag x.is_async ∷ [])
 
 abbrev pub class_node : Class → Node
-class_node x = node.Tree kind.Class (node.Span x.span ∷ maybe_node x.super_class ∷ node.List x.body ∷ [])
+class_node x = node.Tree kind.Class (node.Span x.span ∷ optional_node x.super_class ∷ node.List x.body ∷ [])
 
 abbrev pub class_expr_node : ClassExpr → Node
-class_expr_node x = node.Tree kind.ClassExpr (maybe_node (option_map ident_node x.ident) ∷ x.class_ ∷ [])
+class_expr_node x = node.Tree kind.ClassExpr (optional_node (option_map ident_node x.ident) ∷ x.class_ ∷ [])
 
 abbrev pub constructor_node : Constructor → Node
 constructor_node x = node.Tree kind.Constructor (node.Span x.span ∷ x.key ∷ node.List x.params ∷ x.body ∷ [])
@@ -66,10 +66,10 @@ abbrev pub private_method_node : PrivateMethod → Node
 private_method_node x = node.Tree kind.PrivateMethod (node.Span x.span ∷ private_name_node x.key ∷ x.function ∷ node.Word (method_kind_word x.kind) ∷ node.Flag x.is_static ∷ [])
 
 abbrev pub class_prop_node : ClassProp → Node
-class_prop_node x = node.Tree kind.ClassProp (node.Span x.span ∷ x.key ∷ maybe_node x.value ∷ node.Flag x.is_static ∷ [])
+class_prop_node x = node.Tree kind.ClassProp (node.Span x.span ∷ x.key ∷ optional_node x.value ∷ node.Flag x.is_static ∷ [])
 
 abbrev pub private_prop_node : PrivateProp → Node
-private_prop_node x = node.Tree kind.PrivateProp (node.Span x.span ∷ private_name_node x.key ∷ maybe_node x.value ∷ node.Flag x.is_static ∷ [])
+private_prop_node x = node.Tree kind.PrivateProp (node.Span x.span ∷ private_name_node x.key ∷ optional_node x.value ∷ node.Flag x.is_static ∷ [])
 
 abbrev pub static_block_node : StaticBlock → Node
 static_block_node x = node.Tree kind.StaticBlock (node.Span x.span ∷ x.body ∷ [])

@@ -28,16 +28,16 @@ impl Opened<class::ArrowExpr> for ArrowExpr {
     ghost node = { arrow_expr_node };
 
     #[tactic(auto, using(swc_tree_node::proofs::Fit::lengths))]
-    fn of_node(closed: Node) -> ArrowExpr
+    fn from_node(closed: Node) -> ArrowExpr
         requires { Fits closed (One (Of class.ArrowExpr)) }
         ensures { arrow_expr_node result ≡ closed }
     {
-        let fields = Tree::<class::ArrowExpr>::of(closed).into_fields(Kind::ArrowExpr);
+        let fields = Tree::<class::ArrowExpr>::from_node(closed).into_fields(Kind::ArrowExpr);
         let [span, params, body, is_async] = fields.into_array::<4>();
         ArrowExpr {
             span: to_span(span),
-            params: Trees::of(params),
-            body: Tree::of(body),
+            params: Trees::from_node(params),
+            body: Tree::from_node(body),
             is_async: to_flag(is_async),
         }
     }
@@ -60,6 +60,6 @@ impl Opened<class::ArrowExpr> for ArrowExpr {
                 from_flag(is_async),
             ],
         )?;
-        Ok(Tree::<class::ArrowExpr>::of_fields(Kind::ArrowExpr, fields).into_node())
+        Ok(Tree::<class::ArrowExpr>::from_fields(Kind::ArrowExpr, fields).into_node())
     }
 }

@@ -25,16 +25,16 @@ impl Opened<class::Class> for Class {
     ghost node = { class_node };
 
     #[tactic(auto, using(swc_tree_node::proofs::Fit::lengths))]
-    fn of_node(closed: Node) -> Class
+    fn from_node(closed: Node) -> Class
         requires { Fits closed (One (Of class.Class)) }
         ensures { class_node result ≡ closed }
     {
-        let fields = Tree::<class::Class>::of(closed).into_fields(Kind::Class);
+        let fields = Tree::<class::Class>::from_node(closed).into_fields(Kind::Class);
         let [span, super_class, body] = fields.into_array::<3>();
         Class {
             span: to_span(span),
-            super_class: Tree::of_maybe(super_class),
-            body: Trees::of(body),
+            super_class: Tree::from_optional(super_class),
+            body: Trees::from_node(body),
         }
     }
 
@@ -50,10 +50,10 @@ impl Opened<class::Class> for Class {
             alloc,
             [
                 from_span(span),
-                Tree::into_maybe(super_class),
+                Tree::into_optional(super_class),
                 body.into_node(),
             ],
         )?;
-        Ok(Tree::<class::Class>::of_fields(Kind::Class, fields).into_node())
+        Ok(Tree::<class::Class>::from_fields(Kind::Class, fields).into_node())
     }
 }

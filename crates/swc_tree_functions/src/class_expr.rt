@@ -24,15 +24,15 @@ impl Opened<class::ClassExpr> for ClassExpr {
     ghost node = { class_expr_node };
 
     #[tactic(auto, using(swc_tree_node::proofs::Fit::lengths))]
-    fn of_node(closed: Node) -> ClassExpr
+    fn from_node(closed: Node) -> ClassExpr
         requires { Fits closed (One (Of class.ClassExpr)) }
         ensures { class_expr_node result ≡ closed }
     {
-        let fields = Tree::<class::ClassExpr>::of(closed).into_fields(Kind::ClassExpr);
+        let fields = Tree::<class::ClassExpr>::from_node(closed).into_fields(Kind::ClassExpr);
         let [ident, class_] = fields.into_array::<2>();
         ClassExpr {
-            ident: Ident::of_optional(ident),
-            class_: Tree::of(class_),
+            ident: Ident::from_optional(ident),
+            class_: Tree::from_node(class_),
         }
     }
 
@@ -44,6 +44,6 @@ impl Opened<class::ClassExpr> for ClassExpr {
             alloc,
             [Ident::into_optional(ident, alloc)?, class_.into_node()],
         )?;
-        Ok(Tree::<class::ClassExpr>::of_fields(Kind::ClassExpr, fields).into_node())
+        Ok(Tree::<class::ClassExpr>::from_fields(Kind::ClassExpr, fields).into_node())
     }
 }

@@ -34,11 +34,11 @@ impl Opened<class::ClassMember> for ClassMember {
 
     ghost node = { of_class_member };
 
-    fn of_node(closed: Node) -> ClassMember
+    fn from_node(closed: Node) -> ClassMember
         requires { Fits closed (One (Of class.ClassMember)) }
         ensures { of_class_member result ≡ closed }
     {
-        let tree = Tree::<class::ClassMember>::of(closed);
+        let tree = Tree::<class::ClassMember>::from_node(closed);
         match tree.kind() {
             Kind::Constructor => ClassMember::Constructor(
                 tree.narrow::<class::Constructor>().open(),

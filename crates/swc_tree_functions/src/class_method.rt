@@ -28,17 +28,17 @@ impl Opened<class::ClassMethod> for ClassMethod {
     ghost node = { class_method_node };
 
     #[tactic(auto, using(swc_tree_node::proofs::Fit::lengths))]
-    fn of_node(closed: Node) -> ClassMethod
+    fn from_node(closed: Node) -> ClassMethod
         requires { Fits closed (One (Of class.ClassMethod)) }
         ensures { class_method_node result ≡ closed }
     {
-        let fields = Tree::<class::ClassMethod>::of(closed).into_fields(Kind::ClassMethod);
+        let fields = Tree::<class::ClassMethod>::from_node(closed).into_fields(Kind::ClassMethod);
         let [span, key, function, kind, is_static] = fields.into_array::<5>();
         ClassMethod {
             span: to_span(span),
-            key: Tree::of(key),
-            function: Tree::of(function),
-            kind: MethodKind::of_node(kind),
+            key: Tree::from_node(key),
+            function: Tree::from_node(function),
+            kind: MethodKind::from_node(kind),
             is_static: to_flag(is_static),
         }
     }
@@ -63,6 +63,6 @@ impl Opened<class::ClassMethod> for ClassMethod {
                 from_flag(is_static),
             ],
         )?;
-        Ok(Tree::<class::ClassMethod>::of_fields(Kind::ClassMethod, fields).into_node())
+        Ok(Tree::<class::ClassMethod>::from_fields(Kind::ClassMethod, fields).into_node())
     }
 }

@@ -26,16 +26,16 @@ impl Opened<class::ClassProp> for ClassProp {
     ghost node = { class_prop_node };
 
     #[tactic(auto, using(swc_tree_node::proofs::Fit::lengths))]
-    fn of_node(closed: Node) -> ClassProp
+    fn from_node(closed: Node) -> ClassProp
         requires { Fits closed (One (Of class.ClassProp)) }
         ensures { class_prop_node result ≡ closed }
     {
-        let fields = Tree::<class::ClassProp>::of(closed).into_fields(Kind::ClassProp);
+        let fields = Tree::<class::ClassProp>::from_node(closed).into_fields(Kind::ClassProp);
         let [span, key, value, is_static] = fields.into_array::<4>();
         ClassProp {
             span: to_span(span),
-            key: Tree::of(key),
-            value: Tree::of_maybe(value),
+            key: Tree::from_node(key),
+            value: Tree::from_optional(value),
             is_static: to_flag(is_static),
         }
     }
@@ -54,10 +54,10 @@ impl Opened<class::ClassProp> for ClassProp {
             [
                 from_span(span),
                 key.into_node(),
-                Tree::into_maybe(value),
+                Tree::into_optional(value),
                 from_flag(is_static),
             ],
         )?;
-        Ok(Tree::<class::ClassProp>::of_fields(Kind::ClassProp, fields).into_node())
+        Ok(Tree::<class::ClassProp>::from_fields(Kind::ClassProp, fields).into_node())
     }
 }

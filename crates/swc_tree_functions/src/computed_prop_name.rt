@@ -24,17 +24,17 @@ impl Opened<class::ComputedPropName> for ComputedPropName {
     ghost node = { computed_prop_name_node };
 
     #[tactic(auto, using(swc_tree_node::proofs::Fit::lengths))]
-    fn of_node(closed: Node) -> ComputedPropName
+    fn from_node(closed: Node) -> ComputedPropName
         requires { Fits closed (One (Of class.ComputedPropName)) }
         ensures { computed_prop_name_node result ≡ closed }
     {
-        let fields = Tree::<class::ComputedPropName>::of(closed).into_fields(
+        let fields = Tree::<class::ComputedPropName>::from_node(closed).into_fields(
             Kind::ComputedPropName,
         );
         let [span, expr] = fields.into_array::<2>();
         ComputedPropName {
             span: to_span(span),
-            expr: Tree::of(expr),
+            expr: Tree::from_node(expr),
         }
     }
 
@@ -43,6 +43,6 @@ impl Opened<class::ComputedPropName> for ComputedPropName {
     {
         let ComputedPropName { span, expr } = self;
         let fields = collect(alloc, [from_span(span), expr.into_node()])?;
-        Ok(Tree::<class::ComputedPropName>::of_fields(Kind::ComputedPropName, fields).into_node())
+        Ok(Tree::<class::ComputedPropName>::from_fields(Kind::ComputedPropName, fields).into_node())
     }
 }

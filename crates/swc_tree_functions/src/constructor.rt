@@ -26,17 +26,17 @@ impl Opened<class::Constructor> for Constructor {
     ghost node = { constructor_node };
 
     #[tactic(auto, using(swc_tree_node::proofs::Fit::lengths))]
-    fn of_node(closed: Node) -> Constructor
+    fn from_node(closed: Node) -> Constructor
         requires { Fits closed (One (Of class.Constructor)) }
         ensures { constructor_node result ≡ closed }
     {
-        let fields = Tree::<class::Constructor>::of(closed).into_fields(Kind::Constructor);
+        let fields = Tree::<class::Constructor>::from_node(closed).into_fields(Kind::Constructor);
         let [span, key, params, body] = fields.into_array::<4>();
         Constructor {
             span: to_span(span),
-            key: Tree::of(key),
-            params: Trees::of(params),
-            body: Tree::of(body),
+            key: Tree::from_node(key),
+            params: Trees::from_node(params),
+            body: Tree::from_node(body),
         }
     }
 
@@ -58,6 +58,6 @@ impl Opened<class::Constructor> for Constructor {
                 body.into_node(),
             ],
         )?;
-        Ok(Tree::<class::Constructor>::of_fields(Kind::Constructor, fields).into_node())
+        Ok(Tree::<class::Constructor>::from_fields(Kind::Constructor, fields).into_node())
     }
 }

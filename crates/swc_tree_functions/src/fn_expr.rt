@@ -24,15 +24,15 @@ impl Opened<class::FnExpr> for FnExpr {
     ghost node = { fn_expr_node };
 
     #[tactic(auto, using(swc_tree_node::proofs::Fit::lengths))]
-    fn of_node(closed: Node) -> FnExpr
+    fn from_node(closed: Node) -> FnExpr
         requires { Fits closed (One (Of class.FnExpr)) }
         ensures { fn_expr_node result ≡ closed }
     {
-        let fields = Tree::<class::FnExpr>::of(closed).into_fields(Kind::FnExpr);
+        let fields = Tree::<class::FnExpr>::from_node(closed).into_fields(Kind::FnExpr);
         let [ident, function] = fields.into_array::<2>();
         FnExpr {
-            ident: Ident::of_optional(ident),
-            function: Tree::of(function),
+            ident: Ident::from_optional(ident),
+            function: Tree::from_node(function),
         }
     }
 
@@ -44,6 +44,6 @@ impl Opened<class::FnExpr> for FnExpr {
             alloc,
             [Ident::into_optional(ident, alloc)?, function.into_node()],
         )?;
-        Ok(Tree::<class::FnExpr>::of_fields(Kind::FnExpr, fields).into_node())
+        Ok(Tree::<class::FnExpr>::from_fields(Kind::FnExpr, fields).into_node())
     }
 }

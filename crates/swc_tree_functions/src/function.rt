@@ -29,16 +29,16 @@ impl Opened<class::Function> for Function {
     ghost node = { function_node };
 
     #[tactic(auto, using(swc_tree_node::proofs::Fit::lengths))]
-    fn of_node(closed: Node) -> Function
+    fn from_node(closed: Node) -> Function
         requires { Fits closed (One (Of class.Function)) }
         ensures { function_node result ≡ closed }
     {
-        let fields = Tree::<class::Function>::of(closed).into_fields(Kind::Function);
+        let fields = Tree::<class::Function>::from_node(closed).into_fields(Kind::Function);
         let [span, params, body, is_generator, is_async] = fields.into_array::<5>();
         Function {
             span: to_span(span),
-            params: Trees::of(params),
-            body: Tree::of(body),
+            params: Trees::from_node(params),
+            body: Tree::from_node(body),
             is_generator: to_flag(is_generator),
             is_async: to_flag(is_async),
         }
@@ -64,6 +64,6 @@ impl Opened<class::Function> for Function {
                 from_flag(is_async),
             ],
         )?;
-        Ok(Tree::<class::Function>::of_fields(Kind::Function, fields).into_node())
+        Ok(Tree::<class::Function>::from_fields(Kind::Function, fields).into_node())
     }
 }

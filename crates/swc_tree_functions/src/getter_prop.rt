@@ -25,16 +25,16 @@ impl Opened<class::GetterProp> for GetterProp {
     ghost node = { getter_prop_node };
 
     #[tactic(auto, using(swc_tree_node::proofs::Fit::lengths))]
-    fn of_node(closed: Node) -> GetterProp
+    fn from_node(closed: Node) -> GetterProp
         requires { Fits closed (One (Of class.GetterProp)) }
         ensures { getter_prop_node result ≡ closed }
     {
-        let fields = Tree::<class::GetterProp>::of(closed).into_fields(Kind::GetterProp);
+        let fields = Tree::<class::GetterProp>::from_node(closed).into_fields(Kind::GetterProp);
         let [span, key, body] = fields.into_array::<3>();
         GetterProp {
             span: to_span(span),
-            key: Tree::of(key),
-            body: Tree::of(body),
+            key: Tree::from_node(key),
+            body: Tree::from_node(body),
         }
     }
 
@@ -43,6 +43,6 @@ impl Opened<class::GetterProp> for GetterProp {
     {
         let GetterProp { span, key, body } = self;
         let fields = collect(alloc, [from_span(span), key.into_node(), body.into_node()])?;
-        Ok(Tree::<class::GetterProp>::of_fields(Kind::GetterProp, fields).into_node())
+        Ok(Tree::<class::GetterProp>::from_fields(Kind::GetterProp, fields).into_node())
     }
 }

@@ -31,7 +31,7 @@ impl MethodKind {
     }
 
     /// What the word is here.
-    pub fn of_word(word: Word) -> MethodKind
+    pub fn from_word(word: Word) -> MethodKind
         requires { IsTrue (is_among word word_class.MethodKind) }
         ensures { method_kind_word result ≡ word }
     {
@@ -45,12 +45,12 @@ impl MethodKind {
 
     /// The word that a node is.
     #[tactic(auto, using(swc_tree_node::proofs::Fit::fitting))]
-    pub fn of_node(node: Node) -> MethodKind
+    pub fn from_node(node: Node) -> MethodKind
         requires { Fits node (One (Of word_class.MethodKind)) }
         ensures { leaf.Word (method_kind_word result) ≡ node }
     {
         match node {
-            Node::Word(word) => MethodKind::of_word(word),
+            Node::Word(word) => MethodKind::from_word(word),
             _ => unreachable!(),
         }
     }

@@ -23,15 +23,15 @@ impl Opened<class::MethodProp> for MethodProp {
     ghost node = { method_prop_node };
 
     #[tactic(auto, using(swc_tree_node::proofs::Fit::lengths))]
-    fn of_node(closed: Node) -> MethodProp
+    fn from_node(closed: Node) -> MethodProp
         requires { Fits closed (One (Of class.MethodProp)) }
         ensures { method_prop_node result ≡ closed }
     {
-        let fields = Tree::<class::MethodProp>::of(closed).into_fields(Kind::MethodProp);
+        let fields = Tree::<class::MethodProp>::from_node(closed).into_fields(Kind::MethodProp);
         let [key, function] = fields.into_array::<2>();
         MethodProp {
-            key: Tree::of(key),
-            function: Tree::of(function),
+            key: Tree::from_node(key),
+            function: Tree::from_node(function),
         }
     }
 
@@ -40,6 +40,6 @@ impl Opened<class::MethodProp> for MethodProp {
     {
         let MethodProp { key, function } = self;
         let fields = collect(alloc, [key.into_node(), function.into_node()])?;
-        Ok(Tree::<class::MethodProp>::of_fields(Kind::MethodProp, fields).into_node())
+        Ok(Tree::<class::MethodProp>::from_fields(Kind::MethodProp, fields).into_node())
     }
 }

@@ -24,15 +24,15 @@ impl Opened<class::Param> for Param {
     ghost node = { param_node };
 
     #[tactic(auto, using(swc_tree_node::proofs::Fit::lengths))]
-    fn of_node(closed: Node) -> Param
+    fn from_node(closed: Node) -> Param
         requires { Fits closed (One (Of class.Param)) }
         ensures { param_node result ≡ closed }
     {
-        let fields = Tree::<class::Param>::of(closed).into_fields(Kind::Param);
+        let fields = Tree::<class::Param>::from_node(closed).into_fields(Kind::Param);
         let [span, pat] = fields.into_array::<2>();
         Param {
             span: to_span(span),
-            pat: Tree::of(pat),
+            pat: Tree::from_node(pat),
         }
     }
 
@@ -41,6 +41,6 @@ impl Opened<class::Param> for Param {
     {
         let Param { span, pat } = self;
         let fields = collect(alloc, [from_span(span), pat.into_node()])?;
-        Ok(Tree::<class::Param>::of_fields(Kind::Param, fields).into_node())
+        Ok(Tree::<class::Param>::from_fields(Kind::Param, fields).into_node())
     }
 }

@@ -29,17 +29,17 @@ impl Opened<class::PrivateMethod> for PrivateMethod {
     ghost node = { private_method_node };
 
     #[tactic(auto, using(swc_tree_node::proofs::Fit::lengths))]
-    fn of_node(closed: Node) -> PrivateMethod
+    fn from_node(closed: Node) -> PrivateMethod
         requires { Fits closed (One (Of class.PrivateMethod)) }
         ensures { private_method_node result ≡ closed }
     {
-        let fields = Tree::<class::PrivateMethod>::of(closed).into_fields(Kind::PrivateMethod);
+        let fields = Tree::<class::PrivateMethod>::from_node(closed).into_fields(Kind::PrivateMethod);
         let [span, key, function, kind, is_static] = fields.into_array::<5>();
         PrivateMethod {
             span: to_span(span),
-            key: PrivateName::of_node(key),
-            function: Tree::of(function),
-            kind: MethodKind::of_node(kind),
+            key: PrivateName::from_node(key),
+            function: Tree::from_node(function),
+            kind: MethodKind::from_node(kind),
             is_static: to_flag(is_static),
         }
     }
@@ -64,6 +64,6 @@ impl Opened<class::PrivateMethod> for PrivateMethod {
                 from_flag(is_static),
             ],
         )?;
-        Ok(Tree::<class::PrivateMethod>::of_fields(Kind::PrivateMethod, fields).into_node())
+        Ok(Tree::<class::PrivateMethod>::from_fields(Kind::PrivateMethod, fields).into_node())
     }
 }

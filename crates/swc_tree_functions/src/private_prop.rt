@@ -27,16 +27,16 @@ impl Opened<class::PrivateProp> for PrivateProp {
     ghost node = { private_prop_node };
 
     #[tactic(auto, using(swc_tree_node::proofs::Fit::lengths))]
-    fn of_node(closed: Node) -> PrivateProp
+    fn from_node(closed: Node) -> PrivateProp
         requires { Fits closed (One (Of class.PrivateProp)) }
         ensures { private_prop_node result ≡ closed }
     {
-        let fields = Tree::<class::PrivateProp>::of(closed).into_fields(Kind::PrivateProp);
+        let fields = Tree::<class::PrivateProp>::from_node(closed).into_fields(Kind::PrivateProp);
         let [span, key, value, is_static] = fields.into_array::<4>();
         PrivateProp {
             span: to_span(span),
-            key: PrivateName::of_node(key),
-            value: Tree::of_maybe(value),
+            key: PrivateName::from_node(key),
+            value: Tree::from_optional(value),
             is_static: to_flag(is_static),
         }
     }
@@ -55,10 +55,10 @@ impl Opened<class::PrivateProp> for PrivateProp {
             [
                 from_span(span),
                 key.into_node(alloc)?,
-                Tree::into_maybe(value),
+                Tree::into_optional(value),
                 from_flag(is_static),
             ],
         )?;
-        Ok(Tree::<class::PrivateProp>::of_fields(Kind::PrivateProp, fields).into_node())
+        Ok(Tree::<class::PrivateProp>::from_fields(Kind::PrivateProp, fields).into_node())
     }
 }

@@ -27,11 +27,11 @@ impl Opened<class::PropName> for PropName {
 
     ghost node = { of_prop_name };
 
-    fn of_node(closed: Node) -> PropName
+    fn from_node(closed: Node) -> PropName
         requires { Fits closed (One (Of class.PropName)) }
         ensures { of_prop_name result ≡ closed }
     {
-        let tree = Tree::<class::PropName>::of(closed);
+        let tree = Tree::<class::PropName>::from_node(closed);
         match tree.kind() {
             Kind::IdentName => PropName::Ident(tree.narrow::<class::IdentName>().open()),
             Kind::Str => PropName::Str(tree.narrow::<class::Str>().open()),

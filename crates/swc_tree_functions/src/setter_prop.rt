@@ -26,17 +26,17 @@ impl Opened<class::SetterProp> for SetterProp {
     ghost node = { setter_prop_node };
 
     #[tactic(auto, using(swc_tree_node::proofs::Fit::lengths))]
-    fn of_node(closed: Node) -> SetterProp
+    fn from_node(closed: Node) -> SetterProp
         requires { Fits closed (One (Of class.SetterProp)) }
         ensures { setter_prop_node result ≡ closed }
     {
-        let fields = Tree::<class::SetterProp>::of(closed).into_fields(Kind::SetterProp);
+        let fields = Tree::<class::SetterProp>::from_node(closed).into_fields(Kind::SetterProp);
         let [span, key, param, body] = fields.into_array::<4>();
         SetterProp {
             span: to_span(span),
-            key: Tree::of(key),
-            param: Tree::of(param),
-            body: Tree::of(body),
+            key: Tree::from_node(key),
+            param: Tree::from_node(param),
+            body: Tree::from_node(body),
         }
     }
 
@@ -58,6 +58,6 @@ impl Opened<class::SetterProp> for SetterProp {
                 body.into_node(),
             ],
         )?;
-        Ok(Tree::<class::SetterProp>::of_fields(Kind::SetterProp, fields).into_node())
+        Ok(Tree::<class::SetterProp>::from_fields(Kind::SetterProp, fields).into_node())
     }
 }

@@ -24,15 +24,15 @@ impl Opened<class::StaticBlock> for StaticBlock {
     ghost node = { static_block_node };
 
     #[tactic(auto, using(swc_tree_node::proofs::Fit::lengths))]
-    fn of_node(closed: Node) -> StaticBlock
+    fn from_node(closed: Node) -> StaticBlock
         requires { Fits closed (One (Of class.StaticBlock)) }
         ensures { static_block_node result ≡ closed }
     {
-        let fields = Tree::<class::StaticBlock>::of(closed).into_fields(Kind::StaticBlock);
+        let fields = Tree::<class::StaticBlock>::from_node(closed).into_fields(Kind::StaticBlock);
         let [span, body] = fields.into_array::<2>();
         StaticBlock {
             span: to_span(span),
-            body: Tree::of(body),
+            body: Tree::from_node(body),
         }
     }
 
@@ -41,6 +41,6 @@ impl Opened<class::StaticBlock> for StaticBlock {
     {
         let StaticBlock { span, body } = self;
         let fields = collect(alloc, [from_span(span), body.into_node()])?;
-        Ok(Tree::<class::StaticBlock>::of_fields(Kind::StaticBlock, fields).into_node())
+        Ok(Tree::<class::StaticBlock>::from_fields(Kind::StaticBlock, fields).into_node())
     }
 }

@@ -33,21 +33,21 @@ abbrev pub is_within : Class → Class → Bool
 is_within c d = list_all (λ k. belongs k d) (kinds_of c)
 
 -- what an optional place holds
-abbrev pub maybe_node : Option Node → Node
-maybe_node None = Absent
-maybe_node (Some t) = t
+abbrev pub optional_node : Option Node → Node
+optional_node None = Absent
+optional_node (Some t) = t
 
-abbrev pub maybe_span : Option Span' → Node
-maybe_span None = Absent
-maybe_span (Some s) = Span s
+abbrev pub optional_span : Option Span' → Node
+optional_span None = Absent
+optional_span (Some s) = Span s
 
-abbrev pub maybe_text : Option (List ℕ) → Node
-maybe_text None = Absent
-maybe_text (Some x) = Text x
+abbrev pub optional_text : Option (List ℕ) → Node
+optional_text None = Absent
+optional_text (Some x) = Text x
 
-abbrev pub maybe_list : Option (List Node) → Node
-maybe_list None = Absent
-maybe_list (Some ts) = Many ts
+abbrev pub optional_list : Option (List Node) → Node
+optional_list None = Absent
+optional_list (Some ts) = Many ts
 
 -- two texts
 abbrev pub pair_node : List ℕ → List ℕ → Node

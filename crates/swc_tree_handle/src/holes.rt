@@ -4,7 +4,7 @@ ghost use Rattle.swc_tree_node.specs.declared.node.Node.{List as Many};
 ghost use Rattle.swc_tree_node.specs.declared.slot.Slot.TheVariants.{Optional, Holes as Several};
 ghost use Rattle.swc_tree_node.specs.declared.slot.Content.TheVariants.{Node as Of};
 ghost use Rattle.swc_tree_node.specs.Fits.{Fits, AllFit};
-ghost use Rattle.swc_tree_handle.specs.Handles.{maybe_node};
+ghost use Rattle.swc_tree_handle.specs.Handles.{optional_node};
 
 use crate::class::Syntax;
 use crate::tree::Tree;
@@ -73,7 +73,7 @@ impl<C: Syntax> Holes<C> {
 
     /// The list that a node is.
     #[tactic(auto, using(swc_tree_node::proofs::Fit::fitting, swc_tree_node::proofs::Fit::holes_open))]
-    pub fn of(node: Node) -> Holes<C>
+    pub fn from_node(node: Node) -> Holes<C>
         requires { Fits node (Several (Of C.class)) }
         ensures { Many result ≡ node }
     {
@@ -117,19 +117,19 @@ impl<C: Syntax> Holes<C> {
     /// Adds a node, or a gap, at the end. Where memory is refused, the list stays and the node is dropped.
     #[tactic(auto, using(swc_tree_node::proofs::Fit::all_push))]
     pub fn push(&mut self, tree: Option<Tree<C>>) -> Result<(), AllocError>
-        ensures ok { OnOk result (self.new ≡ self.old ++ maybe_node tree ∷ []) }
+        ensures ok { OnOk result (self.new ≡ self.old ++ optional_node tree ∷ []) }
         ensures err { OnErr result (self.new ≡ self.old) }
     {
-        self.nodes.push(Tree::into_maybe(tree))
+        self.nodes.push(Tree::into_optional(tree))
     }
 
     /// Takes the last node or gap out.
     #[tactic(auto, using(swc_tree_node::proofs::Fit::all_last, swc_tree_node::proofs::Fit::all_before))]
     pub fn pop(&mut self) -> Option<Option<Tree<C>>>
-        ensures { MatchOption result ((self.old ≡ []) × (self.new ≡ [])) (λ last. self.old ≡ self.new ++ maybe_node last ∷ []) }
+        ensures { MatchOption result ((self.old ≡ []) × (self.new ≡ [])) (λ last. self.old ≡ self.new ++ optional_node last ∷ []) }
     {
         match self.nodes.pop() {
-            Some(node) => Some(Tree::of_maybe(node)),
+            Some(node) => Some(Tree::from_optional(node)),
             None => None,
         }
     }
@@ -138,10 +138,10 @@ impl<C: Syntax> Holes<C> {
     #[tactic(auto, using(crate::proofs::Handles::all_set, crate::proofs::Handles::all_at))]
     pub fn replace(&mut self, index: usize, tree: Option<Tree<C>>) -> Option<Tree<C>>
         requires { index < length self.old }
-        ensures taken { slice_get self.old index ≡ Some (maybe_node result) }
-        ensures list { self.new ≡ slice_set self.old index (maybe_node tree) }
+        ensures taken { slice_get self.old index ≡ Some (optional_node result) }
+        ensures list { self.new ≡ slice_set self.old index (optional_node tree) }
     {
-        Tree::of_maybe(self.nodes.replace(index, Tree::into_maybe(tree)))
+        Tree::from_optional(self.nodes.replace(index, Tree::into_optional(tree)))
     }
 }
 

@@ -18,17 +18,17 @@ impl Opened<class::Ident> for Ident {
 
     ghost node = { ident_node };
 
-    fn of_node(closed: Node) -> Ident
+    fn from_node(closed: Node) -> Ident
         requires { Fits closed (One (Of class.Ident)) }
         ensures { ident_node result ≡ closed }
     {
-        Tree::<class::Ident>::of(closed).into_identifier(Kind::Ident)
+        Tree::<class::Ident>::from_node(closed).into_identifier(Kind::Ident)
     }
 
     fn into_node(self, alloc: Global) -> Result<Node, AllocError>
         ensures { IfOk result (λ closed. (closed ≡ ident_node self) × Fits closed (One (Of class.Ident))) }
     {
-        let tree = Tree::<class::Ident>::of_identifier(alloc, Kind::Ident, self)?;
+        let tree = Tree::<class::Ident>::from_identifier(alloc, Kind::Ident, self)?;
         Ok(tree.into_node())
     }
 }

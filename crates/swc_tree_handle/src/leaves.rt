@@ -4,7 +4,7 @@ ghost use Rattle.swc_tree_node.specs.declared.node.Node.TheVariants as leaf;
 ghost use Rattle.swc_tree_node.specs.declared.slot.Slot.TheVariants.{One, Optional};
 ghost use Rattle.swc_tree_node.specs.declared.slot.Content.TheVariants as content;
 ghost use Rattle.swc_tree_node.specs.Fits.{Fits};
-ghost use Rattle.swc_tree_handle.specs.Handles.{maybe_span, maybe_text};
+ghost use Rattle.swc_tree_handle.specs.Handles.{optional_span, optional_text};
 
 use swc_tree_marks::{Atom, Span};
 use swc_tree_node::Node;
@@ -32,9 +32,9 @@ pub fn from_span(span: Span) -> Node
 
 /// The span that a node is, if it is there.
 #[tactic(auto, using(swc_tree_node::proofs::Fit::fitting))]
-pub fn to_maybe_span(node: Node) -> Option<Span>
+pub fn to_optional_span(node: Node) -> Option<Span>
     requires { Fits node (Optional content.Span) }
-    ensures { maybe_span result ≡ node }
+    ensures { optional_span result ≡ node }
 {
     match node {
         Node::Absent => None,
@@ -45,8 +45,8 @@ pub fn to_maybe_span(node: Node) -> Option<Span>
 
 /// A span, if there is one, as a node.
 #[tactic(auto, using(swc_tree_node::proofs::Fit::fitting))]
-pub fn from_maybe_span(span: Option<Span>) -> Node
-    ensures is { result ≡ maybe_span span }
+pub fn from_optional_span(span: Option<Span>) -> Node
+    ensures is { result ≡ optional_span span }
     ensures fits { Fits result (Optional content.Span) }
 {
     match span {
@@ -78,9 +78,9 @@ pub fn from_text(text: Atom) -> Node
 
 /// The text that a node is, if it is there.
 #[tactic(auto, using(swc_tree_node::proofs::Fit::fitting))]
-pub fn to_maybe_text(node: Node) -> Option<Atom>
+pub fn to_optional_text(node: Node) -> Option<Atom>
     requires { Fits node (Optional content.Text) }
-    ensures { maybe_text result ≡ node }
+    ensures { optional_text result ≡ node }
 {
     match node {
         Node::Absent => None,
@@ -91,8 +91,8 @@ pub fn to_maybe_text(node: Node) -> Option<Atom>
 
 /// A text, if there is one, as a node.
 #[tactic(auto, using(swc_tree_node::proofs::Fit::fitting))]
-pub fn from_maybe_text(text: Option<Atom>) -> Node
-    ensures is { result ≡ maybe_text text }
+pub fn from_optional_text(text: Option<Atom>) -> Node
+    ensures is { result ≡ optional_text text }
     ensures fits { Fits result (Optional content.Text) }
 {
     match text {

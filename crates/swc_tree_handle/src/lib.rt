@@ -16,8 +16,8 @@ mod trees;
 
 pub use holes::Holes;
 pub use leaves::{
-    from_flag, from_maybe_span, from_maybe_text, from_span, from_text, to_flag, to_maybe_span,
-    to_maybe_text, to_span, to_text,
+    from_flag, from_optional_span, from_optional_text, from_span, from_text, to_flag, to_optional_span,
+    to_optional_text, to_span, to_text,
 };
 pub use opened::Opened;
 pub use pairs::Pairs;

@@ -4,7 +4,7 @@ ghost use Rattle.std.specs.Option.{option_map};
 ghost use Rattle.swc_tree_node.specs.declared.slot.Slot.TheVariants.{One, Optional};
 ghost use Rattle.swc_tree_node.specs.declared.slot.Content.TheVariants.{Node as Of};
 ghost use Rattle.swc_tree_node.specs.Fits.{Fits};
-ghost use Rattle.swc_tree_handle.specs.Handles.{maybe_node};
+ghost use Rattle.swc_tree_handle.specs.Handles.{optional_node};
 
 use crate::class::Syntax;
 use crate::tree::Tree;
@@ -24,7 +24,7 @@ pub trait Opened<C>: Sized {
     ghost node: { Self → Node };
 
     /// Takes a node apart, with no copy of what is below it.
-    fn of_node(closed: Node) -> Self
+    fn from_node(closed: Node) -> Self
         requires { Fits closed (One (Of class)) }
         ensures { node result ≡ closed };
 
@@ -34,20 +34,20 @@ pub trait Opened<C>: Sized {
 
     /// Takes apart what an optional place holds.
     #[tactic(auto, using(swc_tree_node::proofs::Fit::fitting))]
-    final fn of_optional(closed: Node) -> Option<Self>
+    final fn from_optional(closed: Node) -> Option<Self>
         requires { Fits closed (Optional (Of class)) }
-        ensures { maybe_node (option_map node result) ≡ closed }
+        ensures { optional_node (option_map node result) ≡ closed }
     {
         match closed {
             Node::Absent => None,
-            closed => Some(Self::of_node(closed)),
+            closed => Some(Self::from_node(closed)),
         }
     }
 
     /// Puts together what an optional place is to hold. Where memory is refused, the value is dropped.
     #[tactic(auto, using(swc_tree_node::proofs::Fit::fitting))]
     final fn into_optional(opened: Option<Self>, alloc: Global) -> Result<Node, AllocError>
-        ensures { IfOk result (λ closed. (closed ≡ maybe_node (option_map node opened)) × Fits closed (Optional (Of class))) }
+        ensures { IfOk result (λ closed. (closed ≡ optional_node (option_map node opened)) × Fits closed (Optional (Of class))) }
     {
         match opened {
             None => Ok(Node::Absent),
@@ -65,7 +65,7 @@ pub trait Opened<C>: Sized {
         requires { class ≡ C.class }
         ensures { IfOk result (λ tree. tree ≡ node self) }
     {
-        Ok(Tree::of(self.into_node(alloc)?))
+        Ok(Tree::from_node(self.into_node(alloc)?))
     }
 }
 
@@ -75,6 +75,6 @@ impl<C: Syntax> Tree<C> {
         requires { T.class ≡ C.class }
         ensures { T.node result ≡ self }
     {
-        T::of_node(self.into_node())
+        T::from_node(self.into_node())
     }
 }

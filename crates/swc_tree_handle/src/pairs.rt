@@ -2,7 +2,7 @@
 ghost use Rattle.std.specs.Prelude.{◌≡◌, [], ◌++◌, ◌∷◌, ◌↔◌, IsTrue, OnOk, OnErr, MatchOption, length};
 ghost use Rattle.swc_tree_node.specs.declared.slot.Slot.TheVariants.{Pair, Pairs as Several};
 ghost use Rattle.swc_tree_node.specs.Fits.{Fits, AllFit};
-ghost use Rattle.swc_tree_handle.specs.Handles.{maybe_list, pair_node};
+ghost use Rattle.swc_tree_handle.specs.Handles.{optional_list, pair_node};
 
 use crate::leaves::to_text;
 use crate::tree::collect;
@@ -47,9 +47,9 @@ impl Pairs {
 
     /// What a place holds that takes pairs.
     #[tactic(auto, using(swc_tree_node::proofs::Fit::fitting, swc_tree_node::proofs::Fit::pairs_open))]
-    pub fn of_maybe(node: Node) -> Option<Pairs>
+    pub fn from_optional(node: Node) -> Option<Pairs>
         requires { Fits node Several }
-        ensures { maybe_list result ≡ node }
+        ensures { optional_list result ≡ node }
     {
         match node {
             Node::Absent => None,
@@ -60,8 +60,8 @@ impl Pairs {
 
     /// What a place is to hold that takes pairs.
     #[tactic(auto, using(swc_tree_node::proofs::Fit::fitting, swc_tree_node::proofs::Fit::pairs_close))]
-    pub fn into_maybe(pairs: Option<Pairs>) -> Node
-        ensures is { result ≡ maybe_list pairs }
+    pub fn into_optional(pairs: Option<Pairs>) -> Node
+        ensures is { result ≡ optional_list pairs }
         ensures fits { Fits result Several }
     {
         match pairs {

@@ -5,7 +5,7 @@ ghost use Rattle.swc_tree_node.specs.declared.slot.Slot.TheVariants.{One, Option
 ghost use Rattle.swc_tree_node.specs.declared.slot.Content.TheVariants.{Node as Of};
 ghost use Rattle.swc_tree_node.specs.Table.{kinds_of, slots_of, is_identifier};
 ghost use Rattle.swc_tree_node.specs.Fits.{Fits, FieldsFit, belongs};
-ghost use Rattle.swc_tree_handle.specs.Handles.{kind_of, is_of, is_within, maybe_node};
+ghost use Rattle.swc_tree_handle.specs.Handles.{kind_of, is_of, is_within, optional_node};
 
 use crate::class::Syntax;
 use std::alloc::{AllocError, Global};
@@ -48,7 +48,7 @@ impl<C: Syntax> Model for Tree<C> {
 
 impl<C: Syntax> Tree<C> {
     /// A node as one of the class.
-    pub fn of(node: Node) -> Tree<C>
+    pub fn from_node(node: Node) -> Tree<C>
         requires { Fits node (One (Of C.class)) }
         ensures { result ≡ node }
     {
@@ -95,8 +95,8 @@ impl<C: Syntax> Tree<C> {
         ensures { result ≡ self }
     {
         match self.into_node() {
-            Node::Identifier(kind, ident) => Tree::of(Node::Identifier(kind, ident)),
-            Node::Tree(kind, fields) => Tree::of(Node::Tree(kind, fields)),
+            Node::Identifier(kind, ident) => Tree::from_node(Node::Identifier(kind, ident)),
+            Node::Tree(kind, fields) => Tree::from_node(Node::Tree(kind, fields)),
             _ => unreachable!(),
         }
     }
@@ -110,8 +110,8 @@ impl<C: Syntax> Tree<C> {
         ensures { result ≡ self }
     {
         match self.into_node() {
-            Node::Identifier(kind, ident) => Tree::of(Node::Identifier(kind, ident)),
-            Node::Tree(kind, fields) => Tree::of(Node::Tree(kind, fields)),
+            Node::Identifier(kind, ident) => Tree::from_node(Node::Identifier(kind, ident)),
+            Node::Tree(kind, fields) => Tree::from_node(Node::Tree(kind, fields)),
             _ => unreachable!(),
         }
     }
@@ -120,20 +120,20 @@ impl<C: Syntax> Tree<C> {
 impl<C: Syntax> Tree<C> {
     /// What an optional place holds.
     #[tactic(auto, using(swc_tree_node::proofs::Fit::fitting))]
-    pub fn of_maybe(node: Node) -> Option<Tree<C>>
+    pub fn from_optional(node: Node) -> Option<Tree<C>>
         requires { Fits node (Optional (Of C.class)) }
-        ensures { maybe_node result ≡ node }
+        ensures { optional_node result ≡ node }
     {
         match node {
             Node::Absent => None,
-            node => Some(Tree::of(node)),
+            node => Some(Tree::from_node(node)),
         }
     }
 
     /// What an optional place is to hold.
     #[tactic(auto, using(swc_tree_node::proofs::Fit::fitting))]
-    pub fn into_maybe(tree: Option<Tree<C>>) -> Node
-        ensures is { result ≡ maybe_node tree }
+    pub fn into_optional(tree: Option<Tree<C>>) -> Node
+        ensures is { result ≡ optional_node tree }
         ensures fits { Fits result (Optional (Of C.class)) }
     {
         match tree {
@@ -159,13 +159,13 @@ impl<C: Syntax> Tree<C> {
 
     /// The node of a kind and its fields.
     #[tactic(auto, using(swc_tree_node::proofs::Fit::tree_closes))]
-    pub fn of_fields(kind: Kind, fields: Items<Node>) -> Tree<C>
+    pub fn from_fields(kind: Kind, fields: Items<Node>) -> Tree<C>
         requires plain { IsTrue (not (is_identifier kind)) }
         requires belongs { IsTrue (belongs kind C.class) }
         requires fit { FieldsFit (slots_of kind) fields }
         ensures { result ≡ Plain kind fields }
     {
-        Tree::of(Node::Tree(kind, fields))
+        Tree::from_node(Node::Tree(kind, fields))
     }
 
     /// The identifier that a node is whose class takes one kind.
@@ -183,12 +183,12 @@ impl<C: Syntax> Tree<C> {
 
     /// The node of a kind and an identifier. Where memory is refused, the identifier is dropped.
     #[tactic(auto, using(crate::proofs::Handles::identifier_closes))]
-    pub fn of_identifier(alloc: Global, kind: Kind, ident: Ident) -> Result<Tree<C>, AllocError>
+    pub fn from_identifier(alloc: Global, kind: Kind, ident: Ident) -> Result<Tree<C>, AllocError>
         requires identifier { IsTrue (is_identifier kind) }
         requires belongs { IsTrue (belongs kind C.class) }
         ensures { IfOk result (λ tree. tree ≡ Identifier kind ident) }
     {
-        Ok(Tree::of(Node::Identifier(kind, Boxed::new(alloc, ident)?)))
+        Ok(Tree::from_node(Node::Identifier(kind, Boxed::new(alloc, ident)?)))
     }
 }
 

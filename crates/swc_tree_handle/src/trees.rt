@@ -4,7 +4,7 @@ ghost use Rattle.swc_tree_node.specs.declared.node.Node.{List as Many};
 ghost use Rattle.swc_tree_node.specs.declared.slot.Slot.TheVariants.{One, List as Several, OptionalList};
 ghost use Rattle.swc_tree_node.specs.declared.slot.Content.TheVariants.{Node as Of};
 ghost use Rattle.swc_tree_node.specs.Fits.{Fits, AllFit};
-ghost use Rattle.swc_tree_handle.specs.Handles.{maybe_list};
+ghost use Rattle.swc_tree_handle.specs.Handles.{optional_list};
 
 use crate::class::Syntax;
 use crate::tree::Tree;
@@ -72,7 +72,7 @@ impl<C: Syntax> Trees<C> {
 
     /// The list that a node is.
     #[tactic(auto, using(swc_tree_node::proofs::Fit::fitting, swc_tree_node::proofs::Fit::list_opens))]
-    pub fn of(node: Node) -> Trees<C>
+    pub fn from_node(node: Node) -> Trees<C>
         requires { Fits node (Several (Of C.class)) }
         ensures { Many result ≡ node }
     {
@@ -93,9 +93,9 @@ impl<C: Syntax> Trees<C> {
 
     /// What a place holds that takes a list, or nothing.
     #[tactic(auto, using(swc_tree_node::proofs::Fit::fitting, swc_tree_node::proofs::Fit::optional_list_opens))]
-    pub fn of_maybe(node: Node) -> Option<Trees<C>>
+    pub fn from_optional(node: Node) -> Option<Trees<C>>
         requires { Fits node (OptionalList (Of C.class)) }
-        ensures { maybe_list result ≡ node }
+        ensures { optional_list result ≡ node }
     {
         match node {
             Node::Absent => None,
@@ -106,8 +106,8 @@ impl<C: Syntax> Trees<C> {
 
     /// What a place is to hold that takes a list, or nothing.
     #[tactic(auto, using(swc_tree_node::proofs::Fit::fitting, swc_tree_node::proofs::Fit::optional_list_closes))]
-    pub fn into_maybe(trees: Option<Trees<C>>) -> Node
-        ensures is { result ≡ maybe_list trees }
+    pub fn into_optional(trees: Option<Trees<C>>) -> Node
+        ensures is { result ≡ optional_list trees }
         ensures fits { Fits result (OptionalList (Of C.class)) }
     {
         match trees {
@@ -164,7 +164,7 @@ impl<C: Syntax> Trees<C> {
         ensures { MatchOption result ((self.old ≡ []) × (self.new ≡ [])) (λ last. self.old ≡ self.new ++ last ∷ []) }
     {
         match self.nodes.pop() {
-            Some(node) => Some(Tree::of(node)),
+            Some(node) => Some(Tree::from_node(node)),
             None => None,
         }
     }
@@ -176,7 +176,7 @@ impl<C: Syntax> Trees<C> {
         ensures taken { slice_get self.old index ≡ Some result }
         ensures list { self.new ≡ slice_set self.old index tree }
     {
-        Tree::of(self.nodes.replace(index, tree.into_node()))
+        Tree::from_node(self.nodes.replace(index, tree.into_node()))
     }
 }
 

@@ -30,21 +30,21 @@ use Rattle.swc_tree_modules.specs.declared.export_specifier.ExportSpecifier.TheV
 use Rattle.swc_tree_modules.specs.declared.default_decl.DefaultDecl.{DefaultDecl}
 use Rattle.swc_tree_modules.specs.declared.default_decl.DefaultDecl.TheVariants as default_decl
 use Rattle.swc_tree_functions.specs.Nodes.{class_expr_node, fn_expr_node}
-use Rattle.swc_tree_handle.specs.Handles.{ident_node, maybe_list, maybe_node, maybe_text}
+use Rattle.swc_tree_handle.specs.Handles.{ident_node, optional_list, optional_node, optional_text}
 use Rattle.swc_tree_names.specs.Nodes.{str_node}
 use Rattle.swc_tree_statements.specs.Nodes.{of_stmt}
 
 abbrev pub module_node : Module → Node
-module_node x = node.Tree kind.Module (node.Span x.span ∷ node.List x.body ∷ maybe_text x.shebang ∷ [])
+module_node x = node.Tree kind.Module (node.Span x.span ∷ node.List x.body ∷ optional_text x.shebang ∷ [])
 
 abbrev pub script_node : Script → Node
-script_node x = node.Tree kind.Script (node.Span x.span ∷ node.List x.body ∷ maybe_text x.shebang ∷ [])
+script_node x = node.Tree kind.Script (node.Span x.span ∷ node.List x.body ∷ optional_text x.shebang ∷ [])
 
 abbrev pub import_decl_node : ImportDecl → Node
-import_decl_node x = node.Tree kind.ImportDecl (node.Span x.span ∷ node.List x.specifiers ∷ str_node x.src ∷ maybe_list x.with_ ∷ [])
+import_decl_node x = node.Tree kind.ImportDecl (node.Span x.span ∷ node.List x.specifiers ∷ str_node x.src ∷ optional_list x.with_ ∷ [])
 
 abbrev pub import_named_specifier_node : ImportNamedSpecifier → Node
-import_named_specifier_node x = node.Tree kind.ImportNamedSpecifier (node.Span x.span ∷ ident_node x.local ∷ maybe_node x.imported ∷ [])
+import_named_specifier_node x = node.Tree kind.ImportNamedSpecifier (node.Span x.span ∷ ident_node x.local ∷ optional_node x.imported ∷ [])
 
 abbrev pub import_default_specifier_node : ImportDefaultSpecifier → Node
 import_default_specifier_node x = node.Tree kind.ImportDefaultSpecifier (node.Span x.span ∷ ident_node x.local ∷ [])
@@ -56,13 +56,13 @@ abbrev pub export_decl_node : ExportDecl → Node
 export_decl_node x = node.Tree kind.ExportDecl (node.Span x.span ∷ x.decl ∷ [])
 
 abbrev pub named_export_node : NamedExport → Node
-named_export_node x = node.Tree kind.NamedExport (node.Span x.span ∷ node.List x.specifiers ∷ maybe_node (option_map str_node x.src) ∷ maybe_list x.with_ ∷ [])
+named_export_node x = node.Tree kind.NamedExport (node.Span x.span ∷ node.List x.specifiers ∷ optional_node (option_map str_node x.src) ∷ optional_list x.with_ ∷ [])
 
 abbrev pub export_namespace_specifier_node : ExportNamespaceSpecifier → Node
 export_namespace_specifier_node x = node.Tree kind.ExportNamespaceSpecifier (node.Span x.span ∷ x.name ∷ [])
 
 abbrev pub export_named_specifier_node : ExportNamedSpecifier → Node
-export_named_specifier_node x = node.Tree kind.ExportNamedSpecifier (node.Span x.span ∷ x.orig ∷ maybe_node x.exported ∷ [])
+export_named_specifier_node x = node.Tree kind.ExportNamedSpecifier (node.Span x.span ∷ x.orig ∷ optional_node x.exported ∷ [])
 
 abbrev pub export_default_decl_node : ExportDefaultDecl → Node
 export_default_decl_node x = node.Tree kind.ExportDefaultDecl (node.Span x.span ∷ x.decl ∷ [])
@@ -71,7 +71,7 @@ abbrev pub export_default_expr_node : ExportDefaultExpr → Node
 export_default_expr_node x = node.Tree kind.ExportDefaultExpr (node.Span x.span ∷ x.expr ∷ [])
 
 abbrev pub export_all_node : ExportAll → Node
-export_all_node x = node.Tree kind.ExportAll (node.Span x.span ∷ str_node x.src ∷ maybe_list x.with_ ∷ [])
+export_all_node x = node.Tree kind.ExportAll (node.Span x.span ∷ str_node x.src ∷ optional_list x.with_ ∷ [])
 
 abbrev pub of_module_decl : ModuleDecl → Node
 of_module_decl (module_decl.Import x) = import_decl_node x

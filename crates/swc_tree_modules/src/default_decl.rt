@@ -23,11 +23,11 @@ impl Opened<class::DefaultDecl> for DefaultDecl {
 
     ghost node = { of_default_decl };
 
-    fn of_node(closed: Node) -> DefaultDecl
+    fn from_node(closed: Node) -> DefaultDecl
         requires { Fits closed (One (Of class.DefaultDecl)) }
         ensures { of_default_decl result ≡ closed }
     {
-        let tree = Tree::<class::DefaultDecl>::of(closed);
+        let tree = Tree::<class::DefaultDecl>::from_node(closed);
         match tree.kind() {
             Kind::ClassExpr => DefaultDecl::Class(tree.narrow::<class::ClassExpr>().open()),
             Kind::FnExpr => DefaultDecl::Fn(tree.narrow::<class::FnExpr>().open()),

@@ -26,16 +26,16 @@ impl Opened<class::ExportAll> for ExportAll {
     ghost node = { export_all_node };
 
     #[tactic(auto, using(swc_tree_node::proofs::Fit::lengths))]
-    fn of_node(closed: Node) -> ExportAll
+    fn from_node(closed: Node) -> ExportAll
         requires { Fits closed (One (Of class.ExportAll)) }
         ensures { export_all_node result ≡ closed }
     {
-        let fields = Tree::<class::ExportAll>::of(closed).into_fields(Kind::ExportAll);
+        let fields = Tree::<class::ExportAll>::from_node(closed).into_fields(Kind::ExportAll);
         let [span, src, with_] = fields.into_array::<3>();
         ExportAll {
             span: to_span(span),
-            src: Str::of_node(src),
-            with_: Pairs::of_maybe(with_),
+            src: Str::from_node(src),
+            with_: Pairs::from_optional(with_),
         }
     }
 
@@ -48,9 +48,9 @@ impl Opened<class::ExportAll> for ExportAll {
             [
                 from_span(span),
                 src.into_node(alloc)?,
-                Pairs::into_maybe(with_),
+                Pairs::into_optional(with_),
             ],
         )?;
-        Ok(Tree::<class::ExportAll>::of_fields(Kind::ExportAll, fields).into_node())
+        Ok(Tree::<class::ExportAll>::from_fields(Kind::ExportAll, fields).into_node())
     }
 }

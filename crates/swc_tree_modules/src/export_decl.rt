@@ -24,15 +24,15 @@ impl Opened<class::ExportDecl> for ExportDecl {
     ghost node = { export_decl_node };
 
     #[tactic(auto, using(swc_tree_node::proofs::Fit::lengths))]
-    fn of_node(closed: Node) -> ExportDecl
+    fn from_node(closed: Node) -> ExportDecl
         requires { Fits closed (One (Of class.ExportDecl)) }
         ensures { export_decl_node result ≡ closed }
     {
-        let fields = Tree::<class::ExportDecl>::of(closed).into_fields(Kind::ExportDecl);
+        let fields = Tree::<class::ExportDecl>::from_node(closed).into_fields(Kind::ExportDecl);
         let [span, decl] = fields.into_array::<2>();
         ExportDecl {
             span: to_span(span),
-            decl: Tree::of(decl),
+            decl: Tree::from_node(decl),
         }
     }
 
@@ -41,6 +41,6 @@ impl Opened<class::ExportDecl> for ExportDecl {
     {
         let ExportDecl { span, decl } = self;
         let fields = collect(alloc, [from_span(span), decl.into_node()])?;
-        Ok(Tree::<class::ExportDecl>::of_fields(Kind::ExportDecl, fields).into_node())
+        Ok(Tree::<class::ExportDecl>::from_fields(Kind::ExportDecl, fields).into_node())
     }
 }

@@ -24,17 +24,17 @@ impl Opened<class::ExportDefaultDecl> for ExportDefaultDecl {
     ghost node = { export_default_decl_node };
 
     #[tactic(auto, using(swc_tree_node::proofs::Fit::lengths))]
-    fn of_node(closed: Node) -> ExportDefaultDecl
+    fn from_node(closed: Node) -> ExportDefaultDecl
         requires { Fits closed (One (Of class.ExportDefaultDecl)) }
         ensures { export_default_decl_node result ≡ closed }
     {
-        let fields = Tree::<class::ExportDefaultDecl>::of(closed).into_fields(
+        let fields = Tree::<class::ExportDefaultDecl>::from_node(closed).into_fields(
             Kind::ExportDefaultDecl,
         );
         let [span, decl] = fields.into_array::<2>();
         ExportDefaultDecl {
             span: to_span(span),
-            decl: Tree::of(decl),
+            decl: Tree::from_node(decl),
         }
     }
 
@@ -43,6 +43,6 @@ impl Opened<class::ExportDefaultDecl> for ExportDefaultDecl {
     {
         let ExportDefaultDecl { span, decl } = self;
         let fields = collect(alloc, [from_span(span), decl.into_node()])?;
-        Ok(Tree::<class::ExportDefaultDecl>::of_fields(Kind::ExportDefaultDecl, fields).into_node())
+        Ok(Tree::<class::ExportDefaultDecl>::from_fields(Kind::ExportDefaultDecl, fields).into_node())
     }
 }

@@ -24,17 +24,17 @@ impl Opened<class::ExportDefaultExpr> for ExportDefaultExpr {
     ghost node = { export_default_expr_node };
 
     #[tactic(auto, using(swc_tree_node::proofs::Fit::lengths))]
-    fn of_node(closed: Node) -> ExportDefaultExpr
+    fn from_node(closed: Node) -> ExportDefaultExpr
         requires { Fits closed (One (Of class.ExportDefaultExpr)) }
         ensures { export_default_expr_node result ≡ closed }
     {
-        let fields = Tree::<class::ExportDefaultExpr>::of(closed).into_fields(
+        let fields = Tree::<class::ExportDefaultExpr>::from_node(closed).into_fields(
             Kind::ExportDefaultExpr,
         );
         let [span, expr] = fields.into_array::<2>();
         ExportDefaultExpr {
             span: to_span(span),
-            expr: Tree::of(expr),
+            expr: Tree::from_node(expr),
         }
     }
 
@@ -43,6 +43,6 @@ impl Opened<class::ExportDefaultExpr> for ExportDefaultExpr {
     {
         let ExportDefaultExpr { span, expr } = self;
         let fields = collect(alloc, [from_span(span), expr.into_node()])?;
-        Ok(Tree::<class::ExportDefaultExpr>::of_fields(Kind::ExportDefaultExpr, fields).into_node())
+        Ok(Tree::<class::ExportDefaultExpr>::from_fields(Kind::ExportDefaultExpr, fields).into_node())
     }
 }

@@ -25,18 +25,18 @@ impl Opened<class::ExportNamedSpecifier> for ExportNamedSpecifier {
     ghost node = { export_named_specifier_node };
 
     #[tactic(auto, using(swc_tree_node::proofs::Fit::lengths))]
-    fn of_node(closed: Node) -> ExportNamedSpecifier
+    fn from_node(closed: Node) -> ExportNamedSpecifier
         requires { Fits closed (One (Of class.ExportNamedSpecifier)) }
         ensures { export_named_specifier_node result ≡ closed }
     {
-        let fields = Tree::<class::ExportNamedSpecifier>::of(closed).into_fields(
+        let fields = Tree::<class::ExportNamedSpecifier>::from_node(closed).into_fields(
             Kind::ExportNamedSpecifier,
         );
         let [span, orig, exported] = fields.into_array::<3>();
         ExportNamedSpecifier {
             span: to_span(span),
-            orig: Tree::of(orig),
-            exported: Tree::of_maybe(exported),
+            orig: Tree::from_node(orig),
+            exported: Tree::from_optional(exported),
         }
     }
 
@@ -53,10 +53,10 @@ impl Opened<class::ExportNamedSpecifier> for ExportNamedSpecifier {
             [
                 from_span(span),
                 orig.into_node(),
-                Tree::into_maybe(exported),
+                Tree::into_optional(exported),
             ],
         )?;
-        Ok(Tree::<class::ExportNamedSpecifier>::of_fields(
+        Ok(Tree::<class::ExportNamedSpecifier>::from_fields(
             Kind::ExportNamedSpecifier,
             fields,
         ).into_node())

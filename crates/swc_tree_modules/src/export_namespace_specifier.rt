@@ -24,17 +24,17 @@ impl Opened<class::ExportNamespaceSpecifier> for ExportNamespaceSpecifier {
     ghost node = { export_namespace_specifier_node };
 
     #[tactic(auto, using(swc_tree_node::proofs::Fit::lengths))]
-    fn of_node(closed: Node) -> ExportNamespaceSpecifier
+    fn from_node(closed: Node) -> ExportNamespaceSpecifier
         requires { Fits closed (One (Of class.ExportNamespaceSpecifier)) }
         ensures { export_namespace_specifier_node result ≡ closed }
     {
-        let fields = Tree::<class::ExportNamespaceSpecifier>::of(closed).into_fields(
+        let fields = Tree::<class::ExportNamespaceSpecifier>::from_node(closed).into_fields(
             Kind::ExportNamespaceSpecifier,
         );
         let [span, name] = fields.into_array::<2>();
         ExportNamespaceSpecifier {
             span: to_span(span),
-            name: Tree::of(name),
+            name: Tree::from_node(name),
         }
     }
 
@@ -43,7 +43,7 @@ impl Opened<class::ExportNamespaceSpecifier> for ExportNamespaceSpecifier {
     {
         let ExportNamespaceSpecifier { span, name } = self;
         let fields = collect(alloc, [from_span(span), name.into_node()])?;
-        Ok(Tree::<class::ExportNamespaceSpecifier>::of_fields(
+        Ok(Tree::<class::ExportNamespaceSpecifier>::from_fields(
             Kind::ExportNamespaceSpecifier,
             fields,
         ).into_node())

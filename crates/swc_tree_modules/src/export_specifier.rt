@@ -24,11 +24,11 @@ impl Opened<class::ExportSpecifier> for ExportSpecifier {
 
     ghost node = { of_export_specifier };
 
-    fn of_node(closed: Node) -> ExportSpecifier
+    fn from_node(closed: Node) -> ExportSpecifier
         requires { Fits closed (One (Of class.ExportSpecifier)) }
         ensures { of_export_specifier result ≡ closed }
     {
-        let tree = Tree::<class::ExportSpecifier>::of(closed);
+        let tree = Tree::<class::ExportSpecifier>::from_node(closed);
         match tree.kind() {
             Kind::ExportNamespaceSpecifier => ExportSpecifier::Namespace(
                 tree.narrow::<class::ExportNamespaceSpecifier>().open(),

@@ -27,17 +27,17 @@ impl Opened<class::ImportDecl> for ImportDecl {
     ghost node = { import_decl_node };
 
     #[tactic(auto, using(swc_tree_node::proofs::Fit::lengths))]
-    fn of_node(closed: Node) -> ImportDecl
+    fn from_node(closed: Node) -> ImportDecl
         requires { Fits closed (One (Of class.ImportDecl)) }
         ensures { import_decl_node result ≡ closed }
     {
-        let fields = Tree::<class::ImportDecl>::of(closed).into_fields(Kind::ImportDecl);
+        let fields = Tree::<class::ImportDecl>::from_node(closed).into_fields(Kind::ImportDecl);
         let [span, specifiers, src, with_] = fields.into_array::<4>();
         ImportDecl {
             span: to_span(span),
-            specifiers: Trees::of(specifiers),
-            src: Str::of_node(src),
-            with_: Pairs::of_maybe(with_),
+            specifiers: Trees::from_node(specifiers),
+            src: Str::from_node(src),
+            with_: Pairs::from_optional(with_),
         }
     }
 
@@ -56,9 +56,9 @@ impl Opened<class::ImportDecl> for ImportDecl {
                 from_span(span),
                 specifiers.into_node(),
                 src.into_node(alloc)?,
-                Pairs::into_maybe(with_),
+                Pairs::into_optional(with_),
             ],
         )?;
-        Ok(Tree::<class::ImportDecl>::of_fields(Kind::ImportDecl, fields).into_node())
+        Ok(Tree::<class::ImportDecl>::from_fields(Kind::ImportDecl, fields).into_node())
     }
 }

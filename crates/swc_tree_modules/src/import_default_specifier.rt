@@ -24,17 +24,17 @@ impl Opened<class::ImportDefaultSpecifier> for ImportDefaultSpecifier {
     ghost node = { import_default_specifier_node };
 
     #[tactic(auto, using(swc_tree_node::proofs::Fit::lengths))]
-    fn of_node(closed: Node) -> ImportDefaultSpecifier
+    fn from_node(closed: Node) -> ImportDefaultSpecifier
         requires { Fits closed (One (Of class.ImportDefaultSpecifier)) }
         ensures { import_default_specifier_node result ≡ closed }
     {
-        let fields = Tree::<class::ImportDefaultSpecifier>::of(closed).into_fields(
+        let fields = Tree::<class::ImportDefaultSpecifier>::from_node(closed).into_fields(
             Kind::ImportDefaultSpecifier,
         );
         let [span, local] = fields.into_array::<2>();
         ImportDefaultSpecifier {
             span: to_span(span),
-            local: Ident::of_node(local),
+            local: Ident::from_node(local),
         }
     }
 
@@ -43,7 +43,7 @@ impl Opened<class::ImportDefaultSpecifier> for ImportDefaultSpecifier {
     {
         let ImportDefaultSpecifier { span, local } = self;
         let fields = collect(alloc, [from_span(span), local.into_node(alloc)?])?;
-        Ok(Tree::<class::ImportDefaultSpecifier>::of_fields(
+        Ok(Tree::<class::ImportDefaultSpecifier>::from_fields(
             Kind::ImportDefaultSpecifier,
             fields,
         ).into_node())

@@ -25,18 +25,18 @@ impl Opened<class::ImportNamedSpecifier> for ImportNamedSpecifier {
     ghost node = { import_named_specifier_node };
 
     #[tactic(auto, using(swc_tree_node::proofs::Fit::lengths))]
-    fn of_node(closed: Node) -> ImportNamedSpecifier
+    fn from_node(closed: Node) -> ImportNamedSpecifier
         requires { Fits closed (One (Of class.ImportNamedSpecifier)) }
         ensures { import_named_specifier_node result ≡ closed }
     {
-        let fields = Tree::<class::ImportNamedSpecifier>::of(closed).into_fields(
+        let fields = Tree::<class::ImportNamedSpecifier>::from_node(closed).into_fields(
             Kind::ImportNamedSpecifier,
         );
         let [span, local, imported] = fields.into_array::<3>();
         ImportNamedSpecifier {
             span: to_span(span),
-            local: Ident::of_node(local),
-            imported: Tree::of_maybe(imported),
+            local: Ident::from_node(local),
+            imported: Tree::from_optional(imported),
         }
     }
 
@@ -53,10 +53,10 @@ impl Opened<class::ImportNamedSpecifier> for ImportNamedSpecifier {
             [
                 from_span(span),
                 local.into_node(alloc)?,
-                Tree::into_maybe(imported),
+                Tree::into_optional(imported),
             ],
         )?;
-        Ok(Tree::<class::ImportNamedSpecifier>::of_fields(
+        Ok(Tree::<class::ImportNamedSpecifier>::from_fields(
             Kind::ImportNamedSpecifier,
             fields,
         ).into_node())

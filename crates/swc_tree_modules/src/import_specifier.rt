@@ -26,11 +26,11 @@ impl Opened<class::ImportSpecifier> for ImportSpecifier {
 
     ghost node = { of_import_specifier };
 
-    fn of_node(closed: Node) -> ImportSpecifier
+    fn from_node(closed: Node) -> ImportSpecifier
         requires { Fits closed (One (Of class.ImportSpecifier)) }
         ensures { of_import_specifier result ≡ closed }
     {
-        let tree = Tree::<class::ImportSpecifier>::of(closed);
+        let tree = Tree::<class::ImportSpecifier>::from_node(closed);
         match tree.kind() {
             Kind::ImportNamedSpecifier => ImportSpecifier::Named(
                 tree.narrow::<class::ImportNamedSpecifier>().open(),

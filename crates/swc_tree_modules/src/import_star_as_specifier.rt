@@ -24,17 +24,17 @@ impl Opened<class::ImportStarAsSpecifier> for ImportStarAsSpecifier {
     ghost node = { import_star_as_specifier_node };
 
     #[tactic(auto, using(swc_tree_node::proofs::Fit::lengths))]
-    fn of_node(closed: Node) -> ImportStarAsSpecifier
+    fn from_node(closed: Node) -> ImportStarAsSpecifier
         requires { Fits closed (One (Of class.ImportStarAsSpecifier)) }
         ensures { import_star_as_specifier_node result ≡ closed }
     {
-        let fields = Tree::<class::ImportStarAsSpecifier>::of(closed).into_fields(
+        let fields = Tree::<class::ImportStarAsSpecifier>::from_node(closed).into_fields(
             Kind::ImportStarAsSpecifier,
         );
         let [span, local] = fields.into_array::<2>();
         ImportStarAsSpecifier {
             span: to_span(span),
-            local: Ident::of_node(local),
+            local: Ident::from_node(local),
         }
     }
 
@@ -43,7 +43,7 @@ impl Opened<class::ImportStarAsSpecifier> for ImportStarAsSpecifier {
     {
         let ImportStarAsSpecifier { span, local } = self;
         let fields = collect(alloc, [from_span(span), local.into_node(alloc)?])?;
-        Ok(Tree::<class::ImportStarAsSpecifier>::of_fields(
+        Ok(Tree::<class::ImportStarAsSpecifier>::from_fields(
             Kind::ImportStarAsSpecifier,
             fields,
         ).into_node())

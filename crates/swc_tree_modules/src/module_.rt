@@ -8,7 +8,7 @@ ghost use Rattle.swc_tree_modules.specs.Nodes.{module_node};
 
 use std::alloc::{AllocError, Global};
 use swc_tree_handle::{
-    Opened, Tree, Trees, class, collect, from_maybe_text, from_span, to_maybe_text, to_span,
+    Opened, Tree, Trees, class, collect, from_optional_text, from_span, to_optional_text, to_span,
 };
 use swc_tree_marks::{Atom, Span};
 use swc_tree_node::{Kind, Node};
@@ -27,16 +27,16 @@ impl Opened<class::Module> for Module {
     ghost node = { module_node };
 
     #[tactic(auto, using(swc_tree_node::proofs::Fit::lengths))]
-    fn of_node(closed: Node) -> Module
+    fn from_node(closed: Node) -> Module
         requires { Fits closed (One (Of class.Module)) }
         ensures { module_node result ≡ closed }
     {
-        let fields = Tree::<class::Module>::of(closed).into_fields(Kind::Module);
+        let fields = Tree::<class::Module>::from_node(closed).into_fields(Kind::Module);
         let [span, body, shebang] = fields.into_array::<3>();
         Module {
             span: to_span(span),
-            body: Trees::of(body),
-            shebang: to_maybe_text(shebang),
+            body: Trees::from_node(body),
+            shebang: to_optional_text(shebang),
         }
     }
 
@@ -50,8 +50,8 @@ impl Opened<class::Module> for Module {
         } = self;
         let fields = collect(
             alloc,
-            [from_span(span), body.into_node(), from_maybe_text(shebang)],
+            [from_span(span), body.into_node(), from_optional_text(shebang)],
         )?;
-        Ok(Tree::<class::Module>::of_fields(Kind::Module, fields).into_node())
+        Ok(Tree::<class::Module>::from_fields(Kind::Module, fields).into_node())
     }
 }

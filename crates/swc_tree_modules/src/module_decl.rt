@@ -32,11 +32,11 @@ impl Opened<class::ModuleDecl> for ModuleDecl {
 
     ghost node = { of_module_decl };
 
-    fn of_node(closed: Node) -> ModuleDecl
+    fn from_node(closed: Node) -> ModuleDecl
         requires { Fits closed (One (Of class.ModuleDecl)) }
         ensures { of_module_decl result ≡ closed }
     {
-        let tree = Tree::<class::ModuleDecl>::of(closed);
+        let tree = Tree::<class::ModuleDecl>::from_node(closed);
         match tree.kind() {
             Kind::ImportDecl => ModuleDecl::Import(tree.narrow::<class::ImportDecl>().open()),
             Kind::ExportDecl => ModuleDecl::ExportDecl(tree.narrow::<class::ExportDecl>().open()),

@@ -24,11 +24,11 @@ impl Opened<class::ModuleItem> for ModuleItem {
 
     ghost node = { of_module_item };
 
-    fn of_node(closed: Node) -> ModuleItem
+    fn from_node(closed: Node) -> ModuleItem
         requires { Fits closed (One (Of class.ModuleItem)) }
         ensures { of_module_item result ≡ closed }
     {
-        let tree = Tree::<class::ModuleItem>::of(closed);
+        let tree = Tree::<class::ModuleItem>::from_node(closed);
         match tree.kind() {
             Kind::ImportDecl
             | Kind::ExportDecl

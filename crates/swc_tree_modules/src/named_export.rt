@@ -27,17 +27,17 @@ impl Opened<class::NamedExport> for NamedExport {
     ghost node = { named_export_node };
 
     #[tactic(auto, using(swc_tree_node::proofs::Fit::lengths))]
-    fn of_node(closed: Node) -> NamedExport
+    fn from_node(closed: Node) -> NamedExport
         requires { Fits closed (One (Of class.NamedExport)) }
         ensures { named_export_node result ≡ closed }
     {
-        let fields = Tree::<class::NamedExport>::of(closed).into_fields(Kind::NamedExport);
+        let fields = Tree::<class::NamedExport>::from_node(closed).into_fields(Kind::NamedExport);
         let [span, specifiers, src, with_] = fields.into_array::<4>();
         NamedExport {
             span: to_span(span),
-            specifiers: Trees::of(specifiers),
-            src: Str::of_optional(src),
-            with_: Pairs::of_maybe(with_),
+            specifiers: Trees::from_node(specifiers),
+            src: Str::from_optional(src),
+            with_: Pairs::from_optional(with_),
         }
     }
 
@@ -56,9 +56,9 @@ impl Opened<class::NamedExport> for NamedExport {
                 from_span(span),
                 specifiers.into_node(),
                 Str::into_optional(src, alloc)?,
-                Pairs::into_maybe(with_),
+                Pairs::into_optional(with_),
             ],
         )?;
-        Ok(Tree::<class::NamedExport>::of_fields(Kind::NamedExport, fields).into_node())
+        Ok(Tree::<class::NamedExport>::from_fields(Kind::NamedExport, fields).into_node())
     }
 }

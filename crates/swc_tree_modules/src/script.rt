@@ -8,7 +8,7 @@ ghost use Rattle.swc_tree_modules.specs.Nodes.{script_node};
 
 use std::alloc::{AllocError, Global};
 use swc_tree_handle::{
-    Opened, Tree, Trees, class, collect, from_maybe_text, from_span, to_maybe_text, to_span,
+    Opened, Tree, Trees, class, collect, from_optional_text, from_span, to_optional_text, to_span,
 };
 use swc_tree_marks::{Atom, Span};
 use swc_tree_node::{Kind, Node};
@@ -27,16 +27,16 @@ impl Opened<class::Script> for Script {
     ghost node = { script_node };
 
     #[tactic(auto, using(swc_tree_node::proofs::Fit::lengths))]
-    fn of_node(closed: Node) -> Script
+    fn from_node(closed: Node) -> Script
         requires { Fits closed (One (Of class.Script)) }
         ensures { script_node result ≡ closed }
     {
-        let fields = Tree::<class::Script>::of(closed).into_fields(Kind::Script);
+        let fields = Tree::<class::Script>::from_node(closed).into_fields(Kind::Script);
         let [span, body, shebang] = fields.into_array::<3>();
         Script {
             span: to_span(span),
-            body: Trees::of(body),
-            shebang: to_maybe_text(shebang),
+            body: Trees::from_node(body),
+            shebang: to_optional_text(shebang),
         }
     }
 
@@ -50,8 +50,8 @@ impl Opened<class::Script> for Script {
         } = self;
         let fields = collect(
             alloc,
-            [from_span(span), body.into_node(), from_maybe_text(shebang)],
+            [from_span(span), body.into_node(), from_optional_text(shebang)],
         )?;
-        Ok(Tree::<class::Script>::of_fields(Kind::Script, fields).into_node())
+        Ok(Tree::<class::Script>::from_fields(Kind::Script, fields).into_node())
     }
 }

@@ -32,7 +32,7 @@ use Rattle.swc_tree_names.specs.declared.module_export_name.ModuleExportName.{Mo
 use Rattle.swc_tree_names.specs.declared.module_export_name.ModuleExportName.TheVariants as module_export_name
 use Rattle.swc_tree_names.specs.declared.lit.Lit.{Lit}
 use Rattle.swc_tree_names.specs.declared.lit.Lit.TheVariants as lit
-use Rattle.swc_tree_handle.specs.Handles.{ident_node, maybe_node, maybe_text}
+use Rattle.swc_tree_handle.specs.Handles.{ident_node, optional_node, optional_text}
 
 abbrev pub meta_prop_kind_word : MetaPropKind → Word
 meta_prop_kind_word meta_prop_kind.NewTarget = word.NewTarget
@@ -48,7 +48,7 @@ abbrev pub private_name_node : PrivateName → Node
 private_name_node x = node.Tree kind.PrivateName (node.Span x.span ∷ node.Text x.name ∷ [])
 
 abbrev pub str_node : Str → Node
-str_node x = node.Tree kind.Str (node.Span x.span ∷ node.Text x.value ∷ maybe_text x.raw ∷ [])
+str_node x = node.Tree kind.Str (node.Span x.span ∷ node.Text x.value ∷ optional_text x.raw ∷ [])
 
 abbrev pub bool_node : Bool → Node
 bool_node x = node.Tree kind.Bool (node.Span x.span ∷ node.Flag x.value ∷ [])
@@ -66,7 +66,7 @@ abbrev pub regex_node : Regex → Node
 regex_node x = node.Tree kind.Regex (node.Span x.span ∷ node.Text x.exp ∷ node.Text x.flags ∷ [])
 
 abbrev pub tpl_element_node : TplElement → Node
-tpl_element_node x = node.Tree kind.TplElement (node.Span x.span ∷ node.Flag x.tail ∷ maybe_text x.cooked ∷ node.Text x.raw ∷ [])
+tpl_element_node x = node.Tree kind.TplElement (node.Span x.span ∷ node.Flag x.tail ∷ optional_text x.cooked ∷ node.Text x.raw ∷ [])
 
 abbrev pub this_expr_node : ThisExpr → Node
 this_expr_node x = node.Tree kind.ThisExpr (node.Span x.span ∷ [])
@@ -87,10 +87,10 @@ abbrev pub debugger_stmt_node : DebuggerStmt → Node
 debugger_stmt_node x = node.Tree kind.DebuggerStmt (node.Span x.span ∷ [])
 
 abbrev pub break_stmt_node : BreakStmt → Node
-break_stmt_node x = node.Tree kind.BreakStmt (node.Span x.span ∷ maybe_node (option_map ident_node x.label) ∷ [])
+break_stmt_node x = node.Tree kind.BreakStmt (node.Span x.span ∷ optional_node (option_map ident_node x.label) ∷ [])
 
 abbrev pub continue_stmt_node : ContinueStmt → Node
-continue_stmt_node x = node.Tree kind.ContinueStmt (node.Span x.span ∷ maybe_node (option_map ident_node x.label) ∷ [])
+continue_stmt_node x = node.Tree kind.ContinueStmt (node.Span x.span ∷ optional_node (option_map ident_node x.label) ∷ [])
 
 abbrev pub of_module_export_name : ModuleExportName → Node
 of_module_export_name (module_export_name.Ident x) = ident_node x

@@ -24,11 +24,11 @@ impl Opened<class::BigInt> for BigInt {
     ghost node = { big_int_node };
 
     #[tactic(auto, using(swc_tree_node::proofs::Fit::lengths))]
-    fn of_node(closed: Node) -> BigInt
+    fn from_node(closed: Node) -> BigInt
         requires { Fits closed (One (Of class.BigInt)) }
         ensures { big_int_node result ≡ closed }
     {
-        let fields = Tree::<class::BigInt>::of(closed).into_fields(Kind::BigInt);
+        let fields = Tree::<class::BigInt>::from_node(closed).into_fields(Kind::BigInt);
         let [span, text] = fields.into_array::<2>();
         BigInt {
             span: to_span(span),
@@ -41,6 +41,6 @@ impl Opened<class::BigInt> for BigInt {
     {
         let BigInt { span, text } = self;
         let fields = collect(alloc, [from_span(span), from_text(text)])?;
-        Ok(Tree::<class::BigInt>::of_fields(Kind::BigInt, fields).into_node())
+        Ok(Tree::<class::BigInt>::from_fields(Kind::BigInt, fields).into_node())
     }
 }

@@ -22,19 +22,19 @@ impl Opened<class::BindingIdent> for BindingIdent {
 
     ghost node = { binding_ident_node };
 
-    fn of_node(closed: Node) -> BindingIdent
+    fn from_node(closed: Node) -> BindingIdent
         requires { Fits closed (One (Of class.BindingIdent)) }
         ensures { binding_ident_node result ≡ closed }
     {
         BindingIdent {
-            id: Tree::<class::BindingIdent>::of(closed).into_identifier(Kind::BindingIdent),
+            id: Tree::<class::BindingIdent>::from_node(closed).into_identifier(Kind::BindingIdent),
         }
     }
 
     fn into_node(self, alloc: Global) -> Result<Node, AllocError>
         ensures { IfOk result (λ closed. (closed ≡ binding_ident_node self) × Fits closed (One (Of class.BindingIdent))) }
     {
-        let tree = Tree::<class::BindingIdent>::of_identifier(alloc, Kind::BindingIdent, self.id)?;
+        let tree = Tree::<class::BindingIdent>::from_identifier(alloc, Kind::BindingIdent, self.id)?;
         Ok(tree.into_node())
     }
 }

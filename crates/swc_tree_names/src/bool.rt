@@ -24,11 +24,11 @@ impl Opened<class::Bool> for Bool {
     ghost node = { bool_node };
 
     #[tactic(auto, using(swc_tree_node::proofs::Fit::lengths))]
-    fn of_node(closed: Node) -> Bool
+    fn from_node(closed: Node) -> Bool
         requires { Fits closed (One (Of class.Bool)) }
         ensures { bool_node result ≡ closed }
     {
-        let fields = Tree::<class::Bool>::of(closed).into_fields(Kind::Bool);
+        let fields = Tree::<class::Bool>::from_node(closed).into_fields(Kind::Bool);
         let [span, value] = fields.into_array::<2>();
         Bool {
             span: to_span(span),
@@ -41,6 +41,6 @@ impl Opened<class::Bool> for Bool {
     {
         let Bool { span, value } = self;
         let fields = collect(alloc, [from_span(span), from_flag(value)])?;
-        Ok(Tree::<class::Bool>::of_fields(Kind::Bool, fields).into_node())
+        Ok(Tree::<class::Bool>::from_fields(Kind::Bool, fields).into_node())
     }
 }

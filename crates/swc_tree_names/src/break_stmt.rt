@@ -24,15 +24,15 @@ impl Opened<class::BreakStmt> for BreakStmt {
     ghost node = { break_stmt_node };
 
     #[tactic(auto, using(swc_tree_node::proofs::Fit::lengths))]
-    fn of_node(closed: Node) -> BreakStmt
+    fn from_node(closed: Node) -> BreakStmt
         requires { Fits closed (One (Of class.BreakStmt)) }
         ensures { break_stmt_node result ≡ closed }
     {
-        let fields = Tree::<class::BreakStmt>::of(closed).into_fields(Kind::BreakStmt);
+        let fields = Tree::<class::BreakStmt>::from_node(closed).into_fields(Kind::BreakStmt);
         let [span, label] = fields.into_array::<2>();
         BreakStmt {
             span: to_span(span),
-            label: Ident::of_optional(label),
+            label: Ident::from_optional(label),
         }
     }
 
@@ -44,6 +44,6 @@ impl Opened<class::BreakStmt> for BreakStmt {
             alloc,
             [from_span(span), Ident::into_optional(label, alloc)?],
         )?;
-        Ok(Tree::<class::BreakStmt>::of_fields(Kind::BreakStmt, fields).into_node())
+        Ok(Tree::<class::BreakStmt>::from_fields(Kind::BreakStmt, fields).into_node())
     }
 }

@@ -24,15 +24,15 @@ impl Opened<class::ContinueStmt> for ContinueStmt {
     ghost node = { continue_stmt_node };
 
     #[tactic(auto, using(swc_tree_node::proofs::Fit::lengths))]
-    fn of_node(closed: Node) -> ContinueStmt
+    fn from_node(closed: Node) -> ContinueStmt
         requires { Fits closed (One (Of class.ContinueStmt)) }
         ensures { continue_stmt_node result ≡ closed }
     {
-        let fields = Tree::<class::ContinueStmt>::of(closed).into_fields(Kind::ContinueStmt);
+        let fields = Tree::<class::ContinueStmt>::from_node(closed).into_fields(Kind::ContinueStmt);
         let [span, label] = fields.into_array::<2>();
         ContinueStmt {
             span: to_span(span),
-            label: Ident::of_optional(label),
+            label: Ident::from_optional(label),
         }
     }
 
@@ -44,6 +44,6 @@ impl Opened<class::ContinueStmt> for ContinueStmt {
             alloc,
             [from_span(span), Ident::into_optional(label, alloc)?],
         )?;
-        Ok(Tree::<class::ContinueStmt>::of_fields(Kind::ContinueStmt, fields).into_node())
+        Ok(Tree::<class::ContinueStmt>::from_fields(Kind::ContinueStmt, fields).into_node())
     }
 }

@@ -23,11 +23,11 @@ impl Opened<class::DebuggerStmt> for DebuggerStmt {
     ghost node = { debugger_stmt_node };
 
     #[tactic(auto, using(swc_tree_node::proofs::Fit::lengths))]
-    fn of_node(closed: Node) -> DebuggerStmt
+    fn from_node(closed: Node) -> DebuggerStmt
         requires { Fits closed (One (Of class.DebuggerStmt)) }
         ensures { debugger_stmt_node result ≡ closed }
     {
-        let fields = Tree::<class::DebuggerStmt>::of(closed).into_fields(Kind::DebuggerStmt);
+        let fields = Tree::<class::DebuggerStmt>::from_node(closed).into_fields(Kind::DebuggerStmt);
         let [span] = fields.into_array::<1>();
         DebuggerStmt {
             span: to_span(span),
@@ -39,6 +39,6 @@ impl Opened<class::DebuggerStmt> for DebuggerStmt {
     {
         let DebuggerStmt { span } = self;
         let fields = collect(alloc, [from_span(span)])?;
-        Ok(Tree::<class::DebuggerStmt>::of_fields(Kind::DebuggerStmt, fields).into_node())
+        Ok(Tree::<class::DebuggerStmt>::from_fields(Kind::DebuggerStmt, fields).into_node())
     }
 }

@@ -23,11 +23,11 @@ impl Opened<class::EmptyStmt> for EmptyStmt {
     ghost node = { empty_stmt_node };
 
     #[tactic(auto, using(swc_tree_node::proofs::Fit::lengths))]
-    fn of_node(closed: Node) -> EmptyStmt
+    fn from_node(closed: Node) -> EmptyStmt
         requires { Fits closed (One (Of class.EmptyStmt)) }
         ensures { empty_stmt_node result ≡ closed }
     {
-        let fields = Tree::<class::EmptyStmt>::of(closed).into_fields(Kind::EmptyStmt);
+        let fields = Tree::<class::EmptyStmt>::from_node(closed).into_fields(Kind::EmptyStmt);
         let [span] = fields.into_array::<1>();
         EmptyStmt {
             span: to_span(span),
@@ -39,6 +39,6 @@ impl Opened<class::EmptyStmt> for EmptyStmt {
     {
         let EmptyStmt { span } = self;
         let fields = collect(alloc, [from_span(span)])?;
-        Ok(Tree::<class::EmptyStmt>::of_fields(Kind::EmptyStmt, fields).into_node())
+        Ok(Tree::<class::EmptyStmt>::from_fields(Kind::EmptyStmt, fields).into_node())
     }
 }

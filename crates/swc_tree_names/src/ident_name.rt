@@ -24,11 +24,11 @@ impl Opened<class::IdentName> for IdentName {
     ghost node = { ident_name_node };
 
     #[tactic(auto, using(swc_tree_node::proofs::Fit::lengths))]
-    fn of_node(closed: Node) -> IdentName
+    fn from_node(closed: Node) -> IdentName
         requires { Fits closed (One (Of class.IdentName)) }
         ensures { ident_name_node result ≡ closed }
     {
-        let fields = Tree::<class::IdentName>::of(closed).into_fields(Kind::IdentName);
+        let fields = Tree::<class::IdentName>::from_node(closed).into_fields(Kind::IdentName);
         let [span, sym] = fields.into_array::<2>();
         IdentName {
             span: to_span(span),
@@ -41,6 +41,6 @@ impl Opened<class::IdentName> for IdentName {
     {
         let IdentName { span, sym } = self;
         let fields = collect(alloc, [from_span(span), from_text(sym)])?;
-        Ok(Tree::<class::IdentName>::of_fields(Kind::IdentName, fields).into_node())
+        Ok(Tree::<class::IdentName>::from_fields(Kind::IdentName, fields).into_node())
     }
 }

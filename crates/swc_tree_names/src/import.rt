@@ -23,11 +23,11 @@ impl Opened<class::Import> for Import {
     ghost node = { import_node };
 
     #[tactic(auto, using(swc_tree_node::proofs::Fit::lengths))]
-    fn of_node(closed: Node) -> Import
+    fn from_node(closed: Node) -> Import
         requires { Fits closed (One (Of class.Import)) }
         ensures { import_node result ≡ closed }
     {
-        let fields = Tree::<class::Import>::of(closed).into_fields(Kind::Import);
+        let fields = Tree::<class::Import>::from_node(closed).into_fields(Kind::Import);
         let [span] = fields.into_array::<1>();
         Import {
             span: to_span(span),
@@ -39,6 +39,6 @@ impl Opened<class::Import> for Import {
     {
         let Import { span } = self;
         let fields = collect(alloc, [from_span(span)])?;
-        Ok(Tree::<class::Import>::of_fields(Kind::Import, fields).into_node())
+        Ok(Tree::<class::Import>::from_fields(Kind::Import, fields).into_node())
     }
 }

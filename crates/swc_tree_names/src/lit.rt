@@ -32,11 +32,11 @@ impl Opened<class::Lit> for Lit {
 
     ghost node = { of_lit };
 
-    fn of_node(closed: Node) -> Lit
+    fn from_node(closed: Node) -> Lit
         requires { Fits closed (One (Of class.Lit)) }
         ensures { of_lit result ≡ closed }
     {
-        let tree = Tree::<class::Lit>::of(closed);
+        let tree = Tree::<class::Lit>::from_node(closed);
         match tree.kind() {
             Kind::Str => Lit::Str(tree.narrow::<class::Str>().open()),
             Kind::Bool => Lit::Bool(tree.narrow::<class::Bool>().open()),

@@ -25,15 +25,15 @@ impl Opened<class::MetaPropExpr> for MetaPropExpr {
     ghost node = { meta_prop_expr_node };
 
     #[tactic(auto, using(swc_tree_node::proofs::Fit::lengths))]
-    fn of_node(closed: Node) -> MetaPropExpr
+    fn from_node(closed: Node) -> MetaPropExpr
         requires { Fits closed (One (Of class.MetaPropExpr)) }
         ensures { meta_prop_expr_node result ≡ closed }
     {
-        let fields = Tree::<class::MetaPropExpr>::of(closed).into_fields(Kind::MetaPropExpr);
+        let fields = Tree::<class::MetaPropExpr>::from_node(closed).into_fields(Kind::MetaPropExpr);
         let [span, kind] = fields.into_array::<2>();
         MetaPropExpr {
             span: to_span(span),
-            kind: MetaPropKind::of_node(kind),
+            kind: MetaPropKind::from_node(kind),
         }
     }
 
@@ -42,6 +42,6 @@ impl Opened<class::MetaPropExpr> for MetaPropExpr {
     {
         let MetaPropExpr { span, kind } = self;
         let fields = collect(alloc, [from_span(span), kind.into_node()])?;
-        Ok(Tree::<class::MetaPropExpr>::of_fields(Kind::MetaPropExpr, fields).into_node())
+        Ok(Tree::<class::MetaPropExpr>::from_fields(Kind::MetaPropExpr, fields).into_node())
     }
 }

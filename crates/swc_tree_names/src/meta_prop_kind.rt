@@ -29,7 +29,7 @@ impl MetaPropKind {
     }
 
     /// What the word is here.
-    pub fn of_word(word: Word) -> MetaPropKind
+    pub fn from_word(word: Word) -> MetaPropKind
         requires { IsTrue (is_among word word_class.MetaPropKind) }
         ensures { meta_prop_kind_word result ≡ word }
     {
@@ -42,12 +42,12 @@ impl MetaPropKind {
 
     /// The word that a node is.
     #[tactic(auto, using(swc_tree_node::proofs::Fit::fitting))]
-    pub fn of_node(node: Node) -> MetaPropKind
+    pub fn from_node(node: Node) -> MetaPropKind
         requires { Fits node (One (Of word_class.MetaPropKind)) }
         ensures { leaf.Word (meta_prop_kind_word result) ≡ node }
     {
         match node {
-            Node::Word(word) => MetaPropKind::of_word(word),
+            Node::Word(word) => MetaPropKind::from_word(word),
             _ => unreachable!(),
         }
     }

@@ -24,11 +24,11 @@ impl Opened<class::ModuleExportName> for ModuleExportName {
 
     ghost node = { of_module_export_name };
 
-    fn of_node(closed: Node) -> ModuleExportName
+    fn from_node(closed: Node) -> ModuleExportName
         requires { Fits closed (One (Of class.ModuleExportName)) }
         ensures { of_module_export_name result ≡ closed }
     {
-        let tree = Tree::<class::ModuleExportName>::of(closed);
+        let tree = Tree::<class::ModuleExportName>::from_node(closed);
         match tree.kind() {
             Kind::Ident => ModuleExportName::Ident(tree.narrow::<class::Ident>().open()),
             Kind::Str => ModuleExportName::Str(tree.narrow::<class::Str>().open()),

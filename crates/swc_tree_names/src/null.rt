@@ -23,11 +23,11 @@ impl Opened<class::Null> for Null {
     ghost node = { null_node };
 
     #[tactic(auto, using(swc_tree_node::proofs::Fit::lengths))]
-    fn of_node(closed: Node) -> Null
+    fn from_node(closed: Node) -> Null
         requires { Fits closed (One (Of class.Null)) }
         ensures { null_node result ≡ closed }
     {
-        let fields = Tree::<class::Null>::of(closed).into_fields(Kind::Null);
+        let fields = Tree::<class::Null>::from_node(closed).into_fields(Kind::Null);
         let [span] = fields.into_array::<1>();
         Null {
             span: to_span(span),
@@ -39,6 +39,6 @@ impl Opened<class::Null> for Null {
     {
         let Null { span } = self;
         let fields = collect(alloc, [from_span(span)])?;
-        Ok(Tree::<class::Null>::of_fields(Kind::Null, fields).into_node())
+        Ok(Tree::<class::Null>::from_fields(Kind::Null, fields).into_node())
     }
 }

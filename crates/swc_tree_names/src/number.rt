@@ -24,11 +24,11 @@ impl Opened<class::Number> for Number {
     ghost node = { number_node };
 
     #[tactic(auto, using(swc_tree_node::proofs::Fit::lengths))]
-    fn of_node(closed: Node) -> Number
+    fn from_node(closed: Node) -> Number
         requires { Fits closed (One (Of class.Number)) }
         ensures { number_node result ≡ closed }
     {
-        let fields = Tree::<class::Number>::of(closed).into_fields(Kind::Number);
+        let fields = Tree::<class::Number>::from_node(closed).into_fields(Kind::Number);
         let [span, text] = fields.into_array::<2>();
         Number {
             span: to_span(span),
@@ -41,6 +41,6 @@ impl Opened<class::Number> for Number {
     {
         let Number { span, text } = self;
         let fields = collect(alloc, [from_span(span), from_text(text)])?;
-        Ok(Tree::<class::Number>::of_fields(Kind::Number, fields).into_node())
+        Ok(Tree::<class::Number>::from_fields(Kind::Number, fields).into_node())
     }
 }

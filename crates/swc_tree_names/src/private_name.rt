@@ -24,11 +24,11 @@ impl Opened<class::PrivateName> for PrivateName {
     ghost node = { private_name_node };
 
     #[tactic(auto, using(swc_tree_node::proofs::Fit::lengths))]
-    fn of_node(closed: Node) -> PrivateName
+    fn from_node(closed: Node) -> PrivateName
         requires { Fits closed (One (Of class.PrivateName)) }
         ensures { private_name_node result ≡ closed }
     {
-        let fields = Tree::<class::PrivateName>::of(closed).into_fields(Kind::PrivateName);
+        let fields = Tree::<class::PrivateName>::from_node(closed).into_fields(Kind::PrivateName);
         let [span, name] = fields.into_array::<2>();
         PrivateName {
             span: to_span(span),
@@ -41,6 +41,6 @@ impl Opened<class::PrivateName> for PrivateName {
     {
         let PrivateName { span, name } = self;
         let fields = collect(alloc, [from_span(span), from_text(name)])?;
-        Ok(Tree::<class::PrivateName>::of_fields(Kind::PrivateName, fields).into_node())
+        Ok(Tree::<class::PrivateName>::from_fields(Kind::PrivateName, fields).into_node())
     }
 }

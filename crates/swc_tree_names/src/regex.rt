@@ -25,11 +25,11 @@ impl Opened<class::Regex> for Regex {
     ghost node = { regex_node };
 
     #[tactic(auto, using(swc_tree_node::proofs::Fit::lengths))]
-    fn of_node(closed: Node) -> Regex
+    fn from_node(closed: Node) -> Regex
         requires { Fits closed (One (Of class.Regex)) }
         ensures { regex_node result ≡ closed }
     {
-        let fields = Tree::<class::Regex>::of(closed).into_fields(Kind::Regex);
+        let fields = Tree::<class::Regex>::from_node(closed).into_fields(Kind::Regex);
         let [span, exp, flags] = fields.into_array::<3>();
         Regex {
             span: to_span(span),
@@ -43,6 +43,6 @@ impl Opened<class::Regex> for Regex {
     {
         let Regex { span, exp, flags } = self;
         let fields = collect(alloc, [from_span(span), from_text(exp), from_text(flags)])?;
-        Ok(Tree::<class::Regex>::of_fields(Kind::Regex, fields).into_node())
+        Ok(Tree::<class::Regex>::from_fields(Kind::Regex, fields).into_node())
     }
 }

@@ -8,7 +8,7 @@ ghost use Rattle.swc_tree_names.specs.Nodes.{str_node};
 
 use std::alloc::{AllocError, Global};
 use swc_tree_handle::{
-    Opened, Tree, class, collect, from_maybe_text, from_span, from_text, to_maybe_text, to_span,
+    Opened, Tree, class, collect, from_optional_text, from_span, from_text, to_optional_text, to_span,
     to_text,
 };
 use swc_tree_marks::{Atom, Span};
@@ -28,16 +28,16 @@ impl Opened<class::Str> for Str {
     ghost node = { str_node };
 
     #[tactic(auto, using(swc_tree_node::proofs::Fit::lengths))]
-    fn of_node(closed: Node) -> Str
+    fn from_node(closed: Node) -> Str
         requires { Fits closed (One (Of class.Str)) }
         ensures { str_node result ≡ closed }
     {
-        let fields = Tree::<class::Str>::of(closed).into_fields(Kind::Str);
+        let fields = Tree::<class::Str>::from_node(closed).into_fields(Kind::Str);
         let [span, value, raw] = fields.into_array::<3>();
         Str {
             span: to_span(span),
             value: to_text(value),
-            raw: to_maybe_text(raw),
+            raw: to_optional_text(raw),
         }
     }
 
@@ -47,8 +47,8 @@ impl Opened<class::Str> for Str {
         let Str { span, value, raw } = self;
         let fields = collect(
             alloc,
-            [from_span(span), from_text(value), from_maybe_text(raw)],
+            [from_span(span), from_text(value), from_optional_text(raw)],
         )?;
-        Ok(Tree::<class::Str>::of_fields(Kind::Str, fields).into_node())
+        Ok(Tree::<class::Str>::from_fields(Kind::Str, fields).into_node())
     }
 }

@@ -23,11 +23,11 @@ impl Opened<class::Super> for Super {
     ghost node = { super_node };
 
     #[tactic(auto, using(swc_tree_node::proofs::Fit::lengths))]
-    fn of_node(closed: Node) -> Super
+    fn from_node(closed: Node) -> Super
         requires { Fits closed (One (Of class.Super)) }
         ensures { super_node result ≡ closed }
     {
-        let fields = Tree::<class::Super>::of(closed).into_fields(Kind::Super);
+        let fields = Tree::<class::Super>::from_node(closed).into_fields(Kind::Super);
         let [span] = fields.into_array::<1>();
         Super {
             span: to_span(span),
@@ -39,6 +39,6 @@ impl Opened<class::Super> for Super {
     {
         let Super { span } = self;
         let fields = collect(alloc, [from_span(span)])?;
-        Ok(Tree::<class::Super>::of_fields(Kind::Super, fields).into_node())
+        Ok(Tree::<class::Super>::from_fields(Kind::Super, fields).into_node())
     }
 }

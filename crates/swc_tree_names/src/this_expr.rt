@@ -23,11 +23,11 @@ impl Opened<class::ThisExpr> for ThisExpr {
     ghost node = { this_expr_node };
 
     #[tactic(auto, using(swc_tree_node::proofs::Fit::lengths))]
-    fn of_node(closed: Node) -> ThisExpr
+    fn from_node(closed: Node) -> ThisExpr
         requires { Fits closed (One (Of class.ThisExpr)) }
         ensures { this_expr_node result ≡ closed }
     {
-        let fields = Tree::<class::ThisExpr>::of(closed).into_fields(Kind::ThisExpr);
+        let fields = Tree::<class::ThisExpr>::from_node(closed).into_fields(Kind::ThisExpr);
         let [span] = fields.into_array::<1>();
         ThisExpr {
             span: to_span(span),
@@ -39,6 +39,6 @@ impl Opened<class::ThisExpr> for ThisExpr {
     {
         let ThisExpr { span } = self;
         let fields = collect(alloc, [from_span(span)])?;
-        Ok(Tree::<class::ThisExpr>::of_fields(Kind::ThisExpr, fields).into_node())
+        Ok(Tree::<class::ThisExpr>::from_fields(Kind::ThisExpr, fields).into_node())
     }
 }

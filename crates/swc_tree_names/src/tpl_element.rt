@@ -8,8 +8,8 @@ ghost use Rattle.swc_tree_names.specs.Nodes.{tpl_element_node};
 
 use std::alloc::{AllocError, Global};
 use swc_tree_handle::{
-    Opened, Tree, class, collect, from_flag, from_maybe_text, from_span, from_text, to_flag,
-    to_maybe_text, to_span, to_text,
+    Opened, Tree, class, collect, from_flag, from_optional_text, from_span, from_text, to_flag,
+    to_optional_text, to_span, to_text,
 };
 use swc_tree_marks::{Atom, Span};
 use swc_tree_node::{Kind, Node};
@@ -29,16 +29,16 @@ impl Opened<class::TplElement> for TplElement {
     ghost node = { tpl_element_node };
 
     #[tactic(auto, using(swc_tree_node::proofs::Fit::lengths))]
-    fn of_node(closed: Node) -> TplElement
+    fn from_node(closed: Node) -> TplElement
         requires { Fits closed (One (Of class.TplElement)) }
         ensures { tpl_element_node result ≡ closed }
     {
-        let fields = Tree::<class::TplElement>::of(closed).into_fields(Kind::TplElement);
+        let fields = Tree::<class::TplElement>::from_node(closed).into_fields(Kind::TplElement);
         let [span, tail, cooked, raw] = fields.into_array::<4>();
         TplElement {
             span: to_span(span),
             tail: to_flag(tail),
-            cooked: to_maybe_text(cooked),
+            cooked: to_optional_text(cooked),
             raw: to_text(raw),
         }
     }
@@ -57,10 +57,10 @@ impl Opened<class::TplElement> for TplElement {
             [
                 from_span(span),
                 from_flag(tail),
-                from_maybe_text(cooked),
+                from_optional_text(cooked),
                 from_text(raw),
             ],
         )?;
-        Ok(Tree::<class::TplElement>::of_fields(Kind::TplElement, fields).into_node())
+        Ok(Tree::<class::TplElement>::from_fields(Kind::TplElement, fields).into_node())
     }
 }

@@ -15,7 +15,7 @@ use Rattle.swc_tree_patterns.specs.declared.pat.Pat.{Pat}
 use Rattle.swc_tree_patterns.specs.declared.pat.Pat.TheVariants as pat
 use Rattle.swc_tree_patterns.specs.declared.object_pat_prop.ObjectPatProp.{ObjectPatProp}
 use Rattle.swc_tree_patterns.specs.declared.object_pat_prop.ObjectPatProp.TheVariants as object_pat_prop
-use Rattle.swc_tree_handle.specs.Handles.{maybe_node}
+use Rattle.swc_tree_handle.specs.Handles.{optional_node}
 use Rattle.swc_tree_names.specs.Nodes.{binding_ident_node}
 
 abbrev pub array_pat_node : ArrayPat → Node
@@ -34,7 +34,7 @@ abbrev pub key_value_pat_prop_node : KeyValuePatProp → Node
 key_value_pat_prop_node x = node.Tree kind.KeyValuePatProp (x.key ∷ x.value ∷ [])
 
 abbrev pub assign_pat_prop_node : AssignPatProp → Node
-assign_pat_prop_node x = node.Tree kind.AssignPatProp (node.Span x.span ∷ binding_ident_node x.key ∷ maybe_node x.value ∷ [])
+assign_pat_prop_node x = node.Tree kind.AssignPatProp (node.Span x.span ∷ binding_ident_node x.key ∷ optional_node x.value ∷ [])
 
 abbrev pub of_pat : Pat → Node
 of_pat (pat.Ident x) = binding_ident_node x

@@ -24,15 +24,15 @@ impl Opened<class::ArrayPat> for ArrayPat {
     ghost node = { array_pat_node };
 
     #[tactic(auto, using(swc_tree_node::proofs::Fit::lengths))]
-    fn of_node(closed: Node) -> ArrayPat
+    fn from_node(closed: Node) -> ArrayPat
         requires { Fits closed (One (Of class.ArrayPat)) }
         ensures { array_pat_node result ≡ closed }
     {
-        let fields = Tree::<class::ArrayPat>::of(closed).into_fields(Kind::ArrayPat);
+        let fields = Tree::<class::ArrayPat>::from_node(closed).into_fields(Kind::ArrayPat);
         let [span, elems] = fields.into_array::<2>();
         ArrayPat {
             span: to_span(span),
-            elems: Holes::of(elems),
+            elems: Holes::from_node(elems),
         }
     }
 
@@ -41,6 +41,6 @@ impl Opened<class::ArrayPat> for ArrayPat {
     {
         let ArrayPat { span, elems } = self;
         let fields = collect(alloc, [from_span(span), elems.into_node()])?;
-        Ok(Tree::<class::ArrayPat>::of_fields(Kind::ArrayPat, fields).into_node())
+        Ok(Tree::<class::ArrayPat>::from_fields(Kind::ArrayPat, fields).into_node())
     }
 }

@@ -25,16 +25,16 @@ impl Opened<class::AssignPat> for AssignPat {
     ghost node = { assign_pat_node };
 
     #[tactic(auto, using(swc_tree_node::proofs::Fit::lengths))]
-    fn of_node(closed: Node) -> AssignPat
+    fn from_node(closed: Node) -> AssignPat
         requires { Fits closed (One (Of class.AssignPat)) }
         ensures { assign_pat_node result ≡ closed }
     {
-        let fields = Tree::<class::AssignPat>::of(closed).into_fields(Kind::AssignPat);
+        let fields = Tree::<class::AssignPat>::from_node(closed).into_fields(Kind::AssignPat);
         let [span, left, right] = fields.into_array::<3>();
         AssignPat {
             span: to_span(span),
-            left: Tree::of(left),
-            right: Tree::of(right),
+            left: Tree::from_node(left),
+            right: Tree::from_node(right),
         }
     }
 
@@ -46,6 +46,6 @@ impl Opened<class::AssignPat> for AssignPat {
             alloc,
             [from_span(span), left.into_node(), right.into_node()],
         )?;
-        Ok(Tree::<class::AssignPat>::of_fields(Kind::AssignPat, fields).into_node())
+        Ok(Tree::<class::AssignPat>::from_fields(Kind::AssignPat, fields).into_node())
     }
 }

@@ -26,16 +26,16 @@ impl Opened<class::AssignPatProp> for AssignPatProp {
     ghost node = { assign_pat_prop_node };
 
     #[tactic(auto, using(swc_tree_node::proofs::Fit::lengths))]
-    fn of_node(closed: Node) -> AssignPatProp
+    fn from_node(closed: Node) -> AssignPatProp
         requires { Fits closed (One (Of class.AssignPatProp)) }
         ensures { assign_pat_prop_node result ≡ closed }
     {
-        let fields = Tree::<class::AssignPatProp>::of(closed).into_fields(Kind::AssignPatProp);
+        let fields = Tree::<class::AssignPatProp>::from_node(closed).into_fields(Kind::AssignPatProp);
         let [span, key, value] = fields.into_array::<3>();
         AssignPatProp {
             span: to_span(span),
-            key: BindingIdent::of_node(key),
-            value: Tree::of_maybe(value),
+            key: BindingIdent::from_node(key),
+            value: Tree::from_optional(value),
         }
     }
 
@@ -48,9 +48,9 @@ impl Opened<class::AssignPatProp> for AssignPatProp {
             [
                 from_span(span),
                 key.into_node(alloc)?,
-                Tree::into_maybe(value),
+                Tree::into_optional(value),
             ],
         )?;
-        Ok(Tree::<class::AssignPatProp>::of_fields(Kind::AssignPatProp, fields).into_node())
+        Ok(Tree::<class::AssignPatProp>::from_fields(Kind::AssignPatProp, fields).into_node())
     }
 }

@@ -23,15 +23,15 @@ impl Opened<class::KeyValuePatProp> for KeyValuePatProp {
     ghost node = { key_value_pat_prop_node };
 
     #[tactic(auto, using(swc_tree_node::proofs::Fit::lengths))]
-    fn of_node(closed: Node) -> KeyValuePatProp
+    fn from_node(closed: Node) -> KeyValuePatProp
         requires { Fits closed (One (Of class.KeyValuePatProp)) }
         ensures { key_value_pat_prop_node result ≡ closed }
     {
-        let fields = Tree::<class::KeyValuePatProp>::of(closed).into_fields(Kind::KeyValuePatProp);
+        let fields = Tree::<class::KeyValuePatProp>::from_node(closed).into_fields(Kind::KeyValuePatProp);
         let [key, value] = fields.into_array::<2>();
         KeyValuePatProp {
-            key: Tree::of(key),
-            value: Tree::of(value),
+            key: Tree::from_node(key),
+            value: Tree::from_node(value),
         }
     }
 
@@ -40,6 +40,6 @@ impl Opened<class::KeyValuePatProp> for KeyValuePatProp {
     {
         let KeyValuePatProp { key, value } = self;
         let fields = collect(alloc, [key.into_node(), value.into_node()])?;
-        Ok(Tree::<class::KeyValuePatProp>::of_fields(Kind::KeyValuePatProp, fields).into_node())
+        Ok(Tree::<class::KeyValuePatProp>::from_fields(Kind::KeyValuePatProp, fields).into_node())
     }
 }

@@ -24,15 +24,15 @@ impl Opened<class::ObjectPat> for ObjectPat {
     ghost node = { object_pat_node };
 
     #[tactic(auto, using(swc_tree_node::proofs::Fit::lengths))]
-    fn of_node(closed: Node) -> ObjectPat
+    fn from_node(closed: Node) -> ObjectPat
         requires { Fits closed (One (Of class.ObjectPat)) }
         ensures { object_pat_node result ≡ closed }
     {
-        let fields = Tree::<class::ObjectPat>::of(closed).into_fields(Kind::ObjectPat);
+        let fields = Tree::<class::ObjectPat>::from_node(closed).into_fields(Kind::ObjectPat);
         let [span, props] = fields.into_array::<2>();
         ObjectPat {
             span: to_span(span),
-            props: Trees::of(props),
+            props: Trees::from_node(props),
         }
     }
 
@@ -41,6 +41,6 @@ impl Opened<class::ObjectPat> for ObjectPat {
     {
         let ObjectPat { span, props } = self;
         let fields = collect(alloc, [from_span(span), props.into_node()])?;
-        Ok(Tree::<class::ObjectPat>::of_fields(Kind::ObjectPat, fields).into_node())
+        Ok(Tree::<class::ObjectPat>::from_fields(Kind::ObjectPat, fields).into_node())
     }
 }

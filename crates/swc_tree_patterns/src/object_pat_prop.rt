@@ -26,11 +26,11 @@ impl Opened<class::ObjectPatProp> for ObjectPatProp {
 
     ghost node = { of_object_pat_prop };
 
-    fn of_node(closed: Node) -> ObjectPatProp
+    fn from_node(closed: Node) -> ObjectPatProp
         requires { Fits closed (One (Of class.ObjectPatProp)) }
         ensures { of_object_pat_prop result ≡ closed }
     {
-        let tree = Tree::<class::ObjectPatProp>::of(closed);
+        let tree = Tree::<class::ObjectPatProp>::from_node(closed);
         match tree.kind() {
             Kind::KeyValuePatProp => ObjectPatProp::KeyValue(
                 tree.narrow::<class::KeyValuePatProp>().open(),

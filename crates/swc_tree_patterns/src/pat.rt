@@ -31,11 +31,11 @@ impl Opened<class::Pat> for Pat {
 
     ghost node = { of_pat };
 
-    fn of_node(closed: Node) -> Pat
+    fn from_node(closed: Node) -> Pat
         requires { Fits closed (One (Of class.Pat)) }
         ensures { of_pat result ≡ closed }
     {
-        let tree = Tree::<class::Pat>::of(closed);
+        let tree = Tree::<class::Pat>::from_node(closed);
         match tree.kind() {
             Kind::BindingIdent => Pat::Ident(tree.narrow::<class::BindingIdent>().open()),
             Kind::ArrayPat => Pat::Array(tree.narrow::<class::ArrayPat>().open()),

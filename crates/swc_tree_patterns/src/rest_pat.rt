@@ -24,15 +24,15 @@ impl Opened<class::RestPat> for RestPat {
     ghost node = { rest_pat_node };
 
     #[tactic(auto, using(swc_tree_node::proofs::Fit::lengths))]
-    fn of_node(closed: Node) -> RestPat
+    fn from_node(closed: Node) -> RestPat
         requires { Fits closed (One (Of class.RestPat)) }
         ensures { rest_pat_node result ≡ closed }
     {
-        let fields = Tree::<class::RestPat>::of(closed).into_fields(Kind::RestPat);
+        let fields = Tree::<class::RestPat>::from_node(closed).into_fields(Kind::RestPat);
         let [span, arg] = fields.into_array::<2>();
         RestPat {
             span: to_span(span),
-            arg: Tree::of(arg),
+            arg: Tree::from_node(arg),
         }
     }
 
@@ -41,6 +41,6 @@ impl Opened<class::RestPat> for RestPat {
     {
         let RestPat { span, arg } = self;
         let fields = collect(alloc, [from_span(span), arg.into_node()])?;
-        Ok(Tree::<class::RestPat>::of_fields(Kind::RestPat, fields).into_node())
+        Ok(Tree::<class::RestPat>::from_fields(Kind::RestPat, fields).into_node())
     }
 }

@@ -40,7 +40,7 @@ use Rattle.swc_tree_statements.specs.declared.var_decl_or_expr.VarDeclOrExpr.{Va
 use Rattle.swc_tree_statements.specs.declared.var_decl_or_expr.VarDeclOrExpr.TheVariants as var_decl_or_expr
 use Rattle.swc_tree_statements.specs.declared.for_head.ForHead.{ForHead}
 use Rattle.swc_tree_statements.specs.declared.for_head.ForHead.TheVariants as for_head
-use Rattle.swc_tree_handle.specs.Handles.{ident_node, maybe_node}
+use Rattle.swc_tree_handle.specs.Handles.{ident_node, optional_node}
 use Rattle.swc_tree_names.specs.Nodes.{break_stmt_node, continue_stmt_node, debugger_stmt_node, empty_stmt_node}
 use Rattle.swc_tree_patterns.specs.Nodes.{of_pat}
 
@@ -62,7 +62,7 @@ abbrev pub using_decl_node : UsingDecl → Node
 using_decl_node x = node.Tree kind.UsingDecl (node.Span x.span ∷ node.Flag x.is_await ∷ node.List x.decls ∷ [])
 
 abbrev pub var_declarator_node : VarDeclarator → Node
-var_declarator_node x = node.Tree kind.VarDeclarator (node.Span x.span ∷ x.name ∷ maybe_node x.init ∷ [])
+var_declarator_node x = node.Tree kind.VarDeclarator (node.Span x.span ∷ x.name ∷ optional_node x.init ∷ [])
 
 abbrev pub block_stmt_node : BlockStmt → Node
 block_stmt_node x = node.Tree kind.BlockStmt (node.Span x.span ∷ node.List x.stmts ∷ [])
@@ -74,7 +74,7 @@ abbrev pub with_stmt_node : WithStmt → Node
 with_stmt_node x = node.Tree kind.WithStmt (node.Span x.span ∷ x.obj ∷ x.body ∷ [])
 
 abbrev pub return_stmt_node : ReturnStmt → Node
-return_stmt_node x = node.Tree kind.ReturnStmt (node.Span x.span ∷ maybe_node x.arg ∷ [])
+return_stmt_node x = node.Tree kind.ReturnStmt (node.Span x.span ∷ optional_node x.arg ∷ [])
 
 abbrev pub throw_stmt_node : ThrowStmt → Node
 throw_stmt_node x = node.Tree kind.ThrowStmt (node.Span x.span ∷ x.arg ∷ [])
@@ -83,19 +83,19 @@ abbrev pub labeled_stmt_node : LabeledStmt → Node
 labeled_stmt_node x = node.Tree kind.LabeledStmt (node.Span x.span ∷ ident_node x.label ∷ x.body ∷ [])
 
 abbrev pub if_stmt_node : IfStmt → Node
-if_stmt_node x = node.Tree kind.IfStmt (node.Span x.span ∷ x.test ∷ x.cons ∷ maybe_node x.alt ∷ [])
+if_stmt_node x = node.Tree kind.IfStmt (node.Span x.span ∷ x.test ∷ x.cons ∷ optional_node x.alt ∷ [])
 
 abbrev pub switch_stmt_node : SwitchStmt → Node
 switch_stmt_node x = node.Tree kind.SwitchStmt (node.Span x.span ∷ x.discriminant ∷ node.List x.cases ∷ [])
 
 abbrev pub switch_case_node : SwitchCase → Node
-switch_case_node x = node.Tree kind.SwitchCase (node.Span x.span ∷ maybe_node x.test ∷ node.List x.cons ∷ [])
+switch_case_node x = node.Tree kind.SwitchCase (node.Span x.span ∷ optional_node x.test ∷ node.List x.cons ∷ [])
 
 abbrev pub try_stmt_node : TryStmt → Node
-try_stmt_node x = node.Tree kind.TryStmt (node.Span x.span ∷ x.block ∷ maybe_node x.handler ∷ maybe_node x.finalizer ∷ [])
+try_stmt_node x = node.Tree kind.TryStmt (node.Span x.span ∷ x.block ∷ optional_node x.handler ∷ optional_node x.finalizer ∷ [])
 
 abbrev pub catch_clause_node : CatchClause → Node
-catch_clause_node x = node.Tree kind.CatchClause (node.Span x.span ∷ maybe_node x.param ∷ x.body ∷ [])
+catch_clause_node x = node.Tree kind.CatchClause (node.Span x.span ∷ optional_node x.param ∷ x.body ∷ [])
 
 abbrev pub while_stmt_node : WhileStmt → Node
 while_stmt_node x = node.Tree kind.WhileStmt (node.Span x.span ∷ x.test ∷ x.body ∷ [])
@@ -104,7 +104,7 @@ abbrev pub do_while_stmt_node : DoWhileStmt → Node
 do_while_stmt_node x = node.Tree kind.DoWhileStmt (node.Span x.span ∷ x.body ∷ x.test ∷ [])
 
 abbrev pub for_stmt_node : ForStmt → Node
-for_stmt_node x = node.Tree kind.ForStmt (node.Span x.span ∷ maybe_node x.init ∷ maybe_node x.test ∷ maybe_node x.update ∷ x.body ∷ [])
+for_stmt_node x = node.Tree kind.ForStmt (node.Span x.span ∷ optional_node x.init ∷ optional_node x.test ∷ optional_node x.update ∷ x.body ∷ [])
 
 abbrev pub for_in_stmt_node : ForInStmt → Node
 for_in_stmt_node x = node.Tree kind.ForInStmt (node.Span x.span ∷ x.left ∷ x.right ∷ x.body ∷ [])

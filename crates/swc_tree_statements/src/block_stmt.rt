@@ -24,15 +24,15 @@ impl Opened<class::BlockStmt> for BlockStmt {
     ghost node = { block_stmt_node };
 
     #[tactic(auto, using(swc_tree_node::proofs::Fit::lengths))]
-    fn of_node(closed: Node) -> BlockStmt
+    fn from_node(closed: Node) -> BlockStmt
         requires { Fits closed (One (Of class.BlockStmt)) }
         ensures { block_stmt_node result ≡ closed }
     {
-        let fields = Tree::<class::BlockStmt>::of(closed).into_fields(Kind::BlockStmt);
+        let fields = Tree::<class::BlockStmt>::from_node(closed).into_fields(Kind::BlockStmt);
         let [span, stmts] = fields.into_array::<2>();
         BlockStmt {
             span: to_span(span),
-            stmts: Trees::of(stmts),
+            stmts: Trees::from_node(stmts),
         }
     }
 
@@ -41,6 +41,6 @@ impl Opened<class::BlockStmt> for BlockStmt {
     {
         let BlockStmt { span, stmts } = self;
         let fields = collect(alloc, [from_span(span), stmts.into_node()])?;
-        Ok(Tree::<class::BlockStmt>::of_fields(Kind::BlockStmt, fields).into_node())
+        Ok(Tree::<class::BlockStmt>::from_fields(Kind::BlockStmt, fields).into_node())
     }
 }

@@ -23,11 +23,11 @@ impl Opened<class::BlockStmtOrExpr> for BlockStmtOrExpr {
 
     ghost node = { of_block_stmt_or_expr };
 
-    fn of_node(closed: Node) -> BlockStmtOrExpr
+    fn from_node(closed: Node) -> BlockStmtOrExpr
         requires { Fits closed (One (Of class.BlockStmtOrExpr)) }
         ensures { of_block_stmt_or_expr result ≡ closed }
     {
-        let tree = Tree::<class::BlockStmtOrExpr>::of(closed);
+        let tree = Tree::<class::BlockStmtOrExpr>::from_node(closed);
         match tree.kind() {
             Kind::BlockStmt => BlockStmtOrExpr::BlockStmt(tree.narrow::<class::BlockStmt>().open()),
             _ => BlockStmtOrExpr::Expr(tree.narrow()),

@@ -25,16 +25,16 @@ impl Opened<class::CatchClause> for CatchClause {
     ghost node = { catch_clause_node };
 
     #[tactic(auto, using(swc_tree_node::proofs::Fit::lengths))]
-    fn of_node(closed: Node) -> CatchClause
+    fn from_node(closed: Node) -> CatchClause
         requires { Fits closed (One (Of class.CatchClause)) }
         ensures { catch_clause_node result ≡ closed }
     {
-        let fields = Tree::<class::CatchClause>::of(closed).into_fields(Kind::CatchClause);
+        let fields = Tree::<class::CatchClause>::from_node(closed).into_fields(Kind::CatchClause);
         let [span, param, body] = fields.into_array::<3>();
         CatchClause {
             span: to_span(span),
-            param: Tree::of_maybe(param),
-            body: Tree::of(body),
+            param: Tree::from_optional(param),
+            body: Tree::from_node(body),
         }
     }
 
@@ -44,8 +44,8 @@ impl Opened<class::CatchClause> for CatchClause {
         let CatchClause { span, param, body } = self;
         let fields = collect(
             alloc,
-            [from_span(span), Tree::into_maybe(param), body.into_node()],
+            [from_span(span), Tree::into_optional(param), body.into_node()],
         )?;
-        Ok(Tree::<class::CatchClause>::of_fields(Kind::CatchClause, fields).into_node())
+        Ok(Tree::<class::CatchClause>::from_fields(Kind::CatchClause, fields).into_node())
     }
 }

@@ -24,15 +24,15 @@ impl Opened<class::ClassDecl> for ClassDecl {
     ghost node = { class_decl_node };
 
     #[tactic(auto, using(swc_tree_node::proofs::Fit::lengths))]
-    fn of_node(closed: Node) -> ClassDecl
+    fn from_node(closed: Node) -> ClassDecl
         requires { Fits closed (One (Of class.ClassDecl)) }
         ensures { class_decl_node result ≡ closed }
     {
-        let fields = Tree::<class::ClassDecl>::of(closed).into_fields(Kind::ClassDecl);
+        let fields = Tree::<class::ClassDecl>::from_node(closed).into_fields(Kind::ClassDecl);
         let [ident, class_] = fields.into_array::<2>();
         ClassDecl {
-            ident: Ident::of_node(ident),
-            class_: Tree::of(class_),
+            ident: Ident::from_node(ident),
+            class_: Tree::from_node(class_),
         }
     }
 
@@ -41,6 +41,6 @@ impl Opened<class::ClassDecl> for ClassDecl {
     {
         let ClassDecl { ident, class_ } = self;
         let fields = collect(alloc, [ident.into_node(alloc)?, class_.into_node()])?;
-        Ok(Tree::<class::ClassDecl>::of_fields(Kind::ClassDecl, fields).into_node())
+        Ok(Tree::<class::ClassDecl>::from_fields(Kind::ClassDecl, fields).into_node())
     }
 }

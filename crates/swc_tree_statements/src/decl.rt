@@ -28,11 +28,11 @@ impl Opened<class::Decl> for Decl {
 
     ghost node = { of_decl };
 
-    fn of_node(closed: Node) -> Decl
+    fn from_node(closed: Node) -> Decl
         requires { Fits closed (One (Of class.Decl)) }
         ensures { of_decl result ≡ closed }
     {
-        let tree = Tree::<class::Decl>::of(closed);
+        let tree = Tree::<class::Decl>::from_node(closed);
         match tree.kind() {
             Kind::ClassDecl => Decl::Class(tree.narrow::<class::ClassDecl>().open()),
             Kind::FnDecl => Decl::Fn(tree.narrow::<class::FnDecl>().open()),

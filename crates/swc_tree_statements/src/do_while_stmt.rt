@@ -25,16 +25,16 @@ impl Opened<class::DoWhileStmt> for DoWhileStmt {
     ghost node = { do_while_stmt_node };
 
     #[tactic(auto, using(swc_tree_node::proofs::Fit::lengths))]
-    fn of_node(closed: Node) -> DoWhileStmt
+    fn from_node(closed: Node) -> DoWhileStmt
         requires { Fits closed (One (Of class.DoWhileStmt)) }
         ensures { do_while_stmt_node result ≡ closed }
     {
-        let fields = Tree::<class::DoWhileStmt>::of(closed).into_fields(Kind::DoWhileStmt);
+        let fields = Tree::<class::DoWhileStmt>::from_node(closed).into_fields(Kind::DoWhileStmt);
         let [span, body, test] = fields.into_array::<3>();
         DoWhileStmt {
             span: to_span(span),
-            body: Tree::of(body),
-            test: Tree::of(test),
+            body: Tree::from_node(body),
+            test: Tree::from_node(test),
         }
     }
 
@@ -43,6 +43,6 @@ impl Opened<class::DoWhileStmt> for DoWhileStmt {
     {
         let DoWhileStmt { span, body, test } = self;
         let fields = collect(alloc, [from_span(span), body.into_node(), test.into_node()])?;
-        Ok(Tree::<class::DoWhileStmt>::of_fields(Kind::DoWhileStmt, fields).into_node())
+        Ok(Tree::<class::DoWhileStmt>::from_fields(Kind::DoWhileStmt, fields).into_node())
     }
 }

@@ -24,15 +24,15 @@ impl Opened<class::ExprStmt> for ExprStmt {
     ghost node = { expr_stmt_node };
 
     #[tactic(auto, using(swc_tree_node::proofs::Fit::lengths))]
-    fn of_node(closed: Node) -> ExprStmt
+    fn from_node(closed: Node) -> ExprStmt
         requires { Fits closed (One (Of class.ExprStmt)) }
         ensures { expr_stmt_node result ≡ closed }
     {
-        let fields = Tree::<class::ExprStmt>::of(closed).into_fields(Kind::ExprStmt);
+        let fields = Tree::<class::ExprStmt>::from_node(closed).into_fields(Kind::ExprStmt);
         let [span, expr] = fields.into_array::<2>();
         ExprStmt {
             span: to_span(span),
-            expr: Tree::of(expr),
+            expr: Tree::from_node(expr),
         }
     }
 
@@ -41,6 +41,6 @@ impl Opened<class::ExprStmt> for ExprStmt {
     {
         let ExprStmt { span, expr } = self;
         let fields = collect(alloc, [from_span(span), expr.into_node()])?;
-        Ok(Tree::<class::ExprStmt>::of_fields(Kind::ExprStmt, fields).into_node())
+        Ok(Tree::<class::ExprStmt>::from_fields(Kind::ExprStmt, fields).into_node())
     }
 }

@@ -24,15 +24,15 @@ impl Opened<class::FnDecl> for FnDecl {
     ghost node = { fn_decl_node };
 
     #[tactic(auto, using(swc_tree_node::proofs::Fit::lengths))]
-    fn of_node(closed: Node) -> FnDecl
+    fn from_node(closed: Node) -> FnDecl
         requires { Fits closed (One (Of class.FnDecl)) }
         ensures { fn_decl_node result ≡ closed }
     {
-        let fields = Tree::<class::FnDecl>::of(closed).into_fields(Kind::FnDecl);
+        let fields = Tree::<class::FnDecl>::from_node(closed).into_fields(Kind::FnDecl);
         let [ident, function] = fields.into_array::<2>();
         FnDecl {
-            ident: Ident::of_node(ident),
-            function: Tree::of(function),
+            ident: Ident::from_node(ident),
+            function: Tree::from_node(function),
         }
     }
 
@@ -41,6 +41,6 @@ impl Opened<class::FnDecl> for FnDecl {
     {
         let FnDecl { ident, function } = self;
         let fields = collect(alloc, [ident.into_node(alloc)?, function.into_node()])?;
-        Ok(Tree::<class::FnDecl>::of_fields(Kind::FnDecl, fields).into_node())
+        Ok(Tree::<class::FnDecl>::from_fields(Kind::FnDecl, fields).into_node())
     }
 }

@@ -26,11 +26,11 @@ impl Opened<class::ForHead> for ForHead {
 
     ghost node = { of_for_head };
 
-    fn of_node(closed: Node) -> ForHead
+    fn from_node(closed: Node) -> ForHead
         requires { Fits closed (One (Of class.ForHead)) }
         ensures { of_for_head result ≡ closed }
     {
-        let tree = Tree::<class::ForHead>::of(closed);
+        let tree = Tree::<class::ForHead>::from_node(closed);
         match tree.kind() {
             Kind::VarDecl => ForHead::VarDecl(tree.narrow::<class::VarDecl>().open()),
             Kind::UsingDecl => ForHead::UsingDecl(tree.narrow::<class::UsingDecl>().open()),

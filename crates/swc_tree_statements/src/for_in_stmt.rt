@@ -26,17 +26,17 @@ impl Opened<class::ForInStmt> for ForInStmt {
     ghost node = { for_in_stmt_node };
 
     #[tactic(auto, using(swc_tree_node::proofs::Fit::lengths))]
-    fn of_node(closed: Node) -> ForInStmt
+    fn from_node(closed: Node) -> ForInStmt
         requires { Fits closed (One (Of class.ForInStmt)) }
         ensures { for_in_stmt_node result ≡ closed }
     {
-        let fields = Tree::<class::ForInStmt>::of(closed).into_fields(Kind::ForInStmt);
+        let fields = Tree::<class::ForInStmt>::from_node(closed).into_fields(Kind::ForInStmt);
         let [span, left, right, body] = fields.into_array::<4>();
         ForInStmt {
             span: to_span(span),
-            left: Tree::of(left),
-            right: Tree::of(right),
-            body: Tree::of(body),
+            left: Tree::from_node(left),
+            right: Tree::from_node(right),
+            body: Tree::from_node(body),
         }
     }
 
@@ -58,6 +58,6 @@ impl Opened<class::ForInStmt> for ForInStmt {
                 body.into_node(),
             ],
         )?;
-        Ok(Tree::<class::ForInStmt>::of_fields(Kind::ForInStmt, fields).into_node())
+        Ok(Tree::<class::ForInStmt>::from_fields(Kind::ForInStmt, fields).into_node())
     }
 }

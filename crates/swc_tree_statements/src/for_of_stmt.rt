@@ -27,18 +27,18 @@ impl Opened<class::ForOfStmt> for ForOfStmt {
     ghost node = { for_of_stmt_node };
 
     #[tactic(auto, using(swc_tree_node::proofs::Fit::lengths))]
-    fn of_node(closed: Node) -> ForOfStmt
+    fn from_node(closed: Node) -> ForOfStmt
         requires { Fits closed (One (Of class.ForOfStmt)) }
         ensures { for_of_stmt_node result ≡ closed }
     {
-        let fields = Tree::<class::ForOfStmt>::of(closed).into_fields(Kind::ForOfStmt);
+        let fields = Tree::<class::ForOfStmt>::from_node(closed).into_fields(Kind::ForOfStmt);
         let [span, is_await, left, right, body] = fields.into_array::<5>();
         ForOfStmt {
             span: to_span(span),
             is_await: to_flag(is_await),
-            left: Tree::of(left),
-            right: Tree::of(right),
-            body: Tree::of(body),
+            left: Tree::from_node(left),
+            right: Tree::from_node(right),
+            body: Tree::from_node(body),
         }
     }
 
@@ -62,6 +62,6 @@ impl Opened<class::ForOfStmt> for ForOfStmt {
                 body.into_node(),
             ],
         )?;
-        Ok(Tree::<class::ForOfStmt>::of_fields(Kind::ForOfStmt, fields).into_node())
+        Ok(Tree::<class::ForOfStmt>::from_fields(Kind::ForOfStmt, fields).into_node())
     }
 }

@@ -27,18 +27,18 @@ impl Opened<class::ForStmt> for ForStmt {
     ghost node = { for_stmt_node };
 
     #[tactic(auto, using(swc_tree_node::proofs::Fit::lengths))]
-    fn of_node(closed: Node) -> ForStmt
+    fn from_node(closed: Node) -> ForStmt
         requires { Fits closed (One (Of class.ForStmt)) }
         ensures { for_stmt_node result ≡ closed }
     {
-        let fields = Tree::<class::ForStmt>::of(closed).into_fields(Kind::ForStmt);
+        let fields = Tree::<class::ForStmt>::from_node(closed).into_fields(Kind::ForStmt);
         let [span, init, test, update, body] = fields.into_array::<5>();
         ForStmt {
             span: to_span(span),
-            init: Tree::of_maybe(init),
-            test: Tree::of_maybe(test),
-            update: Tree::of_maybe(update),
-            body: Tree::of(body),
+            init: Tree::from_optional(init),
+            test: Tree::from_optional(test),
+            update: Tree::from_optional(update),
+            body: Tree::from_node(body),
         }
     }
 
@@ -56,12 +56,12 @@ impl Opened<class::ForStmt> for ForStmt {
             alloc,
             [
                 from_span(span),
-                Tree::into_maybe(init),
-                Tree::into_maybe(test),
-                Tree::into_maybe(update),
+                Tree::into_optional(init),
+                Tree::into_optional(test),
+                Tree::into_optional(update),
                 body.into_node(),
             ],
         )?;
-        Ok(Tree::<class::ForStmt>::of_fields(Kind::ForStmt, fields).into_node())
+        Ok(Tree::<class::ForStmt>::from_fields(Kind::ForStmt, fields).into_node())
     }
 }

@@ -26,17 +26,17 @@ impl Opened<class::IfStmt> for IfStmt {
     ghost node = { if_stmt_node };
 
     #[tactic(auto, using(swc_tree_node::proofs::Fit::lengths))]
-    fn of_node(closed: Node) -> IfStmt
+    fn from_node(closed: Node) -> IfStmt
         requires { Fits closed (One (Of class.IfStmt)) }
         ensures { if_stmt_node result ≡ closed }
     {
-        let fields = Tree::<class::IfStmt>::of(closed).into_fields(Kind::IfStmt);
+        let fields = Tree::<class::IfStmt>::from_node(closed).into_fields(Kind::IfStmt);
         let [span, test, cons, alt] = fields.into_array::<4>();
         IfStmt {
             span: to_span(span),
-            test: Tree::of(test),
-            cons: Tree::of(cons),
-            alt: Tree::of_maybe(alt),
+            test: Tree::from_node(test),
+            cons: Tree::from_node(cons),
+            alt: Tree::from_optional(alt),
         }
     }
 
@@ -55,9 +55,9 @@ impl Opened<class::IfStmt> for IfStmt {
                 from_span(span),
                 test.into_node(),
                 cons.into_node(),
-                Tree::into_maybe(alt),
+                Tree::into_optional(alt),
             ],
         )?;
-        Ok(Tree::<class::IfStmt>::of_fields(Kind::IfStmt, fields).into_node())
+        Ok(Tree::<class::IfStmt>::from_fields(Kind::IfStmt, fields).into_node())
     }
 }

@@ -25,16 +25,16 @@ impl Opened<class::LabeledStmt> for LabeledStmt {
     ghost node = { labeled_stmt_node };
 
     #[tactic(auto, using(swc_tree_node::proofs::Fit::lengths))]
-    fn of_node(closed: Node) -> LabeledStmt
+    fn from_node(closed: Node) -> LabeledStmt
         requires { Fits closed (One (Of class.LabeledStmt)) }
         ensures { labeled_stmt_node result ≡ closed }
     {
-        let fields = Tree::<class::LabeledStmt>::of(closed).into_fields(Kind::LabeledStmt);
+        let fields = Tree::<class::LabeledStmt>::from_node(closed).into_fields(Kind::LabeledStmt);
         let [span, label, body] = fields.into_array::<3>();
         LabeledStmt {
             span: to_span(span),
-            label: Ident::of_node(label),
-            body: Tree::of(body),
+            label: Ident::from_node(label),
+            body: Tree::from_node(body),
         }
     }
 
@@ -46,6 +46,6 @@ impl Opened<class::LabeledStmt> for LabeledStmt {
             alloc,
             [from_span(span), label.into_node(alloc)?, body.into_node()],
         )?;
-        Ok(Tree::<class::LabeledStmt>::of_fields(Kind::LabeledStmt, fields).into_node())
+        Ok(Tree::<class::LabeledStmt>::from_fields(Kind::LabeledStmt, fields).into_node())
     }
 }

@@ -24,15 +24,15 @@ impl Opened<class::ReturnStmt> for ReturnStmt {
     ghost node = { return_stmt_node };
 
     #[tactic(auto, using(swc_tree_node::proofs::Fit::lengths))]
-    fn of_node(closed: Node) -> ReturnStmt
+    fn from_node(closed: Node) -> ReturnStmt
         requires { Fits closed (One (Of class.ReturnStmt)) }
         ensures { return_stmt_node result ≡ closed }
     {
-        let fields = Tree::<class::ReturnStmt>::of(closed).into_fields(Kind::ReturnStmt);
+        let fields = Tree::<class::ReturnStmt>::from_node(closed).into_fields(Kind::ReturnStmt);
         let [span, arg] = fields.into_array::<2>();
         ReturnStmt {
             span: to_span(span),
-            arg: Tree::of_maybe(arg),
+            arg: Tree::from_optional(arg),
         }
     }
 
@@ -40,7 +40,7 @@ impl Opened<class::ReturnStmt> for ReturnStmt {
         ensures { IfOk result (λ closed. (closed ≡ return_stmt_node self) × Fits closed (One (Of class.ReturnStmt))) }
     {
         let ReturnStmt { span, arg } = self;
-        let fields = collect(alloc, [from_span(span), Tree::into_maybe(arg)])?;
-        Ok(Tree::<class::ReturnStmt>::of_fields(Kind::ReturnStmt, fields).into_node())
+        let fields = collect(alloc, [from_span(span), Tree::into_optional(arg)])?;
+        Ok(Tree::<class::ReturnStmt>::from_fields(Kind::ReturnStmt, fields).into_node())
     }
 }

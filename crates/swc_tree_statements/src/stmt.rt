@@ -55,11 +55,11 @@ impl Opened<class::Stmt> for Stmt {
 
     ghost node = { of_stmt };
 
-    fn of_node(closed: Node) -> Stmt
+    fn from_node(closed: Node) -> Stmt
         requires { Fits closed (One (Of class.Stmt)) }
         ensures { of_stmt result ≡ closed }
     {
-        let tree = Tree::<class::Stmt>::of(closed);
+        let tree = Tree::<class::Stmt>::from_node(closed);
         match tree.kind() {
             Kind::BlockStmt => Stmt::Block(tree.narrow::<class::BlockStmt>().open()),
             Kind::EmptyStmt => Stmt::Empty(tree.narrow::<class::EmptyStmt>().open()),

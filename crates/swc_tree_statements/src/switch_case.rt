@@ -25,16 +25,16 @@ impl Opened<class::SwitchCase> for SwitchCase {
     ghost node = { switch_case_node };
 
     #[tactic(auto, using(swc_tree_node::proofs::Fit::lengths))]
-    fn of_node(closed: Node) -> SwitchCase
+    fn from_node(closed: Node) -> SwitchCase
         requires { Fits closed (One (Of class.SwitchCase)) }
         ensures { switch_case_node result ≡ closed }
     {
-        let fields = Tree::<class::SwitchCase>::of(closed).into_fields(Kind::SwitchCase);
+        let fields = Tree::<class::SwitchCase>::from_node(closed).into_fields(Kind::SwitchCase);
         let [span, test, cons] = fields.into_array::<3>();
         SwitchCase {
             span: to_span(span),
-            test: Tree::of_maybe(test),
-            cons: Trees::of(cons),
+            test: Tree::from_optional(test),
+            cons: Trees::from_node(cons),
         }
     }
 
@@ -44,8 +44,8 @@ impl Opened<class::SwitchCase> for SwitchCase {
         let SwitchCase { span, test, cons } = self;
         let fields = collect(
             alloc,
-            [from_span(span), Tree::into_maybe(test), cons.into_node()],
+            [from_span(span), Tree::into_optional(test), cons.into_node()],
         )?;
-        Ok(Tree::<class::SwitchCase>::of_fields(Kind::SwitchCase, fields).into_node())
+        Ok(Tree::<class::SwitchCase>::from_fields(Kind::SwitchCase, fields).into_node())
     }
 }

@@ -25,16 +25,16 @@ impl Opened<class::SwitchStmt> for SwitchStmt {
     ghost node = { switch_stmt_node };
 
     #[tactic(auto, using(swc_tree_node::proofs::Fit::lengths))]
-    fn of_node(closed: Node) -> SwitchStmt
+    fn from_node(closed: Node) -> SwitchStmt
         requires { Fits closed (One (Of class.SwitchStmt)) }
         ensures { switch_stmt_node result ≡ closed }
     {
-        let fields = Tree::<class::SwitchStmt>::of(closed).into_fields(Kind::SwitchStmt);
+        let fields = Tree::<class::SwitchStmt>::from_node(closed).into_fields(Kind::SwitchStmt);
         let [span, discriminant, cases] = fields.into_array::<3>();
         SwitchStmt {
             span: to_span(span),
-            discriminant: Tree::of(discriminant),
-            cases: Trees::of(cases),
+            discriminant: Tree::from_node(discriminant),
+            cases: Trees::from_node(cases),
         }
     }
 
@@ -50,6 +50,6 @@ impl Opened<class::SwitchStmt> for SwitchStmt {
             alloc,
             [from_span(span), discriminant.into_node(), cases.into_node()],
         )?;
-        Ok(Tree::<class::SwitchStmt>::of_fields(Kind::SwitchStmt, fields).into_node())
+        Ok(Tree::<class::SwitchStmt>::from_fields(Kind::SwitchStmt, fields).into_node())
     }
 }

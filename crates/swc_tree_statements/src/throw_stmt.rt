@@ -24,15 +24,15 @@ impl Opened<class::ThrowStmt> for ThrowStmt {
     ghost node = { throw_stmt_node };
 
     #[tactic(auto, using(swc_tree_node::proofs::Fit::lengths))]
-    fn of_node(closed: Node) -> ThrowStmt
+    fn from_node(closed: Node) -> ThrowStmt
         requires { Fits closed (One (Of class.ThrowStmt)) }
         ensures { throw_stmt_node result ≡ closed }
     {
-        let fields = Tree::<class::ThrowStmt>::of(closed).into_fields(Kind::ThrowStmt);
+        let fields = Tree::<class::ThrowStmt>::from_node(closed).into_fields(Kind::ThrowStmt);
         let [span, arg] = fields.into_array::<2>();
         ThrowStmt {
             span: to_span(span),
-            arg: Tree::of(arg),
+            arg: Tree::from_node(arg),
         }
     }
 
@@ -41,6 +41,6 @@ impl Opened<class::ThrowStmt> for ThrowStmt {
     {
         let ThrowStmt { span, arg } = self;
         let fields = collect(alloc, [from_span(span), arg.into_node()])?;
-        Ok(Tree::<class::ThrowStmt>::of_fields(Kind::ThrowStmt, fields).into_node())
+        Ok(Tree::<class::ThrowStmt>::from_fields(Kind::ThrowStmt, fields).into_node())
     }
 }

@@ -26,17 +26,17 @@ impl Opened<class::TryStmt> for TryStmt {
     ghost node = { try_stmt_node };
 
     #[tactic(auto, using(swc_tree_node::proofs::Fit::lengths))]
-    fn of_node(closed: Node) -> TryStmt
+    fn from_node(closed: Node) -> TryStmt
         requires { Fits closed (One (Of class.TryStmt)) }
         ensures { try_stmt_node result ≡ closed }
     {
-        let fields = Tree::<class::TryStmt>::of(closed).into_fields(Kind::TryStmt);
+        let fields = Tree::<class::TryStmt>::from_node(closed).into_fields(Kind::TryStmt);
         let [span, block, handler, finalizer] = fields.into_array::<4>();
         TryStmt {
             span: to_span(span),
-            block: Tree::of(block),
-            handler: Tree::of_maybe(handler),
-            finalizer: Tree::of_maybe(finalizer),
+            block: Tree::from_node(block),
+            handler: Tree::from_optional(handler),
+            finalizer: Tree::from_optional(finalizer),
         }
     }
 
@@ -54,10 +54,10 @@ impl Opened<class::TryStmt> for TryStmt {
             [
                 from_span(span),
                 block.into_node(),
-                Tree::into_maybe(handler),
-                Tree::into_maybe(finalizer),
+                Tree::into_optional(handler),
+                Tree::into_optional(finalizer),
             ],
         )?;
-        Ok(Tree::<class::TryStmt>::of_fields(Kind::TryStmt, fields).into_node())
+        Ok(Tree::<class::TryStmt>::from_fields(Kind::TryStmt, fields).into_node())
     }
 }

@@ -27,16 +27,16 @@ impl Opened<class::UsingDecl> for UsingDecl {
     ghost node = { using_decl_node };
 
     #[tactic(auto, using(swc_tree_node::proofs::Fit::lengths))]
-    fn of_node(closed: Node) -> UsingDecl
+    fn from_node(closed: Node) -> UsingDecl
         requires { Fits closed (One (Of class.UsingDecl)) }
         ensures { using_decl_node result ≡ closed }
     {
-        let fields = Tree::<class::UsingDecl>::of(closed).into_fields(Kind::UsingDecl);
+        let fields = Tree::<class::UsingDecl>::from_node(closed).into_fields(Kind::UsingDecl);
         let [span, is_await, decls] = fields.into_array::<3>();
         UsingDecl {
             span: to_span(span),
             is_await: to_flag(is_await),
-            decls: Trees::of(decls),
+            decls: Trees::from_node(decls),
         }
     }
 
@@ -52,6 +52,6 @@ impl Opened<class::UsingDecl> for UsingDecl {
             alloc,
             [from_span(span), from_flag(is_await), decls.into_node()],
         )?;
-        Ok(Tree::<class::UsingDecl>::of_fields(Kind::UsingDecl, fields).into_node())
+        Ok(Tree::<class::UsingDecl>::from_fields(Kind::UsingDecl, fields).into_node())
     }
 }

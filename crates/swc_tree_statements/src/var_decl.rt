@@ -26,16 +26,16 @@ impl Opened<class::VarDecl> for VarDecl {
     ghost node = { var_decl_node };
 
     #[tactic(auto, using(swc_tree_node::proofs::Fit::lengths))]
-    fn of_node(closed: Node) -> VarDecl
+    fn from_node(closed: Node) -> VarDecl
         requires { Fits closed (One (Of class.VarDecl)) }
         ensures { var_decl_node result ≡ closed }
     {
-        let fields = Tree::<class::VarDecl>::of(closed).into_fields(Kind::VarDecl);
+        let fields = Tree::<class::VarDecl>::from_node(closed).into_fields(Kind::VarDecl);
         let [span, kind, decls] = fields.into_array::<3>();
         VarDecl {
             span: to_span(span),
-            kind: VarDeclKind::of_node(kind),
-            decls: Trees::of(decls),
+            kind: VarDeclKind::from_node(kind),
+            decls: Trees::from_node(decls),
         }
     }
 
@@ -47,6 +47,6 @@ impl Opened<class::VarDecl> for VarDecl {
             alloc,
             [from_span(span), kind.into_node(), decls.into_node()],
         )?;
-        Ok(Tree::<class::VarDecl>::of_fields(Kind::VarDecl, fields).into_node())
+        Ok(Tree::<class::VarDecl>::from_fields(Kind::VarDecl, fields).into_node())
     }
 }

@@ -31,7 +31,7 @@ impl VarDeclKind {
     }
 
     /// What the word is here.
-    pub fn of_word(word: Word) -> VarDeclKind
+    pub fn from_word(word: Word) -> VarDeclKind
         requires { IsTrue (is_among word word_class.VarDeclKind) }
         ensures { var_decl_kind_word result ≡ word }
     {
@@ -45,12 +45,12 @@ impl VarDeclKind {
 
     /// The word that a node is.
     #[tactic(auto, using(swc_tree_node::proofs::Fit::fitting))]
-    pub fn of_node(node: Node) -> VarDeclKind
+    pub fn from_node(node: Node) -> VarDeclKind
         requires { Fits node (One (Of word_class.VarDeclKind)) }
         ensures { leaf.Word (var_decl_kind_word result) ≡ node }
     {
         match node {
-            Node::Word(word) => VarDeclKind::of_word(word),
+            Node::Word(word) => VarDeclKind::from_word(word),
             _ => unreachable!(),
         }
     }

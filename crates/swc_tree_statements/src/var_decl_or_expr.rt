@@ -23,11 +23,11 @@ impl Opened<class::VarDeclOrExpr> for VarDeclOrExpr {
 
     ghost node = { of_var_decl_or_expr };
 
-    fn of_node(closed: Node) -> VarDeclOrExpr
+    fn from_node(closed: Node) -> VarDeclOrExpr
         requires { Fits closed (One (Of class.VarDeclOrExpr)) }
         ensures { of_var_decl_or_expr result ≡ closed }
     {
-        let tree = Tree::<class::VarDeclOrExpr>::of(closed);
+        let tree = Tree::<class::VarDeclOrExpr>::from_node(closed);
         match tree.kind() {
             Kind::VarDecl => VarDeclOrExpr::VarDecl(tree.narrow::<class::VarDecl>().open()),
             _ => VarDeclOrExpr::Expr(tree.narrow()),

@@ -25,16 +25,16 @@ impl Opened<class::VarDeclarator> for VarDeclarator {
     ghost node = { var_declarator_node };
 
     #[tactic(auto, using(swc_tree_node::proofs::Fit::lengths))]
-    fn of_node(closed: Node) -> VarDeclarator
+    fn from_node(closed: Node) -> VarDeclarator
         requires { Fits closed (One (Of class.VarDeclarator)) }
         ensures { var_declarator_node result ≡ closed }
     {
-        let fields = Tree::<class::VarDeclarator>::of(closed).into_fields(Kind::VarDeclarator);
+        let fields = Tree::<class::VarDeclarator>::from_node(closed).into_fields(Kind::VarDeclarator);
         let [span, name, init] = fields.into_array::<3>();
         VarDeclarator {
             span: to_span(span),
-            name: Tree::of(name),
-            init: Tree::of_maybe(init),
+            name: Tree::from_node(name),
+            init: Tree::from_optional(init),
         }
     }
 
@@ -44,8 +44,8 @@ impl Opened<class::VarDeclarator> for VarDeclarator {
         let VarDeclarator { span, name, init } = self;
         let fields = collect(
             alloc,
-            [from_span(span), name.into_node(), Tree::into_maybe(init)],
+            [from_span(span), name.into_node(), Tree::into_optional(init)],
         )?;
-        Ok(Tree::<class::VarDeclarator>::of_fields(Kind::VarDeclarator, fields).into_node())
+        Ok(Tree::<class::VarDeclarator>::from_fields(Kind::VarDeclarator, fields).into_node())
     }
 }

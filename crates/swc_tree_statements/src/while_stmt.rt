@@ -25,16 +25,16 @@ impl Opened<class::WhileStmt> for WhileStmt {
     ghost node = { while_stmt_node };
 
     #[tactic(auto, using(swc_tree_node::proofs::Fit::lengths))]
-    fn of_node(closed: Node) -> WhileStmt
+    fn from_node(closed: Node) -> WhileStmt
         requires { Fits closed (One (Of class.WhileStmt)) }
         ensures { while_stmt_node result ≡ closed }
     {
-        let fields = Tree::<class::WhileStmt>::of(closed).into_fields(Kind::WhileStmt);
+        let fields = Tree::<class::WhileStmt>::from_node(closed).into_fields(Kind::WhileStmt);
         let [span, test, body] = fields.into_array::<3>();
         WhileStmt {
             span: to_span(span),
-            test: Tree::of(test),
-            body: Tree::of(body),
+            test: Tree::from_node(test),
+            body: Tree::from_node(body),
         }
     }
 
@@ -43,6 +43,6 @@ impl Opened<class::WhileStmt> for WhileStmt {
     {
         let WhileStmt { span, test, body } = self;
         let fields = collect(alloc, [from_span(span), test.into_node(), body.into_node()])?;
-        Ok(Tree::<class::WhileStmt>::of_fields(Kind::WhileStmt, fields).into_node())
+        Ok(Tree::<class::WhileStmt>::from_fields(Kind::WhileStmt, fields).into_node())
     }
 }

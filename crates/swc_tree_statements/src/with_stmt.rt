@@ -25,16 +25,16 @@ impl Opened<class::WithStmt> for WithStmt {
     ghost node = { with_stmt_node };
 
     #[tactic(auto, using(swc_tree_node::proofs::Fit::lengths))]
-    fn of_node(closed: Node) -> WithStmt
+    fn from_node(closed: Node) -> WithStmt
         requires { Fits closed (One (Of class.WithStmt)) }
         ensures { with_stmt_node result ≡ closed }
     {
-        let fields = Tree::<class::WithStmt>::of(closed).into_fields(Kind::WithStmt);
+        let fields = Tree::<class::WithStmt>::from_node(closed).into_fields(Kind::WithStmt);
         let [span, obj, body] = fields.into_array::<3>();
         WithStmt {
             span: to_span(span),
-            obj: Tree::of(obj),
-            body: Tree::of(body),
+            obj: Tree::from_node(obj),
+            body: Tree::from_node(body),
         }
     }
 
@@ -43,6 +43,6 @@ impl Opened<class::WithStmt> for WithStmt {
     {
         let WithStmt { span, obj, body } = self;
         let fields = collect(alloc, [from_span(span), obj.into_node(), body.into_node()])?;
-        Ok(Tree::<class::WithStmt>::of_fields(Kind::WithStmt, fields).into_node())
+        Ok(Tree::<class::WithStmt>::from_fields(Kind::WithStmt, fields).into_node())
     }
 }
