@@ -87,27 +87,69 @@ def identifier_rt(tree, struct):
             + opened_impl(struct, tree, '', from_node, into_node))
 
 
+# Beyond so many kinds the last variant of a sum takes all kinds that the others leave.
+WIDE = 12
+
+
+def has_wide_end(tree, sum_):
+    return len(tree.kinds_of(sum_.variants[-1].member)) > WIDE
+
+
+WIDE_PROOF = '''-- The kinds that the variants before leave are those of the last one.
+--
+-- %(printed)s
+use Rattle.swc_tree_handle.proofs.Handles.{other, is_of_kind}
+use Rattle.swc_tree_node.specs.declared.kind.Class.TheVariants as class
+use Rattle.swc_tree_node.specs.declared.kind.Kind.TheVariants as kind
+use Rattle.%(module)s.Goals as goal
+
+pub narrow-requires-in_default : goal.narrow-requires-in_default
+narrow-requires-in_default c = is_of_kind _ _ class.%(last)s c.kind.ensures.is (%(left)s)
+'''
+
+
+def wide_proof(tree, sum_):
+    """The path and the text of the proof that the last variant of a sum takes what the others leave."""
+    last = sum_.variants[-1].member
+    left, seen = 'c.kind.ensures.belongs', []
+    for variant in sum_.variants[:-1]:
+        seen += [kind for kind in tree.kinds_of(variant.member) if kind not in seen]
+    if set(seen) & set(tree.kinds_of(last)):
+        raise SystemExit('a kind of the last variant is a kind of another, in ' + sum_.name)
+    for kind in seen:
+        left = 'other _ kind.%s _ (%s) c.in_default.not-%s' % (kind, left, kind)
+    function = '%s/%sOpenedClass%s/from_node' % (module_of(sum_.name), sum_.name, sum_.name)
+    module = '%s.proofs.%s' % (sum_.family, function.replace('/', '.'))
+    return ('crates/%s/proofs/%s/Answers.antt' % (sum_.family, function),
+            WIDE_PROOF % {'printed': PRINTED, 'module': module, 'last': last, 'left': left})
+
+
 def sum_rt(tree, sum_):
     name = sum_.name
     declared = '/// %s\n#[derive(Debug, Drop)]\npub enum %s {\n%s}\n' % (
-        sum_.doc, name, ''.join('    %s(%s),\n' % variant for variant in sum_.variants))
+        sum_.doc, name, ''.join('    %s(%s),\n' % (v.name, 'Tree<class::%s>' % v.member if v.is_subtree else v.member)
+                                for v in sum_.variants))
     arms, seen = '', set()
-    for variant, member in sum_.variants:
-        kinds = [kind for kind in tree.kinds_of(member) if kind not in seen]
+    for variant in sum_.variants:
+        kinds = [kind for kind in tree.kinds_of(variant.member) if kind not in seen]
         seen.update(kinds)
         if kinds:
-            arms += '            %s => %s::%s(tree.narrow::<class::%s>().open()),\n' % (
-                ' | '.join('Kind::' + kind for kind in kinds), name, variant, member)
+            takes_rest = variant is sum_.variants[-1] and has_wide_end(tree, sum_)
+            arms += '            %s => %s::%s(tree.narrow%s),\n' % (
+                '_' if takes_rest else ' | '.join('Kind::' + kind for kind in kinds), name, variant.name,
+                '()' if variant.is_subtree else '::<class::%s>().open()' % variant.member)
+    if not has_wide_end(tree, sum_):
+        arms += '            _ => unreachable!(),\n'
     from_node = '''        let tree = Tree::<class::%s>::from_node(closed);
         match tree.kind() {
-%s            _ => unreachable!(),
-        }
+%s        }
 ''' % (name, arms)
     into_node = '''        let tree: Tree<class::%s> = match self {
 %s        };
         Ok(tree.into_node())
-''' % (name, ''.join('            %s::%s(opened) => opened.close(alloc)?.widen(),\n' % (name, variant) for variant, _ in sum_.variants))
-    uses = {(owner_of(tree, member), member) for _, member in sum_.variants}
+''' % (name, ''.join('            %s::%s(%s,\n' % (name, v.name, 'tree) => tree.widen()' if v.is_subtree else 'opened) => opened.close(alloc)?.widen()')
+                     for v in sum_.variants))
+    uses = {(owner_of(tree, v.member), v.member) for v in sum_.variants if not v.is_subtree}
     return opened_head(sum_.family, spec_name(tree, name), uses) + declared + opened_impl(sum_, tree, '', from_node, into_node)
 
 
@@ -169,14 +211,13 @@ impl %(name)s {
 
 
 def words_rt(words):
-    variants = [variant for _, variant in words.words]
     name = words.name
     return WORDS % {
         'printed': PRINTED, 'prelude': PRELUDE, 'slots': SLOT_USES % ('Word', 'Fits, is_among'), 'family': words.family,
         'spec': snake(name) + '_word', 'doc': words.doc, 'name': name, 'fit': FIT,
-        'variants': ''.join('    %s,\n' % v for v in variants),
-        'to': ''.join('            %s::%s => Word::%s,\n' % (name, v, v) for v in variants),
-        'of': ''.join('            Word::%s => %s::%s,\n' % (v, name, v) for v in variants)}
+        'variants': ''.join('    %s,\n' % here for _, here, _ in words.words),
+        'to': ''.join('            %s::%s => Word::%s,\n' % (name, here, word) for _, here, word in words.words),
+        'of': ''.join('            Word::%s => %s::%s,\n' % (word, name, here) for _, here, word in words.words)}
 
 
 def printed_entries(tree, family):
@@ -221,23 +262,23 @@ def struct_spec(tree, struct):
 
 def sum_spec(tree, sum_):
     spec = spec_name(tree, sum_.name)
-    cases = ''.join('%s (%s.%s x) = %s x\n' % (spec, snake(sum_.name), variant, spec_name(tree, member))
-                    for variant, member in sum_.variants)
-    specs = {(spec_module(tree, member), spec_name(tree, member)) for _, member in sum_.variants}
+    cases = ''.join('%s (%s.%s x) = %s\n' % (spec, snake(sum_.name), v.name, 'x' if v.is_subtree else spec_name(tree, v.member) + ' x')
+                    for v in sum_.variants)
+    specs = {(spec_module(tree, v.member), spec_name(tree, v.member)) for v in sum_.variants if not v.is_subtree}
     return '\nabbrev pub %s : %s → Node\n%s' % (spec, sum_.name, cases), specs
 
 
 def words_spec(words):
     spec = snake(words.name) + '_word'
     return '\nabbrev pub %s : %s → Word\n%s' % (spec, words.name, ''.join(
-        '%s %s.%s = word.%s\n' % (spec, snake(words.name), v, v) for _, v in words.words))
+        '%s %s.%s = word.%s\n' % (spec, snake(words.name), here, word) for _, here, word in words.words))
 
 
 def held_by_value(tree, entry):
     """The structs and sums that stand in a struct or sum themselves, and not as a subtree."""
     if entry.name in tree.sums:
-        return [member for _, member in entry.variants]
-    return [field.type for field in entry.fields if tree.is_leaf(field.type) and not field.many]
+        return [variant.member for variant in entry.variants if not variant.is_subtree]
+    return [field.type for field in entry.fields if field.is_single() and tree.is_leaf(field.type)]
 
 
 def in_order(tree, family):
@@ -289,4 +330,7 @@ def files(tree):
         printed[crate + 'specs/Nodes.antt'] = nodes_antt(tree, family)
         for entry in printed_entries(tree, family):
             printed[crate + 'src/%s.rt' % module_of(entry.name)] = entry_rt(tree, entry)
+            if entry.name in tree.sums and has_wide_end(tree, entry):
+                path, text = wide_proof(tree, entry)
+                printed[path] = text
     return printed

@@ -34,7 +34,7 @@ def leaf(field):
     rust = {'Span': 'Span', 'Text': 'Atom', 'Flag': 'bool'}[field.type]
     types = {(MARKS, rust)} - {(MARKS, 'bool')}
     key = field.name
-    if field.optional:
+    if field.slot == 'Optional':
         to, of = 'to_optional_' + name, 'from_optional_' + name
         return Form('Option<%s>' % rust, '%s(%s)' % (to, key), '%s(%s)' % (of, key), 'optional_%s x.%s' % (name, key),
                     {(HANDLE, to), (HANDLE, of)}, types, {(HANDLES, 'optional_' + name)})
@@ -45,6 +45,8 @@ def leaf(field):
 
 def word(tree, field):
     """A word of a list of words."""
+    if field.slot != 'One':
+        raise SystemExit('no form for an optional word or a list of words: ' + field.key)
     words = tree.words[field.type]
     key, name = field.name, snake(field.type)
     return Form(field.type, '%s::from_node(%s)' % (field.type, key), '%s.into_node()' % key,
@@ -58,7 +60,7 @@ def by_value(tree, field):
     owner = owner_of(tree, field.type)
     spec = spec_name(tree, field.type)
     types, specs = {(owner, field.type)}, {(spec_module(tree, field.type), spec)}
-    if field.optional:
+    if field.slot == 'Optional':
         return Form('Option<%s>' % field.type, '%s::from_optional(%s)' % (field.type, key),
                     '%s::into_optional(%s, alloc)?' % (field.type, key), 'optional_node (option_map %s x.%s)' % (spec, key),
                     (), types, specs | {(HANDLES, 'optional_node')})
@@ -66,31 +68,38 @@ def by_value(tree, field):
                 (), types, specs)
 
 
-def handle(field):
-    """A subtree, or a list of subtrees."""
+def subtree(field):
+    """A subtree."""
     key, of = field.name, 'class::' + field.type
-    if field.many:
-        return Form('Trees<%s>' % of, 'Trees::from_node(%s)' % key, '%s.into_node()' % key, 'node.List x.%s' % key,
-                    {(HANDLE, 'Trees')}, {(HANDLE, 'Trees'), (HANDLE, 'class')})
     types = {(HANDLE, 'Tree'), (HANDLE, 'class')}
-    if field.optional:
+    if field.slot == 'Optional':
         return Form('Option<Tree<%s>>' % of, 'Tree::from_optional(%s)' % key, 'Tree::into_optional(%s)' % key,
                     'optional_node x.%s' % key, {(HANDLE, 'Tree')}, types, {(HANDLES, 'optional_node')})
     return Form('Tree<%s>' % of, 'Tree::from_node(%s)' % key, '%s.into_node()' % key, 'x.%s' % key, {(HANDLE, 'Tree')}, types)
 
 
+def several(field):
+    """A list: of subtrees, of subtrees some of which are left out, or of pairs of texts."""
+    key = field.name
+    name, types = ('Holes' if field.slot == 'Holes' else 'Trees'), {(HANDLE, 'class')}
+    type_ = '%s<class::%s>' % (name, field.type)
+    if field.slot == 'Pairs':
+        name, types, type_ = 'Pairs', set(), 'Pairs'
+    types.add((HANDLE, name))
+    if field.slot in ('OptionalList', 'Pairs'):
+        return Form('Option<%s>' % type_, '%s::from_optional(%s)' % (name, key), '%s::into_optional(%s)' % (name, key),
+                    'optional_list x.%s' % key, {(HANDLE, name)}, types, {(HANDLES, 'optional_list')})
+    return Form(type_, '%s::from_node(%s)' % (name, key), '%s.into_node()' % key, 'node.List x.%s' % key, {(HANDLE, name)}, types)
+
+
 def form_of(tree, field):
-    """The form of a field."""
-    is_subtree = field.type in tree.structs or field.type in tree.sums
-    if (field.many and not is_subtree) or (field.optional and field.type in [*tree.words, 'Flag']):
-        raise SystemExit('no form for the field ' + field.key)
+    if not field.is_single():
+        return several(field)
     if field.type in ('Span', 'Text', 'Flag'):
         return leaf(field)
     if field.type in tree.words:
         return word(tree, field)
-    if tree.is_leaf(field.type) and not field.many:
-        return by_value(tree, field)
-    return handle(field)
+    return by_value(tree, field) if tree.is_leaf(field.type) else subtree(field)
 
 
 def owner_of(tree, name):

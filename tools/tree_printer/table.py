@@ -1,4 +1,7 @@
 """The table, in the crate swc_tree_node: kinds, classes and words, and what stands in each field."""
+from tree_printer.forms import snake
+
+PRINTED = 'Printed by tools/print_table.py from tools/tree.txt.'
 
 
 def content(tree, type_):
@@ -6,10 +9,6 @@ def content(tree, type_):
     if type_ in ('Span', 'Text', 'Flag'):
         return type_, None
     return ('Word' if type_ in tree.words else 'Node'), type_
-
-
-def slot(field):
-    return 'List' if field.many else 'Optional' if field.optional else 'One'
 
 
 def rust_content(tree, type_):
@@ -24,6 +23,14 @@ def spec_content(tree, type_):
     if of is None:
         return 'content.' + variant
     return '(content.%s %s.%s)' % (variant, 'word_class' if variant == 'Word' else 'class', of)
+
+
+def rust_slot(tree, field):
+    return 'Slot::' + (field.slot if field.slot == 'Pairs' else '%s(%s)' % (field.slot, rust_content(tree, field.type)))
+
+
+def spec_slot(tree, field):
+    return 'slot.' + (field.slot if field.slot == 'Pairs' else '%s %s' % (field.slot, spec_content(tree, field.type)))
 
 
 def rust_enum(doc, name, variants):
@@ -49,33 +56,45 @@ def rust_match(name, doc, argument, type_, result, ensures, arms):
         doc, name, parameter, type_, result, ensures, argument, ''.join('        %s => %s,\n' % arm for arm in arms))
 
 
+def module_of(family):
+    """The module of the table that has the fields of a family's structs."""
+    return family.removeprefix('swc_tree_')
+
+
+def fields_rt(tree, family):
+    """The fields of each struct of a family, each a constant."""
+    structs = [s for s in tree.of_family(family, tree.structs) if s.fields]
+    rows = {s.name: ''.join('Field { key: "%s", slot: %s, role: Role::%s },' % (f.key, rust_slot(tree, f), f.role)
+                            for f in s.fields) for s in structs}
+    body = ''.join('\npub(super) const %s: &[Field] = &[%s];\n' % (snake(name).upper(), row) for name, row in rows.items())
+    kinds = [name for name in ('Class', 'WordClass') if name + '::' in body]
+    return ('//! Fields: %s\n//!\n//! %s\n' % (tree.families[family].doc, PRINTED)
+            + ('use crate::kind::{%s};\n' % ', '.join(kinds) if kinds else '')
+            + 'use crate::slot::{Content, Field, Role, Slot};\n' + body)
+
+
 def table_rt(tree):
     imports = ('ghost use Rattle.std.specs.Prelude.{◌≡◌, map};\n'
-               'ghost use Rattle.swc_tree_node.specs.Table.{kinds_of, name_of, fields_of, words_of, spelling_of, scope_of, is_identifier};\n\n'
-               'use crate::kind::{Class, Kind, Word, WordClass};\n'
-               'use crate::slot::{Content, Field, Role, Scope, Slot};\n')
-    fields = []
-    for s in tree.structs.values():
-        rows = ''.join('Field { key: "%s", slot: Slot::%s(%s), role: Role::%s },' % (
-            f.key, slot(f), rust_content(tree, f.type), f.role) for f in s.fields)
-        fields.append(('Kind::' + s.name, '&[%s]' % rows))
+               'ghost use Rattle.swc_tree_node.specs.Table.{name_of, fields_of, words_of, spelling_of, scope_of, is_identifier};\n\n'
+               + ''.join('mod %s;\n' % module for module in sorted(['classes'] + [module_of(family) for family in tree.families])) + '\n'
+               'pub use classes::kinds_of;\n\n'
+               'use crate::kind::{Kind, Word, WordClass};\nuse crate::slot::{Field, Scope};\n')
+    fields = [('Kind::' + s.name, '%s::%s' % (module_of(s.family), snake(s.name).upper()))
+              for s in tree.structs.values() if s.fields]
+    fields.append((' | '.join('Kind::' + s.name for s in tree.structs.values() if not s.fields), '&[]'))
     scopes = [('Kind::' + s.name, 'Some(Scope::%s)' % s.scope) for s in tree.structs.values() if s.scope]
     identifiers = ' | '.join('Kind::' + s.name for s in tree.structs.values() if s.identifier)
     return '\n'.join([
-        '//! The table: what each kind of node is called and holds.\n'
-        '//!\n//! Printed by tools/print_table.py from tools/tree.txt.\n',
+        '//! The table: what each kind of node is called and holds.\n//!\n//! %s\n' % PRINTED,
         imports,
         rust_match('name_of', 'The name of the struct, as it stands in JSON.', 'kind', 'Kind', "&'static str",
                    'result.now ≡ name_of kind', [('Kind::' + s, '"%s"' % s) for s in tree.structs]),
-        rust_match('kinds_of', 'The kinds that may stand in a place of a class.', 'class', 'Class', "&'static [Kind]",
-                   'result.now ≡ kinds_of class',
-                   [('Class::' + c, '&[%s]' % ', '.join('Kind::' + k for k in tree.kinds_of(c))) for c in tree.classes()]),
         rust_match('fields_of', 'The fields of a kind, in the order in which they are read. An identifier has none here.',
                    'kind', 'Kind', "&'static [Field]",
                    'map (λ f. (f.key.now, f.slot, f.role)) result.now ≡ fields_of kind', fields),
         rust_match('words_of', 'The words of a place.', 'words', 'WordClass', "&'static [Word]",
                    'result.now ≡ words_of words',
-                   [('WordClass::' + n, '&[%s]' % ', '.join('Word::' + v for _, v in ws.words)) for n, ws in tree.words.items()]),
+                   [('WordClass::' + n, '&[%s]' % ', '.join('Word::' + word for _, _, word in ws.words)) for n, ws in tree.words.items()]),
         rust_match('spelling_of', 'A word as it is written.', 'word', 'Word', "&'static str",
                    'result.now ≡ spelling_of word', [('Word::' + v, '"%s"' % s) for v, s in tree.spellings().items()]),
         rust_match('scope_of', 'The scope that a node of the kind opens, if it opens one.', 'kind', 'Kind', 'Option<Scope>',
@@ -83,6 +102,16 @@ def table_rt(tree):
         '/// Whether the kind is that of an identifier.\npub fn is_identifier(kind: Kind) -> bool\n'
         '    ensures { result ≡ is_identifier kind }\n{\n    matches!(kind, %s)\n}\n' % identifiers,
     ])
+
+
+def classes_rt(tree):
+    return '\n'.join([
+        '//! The kinds that each class takes.\n//!\n//! %s\n' % PRINTED,
+        'ghost use Rattle.std.specs.Prelude.{◌≡◌};\nghost use Rattle.swc_tree_node.specs.Table.{kinds_of};\n\n'
+        'use crate::kind::{Class, Kind};\n',
+        rust_match('kinds_of', 'The kinds that may stand in a place of a class.', 'class', 'Class', "&'static [Kind]",
+                   'result.now ≡ kinds_of class',
+                   [('Class::' + c, '&[%s]' % ', '.join('Kind::' + k for k in tree.kinds_of(c))) for c in tree.classes()])])
 
 
 def spec_list(items):
@@ -104,8 +133,8 @@ def table_antt(tree):
             + of('slot', 'Role') + variants('slot', 'Role', 'role') + of('slot', 'Scope') + variants('slot', 'Scope', 'scope'))
     rows = []
     for s in tree.structs.values():
-        rows.append(('kind.' + s.name, spec_list(['(codes "%s", slot.%s %s, role.%s)' % (
-            f.key, slot(f), spec_content(tree, f.type), f.role) for f in s.fields])))
+        rows.append(('kind.' + s.name, spec_list(['(codes "%s", %s, role.%s)' % (
+            f.key, spec_slot(tree, f), f.role) for f in s.fields])))
     return '\n'.join([
         head,
         spec_cases('the name of the struct, as it stands in JSON', 'name_of', 'Kind → List ℕ',
@@ -115,7 +144,7 @@ def table_antt(tree):
         spec_cases('the fields of a kind, in the order in which they are read: key, what stands there, role of an identifier there',
                    'fields_of', 'Kind → List (List ℕ × Slot × Role)', rows),
         spec_cases('the words of a place', 'words_of', 'WordClass → List Word',
-                   [('word_class.' + n, spec_list(['word.' + v for _, v in ws.words])) for n, ws in tree.words.items()]),
+                   [('word_class.' + n, spec_list(['word.' + word for _, _, word in ws.words])) for n, ws in tree.words.items()]),
         spec_cases('a word as it is written', 'spelling_of', 'Word → List ℕ',
                    [('word.' + v, 'codes "%s"' % s) for v, s in tree.spellings().items()]),
         spec_cases('the scope that a node of the kind opens, if it opens one', 'scope_of', 'Kind → Option Scope',
@@ -132,5 +161,8 @@ def table_antt(tree):
 
 def files(tree):
     crate = 'crates/swc_tree_node/'
-    return {crate + 'src/kind.rt': kind_rt(tree), crate + 'src/table.rt': table_rt(tree),
-            crate + 'specs/Table.antt': table_antt(tree)}
+    printed = {crate + 'src/kind.rt': kind_rt(tree), crate + 'src/table.rt': table_rt(tree),
+               crate + 'src/table/classes.rt': classes_rt(tree), crate + 'specs/Table.antt': table_antt(tree)}
+    for family in tree.families:
+        printed[crate + 'src/table/%s.rt' % module_of(family)] = fields_rt(tree, family)
+    return printed

@@ -2,7 +2,13 @@
 import re
 
 ROLES = {'': 'Plain', 'reference': 'Reference', 'inherited': 'Inherited', 'declared': 'Declared',
-         'function': 'Function', 'parameter': 'Parameter', 'body': 'FunctionBody'}
+         'function': 'Function', 'class': 'Class', 'own_name': 'OwnName', 'parameter': 'Parameter', 'catch': 'Catch',
+         'import': 'Import', 'lexical': 'Lexical', 'body': 'FunctionBody', 'label': 'Label', 'imported': 'Imported',
+         'exported': 'Exported', 'export_local': 'ExportLocal'}
+
+# The forms of places, each with what is written for it; `X` stands for a type.
+SLOTS = [('Pairs', r'Pairs()'), ('OptionalList', r'\[(\w+)\]\?'), ('Holes', r'\[(\w+)\?\]'), ('List', r'\[(\w+)\]'),
+         ('Optional', r'(\w+)\?'), ('One', r'(\w+)')]
 
 # Words that no contract can use as the name of a field: the field's name has an underscore after them.
 CLAUSE_WORDS = {'class', 'with'}
@@ -17,11 +23,11 @@ class Field:
         self.key = key
         self.name = key + '_' if key in CLAUSE_WORDS else key
         self.role = ROLES[role.strip()]
-        self.many = type_.startswith('[')
-        self.optional = type_.endswith('?')
-        self.type = type_.strip('[]?')
-        if self.many and '?' in type_:
-            raise SystemExit('no slot for a list that has gaps or may be absent: ' + text)
+        self.slot, self.type = next((slot, match[1]) for slot, form in SLOTS if (match := re.fullmatch(form, type_)))
+
+    def is_single(self):
+        """Whether one node or leaf stands here, or nothing."""
+        return self.slot in ('One', 'Optional')
 
 
 class Family:
@@ -46,8 +52,16 @@ class Struct(Entry):
         self.fields = fields
 
 
+class Variant:
+    """A variant of a sum, and the struct or sum that it holds: opened, or, after `*`, as a subtree."""
+
+    def __init__(self, text):
+        self.name, member = text.split()[0].lstrip('*'), text.split()[-1]
+        self.member, self.is_subtree = member.lstrip('*'), member.startswith('*')
+
+
 class Sum(Entry):
-    """A sum, with its variants: pairs of a variant's name and the struct or sum that it holds."""
+    """A sum, with its variants."""
 
     def __init__(self, name, family, doc, variants):
         super().__init__(name, family, doc)
@@ -55,7 +69,7 @@ class Sum(Entry):
 
 
 class Words(Entry):
-    """The words of a place: pairs of a spelling and a variant's name."""
+    """The words of a place: of each the spelling, its name here, and the name of the word, which all places share."""
 
     def __init__(self, name, family, doc, words):
         super().__init__(name, family, doc)
@@ -66,7 +80,7 @@ class Tree:
     """The transcription: families, structs, sums and words, by name and in order."""
 
     def __init__(self, path):
-        self.families, self.structs, self.sums, self.words = {}, {}, {}, {}
+        self.families, self.structs, self.sums, self.words, self.names = {}, {}, {}, {}, {}
         self.family, self.doc = None, None
         with open(path, encoding='utf-8') as lines:
             for line in lines:
@@ -95,16 +109,19 @@ class Tree:
         words = re.match(r'words (\w+): (.*)', line)
         sum_ = re.match(r'(\w+) = (.*)', line)
         if words:
-            pairs = [tuple(item.strip().rsplit(' ', 1)) for item in words[2].split(', ')]
-            self.words[words[1]] = Words(words[1], *about, pairs)
+            pairs = [item.strip().rsplit(' ', 1) for item in words[2].split(', ')]
+            self.words[words[1]] = Words(words[1], *about, [(s, here, self.word_of(s, here)) for s, here in pairs])
         elif sum_:
-            variants = [(v.split()[0], v.split()[-1]) for v in sum_[2].split(', ')]
-            self.sums[sum_[1]] = Sum(sum_[1], *about, variants)
+            self.sums[sum_[1]] = Sum(sum_[1], *about, [Variant(text) for text in sum_[2].split(', ')])
         else:
             head, _, fields = line.partition(':')
             name, *marks = head.split()
             fields = [Field(f) for f in fields.split(', ')] if fields else []
             self.structs[name] = Struct(name, *about, marks, fields)
+
+    def word_of(self, spelling, name):
+        """The word of a spelling: the name that the first place gives it."""
+        return self.names.setdefault(spelling, name)
 
     def entry(self, name):
         return self.structs.get(name) or self.sums.get(name) or self.words[name]
@@ -114,21 +131,19 @@ class Tree:
         if name in self.structs:
             return [name]
         kinds = []
-        for _, member in self.sums[name].variants:
-            kinds += [k for k in self.kinds_of(member) if k not in kinds]
+        for variant in self.sums[name].variants:
+            kinds += [k for k in self.kinds_of(variant.member) if k not in kinds]
         return kinds
 
     def classes(self):
         return list(self.structs) + list(self.sums)
 
     def spellings(self):
-        """Every word once: its variant and its spelling."""
-        seen = {}
-        for words in self.words.values():
-            for spelling, variant in words.words:
-                if seen.setdefault(variant, spelling) != spelling:
-                    raise SystemExit('one variant for two words: ' + variant)
-        return seen
+        """Every word once: its name and its spelling."""
+        spellings = {name: spelling for spelling, name in self.names.items()}
+        if len(spellings) < len(self.names):
+            raise SystemExit('one name for two words')
+        return spellings
 
     def is_leaf(self, name):
         """Whether a struct holds no subtree, so that it is held by value."""

@@ -2,9 +2,15 @@
 use Rattle.std.specs.Prelude.{◌≡◌, [], ◌++◌, None}
 use Rattle.swc_tree_marks.specs.Globals.{Table}
 use Rattle.swc_tree_modules.specs.declared.module_.Module.{Module}
+use Rattle.swc_tree_modules.specs.declared.script.Script.{Script}
 
 -- the program as a refused pass leaves it: of the same span, with no item and no `#!` line
 pub record IsEmptied (before after : Module) : Type 0 where
+  pub span : after.span ≡ before.span
+  pub no_body : after.body ≡ []
+  pub no_shebang : after.shebang ≡ None
+
+pub record IsEmptiedScript (before after : Script) : Type 0 where
   pub span : after.span ≡ before.span
   pub no_body : after.body ≡ []
   pub no_shebang : after.shebang ≡ None

@@ -1,34 +1,165 @@
 //! The syntax tree of JavaScript, as passes and their callers use it.
 //!
-//! A program is a `Module`. Its items are `Trees`, lists of nodes that fit their class, and each
-//! struct and sum of the tree stands here under its name, one level deep: `Tree::open` takes a node
-//! apart, `Opened::close` puts it together, and no ill-formed tree can be made of them. A pass is a
-//! `JsPass`: it takes the items out of a program, works on the nodes in place, and puts them back.
+//! A program is a `Module` or a `Script`. Its items are `Trees`, lists of nodes that fit their class,
+//! and each struct and sum of the tree stands here under its name, one level deep: `Tree::open` takes
+//! a node apart, `Opened::close` puts it together, and no ill-formed tree can be made of them. A pass
+//! is a `JsPass`: it takes the items out of a program, works on the nodes in place, and puts them
+//! back. A `Check` looks at a program and says whether it is to be handled. What stands where in the
+//! tree is data too, in `table`.
 #![tactic(auto)]
 
+mod check;
+mod idle;
 mod pass;
+mod passes;
+pub mod table;
 #[cfg(test)]
 mod tests;
+mod version;
 
+pub use check::{Check, Checked, should_work};
+pub use idle::Noop;
 pub use pass::JsPass;
-pub use swc_tree_handle::{Opened, Tree, Trees, class};
+pub use passes::noop;
+pub use swc_tree_ext::{
+    AsOptExpr, ExprRefExt, StmtLike, find_pat_ids, is_use_strict, prepend_stmts,
+};
+pub use swc_tree_handle::{Holes, Opened, Pairs, Tree, Trees, class};
 pub use swc_tree_items::{Boxed, Items, Text};
 pub use swc_tree_marks::{
     Atom, BytePos, DUMMY_SP, Globals, Id, Ident, JsWord, Mark, MarkError, NoMemory, PassError,
     Span, SyntaxContext,
 };
-pub use swc_tree_node::{
-    Class, Content, Field, Kind, Node, Role, Scope, Slot, Word, WordClass, fields_of,
-    is_identifier, kinds_of, name_of, scope_of, spelling_of, words_of,
-};
+pub use swc_tree_node::{Kind, Node};
+pub use version::EsVersion;
 
 // From here on printed by tools/print_table.py from tools/tree.txt.
-pub use swc_tree_expressions::{
-    BinExpr, BinaryOp, CallExpr, Callee, Expr, ExprOrSpread, ParenExpr,
-};
-pub use swc_tree_modules::{Module, ModuleItem};
-pub use swc_tree_names::{BindingIdent, Lit, Number, Str};
-pub use swc_tree_statements::{
-    BlockStmt, Decl, ExprStmt, FnDecl, Function, Param, Pat, ReturnStmt, Stmt, VarDecl,
-    VarDeclKind, VarDeclarator,
-};
+pub use swc_tree_expressions::ArrayLit;
+pub use swc_tree_expressions::AssignExpr;
+pub use swc_tree_expressions::AssignOp;
+pub use swc_tree_expressions::AssignTarget;
+pub use swc_tree_expressions::AssignTargetPat;
+pub use swc_tree_expressions::AwaitExpr;
+pub use swc_tree_expressions::BinExpr;
+pub use swc_tree_expressions::BinaryOp;
+pub use swc_tree_expressions::CallExpr;
+pub use swc_tree_expressions::Callee;
+pub use swc_tree_expressions::CondExpr;
+pub use swc_tree_expressions::Expr;
+pub use swc_tree_expressions::ExprOrSpread;
+pub use swc_tree_expressions::KeyValueProp;
+pub use swc_tree_expressions::MemberExpr;
+pub use swc_tree_expressions::MemberProp;
+pub use swc_tree_expressions::NewExpr;
+pub use swc_tree_expressions::ObjectLit;
+pub use swc_tree_expressions::OptCall;
+pub use swc_tree_expressions::OptChainBase;
+pub use swc_tree_expressions::OptChainExpr;
+pub use swc_tree_expressions::ParenExpr;
+pub use swc_tree_expressions::Prop;
+pub use swc_tree_expressions::PropOrSpread;
+pub use swc_tree_expressions::SeqExpr;
+pub use swc_tree_expressions::SimpleAssignTarget;
+pub use swc_tree_expressions::SpreadElement;
+pub use swc_tree_expressions::SuperProp;
+pub use swc_tree_expressions::SuperPropExpr;
+pub use swc_tree_expressions::TaggedTpl;
+pub use swc_tree_expressions::Tpl;
+pub use swc_tree_expressions::UnaryExpr;
+pub use swc_tree_expressions::UnaryOp;
+pub use swc_tree_expressions::UpdateExpr;
+pub use swc_tree_expressions::UpdateOp;
+pub use swc_tree_expressions::YieldExpr;
+pub use swc_tree_functions::ArrowExpr;
+pub use swc_tree_functions::Class;
+pub use swc_tree_functions::ClassExpr;
+pub use swc_tree_functions::ClassMember;
+pub use swc_tree_functions::ClassMethod;
+pub use swc_tree_functions::ClassProp;
+pub use swc_tree_functions::ComputedPropName;
+pub use swc_tree_functions::Constructor;
+pub use swc_tree_functions::FnExpr;
+pub use swc_tree_functions::Function;
+pub use swc_tree_functions::GetterProp;
+pub use swc_tree_functions::MethodKind;
+pub use swc_tree_functions::MethodProp;
+pub use swc_tree_functions::Param;
+pub use swc_tree_functions::PrivateMethod;
+pub use swc_tree_functions::PrivateProp;
+pub use swc_tree_functions::PropName;
+pub use swc_tree_functions::SetterProp;
+pub use swc_tree_functions::StaticBlock;
+pub use swc_tree_modules::DefaultDecl;
+pub use swc_tree_modules::ExportAll;
+pub use swc_tree_modules::ExportDecl;
+pub use swc_tree_modules::ExportDefaultDecl;
+pub use swc_tree_modules::ExportDefaultExpr;
+pub use swc_tree_modules::ExportNamedSpecifier;
+pub use swc_tree_modules::ExportNamespaceSpecifier;
+pub use swc_tree_modules::ExportSpecifier;
+pub use swc_tree_modules::ImportDecl;
+pub use swc_tree_modules::ImportDefaultSpecifier;
+pub use swc_tree_modules::ImportNamedSpecifier;
+pub use swc_tree_modules::ImportSpecifier;
+pub use swc_tree_modules::ImportStarAsSpecifier;
+pub use swc_tree_modules::Module;
+pub use swc_tree_modules::ModuleDecl;
+pub use swc_tree_modules::ModuleItem;
+pub use swc_tree_modules::NamedExport;
+pub use swc_tree_modules::Script;
+pub use swc_tree_names::BigInt;
+pub use swc_tree_names::BindingIdent;
+pub use swc_tree_names::Bool;
+pub use swc_tree_names::BreakStmt;
+pub use swc_tree_names::ContinueStmt;
+pub use swc_tree_names::DebuggerStmt;
+pub use swc_tree_names::EmptyStmt;
+pub use swc_tree_names::IdentName;
+pub use swc_tree_names::Import;
+pub use swc_tree_names::Lit;
+pub use swc_tree_names::MetaPropExpr;
+pub use swc_tree_names::MetaPropKind;
+pub use swc_tree_names::ModuleExportName;
+pub use swc_tree_names::Null;
+pub use swc_tree_names::Number;
+pub use swc_tree_names::PrivateName;
+pub use swc_tree_names::Regex;
+pub use swc_tree_names::Str;
+pub use swc_tree_names::Super;
+pub use swc_tree_names::ThisExpr;
+pub use swc_tree_names::TplElement;
+pub use swc_tree_patterns::ArrayPat;
+pub use swc_tree_patterns::AssignPat;
+pub use swc_tree_patterns::AssignPatProp;
+pub use swc_tree_patterns::KeyValuePatProp;
+pub use swc_tree_patterns::ObjectPat;
+pub use swc_tree_patterns::ObjectPatProp;
+pub use swc_tree_patterns::Pat;
+pub use swc_tree_patterns::RestPat;
+pub use swc_tree_statements::BlockStmt;
+pub use swc_tree_statements::BlockStmtOrExpr;
+pub use swc_tree_statements::CatchClause;
+pub use swc_tree_statements::ClassDecl;
+pub use swc_tree_statements::Decl;
+pub use swc_tree_statements::DoWhileStmt;
+pub use swc_tree_statements::ExprStmt;
+pub use swc_tree_statements::FnDecl;
+pub use swc_tree_statements::ForHead;
+pub use swc_tree_statements::ForInStmt;
+pub use swc_tree_statements::ForOfStmt;
+pub use swc_tree_statements::ForStmt;
+pub use swc_tree_statements::IfStmt;
+pub use swc_tree_statements::LabeledStmt;
+pub use swc_tree_statements::ReturnStmt;
+pub use swc_tree_statements::Stmt;
+pub use swc_tree_statements::SwitchCase;
+pub use swc_tree_statements::SwitchStmt;
+pub use swc_tree_statements::ThrowStmt;
+pub use swc_tree_statements::TryStmt;
+pub use swc_tree_statements::UsingDecl;
+pub use swc_tree_statements::VarDecl;
+pub use swc_tree_statements::VarDeclKind;
+pub use swc_tree_statements::VarDeclOrExpr;
+pub use swc_tree_statements::VarDeclarator;
+pub use swc_tree_statements::WhileStmt;
+pub use swc_tree_statements::WithStmt;

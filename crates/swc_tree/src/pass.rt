@@ -1,19 +1,23 @@
 //! Passes over programs.
-ghost use Rattle.std.specs.Prelude.{OnOk, OnErr};
-ghost use Rattle.swc_tree.specs.Passes.{IsEmptied, IsExtended};
+ghost use Rattle.std.specs.Prelude.{IfOk, OnOk, OnErr};
+ghost use Rattle.swc_tree.specs.Passes.{IsEmptied, IsEmptiedScript, IsExtended};
 
 use std::alloc::Global;
 use swc_tree_marks::{Globals, PassError};
-use swc_tree_modules::Module;
+use swc_tree_modules::{Module, Script};
 
 /// A pass over programs, which works in place.
 pub trait JsPass {
     ghost use Rattle.swc_tree_marks.specs.Globals.{Table};
     ghost use Rattle.swc_tree_modules.specs.declared.module_.Module.{Module};
+    ghost use Rattle.swc_tree_modules.specs.declared.script.Script.{Script};
 
     /// What the pass does: of the pass, the table of marks and the program before, and the table and
     /// the program after.
     ghost visits: { Self → Table → Module → Table → Module → Type 0 };
+
+    /// What the pass does to a program of the goal Script.
+    ghost visits_script: { Self → Table → Script → Table → Script → Type 0 };
 
     /// Runs the pass on a program.
     ///
@@ -30,4 +34,58 @@ pub trait JsPass {
         ensures done { OnOk result (visits self.old globals.old program.old globals.new program.new) }
         ensures refused { OnErr result (IsEmptied program.old program.new) }
         ensures marks { IsExtended globals.old globals.new };
+
+    /// Runs the pass on a program of the goal Script.
+    ///
+    /// # Errors
+    ///
+    /// As those of `visit_mut_module`.
+    fn visit_mut_script(
+        &mut self,
+        alloc: Global,
+        globals: &mut Globals,
+        program: &mut Script,
+    ) -> Result<(), PassError>
+        ensures done { OnOk result (visits_script self.old globals.old program.old globals.new program.new) }
+        ensures refused { OnErr result (IsEmptiedScript program.old program.new) }
+        ensures marks { IsExtended globals.old globals.new };
+
+    /// Runs the pass on a program by value.
+    ///
+    /// # Errors
+    ///
+    /// Whatever the error, nothing is given back. The table of marks keeps what it has, and may have
+    /// more.
+    fn fold_module(
+        &mut self,
+        alloc: Global,
+        globals: &mut Globals,
+        program: Module,
+    ) -> Result<Module, PassError>
+        ensures done { IfOk result (λ folded. visits self.old globals.old program globals.new folded) }
+        ensures marks { IsExtended globals.old globals.new }
+    {
+        let mut program = program;
+        self.visit_mut_module(alloc, globals, &mut program)?;
+        Ok(program)
+    }
+
+    /// Runs the pass on a program of the goal Script, by value.
+    ///
+    /// # Errors
+    ///
+    /// As those of `fold_module`.
+    fn fold_script(
+        &mut self,
+        alloc: Global,
+        globals: &mut Globals,
+        program: Script,
+    ) -> Result<Script, PassError>
+        ensures done { IfOk result (λ folded. visits_script self.old globals.old program globals.new folded) }
+        ensures marks { IsExtended globals.old globals.new }
+    {
+        let mut program = program;
+        self.visit_mut_script(alloc, globals, &mut program)?;
+        Ok(program)
+    }
 }

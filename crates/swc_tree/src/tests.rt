@@ -117,7 +117,7 @@ fn variables(alloc: Global) -> Result<Stmt, AllocError> {
     args.push(argument.close(alloc)?)?;
     let call = CallExpr {
         span: DUMMY_SP,
-        callee: Callee::Expr(Expr::Ident(ident(alloc, "f")?)).close(alloc)?,
+        callee: Callee::Expr(reference(alloc, "f")?).close(alloc)?,
         args,
     };
     let paren = ParenExpr {
@@ -181,7 +181,9 @@ fn opens_programs(rt: HostRuntime) -> Result<(), AllocError> {
         panic!(rt; "a declarator")
     };
     let VarDeclarator { name, init, .. } = last.open();
-    let Pat::Ident(name) = name.open();
+    let Pat::Ident(name) = name.open() else {
+        panic!(rt; "a name")
+    };
     assert_eq!(rt; name.id.sym.as_str(), "z");
     assert!(rt; init.is_none());
     let Some(ModuleItem::Stmt(Stmt::Decl(Decl::Fn(FnDecl { ident, function })))) = module
@@ -206,11 +208,24 @@ struct Nothing;
 impl JsPass for Nothing {
     ghost visits = { λ pass table before held after. (held ≡ table) × (after ≡ before) };
 
+    ghost visits_script = { λ pass table before held after. (held ≡ table) × (after ≡ before) };
+
     fn visit_mut_module(
         &mut self,
         alloc: Global,
         globals: &mut Globals,
         program: &mut Module,
+    ) -> Result<(), PassError> {
+        let (items, shebang) = program.take(alloc);
+        program.put(items, shebang);
+        Ok(())
+    }
+
+    fn visit_mut_script(
+        &mut self,
+        alloc: Global,
+        globals: &mut Globals,
+        program: &mut Script,
     ) -> Result<(), PassError> {
         let (items, shebang) = program.take(alloc);
         program.put(items, shebang);
@@ -225,11 +240,23 @@ struct Refused;
 impl JsPass for Refused {
     ghost visits = { λ pass table before held after. ⊥ };
 
+    ghost visits_script = { λ pass table before held after. ⊥ };
+
     fn visit_mut_module(
         &mut self,
         alloc: Global,
         globals: &mut Globals,
         program: &mut Module,
+    ) -> Result<(), PassError> {
+        let _taken = program.take(alloc);
+        Err(PassError::CounterSpent)
+    }
+
+    fn visit_mut_script(
+        &mut self,
+        alloc: Global,
+        globals: &mut Globals,
+        program: &mut Script,
     ) -> Result<(), PassError> {
         let _taken = program.take(alloc);
         Err(PassError::CounterSpent)
@@ -246,6 +273,9 @@ fn passes_take_and_put(rt: HostRuntime) -> Result<(), AllocError> {
     assert_eq!(rt; done, Ok(()));
     assert_eq!(rt; module.body.len(), 3);
     assert!(rt; module.shebang.is_some());
+    let Ok(mut module) = noop().fold_module(alloc, &mut globals, module) else {
+        panic!(rt; "a program")
+    };
     let done = Refused.visit_mut_module(alloc, &mut globals, &mut module);
     assert_eq!(rt; done, Err(PassError::CounterSpent));
     assert!(rt; module.body.is_empty() && module.shebang.is_none());
@@ -274,5 +304,187 @@ fn lists_change_in_place(rt: HostRuntime) -> Result<(), AllocError> {
     }
     let exprs = Trees::<class::Expr>::from_nodes(exprs.into_nodes());
     assert_eq!(rt; exprs.len(), 2);
+    Ok(())
+}
+
+fn binding(alloc: Global, name: &str) -> Result<Tree<class::Pat>, AllocError> {
+    let binding = BindingIdent {
+        id: ident(alloc, name)?,
+    };
+    Pat::Ident(binding).close(alloc)
+}
+
+/// `{ a, b: [c = d, , ...e] }`
+fn pattern(alloc: Global) -> Result<Pat, AllocError> {
+    let default = AssignPat {
+        span: DUMMY_SP,
+        left: binding(alloc, "c")?,
+        right: reference(alloc, "d")?,
+    };
+    let rest = RestPat {
+        span: DUMMY_SP,
+        arg: binding(alloc, "e")?,
+    };
+    let mut elems = Holes::new(alloc);
+    elems.push(Some(Pat::Assign(default).close(alloc)?))?;
+    elems.push(None)?;
+    elems.push(Some(Pat::Rest(rest).close(alloc)?))?;
+    let array = ArrayPat {
+        span: DUMMY_SP,
+        elems,
+    };
+    let shorthand = AssignPatProp {
+        span: DUMMY_SP,
+        key: BindingIdent {
+            id: ident(alloc, "a")?,
+        },
+        value: None,
+    };
+    let key = IdentName {
+        span: DUMMY_SP,
+        sym: Text::new(alloc, "b")?,
+    };
+    let property = KeyValuePatProp {
+        key: PropName::Ident(key).close(alloc)?,
+        value: Pat::Array(array).close(alloc)?,
+    };
+    let mut props = Trees::new(alloc);
+    props.push(ObjectPatProp::Assign(shorthand).close(alloc)?)?;
+    props.push(ObjectPatProp::KeyValue(property).close(alloc)?)?;
+    Ok(Pat::Object(ObjectPat {
+        span: DUMMY_SP,
+        props,
+    }))
+}
+
+/// Keys and defaults bind nothing.
+#[test]
+fn finds_pattern_ids(rt: HostRuntime) -> Result<(), NoMemory> {
+    let alloc = rt.alloc();
+    let ids = find_pat_ids(alloc, &pattern(alloc)?)?;
+    assert_eq!(rt; ids.len(), 3);
+    for (id, name) in ids.iter().zip(["a", "c", "e"]) {
+        assert_eq!(rt; id.0.as_str(), name);
+    }
+    Ok(())
+}
+
+fn string_statement(alloc: Global, text: &str) -> Result<Stmt, AllocError> {
+    let text = Str {
+        span: DUMMY_SP,
+        value: Text::new(alloc, text)?,
+        raw: None,
+    };
+    Ok(Stmt::Expr(ExprStmt {
+        span: DUMMY_SP,
+        expr: Expr::Lit(Lit::Str(text)).close(alloc)?,
+    }))
+}
+
+fn name_statement(alloc: Global, name: &str) -> Result<Stmt, AllocError> {
+    Ok(Stmt::Expr(ExprStmt {
+        span: DUMMY_SP,
+        expr: reference(alloc, name)?,
+    }))
+}
+
+/// `y;` before `'a'; x;` gives `'a'; y; x;`.
+#[test]
+fn prepends_after_directives(rt: HostRuntime) -> Result<(), NoMemory> {
+    let alloc = rt.alloc();
+    let mut stmts: Trees<class::Stmt> = Trees::new(alloc);
+    stmts.push(string_statement(alloc, "a")?.close(alloc)?)?;
+    stmts.push(name_statement(alloc, "x")?.close(alloc)?)?;
+    let mut more = Trees::new(alloc);
+    more.push(name_statement(alloc, "y")?.close(alloc)?)?;
+    prepend_stmts(&mut stmts, more)?;
+    for expected in ["x", "y"] {
+        let Some(Stmt::Expr(last)) = stmts.pop().map(Tree::open) else {
+            panic!(rt; "a statement")
+        };
+        let Some(name) = last.expr.as_ident() else {
+            panic!(rt; "a name")
+        };
+        assert_eq!(rt; name.sym.as_str(), expected);
+    }
+    assert_eq!(rt; stmts.len(), 1);
+    Ok(())
+}
+
+#[test]
+fn knows_use_strict(rt: HostRuntime) -> Result<(), AllocError> {
+    let alloc = rt.alloc();
+    assert!(rt; is_use_strict(&string_statement(alloc, "use strict")?));
+    assert!(rt; !is_use_strict(&string_statement(alloc, "use  strict")?));
+    assert!(rt; !is_use_strict(&name_statement(alloc, "x")?));
+    Ok(())
+}
+
+/// Attributes of an import, and the expression that is called.
+#[test]
+fn keeps_pairs_and_callees(rt: HostRuntime) -> Result<(), AllocError> {
+    let alloc = rt.alloc();
+    let mut pairs = Pairs::new(alloc);
+    pairs.push(alloc, Text::new(alloc, "type")?, Text::new(alloc, "json")?)?;
+    let import = ImportDecl {
+        span: DUMMY_SP,
+        specifiers: Trees::new(alloc),
+        src: Str {
+            span: DUMMY_SP,
+            value: Text::new(alloc, "m")?,
+            raw: None,
+        },
+        with_: Some(pairs),
+    };
+    let closed: Tree<class::ImportDecl> = import.close(alloc)?;
+    let ImportDecl { with_, .. } = closed.clone()?.open();
+    let Some((key, value)) = with_.and_then(|mut pairs| pairs.pop()) else {
+        panic!(rt; "a pair")
+    };
+    assert_eq!(rt; key.as_str(), "type");
+    assert_eq!(rt; value.as_str(), "json");
+    let callee = Some(Callee::Expr(reference(alloc, "f")?));
+    let Some(called) = callee.as_expr() else {
+        panic!(rt; "an expression")
+    };
+    assert_eq!(rt; called.kind(), Kind::Ident);
+    Ok(())
+}
+
+/// A check that wants to see programs with items.
+#[derive(Default, Drop)]
+struct HasItems {
+    seen: bool,
+}
+
+impl Check for HasItems {
+    ghost visits = { λ before program after. ⊤ };
+
+    ghost handles = { λ check. check.seen };
+
+    fn visit_module(&mut self, program: &Module) {
+        self.seen = !program.body.is_empty();
+    }
+
+    fn visit_script(&mut self, program: &Script) {
+        self.seen = !program.body.is_empty();
+    }
+
+    fn should_handle(&self) -> bool {
+        self.seen
+    }
+}
+
+#[test]
+fn asks_checks(rt: HostRuntime) -> Result<(), AllocError> {
+    let alloc = rt.alloc();
+    assert!(rt; should_work::<HasItems, Module>(&program(alloc)?));
+    let script = Script {
+        span: DUMMY_SP,
+        body: Trees::new(alloc),
+        shebang: None,
+    };
+    assert!(rt; !should_work::<HasItems, Script>(&script));
+    assert!(rt; EsVersion::Es5 < EsVersion::Es2015 && EsVersion::Es2022 < EsVersion::EsNext);
     Ok(())
 }

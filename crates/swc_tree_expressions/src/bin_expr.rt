@@ -12,7 +12,7 @@ use swc_tree_handle::{Opened, Tree, class, collect, from_span, to_span};
 use swc_tree_marks::Span;
 use swc_tree_node::{Kind, Node};
 
-/// Two operands and the operator between them.
+/// Two operands and the operator between them (ECMA-262, 13.6 to 13.13).
 #[derive(Debug, Drop)]
 pub struct BinExpr {
     pub span: Span,

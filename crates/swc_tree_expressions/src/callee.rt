@@ -6,15 +6,17 @@ ghost use Rattle.swc_tree_node.specs.declared.slot.Content.TheVariants.{Node as 
 ghost use Rattle.swc_tree_node.specs.Fits.{Fits};
 ghost use Rattle.swc_tree_expressions.specs.Nodes.{of_callee};
 
-use crate::expr::Expr;
 use std::alloc::{AllocError, Global};
 use swc_tree_handle::{Opened, Tree, class};
+use swc_tree_names::{Import, Super};
 use swc_tree_node::{Kind, Node};
 
 /// What is called.
 #[derive(Debug, Drop)]
 pub enum Callee {
-    Expr(Expr),
+    Super(Super),
+    Import(Import),
+    Expr(Tree<class::Expr>),
 }
 
 impl Opened<class::Callee> for Callee {
@@ -28,13 +30,9 @@ impl Opened<class::Callee> for Callee {
     {
         let tree = Tree::<class::Callee>::from_node(closed);
         match tree.kind() {
-            Kind::Ident
-            | Kind::Str
-            | Kind::Number
-            | Kind::BinExpr
-            | Kind::CallExpr
-            | Kind::ParenExpr => Callee::Expr(tree.narrow::<class::Expr>().open()),
-            _ => unreachable!(),
+            Kind::Super => Callee::Super(tree.narrow::<class::Super>().open()),
+            Kind::Import => Callee::Import(tree.narrow::<class::Import>().open()),
+            _ => Callee::Expr(tree.narrow()),
         }
     }
 
@@ -42,7 +40,9 @@ impl Opened<class::Callee> for Callee {
         ensures { IfOk result (λ closed. (closed ≡ of_callee self) × Fits closed (One (Of class.Callee))) }
     {
         let tree: Tree<class::Callee> = match self {
-            Callee::Expr(opened) => opened.close(alloc)?.widen(),
+            Callee::Super(opened) => opened.close(alloc)?.widen(),
+            Callee::Import(opened) => opened.close(alloc)?.widen(),
+            Callee::Expr(tree) => tree.widen(),
         };
         Ok(tree.into_node())
     }

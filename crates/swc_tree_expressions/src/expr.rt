@@ -6,23 +6,60 @@ ghost use Rattle.swc_tree_node.specs.declared.slot.Content.TheVariants.{Node as 
 ghost use Rattle.swc_tree_node.specs.Fits.{Fits};
 ghost use Rattle.swc_tree_expressions.specs.Nodes.{of_expr};
 
+use crate::array_lit::ArrayLit;
+use crate::assign_expr::AssignExpr;
+use crate::await_expr::AwaitExpr;
 use crate::bin_expr::BinExpr;
 use crate::call_expr::CallExpr;
+use crate::cond_expr::CondExpr;
+use crate::member_expr::MemberExpr;
+use crate::new_expr::NewExpr;
+use crate::object_lit::ObjectLit;
+use crate::opt_chain_expr::OptChainExpr;
 use crate::paren_expr::ParenExpr;
+use crate::seq_expr::SeqExpr;
+use crate::super_prop_expr::SuperPropExpr;
+use crate::tagged_tpl::TaggedTpl;
+use crate::tpl::Tpl;
+use crate::unary_expr::UnaryExpr;
+use crate::update_expr::UpdateExpr;
+use crate::yield_expr::YieldExpr;
 use std::alloc::{AllocError, Global};
+use swc_tree_functions::{ArrowExpr, ClassExpr, FnExpr};
 use swc_tree_handle::{Opened, Tree, class};
 use swc_tree_marks::Ident;
-use swc_tree_names::Lit;
+use swc_tree_names::{Lit, MetaPropExpr, PrivateName, ThisExpr};
 use swc_tree_node::{Kind, Node};
 
 /// An expression (ECMA-262, Expression).
 #[derive(Debug, Drop)]
 pub enum Expr {
+    This(ThisExpr),
+    Array(ArrayLit),
+    Object(ObjectLit),
+    Fn(FnExpr),
+    Unary(UnaryExpr),
+    Update(UpdateExpr),
+    Bin(BinExpr),
+    Assign(AssignExpr),
+    Member(MemberExpr),
+    SuperProp(SuperPropExpr),
+    Cond(CondExpr),
+    Call(CallExpr),
+    New(NewExpr),
+    Seq(SeqExpr),
     Ident(Ident),
     Lit(Lit),
-    Bin(BinExpr),
-    Call(CallExpr),
+    Tpl(Tpl),
+    TaggedTpl(TaggedTpl),
+    Arrow(ArrowExpr),
+    Class(ClassExpr),
+    Yield(YieldExpr),
+    MetaProp(MetaPropExpr),
+    Await(AwaitExpr),
     Paren(ParenExpr),
+    PrivateName(PrivateName),
+    OptChain(OptChainExpr),
 }
 
 impl Opened<class::Expr> for Expr {
@@ -36,11 +73,33 @@ impl Opened<class::Expr> for Expr {
     {
         let tree = Tree::<class::Expr>::from_node(closed);
         match tree.kind() {
-            Kind::Ident => Expr::Ident(tree.narrow::<class::Ident>().open()),
-            Kind::Str | Kind::Number => Expr::Lit(tree.narrow::<class::Lit>().open()),
+            Kind::ThisExpr => Expr::This(tree.narrow::<class::ThisExpr>().open()),
+            Kind::ArrayLit => Expr::Array(tree.narrow::<class::ArrayLit>().open()),
+            Kind::ObjectLit => Expr::Object(tree.narrow::<class::ObjectLit>().open()),
+            Kind::FnExpr => Expr::Fn(tree.narrow::<class::FnExpr>().open()),
+            Kind::UnaryExpr => Expr::Unary(tree.narrow::<class::UnaryExpr>().open()),
+            Kind::UpdateExpr => Expr::Update(tree.narrow::<class::UpdateExpr>().open()),
             Kind::BinExpr => Expr::Bin(tree.narrow::<class::BinExpr>().open()),
+            Kind::AssignExpr => Expr::Assign(tree.narrow::<class::AssignExpr>().open()),
+            Kind::MemberExpr => Expr::Member(tree.narrow::<class::MemberExpr>().open()),
+            Kind::SuperPropExpr => Expr::SuperProp(tree.narrow::<class::SuperPropExpr>().open()),
+            Kind::CondExpr => Expr::Cond(tree.narrow::<class::CondExpr>().open()),
             Kind::CallExpr => Expr::Call(tree.narrow::<class::CallExpr>().open()),
+            Kind::NewExpr => Expr::New(tree.narrow::<class::NewExpr>().open()),
+            Kind::SeqExpr => Expr::Seq(tree.narrow::<class::SeqExpr>().open()),
+            Kind::Ident => Expr::Ident(tree.narrow::<class::Ident>().open()),
+            Kind::Str | Kind::Bool | Kind::Null | Kind::Number | Kind::BigInt | Kind::Regex =>
+                Expr::Lit(tree.narrow::<class::Lit>().open()),
+            Kind::Tpl => Expr::Tpl(tree.narrow::<class::Tpl>().open()),
+            Kind::TaggedTpl => Expr::TaggedTpl(tree.narrow::<class::TaggedTpl>().open()),
+            Kind::ArrowExpr => Expr::Arrow(tree.narrow::<class::ArrowExpr>().open()),
+            Kind::ClassExpr => Expr::Class(tree.narrow::<class::ClassExpr>().open()),
+            Kind::YieldExpr => Expr::Yield(tree.narrow::<class::YieldExpr>().open()),
+            Kind::MetaPropExpr => Expr::MetaProp(tree.narrow::<class::MetaPropExpr>().open()),
+            Kind::AwaitExpr => Expr::Await(tree.narrow::<class::AwaitExpr>().open()),
             Kind::ParenExpr => Expr::Paren(tree.narrow::<class::ParenExpr>().open()),
+            Kind::PrivateName => Expr::PrivateName(tree.narrow::<class::PrivateName>().open()),
+            Kind::OptChainExpr => Expr::OptChain(tree.narrow::<class::OptChainExpr>().open()),
             _ => unreachable!(),
         }
     }
@@ -49,11 +108,32 @@ impl Opened<class::Expr> for Expr {
         ensures { IfOk result (λ closed. (closed ≡ of_expr self) × Fits closed (One (Of class.Expr))) }
     {
         let tree: Tree<class::Expr> = match self {
+            Expr::This(opened) => opened.close(alloc)?.widen(),
+            Expr::Array(opened) => opened.close(alloc)?.widen(),
+            Expr::Object(opened) => opened.close(alloc)?.widen(),
+            Expr::Fn(opened) => opened.close(alloc)?.widen(),
+            Expr::Unary(opened) => opened.close(alloc)?.widen(),
+            Expr::Update(opened) => opened.close(alloc)?.widen(),
+            Expr::Bin(opened) => opened.close(alloc)?.widen(),
+            Expr::Assign(opened) => opened.close(alloc)?.widen(),
+            Expr::Member(opened) => opened.close(alloc)?.widen(),
+            Expr::SuperProp(opened) => opened.close(alloc)?.widen(),
+            Expr::Cond(opened) => opened.close(alloc)?.widen(),
+            Expr::Call(opened) => opened.close(alloc)?.widen(),
+            Expr::New(opened) => opened.close(alloc)?.widen(),
+            Expr::Seq(opened) => opened.close(alloc)?.widen(),
             Expr::Ident(opened) => opened.close(alloc)?.widen(),
             Expr::Lit(opened) => opened.close(alloc)?.widen(),
-            Expr::Bin(opened) => opened.close(alloc)?.widen(),
-            Expr::Call(opened) => opened.close(alloc)?.widen(),
+            Expr::Tpl(opened) => opened.close(alloc)?.widen(),
+            Expr::TaggedTpl(opened) => opened.close(alloc)?.widen(),
+            Expr::Arrow(opened) => opened.close(alloc)?.widen(),
+            Expr::Class(opened) => opened.close(alloc)?.widen(),
+            Expr::Yield(opened) => opened.close(alloc)?.widen(),
+            Expr::MetaProp(opened) => opened.close(alloc)?.widen(),
+            Expr::Await(opened) => opened.close(alloc)?.widen(),
             Expr::Paren(opened) => opened.close(alloc)?.widen(),
+            Expr::PrivateName(opened) => opened.close(alloc)?.widen(),
+            Expr::OptChain(opened) => opened.close(alloc)?.widen(),
         };
         Ok(tree.into_node())
     }

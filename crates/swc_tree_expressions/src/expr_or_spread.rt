@@ -11,7 +11,7 @@ use swc_tree_handle::{Opened, Tree, class, collect, from_optional_span, to_optio
 use swc_tree_marks::Span;
 use swc_tree_node::{Kind, Node};
 
-/// An argument, after `...` where its elements are the arguments (ECMA-262, ArgumentList).
+/// An argument or element, after `...` where it stands for its elements (ECMA-262, ArgumentList).
 #[derive(Debug, Drop)]
 pub struct ExprOrSpread {
     pub spread: Option<Span>,

@@ -1,20 +1,17 @@
 -- A node that fits one class fits another that takes its kind.
-use Rattle.std.proofs.Common.{◌≡◌, zero, suc, slice_get, slice_set, List, [], ◌∷◌, ℕ, Bool, true, false, not, ◌||◌, ◌==◌, IsTrue, Some, refl, ap, subst, sym, map, arith}
+use Rattle.std.proofs.Common.{◌≡◌, zero, suc, slice_get, slice_set, take, drop, ◌++◌, List, [], ◌∷◌, ℕ, Bool, true, false, not, ◌||◌, ◌==◌, IsTrue, Some, sym, refl, ap, subst, arith}
 use Rattle.std.specs.List.{list_any, list_all}
 use Rattle.swc_tree_marks.specs.declared.ident.Ident.{Ident}
 use Rattle.swc_tree_node.specs.declared.kind.Kind.{Kind}
 use Rattle.swc_tree_node.specs.declared.kind.Class.{Class}
 use Rattle.swc_tree_node.specs.declared.slot.Content.TheVariants as content
-use Rattle.swc_tree_node.specs.declared.kind.Word.{Word as Word'}
-use Rattle.swc_tree_marks.specs.declared.span.Span.{Span as Span'}
 use Rattle.swc_tree_node.specs.declared.slot.Slot.{Slot}
 use Rattle.swc_tree_node.specs.declared.slot.Slot.TheVariants as slot
-use Rattle.swc_tree_node.specs.declared.node.Node.{Node, Absent, Flag, Word, Text, Span, List as Many, Identifier, Tree, ind-Node, roll-Node, map-Node}
-use Rattle.swc_tree_node.specs.declared.node.Node.TheOpen.{Node-F}
-use Rattle.swc_tree_node.specs.declared.node.Node.TheVariants.{outs-Identifier, outs-Tree, rolls-Absent, rolls-Flag, rolls-Word, rolls-Text, rolls-Span, rolls-List, rolls-Identifier, rolls-Tree}
+use Rattle.swc_tree_node.specs.declared.node.Node.{Node, Identifier, Tree}
+use Rattle.swc_tree_node.specs.declared.node.Node.TheVariants.{outs-Identifier, outs-Tree}
 use Rattle.swc_tree_node.specs.Table.{slots_of, is_identifier, kinds_of, kind_number}
 use Rattle.swc_tree_node.specs.Fits.{Fits, belongs, FieldsFit, AllFit}
-use Rattle.swc_tree_node.proofs.Fit.{tree_opens, tree_closes, both, and_both, fits-Absent, fits-Flag, fits-Word, fits-Text, fits-Span, fits-List, fits-Identifier}
+use Rattle.swc_tree_node.proofs.Fit.{tree_opens, tree_closes, both, and_both, fits-Identifier}
 use Rattle.swc_tree_handle.proofs.Numbers.{same_kind}
 use Rattle.swc_tree_handle.specs.Handles.{kind_of, takes, is_of, is_within}
 
@@ -32,6 +29,9 @@ identifier_opens k i c h = both (is_identifier k) (belongs k c) (rw (← fits-Id
 
 pub identifier_closes : (k : Kind) (i : Ident) (c : Class) → IsTrue (is_identifier k) → IsTrue (belongs k c) → Fits (Identifier k i) (slot.One (content.Node c))
 identifier_closes k i c h g = rw (fits-Identifier k i (slot.One (content.Node c))) (and_both (is_identifier k) (belongs k c) h g)
+
+pub tree_belongs : (k : Kind) (ts : List Node) (c : Class) → Fits (Tree k ts) (slot.One (content.Node c)) → IsTrue (belongs k c)
+tree_belongs k ts c h = (tree_opens k ts c h).1
 
 pub identifier_moves : (k : Kind) (i : Ident) (c d : Class) → Fits (Identifier k i) (slot.One (content.Node c)) → IsTrue (is_of (Identifier k i) d) → Fits (Identifier k i) (slot.One (content.Node d))
 identifier_moves k i c d h g = identifier_closes k i d (identifier_opens k i c h).0 (rw (← ap (takes d) (kind_of-Identifier k i)) g)
@@ -73,17 +73,27 @@ only k l h = same_kind k l (grind arith)
 sole : (k l : Kind) (c : Class) → kinds_of c ≡ l ∷ [] → IsTrue (belongs k c) → k ≡ l
 sole k l c e h = only k l (subst (λ ks. IsTrue (list_any (λ x. kind_number k == kind_number x) ks)) e h)
 
+clash : (b : Bool) → IsTrue b → IsTrue (not b) → ⊥
+clash true h g = absurd (grind arith)
+clash false h g = absurd (grind arith)
+
 pub sole_tree : (k : Kind) (ts : List Node) (c : Class) (l : Kind) → Fits (Tree k ts) (slot.One (content.Node c)) → kinds_of c ≡ l ∷ [] → (k ≡ l) × FieldsFit (slots_of l) ts
 sole_tree k ts c l h e =
     let o = tree_opens k ts c h in
     let s = sole k l c e o.1 in
     (s, subst (λ x. FieldsFit (slots_of x) ts) s o.2)
 
+pub sole_tree_kind : (k : Kind) (ts : List Node) (c : Class) (l : Kind) → Fits (Tree k ts) (slot.One (content.Node c)) → kinds_of c ≡ l ∷ [] → k ≡ l
+sole_tree_kind k ts c l h e = (sole_tree k ts c l h e).0
+
 pub sole_identifier : (k : Kind) (i : Ident) (c : Class) (l : Kind) → Fits (Identifier k i) (slot.One (content.Node c)) → kinds_of c ≡ l ∷ [] → (k ≡ l) × IsTrue (is_identifier l)
 sole_identifier k i c l h e =
     let o = identifier_opens k i c h in
     let s = sole k l c e o.1 in
     (s, subst (λ x. IsTrue (is_identifier x)) s o.0)
+
+pub sole_unnamed : (k : Kind) (i : Ident) (c : Class) (l : Kind) → Fits (Identifier k i) (slot.One (content.Node c)) → kinds_of c ≡ l ∷ [] → IsTrue (not (is_identifier l)) → ⊥
+sole_unnamed k i c l h e = clash (is_identifier l) (sole_identifier k i c l h e).1
 
 pub sole_plain : (k : Kind) (ts : List Node) (c : Class) (l : Kind) → Fits (Tree k ts) (slot.One (content.Node c)) → kinds_of c ≡ l ∷ [] → IsTrue (not (is_identifier l))
 sole_plain k ts c l h e = subst (λ x. IsTrue (not (is_identifier x))) (sole_tree k ts c l h e).0 (tree_opens k ts c h).0
@@ -98,42 +108,33 @@ all_set s [] i t h f = tt
 all_set s (x ∷ ts) zero t h f = (f, h.1)
 all_set s (x ∷ ts) (suc i) t h f = (h.0, all_set s ts i t h.1 f)
 
-no : {X : Type 0} → IsTrue false → X
-no h = absurd (grind arith)
+alike : (k l : Kind) (b c : Bool) → (kind_number k == kind_number l) ≡ c → IsTrue (c || b) → (k ≡ l → ⊥) → IsTrue b
+alike k l b true e h n = absurd (n (same_kind k l (grind arith)))
+alike k l b false e h n = h
 
-clash : (b : Bool) → IsTrue (not b) → IsTrue b → IsTrue false
-clash true h g = h
-clash false h g = g
+-- a kind that is not the first of a list is one of the rest
+pub other : (k l : Kind) (b : Bool) → IsTrue ((kind_number k == kind_number l) || b) → (k ≡ l → ⊥) → IsTrue b
+other k l b h n = alike k l b (kind_number k == kind_number l) refl h n
 
--- what holds of each form of a node holds of every node
-by_form : (P : Node → Type 0) → P Absent → ((x : Bool) → P (Flag x)) → ((w : Word') → P (Word w)) → ((x : List ℕ) → P (Text x)) → ((x : Span') → P (Span x)) → ((ts : List Node) → P (Many ts)) → ((k : Kind) (i : Ident) → P (Identifier k i)) → ((k : Kind) (ts : List Node) → P (Tree k ts)) → (t : Node) → P t
-by_form P absent flag word text span list identifier tree t = ind-Node P (λ x all e. subst (λ x. P (roll-Node x)) e (layer all)) t
-  where
-    layer : (y : Node-F ((t : Node) × P t)) → P (roll-Node (map-Node ((t : Node) × P t) Node (λ e. e.0) y))
-    layer Node-F.Absent = subst P (sym rolls-Absent) absent
-    layer (Node-F.Flag x) = subst P (sym (rolls-Flag x)) (flag x)
-    layer (Node-F.Word w) = subst P (sym (rolls-Word w)) (word w)
-    layer (Node-F.Text x) = subst P (sym (rolls-Text x)) (text x)
-    layer (Node-F.Span x) = subst P (sym (rolls-Span x)) (span x)
-    layer (Node-F.List es) = subst P (sym (rolls-List (map (λ e. e.0) es))) (list (map (λ e. e.0) es))
-    layer (Node-F.Identifier k i) = subst P (sym (rolls-Identifier k i)) (identifier k i)
-    layer (Node-F.Tree k es) = subst P (sym (rolls-Tree k (map (λ e. e.0) es))) (tree k (map (λ e. e.0) es))
+pub is_of_kind : (t : Node) (k : Kind) (d : Class) → kind_of t ≡ Some k → IsTrue (belongs k d) → IsTrue (is_of t d)
+is_of_kind t k d e h = subst (λ o. IsTrue (takes d o)) (sym e) h
 
--- a node whose class takes one kind, and that no identifier's, is of that kind
-pub sole_fields : (t : Node) (c : Class) (l : Kind) → Fits t (slot.One (content.Node c)) → kinds_of c ≡ l ∷ [] → IsTrue (not (is_identifier l)) → (ts : List Node) × (t ≡ Tree l ts)
-sole_fields t c l h e n = by_form P
-    (λ g. no (rw (← fits-Absent (slot.One (content.Node c))) g))
-    (λ x g. no (rw (← fits-Flag x (slot.One (content.Node c))) g))
-    (λ w g. no (rw (← fits-Word w (slot.One (content.Node c))) g))
-    (λ x g. no (rw (← fits-Text x (slot.One (content.Node c))) g))
-    (λ x g. no (rw (← fits-Span x (slot.One (content.Node c))) g))
-    (λ ts g. no (rw (← fits-List ts (slot.One (content.Node c))) g))
-    (λ k i g. no (clash (is_identifier l) n (sole_identifier k i c l g e).1))
-    (λ k ts g. (ts, ap (λ x. Tree x ts) (sole_tree k ts c l g e).0))
-    t h
-  where
-    P : Node → Type 0
-    P t = Fits t (slot.One (content.Node c)) → (ts : List Node) × (t ≡ Tree l ts)
+all_join : (s : Slot) (ts us : List Node) → AllFit s ts → AllFit s us → AllFit s (ts ++ us)
+all_join s [] us h g = g
+all_join s (t ∷ ts) us h g = (h.0, all_join s ts us h.1 g)
 
-pub tree_belongs : (k : Kind) (ts : List Node) (c : Class) → Fits (Tree k ts) (slot.One (content.Node c)) → IsTrue (belongs k c)
-tree_belongs k ts c h = (tree_opens k ts c h).1
+all_take : (s : Slot) (ts : List Node) (i : ℕ) → AllFit s ts → AllFit s (take i ts)
+all_take s [] zero h = tt
+all_take s [] (suc i) h = tt
+all_take s (t ∷ ts) zero h = tt
+all_take s (t ∷ ts) (suc i) h = (h.0, all_take s ts i h.1)
+
+all_drop : (s : Slot) (ts : List Node) (i : ℕ) → AllFit s ts → AllFit s (drop i ts)
+all_drop s [] zero h = tt
+all_drop s [] (suc i) h = tt
+all_drop s (t ∷ ts) zero h = h
+all_drop s (t ∷ ts) (suc i) h = all_drop s ts i h.1
+
+-- what stands round what was put in fits as before
+pub all_inserted : (s : Slot) (ts us : List Node) (i : ℕ) → AllFit s ts → AllFit s us → AllFit s (take i ts ++ us ++ drop i ts)
+all_inserted s ts us i h g = all_join s (take i ts ++ us) (drop i ts) (all_join s (take i ts) us (all_take s ts i h) g) (all_drop s ts i h)

@@ -1,12 +1,12 @@
 -- Nodes with their class, and leaves as nodes.
-use Rattle.std.specs.Prelude.{ℕ, Bool, false, List, Option, Some, None}
+use Rattle.std.specs.Prelude.{ℕ, Bool, false, List, [], ◌∷◌, Option, Some, None}
 use Rattle.std.specs.List.{list_all}
 use Rattle.swc_tree_marks.specs.declared.span.Span.{Span as Span'}
 use Rattle.swc_tree_marks.specs.declared.ident.Ident.{Ident}
 use Rattle.swc_tree_node.specs.declared.kind.Kind.{Kind}
 use Rattle.swc_tree_node.specs.declared.kind.Kind.TheVariants as kind
 use Rattle.swc_tree_node.specs.declared.kind.Class.{Class}
-use Rattle.swc_tree_node.specs.declared.node.Node.{Node, Absent, Text, Span, Identifier, out-Node}
+use Rattle.swc_tree_node.specs.declared.node.Node.{Node, Absent, Text, Span, List as Many, Identifier, out-Node}
 use Rattle.swc_tree_node.specs.declared.node.Node.TheOpen.{Node-F}
 use Rattle.swc_tree_node.specs.Table.{kinds_of}
 use Rattle.swc_tree_node.specs.Fits.{belongs}
@@ -44,6 +44,14 @@ optional_span (Some s) = Span s
 abbrev pub optional_text : Option (List ℕ) → Node
 optional_text None = Absent
 optional_text (Some x) = Text x
+
+abbrev pub optional_list : Option (List Node) → Node
+optional_list None = Absent
+optional_list (Some ts) = Many ts
+
+-- two texts
+abbrev pub pair_node : List ℕ → List ℕ → Node
+pair_node key value = Many (Text key ∷ Text value ∷ [])
 
 abbrev pub ident_node : Ident → Node
 ident_node x = Identifier kind.Ident x

@@ -76,7 +76,7 @@ impl<C: Syntax> Tree<C> {
     }
 
     /// What struct the node is.
-    #[tactic(auto, using(swc_tree_node::proofs::Fit::fitting, crate::proofs::Handles::kinds))]
+    #[tactic(auto, using(swc_tree_node::proofs::Fit::fitting, crate::proofs::Handles::kinds, crate::proofs::Handles::tree_belongs))]
     pub fn kind(&self) -> Kind
         ensures is { kind_of self.now ≡ Some result }
         ensures belongs { IsTrue (belongs result C.class) }
@@ -139,7 +139,7 @@ impl<C: Syntax> Tree<C> {
     }
 
     /// The fields of a node whose class takes one kind.
-    #[tactic(auto, using(swc_tree_node::proofs::Fit::fitting, crate::proofs::Handles::sole_tree, crate::proofs::Handles::sole_identifier))]
+    #[tactic(auto, using(swc_tree_node::proofs::Fit::fitting, crate::proofs::Handles::sole_tree_kind))]
     pub fn into_fields(self, kind: Kind) -> Items<Node>
         requires sole { kinds_of C.class ≡ kind ∷ [] }
         requires plain { IsTrue (not (is_identifier kind)) }
@@ -148,6 +148,7 @@ impl<C: Syntax> Tree<C> {
     {
         match self.into_node() {
             Node::Tree(_, fields) => fields,
+            Node::Identifier(_, _) => unreachable!(),
             _ => unreachable!(),
         }
     }
@@ -184,6 +185,18 @@ impl<C: Syntax> Tree<C> {
         ensures { IfOk result (λ tree. tree ≡ Identifier kind ident) }
     {
         Ok(Tree::from_node(Node::Identifier(kind, Boxed::new(alloc, ident)?)))
+    }
+}
+
+impl<C: Syntax> Clone for Tree<C> {
+    ghost is_clone = { λ tree copy. copy ≡ tree };
+
+    fn clone(&self) -> Result<Tree<C>, AllocError> {
+        let node = self.node.clone()?;
+        Ok(Tree {
+            node,
+            of: PhantomData,
+        })
     }
 }
 

@@ -1,9 +1,10 @@
 //! Lists of nodes with their class.
-ghost use Rattle.std.specs.Prelude.{◌≡◌, [], ◌++◌, ◌∷◌, ◌<◌, ◌↔◌, IsTrue, OnOk, OnErr, MatchOption, Some, length, slice_get, slice_set};
+ghost use Rattle.std.specs.Prelude.{◌≡◌, [], ◌++◌, ◌∷◌, ◌<◌, ◌≤◌, ◌↔◌, IsTrue, OnOk, OnErr, MatchOption, Some, length, slice_get, slice_set, take, drop as drop_first};
 ghost use Rattle.swc_tree_node.specs.declared.node.Node.{List as Many};
-ghost use Rattle.swc_tree_node.specs.declared.slot.Slot.TheVariants.{One, List as Several};
+ghost use Rattle.swc_tree_node.specs.declared.slot.Slot.TheVariants.{One, List as Several, OptionalList};
 ghost use Rattle.swc_tree_node.specs.declared.slot.Content.TheVariants.{Node as Of};
 ghost use Rattle.swc_tree_node.specs.Fits.{Fits, AllFit};
+ghost use Rattle.swc_tree_handle.specs.Handles.{optional_list};
 
 use crate::class::Syntax;
 use crate::tree::Tree;
@@ -11,7 +12,7 @@ use std::alloc::{AllocError, Global};
 use std::fmt;
 use std::marker::{Model, PhantomData};
 use swc_tree_items::Items;
-use swc_tree_node::Node;
+use swc_tree_node::{Node, copy_nodes};
 
 /// Nodes of the class `C`. Contracts see them as the list of the nodes.
 #[derive(Drop)]
@@ -90,6 +91,31 @@ impl<C: Syntax> Trees<C> {
         Node::List(self.into_nodes())
     }
 
+    /// What a place holds that takes a list, or nothing.
+    #[tactic(auto, using(swc_tree_node::proofs::Fit::fitting, swc_tree_node::proofs::Fit::optional_list_opens))]
+    pub fn from_optional(node: Node) -> Option<Trees<C>>
+        requires { Fits node (OptionalList (Of C.class)) }
+        ensures { optional_list result ≡ node }
+    {
+        match node {
+            Node::Absent => None,
+            Node::List(nodes) => Some(Trees::from_nodes(nodes)),
+            _ => unreachable!(),
+        }
+    }
+
+    /// What a place is to hold that takes a list, or nothing.
+    #[tactic(auto, using(swc_tree_node::proofs::Fit::fitting, swc_tree_node::proofs::Fit::optional_list_closes))]
+    pub fn into_optional(trees: Option<Trees<C>>) -> Node
+        ensures is { result ≡ optional_list trees }
+        ensures fits { Fits result (OptionalList (Of C.class)) }
+    {
+        match trees {
+            Some(trees) => Node::List(trees.into_nodes()),
+            None => Node::Absent,
+        }
+    }
+
     /// The nodes in place.
     pub fn as_slice(&self) -> &[Node]
         ensures same { result.now ≡ self.now }
@@ -121,6 +147,17 @@ impl<C: Syntax> Trees<C> {
         self.nodes.push(tree.into_node())
     }
 
+    /// Moves the nodes of `more` to before the node at an index, or to the end. Where memory is refused,
+    /// the list stays and `more` is dropped.
+    pub fn insert_all(&mut self, index: usize, more: Trees<C>) -> Result<(), AllocError>
+        requires { index ≤ length self.old }
+        ensures ok { OnOk result (self.new ≡ take index self.old ++ more ++ drop_first index self.old) }
+        ensures err { OnErr result (self.new ≡ self.old) }
+    {
+        self.nodes.insert_all(index, more.into_nodes())?;
+        Ok(())
+    }
+
     /// Takes the last node out.
     #[tactic(auto, using(swc_tree_node::proofs::Fit::all_last, swc_tree_node::proofs::Fit::all_before))]
     pub fn pop(&mut self) -> Option<Tree<C>>
@@ -140,6 +177,18 @@ impl<C: Syntax> Trees<C> {
         ensures list { self.new ≡ slice_set self.old index tree }
     {
         Tree::from_node(self.nodes.replace(index, tree.into_node()))
+    }
+}
+
+impl<C: Syntax> Clone for Trees<C> {
+    ghost is_clone = { λ trees copy. copy ≡ trees };
+
+    fn clone(&self) -> Result<Trees<C>, AllocError> {
+        let nodes = copy_nodes(&self.nodes)?;
+        Ok(Trees {
+            nodes,
+            of: PhantomData,
+        })
     }
 }
 

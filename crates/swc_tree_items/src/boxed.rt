@@ -57,6 +57,14 @@ impl<T: Drop> Boxed<T> {
     }
 }
 
+impl<T: Clone + Drop> Clone for Boxed<T> {
+    ghost is_clone = { T.is_clone };
+
+    fn clone(&self) -> Result<Boxed<T>, AllocError> {
+        Boxed::new(*Box::allocator(&self.inner), T::clone(&self.inner)?)
+    }
+}
+
 #[cfg(test)]
 mod tests {
     use super::*;

@@ -1,4 +1,4 @@
-ghost use Rattle.std.specs.Prelude.{◌≡◌, [], ◌∷◌, ◌++◌, ◌<◌, length, slice_get, slice_set, remove, reverse as reversed, ◌↔◌, IsTrue, IfOk, MatchOption, OnOk, OnErr, OnSome};
+ghost use Rattle.std.specs.Prelude.{◌≡◌, [], ◌∷◌, ◌++◌, ◌<◌, ◌≤◌, length, slice_get, slice_set, remove, take, drop as drop_first, reverse as reversed, ◌↔◌, IsTrue, IfOk, MatchOption, OnOk, OnErr, OnSome};
 ghost use Rattle.std.specs.Option.{option_copied};
 
 use std::alloc::{AllocError, Global};
@@ -8,8 +8,8 @@ use std::mem;
 /// An owned list, which contracts see as the list of its elements.
 ///
 /// Reading, replacing and taking out an element costs constant time, `remove` and `reverse` time in
-/// step with the length. Only `append`, `push`,
-/// `from_slice` and `with_capacity` take memory.
+/// step with the length. Only `append`, `insert_all`, `push`, `from_slice` and `with_capacity` take
+/// memory.
 #[derive(Debug, Drop)]
 pub struct Items<T> {
     items: Vec<T>,
@@ -70,6 +70,11 @@ impl<T> Items<T> {
         }
     }
 
+    /// What the list takes its memory from.
+    pub fn allocator(&self) -> Global {
+        *self.items.allocator()
+    }
+
     /// The elements in place.
     pub fn as_slice(&self) -> &[T]
         ensures { result.now ≡ self.now }
@@ -116,6 +121,22 @@ impl<T> Items<T> {
     {
         let Items { mut items } = more;
         self.items.append(&mut items)
+    }
+
+    /// Moves the elements of `more` to before the element at an index, or to the end. Where memory is
+    /// refused, the list stays and `more` is dropped.
+    pub fn insert_all(&mut self, index: usize, more: Items<T>) -> Result<(), AllocError>
+    where
+        T: Drop,
+        requires { index ≤ length self.old }
+        ensures ok { OnOk result (self.new ≡ take index self.old ++ more ++ drop_first index self.old) }
+        ensures err { OnErr result (self.new ≡ self.old) }
+    {
+        let Items { mut items } = more;
+        let count = items.len();
+        self.items.append(&mut items)?;
+        self.items[index..].rotate_right(count);
+        Ok(())
     }
 
     /// Puts the elements into the opposite order.

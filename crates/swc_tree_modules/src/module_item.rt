@@ -6,14 +6,16 @@ ghost use Rattle.swc_tree_node.specs.declared.slot.Content.TheVariants.{Node as 
 ghost use Rattle.swc_tree_node.specs.Fits.{Fits};
 ghost use Rattle.swc_tree_modules.specs.Nodes.{of_module_item};
 
+use crate::module_decl::ModuleDecl;
 use std::alloc::{AllocError, Global};
 use swc_tree_handle::{Opened, Tree, class};
 use swc_tree_node::{Kind, Node};
 use swc_tree_statements::Stmt;
 
-/// An item of a program (ECMA-262, ModuleItem).
+/// An item of a module (ECMA-262, ModuleItem).
 #[derive(Debug, Drop)]
 pub enum ModuleItem {
+    ModuleDecl(ModuleDecl),
     Stmt(Stmt),
 }
 
@@ -28,9 +30,13 @@ impl Opened<class::ModuleItem> for ModuleItem {
     {
         let tree = Tree::<class::ModuleItem>::from_node(closed);
         match tree.kind() {
-            Kind::BlockStmt | Kind::ReturnStmt | Kind::FnDecl | Kind::VarDecl | Kind::ExprStmt =>
-                ModuleItem::Stmt(tree.narrow::<class::Stmt>().open()),
-            _ => unreachable!(),
+            Kind::ImportDecl
+            | Kind::ExportDecl
+            | Kind::NamedExport
+            | Kind::ExportDefaultDecl
+            | Kind::ExportDefaultExpr
+            | Kind::ExportAll => ModuleItem::ModuleDecl(tree.narrow::<class::ModuleDecl>().open()),
+            _ => ModuleItem::Stmt(tree.narrow::<class::Stmt>().open()),
         }
     }
 
@@ -38,6 +44,7 @@ impl Opened<class::ModuleItem> for ModuleItem {
         ensures { IfOk result (λ closed. (closed ≡ of_module_item self) × Fits closed (One (Of class.ModuleItem))) }
     {
         let tree: Tree<class::ModuleItem> = match self {
+            ModuleItem::ModuleDecl(opened) => opened.close(alloc)?.widen(),
             ModuleItem::Stmt(opened) => opened.close(alloc)?.widen(),
         };
         Ok(tree.into_node())

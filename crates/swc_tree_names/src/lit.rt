@@ -6,7 +6,11 @@ ghost use Rattle.swc_tree_node.specs.declared.slot.Content.TheVariants.{Node as 
 ghost use Rattle.swc_tree_node.specs.Fits.{Fits};
 ghost use Rattle.swc_tree_names.specs.Nodes.{of_lit};
 
+use crate::big_int::BigInt;
+use crate::bool::Bool;
+use crate::null::Null;
 use crate::number::Number;
+use crate::regex::Regex;
 use crate::str::Str;
 use std::alloc::{AllocError, Global};
 use swc_tree_handle::{Opened, Tree, class};
@@ -16,7 +20,11 @@ use swc_tree_node::{Kind, Node};
 #[derive(Debug, Drop)]
 pub enum Lit {
     Str(Str),
+    Bool(Bool),
+    Null(Null),
     Num(Number),
+    BigInt(BigInt),
+    Regex(Regex),
 }
 
 impl Opened<class::Lit> for Lit {
@@ -31,7 +39,11 @@ impl Opened<class::Lit> for Lit {
         let tree = Tree::<class::Lit>::from_node(closed);
         match tree.kind() {
             Kind::Str => Lit::Str(tree.narrow::<class::Str>().open()),
+            Kind::Bool => Lit::Bool(tree.narrow::<class::Bool>().open()),
+            Kind::Null => Lit::Null(tree.narrow::<class::Null>().open()),
             Kind::Number => Lit::Num(tree.narrow::<class::Number>().open()),
+            Kind::BigInt => Lit::BigInt(tree.narrow::<class::BigInt>().open()),
+            Kind::Regex => Lit::Regex(tree.narrow::<class::Regex>().open()),
             _ => unreachable!(),
         }
     }
@@ -41,7 +53,11 @@ impl Opened<class::Lit> for Lit {
     {
         let tree: Tree<class::Lit> = match self {
             Lit::Str(opened) => opened.close(alloc)?.widen(),
+            Lit::Bool(opened) => opened.close(alloc)?.widen(),
+            Lit::Null(opened) => opened.close(alloc)?.widen(),
             Lit::Num(opened) => opened.close(alloc)?.widen(),
+            Lit::BigInt(opened) => opened.close(alloc)?.widen(),
+            Lit::Regex(opened) => opened.close(alloc)?.widen(),
         };
         Ok(tree.into_node())
     }

@@ -129,3 +129,30 @@ all_last s (x ∷ ts) t h = all_last s ts t h.1
 pub all_before : (s : Slot) (ts : List Node) (t : Node) → AllFit s (ts ++ t ∷ []) → AllFit s ts
 all_before s [] t h = tt
 all_before s (x ∷ ts) t h = (h.0, all_before s ts t h.1)
+
+pub holes_open : (ts : List Node) (c : Content) → Fits (Many ts) (slot.Holes c) → AllFit (slot.Optional c) ts
+holes_open ts c h = all_open (slot.Optional c) ts (rw (← fits-List ts (slot.Holes c)) h)
+
+pub holes_close : (ts : List Node) (c : Content) → AllFit (slot.Optional c) ts → Fits (Many ts) (slot.Holes c)
+holes_close ts c h = rw (fits-List ts (slot.Holes c)) (all_close (slot.Optional c) ts h)
+
+pub optional_list_opens : (ts : List Node) (c : Content) → Fits (Many ts) (slot.OptionalList c) → AllFit (slot.One c) ts
+optional_list_opens ts c h = all_open (slot.One c) ts (rw (← fits-List ts (slot.OptionalList c)) h)
+
+pub optional_list_closes : (ts : List Node) (c : Content) → AllFit (slot.One c) ts → Fits (Many ts) (slot.OptionalList c)
+optional_list_closes ts c h = rw (fits-List ts (slot.OptionalList c)) (all_close (slot.One c) ts h)
+
+pub pairs_open : (ts : List Node) → Fits (Many ts) slot.Pairs → AllFit slot.Pair ts
+pairs_open ts h = all_open slot.Pair ts (rw (← fits-List ts slot.Pairs) h)
+
+pub pairs_close : (ts : List Node) → AllFit slot.Pair ts → Fits (Many ts) slot.Pairs
+pairs_close ts h = rw (fits-List ts slot.Pairs) (all_close slot.Pair ts h)
+
+-- a pair is a list of two texts
+pub pair_opens : (ts : List Node) → Fits (Many ts) slot.Pair → FieldsFit (slot.One content.Text ∷ slot.One content.Text ∷ []) ts
+pair_opens ts h = fields_open (slot.One content.Text ∷ slot.One content.Text ∷ []) ts (rw (← fits-List ts slot.Pair) h)
+
+pub pair_closes : (key value : List ℕ) → Fits (Many (Text key ∷ Text value ∷ [])) slot.Pair
+pair_closes key value = rw (fits-List (Text key ∷ Text value ∷ []) slot.Pair)
+    (fields_close (slot.One content.Text ∷ slot.One content.Text ∷ []) (Text key ∷ Text value ∷ [])
+    (rw (fits-Text key (slot.One content.Text)) refl, (rw (fits-Text value (slot.One content.Text)) refl, tt)))

@@ -25,10 +25,12 @@ is_among w ws = list_any (λ x. word_number w == word_number x) (words_of ws)
 abbrev pub single : Slot → Option Content
 single (slot.One c) = Some c
 single (slot.Optional c) = Some c
-single (slot.List c) = None
+single _ = None
 
 abbrev pub absent_fits : Slot → Bool
 absent_fits (slot.Optional c) = true
+absent_fits (slot.OptionalList c) = true
+absent_fits slot.Pairs = true
 absent_fits _ = false
 
 abbrev pub flag_fits : Option Content → Bool
@@ -62,6 +64,10 @@ each_fits _ _ = false
 
 abbrev pub list_fits : List Test → Slot → Bool
 list_fits fs (slot.List c) = all_fit fs (slot.One c)
+list_fits fs (slot.Holes c) = all_fit fs (slot.Optional c)
+list_fits fs (slot.OptionalList c) = all_fit fs (slot.One c)
+list_fits fs slot.Pair = each_fits (slot.One content.Text ∷ slot.One content.Text ∷ []) fs
+list_fits fs slot.Pairs = all_fit fs slot.Pair
 list_fits fs _ = false
 
 abbrev pub identifier_fits : Kind → Option Content → Bool

@@ -1,11 +1,13 @@
 //! The syntax tree as one recursive type, and the table of what stands where in it.
 #![tactic(auto)]
 
+mod copies;
 mod kind;
 mod node;
 mod slot;
 mod table;
 
+pub use copies::copy_nodes;
 pub use kind::{Class, Kind, Word, WordClass};
 pub use node::Node;
 pub use slot::{Content, Field, Role, Scope, Slot};

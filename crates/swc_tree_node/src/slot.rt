@@ -18,6 +18,14 @@ pub enum Slot {
     /// One, or nothing.
     Optional(Content),
     List(Content),
+    /// A list in which items may be left out.
+    Holes(Content),
+    /// A list, or nothing.
+    OptionalList(Content),
+    /// Two texts.
+    Pair,
+    /// A list of pairs of texts, or nothing.
+    Pairs,
 }
 
 /// What an identifier is that stands in a field, or in what stands there.
@@ -33,14 +41,31 @@ pub enum Role {
     Declared,
     /// The name of a function declaration.
     Function,
+    /// The name of a class declaration.
+    Class,
+    /// The name of a function or class expression, which is bound in it alone.
+    OwnName,
     /// A name that a parameter binds.
     Parameter,
+    /// A name that a catch parameter binds.
+    Catch,
+    /// A name that an import binds.
+    Import,
     /// A name that `var` binds.
     Variable,
     /// A name that `let` or `const` binds.
     Lexical,
-    /// No name; the block here is the body of a function, and no scope of its own.
+    /// The block here is the body of a function, and no scope of its own; an expression here may be an
+    /// identifier reference.
     FunctionBody,
+    /// A label.
+    Label,
+    /// The name under which another module exports what is imported.
+    Imported,
+    /// The name under which something is exported.
+    Exported,
+    /// The local side of an export list: a reference, or an imported name where the list has a source.
+    ExportLocal,
 }
 
 /// The kinds of scopes.

@@ -6,7 +6,9 @@ ghost use Rattle.swc_tree_node.specs.declared.slot.Content.TheVariants.{Node as 
 ghost use Rattle.swc_tree_node.specs.Fits.{Fits};
 ghost use Rattle.swc_tree_statements.specs.Nodes.{of_decl};
 
+use crate::class_decl::ClassDecl;
 use crate::fn_decl::FnDecl;
+use crate::using_decl::UsingDecl;
 use crate::var_decl::VarDecl;
 use std::alloc::{AllocError, Global};
 use swc_tree_handle::{Opened, Tree, class};
@@ -15,8 +17,10 @@ use swc_tree_node::{Kind, Node};
 /// A declaration (ECMA-262, Declaration and VariableStatement).
 #[derive(Debug, Drop)]
 pub enum Decl {
+    Class(ClassDecl),
     Fn(FnDecl),
     Var(VarDecl),
+    Using(UsingDecl),
 }
 
 impl Opened<class::Decl> for Decl {
@@ -30,8 +34,10 @@ impl Opened<class::Decl> for Decl {
     {
         let tree = Tree::<class::Decl>::from_node(closed);
         match tree.kind() {
+            Kind::ClassDecl => Decl::Class(tree.narrow::<class::ClassDecl>().open()),
             Kind::FnDecl => Decl::Fn(tree.narrow::<class::FnDecl>().open()),
             Kind::VarDecl => Decl::Var(tree.narrow::<class::VarDecl>().open()),
+            Kind::UsingDecl => Decl::Using(tree.narrow::<class::UsingDecl>().open()),
             _ => unreachable!(),
         }
     }
@@ -40,8 +46,10 @@ impl Opened<class::Decl> for Decl {
         ensures { IfOk result (λ closed. (closed ≡ of_decl self) × Fits closed (One (Of class.Decl))) }
     {
         let tree: Tree<class::Decl> = match self {
+            Decl::Class(opened) => opened.close(alloc)?.widen(),
             Decl::Fn(opened) => opened.close(alloc)?.widen(),
             Decl::Var(opened) => opened.close(alloc)?.widen(),
+            Decl::Using(opened) => opened.close(alloc)?.widen(),
         };
         Ok(tree.into_node())
     }

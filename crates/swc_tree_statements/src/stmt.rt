@@ -8,17 +8,44 @@ ghost use Rattle.swc_tree_statements.specs.Nodes.{of_stmt};
 
 use crate::block_stmt::BlockStmt;
 use crate::decl::Decl;
+use crate::do_while_stmt::DoWhileStmt;
 use crate::expr_stmt::ExprStmt;
+use crate::for_in_stmt::ForInStmt;
+use crate::for_of_stmt::ForOfStmt;
+use crate::for_stmt::ForStmt;
+use crate::if_stmt::IfStmt;
+use crate::labeled_stmt::LabeledStmt;
 use crate::return_stmt::ReturnStmt;
+use crate::switch_stmt::SwitchStmt;
+use crate::throw_stmt::ThrowStmt;
+use crate::try_stmt::TryStmt;
+use crate::while_stmt::WhileStmt;
+use crate::with_stmt::WithStmt;
 use std::alloc::{AllocError, Global};
 use swc_tree_handle::{Opened, Tree, class};
+use swc_tree_names::{BreakStmt, ContinueStmt, DebuggerStmt, EmptyStmt};
 use swc_tree_node::{Kind, Node};
 
 /// A statement or declaration (ECMA-262, StatementListItem).
 #[derive(Debug, Drop)]
 pub enum Stmt {
     Block(BlockStmt),
+    Empty(EmptyStmt),
+    Debugger(DebuggerStmt),
+    With(WithStmt),
     Return(ReturnStmt),
+    Labeled(LabeledStmt),
+    Break(BreakStmt),
+    Continue(ContinueStmt),
+    If(IfStmt),
+    Switch(SwitchStmt),
+    Throw(ThrowStmt),
+    Try(TryStmt),
+    While(WhileStmt),
+    DoWhile(DoWhileStmt),
+    For(ForStmt),
+    ForIn(ForInStmt),
+    ForOf(ForOfStmt),
     Decl(Decl),
     Expr(ExprStmt),
 }
@@ -35,8 +62,25 @@ impl Opened<class::Stmt> for Stmt {
         let tree = Tree::<class::Stmt>::from_node(closed);
         match tree.kind() {
             Kind::BlockStmt => Stmt::Block(tree.narrow::<class::BlockStmt>().open()),
+            Kind::EmptyStmt => Stmt::Empty(tree.narrow::<class::EmptyStmt>().open()),
+            Kind::DebuggerStmt => Stmt::Debugger(tree.narrow::<class::DebuggerStmt>().open()),
+            Kind::WithStmt => Stmt::With(tree.narrow::<class::WithStmt>().open()),
             Kind::ReturnStmt => Stmt::Return(tree.narrow::<class::ReturnStmt>().open()),
-            Kind::FnDecl | Kind::VarDecl => Stmt::Decl(tree.narrow::<class::Decl>().open()),
+            Kind::LabeledStmt => Stmt::Labeled(tree.narrow::<class::LabeledStmt>().open()),
+            Kind::BreakStmt => Stmt::Break(tree.narrow::<class::BreakStmt>().open()),
+            Kind::ContinueStmt => Stmt::Continue(tree.narrow::<class::ContinueStmt>().open()),
+            Kind::IfStmt => Stmt::If(tree.narrow::<class::IfStmt>().open()),
+            Kind::SwitchStmt => Stmt::Switch(tree.narrow::<class::SwitchStmt>().open()),
+            Kind::ThrowStmt => Stmt::Throw(tree.narrow::<class::ThrowStmt>().open()),
+            Kind::TryStmt => Stmt::Try(tree.narrow::<class::TryStmt>().open()),
+            Kind::WhileStmt => Stmt::While(tree.narrow::<class::WhileStmt>().open()),
+            Kind::DoWhileStmt => Stmt::DoWhile(tree.narrow::<class::DoWhileStmt>().open()),
+            Kind::ForStmt => Stmt::For(tree.narrow::<class::ForStmt>().open()),
+            Kind::ForInStmt => Stmt::ForIn(tree.narrow::<class::ForInStmt>().open()),
+            Kind::ForOfStmt => Stmt::ForOf(tree.narrow::<class::ForOfStmt>().open()),
+            Kind::ClassDecl | Kind::FnDecl | Kind::VarDecl | Kind::UsingDecl => Stmt::Decl(
+                tree.narrow::<class::Decl>().open(),
+            ),
             Kind::ExprStmt => Stmt::Expr(tree.narrow::<class::ExprStmt>().open()),
             _ => unreachable!(),
         }
@@ -47,7 +91,22 @@ impl Opened<class::Stmt> for Stmt {
     {
         let tree: Tree<class::Stmt> = match self {
             Stmt::Block(opened) => opened.close(alloc)?.widen(),
+            Stmt::Empty(opened) => opened.close(alloc)?.widen(),
+            Stmt::Debugger(opened) => opened.close(alloc)?.widen(),
+            Stmt::With(opened) => opened.close(alloc)?.widen(),
             Stmt::Return(opened) => opened.close(alloc)?.widen(),
+            Stmt::Labeled(opened) => opened.close(alloc)?.widen(),
+            Stmt::Break(opened) => opened.close(alloc)?.widen(),
+            Stmt::Continue(opened) => opened.close(alloc)?.widen(),
+            Stmt::If(opened) => opened.close(alloc)?.widen(),
+            Stmt::Switch(opened) => opened.close(alloc)?.widen(),
+            Stmt::Throw(opened) => opened.close(alloc)?.widen(),
+            Stmt::Try(opened) => opened.close(alloc)?.widen(),
+            Stmt::While(opened) => opened.close(alloc)?.widen(),
+            Stmt::DoWhile(opened) => opened.close(alloc)?.widen(),
+            Stmt::For(opened) => opened.close(alloc)?.widen(),
+            Stmt::ForIn(opened) => opened.close(alloc)?.widen(),
+            Stmt::ForOf(opened) => opened.close(alloc)?.widen(),
             Stmt::Decl(opened) => opened.close(alloc)?.widen(),
             Stmt::Expr(opened) => opened.close(alloc)?.widen(),
         };

@@ -1,0 +1,59 @@
+//! Printed by tools/print_table.py from tools/tree.txt.
+ghost use Rattle.std.specs.Prelude.{◌≡◌, IfOk};
+ghost use Rattle.swc_tree_node.specs.declared.kind.Class.TheVariants as class;
+ghost use Rattle.swc_tree_node.specs.declared.slot.Slot.TheVariants.{One};
+ghost use Rattle.swc_tree_node.specs.declared.slot.Content.TheVariants.{Node as Of};
+ghost use Rattle.swc_tree_node.specs.Fits.{Fits};
+ghost use Rattle.swc_tree_functions.specs.Nodes.{class_node};
+
+use std::alloc::{AllocError, Global};
+use swc_tree_handle::{Opened, Tree, Trees, class, collect, from_span, to_span};
+use swc_tree_marks::Span;
+use swc_tree_node::{Kind, Node};
+
+/// The heritage and the members of a class (ECMA-262, ClassTail).
+#[derive(Debug, Drop)]
+pub struct Class {
+    pub span: Span,
+    pub super_class: Option<Tree<class::Expr>>,
+    pub body: Trees<class::ClassMember>,
+}
+
+impl Opened<class::Class> for Class {
+    ghost class = { class.Class };
+
+    ghost node = { class_node };
+
+    #[tactic(auto, using(swc_tree_node::proofs::Fit::lengths))]
+    fn from_node(closed: Node) -> Class
+        requires { Fits closed (One (Of class.Class)) }
+        ensures { class_node result ≡ closed }
+    {
+        let fields = Tree::<class::Class>::from_node(closed).into_fields(Kind::Class);
+        let [span, super_class, body] = fields.into_array::<3>();
+        Class {
+            span: to_span(span),
+            super_class: Tree::from_optional(super_class),
+            body: Trees::from_node(body),
+        }
+    }
+
+    fn into_node(self, alloc: Global) -> Result<Node, AllocError>
+        ensures { IfOk result (λ closed. (closed ≡ class_node self) × Fits closed (One (Of class.Class))) }
+    {
+        let Class {
+            span,
+            super_class,
+            body,
+        } = self;
+        let fields = collect(
+            alloc,
+            [
+                from_span(span),
+                Tree::into_optional(super_class),
+                body.into_node(),
+            ],
+        )?;
+        Ok(Tree::<class::Class>::from_fields(Kind::Class, fields).into_node())
+    }
+}

@@ -1,0 +1,63 @@
+//! Printed by tools/print_table.py from tools/tree.txt.
+ghost use Rattle.std.specs.Prelude.{◌≡◌, IfOk};
+ghost use Rattle.swc_tree_node.specs.declared.kind.Class.TheVariants as class;
+ghost use Rattle.swc_tree_node.specs.declared.slot.Slot.TheVariants.{One};
+ghost use Rattle.swc_tree_node.specs.declared.slot.Content.TheVariants.{Node as Of};
+ghost use Rattle.swc_tree_node.specs.Fits.{Fits};
+ghost use Rattle.swc_tree_functions.specs.Nodes.{class_prop_node};
+
+use std::alloc::{AllocError, Global};
+use swc_tree_handle::{Opened, Tree, class, collect, from_flag, from_span, to_flag, to_span};
+use swc_tree_marks::Span;
+use swc_tree_node::{Kind, Node};
+
+/// A field of a class (ECMA-262, FieldDefinition).
+#[derive(Debug, Drop)]
+pub struct ClassProp {
+    pub span: Span,
+    pub key: Tree<class::PropName>,
+    pub value: Option<Tree<class::Expr>>,
+    pub is_static: bool,
+}
+
+impl Opened<class::ClassProp> for ClassProp {
+    ghost class = { class.ClassProp };
+
+    ghost node = { class_prop_node };
+
+    #[tactic(auto, using(swc_tree_node::proofs::Fit::lengths))]
+    fn from_node(closed: Node) -> ClassProp
+        requires { Fits closed (One (Of class.ClassProp)) }
+        ensures { class_prop_node result ≡ closed }
+    {
+        let fields = Tree::<class::ClassProp>::from_node(closed).into_fields(Kind::ClassProp);
+        let [span, key, value, is_static] = fields.into_array::<4>();
+        ClassProp {
+            span: to_span(span),
+            key: Tree::from_node(key),
+            value: Tree::from_optional(value),
+            is_static: to_flag(is_static),
+        }
+    }
+
+    fn into_node(self, alloc: Global) -> Result<Node, AllocError>
+        ensures { IfOk result (λ closed. (closed ≡ class_prop_node self) × Fits closed (One (Of class.ClassProp))) }
+    {
+        let ClassProp {
+            span,
+            key,
+            value,
+            is_static,
+        } = self;
+        let fields = collect(
+            alloc,
+            [
+                from_span(span),
+                key.into_node(),
+                Tree::into_optional(value),
+                from_flag(is_static),
+            ],
+        )?;
+        Ok(Tree::<class::ClassProp>::from_fields(Kind::ClassProp, fields).into_node())
+    }
+}

@@ -1,0 +1,48 @@
+//! Printed by tools/print_table.py from tools/tree.txt.
+ghost use Rattle.std.specs.Prelude.{◌≡◌, IfOk};
+ghost use Rattle.swc_tree_node.specs.declared.kind.Class.TheVariants as class;
+ghost use Rattle.swc_tree_node.specs.declared.slot.Slot.TheVariants.{One};
+ghost use Rattle.swc_tree_node.specs.declared.slot.Content.TheVariants.{Node as Of};
+ghost use Rattle.swc_tree_node.specs.Fits.{Fits};
+ghost use Rattle.swc_tree_functions.specs.Nodes.{computed_prop_name_node};
+
+use std::alloc::{AllocError, Global};
+use swc_tree_handle::{Opened, Tree, class, collect, from_span, to_span};
+use swc_tree_marks::Span;
+use swc_tree_node::{Kind, Node};
+
+/// A computed key (ECMA-262, ComputedPropertyName).
+#[derive(Debug, Drop)]
+pub struct ComputedPropName {
+    pub span: Span,
+    pub expr: Tree<class::Expr>,
+}
+
+impl Opened<class::ComputedPropName> for ComputedPropName {
+    ghost class = { class.ComputedPropName };
+
+    ghost node = { computed_prop_name_node };
+
+    #[tactic(auto, using(swc_tree_node::proofs::Fit::lengths))]
+    fn from_node(closed: Node) -> ComputedPropName
+        requires { Fits closed (One (Of class.ComputedPropName)) }
+        ensures { computed_prop_name_node result ≡ closed }
+    {
+        let fields = Tree::<class::ComputedPropName>::from_node(closed).into_fields(
+            Kind::ComputedPropName,
+        );
+        let [span, expr] = fields.into_array::<2>();
+        ComputedPropName {
+            span: to_span(span),
+            expr: Tree::from_node(expr),
+        }
+    }
+
+    fn into_node(self, alloc: Global) -> Result<Node, AllocError>
+        ensures { IfOk result (λ closed. (closed ≡ computed_prop_name_node self) × Fits closed (One (Of class.ComputedPropName))) }
+    {
+        let ComputedPropName { span, expr } = self;
+        let fields = collect(alloc, [from_span(span), expr.into_node()])?;
+        Ok(Tree::<class::ComputedPropName>::from_fields(Kind::ComputedPropName, fields).into_node())
+    }
+}

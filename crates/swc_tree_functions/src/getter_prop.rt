@@ -1,0 +1,48 @@
+//! Printed by tools/print_table.py from tools/tree.txt.
+ghost use Rattle.std.specs.Prelude.{◌≡◌, IfOk};
+ghost use Rattle.swc_tree_node.specs.declared.kind.Class.TheVariants as class;
+ghost use Rattle.swc_tree_node.specs.declared.slot.Slot.TheVariants.{One};
+ghost use Rattle.swc_tree_node.specs.declared.slot.Content.TheVariants.{Node as Of};
+ghost use Rattle.swc_tree_node.specs.Fits.{Fits};
+ghost use Rattle.swc_tree_functions.specs.Nodes.{getter_prop_node};
+
+use std::alloc::{AllocError, Global};
+use swc_tree_handle::{Opened, Tree, class, collect, from_span, to_span};
+use swc_tree_marks::Span;
+use swc_tree_node::{Kind, Node};
+
+/// A getter of an object (ECMA-262, MethodDefinition).
+#[derive(Debug, Drop)]
+pub struct GetterProp {
+    pub span: Span,
+    pub key: Tree<class::PropName>,
+    pub body: Tree<class::BlockStmt>,
+}
+
+impl Opened<class::GetterProp> for GetterProp {
+    ghost class = { class.GetterProp };
+
+    ghost node = { getter_prop_node };
+
+    #[tactic(auto, using(swc_tree_node::proofs::Fit::lengths))]
+    fn from_node(closed: Node) -> GetterProp
+        requires { Fits closed (One (Of class.GetterProp)) }
+        ensures { getter_prop_node result ≡ closed }
+    {
+        let fields = Tree::<class::GetterProp>::from_node(closed).into_fields(Kind::GetterProp);
+        let [span, key, body] = fields.into_array::<3>();
+        GetterProp {
+            span: to_span(span),
+            key: Tree::from_node(key),
+            body: Tree::from_node(body),
+        }
+    }
+
+    fn into_node(self, alloc: Global) -> Result<Node, AllocError>
+        ensures { IfOk result (λ closed. (closed ≡ getter_prop_node self) × Fits closed (One (Of class.GetterProp))) }
+    {
+        let GetterProp { span, key, body } = self;
+        let fields = collect(alloc, [from_span(span), key.into_node(), body.into_node()])?;
+        Ok(Tree::<class::GetterProp>::from_fields(Kind::GetterProp, fields).into_node())
+    }
+}

@@ -1,0 +1,45 @@
+//! Printed by tools/print_table.py from tools/tree.txt.
+ghost use Rattle.std.specs.Prelude.{◌≡◌, IfOk};
+ghost use Rattle.swc_tree_node.specs.declared.kind.Class.TheVariants as class;
+ghost use Rattle.swc_tree_node.specs.declared.slot.Slot.TheVariants.{One};
+ghost use Rattle.swc_tree_node.specs.declared.slot.Content.TheVariants.{Node as Of};
+ghost use Rattle.swc_tree_node.specs.Fits.{Fits};
+ghost use Rattle.swc_tree_functions.specs.Nodes.{method_prop_node};
+
+use std::alloc::{AllocError, Global};
+use swc_tree_handle::{Opened, Tree, class, collect};
+use swc_tree_node::{Kind, Node};
+
+/// A method of an object (ECMA-262, MethodDefinition).
+#[derive(Debug, Drop)]
+pub struct MethodProp {
+    pub key: Tree<class::PropName>,
+    pub function: Tree<class::Function>,
+}
+
+impl Opened<class::MethodProp> for MethodProp {
+    ghost class = { class.MethodProp };
+
+    ghost node = { method_prop_node };
+
+    #[tactic(auto, using(swc_tree_node::proofs::Fit::lengths))]
+    fn from_node(closed: Node) -> MethodProp
+        requires { Fits closed (One (Of class.MethodProp)) }
+        ensures { method_prop_node result ≡ closed }
+    {
+        let fields = Tree::<class::MethodProp>::from_node(closed).into_fields(Kind::MethodProp);
+        let [key, function] = fields.into_array::<2>();
+        MethodProp {
+            key: Tree::from_node(key),
+            function: Tree::from_node(function),
+        }
+    }
+
+    fn into_node(self, alloc: Global) -> Result<Node, AllocError>
+        ensures { IfOk result (λ closed. (closed ≡ method_prop_node self) × Fits closed (One (Of class.MethodProp))) }
+    {
+        let MethodProp { key, function } = self;
+        let fields = collect(alloc, [key.into_node(), function.into_node()])?;
+        Ok(Tree::<class::MethodProp>::from_fields(Kind::MethodProp, fields).into_node())
+    }
+}

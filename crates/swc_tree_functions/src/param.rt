@@ -1,0 +1,46 @@
+//! Printed by tools/print_table.py from tools/tree.txt.
+ghost use Rattle.std.specs.Prelude.{◌≡◌, IfOk};
+ghost use Rattle.swc_tree_node.specs.declared.kind.Class.TheVariants as class;
+ghost use Rattle.swc_tree_node.specs.declared.slot.Slot.TheVariants.{One};
+ghost use Rattle.swc_tree_node.specs.declared.slot.Content.TheVariants.{Node as Of};
+ghost use Rattle.swc_tree_node.specs.Fits.{Fits};
+ghost use Rattle.swc_tree_functions.specs.Nodes.{param_node};
+
+use std::alloc::{AllocError, Global};
+use swc_tree_handle::{Opened, Tree, class, collect, from_span, to_span};
+use swc_tree_marks::Span;
+use swc_tree_node::{Kind, Node};
+
+/// A parameter of a function (ECMA-262, FormalParameter).
+#[derive(Debug, Drop)]
+pub struct Param {
+    pub span: Span,
+    pub pat: Tree<class::Pat>,
+}
+
+impl Opened<class::Param> for Param {
+    ghost class = { class.Param };
+
+    ghost node = { param_node };
+
+    #[tactic(auto, using(swc_tree_node::proofs::Fit::lengths))]
+    fn from_node(closed: Node) -> Param
+        requires { Fits closed (One (Of class.Param)) }
+        ensures { param_node result ≡ closed }
+    {
+        let fields = Tree::<class::Param>::from_node(closed).into_fields(Kind::Param);
+        let [span, pat] = fields.into_array::<2>();
+        Param {
+            span: to_span(span),
+            pat: Tree::from_node(pat),
+        }
+    }
+
+    fn into_node(self, alloc: Global) -> Result<Node, AllocError>
+        ensures { IfOk result (λ closed. (closed ≡ param_node self) × Fits closed (One (Of class.Param))) }
+    {
+        let Param { span, pat } = self;
+        let fields = collect(alloc, [from_span(span), pat.into_node()])?;
+        Ok(Tree::<class::Param>::from_fields(Kind::Param, fields).into_node())
+    }
+}

@@ -1,0 +1,51 @@
+//! Printed by tools/print_table.py from tools/tree.txt.
+ghost use Rattle.std.specs.Prelude.{◌≡◌, IfOk};
+ghost use Rattle.swc_tree_node.specs.declared.kind.Class.TheVariants as class;
+ghost use Rattle.swc_tree_node.specs.declared.slot.Slot.TheVariants.{One};
+ghost use Rattle.swc_tree_node.specs.declared.slot.Content.TheVariants.{Node as Of};
+ghost use Rattle.swc_tree_node.specs.Fits.{Fits};
+ghost use Rattle.swc_tree_modules.specs.Nodes.{export_default_decl_node};
+
+use std::alloc::{AllocError, Global};
+use swc_tree_handle::{Opened, Tree, class, collect, from_span, to_span};
+use swc_tree_marks::Span;
+use swc_tree_node::{Kind, Node};
+
+/// A declaration as the default export (ECMA-262, ExportDeclaration).
+#[derive(Debug, Drop)]
+pub struct ExportDefaultDecl {
+    pub span: Span,
+    pub decl: Tree<class::DefaultDecl>,
+}
+
+impl Opened<class::ExportDefaultDecl> for ExportDefaultDecl {
+    ghost class = { class.ExportDefaultDecl };
+
+    ghost node = { export_default_decl_node };
+
+    #[tactic(auto, using(swc_tree_node::proofs::Fit::lengths))]
+    fn from_node(closed: Node) -> ExportDefaultDecl
+        requires { Fits closed (One (Of class.ExportDefaultDecl)) }
+        ensures { export_default_decl_node result ≡ closed }
+    {
+        let fields = Tree::<class::ExportDefaultDecl>::from_node(closed).into_fields(
+            Kind::ExportDefaultDecl,
+        );
+        let [span, decl] = fields.into_array::<2>();
+        ExportDefaultDecl {
+            span: to_span(span),
+            decl: Tree::from_node(decl),
+        }
+    }
+
+    fn into_node(self, alloc: Global) -> Result<Node, AllocError>
+        ensures { IfOk result (λ closed. (closed ≡ export_default_decl_node self) × Fits closed (One (Of class.ExportDefaultDecl))) }
+    {
+        let ExportDefaultDecl { span, decl } = self;
+        let fields = collect(alloc, [from_span(span), decl.into_node()])?;
+        Ok(Tree::<class::ExportDefaultDecl>::from_fields(
+            Kind::ExportDefaultDecl,
+            fields,
+        ).into_node())
+    }
+}

@@ -1,0 +1,51 @@
+//! Printed by tools/print_table.py from tools/tree.txt.
+ghost use Rattle.std.specs.Prelude.{◌≡◌, IfOk};
+ghost use Rattle.swc_tree_node.specs.declared.kind.Class.TheVariants as class;
+ghost use Rattle.swc_tree_node.specs.declared.slot.Slot.TheVariants.{One};
+ghost use Rattle.swc_tree_node.specs.declared.slot.Content.TheVariants.{Node as Of};
+ghost use Rattle.swc_tree_node.specs.Fits.{Fits};
+ghost use Rattle.swc_tree_modules.specs.Nodes.{export_default_expr_node};
+
+use std::alloc::{AllocError, Global};
+use swc_tree_handle::{Opened, Tree, class, collect, from_span, to_span};
+use swc_tree_marks::Span;
+use swc_tree_node::{Kind, Node};
+
+/// An expression as the default export (ECMA-262, ExportDeclaration).
+#[derive(Debug, Drop)]
+pub struct ExportDefaultExpr {
+    pub span: Span,
+    pub expr: Tree<class::Expr>,
+}
+
+impl Opened<class::ExportDefaultExpr> for ExportDefaultExpr {
+    ghost class = { class.ExportDefaultExpr };
+
+    ghost node = { export_default_expr_node };
+
+    #[tactic(auto, using(swc_tree_node::proofs::Fit::lengths))]
+    fn from_node(closed: Node) -> ExportDefaultExpr
+        requires { Fits closed (One (Of class.ExportDefaultExpr)) }
+        ensures { export_default_expr_node result ≡ closed }
+    {
+        let fields = Tree::<class::ExportDefaultExpr>::from_node(closed).into_fields(
+            Kind::ExportDefaultExpr,
+        );
+        let [span, expr] = fields.into_array::<2>();
+        ExportDefaultExpr {
+            span: to_span(span),
+            expr: Tree::from_node(expr),
+        }
+    }
+
+    fn into_node(self, alloc: Global) -> Result<Node, AllocError>
+        ensures { IfOk result (λ closed. (closed ≡ export_default_expr_node self) × Fits closed (One (Of class.ExportDefaultExpr))) }
+    {
+        let ExportDefaultExpr { span, expr } = self;
+        let fields = collect(alloc, [from_span(span), expr.into_node()])?;
+        Ok(Tree::<class::ExportDefaultExpr>::from_fields(
+            Kind::ExportDefaultExpr,
+            fields,
+        ).into_node())
+    }
+}

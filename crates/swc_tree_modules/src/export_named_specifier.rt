@@ -1,0 +1,64 @@
+//! Printed by tools/print_table.py from tools/tree.txt.
+ghost use Rattle.std.specs.Prelude.{◌≡◌, IfOk};
+ghost use Rattle.swc_tree_node.specs.declared.kind.Class.TheVariants as class;
+ghost use Rattle.swc_tree_node.specs.declared.slot.Slot.TheVariants.{One};
+ghost use Rattle.swc_tree_node.specs.declared.slot.Content.TheVariants.{Node as Of};
+ghost use Rattle.swc_tree_node.specs.Fits.{Fits};
+ghost use Rattle.swc_tree_modules.specs.Nodes.{export_named_specifier_node};
+
+use std::alloc::{AllocError, Global};
+use swc_tree_handle::{Opened, Tree, class, collect, from_span, to_span};
+use swc_tree_marks::Span;
+use swc_tree_node::{Kind, Node};
+
+/// One name that is exported (ECMA-262, ExportSpecifier).
+#[derive(Debug, Drop)]
+pub struct ExportNamedSpecifier {
+    pub span: Span,
+    pub orig: Tree<class::ModuleExportName>,
+    pub exported: Option<Tree<class::ModuleExportName>>,
+}
+
+impl Opened<class::ExportNamedSpecifier> for ExportNamedSpecifier {
+    ghost class = { class.ExportNamedSpecifier };
+
+    ghost node = { export_named_specifier_node };
+
+    #[tactic(auto, using(swc_tree_node::proofs::Fit::lengths))]
+    fn from_node(closed: Node) -> ExportNamedSpecifier
+        requires { Fits closed (One (Of class.ExportNamedSpecifier)) }
+        ensures { export_named_specifier_node result ≡ closed }
+    {
+        let fields = Tree::<class::ExportNamedSpecifier>::from_node(closed).into_fields(
+            Kind::ExportNamedSpecifier,
+        );
+        let [span, orig, exported] = fields.into_array::<3>();
+        ExportNamedSpecifier {
+            span: to_span(span),
+            orig: Tree::from_node(orig),
+            exported: Tree::from_optional(exported),
+        }
+    }
+
+    fn into_node(self, alloc: Global) -> Result<Node, AllocError>
+        ensures { IfOk result (λ closed. (closed ≡ export_named_specifier_node self) × Fits closed (One (Of class.ExportNamedSpecifier))) }
+    {
+        let ExportNamedSpecifier {
+            span,
+            orig,
+            exported,
+        } = self;
+        let fields = collect(
+            alloc,
+            [
+                from_span(span),
+                orig.into_node(),
+                Tree::into_optional(exported),
+            ],
+        )?;
+        Ok(Tree::<class::ExportNamedSpecifier>::from_fields(
+            Kind::ExportNamedSpecifier,
+            fields,
+        ).into_node())
+    }
+}

@@ -1,0 +1,51 @@
+//! Printed by tools/print_table.py from tools/tree.txt.
+ghost use Rattle.std.specs.Prelude.{◌≡◌, IfOk};
+ghost use Rattle.swc_tree_node.specs.declared.kind.Class.TheVariants as class;
+ghost use Rattle.swc_tree_node.specs.declared.slot.Slot.TheVariants.{One};
+ghost use Rattle.swc_tree_node.specs.declared.slot.Content.TheVariants.{Node as Of};
+ghost use Rattle.swc_tree_node.specs.Fits.{Fits};
+ghost use Rattle.swc_tree_modules.specs.Nodes.{export_namespace_specifier_node};
+
+use std::alloc::{AllocError, Global};
+use swc_tree_handle::{Opened, Tree, class, collect, from_span, to_span};
+use swc_tree_marks::Span;
+use swc_tree_node::{Kind, Node};
+
+/// The whole of a module, exported under a name (ECMA-262, ExportFromClause).
+#[derive(Debug, Drop)]
+pub struct ExportNamespaceSpecifier {
+    pub span: Span,
+    pub name: Tree<class::ModuleExportName>,
+}
+
+impl Opened<class::ExportNamespaceSpecifier> for ExportNamespaceSpecifier {
+    ghost class = { class.ExportNamespaceSpecifier };
+
+    ghost node = { export_namespace_specifier_node };
+
+    #[tactic(auto, using(swc_tree_node::proofs::Fit::lengths))]
+    fn from_node(closed: Node) -> ExportNamespaceSpecifier
+        requires { Fits closed (One (Of class.ExportNamespaceSpecifier)) }
+        ensures { export_namespace_specifier_node result ≡ closed }
+    {
+        let fields = Tree::<class::ExportNamespaceSpecifier>::from_node(closed).into_fields(
+            Kind::ExportNamespaceSpecifier,
+        );
+        let [span, name] = fields.into_array::<2>();
+        ExportNamespaceSpecifier {
+            span: to_span(span),
+            name: Tree::from_node(name),
+        }
+    }
+
+    fn into_node(self, alloc: Global) -> Result<Node, AllocError>
+        ensures { IfOk result (λ closed. (closed ≡ export_namespace_specifier_node self) × Fits closed (One (Of class.ExportNamespaceSpecifier))) }
+    {
+        let ExportNamespaceSpecifier { span, name } = self;
+        let fields = collect(alloc, [from_span(span), name.into_node()])?;
+        Ok(Tree::<class::ExportNamespaceSpecifier>::from_fields(
+            Kind::ExportNamespaceSpecifier,
+            fields,
+        ).into_node())
+    }
+}

@@ -1,0 +1,46 @@
+//! Printed by tools/print_table.py from tools/tree.txt.
+ghost use Rattle.std.specs.Prelude.{◌≡◌, IfOk};
+ghost use Rattle.swc_tree_node.specs.declared.kind.Class.TheVariants as class;
+ghost use Rattle.swc_tree_node.specs.declared.slot.Slot.TheVariants.{One};
+ghost use Rattle.swc_tree_node.specs.declared.slot.Content.TheVariants.{Node as Of};
+ghost use Rattle.swc_tree_node.specs.Fits.{Fits};
+ghost use Rattle.swc_tree_names.specs.Nodes.{big_int_node};
+
+use std::alloc::{AllocError, Global};
+use swc_tree_handle::{Opened, Tree, class, collect, from_span, from_text, to_span, to_text};
+use swc_tree_marks::{Atom, Span};
+use swc_tree_node::{Kind, Node};
+
+/// A literal of a big integer, as it is written (ECMA-262, NumericLiteral).
+#[derive(Debug, Drop)]
+pub struct BigInt {
+    pub span: Span,
+    pub text: Atom,
+}
+
+impl Opened<class::BigInt> for BigInt {
+    ghost class = { class.BigInt };
+
+    ghost node = { big_int_node };
+
+    #[tactic(auto, using(swc_tree_node::proofs::Fit::lengths))]
+    fn from_node(closed: Node) -> BigInt
+        requires { Fits closed (One (Of class.BigInt)) }
+        ensures { big_int_node result ≡ closed }
+    {
+        let fields = Tree::<class::BigInt>::from_node(closed).into_fields(Kind::BigInt);
+        let [span, text] = fields.into_array::<2>();
+        BigInt {
+            span: to_span(span),
+            text: to_text(text),
+        }
+    }
+
+    fn into_node(self, alloc: Global) -> Result<Node, AllocError>
+        ensures { IfOk result (λ closed. (closed ≡ big_int_node self) × Fits closed (One (Of class.BigInt))) }
+    {
+        let BigInt { span, text } = self;
+        let fields = collect(alloc, [from_span(span), from_text(text)])?;
+        Ok(Tree::<class::BigInt>::from_fields(Kind::BigInt, fields).into_node())
+    }
+}

@@ -1,0 +1,49 @@
+//! Printed by tools/print_table.py from tools/tree.txt.
+ghost use Rattle.std.specs.Prelude.{◌≡◌, IfOk};
+ghost use Rattle.swc_tree_node.specs.declared.kind.Class.TheVariants as class;
+ghost use Rattle.swc_tree_node.specs.declared.slot.Slot.TheVariants.{One};
+ghost use Rattle.swc_tree_node.specs.declared.slot.Content.TheVariants.{Node as Of};
+ghost use Rattle.swc_tree_node.specs.Fits.{Fits};
+ghost use Rattle.swc_tree_names.specs.Nodes.{break_stmt_node};
+
+use std::alloc::{AllocError, Global};
+use swc_tree_handle::{Opened, Tree, class, collect, from_span, to_span};
+use swc_tree_marks::{Ident, Span};
+use swc_tree_node::{Kind, Node};
+
+/// A `break` statement (ECMA-262, BreakStatement).
+#[derive(Debug, Drop)]
+pub struct BreakStmt {
+    pub span: Span,
+    pub label: Option<Ident>,
+}
+
+impl Opened<class::BreakStmt> for BreakStmt {
+    ghost class = { class.BreakStmt };
+
+    ghost node = { break_stmt_node };
+
+    #[tactic(auto, using(swc_tree_node::proofs::Fit::lengths))]
+    fn from_node(closed: Node) -> BreakStmt
+        requires { Fits closed (One (Of class.BreakStmt)) }
+        ensures { break_stmt_node result ≡ closed }
+    {
+        let fields = Tree::<class::BreakStmt>::from_node(closed).into_fields(Kind::BreakStmt);
+        let [span, label] = fields.into_array::<2>();
+        BreakStmt {
+            span: to_span(span),
+            label: Ident::from_optional(label),
+        }
+    }
+
+    fn into_node(self, alloc: Global) -> Result<Node, AllocError>
+        ensures { IfOk result (λ closed. (closed ≡ break_stmt_node self) × Fits closed (One (Of class.BreakStmt))) }
+    {
+        let BreakStmt { span, label } = self;
+        let fields = collect(
+            alloc,
+            [from_span(span), Ident::into_optional(label, alloc)?],
+        )?;
+        Ok(Tree::<class::BreakStmt>::from_fields(Kind::BreakStmt, fields).into_node())
+    }
+}

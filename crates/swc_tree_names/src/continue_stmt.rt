@@ -1,0 +1,49 @@
+//! Printed by tools/print_table.py from tools/tree.txt.
+ghost use Rattle.std.specs.Prelude.{◌≡◌, IfOk};
+ghost use Rattle.swc_tree_node.specs.declared.kind.Class.TheVariants as class;
+ghost use Rattle.swc_tree_node.specs.declared.slot.Slot.TheVariants.{One};
+ghost use Rattle.swc_tree_node.specs.declared.slot.Content.TheVariants.{Node as Of};
+ghost use Rattle.swc_tree_node.specs.Fits.{Fits};
+ghost use Rattle.swc_tree_names.specs.Nodes.{continue_stmt_node};
+
+use std::alloc::{AllocError, Global};
+use swc_tree_handle::{Opened, Tree, class, collect, from_span, to_span};
+use swc_tree_marks::{Ident, Span};
+use swc_tree_node::{Kind, Node};
+
+/// A `continue` statement (ECMA-262, ContinueStatement).
+#[derive(Debug, Drop)]
+pub struct ContinueStmt {
+    pub span: Span,
+    pub label: Option<Ident>,
+}
+
+impl Opened<class::ContinueStmt> for ContinueStmt {
+    ghost class = { class.ContinueStmt };
+
+    ghost node = { continue_stmt_node };
+
+    #[tactic(auto, using(swc_tree_node::proofs::Fit::lengths))]
+    fn from_node(closed: Node) -> ContinueStmt
+        requires { Fits closed (One (Of class.ContinueStmt)) }
+        ensures { continue_stmt_node result ≡ closed }
+    {
+        let fields = Tree::<class::ContinueStmt>::from_node(closed).into_fields(Kind::ContinueStmt);
+        let [span, label] = fields.into_array::<2>();
+        ContinueStmt {
+            span: to_span(span),
+            label: Ident::from_optional(label),
+        }
+    }
+
+    fn into_node(self, alloc: Global) -> Result<Node, AllocError>
+        ensures { IfOk result (λ closed. (closed ≡ continue_stmt_node self) × Fits closed (One (Of class.ContinueStmt))) }
+    {
+        let ContinueStmt { span, label } = self;
+        let fields = collect(
+            alloc,
+            [from_span(span), Ident::into_optional(label, alloc)?],
+        )?;
+        Ok(Tree::<class::ContinueStmt>::from_fields(Kind::ContinueStmt, fields).into_node())
+    }
+}

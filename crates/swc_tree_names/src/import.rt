@@ -1,0 +1,44 @@
+//! Printed by tools/print_table.py from tools/tree.txt.
+ghost use Rattle.std.specs.Prelude.{◌≡◌, IfOk};
+ghost use Rattle.swc_tree_node.specs.declared.kind.Class.TheVariants as class;
+ghost use Rattle.swc_tree_node.specs.declared.slot.Slot.TheVariants.{One};
+ghost use Rattle.swc_tree_node.specs.declared.slot.Content.TheVariants.{Node as Of};
+ghost use Rattle.swc_tree_node.specs.Fits.{Fits};
+ghost use Rattle.swc_tree_names.specs.Nodes.{import_node};
+
+use std::alloc::{AllocError, Global};
+use swc_tree_handle::{Opened, Tree, class, collect, from_span, to_span};
+use swc_tree_marks::Span;
+use swc_tree_node::{Kind, Node};
+
+/// `import` as it is called (ECMA-262, ImportCall).
+#[derive(Debug, Drop)]
+pub struct Import {
+    pub span: Span,
+}
+
+impl Opened<class::Import> for Import {
+    ghost class = { class.Import };
+
+    ghost node = { import_node };
+
+    #[tactic(auto, using(swc_tree_node::proofs::Fit::lengths))]
+    fn from_node(closed: Node) -> Import
+        requires { Fits closed (One (Of class.Import)) }
+        ensures { import_node result ≡ closed }
+    {
+        let fields = Tree::<class::Import>::from_node(closed).into_fields(Kind::Import);
+        let [span] = fields.into_array::<1>();
+        Import {
+            span: to_span(span),
+        }
+    }
+
+    fn into_node(self, alloc: Global) -> Result<Node, AllocError>
+        ensures { IfOk result (λ closed. (closed ≡ import_node self) × Fits closed (One (Of class.Import))) }
+    {
+        let Import { span } = self;
+        let fields = collect(alloc, [from_span(span)])?;
+        Ok(Tree::<class::Import>::from_fields(Kind::Import, fields).into_node())
+    }
+}

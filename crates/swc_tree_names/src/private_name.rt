@@ -1,0 +1,46 @@
+//! Printed by tools/print_table.py from tools/tree.txt.
+ghost use Rattle.std.specs.Prelude.{◌≡◌, IfOk};
+ghost use Rattle.swc_tree_node.specs.declared.kind.Class.TheVariants as class;
+ghost use Rattle.swc_tree_node.specs.declared.slot.Slot.TheVariants.{One};
+ghost use Rattle.swc_tree_node.specs.declared.slot.Content.TheVariants.{Node as Of};
+ghost use Rattle.swc_tree_node.specs.Fits.{Fits};
+ghost use Rattle.swc_tree_names.specs.Nodes.{private_name_node};
+
+use std::alloc::{AllocError, Global};
+use swc_tree_handle::{Opened, Tree, class, collect, from_span, from_text, to_span, to_text};
+use swc_tree_marks::{Atom, Span};
+use swc_tree_node::{Kind, Node};
+
+/// A private name, without its `#` (ECMA-262, PrivateIdentifier).
+#[derive(Debug, Drop)]
+pub struct PrivateName {
+    pub span: Span,
+    pub name: Atom,
+}
+
+impl Opened<class::PrivateName> for PrivateName {
+    ghost class = { class.PrivateName };
+
+    ghost node = { private_name_node };
+
+    #[tactic(auto, using(swc_tree_node::proofs::Fit::lengths))]
+    fn from_node(closed: Node) -> PrivateName
+        requires { Fits closed (One (Of class.PrivateName)) }
+        ensures { private_name_node result ≡ closed }
+    {
+        let fields = Tree::<class::PrivateName>::from_node(closed).into_fields(Kind::PrivateName);
+        let [span, name] = fields.into_array::<2>();
+        PrivateName {
+            span: to_span(span),
+            name: to_text(name),
+        }
+    }
+
+    fn into_node(self, alloc: Global) -> Result<Node, AllocError>
+        ensures { IfOk result (λ closed. (closed ≡ private_name_node self) × Fits closed (One (Of class.PrivateName))) }
+    {
+        let PrivateName { span, name } = self;
+        let fields = collect(alloc, [from_span(span), from_text(name)])?;
+        Ok(Tree::<class::PrivateName>::from_fields(Kind::PrivateName, fields).into_node())
+    }
+}

@@ -1,0 +1,48 @@
+//! Printed by tools/print_table.py from tools/tree.txt.
+ghost use Rattle.std.specs.Prelude.{◌≡◌, IfOk};
+ghost use Rattle.swc_tree_node.specs.declared.kind.Class.TheVariants as class;
+ghost use Rattle.swc_tree_node.specs.declared.slot.Slot.TheVariants.{One};
+ghost use Rattle.swc_tree_node.specs.declared.slot.Content.TheVariants.{Node as Of};
+ghost use Rattle.swc_tree_node.specs.Fits.{Fits};
+ghost use Rattle.swc_tree_names.specs.Nodes.{regex_node};
+
+use std::alloc::{AllocError, Global};
+use swc_tree_handle::{Opened, Tree, class, collect, from_span, from_text, to_span, to_text};
+use swc_tree_marks::{Atom, Span};
+use swc_tree_node::{Kind, Node};
+
+/// A regular expression: its pattern and its flags (ECMA-262, RegularExpressionLiteral).
+#[derive(Debug, Drop)]
+pub struct Regex {
+    pub span: Span,
+    pub exp: Atom,
+    pub flags: Atom,
+}
+
+impl Opened<class::Regex> for Regex {
+    ghost class = { class.Regex };
+
+    ghost node = { regex_node };
+
+    #[tactic(auto, using(swc_tree_node::proofs::Fit::lengths))]
+    fn from_node(closed: Node) -> Regex
+        requires { Fits closed (One (Of class.Regex)) }
+        ensures { regex_node result ≡ closed }
+    {
+        let fields = Tree::<class::Regex>::from_node(closed).into_fields(Kind::Regex);
+        let [span, exp, flags] = fields.into_array::<3>();
+        Regex {
+            span: to_span(span),
+            exp: to_text(exp),
+            flags: to_text(flags),
+        }
+    }
+
+    fn into_node(self, alloc: Global) -> Result<Node, AllocError>
+        ensures { IfOk result (λ closed. (closed ≡ regex_node self) × Fits closed (One (Of class.Regex))) }
+    {
+        let Regex { span, exp, flags } = self;
+        let fields = collect(alloc, [from_span(span), from_text(exp), from_text(flags)])?;
+        Ok(Tree::<class::Regex>::from_fields(Kind::Regex, fields).into_node())
+    }
+}

@@ -1,0 +1,44 @@
+//! Printed by tools/print_table.py from tools/tree.txt.
+ghost use Rattle.std.specs.Prelude.{◌≡◌, IfOk};
+ghost use Rattle.swc_tree_node.specs.declared.kind.Class.TheVariants as class;
+ghost use Rattle.swc_tree_node.specs.declared.slot.Slot.TheVariants.{One};
+ghost use Rattle.swc_tree_node.specs.declared.slot.Content.TheVariants.{Node as Of};
+ghost use Rattle.swc_tree_node.specs.Fits.{Fits};
+ghost use Rattle.swc_tree_names.specs.Nodes.{super_node};
+
+use std::alloc::{AllocError, Global};
+use swc_tree_handle::{Opened, Tree, class, collect, from_span, to_span};
+use swc_tree_marks::Span;
+use swc_tree_node::{Kind, Node};
+
+/// `super` as it is called or read (ECMA-262, SuperCall and SuperProperty).
+#[derive(Debug, Drop)]
+pub struct Super {
+    pub span: Span,
+}
+
+impl Opened<class::Super> for Super {
+    ghost class = { class.Super };
+
+    ghost node = { super_node };
+
+    #[tactic(auto, using(swc_tree_node::proofs::Fit::lengths))]
+    fn from_node(closed: Node) -> Super
+        requires { Fits closed (One (Of class.Super)) }
+        ensures { super_node result ≡ closed }
+    {
+        let fields = Tree::<class::Super>::from_node(closed).into_fields(Kind::Super);
+        let [span] = fields.into_array::<1>();
+        Super {
+            span: to_span(span),
+        }
+    }
+
+    fn into_node(self, alloc: Global) -> Result<Node, AllocError>
+        ensures { IfOk result (λ closed. (closed ≡ super_node self) × Fits closed (One (Of class.Super))) }
+    {
+        let Super { span } = self;
+        let fields = collect(alloc, [from_span(span)])?;
+        Ok(Tree::<class::Super>::from_fields(Kind::Super, fields).into_node())
+    }
+}

@@ -1,0 +1,44 @@
+//! Printed by tools/print_table.py from tools/tree.txt.
+ghost use Rattle.std.specs.Prelude.{◌≡◌, IfOk};
+ghost use Rattle.swc_tree_node.specs.declared.kind.Class.TheVariants as class;
+ghost use Rattle.swc_tree_node.specs.declared.slot.Slot.TheVariants.{One};
+ghost use Rattle.swc_tree_node.specs.declared.slot.Content.TheVariants.{Node as Of};
+ghost use Rattle.swc_tree_node.specs.Fits.{Fits};
+ghost use Rattle.swc_tree_names.specs.Nodes.{this_expr_node};
+
+use std::alloc::{AllocError, Global};
+use swc_tree_handle::{Opened, Tree, class, collect, from_span, to_span};
+use swc_tree_marks::Span;
+use swc_tree_node::{Kind, Node};
+
+/// `this` (ECMA-262, PrimaryExpression).
+#[derive(Debug, Drop)]
+pub struct ThisExpr {
+    pub span: Span,
+}
+
+impl Opened<class::ThisExpr> for ThisExpr {
+    ghost class = { class.ThisExpr };
+
+    ghost node = { this_expr_node };
+
+    #[tactic(auto, using(swc_tree_node::proofs::Fit::lengths))]
+    fn from_node(closed: Node) -> ThisExpr
+        requires { Fits closed (One (Of class.ThisExpr)) }
+        ensures { this_expr_node result ≡ closed }
+    {
+        let fields = Tree::<class::ThisExpr>::from_node(closed).into_fields(Kind::ThisExpr);
+        let [span] = fields.into_array::<1>();
+        ThisExpr {
+            span: to_span(span),
+        }
+    }
+
+    fn into_node(self, alloc: Global) -> Result<Node, AllocError>
+        ensures { IfOk result (λ closed. (closed ≡ this_expr_node self) × Fits closed (One (Of class.ThisExpr))) }
+    {
+        let ThisExpr { span } = self;
+        let fields = collect(alloc, [from_span(span)])?;
+        Ok(Tree::<class::ThisExpr>::from_fields(Kind::ThisExpr, fields).into_node())
+    }
+}

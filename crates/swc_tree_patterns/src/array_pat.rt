@@ -1,0 +1,46 @@
+//! Printed by tools/print_table.py from tools/tree.txt.
+ghost use Rattle.std.specs.Prelude.{◌≡◌, IfOk};
+ghost use Rattle.swc_tree_node.specs.declared.kind.Class.TheVariants as class;
+ghost use Rattle.swc_tree_node.specs.declared.slot.Slot.TheVariants.{One};
+ghost use Rattle.swc_tree_node.specs.declared.slot.Content.TheVariants.{Node as Of};
+ghost use Rattle.swc_tree_node.specs.Fits.{Fits};
+ghost use Rattle.swc_tree_patterns.specs.Nodes.{array_pat_node};
+
+use std::alloc::{AllocError, Global};
+use swc_tree_handle::{Holes, Opened, Tree, class, collect, from_span, to_span};
+use swc_tree_marks::Span;
+use swc_tree_node::{Kind, Node};
+
+/// A pattern of elements, some left out (ECMA-262, ArrayBindingPattern).
+#[derive(Debug, Drop)]
+pub struct ArrayPat {
+    pub span: Span,
+    pub elems: Holes<class::Pat>,
+}
+
+impl Opened<class::ArrayPat> for ArrayPat {
+    ghost class = { class.ArrayPat };
+
+    ghost node = { array_pat_node };
+
+    #[tactic(auto, using(swc_tree_node::proofs::Fit::lengths))]
+    fn from_node(closed: Node) -> ArrayPat
+        requires { Fits closed (One (Of class.ArrayPat)) }
+        ensures { array_pat_node result ≡ closed }
+    {
+        let fields = Tree::<class::ArrayPat>::from_node(closed).into_fields(Kind::ArrayPat);
+        let [span, elems] = fields.into_array::<2>();
+        ArrayPat {
+            span: to_span(span),
+            elems: Holes::from_node(elems),
+        }
+    }
+
+    fn into_node(self, alloc: Global) -> Result<Node, AllocError>
+        ensures { IfOk result (λ closed. (closed ≡ array_pat_node self) × Fits closed (One (Of class.ArrayPat))) }
+    {
+        let ArrayPat { span, elems } = self;
+        let fields = collect(alloc, [from_span(span), elems.into_node()])?;
+        Ok(Tree::<class::ArrayPat>::from_fields(Kind::ArrayPat, fields).into_node())
+    }
+}

@@ -1,0 +1,51 @@
+//! Printed by tools/print_table.py from tools/tree.txt.
+ghost use Rattle.std.specs.Prelude.{◌≡◌, IfOk};
+ghost use Rattle.swc_tree_node.specs.declared.kind.Class.TheVariants as class;
+ghost use Rattle.swc_tree_node.specs.declared.slot.Slot.TheVariants.{One};
+ghost use Rattle.swc_tree_node.specs.declared.slot.Content.TheVariants.{Node as Of};
+ghost use Rattle.swc_tree_node.specs.Fits.{Fits};
+ghost use Rattle.swc_tree_patterns.specs.Nodes.{assign_pat_node};
+
+use std::alloc::{AllocError, Global};
+use swc_tree_handle::{Opened, Tree, class, collect, from_span, to_span};
+use swc_tree_marks::Span;
+use swc_tree_node::{Kind, Node};
+
+/// A pattern with a default (ECMA-262, BindingElement).
+#[derive(Debug, Drop)]
+pub struct AssignPat {
+    pub span: Span,
+    pub left: Tree<class::Pat>,
+    pub right: Tree<class::Expr>,
+}
+
+impl Opened<class::AssignPat> for AssignPat {
+    ghost class = { class.AssignPat };
+
+    ghost node = { assign_pat_node };
+
+    #[tactic(auto, using(swc_tree_node::proofs::Fit::lengths))]
+    fn from_node(closed: Node) -> AssignPat
+        requires { Fits closed (One (Of class.AssignPat)) }
+        ensures { assign_pat_node result ≡ closed }
+    {
+        let fields = Tree::<class::AssignPat>::from_node(closed).into_fields(Kind::AssignPat);
+        let [span, left, right] = fields.into_array::<3>();
+        AssignPat {
+            span: to_span(span),
+            left: Tree::from_node(left),
+            right: Tree::from_node(right),
+        }
+    }
+
+    fn into_node(self, alloc: Global) -> Result<Node, AllocError>
+        ensures { IfOk result (λ closed. (closed ≡ assign_pat_node self) × Fits closed (One (Of class.AssignPat))) }
+    {
+        let AssignPat { span, left, right } = self;
+        let fields = collect(
+            alloc,
+            [from_span(span), left.into_node(), right.into_node()],
+        )?;
+        Ok(Tree::<class::AssignPat>::from_fields(Kind::AssignPat, fields).into_node())
+    }
+}

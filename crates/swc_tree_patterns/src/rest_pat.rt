@@ -1,0 +1,46 @@
+//! Printed by tools/print_table.py from tools/tree.txt.
+ghost use Rattle.std.specs.Prelude.{◌≡◌, IfOk};
+ghost use Rattle.swc_tree_node.specs.declared.kind.Class.TheVariants as class;
+ghost use Rattle.swc_tree_node.specs.declared.slot.Slot.TheVariants.{One};
+ghost use Rattle.swc_tree_node.specs.declared.slot.Content.TheVariants.{Node as Of};
+ghost use Rattle.swc_tree_node.specs.Fits.{Fits};
+ghost use Rattle.swc_tree_patterns.specs.Nodes.{rest_pat_node};
+
+use std::alloc::{AllocError, Global};
+use swc_tree_handle::{Opened, Tree, class, collect, from_span, to_span};
+use swc_tree_marks::Span;
+use swc_tree_node::{Kind, Node};
+
+/// What takes the rest (ECMA-262, BindingRestElement).
+#[derive(Debug, Drop)]
+pub struct RestPat {
+    pub span: Span,
+    pub arg: Tree<class::Pat>,
+}
+
+impl Opened<class::RestPat> for RestPat {
+    ghost class = { class.RestPat };
+
+    ghost node = { rest_pat_node };
+
+    #[tactic(auto, using(swc_tree_node::proofs::Fit::lengths))]
+    fn from_node(closed: Node) -> RestPat
+        requires { Fits closed (One (Of class.RestPat)) }
+        ensures { rest_pat_node result ≡ closed }
+    {
+        let fields = Tree::<class::RestPat>::from_node(closed).into_fields(Kind::RestPat);
+        let [span, arg] = fields.into_array::<2>();
+        RestPat {
+            span: to_span(span),
+            arg: Tree::from_node(arg),
+        }
+    }
+
+    fn into_node(self, alloc: Global) -> Result<Node, AllocError>
+        ensures { IfOk result (λ closed. (closed ≡ rest_pat_node self) × Fits closed (One (Of class.RestPat))) }
+    {
+        let RestPat { span, arg } = self;
+        let fields = collect(alloc, [from_span(span), arg.into_node()])?;
+        Ok(Tree::<class::RestPat>::from_fields(Kind::RestPat, fields).into_node())
+    }
+}

@@ -1,0 +1,48 @@
+//! Printed by tools/print_table.py from tools/tree.txt.
+ghost use Rattle.std.specs.Prelude.{◌≡◌, IfOk};
+ghost use Rattle.swc_tree_node.specs.declared.kind.Class.TheVariants as class;
+ghost use Rattle.swc_tree_node.specs.declared.slot.Slot.TheVariants.{One};
+ghost use Rattle.swc_tree_node.specs.declared.slot.Content.TheVariants.{Node as Of};
+ghost use Rattle.swc_tree_node.specs.Fits.{Fits};
+ghost use Rattle.swc_tree_statements.specs.Nodes.{do_while_stmt_node};
+
+use std::alloc::{AllocError, Global};
+use swc_tree_handle::{Opened, Tree, class, collect, from_span, to_span};
+use swc_tree_marks::Span;
+use swc_tree_node::{Kind, Node};
+
+/// A `do` statement (ECMA-262, DoWhileStatement).
+#[derive(Debug, Drop)]
+pub struct DoWhileStmt {
+    pub span: Span,
+    pub body: Tree<class::Stmt>,
+    pub test: Tree<class::Expr>,
+}
+
+impl Opened<class::DoWhileStmt> for DoWhileStmt {
+    ghost class = { class.DoWhileStmt };
+
+    ghost node = { do_while_stmt_node };
+
+    #[tactic(auto, using(swc_tree_node::proofs::Fit::lengths))]
+    fn from_node(closed: Node) -> DoWhileStmt
+        requires { Fits closed (One (Of class.DoWhileStmt)) }
+        ensures { do_while_stmt_node result ≡ closed }
+    {
+        let fields = Tree::<class::DoWhileStmt>::from_node(closed).into_fields(Kind::DoWhileStmt);
+        let [span, body, test] = fields.into_array::<3>();
+        DoWhileStmt {
+            span: to_span(span),
+            body: Tree::from_node(body),
+            test: Tree::from_node(test),
+        }
+    }
+
+    fn into_node(self, alloc: Global) -> Result<Node, AllocError>
+        ensures { IfOk result (λ closed. (closed ≡ do_while_stmt_node self) × Fits closed (One (Of class.DoWhileStmt))) }
+    {
+        let DoWhileStmt { span, body, test } = self;
+        let fields = collect(alloc, [from_span(span), body.into_node(), test.into_node()])?;
+        Ok(Tree::<class::DoWhileStmt>::from_fields(Kind::DoWhileStmt, fields).into_node())
+    }
+}

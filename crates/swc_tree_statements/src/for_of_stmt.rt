@@ -1,0 +1,67 @@
+//! Printed by tools/print_table.py from tools/tree.txt.
+ghost use Rattle.std.specs.Prelude.{◌≡◌, IfOk};
+ghost use Rattle.swc_tree_node.specs.declared.kind.Class.TheVariants as class;
+ghost use Rattle.swc_tree_node.specs.declared.slot.Slot.TheVariants.{One};
+ghost use Rattle.swc_tree_node.specs.declared.slot.Content.TheVariants.{Node as Of};
+ghost use Rattle.swc_tree_node.specs.Fits.{Fits};
+ghost use Rattle.swc_tree_statements.specs.Nodes.{for_of_stmt_node};
+
+use std::alloc::{AllocError, Global};
+use swc_tree_handle::{Opened, Tree, class, collect, from_flag, from_span, to_flag, to_span};
+use swc_tree_marks::Span;
+use swc_tree_node::{Kind, Node};
+
+/// A `for` statement over values (ECMA-262, ForInOfStatement).
+#[derive(Debug, Drop)]
+pub struct ForOfStmt {
+    pub span: Span,
+    pub is_await: bool,
+    pub left: Tree<class::ForHead>,
+    pub right: Tree<class::Expr>,
+    pub body: Tree<class::Stmt>,
+}
+
+impl Opened<class::ForOfStmt> for ForOfStmt {
+    ghost class = { class.ForOfStmt };
+
+    ghost node = { for_of_stmt_node };
+
+    #[tactic(auto, using(swc_tree_node::proofs::Fit::lengths))]
+    fn from_node(closed: Node) -> ForOfStmt
+        requires { Fits closed (One (Of class.ForOfStmt)) }
+        ensures { for_of_stmt_node result ≡ closed }
+    {
+        let fields = Tree::<class::ForOfStmt>::from_node(closed).into_fields(Kind::ForOfStmt);
+        let [span, is_await, left, right, body] = fields.into_array::<5>();
+        ForOfStmt {
+            span: to_span(span),
+            is_await: to_flag(is_await),
+            left: Tree::from_node(left),
+            right: Tree::from_node(right),
+            body: Tree::from_node(body),
+        }
+    }
+
+    fn into_node(self, alloc: Global) -> Result<Node, AllocError>
+        ensures { IfOk result (λ closed. (closed ≡ for_of_stmt_node self) × Fits closed (One (Of class.ForOfStmt))) }
+    {
+        let ForOfStmt {
+            span,
+            is_await,
+            left,
+            right,
+            body,
+        } = self;
+        let fields = collect(
+            alloc,
+            [
+                from_span(span),
+                from_flag(is_await),
+                left.into_node(),
+                right.into_node(),
+                body.into_node(),
+            ],
+        )?;
+        Ok(Tree::<class::ForOfStmt>::from_fields(Kind::ForOfStmt, fields).into_node())
+    }
+}

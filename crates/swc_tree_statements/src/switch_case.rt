@@ -1,0 +1,51 @@
+//! Printed by tools/print_table.py from tools/tree.txt.
+ghost use Rattle.std.specs.Prelude.{◌≡◌, IfOk};
+ghost use Rattle.swc_tree_node.specs.declared.kind.Class.TheVariants as class;
+ghost use Rattle.swc_tree_node.specs.declared.slot.Slot.TheVariants.{One};
+ghost use Rattle.swc_tree_node.specs.declared.slot.Content.TheVariants.{Node as Of};
+ghost use Rattle.swc_tree_node.specs.Fits.{Fits};
+ghost use Rattle.swc_tree_statements.specs.Nodes.{switch_case_node};
+
+use std::alloc::{AllocError, Global};
+use swc_tree_handle::{Opened, Tree, Trees, class, collect, from_span, to_span};
+use swc_tree_marks::Span;
+use swc_tree_node::{Kind, Node};
+
+/// A case of a `switch`; the default has no test (ECMA-262, CaseClause and DefaultClause).
+#[derive(Debug, Drop)]
+pub struct SwitchCase {
+    pub span: Span,
+    pub test: Option<Tree<class::Expr>>,
+    pub cons: Trees<class::Stmt>,
+}
+
+impl Opened<class::SwitchCase> for SwitchCase {
+    ghost class = { class.SwitchCase };
+
+    ghost node = { switch_case_node };
+
+    #[tactic(auto, using(swc_tree_node::proofs::Fit::lengths))]
+    fn from_node(closed: Node) -> SwitchCase
+        requires { Fits closed (One (Of class.SwitchCase)) }
+        ensures { switch_case_node result ≡ closed }
+    {
+        let fields = Tree::<class::SwitchCase>::from_node(closed).into_fields(Kind::SwitchCase);
+        let [span, test, cons] = fields.into_array::<3>();
+        SwitchCase {
+            span: to_span(span),
+            test: Tree::from_optional(test),
+            cons: Trees::from_node(cons),
+        }
+    }
+
+    fn into_node(self, alloc: Global) -> Result<Node, AllocError>
+        ensures { IfOk result (λ closed. (closed ≡ switch_case_node self) × Fits closed (One (Of class.SwitchCase))) }
+    {
+        let SwitchCase { span, test, cons } = self;
+        let fields = collect(
+            alloc,
+            [from_span(span), Tree::into_optional(test), cons.into_node()],
+        )?;
+        Ok(Tree::<class::SwitchCase>::from_fields(Kind::SwitchCase, fields).into_node())
+    }
+}

@@ -1,0 +1,55 @@
+//! Printed by tools/print_table.py from tools/tree.txt.
+ghost use Rattle.std.specs.Prelude.{◌≡◌, IfOk};
+ghost use Rattle.swc_tree_node.specs.declared.kind.Class.TheVariants as class;
+ghost use Rattle.swc_tree_node.specs.declared.slot.Slot.TheVariants.{One};
+ghost use Rattle.swc_tree_node.specs.declared.slot.Content.TheVariants.{Node as Of};
+ghost use Rattle.swc_tree_node.specs.Fits.{Fits};
+ghost use Rattle.swc_tree_statements.specs.Nodes.{switch_stmt_node};
+
+use std::alloc::{AllocError, Global};
+use swc_tree_handle::{Opened, Tree, Trees, class, collect, from_span, to_span};
+use swc_tree_marks::Span;
+use swc_tree_node::{Kind, Node};
+
+/// A `switch` statement (ECMA-262, SwitchStatement).
+#[derive(Debug, Drop)]
+pub struct SwitchStmt {
+    pub span: Span,
+    pub discriminant: Tree<class::Expr>,
+    pub cases: Trees<class::SwitchCase>,
+}
+
+impl Opened<class::SwitchStmt> for SwitchStmt {
+    ghost class = { class.SwitchStmt };
+
+    ghost node = { switch_stmt_node };
+
+    #[tactic(auto, using(swc_tree_node::proofs::Fit::lengths))]
+    fn from_node(closed: Node) -> SwitchStmt
+        requires { Fits closed (One (Of class.SwitchStmt)) }
+        ensures { switch_stmt_node result ≡ closed }
+    {
+        let fields = Tree::<class::SwitchStmt>::from_node(closed).into_fields(Kind::SwitchStmt);
+        let [span, discriminant, cases] = fields.into_array::<3>();
+        SwitchStmt {
+            span: to_span(span),
+            discriminant: Tree::from_node(discriminant),
+            cases: Trees::from_node(cases),
+        }
+    }
+
+    fn into_node(self, alloc: Global) -> Result<Node, AllocError>
+        ensures { IfOk result (λ closed. (closed ≡ switch_stmt_node self) × Fits closed (One (Of class.SwitchStmt))) }
+    {
+        let SwitchStmt {
+            span,
+            discriminant,
+            cases,
+        } = self;
+        let fields = collect(
+            alloc,
+            [from_span(span), discriminant.into_node(), cases.into_node()],
+        )?;
+        Ok(Tree::<class::SwitchStmt>::from_fields(Kind::SwitchStmt, fields).into_node())
+    }
+}

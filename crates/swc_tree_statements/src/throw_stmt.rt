@@ -1,0 +1,46 @@
+//! Printed by tools/print_table.py from tools/tree.txt.
+ghost use Rattle.std.specs.Prelude.{◌≡◌, IfOk};
+ghost use Rattle.swc_tree_node.specs.declared.kind.Class.TheVariants as class;
+ghost use Rattle.swc_tree_node.specs.declared.slot.Slot.TheVariants.{One};
+ghost use Rattle.swc_tree_node.specs.declared.slot.Content.TheVariants.{Node as Of};
+ghost use Rattle.swc_tree_node.specs.Fits.{Fits};
+ghost use Rattle.swc_tree_statements.specs.Nodes.{throw_stmt_node};
+
+use std::alloc::{AllocError, Global};
+use swc_tree_handle::{Opened, Tree, class, collect, from_span, to_span};
+use swc_tree_marks::Span;
+use swc_tree_node::{Kind, Node};
+
+/// A throw statement (ECMA-262, ThrowStatement).
+#[derive(Debug, Drop)]
+pub struct ThrowStmt {
+    pub span: Span,
+    pub arg: Tree<class::Expr>,
+}
+
+impl Opened<class::ThrowStmt> for ThrowStmt {
+    ghost class = { class.ThrowStmt };
+
+    ghost node = { throw_stmt_node };
+
+    #[tactic(auto, using(swc_tree_node::proofs::Fit::lengths))]
+    fn from_node(closed: Node) -> ThrowStmt
+        requires { Fits closed (One (Of class.ThrowStmt)) }
+        ensures { throw_stmt_node result ≡ closed }
+    {
+        let fields = Tree::<class::ThrowStmt>::from_node(closed).into_fields(Kind::ThrowStmt);
+        let [span, arg] = fields.into_array::<2>();
+        ThrowStmt {
+            span: to_span(span),
+            arg: Tree::from_node(arg),
+        }
+    }
+
+    fn into_node(self, alloc: Global) -> Result<Node, AllocError>
+        ensures { IfOk result (λ closed. (closed ≡ throw_stmt_node self) × Fits closed (One (Of class.ThrowStmt))) }
+    {
+        let ThrowStmt { span, arg } = self;
+        let fields = collect(alloc, [from_span(span), arg.into_node()])?;
+        Ok(Tree::<class::ThrowStmt>::from_fields(Kind::ThrowStmt, fields).into_node())
+    }
+}

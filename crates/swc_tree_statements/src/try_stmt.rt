@@ -1,0 +1,63 @@
+//! Printed by tools/print_table.py from tools/tree.txt.
+ghost use Rattle.std.specs.Prelude.{◌≡◌, IfOk};
+ghost use Rattle.swc_tree_node.specs.declared.kind.Class.TheVariants as class;
+ghost use Rattle.swc_tree_node.specs.declared.slot.Slot.TheVariants.{One};
+ghost use Rattle.swc_tree_node.specs.declared.slot.Content.TheVariants.{Node as Of};
+ghost use Rattle.swc_tree_node.specs.Fits.{Fits};
+ghost use Rattle.swc_tree_statements.specs.Nodes.{try_stmt_node};
+
+use std::alloc::{AllocError, Global};
+use swc_tree_handle::{Opened, Tree, class, collect, from_span, to_span};
+use swc_tree_marks::Span;
+use swc_tree_node::{Kind, Node};
+
+/// A `try` statement (ECMA-262, TryStatement).
+#[derive(Debug, Drop)]
+pub struct TryStmt {
+    pub span: Span,
+    pub block: Tree<class::BlockStmt>,
+    pub handler: Option<Tree<class::CatchClause>>,
+    pub finalizer: Option<Tree<class::BlockStmt>>,
+}
+
+impl Opened<class::TryStmt> for TryStmt {
+    ghost class = { class.TryStmt };
+
+    ghost node = { try_stmt_node };
+
+    #[tactic(auto, using(swc_tree_node::proofs::Fit::lengths))]
+    fn from_node(closed: Node) -> TryStmt
+        requires { Fits closed (One (Of class.TryStmt)) }
+        ensures { try_stmt_node result ≡ closed }
+    {
+        let fields = Tree::<class::TryStmt>::from_node(closed).into_fields(Kind::TryStmt);
+        let [span, block, handler, finalizer] = fields.into_array::<4>();
+        TryStmt {
+            span: to_span(span),
+            block: Tree::from_node(block),
+            handler: Tree::from_optional(handler),
+            finalizer: Tree::from_optional(finalizer),
+        }
+    }
+
+    fn into_node(self, alloc: Global) -> Result<Node, AllocError>
+        ensures { IfOk result (λ closed. (closed ≡ try_stmt_node self) × Fits closed (One (Of class.TryStmt))) }
+    {
+        let TryStmt {
+            span,
+            block,
+            handler,
+            finalizer,
+        } = self;
+        let fields = collect(
+            alloc,
+            [
+                from_span(span),
+                block.into_node(),
+                Tree::into_optional(handler),
+                Tree::into_optional(finalizer),
+            ],
+        )?;
+        Ok(Tree::<class::TryStmt>::from_fields(Kind::TryStmt, fields).into_node())
+    }
+}
