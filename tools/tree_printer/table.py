@@ -76,8 +76,8 @@ def fields_rt(tree, family):
 def table_rt(tree):
     imports = ('ghost use Rattle.std.specs.Prelude.{◌≡◌, map};\n'
                'ghost use Rattle.swc_tree_node.specs.Table.{name_of, fields_of, words_of, spelling_of, scope_of, is_identifier};\n\n'
-               + ''.join('mod %s;\n' % module for module in sorted(['classes'] + [module_of(family) for family in tree.families])) + '\n'
-               'pub use classes::kinds_of;\n\n'
+               + ''.join('mod %s;\n' % module for module in sorted(['classes', 'places'] + [module_of(family) for family in tree.families])) + '\n'
+               'pub use classes::kinds_of;\npub use places::places_of;\n\n'
                'use crate::kind::{Kind, Word, WordClass};\nuse crate::slot::{Field, Scope};\n')
     fields = [('Kind::' + s.name, '%s::%s' % (module_of(s.family), snake(s.name).upper()))
               for s in tree.structs.values() if s.fields]
@@ -102,6 +102,67 @@ def table_rt(tree):
         '/// Whether the kind is that of an identifier.\npub fn is_identifier(kind: Kind) -> bool\n'
         '    ensures { result ≡ is_identifier kind }\n{\n    matches!(kind, %s)\n}\n' % identifiers,
     ])
+
+
+# What an operand is called that is none of a level.
+OPERANDS = ('Left', 'Right', 'Base', 'Link', 'Constructor', 'Computed', 'Target')
+IN_OPERATORS = {None: 'Inherited', '+in': 'Allowed', '-in': 'Excluded'}
+
+
+def has_places(struct):
+    return any(field.operand for field in struct.fields)
+
+
+def rust_place(field):
+    operand = field.operand or 'Nothing'
+    if operand not in OPERANDS + ('Nothing',):
+        operand = 'AtLeast(Level::%s)' % operand
+    return 'Place { operand: Operand::%s, in_operator: InOperator::%s },' % (operand, IN_OPERATORS[field.in_operator])
+
+
+def spec_place(field):
+    operand = field.operand or 'Nothing'
+    if operand not in OPERANDS + ('Nothing',):
+        operand = 'AtLeast level.%s' % operand
+    return '(operand.%s, in_operator.%s)' % (operand, IN_OPERATORS[field.in_operator])
+
+
+def check_places(tree):
+    """Each field in which parentheses may stand says where it is in the grammar, and no other does."""
+    for struct in tree.structs.values():
+        for field in struct.fields:
+            is_node = field.type in tree.structs or field.type in tree.sums
+            if bool(field.operand) != (is_node and 'ParenExpr' in tree.kinds_of(field.type)):
+                raise SystemExit('a place in the grammar, or none, at %s.%s' % (struct.name, field.key))
+
+
+def places_rt(tree):
+    with_places = [s for s in tree.structs.values() if has_places(s)]
+    body = ''.join('\nconst %s: &[Place] = &[%s];\n' % (snake(s.name).upper(), ''.join(rust_place(f) for f in s.fields))
+                   for s in with_places)
+    return '\n'.join([
+        '//! Where expressions stand in the grammar.\n//!\n//! %s\n' % PRINTED,
+        'ghost use Rattle.std.specs.Prelude.{◌≡◌, map};\nghost use Rattle.swc_tree_node.specs.Places.{places_of};\n\n'
+        'use crate::kind::Kind;\nuse crate::place::{InOperator, Level, Operand, Place};\n',
+        rust_match('places_of', 'The place in the grammar of each field of a kind, in the order of its fields; none where no field\n'
+                   '/// holds an expression.', 'kind', 'Kind', "&'static [Place]",
+                   'map (λ p. (p.operand, p.in_operator)) result.now ≡ places_of kind',
+                   [('Kind::' + s.name, snake(s.name).upper()) for s in with_places] + [('_', '&[]')]) + body])
+
+
+def places_antt(tree):
+    of = lambda module, name: 'use Rattle.swc_tree_node.specs.declared.%s.%s.{%s}\n' % (module, name, name)
+    variants = lambda module, name, as_: 'use Rattle.swc_tree_node.specs.declared.%s.%s.TheVariants as %s\n' % (module, name, as_)
+    head = ('-- Where expressions stand in the grammar (ECMA-262, 13 to 16).\n--\n-- Printed by tools/print_table.py from tools/tree.txt.\n'
+            'use Rattle.std.specs.Prelude.{List, [], ◌∷◌}\n' + of('kind', 'Kind') + variants('kind', 'Kind', 'kind')
+            + variants('place', 'Level', 'level') + of('place', 'Operand') + variants('place', 'Operand', 'operand')
+            + of('place', 'InOperator') + variants('place', 'InOperator', 'in_operator'))
+    return '\n'.join([
+        head,
+        spec_cases('the place of each field of a kind: which expressions stand there without parentheses, and whether `in` is allowed;\n'
+                   '-- none where no field holds an expression', 'places_of', 'Kind → List (Operand × InOperator)',
+                   [('kind.' + s.name, spec_list([spec_place(f) for f in s.fields]))
+                    for s in tree.structs.values() if has_places(s)] + [('_', '[]')])])
 
 
 def classes_rt(tree):
@@ -160,9 +221,11 @@ def table_antt(tree):
 
 
 def files(tree):
+    check_places(tree)
     crate = 'crates/swc_tree_node/'
     printed = {crate + 'src/kind.rt': kind_rt(tree), crate + 'src/table.rt': table_rt(tree),
-               crate + 'src/table/classes.rt': classes_rt(tree), crate + 'specs/Table.antt': table_antt(tree)}
+               crate + 'src/table/classes.rt': classes_rt(tree), crate + 'specs/Table.antt': table_antt(tree),
+               crate + 'src/table/places.rt': places_rt(tree), crate + 'specs/Places.antt': places_antt(tree)}
     for family in tree.families:
         printed[crate + 'src/table/%s.rt' % module_of(family)] = fields_rt(tree, family)
     return printed

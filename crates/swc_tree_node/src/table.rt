@@ -11,11 +11,13 @@ mod functions;
 mod modules;
 mod names;
 mod patterns;
+mod places;
 mod statements;
 
 use crate::kind::{Kind, Word, WordClass};
 use crate::slot::{Field, Scope};
 pub use classes::kinds_of;
+pub use places::places_of;
 
 /// The name of the struct, as it stands in JSON.
 pub fn name_of(kind: Kind) -> &'static str

@@ -1,0 +1,4 @@
+pub mod Moves
+pub mod Found
+pub mod Each
+pub mod Fields

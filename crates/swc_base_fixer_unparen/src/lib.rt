@@ -1,0 +1,20 @@
+//! Takes parentheses off a tree, and with them what is idle in sequences.
+#![tactic(auto)]
+
+mod blocks;
+mod comments;
+mod pairs;
+mod pass;
+mod sequence;
+mod spans;
+mod stripping;
+mod targets;
+
+pub use blocks::add_blocks;
+pub use comments::{Comments, NoComments};
+pub use pass::remove_parens;
+pub use stripping::strip;
+pub use targets::all_bare;
+
+#[cfg(test)]
+mod tests;

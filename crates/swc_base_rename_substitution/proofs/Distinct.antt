@@ -1,0 +1,75 @@
+-- Ids, each once.
+use Rattle.std.proofs.Common.{◌≡◌, Bool, true, false, ◌&&◌, ◌||◌, List, [], ◌∷◌, ◌++◌, refl, sym, ap, ◌∙◌, append-nil}
+use Rattle.std.specs.Prelude.{nat_eq, if◌then◌else◌}
+use Rattle.std.specs.Cmp.Lexicographic.{pointwise}
+use Rattle.std.proofs.lemmas.Cmp.{nat_list_eq_equiv}
+use Rattle.std.specs.List.{list_any}
+use Rattle.swc_base_rename_substitution.specs.Names.{Id, same_id}
+use Rattle.swc_base_rename_substitution.specs.Exports.{without, distinct}
+
+both_left : (a b : Bool) → (a && b) ≡ true → a ≡ true
+both_left true b h = refl
+both_left false b h = h
+
+both_right : (a b : Bool) → (a && b) ≡ true → b ≡ true
+both_right true b h = h
+both_right false b h = absurd (cc)
+
+same_symm : (x y : Id) → same_id x y ≡ same_id y x
+same_symm x y =
+    ap (λ b. b && pointwise nat_eq x.1 y.1) (nat_list_eq_equiv.symm x.0 y.0)
+    ∙ ap (λ b. pointwise nat_eq y.0 x.0 && b) (nat_list_eq_equiv.symm x.1 y.1)
+
+same_congr : (x y z : Id) → same_id x y ≡ true → same_id x z ≡ same_id y z
+same_congr x y z h =
+    ap (λ b. b && pointwise nat_eq x.1 z.1) (nat_list_eq_equiv.congr x.0 y.0 z.0 (both_left _ _ h))
+    ∙ ap (λ b. pointwise nat_eq y.0 z.0 && b) (nat_list_eq_equiv.congr x.1 y.1 z.1 (both_right _ _ h))
+
+any_step : (x y z : Id) (l : List Id) (b : Bool) → same_id z y ≡ b → same_id x y ≡ false → list_any (same_id x) (without y l) ≡ list_any (same_id x) l
+    → list_any (same_id x) (if b then without y l else z ∷ without y l) ≡ (same_id x z || list_any (same_id x) l)
+any_step x y z l true e h r =
+    let apart : same_id x z ≡ false = same_symm x z ∙ same_congr z y x e ∙ same_symm y x ∙ h in
+    r ∙ ap (λ b. b || list_any (same_id x) l) (sym apart)
+any_step x y z l false e h r = ap (λ b. same_id x z || b) r
+
+any_without : (x y : Id) (l : List Id) → same_id x y ≡ false → list_any (same_id x) (without y l) ≡ list_any (same_id x) l
+any_without x y [] h = refl
+any_without x y (z ∷ l) h = any_step x y z l (same_id z y) refl h (any_without x y l h)
+
+without_end : (x y : Id) (l : List Id) → without y (l ++ x ∷ []) ≡ without y l ++ (if same_id x y then [] else x ∷ [])
+without_end x y [] = refl
+without_end x y (z ∷ l) = without_step (same_id z y) (without_end x y l)
+  where
+    without_step : (b : Bool) → without y (l ++ x ∷ []) ≡ without y l ++ (if same_id x y then [] else x ∷ [])
+        → (if b then without y (l ++ x ∷ []) else z ∷ without y (l ++ x ∷ [])) ≡ (if b then without y l else z ∷ without y l) ++ (if same_id x y then [] else x ∷ [])
+    without_step true r = r
+    without_step false r = ap (λ l. z ∷ l) r
+
+abbrev added : Id → List Id → List Id
+added x l = if list_any (same_id x) l then l else l ++ x ∷ []
+
+choice : Id → Id → List Id → Bool → List Id
+choice x y l b = if b then y ∷ without y l else y ∷ (without y l ++ x ∷ [])
+
+added_is : (x y : Id) (l : List Id) (b c : Bool) → list_any (same_id x) (without y l) ≡ b → same_id x y ≡ c → added x (y ∷ without y l) ≡ choice x y l (c || b)
+unfolding choice
+added_is x y l b c g h = ap (λ d. choice x y l (d || list_any (same_id x) (without y l))) h ∙ ap (λ d. choice x y l (c || d)) g
+
+added_under : (x y : Id) (l : List Id) (b c : Bool) → list_any (same_id x) l ≡ b → same_id x y ≡ c → y ∷ without y (if b then l else l ++ x ∷ []) ≡ added x (y ∷ without y l)
+unfolding choice
+added_under x y l true true g h = sym (added_is x y l _ true refl h)
+added_under x y l false true g h =
+    ap (λ l. y ∷ l) (without_end x y l ∙ ap (λ b. without y l ++ (if b then [] else x ∷ [])) h ∙ append-nil (without y l)) ∙ sym (added_is x y l _ true refl h)
+added_under x y l true false g h = sym (added_is x y l true false (any_without x y l h ∙ g) h)
+added_under x y l false false g h =
+    ap (λ l. y ∷ l) (without_end x y l ∙ ap (λ b. without y l ++ (if b then [] else x ∷ [])) h) ∙ sym (added_is x y l false false (any_without x y l h ∙ g) h)
+
+distinct_end : (x : Id) (xs : List Id) → distinct (xs ++ x ∷ []) ≡ added x (distinct xs)
+distinct_end x [] = refl
+distinct_end x (y ∷ xs) = ap (λ l. y ∷ without y l) (distinct_end x xs) ∙ added_under x y (distinct xs) _ _ refl refl
+
+pub one_more_met : (kept xs : List Id) (x : Id) → kept ≡ distinct xs → list_any (same_id x) kept ≡ true → kept ≡ distinct (xs ++ x ∷ [])
+one_more_met kept xs x e h = e ∙ sym (distinct_end x xs ∙ ap (λ b. if b then distinct xs else distinct xs ++ x ∷ []) (ap (list_any (same_id x)) (sym e) ∙ h))
+
+pub one_more_kept : (kept now xs : List Id) (x : Id) → kept ≡ distinct xs → list_any (same_id x) kept ≡ false → now ≡ kept ++ x ∷ [] → now ≡ distinct (xs ++ x ∷ [])
+one_more_kept kept now xs x e h n = n ∙ ap (λ l. l ++ x ∷ []) e ∙ sym (distinct_end x xs ∙ ap (λ b. if b then distinct xs else distinct xs ++ x ∷ []) (ap (list_any (same_id x)) (sym e) ∙ h))

@@ -1,0 +1,95 @@
+-- Exported declarations, whose names stay as they were for other modules.
+use Rattle.std.specs.Prelude.{ℕ, zero, suc, Bool, true, false, Option, Some, None, is_some, List, [], ◌∷◌, ◌++◌, map, if◌then◌else◌}
+use Rattle.std.specs.List.{flat_map, list_any}
+use Rattle.swc_tree_marks.specs.declared.ident.Ident.{Ident}
+use Rattle.swc_tree_node.specs.declared.kind.Kind.TheVariants as kind
+use Rattle.swc_tree_node.specs.declared.slot.Role.{Role}
+use Rattle.swc_tree_node.specs.declared.slot.Role.TheVariants as role
+use Rattle.swc_tree_node.specs.declared.node.Node.{Node, Absent, Span, List as Many, Identifier, Tree, out-Node, fold-Node}
+use Rattle.swc_tree_node.specs.declared.node.Node.TheOpen.{Node-F}
+use Rattle.swc_base_rename_substitution.specs.Names.{Id, same_id}
+use Rattle.swc_base_rename_substitution.specs.Places.{field_role}
+use Rattle.swc_base_rename_substitution.specs.Identifiers.{Changes, id_of}
+
+-- a declaration binds the names that stand in fields of these roles (ECMA-262, BoundNames)
+abbrev pub holds_bound : Role → Bool
+holds_bound role.Declared = true
+holds_bound role.Lexical = true
+holds_bound role.Function = true
+holds_bound role.Class = true
+holds_bound role.Inherited = true
+holds_bound r = false
+
+abbrev pub bound_in : Role → List Id → List Id
+bound_in r xs = if holds_bound r then xs else []
+
+abbrev pub bound_below : (ℕ → Role) → List (List Id) → List Id
+bound_below roles [] = []
+bound_below roles (xs ∷ xss) = bound_in (roles zero) xs ++ bound_below (λ i. roles (suc i)) xss
+
+abbrev pub bound_step : Node-F (List Id) → List Id
+bound_step (Node-F.Identifier k i) = id_of i ∷ []
+bound_step (Node-F.List xss) = flat_map (λ xs. xs) xss
+bound_step (Node-F.Tree k xss) = bound_below (field_role k) xss
+bound_step y = []
+
+-- the ids that a declaration binds, in order
+abbrev pub bound_ids : Node → List Id
+bound_ids = fold-Node (List Id) bound_step
+
+abbrev pub without : Id → List Id → List Id
+without x [] = []
+without x (y ∷ ys) = if same_id y x then without x ys else y ∷ without x ys
+
+-- each once, in the order in which they first stand
+abbrev pub distinct : List Id → List Id
+distinct [] = []
+distinct (x ∷ xs) = x ∷ without x (distinct xs)
+
+abbrev pub exported_in : Node-F Node → List Id
+exported_in (Node-F.Tree kind.ExportDecl (span ∷ declaration ∷ [])) = distinct (bound_ids declaration)
+exported_in y = []
+
+-- the ids that an exported declaration binds, each once
+abbrev pub exported_ids : Node → List Id
+exported_ids t = exported_in (out-Node t)
+
+-- an identifier that stands in no source text
+abbrev pub made : Id → Ident
+made x = record { span = record { lo = 0; hi = 0 }; ctxt = x.1; sym = x.0 }
+
+abbrev pub nowhere : Node
+nowhere = Span (record { lo = 0; hi = 0 })
+
+abbrev pub specifier_to : Id → Option Id → Node
+specifier_to x None = Tree kind.ExportNamedSpecifier (nowhere ∷ Identifier kind.Ident (made x) ∷ Absent ∷ [])
+specifier_to x (Some y) = Tree kind.ExportNamedSpecifier (nowhere ∷ Identifier kind.Ident (made y) ∷ Identifier kind.Ident (made (x.0, [])) ∷ [])
+
+-- `a1 as a` where `a` becomes `a1`, and else `a`
+abbrev pub specifier : Changes → Id → Node
+specifier m x = specifier_to x (m x)
+
+-- `export { a1 as a, b };`
+abbrev pub export_list : Changes → List Id → Node
+export_list m xs = Tree kind.NamedExport (nowhere ∷ Many (map (specifier m) xs) ∷ Absent ∷ Absent ∷ [])
+
+abbrev pub declaration_in : Node → Node-F Node → Node
+declaration_in t (Node-F.Tree kind.ExportDecl (span ∷ declaration ∷ [])) = declaration
+declaration_in t y = t
+
+-- the declaration without its `export`
+abbrev pub declaration_of : Node → Node
+declaration_of t = declaration_in t (out-Node t)
+
+-- the export list of the names of an exported declaration, where one of them changes
+abbrev pub exports_of : Changes → List Id → Option Node
+exports_of m xs = if list_any (λ x. is_some (m x)) xs then Some (export_list m xs) else None
+
+abbrev pub with_exports : Node → Option Node → List Node
+with_exports t None = t ∷ []
+with_exports t (Some exports) = declaration_of t ∷ exports ∷ []
+
+-- what stands for an item of a list, which was `before` and is now `t`: where a name of an exported
+-- declaration changes, the declaration and right after it an export list of all its names
+abbrev pub items_for : Changes → Node → Node → List Node
+items_for m before t = with_exports t (exports_of m (exported_ids before))

@@ -1,0 +1,34 @@
+-- The new names of ids, as a map has them.
+use Rattle.std.specs.Prelude.{ℕ, nat_eq, Bool, ◌&&◌, Option, Some, None, option_map, List, [], if◌then◌else◌}
+use Rattle.std.specs.Cmp.Lexicographic.{pointwise}
+use Rattle.std.specs.HashMap.{HashMap, get}
+use Rattle.swc_base_rename_substitution.specs.declared.names.Names.{Names}
+use Rattle.swc_base_rename_substitution.specs.declared.names.Names.TheVariants.{Texts, Ids}
+
+-- a text and a context
+abbrev pub Id : Type 0
+Id = List ℕ × List ℕ
+
+abbrev pub same_text : Id → Id → Bool
+same_text x y = pointwise nat_eq x.0 y.0
+
+-- ids are one where their texts and their contexts are
+abbrev pub same_id : Id → Id → Bool
+same_id x y = pointwise nat_eq x.0 y.0 && pointwise nat_eq x.1 y.1
+
+-- a new id counts where its text is another
+abbrev pub if_other_text : Id → Option Id → Option Id
+if_other_text x None = None
+if_other_text x (Some y) = if same_text y x then None else Some y
+
+-- the new id of an id, where a map has another text for it; a new text comes with the empty context
+abbrev pub by_text : {S : Type 0} → HashMap Id (List ℕ) S → Id → Option Id
+by_text m x = if_other_text x (option_map (λ text. (text, [])) (get same_id m x))
+
+-- the same where the map has a new id for it
+abbrev pub by_id : {S : Type 0} → HashMap Id Id S → Id → Option Id
+by_id m x = if_other_text x (get same_id m x)
+
+abbrev pub new_id : Names → Id → Option Id
+new_id (Texts m) x = by_text m.now x
+new_id (Ids m) x = by_id m.now x

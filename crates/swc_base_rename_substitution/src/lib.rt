@@ -1,0 +1,21 @@
+//! Substitution: the names of a tree are given anew, as a map says.
+//!
+//! `specs/Substituted.antt` says what a tree becomes; `substitute` answers that tree.
+#![tactic(auto)]
+
+mod bound;
+mod classes;
+mod config;
+mod exports;
+mod identifiers;
+mod names;
+mod pass;
+mod place;
+mod substitution;
+#[cfg(test)]
+mod tests;
+mod written_out;
+
+pub use config::Config;
+pub use names::Names;
+pub use pass::substitute;

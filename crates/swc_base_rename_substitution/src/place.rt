@@ -1,0 +1,94 @@
+//! Where an identifier stands.
+ghost use Rattle.std.specs.Prelude.{◌≡◌};
+ghost use Rattle.swc_base_rename_substitution.specs.Places.{place_below as is_below, within as is_within, field_role as role_in_table};
+ghost use Rattle.swc_base_rename_substitution.specs.Walk.{place_in};
+
+use swc_tree_node::{Kind, Role, fields_of};
+
+/// What an identifier is at its place, as far as substitution goes by it.
+#[derive(Clone, Copy, Debug, PartialEq, Eq)]
+pub enum Place {
+    /// A binding or a reference.
+    Name,
+    /// A shorthand property of an object literal: the key, and a reference.
+    Shorthand,
+    /// A name right below `export`, as in `export class A {}`.
+    Exported,
+    /// The name of a class expression, where classes keep their names.
+    ClassName,
+    /// A label, or an imported or exported name.
+    Other,
+}
+
+/// The role of a field, as the table has it.
+pub fn field_role(kind: Kind, field: usize) -> Role
+    ensures { result ≡ role_in_table kind field }
+{
+    match fields_of(kind).get(field) {
+        Some(field) => field.role,
+        None => Role::Plain,
+    }
+}
+
+// The place of a part of what stands at a place.
+fn within(place: Place) -> Place
+    ensures { result ≡ is_within place }
+{
+    match place {
+        Place::Other => Place::Other,
+        _ => Place::Name,
+    }
+}
+
+// The place that is a field of a node at `place`.
+//
+// `sourced` says whether the node is an export list with a source, `keeps_classes` whether classes keep
+// their names.
+fn place_below(keeps_classes: bool, place: Place, sourced: bool, kind: Kind, role: Role) -> Place
+    ensures { result ≡ is_below keeps_classes place sourced kind role }
+{
+    match kind {
+        Kind::ObjectLit => Place::Shorthand,
+        Kind::ExportDecl => Place::Exported,
+        Kind::ClassExpr if keeps_classes => Place::ClassName,
+        _ => match role {
+            Role::Inherited => within(place),
+            Role::Plain | Role::Label | Role::Imported | Role::Exported => Place::Other,
+            Role::ExportLocal if sourced => Place::Other,
+            _ => Place::Name,
+        },
+    }
+}
+
+/// What the places below a node go by.
+#[derive(Clone, Copy, Debug)]
+pub enum Below {
+    /// The items of a list at a place.
+    Items(Place),
+    /// The fields of a node at a place, whether it is an export list with a source, and its kind.
+    Fields(Place, bool, Kind),
+    /// The same, but that a name in the second field stays.
+    Others(Place, bool, Kind),
+}
+
+impl Below {
+    /// The place of an item or a field.
+    #[tactic(auto, using(crate::proofs::Fields::others_at))]
+    pub fn place(self, keeps_classes: bool, index: usize) -> Place
+        ensures { result ≡ place_in keeps_classes self index }
+    {
+        match self {
+            Below::Items(place) => place,
+            Below::Fields(whole, sourced, kind) => {
+                place_below(keeps_classes, whole, sourced, kind, field_role(kind, index))
+            }
+            Below::Others(whole, sourced, kind) => {
+                if index == 1 {
+                    Place::Other
+                } else {
+                    place_below(keeps_classes, whole, sourced, kind, field_role(kind, index))
+                }
+            }
+        }
+    }
+}

@@ -1,0 +1,71 @@
+-- The grammar on small trees.
+use Rattle.std.proofs.Common.{◌≡◌, [], ◌∷◌, true, false, codes, rules}
+use Rattle.swc_tree_node.specs.declared.kind.Kind.TheVariants as kind
+use Rattle.swc_tree_node.specs.declared.kind.Word.{Word as Word'}
+use Rattle.swc_tree_node.specs.declared.kind.Word.TheVariants as word
+use Rattle.swc_tree_node.specs.declared.node.Node.{Node, Absent, Word, Text, List as Many, Tree, the_lemmas}
+use Rattle.swc_tree_grammar.specs.Levels.{level}
+use Rattle.swc_tree_grammar.specs.Grammar.{Context, derives}
+use Rattle.swc_tree_grammar.proofs.Rows.{at, a, x, number, paren, call, chain, statement, choice, while}
+
+abbrev sloppy : Context
+sloppy = record { with_in = true; strict = false }
+
+abbrev pub bin : Word' → Node → Node → Node
+bin op left right = Tree kind.BinExpr (at 0 0 ∷ Word op ∷ left ∷ right ∷ [])
+
+abbrev unary : Word' → Node → Node
+unary op arg = Tree kind.UnaryExpr (at 0 0 ∷ Word op ∷ arg ∷ [])
+
+abbrev pub member : Node → Node
+member e = Tree kind.MemberExpr (at 0 0 ∷ e ∷ Tree kind.IdentName (at 0 0 ∷ Text (codes "b") ∷ []) ∷ [])
+
+abbrev object : Node
+object = Tree kind.ObjectLit (at 0 0 ∷ Many [] ∷ [])
+
+-- `a.b` binds tighter than `f().b`
+member_level : level (member a) ≡ 18
+member_level = search (rules, the_lemmas)
+
+called_level : level (member (call (codes "f"))) ≡ 17
+called_level = search (rules, the_lemmas)
+
+-- `a * (b + c)`, and without the pair
+product : derives (bin word.Mul a (paren (bin word.Plus a x))) sloppy ≡ true
+product = search (rules, the_lemmas)
+
+no_product : derives (bin word.Mul a (bin word.Plus a x)) sloppy ≡ false
+no_product = search (rules, the_lemmas)
+
+-- `-(2 * 3)` needs its pair
+negated : derives (unary word.Minus (bin word.Mul (number (codes "2")) (number (codes "3")))) sloppy ≡ false
+negated = search (rules, the_lemmas)
+
+-- `(a?.b).b` needs its pair
+chained : derives (member chain) sloppy ≡ false
+chained = search (rules, the_lemmas)
+
+chained_pair : derives (member (paren chain)) sloppy ≡ true
+chained_pair = search (rules, the_lemmas)
+
+-- `({}) + a` as a statement, and without the pair
+object_first : derives (statement (bin word.Plus object a)) sloppy ≡ false
+object_first = search (rules, the_lemmas)
+
+object_in_pair : derives (statement (bin word.Plus (paren object) a)) sloppy ≡ true
+object_in_pair = search (rules, the_lemmas)
+
+-- `a ?? b || c` mixes what does not mix
+mixed : derives (bin word.NullishCoalescing a (bin word.LogicalOr a x)) sloppy ≡ false
+mixed = search (rules, the_lemmas)
+
+-- an `else` that would go to the inner `if`
+dangling : derives (choice (while (choice (statement x) Absent)) (statement x)) sloppy ≡ false
+dangling = search (rules, the_lemmas)
+
+-- `for (a in x;;) ;`
+in_head : derives (Tree kind.ForStmt (at 0 0 ∷ bin word.In a x ∷ Absent ∷ Absent ∷ Tree kind.EmptyStmt (at 0 0 ∷ []) ∷ [])) sloppy ≡ false
+in_head = search (rules, the_lemmas)
+
+in_head_pair : derives (Tree kind.ForStmt (at 0 0 ∷ paren (bin word.In a x) ∷ Absent ∷ Absent ∷ Tree kind.EmptyStmt (at 0 0 ∷ []) ∷ [])) sloppy ≡ true
+in_head_pair = search (rules, the_lemmas)

@@ -1,0 +1,15 @@
+pub mod Shapes
+pub mod Levels
+pub mod Starts
+pub mod Forms
+pub mod Grammar
+pub mod Normal
+pub mod Same
+pub mod Needed
+pub mod Due
+pub mod Writable
+pub mod Stripped
+pub mod Blocks
+pub mod Targets
+pub mod Pairs
+pub mod Places

@@ -1,0 +1,148 @@
+-- The normal form of a program: what is left of it when all is written out that may be written shorter, and
+-- taken off what may be left out.
+use Rattle.std.specs.Prelude.{List, [], ◌∷◌, map, Bool, not, codes, nat_eq, if◌then◌else◌}
+use Rattle.std.specs.List.{flat_map, filter}
+use Rattle.std.specs.Cmp.Lexicographic.{pointwise}
+use Rattle.swc_tree_marks.specs.declared.ident.Ident.{Ident}
+use Rattle.swc_tree_node.specs.declared.kind.Kind.TheVariants as kind
+use Rattle.swc_tree_node.specs.declared.node.Node.{Node, Absent, Text, Span, List as Many, Identifier, Tree, out-Node, roll-Node, fold-Node}
+use Rattle.swc_tree_node.specs.declared.node.Node.TheOpen.{Node-F}
+use Rattle.swc_tree_grammar.specs.Shapes.{If, Block, Declarator, VarDecl, FnDecl, AssignPat, AssignPatProp, ForIn, ForOf, Module, items_of}
+use Rattle.swc_tree_grammar.specs.Levels.{is_absent}
+use Rattle.swc_tree_grammar.specs.Blocks.{takes_else, no_span}
+use Rattle.swc_tree_grammar.specs.Stripped.{stripped}
+
+-- a block round one statement that ends in an `if` without `else` goes
+abbrev pub only_in : Node → List Node → Node
+only_in t (s ∷ []) = if takes_else s then s else t
+only_in t _ = t
+
+abbrev pub opened_in : Node → Node-F Node → Node
+opened_in t (Block span stmts) = only_in t (items_of stmts)
+opened_in t _ = t
+
+abbrev pub opened : Node → Node
+opened t = opened_in t (out-Node t)
+
+-- the name that stands in the place of what was not written, and the key
+abbrev pub plain_name : Ident → Node
+plain_name i = Identifier kind.Ident (record { span = i.span; ctxt = []; sym = i.sym })
+
+abbrev pub key_of : Ident → Node
+key_of i = Tree kind.IdentName (Span i.span ∷ Text i.sym ∷ [])
+
+-- a shorthand `__proto__` defines a property of that name, but written out it would set the prototype
+-- (ECMA-262, B.3.1), so its key is computed
+abbrev pub computed_key : Ident → Node
+computed_key i = Tree kind.ComputedPropName (Span i.span ∷ Tree kind.Str (Span i.span ∷ Text i.sym ∷ Absent ∷ []) ∷ [])
+
+abbrev pub shorthand_key : Ident → Node
+shorthand_key i = if pointwise nat_eq i.sym (codes "__proto__") then computed_key i else key_of i
+
+abbrev pub property_in : Node → Node-F Node → Node
+property_in t (Node-F.Identifier k i) = Tree kind.KeyValueProp (shorthand_key i ∷ t ∷ [])
+property_in t _ = t
+
+abbrev pub property : Node → Node
+property t = property_in t (out-Node t)
+
+-- an expression that is a name, where a pattern stands, is a pattern
+abbrev pub pattern_in : Node → Node-F Node → Node
+pattern_in t (Node-F.Identifier kind.Ident i) = Identifier kind.BindingIdent i
+pattern_in t _ = t
+
+abbrev pub as_pattern : Node → Node
+as_pattern t = pattern_in t (out-Node t)
+
+abbrev pub with_default : Node → Node → Node → Node
+with_default span name value = if is_absent value then name else Tree kind.AssignPat (span ∷ name ∷ value ∷ [])
+
+-- the key of a shorthand in a pattern, written out
+abbrev pub pattern_property_in : Node → Node → Node → Node-F Node → Node
+pattern_property_in span key value (Node-F.Identifier k i) = Tree kind.KeyValuePatProp (key_of i ∷ with_default (Span i.span) key value ∷ [])
+pattern_property_in span key value _ = Tree kind.AssignPatProp (span ∷ key ∷ value ∷ [])
+
+-- what a specifier leaves out, the other name again
+abbrev pub again_in : Node → Node-F Node → Node
+again_in t (Node-F.Identifier k i) = plain_name i
+again_in t _ = t
+
+abbrev pub again : Node → Node → Node
+again name other = if is_absent other then again_in name (out-Node name) else other
+
+-- the names that a pattern binds, in the order of the source (ECMA-262, 8.2.1)
+abbrev pub bound_step : Node-F (List Ident) → List Ident
+bound_step (Node-F.Identifier kind.BindingIdent i) = i ∷ []
+bound_step (Node-F.List ns) = flat_map (λ n. n) ns
+bound_step (Declarator span name init) = name
+bound_step (AssignPat span left right) = left
+bound_step (AssignPatProp span key value) = key
+bound_step (Node-F.Tree kind.ArrayPat ns) = flat_map (λ n. n) ns
+bound_step (Node-F.Tree kind.ObjectPat ns) = flat_map (λ n. n) ns
+bound_step (Node-F.Tree kind.RestPat ns) = flat_map (λ n. n) ns
+bound_step (Node-F.Tree kind.KeyValuePatProp (key ∷ value ∷ [])) = value
+bound_step (VarDecl span keyword decls) = decls
+bound_step _ = []
+
+abbrev pub bound_names : Node → List Ident
+bound_names = fold-Node (List Ident) bound_step
+
+abbrev pub name_in : Node-F Node → List Ident
+name_in (Node-F.Identifier k i) = i ∷ []
+name_in _ = []
+
+-- the names of a declaration
+abbrev pub declared_in : Node → Node-F Node → List Ident
+declared_in t (Node-F.Tree kind.ClassDecl (ident ∷ class ∷ [])) = name_in (out-Node ident)
+declared_in t (FnDecl ident function) = name_in (out-Node ident)
+declared_in t _ = bound_names t
+
+abbrev pub same_name : Ident → Ident → Bool
+same_name i j = pointwise nat_eq i.sym j.sym
+
+abbrev pub each_once : List Ident → List Ident
+each_once [] = []
+each_once (i ∷ is) = i ∷ filter (λ j. not (same_name i j)) (each_once is)
+
+abbrev pub exported_as_itself : Ident → Node
+exported_as_itself i = Tree kind.ExportNamedSpecifier (Span no_span ∷ Identifier kind.Ident i ∷ plain_name i ∷ [])
+
+abbrev pub export_list : List Ident → Node
+export_list is = Tree kind.NamedExport (Span no_span ∷ Many (map exported_as_itself is) ∷ Absent ∷ Absent ∷ [])
+
+-- an exported declaration as the declaration and, right behind it, its export list (ECMA-262, 16.2.3)
+abbrev pub split_in : Node → Node-F Node → List Node
+split_in t (Node-F.Tree kind.ExportDecl (span ∷ decl ∷ [])) = decl ∷ export_list (each_once (declared_in decl (out-Node decl))) ∷ []
+split_in t _ = t ∷ []
+
+abbrev pub split : Node → List Node
+split t = split_in t (out-Node t)
+
+abbrev pub specifier_in : Node → Node-F Node → Node
+specifier_in t (Node-F.Tree kind.ExportNamedSpecifier (span ∷ orig ∷ exported ∷ [])) = Tree kind.ExportNamedSpecifier (span ∷ orig ∷ again orig exported ∷ [])
+specifier_in t _ = t
+
+abbrev pub specifier : Node → Node
+specifier t = specifier_in t (out-Node t)
+
+abbrev pub written_step : Node-F Node → Node
+written_step (If span test cons alt) = Tree kind.IfStmt (span ∷ test ∷ opened cons ∷ alt ∷ [])
+written_step (Node-F.Tree kind.ObjectLit (span ∷ props ∷ [])) = Tree kind.ObjectLit (span ∷ Many (map property (items_of props)) ∷ [])
+written_step (AssignPatProp span key value) = pattern_property_in span key value (out-Node key)
+written_step (Node-F.Tree kind.ArrayPat (span ∷ elems ∷ [])) = Tree kind.ArrayPat (span ∷ Many (map as_pattern (items_of elems)) ∷ [])
+written_step (Node-F.Tree kind.RestPat (span ∷ arg ∷ [])) = Tree kind.RestPat (span ∷ as_pattern arg ∷ [])
+written_step (Node-F.Tree kind.KeyValuePatProp (key ∷ value ∷ [])) = Tree kind.KeyValuePatProp (key ∷ as_pattern value ∷ [])
+written_step (AssignPat span left right) = Tree kind.AssignPat (span ∷ as_pattern left ∷ right ∷ [])
+written_step (ForIn span left right body) = Tree kind.ForInStmt (span ∷ as_pattern left ∷ right ∷ body ∷ [])
+written_step (ForOf span is_await left right body) = Tree kind.ForOfStmt (span ∷ is_await ∷ as_pattern left ∷ right ∷ body ∷ [])
+written_step (Node-F.Tree kind.ImportNamedSpecifier (span ∷ local ∷ imported ∷ [])) = Tree kind.ImportNamedSpecifier (span ∷ local ∷ again local imported ∷ [])
+written_step (Node-F.Tree kind.NamedExport (span ∷ specifiers ∷ src ∷ attributes ∷ [])) =
+    Tree kind.NamedExport (span ∷ (if is_absent src then Many (map specifier (items_of specifiers)) else specifiers) ∷ src ∷ attributes ∷ [])
+written_step (Module span body shebang) = Tree kind.Module (span ∷ Many (flat_map split (items_of body)) ∷ shebang ∷ [])
+written_step t = roll-Node t
+
+abbrev pub written_out : Node → Node
+written_out = fold-Node Node written_step
+
+abbrev pub normal_form : Node → Node
+normal_form t = written_out (stripped t)
