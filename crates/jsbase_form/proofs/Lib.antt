@@ -7,3 +7,4 @@ pub mod Numbers
 pub mod Induction
 pub mod Back
 pub mod RoundTrip
+mod Rows

@@ -1,5 +1,5 @@
 -- Reading what was written gives the tree back.
-use Rattle.std.proofs.Common.{◌≡◌, ℕ, suc, List, [], ◌∷◌, Bool, true, false, not, ◌&&◌, IsTrue, map, codes, Option, Some, Ok, bytes_eq, refl, ap, ◌∙◌, subst, rules}
+use Rattle.std.proofs.Common.{◌≡◌, ℕ, suc, List, [], ◌∷◌, Bool, true, false, not, ◌&&◌, IsTrue, map, codes, Option, Some, Ok, bytes_eq, refl, ap, ◌∙◌, rules}
 use Rattle.std.specs.List.{list_any, list_all}
 use Rattle.serde_json.specs.Data.{Data, null, boolean, string, array, object, Members, put}
 use Rattle.serde_json.specs.Find.{get_member}
@@ -23,7 +23,7 @@ use Rattle.swc_tree_node.proofs.Fit.{fits-Absent, fits-Flag, fits-Word, fits-Tex
 use Rattle.jsbase_form.specs.Reads.{◌>>=◌}
 use Rattle.jsbase_form.specs.Keys.{all_differ}
 use Rattle.jsbase_form.specs.Leaves.{flag_at}
-use Rattle.jsbase_form.specs.Trees.{Keys, leaf_at, fields_at, body_at, node_at, null_as, single_as, object_of, seen, items_seen, members_seen, ident_at, value_of}
+use Rattle.jsbase_form.specs.Trees.{Keys, leaf_at, fields_at, body_at, node_at, null_as, single_as, listed, object_of, seen, items_seen, members_seen, ident_at, value_of}
 use Rattle.jsbase_form.specs.Known.{ReadsAs, all_of, MarksKnown, marks_known, NumbersShort, numbers_short, span_short}
 use Rattle.jsbase_form.specs.Writing.{json, span_json, typed, ident_json, fields_put}
 use Rattle.jsbase_form.proofs.Members.{member_seen, table_differs, split}
@@ -62,9 +62,10 @@ ReadsBack table t = (s : Slot) → Fits t s → MarksKnown table t → NumbersSh
 -- ---- where each form may stand
 
 absent_place : (s : Slot) → IsTrue (absent_fits s) → null_as s ≡ Ok Absent
-absent_place (slot.One c) h = absurd (cc)
 absent_place (slot.Optional c) h = refl
-absent_place (slot.List c) h = absurd (cc)
+absent_place (slot.OptionalList c) h = refl
+absent_place slot.Pairs h = refl
+absent_place _ h = absurd (cc)
 
 flag_place : (o : Option Content) → IsTrue (flag_fits o) → o ≡ Some content.Flag
 flag_place (Some content.Flag) h = refl
@@ -93,17 +94,17 @@ tree_place k fs _ h = absurd (cc)
 single_back : (d : Data) (s : Slot) (c : Content) (t : Node) → single s ≡ Some c → leaf_at c d ≡ Ok t → single_as d s ≡ Ok t
 single_back d (slot.One x) c t one h = let same : x ≡ c = cc in ap (λ c. leaf_at c d) same ∙ h
 single_back d (slot.Optional x) c t one h = let same : x ≡ c = cc in ap (λ c. leaf_at c d) same ∙ h
-single_back d (slot.List x) c t one h = absurd (cc)
+single_back d _ c t one h = absurd (cc)
 
 array_back : (table : Table) (ds : _) (s : Slot) (c : Content) (t : Node) → single s ≡ Some c → leaf_at c (array ds) ≡ Ok t → seen table (array ds) s ≡ Ok t
 array_back table ds (slot.One x) c t one h = let same : x ≡ c = cc in ap (λ c. leaf_at c (array ds)) same ∙ h
 array_back table ds (slot.Optional x) c t one h = let same : x ≡ c = cc in ap (λ c. leaf_at c (array ds)) same ∙ h
-array_back table ds (slot.List x) c t one h = absurd (cc)
+array_back table ds _ c t one h = absurd (cc)
 
 object_back : (table : Table) (ms : Members) (s : Slot) (c : Class) (t : Node) → single s ≡ Some (content.Node c) → node_at table ms (members_seen table ms) c ≡ Ok t → seen table (object ms) s ≡ Ok t
 object_back table ms (slot.One x) c t one h = let same : x ≡ content.Node c = cc in ap (object_of table ms (members_seen table ms)) same ∙ h
 object_back table ms (slot.Optional x) c t one h = let same : x ≡ content.Node c = cc in ap (object_of table ms (members_seen table ms)) same ∙ h
-object_back table ms (slot.List x) c t one h = absurd (cc)
+object_back table ms _ c t one h = absurd (cc)
 
 -- ---- leaves
 
@@ -159,22 +160,26 @@ items_back table s (t ∷ ts) i back fit known short =
     let n = split (numbers_short t) (all_of (map numbers_short ts)) short in
     rw (back.0 s fit.0 k.0 n.0, items_back table s ts (suc i) back.1 fit.1 k.1 n.1) refl
 
-list_place : (fs : List (Slot → Bool)) (s : Slot) → IsTrue (list_fits fs s) → (c : Content) × (s ≡ slot.List c)
-list_place fs (slot.One c) h = absurd (cc)
-list_place fs (slot.Optional c) h = absurd (cc)
-list_place fs (slot.List c) h = (c, refl)
+-- what was written of a list, in each place that takes one
+array_places : (table : Table) (ts : List Node) → AllOf (ReadsBack table) ts → IsTrue (all_of (map (marks_known table) ts)) → IsTrue (all_of (map numbers_short ts))
+    → (s : Slot) → IsTrue (list_fits (map fits ts) s) → seen table (array (items_of (map json ts))) s ≡ Ok (Many ts)
+array_places table ts back known short (slot.List c) fit = ap listed (items_back table (slot.One c) ts 0 back (all_open (slot.One c) ts fit) known short)
+array_places table ts back known short (slot.Holes c) fit = ap listed (items_back table (slot.Optional c) ts 0 back (all_open (slot.Optional c) ts fit) known short)
+array_places table ts back known short (slot.OptionalList c) fit = ap listed (items_back table (slot.One c) ts 0 back (all_open (slot.One c) ts fit) known short)
+array_places table ts back known short slot.Pair fit = at_pair ts back known short (fields_open (slot.One content.Text ∷ slot.One content.Text ∷ []) ts fit)
+  where
+    at_pair : (ts : List Node) → AllOf (ReadsBack table) ts → IsTrue (all_of (map (marks_known table) ts)) → IsTrue (all_of (map numbers_short ts))
+        → FieldsFit (slot.One content.Text ∷ slot.One content.Text ∷ []) ts → seen table (array (items_of (map json ts))) slot.Pair ≡ Ok (Many ts)
+    at_pair (t ∷ u ∷ []) back known short fit = ap listed (items_back table (slot.One content.Text) (t ∷ u ∷ []) 0 back fit known short)
+    at_pair [] back known short fit = absurd fit
+    at_pair (t ∷ []) back known short fit = absurd fit.1
+    at_pair (t ∷ u ∷ v ∷ ts) back known short fit = absurd fit.1.1
+array_places table ts back known short slot.Pairs fit = ap listed (items_back table slot.Pair ts 0 back (all_open slot.Pair ts fit) known short)
+array_places table ts back known short _ fit = absurd (cc)
 
 lists_back : (table : Table) (ts : List Node) → AllOf (ReadsBack table) ts → ReadsBack table (Many ts)
-lists_back table ts back s f known short = at_list (list_place (map fits ts) s fit).0 s (list_place (map fits ts) s fit).1 fit
-  where
-    fit : IsTrue (list_fits (map fits ts) s)
-    fit = rw (← fits-List ts s) f
-
-    at_list : (c : Content) (s : Slot) → s ≡ slot.List c → IsTrue (list_fits (map fits ts) s) → seen table (json (Many ts)) s ≡ Ok (Many ts)
-    at_list c s is fit =
-        let all : IsTrue (list_fits (map fits ts) (slot.List c)) = subst (λ s. IsTrue (list_fits (map fits ts) s)) is fit in
-        let items = items_back table (slot.One c) ts 0 back (all_open (slot.One c) ts all) (rw (← known-List table ts) known) (rw (← short-List ts) short) in
-        ap (λ d. seen table d s) (json-List ts) ∙ ap (seen table (array (items_of (map json ts)))) is ∙ ap (λ r. r >>= (λ ts. Ok (Many ts))) items
+lists_back table ts back s f known short =
+    ap (λ d. seen table d s) (json-List ts) ∙ array_places table ts back (rw (← known-List table ts) known) (rw (← short-List ts) short) s (rw (← fits-List ts s) f)
 
 fields_back : (table : Table) (final : Members) (fs : List (List ℕ × Slot × Role)) (ts : List Node) (ms : Members) → final ≡ fields_put fs (map json ts) ms → AllOf (ReadsBack table) ts → FieldsFit (map (λ f. f.1) fs) ts
     → IsTrue (all_of (map (marks_known table) ts)) → IsTrue (all_of (map numbers_short ts)) → IsTrue (all_differ (map (λ f. f.0) fs)) → fields_at (members_seen table final) fs ≡ Ok ts

@@ -1,5 +1,5 @@
 -- What is read fits its place, and the table knows its marks.
-use Rattle.std.proofs.Common.{◌≡◌, ℕ, suc, List, [], ◌∷◌, Bool, true, false, cond, map, IsTrue, Some, option_and_then, Ordering, Less, Equal, Greater, nat_cmp, Ok, codes, bytes_eq, refl, sym, ap, ◌∙◌, subst}
+use Rattle.std.proofs.Common.{◌≡◌, ℕ, suc, List, [], ◌∷◌, Bool, true, false, cond, map, length, IsTrue, Some, option_and_then, Ordering, Less, Equal, Greater, nat_cmp, Ok, Err, codes, bytes_eq, refl, sym, ap, ◌∙◌, subst}
 use Rattle.std.specs.List.{list_all}
 use Rattle.std.specs.Ordering.{match_ordering}
 use Rattle.std.specs.Cmp.Lexicographic.{slice_cmp}
@@ -18,11 +18,11 @@ use Rattle.swc_tree_node.specs.declared.slot.Slot.TheVariants as slot
 use Rattle.swc_tree_node.specs.declared.slot.Role.{Role}
 use Rattle.swc_tree_node.specs.declared.node.Node.{Node, Absent, Flag, Word, Text, Span, List as Many, Identifier, Tree}
 use Rattle.swc_tree_node.specs.Table.{kinds_of, name_of, fields_of, slots_of, words_of, spelling_of, is_identifier, kind_number, word_number}
-use Rattle.swc_tree_node.specs.Fits.{Fits, FieldsFit, AllFit, single, belongs, is_among}
+use Rattle.swc_tree_node.specs.Fits.{Fits, FieldsFit, AllFit, fits, single, belongs, is_among, absent_fits, list_fits}
 use Rattle.swc_tree_node.proofs.Fit.{fits-Absent, fits-Flag, fits-Word, fits-Text, fits-Span, fits-List, fits-Identifier, fits-Tree, and_both, fields_close, all_close}
 use Rattle.jsbase_form.specs.Reads.{Read, ◌>>=◌, at, found, key, index}
 use Rattle.jsbase_form.specs.Leaves.{is_marked, marked, mark_at, marks_of, number_at, span_at, context_at, text_at, flag_at, word_at, spelled}
-use Rattle.jsbase_form.specs.Trees.{Keys, leaf_at, ident_at, kind_at, named, fields_at, body_at, node_at, null_as, single_as, array_as, object_of, object_as, seen, items_seen, members_seen, value_of}
+use Rattle.jsbase_form.specs.Trees.{Keys, leaf_at, ident_at, kind_at, named, fields_at, body_at, node_at, null_as, single_as, listed, are_two, array_as, object_of, object_as, seen, items_seen, members_seen, value_of}
 use Rattle.jsbase_form.specs.Known.{MarksKnown, marks_known, all_of}
 use Rattle.jsbase_form.proofs.Successes.{bound, at_ok, found_ok, ok_same, chosen, find_among, some_then}
 use Rattle.jsbase_form.proofs.Folds.{known-Absent, known-Flag, known-Word, known-Text, known-Span, known-List, known-Identifier, known-Tree}
@@ -60,18 +60,19 @@ leaf_sound table (content.Word ws) d t h s one =
     subst (Sound table s) (ok_same (Word x.0) t x.2) (rw (fits-Word x.0 s, one) (word_among ws d x.0 x.1), known-Word table x.0)
 leaf_sound table (content.Node c) d t h s one = absurd (cc)
 
-absent_sound : (table : Table) (c : Content) (t : Node) → Absent ≡ t → Sound table (slot.Optional c) t
-absent_sound table c t e = subst (Sound table (slot.Optional c)) e (rw (fits-Absent (slot.Optional c)) refl, known-Absent table)
+absent_sound : (table : Table) (s : Slot) (t : Node) → absent_fits s ≡ true → Absent ≡ t → Sound table s t
+absent_sound table s t there e = subst (Sound table s) e (rw (fits-Absent s) there, known-Absent table)
 
 null_sound : (table : Table) (s : Slot) (t : Node) → null_as s ≡ Ok t → Sound table s t
-null_sound table (slot.One c) t h = absurd (cc)
-null_sound table (slot.Optional c) t h = absent_sound table c t (ok_same Absent t h)
-null_sound table (slot.List c) t h = absurd (cc)
+null_sound table (slot.Optional c) t h = absent_sound table (slot.Optional c) t refl (ok_same Absent t h)
+null_sound table (slot.OptionalList c) t h = absent_sound table (slot.OptionalList c) t refl (ok_same Absent t h)
+null_sound table slot.Pairs t h = absent_sound table slot.Pairs t refl (ok_same Absent t h)
+null_sound table _ t h = absurd (cc)
 
 single_sound : (table : Table) (d : Data) (s : Slot) (t : Node) → single_as d s ≡ Ok t → Sound table s t
 single_sound table d (slot.One c) t h = leaf_sound table c d t h (slot.One c) refl
 single_sound table d (slot.Optional c) t h = leaf_sound table c d t h (slot.Optional c) refl
-single_sound table d (slot.List c) t h = absurd (cc)
+single_sound table d _ t h = absurd (cc)
 
 -- ---- identifiers
 
@@ -151,15 +152,52 @@ object_sound table ms keys each (content.Word ws) t h s one = absurd (cc)
 objects_sound : (table : Table) (ms : Members) (keys : Keys) → ((k : List ℕ) (s : Slot) (t : Node) → keys k s ≡ Ok t → Sound table s t) → (s : Slot) (t : Node) → object_as table ms keys s ≡ Ok t → Sound table s t
 objects_sound table ms keys each (slot.One c) t h = object_sound table ms keys each c t h (slot.One c) refl
 objects_sound table ms keys each (slot.Optional c) t h = object_sound table ms keys each c t h (slot.Optional c) refl
-objects_sound table ms keys each (slot.List c) t h = absurd (cc)
+objects_sound table ms keys each _ t h = absurd (cc)
 
-arrays_sound : (table : Table) (ds : Items) (each : Slot → Read (List Node)) → ((s : Slot) (ts : List Node) → each s ≡ Ok ts → AllSound table s ts) → (s : Slot) (t : Node) → array_as ds each s ≡ Ok t → Sound table s t
-arrays_sound table ds each sound (slot.One c) t h = leaf_sound table c (array ds) t h (slot.One c) refl
-arrays_sound table ds each sound (slot.Optional c) t h = leaf_sound table c (array ds) t h (slot.Optional c) refl
-arrays_sound table ds each sound (slot.List c) t h =
-    let ts = bound (each (slot.One c)) (λ ts. Ok (Many ts)) t h in
-    let all = sound (slot.One c) ts.0 ts.1 in
-    subst (Sound table (slot.List c)) (ok_same (Many ts.0) t ts.2) (rw (fits-List ts.0 (slot.List c)) (all_close (slot.One c) ts.0 all.0), known-List table ts.0 ∙ all.1)
+abbrev count : Items → ℕ
+count no_items = 0
+count (item d ds) = suc (count ds)
+
+two_counted : (ds : Items) → are_two ds ≡ true → count ds ≡ 2
+two_counted (item a (item b no_items)) h = refl
+two_counted _ h = absurd (cc)
+
+-- as many nodes are read as there are items
+items_counted : (table : Table) (i : ℕ) (ds : Items) (s : Slot) (ts : List Node) → items_seen table i ds s ≡ Ok ts → length ts ≡ count ds
+items_counted table i no_items s ts h = ap length (sym (ok_same [] ts h))
+items_counted table i (item d ds) s ts h =
+    let first = bound (at (index i) (seen table d s)) (λ t. items_seen table (suc i) ds s >>= (λ ts. Ok (t ∷ ts))) ts h in
+    let rest = bound (items_seen table (suc i) ds s) (λ ts. Ok (first.0 ∷ ts)) ts first.2 in
+    ap length (sym (ok_same (first.0 ∷ rest.0) ts rest.2)) ∙ ap suc (items_counted table (suc i) ds s rest.0 rest.1)
+
+-- a list whose items are sound in their place, in a place that takes such lists
+listed_sound : (table : Table) (s inner : Slot) (r : Read (List Node)) → ((ts : List Node) → r ≡ Ok ts → AllSound table inner ts) → ((ts : List Node) → r ≡ Ok ts → AllFit inner ts → IsTrue (list_fits (map fits ts) s))
+    → (t : Node) → listed r ≡ Ok t → Sound table s t
+listed_sound table s inner r sound close t h =
+    let ts = bound r (λ ts. Ok (Many ts)) t h in
+    let all = sound ts.0 ts.1 in
+    subst (Sound table s) (ok_same (Many ts.0) t ts.2) (rw (fits-List ts.0 s) (close ts.0 ts.1 all.0), known-List table ts.0 ∙ all.1)
+
+pair_close : (ts : List Node) → length ts ≡ 2 → AllFit (slot.One content.Text) ts → IsTrue (list_fits (map fits ts) slot.Pair)
+pair_close (t ∷ u ∷ []) two fit = fields_close (slot.One content.Text ∷ slot.One content.Text ∷ []) (t ∷ u ∷ []) fit
+pair_close [] two fit = absurd (cc)
+pair_close (t ∷ []) two fit = absurd (cc)
+pair_close (t ∷ u ∷ v ∷ ts) two fit = absurd (cc)
+
+pair_sound : (b : Bool) (table : Table) (ds : Items) (r : Read (List Node)) → ((ts : List Node) → r ≡ Ok ts → AllSound table (slot.One content.Text) ts) → ((ts : List Node) → r ≡ Ok ts → length ts ≡ count ds) → are_two ds ≡ b
+    → (t : Node) → cond b (listed r) (Err []) ≡ Ok t → Sound table slot.Pair t
+pair_sound true table ds r sound counted is t h = listed_sound table slot.Pair (slot.One content.Text) r sound (λ ts e fit. pair_close ts (counted ts e ∙ two_counted ds is) fit) t h
+pair_sound false table ds r sound counted is t h = absurd (cc)
+
+arrays_sound : (table : Table) (ds : Items) (each : Slot → Read (List Node)) → ((s : Slot) (ts : List Node) → each s ≡ Ok ts → AllSound table s ts) → ((s : Slot) (ts : List Node) → each s ≡ Ok ts → length ts ≡ count ds)
+    → (s : Slot) (t : Node) → array_as ds each s ≡ Ok t → Sound table s t
+arrays_sound table ds each sound counted (slot.One c) t h = leaf_sound table c (array ds) t h (slot.One c) refl
+arrays_sound table ds each sound counted (slot.Optional c) t h = leaf_sound table c (array ds) t h (slot.Optional c) refl
+arrays_sound table ds each sound counted (slot.List c) t h = listed_sound table (slot.List c) (slot.One c) (each (slot.One c)) (sound (slot.One c)) (λ ts e. all_close (slot.One c) ts) t h
+arrays_sound table ds each sound counted (slot.Holes c) t h = listed_sound table (slot.Holes c) (slot.Optional c) (each (slot.Optional c)) (sound (slot.Optional c)) (λ ts e. all_close (slot.Optional c) ts) t h
+arrays_sound table ds each sound counted (slot.OptionalList c) t h = listed_sound table (slot.OptionalList c) (slot.One c) (each (slot.One c)) (sound (slot.One c)) (λ ts e. all_close (slot.One c) ts) t h
+arrays_sound table ds each sound counted slot.Pair t h = pair_sound (are_two ds) table ds (each (slot.One content.Text)) (sound (slot.One content.Text)) (counted (slot.One content.Text)) refl t h
+arrays_sound table ds each sound counted slot.Pairs t h = listed_sound table slot.Pairs slot.Pair (each slot.Pair) (sound slot.Pair) (λ ts e. all_close slot.Pair ts) t h
 
 -- one of two readings
 either_sound : (o : Ordering) (table : Table) (s : Slot) (a b : Read Node) (t : Node) → (a ≡ Ok t → Sound table s t) → (b ≡ Ok t → Sound table s t) → match_ordering o a b a ≡ Ok t → Sound table s t
@@ -174,7 +212,7 @@ mutual
   seen_sound table (boolean b) s t h = single_sound table (boolean b) s t h
   seen_sound table (number n) s t h = single_sound table (number n) s t h
   seen_sound table (string x) s t h = single_sound table (string x) s t h
-  seen_sound table (array ds) s t h = arrays_sound table ds (items_seen table 0 ds) (items_sound table 0 ds) s t h
+  seen_sound table (array ds) s t h = arrays_sound table ds (items_seen table 0 ds) (items_sound table 0 ds) (items_counted table 0 ds) s t h
   seen_sound table (object ms) s t h = objects_sound table ms (members_seen table ms) (members_sound table ms) s t h
 
   items_sound : (table : Table) (i : ℕ) (ds : Items) (s : Slot) (ts : List Node) → items_seen table i ds s ≡ Ok ts → AllSound table s ts

@@ -1,5 +1,5 @@
 -- The tree that a JSON value stands for, or the path to its first fault.
-use Rattle.std.specs.Prelude.{ℕ, suc, List, [], ◌∷◌, codes, unwrap_or, Option, option_and_then, Ok, Err, find, if◌then◌else◌}
+use Rattle.std.specs.Prelude.{ℕ, suc, List, [], ◌∷◌, codes, Bool, true, false, unwrap_or, Option, option_and_then, Ok, Err, find, if◌then◌else◌}
 use Rattle.std.specs.Ordering.{nat_cmp, match_ordering}
 use Rattle.std.specs.Cmp.Lexicographic.{slice_cmp}
 use Rattle.std.specs.Str.{bytes_eq}
@@ -60,19 +60,32 @@ abbrev pub node_at : Table → Members → Keys → Class → Read Node
 node_at table ms keys c = kind_at c ms >>= body_at table ms keys
 
 abbrev pub null_as : Slot → Read Node
-null_as (slot.One c) = Err []
 null_as (slot.Optional c) = Ok Absent
-null_as (slot.List c) = Err []
+null_as (slot.OptionalList c) = Ok Absent
+null_as slot.Pairs = Ok Absent
+null_as _ = Err []
 
 abbrev pub single_as : Data → Slot → Read Node
 single_as d (slot.One c) = leaf_at c d
 single_as d (slot.Optional c) = leaf_at c d
-single_as d (slot.List c) = Err []
+single_as d _ = Err []
 
+abbrev pub listed : Read (List Node) → Read Node
+listed ts = ts >>= (λ ts. Ok (Many ts))
+
+abbrev pub are_two : Items → Bool
+are_two (item a (item b no_items)) = true
+are_two _ = false
+
+-- the length of a pair is looked at before its items
 abbrev pub array_as : Items → (Slot → Read (List Node)) → Slot → Read Node
 array_as ds each (slot.One c) = leaf_at c (array ds)
 array_as ds each (slot.Optional c) = leaf_at c (array ds)
-array_as ds each (slot.List c) = each (slot.One c) >>= (λ ts. Ok (Many ts))
+array_as ds each (slot.List c) = listed (each (slot.One c))
+array_as ds each (slot.Holes c) = listed (each (slot.Optional c))
+array_as ds each (slot.OptionalList c) = listed (each (slot.One c))
+array_as ds each slot.Pair = if are_two ds then listed (each (slot.One content.Text)) else Err []
+array_as ds each slot.Pairs = listed (each slot.Pair)
 
 abbrev pub object_of : Table → Members → Keys → Content → Read Node
 object_of table ms keys (content.Node c) = node_at table ms keys c
@@ -81,7 +94,7 @@ object_of table ms keys _ = Err []
 abbrev pub object_as : Table → Members → Keys → Slot → Read Node
 object_as table ms keys (slot.One c) = object_of table ms keys c
 object_as table ms keys (slot.Optional c) = object_of table ms keys c
-object_as table ms keys (slot.List c) = Err []
+object_as table ms keys _ = Err []
 
 abbrev mutual
   -- what a value is in a place

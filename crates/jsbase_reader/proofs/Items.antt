@@ -1,5 +1,5 @@
 -- Lists of JSON values.
-use Rattle.std.proofs.Common.{◌≡◌, ◌≤◌, ℕ, suc, ◌+◌, List, [], ◌∷◌, ◌++◌, length, Ok, Err, refl, sym, ap, ◌∙◌, add-one, arith}
+use Rattle.std.proofs.Common.{◌≡◌, ◌≤◌, ℕ, suc, ◌+◌, List, [], ◌∷◌, ◌++◌, length, true, false, Ok, Err, refl, sym, ap, ◌∙◌, add-one, arith}
 use Rattle.serde_json.specs.Data.{depth, items_depth}
 use Rattle.serde_json.specs.View.{view, items_view}
 use Rattle.serde_json.specs.declared.value.Value.{Value}
@@ -8,7 +8,7 @@ use Rattle.swc_tree_node.specs.declared.slot.Slot.{Slot}
 use Rattle.swc_tree_node.specs.declared.node.Node.{Node}
 use Rattle.jsbase_form.specs.Reads.{Path, Read, ◌>>=◌, at, index}
 use Rattle.jsbase_form.specs.Leaves.{span_of}
-use Rattle.jsbase_form.specs.Trees.{seen, items_seen}
+use Rattle.jsbase_form.specs.Trees.{seen, items_seen, are_two}
 use Rattle.jsbase_reader.proofs.Loops.{after, after-cons}
 
 pub not_a_pair : (vs : List Value) → (length vs ≡ 2 → ⊥) → span_of (items_view vs) ≡ Err []
@@ -16,6 +16,18 @@ not_a_pair [] h = refl
 not_a_pair (a ∷ []) h = refl
 not_a_pair (a ∷ b ∷ []) h = absurd (h refl)
 not_a_pair (a ∷ b ∷ c ∷ vs) h = refl
+
+pub two_are : (vs : List Value) → length vs ≡ 2 → are_two (items_view vs) ≡ true
+two_are (a ∷ b ∷ []) h = refl
+two_are [] h = absurd (cc)
+two_are (a ∷ []) h = absurd (cc)
+two_are (a ∷ b ∷ c ∷ vs) h = absurd (cc)
+
+pub not_two : (vs : List Value) → (length vs ≡ 2 → ⊥) → are_two (items_view vs) ≡ false
+not_two [] h = refl
+not_two (a ∷ []) h = refl
+not_two (a ∷ b ∷ []) h = absurd (h refl)
+not_two (a ∷ b ∷ c ∷ vs) h = refl
 
 pub first_within : (vs rest : List Value) (v : Value) (n : ℕ) → vs ≡ v ∷ rest → items_depth (items_view vs) ≤ n → depth (view v) ≤ n
 first_within vs rest v n e h = let d = ap (λ l. items_depth (items_view l)) e in omega arith

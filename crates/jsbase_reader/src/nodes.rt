@@ -3,7 +3,7 @@ ghost use Rattle.std.specs.Prelude.{◌≡◌, ◌≢◌, ◌≤◌, ℕ, List, 
 ghost use Rattle.serde_json.specs.Data.{depth, members_depth};
 ghost use Rattle.serde_json.specs.Find.{get_member, as_str};
 ghost use Rattle.serde_json.specs.View.{view, items_view, members_view};
-ghost use Rattle.jsbase_form.specs.Trees.{seen, items_seen, members_seen, fields_at, body_at, node_at, ident_at, kind_at, leaf_at, single_as, null_as, named, value_of};
+ghost use Rattle.jsbase_form.specs.Trees.{seen, items_seen, members_seen, fields_at, body_at, node_at, ident_at, kind_at, leaf_at, single_as, null_as, array_as, named, value_of};
 ghost use Rattle.jsbase_form.specs.Known.{MarksKnown};
 ghost use Rattle.swc_tree_node.specs.Fits.{Fits};
 ghost use Rattle.jsbase_form.specs.Keys.{all_differ};
@@ -38,7 +38,9 @@ fn read_single(alloc: Global, slot: Slot, value: Value) -> Result<Node, ReadErro
 {
     match slot {
         Slot::One(content) | Slot::Optional(content) => read_leaf(alloc, content, value),
-        Slot::List(_) => fault(alloc),
+        Slot::List(_) | Slot::Holes(_) | Slot::OptionalList(_) | Slot::Pair | Slot::Pairs => {
+            fault(alloc)
+        }
     }
 }
 
@@ -46,8 +48,8 @@ fn read_null(alloc: Global, slot: Slot) -> Result<Node, ReadError>
     ensures { Gives result (null_as slot) }
 {
     match slot {
-        Slot::Optional(_) => Ok(Node::Absent),
-        Slot::One(_) | Slot::List(_) => fault(alloc),
+        Slot::Optional(_) | Slot::OptionalList(_) | Slot::Pairs => Ok(Node::Absent),
+        Slot::One(_) | Slot::List(_) | Slot::Holes(_) | Slot::Pair => fault(alloc),
     }
 }
 
@@ -148,15 +150,7 @@ fn read_value(alloc: Global, globals: &Globals, value: Value, slot: Slot) -> Res
     match value {
         Value::Null => read_null(alloc, slot),
         Value::Bool(_) | Value::Number(_) | Value::String(_) => read_single(alloc, slot, value),
-        Value::Array(values) => match slot {
-            Slot::List(content) => {
-                let nodes = read_items(alloc, globals, values, Slot::One(content))?;
-                Ok(Node::List(nodes))
-            }
-            Slot::One(content) | Slot::Optional(content) => {
-                read_leaf(alloc, content, Value::Array(values))
-            }
-        },
+        Value::Array(values) => read_array(alloc, globals, values, slot),
         Value::Object(members) => match slot {
             Slot::One(Content::Node(class)) | Slot::Optional(Content::Node(class)) => {
                 read_node(alloc, globals, members, class)
@@ -164,6 +158,34 @@ fn read_value(alloc: Global, globals: &Globals, value: Value, slot: Slot) -> Res
             _ => fault(alloc),
         },
     }
+}
+
+#[cycle(read)]
+#[tactic(auto, using(crate::proofs::Items::two_are, crate::proofs::Items::not_two))]
+fn read_array(
+    alloc: Global,
+    globals: &Globals,
+    values: Vec<Value>,
+    slot: Slot,
+) -> Result<Node, ReadError>
+    ensures { Gives result (array_as (items_view values.items) (items_seen globals.now 0 (items_view values.items)) slot) }
+{
+    let item = match slot {
+        Slot::One(content) | Slot::Optional(content) => {
+            return read_leaf(alloc, content, Value::Array(values));
+        }
+        Slot::List(content) | Slot::OptionalList(content) => Slot::One(content),
+        Slot::Holes(content) => Slot::Optional(content),
+        Slot::Pair => {
+            if values.len() != 2 {
+                return fault(alloc);
+            }
+            Slot::One(Content::Text)
+        }
+        Slot::Pairs => Slot::Pair,
+    };
+    let nodes = read_items(alloc, globals, values, item)?;
+    Ok(Node::List(nodes))
 }
 
 #[cycle(read)]

@@ -9,6 +9,9 @@ use Rattle.jsbase_reader.proofs.nodes.+read.Given as goal
 abbrev pub decreases-read_value : goal.decreases-read_value
 decreases-read_value l = 4 * depth (view l.value)
 
+abbrev pub decreases-read_array : goal.decreases-read_array
+decreases-read_array l = 4 * items_depth (items_view l.values.items) + 2
+
 abbrev pub decreases-read_items : goal.decreases-read_items
 decreases-read_items l = 4 * items_depth (items_view l.values.items) + 1
 
