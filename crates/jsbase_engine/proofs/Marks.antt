@@ -7,7 +7,7 @@ use Rattle.swc_tree_marks.specs.Globals.{Table, numbers}
 use Rattle.swc_tree_node.specs.declared.kind.Class.{Class}
 use Rattle.swc_tree_node.specs.declared.slot.Content.TheVariants as content
 use Rattle.swc_tree_node.specs.declared.slot.Slot.TheVariants as slot
-use Rattle.swc_base_resolver.specs.Marked.{IsMark, MarksOk}
+use Rattle.swc_base_resolver_program.specs.Marked.{IsMark, MarksOk}
 use Rattle.swc_tree_marks.specs.declared.error.PassError.{PassError}
 use Rattle.jsbase_engine.specs.declared.arguments.Command.{Command}
 use Rattle.jsbase_engine.specs.declared.arguments.Command.TheVariants as command

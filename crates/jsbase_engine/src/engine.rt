@@ -4,7 +4,7 @@ ghost use Rattle.swc_tree_node.specs.declared.kind.Class.TheVariants as class;
 ghost use Rattle.swc_tree_node.specs.declared.slot.Slot.TheVariants.{One};
 ghost use Rattle.swc_tree_node.specs.declared.slot.Content.TheVariants.{Node as Of};
 ghost use Rattle.swc_tree_node.specs.Fits.{Fits};
-ghost use Rattle.swc_base_resolver.specs.Marked.{MarksOk};
+ghost use Rattle.swc_base_resolver_program.specs.Marked.{MarksOk};
 ghost use Rattle.jsbase_engine.specs.Run.{class_of as class_in, Answers, IsFaultOf, IsResolved, IsRefusedFor, IsReadFault};
 
 use crate::arguments::{Command, Kind};

@@ -2,18 +2,11 @@
 #![tactic(auto)]
 
 mod build;
-mod collect;
-mod env;
-mod marks;
-mod names;
 mod pass;
-mod program;
-mod walk;
 
 pub use build::resolver;
-pub use marks::marks_ok;
 pub use pass::Resolver;
-pub use program::resolve_program;
+pub use swc_base_resolver_program::{marks_ok, resolve_program};
 
 #[cfg(test)]
 mod tests;

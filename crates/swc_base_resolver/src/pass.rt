@@ -1,20 +1,20 @@
 //! The resolver as a pass.
-ghost use Rattle.std.specs.Prelude.{◌≡◌, ◌≢◌, ◌+◌, ◌-◌, ◌<◌, OnOk, OnErr, IfErr, IsErrOf};
+ghost use Rattle.std.specs.Prelude.{◌≡◌, ◌≢◌, ◌+◌, ◌-◌, ◌<◌, [], None, OnOk, OnErr, IfErr, IsErrOf};
 ghost use Rattle.swc_tree_marks.specs.Globals.{greatest};
 ghost use Rattle.swc_tree_scoping.specs.Scopes.{scope_count};
-ghost use Rattle.swc_tree.specs.Passes.{IsEmptied, IsExtended};
-ghost use Rattle.swc_tree_modules.specs.Nodes.{module_node};
-ghost use Rattle.swc_base_resolver.specs.Marked.{IsRefusal};
-ghost use Rattle.swc_base_resolver.specs.Visits.{Resolves};
+ghost use Rattle.swc_tree.specs.Passes.{IsEmptied, IsEmptiedScript, IsExtended};
+ghost use Rattle.swc_tree_modules.specs.Nodes.{module_node, script_node};
+ghost use Rattle.swc_base_resolver_program.specs.Marked.{IsRefusal};
+ghost use Rattle.swc_base_resolver.specs.Visits.{Resolves, ResolvesScript};
 
-use crate::program::resolve_program;
 use std::alloc::Global;
 use std::marker::Model;
 use std::mem;
+use swc_base_resolver_program::resolve_program;
 use swc_tree::JsPass;
 use swc_tree_handle::{Opened, Trees};
-use swc_tree_marks::{Globals, Mark, PassError};
-use swc_tree_modules::Module;
+use swc_tree_marks::{Globals, Mark, PassError, Span};
+use swc_tree_modules::{Module, Script};
 use swc_tree_node::Role;
 
 /// The resolver of programs whose top mark and whose mark of names that nothing declares are these. Contracts see
@@ -52,6 +52,8 @@ impl Resolver {
 impl JsPass for Resolver {
     ghost visits = { Resolves };
 
+    ghost visits_script = { ResolvesScript };
+
     /// Resolves a program. Each run is by itself: nothing is kept from an earlier one.
     ///
     /// # Errors
@@ -70,21 +72,62 @@ impl JsPass for Resolver {
         ensures refusal { IfErr result IsRefusal }
         ensures spent { IsErrOf result PassError.MarksSpent → 4294967295 < greatest globals.old + (scope_count Role.Plain (module_node program.old) - 1) }
     {
-        let empty = Module {
-            span: program.span,
-            body: Trees::new(alloc),
-            shebang: None,
-        };
-        let lent = mem::replace(program, empty);
-        let node = lent.into_node(alloc)?;
-        let answer = resolve_program(
-            alloc,
-            globals,
-            self.unresolved_mark,
-            self.top_level_mark,
-            node,
-        )?;
+        let module = mem::replace(program, empty_module(alloc, program.span));
+        let node = module.into_node(alloc)?;
+        let (unresolved, top) = (self.unresolved_mark, self.top_level_mark);
+        let answer = resolve_program(alloc, globals, unresolved, top, node)?;
         *program = Module::from_node(answer);
         Ok(())
+    }
+
+    /// Resolves a program of the goal Script, as `visit_mut_module` one of the goal Module.
+    ///
+    /// # Errors
+    ///
+    /// `MarksSpent` only where the table's greatest number plus the number of scopes in the program is above
+    /// 4294967295; `NoMemory`. The program is then empty, with its span and no `#!` line.
+    fn visit_mut_script(
+        &mut self,
+        alloc: Global,
+        globals: &mut Globals,
+        program: &mut Script,
+    ) -> Result<(), PassError>
+        ensures done { OnOk result (ResolvesScript self.old globals.old program.old globals.new program.new) }
+        ensures refused { OnErr result (IsEmptiedScript program.old program.new) }
+        ensures marks { IsExtended globals.old globals.new }
+        ensures refusal { IfErr result IsRefusal }
+        ensures spent { IsErrOf result PassError.MarksSpent → 4294967295 < greatest globals.old + (scope_count Role.Plain (script_node program.old) - 1) }
+    {
+        let script = mem::replace(program, empty_script(alloc, program.span));
+        let node = script.into_node(alloc)?;
+        let Resolver {
+            unresolved_mark,
+            top_level_mark,
+        } = self;
+        let answer = resolve_program(alloc, globals, *unresolved_mark, *top_level_mark, node)?;
+        *program = Script::from_node(answer);
+        Ok(())
+    }
+}
+
+// A program of a span, with no item and no `#!` line.
+fn empty_module(alloc: Global, span: Span) -> Module
+    ensures { result ≡ record { span = span; body = []; shebang = None } }
+{
+    Module {
+        span,
+        body: Trees::new(alloc),
+        shebang: None,
+    }
+}
+
+// A program of a span, with no item and no `#!` line.
+fn empty_script(alloc: Global, span: Span) -> Script
+    ensures { result ≡ record { span = span; body = []; shebang = None } }
+{
+    Script {
+        span,
+        body: Trees::new(alloc),
+        shebang: None,
     }
 }

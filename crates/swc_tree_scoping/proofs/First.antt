@@ -70,6 +70,14 @@ program_takes role.Parameter b = refl
 program_takes role.Variable b = refl
 program_takes role.Lexical b = refl
 program_takes role.FunctionBody b = absurd (cc)
+program_takes role.Class b = refl
+program_takes role.Import b = refl
+program_takes role.OwnName b = absurd (cc)
+program_takes role.Catch b = absurd (cc)
+program_takes role.Label b = absurd (cc)
+program_takes role.Imported b = absurd (cc)
+program_takes role.Exported b = absurd (cc)
+program_takes role.ExportLocal b = absurd (cc)
 
 role_of_place : Option (Role × Node) → Role
 role_of_place None = role.Plain

@@ -1,4 +1,4 @@
--- What fits the place of a module opens the program's scope.
+-- What fits the place of a program opens the program's scope.
 use Rattle.std.proofs.Common.{◌≡◌, ◌&&◌, IsTrue, Some, refl, ap, ◌∙◌, subst, arith}
 use Rattle.swc_tree_node.specs.declared.kind.Kind.{Kind}
 use Rattle.swc_tree_node.specs.declared.kind.Kind.TheVariants as kind
@@ -39,3 +39,29 @@ module_opens t h = at (out-Node t) refl
         let q = both _ _ (layer (Node-F.Tree k ts) o) in
         let p = both (belongs k class.Module) _ q.1 in
         ap (opened_in role.Plain) o ∙ module_kind k p.0
+
+script_kind : (k : Kind) → IsTrue (belongs k class.Script) → scope_of k ≡ Some scope.Program
+script_kind kind.Script h = refl
+script_kind _ h = absurd (grind arith)
+
+no_identifier_script : (k : Kind) → IsTrue (is_identifier k && belongs k class.Script) → ⊥
+no_identifier_script _ h = grind arith
+
+pub script_opens : (t : Node) → Fits t (slot.One (content.Node class.Script)) → opened role.Plain t ≡ Some scope.Program
+script_opens t h = at (out-Node t) refl
+  where
+    layer : (y : Node-F Node) → out-Node t ≡ y → IsTrue (fit_step (map-Node Node Test fits y) (slot.One (content.Node class.Script)))
+    layer y o = subst (λ (f : Test). IsTrue (f (slot.One (content.Node class.Script)))) (fold_out-Node Test fit_step t ∙ ap (λ y. fit_step (map-Node Node Test fits y)) o) h
+
+    at : (y : Node-F Node) → out-Node t ≡ y → opened role.Plain t ≡ Some scope.Program
+    at Node-F.Absent o = let q = layer Node-F.Absent o in absurd (grind arith)
+    at (Node-F.Flag x) o = let q = layer (Node-F.Flag x) o in absurd (grind arith)
+    at (Node-F.Word w) o = let q = layer (Node-F.Word w) o in absurd (grind arith)
+    at (Node-F.Text x) o = let q = layer (Node-F.Text x) o in absurd (grind arith)
+    at (Node-F.Span x) o = let q = layer (Node-F.Span x) o in absurd (grind arith)
+    at (Node-F.List ts) o = let q = layer (Node-F.List ts) o in absurd (grind arith)
+    at (Node-F.Identifier k i) o = absurd (no_identifier_script k (layer (Node-F.Identifier k i) o))
+    at (Node-F.Tree k ts) o =
+        let q = both _ _ (layer (Node-F.Tree k ts) o) in
+        let p = both (belongs k class.Script) _ q.1 in
+        ap (opened_in role.Plain) o ∙ script_kind k p.0

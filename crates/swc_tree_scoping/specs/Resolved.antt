@@ -39,14 +39,21 @@ mark_in marks unresolved (Some s) = marks s
 abbrev pub HasDeclaringMark : (Path → ℕ) → Node → Path → Role → List ℕ → Type 0
 HasDeclaringMark marks t p r c = (s : Path) × (declaring role.Plain r t p ≡ Some s) × (c ≡ marks s ∷ [])
 
+-- the context is the one mark of the scope that a name means there, or the unresolved mark
+abbrev pub HasMeantMark : (Path → ℕ) → ℕ → Node → Path → List ℕ → List ℕ → Type 0
+HasMeantMark marks unresolved t p name c = (m : Option Path) × Means t p name m × (c ≡ mark_in marks unresolved m ∷ [])
+
 -- the context of an identifier that had none: a binding has the mark of the scope that declares it, a reference
--- that of the scope that it means, or the unresolved mark
+-- that of the scope that it means, or the unresolved mark; an arrow function's body may be a reference
 abbrev pub HasContext : (Path → ℕ) → ℕ → Node → Path → List ℕ → Role → List ℕ → Type 0
-HasContext marks unresolved t p name role.Reference c = (m : Option Path) × Means t p name m × (c ≡ mark_in marks unresolved m ∷ [])
+HasContext marks unresolved t p name role.Reference c = HasMeantMark marks unresolved t p name c
+HasContext marks unresolved t p name role.FunctionBody c = HasMeantMark marks unresolved t p name c
 HasContext marks unresolved t p name role.Lexical c = HasDeclaringMark marks t p role.Lexical c
 HasContext marks unresolved t p name role.Function c = HasDeclaringMark marks t p role.Function c
+HasContext marks unresolved t p name role.Class c = HasDeclaringMark marks t p role.Class c
 HasContext marks unresolved t p name role.Variable c = HasDeclaringMark marks t p role.Variable c
 HasContext marks unresolved t p name role.Parameter c = HasDeclaringMark marks t p role.Parameter c
+HasContext marks unresolved t p name role.Import c = HasDeclaringMark marks t p role.Import c
 HasContext marks unresolved t p name _ c = c ≡ []
 
 -- `answer` is `tree` with each identifier resolved; `old` and `new` are the table of marks before and after

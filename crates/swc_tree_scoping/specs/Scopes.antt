@@ -18,7 +18,9 @@ abbrev pub is_binding : Role → Bool
 is_binding role.Variable = true
 is_binding role.Lexical = true
 is_binding role.Function = true
+is_binding role.Class = true
 is_binding role.Parameter = true
+is_binding role.Import = true
 is_binding _ = false
 
 -- the scope that a node opens; a function's body is no scope beside the function's own
@@ -70,12 +72,14 @@ not_block scope.Block = false
 not_block _ = true
 
 -- a name that an identifier of that role binds is declared in the nearest scope round it that takes it:
--- lexical names and functions in any, variables and parameters not in a block
+-- lexical names, functions and classes in any, variables, parameters and imports not in a block
 abbrev pub takes : Role → Scope → Bool
 takes role.Lexical s = true
 takes role.Function s = true
+takes role.Class s = true
 takes role.Variable s = not_block s
 takes role.Parameter s = not_block s
+takes role.Import s = not_block s
 takes _ s = false
 
 abbrev pub first_that : (Path → Bool) → List Path → Option Path

@@ -20,8 +20,10 @@ mod tests {
         for (role, binds, in_block, in_function) in [
             (Role::Lexical, true, true, true),
             (Role::Function, true, true, true),
+            (Role::Class, true, true, true),
             (Role::Variable, true, false, true),
             (Role::Parameter, true, false, true),
+            (Role::Import, true, false, true),
             (Role::Reference, false, false, false),
         ] {
             assert_eq!(rt; is_binding(role), binds);

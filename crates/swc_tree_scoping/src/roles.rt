@@ -21,7 +21,12 @@ pub fn is_binding(role: Role) -> bool
 {
     matches!(
         role,
-        Role::Variable | Role::Lexical | Role::Function | Role::Parameter
+        Role::Variable
+            | Role::Lexical
+            | Role::Function
+            | Role::Class
+            | Role::Parameter
+            | Role::Import
     )
 }
 
@@ -40,8 +45,8 @@ pub fn takes(role: Role, scope: Scope) -> bool
     ensures { result ≡ is_taken role scope }
 {
     match role {
-        Role::Lexical | Role::Function => true,
-        Role::Variable | Role::Parameter => !matches!(scope, Scope::Block),
+        Role::Lexical | Role::Function | Role::Class => true,
+        Role::Variable | Role::Parameter | Role::Import => !matches!(scope, Scope::Block),
         _ => false,
     }
 }

@@ -1,0 +1,12 @@
+pub mod Sets
+pub mod Open
+pub mod FirstWalk
+pub mod Counted
+pub mod Walked
+pub mod Declares
+pub mod Numbers
+pub mod Rounds
+pub mod Fresh
+pub mod Theorem
+pub mod Walks
+pub mod Meant

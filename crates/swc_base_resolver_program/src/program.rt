@@ -1,0 +1,47 @@
+//! Resolving a program.
+ghost use Rattle.std.specs.Prelude.{◌≡◌, ℕ, ◌+◌, ◌-◌, ◌<◌, ◌≤◌, IfOk, IfErr, IsErrOf};
+ghost use Rattle.swc_tree_marks.specs.Globals.{greatest, with_fresh_marks};
+ghost use Rattle.swc_tree_node.specs.declared.slot.Slot.{Slot as Slot'};
+ghost use Rattle.swc_tree_node.specs.Fits.{fits};
+ghost use Rattle.swc_tree_scoping.specs.Scopes.{opened, scope_count};
+ghost use Rattle.swc_tree_scoping.specs.Resolved.{Resolved};
+ghost use Rattle.swc_base_resolver_program.specs.Marked.{IsRefusal, MarksOk, OnlyContexts};
+
+use crate::collect::scopes_of;
+use crate::marks::marks_of;
+use crate::walk::write_contexts;
+use std::alloc::Global;
+use swc_tree_marks::{Globals, Mark, PassError};
+use swc_tree_node::{Node, Role, Scope};
+
+/// Gives each identifier of a program, the node of a `Module`, the one mark of the scope that it is declared in
+/// or means. The program has the top mark, each other scope a fresh one under it, in the order in which they
+/// begin, and a name that no scope declares has the unresolved mark.
+///
+/// An identifier that has marks keeps them, and declares nothing. The tree is changed in place: only contexts, the
+/// marks of the scopes and the names that they declare take memory. It costs two walks over the tree, and in the
+/// second one two hashed look-ups, at most, for each reference and each scope round it.
+///
+/// # Errors
+///
+/// `PassError::MarksSpent` where the table has no room for the fresh marks, and `PassError::NoMemory`. The table
+/// then holds what it held, and perhaps some of the fresh marks.
+pub fn resolve_program(
+    alloc: Global,
+    globals: &mut Globals,
+    unresolved: Mark,
+    top: Mark,
+    program: Node,
+) -> Result<Node, PassError>
+    ensures resolved { opened Role.Plain program ≡ Some Scope.Program → MarksOk globals.old unresolved top → IfOk result (λ answer. Resolved unresolved top globals.old globals.new program answer) }
+    ensures contexts { IfOk result (λ answer. OnlyContexts program answer) }
+    ensures place { (s : Slot') → IfOk result (λ answer. fits answer s ≡ fits program s) }
+    ensures table { (fresh : ℕ) × (fresh ≤ scope_count Role.Plain program - 1) × (globals.new ≡ with_fresh_marks globals.old top fresh) }
+    ensures refusal { IfErr result IsRefusal }
+    ensures spent { IsErrOf result PassError.MarksSpent → 4294967295 < greatest globals.old + (scope_count Role.Plain program - 1) }
+{
+    let names = scopes_of(alloc, &program)?;
+    let marks = marks_of(alloc, globals, top, names.len())?;
+    let answer = write_contexts(program, marks.as_slice(), names.as_slice(), unresolved)?;
+    Ok(answer)
+}
