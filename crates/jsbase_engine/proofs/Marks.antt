@@ -8,10 +8,6 @@ use Rattle.swc_tree_node.specs.declared.kind.Class.{Class}
 use Rattle.swc_tree_node.specs.declared.slot.Content.TheVariants as content
 use Rattle.swc_tree_node.specs.declared.slot.Slot.TheVariants as slot
 use Rattle.swc_base_resolver_program.specs.Marked.{IsMark, MarksOk}
-use Rattle.swc_tree_marks.specs.declared.error.PassError.{PassError}
-use Rattle.jsbase_engine.specs.declared.arguments.Command.{Command}
-use Rattle.jsbase_engine.specs.declared.arguments.Command.TheVariants as command
-use Rattle.jsbase_engine.specs.Run.{IsResolved, Does, IsRefusalOf}
 use Rattle.jsbase_form.specs.Reads.{at, found, key}
 use Rattle.jsbase_form.specs.Leaves.{is_marked, number_at, marked, mark_at}
 use Rattle.jsbase_form.specs.Tables.{table_at}
@@ -61,10 +57,3 @@ envelope_marks class bytes e h =
     let d = bound (text_in bytes) (envelope_in class) e h in
     let ms = bound (found (as_object d.0)) (envelope_of class) e d.2 in
     members_marks class ms.0 e ms.2
-
--- what a command does, and why it is refused, by the command that was asked
-pub does : (c : Command) (e : Envelope) (output : List ℕ) → IsResolved e output → Does c e output
-does command.Resolve e output h = h
-
-pub refuses : (c : Command) (e : Envelope) (error : PassError) → IsRefusalOf command.Resolve e error → IsRefusalOf c e error
-refuses command.Resolve e error h = h

@@ -7,6 +7,8 @@ use Rattle.jsbase_engine.specs.declared.arguments.Kind.TheVariants as kind
 
 abbrev pub command_word : Command → List ℕ
 command_word command.Resolve = codes "resolve"
+command_word command.Unparen = codes "unparen"
 
 abbrev pub kind_word : Kind → List ℕ
 kind_word kind.Module = codes "module"
+kind_word kind.Script = codes "script"

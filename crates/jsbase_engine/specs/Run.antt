@@ -1,5 +1,5 @@
 -- What the engine answers on an input.
-use Rattle.std.specs.Prelude.{◌≡◌, ℕ, ◌+◌, ◌-◌, ◌<◌, ◌⊎◌, List, Ok, Err, string_bytes}
+use Rattle.std.specs.Prelude.{◌≡◌, true, false, ℕ, ◌+◌, ◌-◌, ◌<◌, ◌⊎◌, List, Ok, Err, string_bytes}
 use Rattle.swc_tree_marks.specs.Globals.{Table, greatest}
 use Rattle.swc_tree_marks.specs.declared.error.PassError.{PassError}
 use Rattle.swc_tree_marks.specs.declared.error.PassError.TheVariants as refusal
@@ -9,6 +9,9 @@ use Rattle.swc_tree_node.specs.declared.node.Node.{Node}
 use Rattle.swc_tree_node.specs.declared.slot.Role.TheVariants as role
 use Rattle.swc_tree_scoping.specs.Scopes.{scope_count}
 use Rattle.swc_tree_scoping.specs.Resolved.{Resolved}
+use Rattle.swc_tree_grammar.specs.Blocks.{with_blocks}
+use Rattle.swc_tree_grammar.specs.Stripped.{stripped}
+use Rattle.swc_tree_grammar.specs.Targets.{all_bare}
 use Rattle.jsbase_form.specs.Reads.{Path, path_text}
 use Rattle.jsbase_reader.specs.declared.envelope.Envelope.{Envelope}
 use Rattle.jsbase_reader.specs.declared.error.ReadError.{ReadError}
@@ -25,6 +28,7 @@ use Rattle.jsbase_engine.specs.declared.fault.Fault.TheVariants.{Usage, Refused,
 -- what a program of the kind is in the tree
 abbrev pub class_of : Kind → Class
 class_of kind.Module = class.Module
+class_of kind.Script = class.Script
 
 -- the output is the envelope of the tree, resolved
 pub record IsResolved (envelope : Envelope) (output : List ℕ) : Type 0 where
@@ -33,14 +37,22 @@ pub record IsResolved (envelope : Envelope) (output : List ℕ) : Type 0 where
   pub resolved : Resolved envelope.unresolved envelope.top envelope.globals table envelope.tree answer
   pub written : output ≡ envelope_text table envelope.top answer envelope.unresolved
 
+-- the output is the envelope of the tree without parentheses, whose parenthesised targets may be assigned to
+pub record IsUnparened (envelope : Envelope) (output : List ℕ) : Type 0 where
+  pub assignable : all_bare envelope.tree ≡ true
+  pub written : output ≡ envelope_text envelope.globals envelope.top (with_blocks (stripped envelope.tree)) envelope.unresolved
+
 -- what the command is to make of an envelope
 abbrev pub Does : Command → Envelope → List ℕ → Type 0
 Does command.Resolve envelope output = IsResolved envelope output
+Does command.Unparen envelope output = IsUnparened envelope output
 
 -- why the command may be refused on an envelope, beside want of memory
 abbrev pub IsRefusalOf : Command → Envelope → PassError → Type 0
 IsRefusalOf command.Resolve envelope refusal.MarksSpent = 4294967295 < greatest envelope.globals + (scope_count role.Plain envelope.tree - 1)
 IsRefusalOf command.Resolve envelope _ = ⊥
+IsRefusalOf command.Unparen envelope refusal.NotAssignable = all_bare envelope.tree ≡ false
+IsRefusalOf command.Unparen envelope _ = ⊥
 
 -- memory was refused, or the command's pass for its own cause
 abbrev pub IsRefusedFor : Command → Envelope → PassError → Type 0

@@ -11,12 +11,15 @@ use crate::fault::Fault;
 pub enum Command {
     /// Each identifier gets the mark of its scope.
     Resolve,
+    /// Parentheses are taken off, and with them what is idle in sequences and classes.
+    Unparen,
 }
 
 /// The goal symbol of a program (ECMA-262, Script and Module).
 #[derive(Clone, Copy, Debug, PartialEq, Eq)]
 pub enum Kind {
     Module,
+    Script,
 }
 
 fn command_named(word: &str) -> Option<Command>
@@ -25,6 +28,7 @@ fn command_named(word: &str) -> Option<Command>
 {
     match word {
         "resolve" => Some(Command::Resolve),
+        "unparen" => Some(Command::Unparen),
         _ => None,
     }
 }
@@ -35,6 +39,7 @@ fn kind_named(word: &str) -> Option<Kind>
 {
     match word {
         "module" => Some(Kind::Module),
+        "script" => Some(Kind::Script),
         _ => None,
     }
 }

@@ -1,22 +1,19 @@
 //! From the bytes of an envelope to the bytes of an envelope.
-ghost use Rattle.std.specs.Prelude.{◌≡◌, ◌≢◌, MatchResult, string_bytes};
-ghost use Rattle.swc_tree_node.specs.declared.kind.Class.TheVariants as class;
-ghost use Rattle.swc_tree_node.specs.declared.slot.Slot.TheVariants.{One};
-ghost use Rattle.swc_tree_node.specs.declared.slot.Content.TheVariants.{Node as Of};
-ghost use Rattle.swc_tree_node.specs.Fits.{Fits};
+ghost use Rattle.std.specs.Prelude.{◌≡◌, ◌≢◌, Some, MatchResult, string_bytes};
+ghost use Rattle.swc_tree_node.specs.declared.slot.Role.TheVariants as role;
+ghost use Rattle.swc_tree_node.specs.declared.slot.Scope.TheVariants as scope;
+ghost use Rattle.swc_tree_scoping.specs.Scopes.{opened};
 ghost use Rattle.swc_base_resolver_program.specs.Marked.{MarksOk};
-ghost use Rattle.jsbase_engine.specs.Run.{class_of as class_in, Answers, IsFaultOf, IsResolved, IsRefusedFor, IsReadFault};
+ghost use Rattle.jsbase_engine.specs.Run.{class_of as class_in, Answers, Does, IsFaultOf, IsResolved, IsUnparened, IsRefusedFor, IsReadFault};
 
 use crate::arguments::{Command, Kind};
 use crate::fault::Fault;
 use jsbase_reader::{Envelope, ReadError, read_bytes};
 use jsbase_writer::write_envelope;
 use std::alloc::Global;
-use swc_base_resolver::resolver;
-use swc_tree::JsPass;
-use swc_tree_handle::Opened;
+use swc_base_fixer_unparen::{NoComments, remove_parens};
+use swc_base_resolver_program::resolve_program;
 use swc_tree_marks::PassError;
-use swc_tree_modules::Module;
 use swc_tree_node::Class;
 
 /// What the program writes on an input.
@@ -32,11 +29,9 @@ pub fn run(alloc: Global, command: Command, kind: Kind, input: &[u8]) -> Result<
 {
     match read_bytes(alloc, class_of(kind), input) {
         Err(error) => Err(read_fault(alloc, error)),
-        Ok(envelope) => match command {
-            Command::Resolve => match resolve(alloc, envelope) {
-                Ok(text) => Ok(text.into_bytes()),
-                Err(error) => Err(Fault::Refused(error)),
-            },
+        Ok(envelope) => match answer(alloc, command, envelope) {
+            Ok(text) => Ok(text.into_bytes()),
+            Err(error) => Err(Fault::Refused(error)),
         },
     }
 }
@@ -47,6 +42,7 @@ fn class_of(kind: Kind) -> Class
 {
     match kind {
         Kind::Module => Class::Module,
+        Kind::Script => Class::Script,
     }
 }
 
@@ -63,9 +59,21 @@ fn read_fault(alloc: Global, error: ReadError) -> Fault
     }
 }
 
-// Resolves the module of an envelope.
+// The envelope that a command makes of an envelope.
+fn answer(alloc: Global, command: Command, envelope: Envelope) -> Result<String, PassError>
+    requires program { opened role.Plain envelope.tree ≡ Some scope.Program }
+    requires marks { MarksOk envelope.globals envelope.unresolved envelope.top }
+    ensures { MatchResult result (λ text. Does command envelope (string_bytes text)) (IsRefusedFor command envelope) }
+{
+    match command {
+        Command::Resolve => resolve(alloc, envelope),
+        Command::Unparen => unparen(alloc, envelope),
+    }
+}
+
+// Gives each identifier of the program of an envelope its mark.
 fn resolve(alloc: Global, envelope: Envelope) -> Result<String, PassError>
-    requires fits { Fits envelope.tree (One (Of class.Module)) }
+    requires program { opened role.Plain envelope.tree ≡ Some scope.Program }
     requires marks { MarksOk envelope.globals envelope.unresolved envelope.top }
     ensures { MatchResult result (λ text. IsResolved envelope (string_bytes text)) (IsRefusedFor Command.Resolve envelope) }
 {
@@ -73,13 +81,26 @@ fn resolve(alloc: Global, envelope: Envelope) -> Result<String, PassError>
         mut globals,
         unresolved,
         top,
-        keep_class_names: _,
-        ignore_eval: _,
         tree,
+        ..
     } = envelope;
-    let mut program = Module::from_node(tree);
-    resolver(unresolved, top).visit_mut_module(alloc, &mut globals, &mut program)?;
-    let answer = program.into_node(alloc)?;
-    let text = write_envelope(alloc, &globals, top, answer, unresolved)?;
+    let resolved = resolve_program(alloc, &mut globals, unresolved, top, tree)?;
+    let text = write_envelope(alloc, &globals, top, resolved, unresolved)?;
+    Ok(text)
+}
+
+// Takes the parentheses off the program of an envelope.
+fn unparen(alloc: Global, envelope: Envelope) -> Result<String, PassError>
+    ensures { MatchResult result (λ text. IsUnparened envelope (string_bytes text)) (IsRefusedFor Command.Unparen envelope) }
+{
+    let Envelope {
+        globals,
+        unresolved,
+        top,
+        tree,
+        ..
+    } = envelope;
+    let bare = remove_parens(alloc, None::<&mut NoComments>, tree)?;
+    let text = write_envelope(alloc, &globals, top, bare, unresolved)?;
     Ok(text)
 }

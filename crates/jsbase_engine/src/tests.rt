@@ -21,12 +21,13 @@ fn names_a_command_and_a_kind(rt: HostRuntime) -> Result<(), Fail> {
 #[test]
 fn refuses_other_words(rt: HostRuntime) -> Result<(), Fail> {
     let none: [&str; 0] = [];
-    let wrong: [&[&str]; 6] = [
+    let wrong: [&[&str]; 7] = [
         &none,
         &["resolve"],
         &["resolve", "module", "module"],
         &["module", "resolve"],
-        &["resolve", "script"],
+        &["resolve", "scripts"],
+        &["fix", "module"],
         &["Resolve", "module"],
     ];
     for texts in wrong {
