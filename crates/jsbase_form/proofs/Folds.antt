@@ -1,14 +1,15 @@
 -- The tests over a tree, at each form of a node.
-use Rattle.std.proofs.Common.{◌≡◌, ℕ, List, Bool, true, ◌&&◌, ◌^◌, nat_lt, map, rules}
+use Rattle.std.proofs.Common.{◌≡◌, ℕ, List, Bool, true, map, rules}
 use Rattle.std.specs.List.{list_all}
 use Rattle.swc_tree_marks.specs.Globals.{Table}
 use Rattle.swc_tree_marks.specs.declared.span.Span.{Span as Span'}
 use Rattle.swc_tree_marks.specs.declared.ident.Ident.{Ident}
 use Rattle.swc_tree_node.specs.declared.kind.Kind.{Kind}
 use Rattle.swc_tree_node.specs.declared.kind.Word.{Word as Word'}
+use Rattle.swc_tree_node.specs.Table.{fields_of}
 use Rattle.swc_tree_node.specs.declared.node.Node.{Node, Absent, Flag, Word, Text, Span, List as Many, Identifier, Tree, the_lemmas}
 use Rattle.jsbase_form.specs.Leaves.{is_marked}
-use Rattle.jsbase_form.specs.Known.{all_of, marks_known, span_short, numbers_short}
+use Rattle.jsbase_form.specs.Known.{all_of, all_keyed, marks_known, span_short, ident_short, numbers_short}
 
 pub known-Absent : (table : Table) → marks_known table Absent ≡ true
 known-Absent table = search (rules, the_lemmas)
@@ -40,8 +41,20 @@ short-Span x = search (rules, the_lemmas)
 pub short-List : (ts : List Node) → numbers_short (Many ts) ≡ all_of (map numbers_short ts)
 short-List ts = search (rules, the_lemmas)
 
-pub short-Identifier : (k : Kind) (i : Ident) → numbers_short (Identifier k i) ≡ (span_short i.span && list_all (λ mark. nat_lt mark (2 ^ 32)) i.ctxt)
+pub short-Identifier : (k : Kind) (i : Ident) → numbers_short (Identifier k i) ≡ ident_short i
 short-Identifier k i = search (rules, the_lemmas)
 
-pub short-Tree : (k : Kind) (ts : List Node) → numbers_short (Tree k ts) ≡ all_of (map numbers_short ts)
+pub short-Tree : (k : Kind) (ts : List Node) → numbers_short (Tree k ts) ≡ all_keyed (fields_of k) (map numbers_short ts)
 short-Tree k ts = search (rules, the_lemmas)
+
+pub short-Absent : numbers_short Absent ≡ true
+short-Absent = search (rules, the_lemmas)
+
+pub short-Flag : (x : Bool) → numbers_short (Flag x) ≡ true
+short-Flag x = search (rules, the_lemmas)
+
+pub short-Word : (w : Word') → numbers_short (Word w) ≡ true
+short-Word w = search (rules, the_lemmas)
+
+pub short-Text : (x : List ℕ) → numbers_short (Text x) ≡ true
+short-Text x = search (rules, the_lemmas)

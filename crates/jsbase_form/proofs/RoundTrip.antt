@@ -1,6 +1,6 @@
 -- Reading what was written gives the tree back.
 use Rattle.std.proofs.Common.{◌≡◌, ℕ, suc, List, [], ◌∷◌, Bool, true, false, not, ◌&&◌, IsTrue, map, codes, Option, Some, Ok, bytes_eq, refl, ap, ◌∙◌, rules}
-use Rattle.std.specs.List.{list_any, list_all}
+use Rattle.std.specs.List.{list_any}
 use Rattle.serde_json.specs.Data.{Data, null, boolean, string, array, object, Members, put}
 use Rattle.serde_json.specs.Find.{get_member}
 use Rattle.serde_json.specs.View.{items_of}
@@ -24,7 +24,7 @@ use Rattle.jsbase_form.specs.Reads.{◌>>=◌}
 use Rattle.jsbase_form.specs.Keys.{all_differ}
 use Rattle.jsbase_form.specs.Leaves.{flag_at}
 use Rattle.jsbase_form.specs.Trees.{Keys, leaf_at, fields_at, body_at, node_at, null_as, single_as, listed, object_of, seen, items_seen, members_seen, ident_at, value_of}
-use Rattle.jsbase_form.specs.Known.{ReadsAs, all_of, MarksKnown, marks_known, NumbersShort, numbers_short, span_short}
+use Rattle.jsbase_form.specs.Known.{ReadsAs, all_of, all_keyed, marks_short, MarksKnown, marks_known, NumbersShort, numbers_short, span_short}
 use Rattle.jsbase_form.specs.Writing.{json, span_json, typed, ident_json, fields_put}
 use Rattle.jsbase_form.proofs.Members.{member_seen, table_differs, split}
 use Rattle.jsbase_form.proofs.Folds.{known-List, known-Identifier, known-Tree, short-Span, short-List, short-Identifier, short-Tree}
@@ -145,7 +145,7 @@ identifiers_back : (table : Table) (k : Kind) (i : Ident) → ReadsBack table (I
 identifiers_back table k i s f known short =
     let place = ident_place k (single s) (rw (← fits-Identifier k i s) f) in
     let both = split (is_identifier k) (belongs k place.0) place.2 in
-    let numbers = split (span_short i.span) (list_all _ i.ctxt) (rw (← short-Identifier k i) short) in
+    let numbers = split (span_short i.span) (marks_short i.ctxt) (rw (← short-Identifier k i) short) in
     let ms = ident_members k i in
     let read = ident_back table k i (rw (← known-Identifier table k i) known) numbers.0 numbers.1 in
     ap (λ d. seen table d s) (json-Identifier k i)
@@ -182,13 +182,13 @@ lists_back table ts back s f known short =
     ap (λ d. seen table d s) (json-List ts) ∙ array_places table ts back (rw (← known-List table ts) known) (rw (← short-List ts) short) s (rw (← fits-List ts s) f)
 
 fields_back : (table : Table) (final : Members) (fs : List (List ℕ × Slot × Role)) (ts : List Node) (ms : Members) → final ≡ fields_put fs (map json ts) ms → AllOf (ReadsBack table) ts → FieldsFit (map (λ f. f.1) fs) ts
-    → IsTrue (all_of (map (marks_known table) ts)) → IsTrue (all_of (map numbers_short ts)) → IsTrue (all_differ (map (λ f. f.0) fs)) → fields_at (members_seen table final) fs ≡ Ok ts
+    → IsTrue (all_of (map (marks_known table) ts)) → IsTrue (all_keyed fs (map numbers_short ts)) → IsTrue (all_differ (map (λ f. f.0) fs)) → fields_at (members_seen table final) fs ≡ Ok ts
 fields_back table final [] [] ms is back fit known short differ = refl
 fields_back table final [] (t ∷ ts) ms is back fit known short differ = absurd fit
 fields_back table final (f ∷ fs) [] ms is back fit known short differ = absurd fit
 fields_back table final (f ∷ fs) (t ∷ ts) ms is back fit known short differ =
     let k = split (marks_known table t) (all_of (map (marks_known table) ts)) known in
-    let n = split (numbers_short t) (all_of (map numbers_short ts)) short in
+    let n = split (numbers_short t) (all_keyed fs (map numbers_short ts)) short in
     let d = split (not (list_any (λ other. bytes_eq f.0 other) (map (λ f. f.0) fs))) (all_differ (map (λ f. f.0) fs)) differ in
     let value : value_of f.0 final ≡ json t = ap (value_of f.0) is ∙ first_put f fs (json t) (map json ts) ms d.0 in
     let first : members_seen table final f.0 f.1 ≡ Ok t = member_seen table final f.0 f.1 ∙ ap (λ d. seen table d f.1) value ∙ back.0 f.1 fit.0 k.0 n.0 in
@@ -225,5 +225,5 @@ seen_json table t = by_parts (ReadsBack table) (record {
   tree = trees_back table;
 }) t
 
-pub reads_as : (d : Data) (t : Node) → d ≡ json t → ReadsAs d t
-reads_as d t e table s fit known short = ap (λ d. seen table d s) e ∙ seen_json table t s fit known short
+pub reads_as : (d : Data) (t : Node) → d ≡ json t → NumbersShort t → ReadsAs d t
+reads_as d t e short table s fit known = ap (λ d. seen table d s) e ∙ seen_json table t s fit known short

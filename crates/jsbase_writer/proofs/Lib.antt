@@ -1,3 +1,4 @@
 pub mod Heights
 pub mod Written
 pub mod Floats
+pub mod Short

@@ -1,8 +1,8 @@
 //! Writing nodes.
-ghost use Rattle.std.specs.Prelude.{◌≡◌, IfOk, OnOk, map};
+ghost use Rattle.std.specs.Prelude.{◌≡◌, IfOk, OnOk, IsTrue, map};
 ghost use Rattle.serde_json.specs.Data.{put, string};
 ghost use Rattle.serde_json.specs.View.{view, items_view, members_view, items_of};
-ghost use Rattle.jsbase_form.specs.Known.{ReadsAs};
+ghost use Rattle.jsbase_form.specs.Known.{ReadsAs, NumbersShort, numbers_short, all_of, all_keyed, span_short, marks_short, ident_short};
 ghost use Rattle.jsbase_form.specs.Writing.{json, natural, numbers_json, span_json, typed, ident_json, fields_put};
 
 use serde_json::{Map, Value};
@@ -21,14 +21,16 @@ pub(crate) fn write_numbers(alloc: Global, numbers: &[u32]) -> Result<Vec<Value>
 }
 
 fn write_span(alloc: Global, span: Span) -> Result<Value, AllocError>
-    ensures { IfOk result (λ value. view value ≡ span_json span) }
+    ensures value { IfOk result (λ value. view value ≡ span_json span) }
+    ensures short { IfOk result (λ _. IsTrue (span_short span)) }
 {
     let ends = write_numbers(alloc, &[span.lo, span.hi])?;
     Ok(Value::Array(ends))
 }
 
 fn write_marks(alloc: Global, marks: &[Mark]) -> Result<Vec<Value>, AllocError>
-    ensures { IfOk result (λ values. items_view values.items ≡ items_of (map natural marks.now)) }
+    ensures values { IfOk result (λ values. items_view values.items ≡ items_of (map natural marks.now)) }
+    ensures short { IfOk result (λ _. IsTrue (marks_short marks.now)) }
 {
     let mut values = Vec::with_capacity(alloc, marks.len())?;
     for mark in marks {
@@ -70,7 +72,8 @@ fn typed_members(alloc: Global, kind: Kind) -> Result<Map<String, Value>, AllocE
 }
 
 fn write_ident(alloc: Global, kind: Kind, ident: Ident) -> Result<Value, AllocError>
-    ensures { IfOk result (λ value. view value ≡ ident_json kind ident) }
+    ensures value { IfOk result (λ value. view value ≡ ident_json kind ident) }
+    ensures short { IfOk result (λ _. IsTrue (ident_short ident)) }
 {
     let mut members = typed_members(alloc, kind)?;
     let span = write_span(alloc, ident.span)?;
@@ -106,7 +109,8 @@ pub fn write(alloc: Global, tree: Node) -> Result<Value, AllocError>
 
 #[cycle(write)]
 fn write_value(alloc: Global, node: Node) -> Result<Value, AllocError>
-    ensures { IfOk result (λ value. view value ≡ json node) }
+    ensures value { IfOk result (λ value. view value ≡ json node) }
+    ensures short { IfOk result (λ _. NumbersShort node) }
 {
     match node {
         Node::Absent => Ok(Value::Null),
@@ -138,7 +142,8 @@ fn write_value(alloc: Global, node: Node) -> Result<Value, AllocError>
 
 #[cycle(write)]
 fn write_all(alloc: Global, nodes: Vec<Node>) -> Result<Vec<Value>, AllocError>
-    ensures { IfOk result (λ values. items_view values.items ≡ items_of (map json nodes.items)) }
+    ensures values { IfOk result (λ values. items_view values.items ≡ items_of (map json nodes.items)) }
+    ensures short { IfOk result (λ _. IsTrue (all_of (map numbers_short nodes.items))) }
 {
     let mut values = Vec::with_capacity(alloc, nodes.len())?;
     for node in nodes {
@@ -155,8 +160,9 @@ fn write_fields(
     nodes: Vec<Node>,
     mut members: Map<String, Value>,
 ) -> Result<Map<String, Value>, AllocError>
-    ensures { IfOk result (λ written. members_view written.entries
+    ensures members { IfOk result (λ written. members_view written.entries
         ≡ fields_put (map (λ f. (f.key.now, f.slot, f.role)) fields.now) (map json nodes.items) (members_view members.entries)) }
+    ensures short { IfOk result (λ _. IsTrue (all_keyed (map (λ f. (f.key.now, f.slot, f.role)) fields.now) (map numbers_short nodes.items))) }
 {
     for (field, node) in fields.iter().zip(nodes) {
         let value = write_value(alloc, node)?;

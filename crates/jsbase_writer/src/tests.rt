@@ -1,4 +1,4 @@
-use crate::write_envelope;
+use crate::{write, write_envelope};
 use std::alloc::{AllocError, Global};
 use std::test::Fail;
 use swc_tree_items::{Boxed, Items, Text};
@@ -31,7 +31,7 @@ fn module(alloc: Global) -> Result<Node, AllocError> {
     let name = marked_name(alloc)?;
     let sum = Node::Tree(
         Kind::BinExpr,
-        Items::from_vec(vec![in alloc; span(5, 8), Node::Word(Word::Add), name, text]?),
+        Items::from_vec(vec![in alloc; span(5, 8), Node::Word(Word::Plus), name, text]?),
     );
     let statement = Node::Tree(
         Kind::ExprStmt,
@@ -42,6 +42,74 @@ fn module(alloc: Global) -> Result<Node, AllocError> {
         Kind::Module,
         Items::from_vec(vec![in alloc; span(3, 9), body, Node::Absent]?),
     ))
+}
+
+fn leaf(alloc: Global, kind: Kind) -> Result<Node, AllocError> {
+    Ok(Node::Tree(kind, Items::from_vec(vec![in alloc; span(0, 0)]?)))
+}
+
+// The tree of `new null([, null])`, with the new's arguments and with none.
+fn news(alloc: Global) -> Result<Node, AllocError> {
+    let element = Node::Tree(
+        Kind::ExprOrSpread,
+        Items::from_vec(vec![in alloc; Node::Absent, leaf(alloc, Kind::Null)?]?),
+    );
+    let elements = Node::List(Items::from_vec(vec![in alloc; Node::Absent, element]?));
+    let array = Node::Tree(
+        Kind::ArrayLit,
+        Items::from_vec(vec![in alloc; span(1, 2), elements]?),
+    );
+    let argument = Node::Tree(
+        Kind::ExprOrSpread,
+        Items::from_vec(vec![in alloc; Node::Absent, array]?),
+    );
+    let arguments = Node::List(Items::from_vec(vec![in alloc; argument]?));
+    let inner = Node::Tree(
+        Kind::NewExpr,
+        Items::from_vec(vec![in alloc; span(0, 0), leaf(alloc, Kind::Null)?, arguments]?),
+    );
+    Ok(Node::Tree(
+        Kind::NewExpr,
+        Items::from_vec(vec![in alloc; span(0, 3), inner, Node::Absent]?),
+    ))
+}
+
+fn text(alloc: Global, text: &str) -> Result<Node, AllocError> {
+    Ok(Node::Text(Text::new(alloc, text)?))
+}
+
+// `export * from '\x61' with { a: "b", c: "" }`
+fn export(alloc: Global) -> Result<Node, AllocError> {
+    let first = Node::List(Items::from_vec(vec![in alloc; text(alloc, "a")?, text(alloc, "b")?]?));
+    let second = Node::List(Items::from_vec(vec![in alloc; text(alloc, "c")?, text(alloc, "")?]?));
+    let source = Node::Tree(
+        Kind::Str,
+        Items::from_vec(vec![in alloc; span(0, 0), text(alloc, "a")?, text(alloc, "'\\x61'")?]?),
+    );
+    let pairs = Node::List(Items::from_vec(vec![in alloc; first, second]?));
+    Ok(Node::Tree(
+        Kind::ExportAll,
+        Items::from_vec(vec![in alloc; span(0, 0), source, pairs]?),
+    ))
+}
+
+#[test]
+fn writes_holes_and_pairs(rt: HostRuntime) -> Result<(), Fail> {
+    let alloc = rt.alloc();
+    for (tree, want) in [
+        (
+            news(alloc)?,
+            "{\"args\":null,\"callee\":{\"args\":[{\"expr\":{\"elems\":[null,{\"expr\":{\"span\":[0,0],\"type\":\"Null\"},\"spread\":null,\"type\":\"ExprOrSpread\"}],\"span\":[1,2],\"type\":\"ArrayLit\"},\"spread\":null,\"type\":\"ExprOrSpread\"}],\"callee\":{\"span\":[0,0],\"type\":\"Null\"},\"span\":[0,0],\"type\":\"NewExpr\"},\"span\":[0,3],\"type\":\"NewExpr\"}",
+        ),
+        (
+            export(alloc)?,
+            "{\"span\":[0,0],\"src\":{\"raw\":\"'\\\\x61'\",\"span\":[0,0],\"type\":\"Str\",\"value\":\"a\"},\"type\":\"ExportAll\",\"with\":[[\"a\",\"b\"],[\"c\",\"\"]]}",
+        ),
+    ] {
+        let value = write(alloc, tree)?;
+        assert_eq!(rt; value.to_string(alloc)?.as_str(), want);
+    }
+    Ok(())
 }
 
 #[test]

@@ -1,6 +1,7 @@
-use Rattle.std.proofs.Common.{◌≡◌, ◌≤◌, ◌+◌, ◌*◌, ◌++◌, map}
+use Rattle.std.proofs.Common.{◌≡◌, ◌≤◌, ◌+◌, ◌*◌, ◌++◌, map, IsTrue}
 use Rattle.serde_json.specs.View.{view, members_view}
 use Rattle.jsbase_form.specs.Writing.{json, fields_put}
+use Rattle.jsbase_form.specs.Known.{numbers_short, all_of, all_keyed}
 use Rattle.jsbase_writer.proofs.Heights.{height, greatest}
 use Rattle.jsbase_writer.proofs.nodes.+write.Given as goal
 
@@ -15,7 +16,9 @@ decreases-write_fields l = 2 * greatest (map height l.nodes.items) + 1
 
 abbrev pub invariant-write_all-loop-node : goal.invariant-write_all-loop-node
 invariant-write_all-loop-node l =
-    (map view l.values.items ++ map json l.node-iterator.rest.items ≡ map json l.fn.nodes.items) × (greatest (map height l.node-iterator.rest.items) ≤ greatest (map height l.fn.nodes.items))
+    let rest = l.node-iterator.rest.items in
+    (map view l.values.items ++ map json rest ≡ map json l.fn.nodes.items) × (greatest (map height rest) ≤ greatest (map height l.fn.nodes.items))
+    × (IsTrue (all_of (map numbers_short rest)) → IsTrue (all_of (map numbers_short l.fn.nodes.items)))
 
 abbrev pub invariant-write_fields-loop-field : goal.invariant-write_fields-loop-field
 invariant-write_fields-loop-field l =
@@ -24,3 +27,4 @@ invariant-write_fields-loop-field l =
     (fields_put (map (λ f. (f.key.now, f.slot, f.role)) l.fn.fields) (map json l.fn.nodes.items) (members_view l.fn.members.entries)
     ≡ fields_put (map (λ f. (f.key.now, f.slot, f.role)) fields) (map json nodes) (members_view l.members.entries))
     × (greatest (map height nodes) ≤ greatest (map height l.fn.nodes.items))
+    × (IsTrue (all_keyed (map (λ f. (f.key.now, f.slot, f.role)) fields) (map numbers_short nodes)) → IsTrue (all_keyed (map (λ f. (f.key.now, f.slot, f.role)) l.fn.fields) (map numbers_short l.fn.nodes.items)))
