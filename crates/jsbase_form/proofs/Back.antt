@@ -66,7 +66,7 @@ span_back s h =
     let both = split (nat_lt s.lo (2 ^ 32)) (nat_lt s.hi (2 ^ 32)) h in
     rw (number_back s.lo both.0, number_back s.hi both.1) refl
 
-mark_back : (table : Table) (n : ℕ) → is_marked table n ≡ true → nat_lt n (2 ^ 32) ≡ true → mark_at table (natural n) ≡ Ok n
+pub mark_back : (table : Table) (n : ℕ) → is_marked table n ≡ true → nat_lt n (2 ^ 32) ≡ true → mark_at table (natural n) ≡ Ok n
 unfolding mark_at
 mark_back table n known short = rw (number_back n short, known) refl
 

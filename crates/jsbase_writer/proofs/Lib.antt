@@ -2,3 +2,5 @@ pub mod Heights
 pub mod Written
 pub mod Floats
 pub mod Short
+pub mod Line
+pub mod Back

@@ -1,11 +1,20 @@
 -- The JSON of a tree with its table of marks.
-use Rattle.std.specs.Prelude.{ℕ, List, [], ◌∷◌, ◌++◌, map, codes}
-use Rattle.serde_json.specs.Data.{Data, array, object, no_members, member}
+use Rattle.std.specs.Prelude.{◌≡◌, ◌≤◌, ℕ, List, [], ◌∷◌, ◌++◌, map, codes, Bool, false, IsTrue, Ok}
+use Rattle.std.specs.List.{list_all}
+use Rattle.serde_json.specs.Data.{Data, array, object, no_members, member, depth}
+use Rattle.serde_json.specs.Read.{max_depth}
 use Rattle.serde_json.specs.View.{items_of}
 use Rattle.serde_json.specs.Written.{compact_text}
 use Rattle.swc_tree_marks.specs.Globals.{Table}
 use Rattle.swc_tree_node.specs.declared.node.Node.{Node}
+use Rattle.swc_tree_node.specs.declared.kind.Class.{Class}
+use Rattle.swc_tree_node.specs.declared.slot.Content.TheVariants as content
+use Rattle.swc_tree_node.specs.declared.slot.Slot.TheVariants as slot
+use Rattle.swc_tree_node.specs.Fits.{Fits}
+use Rattle.jsbase_form.specs.Leaves.{is_marked}
+use Rattle.jsbase_form.specs.Known.{MarksKnown, marks_short}
 use Rattle.jsbase_form.specs.Writing.{json, natural, numbers_json}
+use Rattle.jsbase_reader.specs.Envelopes.{envelope_in_text}
 
 -- a mark's number and its parent's
 abbrev pub row_json : ℕ × ℕ → Data
@@ -21,6 +30,17 @@ envelope_json table top tree unresolved =
     (member (codes "tree") (json tree)
     (member (codes "unresolved") (natural unresolved) no_members))))
 
+-- the numbers of the marks and of their parents have 32 bits
+abbrev pub table_short : Table → Bool
+table_short = list_all (λ row. marks_short (row.0 ∷ row.1 ∷ []))
+
 -- one line
 abbrev pub envelope_text : Table → ℕ → Node → ℕ → List ℕ
 envelope_text table top tree unresolved = compact_text (envelope_json table top tree unresolved) ++ 10 ∷ []
+
+-- The text reads as the envelope, with every option false, whatever class its tree fits. The marks have to be known, and
+-- arrays and objects to nest no deeper than a reader goes.
+abbrev pub ReadsBack : List ℕ → Table → ℕ → Node → ℕ → Type 0
+ReadsBack text table top tree unresolved = (class : Class) → Fits tree (slot.One (content.Node class)) → MarksKnown table tree → IsTrue (is_marked table top) → IsTrue (is_marked table unresolved)
+    → depth (envelope_json table top tree unresolved) ≤ max_depth
+    → envelope_in_text class text ≡ Ok (record { globals = table; unresolved = unresolved; top = top; keep_class_names = false; ignore_eval = false; tree = tree })

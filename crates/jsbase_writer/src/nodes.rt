@@ -11,7 +11,8 @@ use swc_tree_marks::{Ident, Mark, Span};
 use swc_tree_node::{Field, Kind, Node, fields_of, name_of, spelling_of};
 
 pub(crate) fn write_numbers(alloc: Global, numbers: &[u32]) -> Result<Vec<Value>, AllocError>
-    ensures { IfOk result (λ values. items_view values.items ≡ items_of (map natural numbers.now)) }
+    ensures values { IfOk result (λ values. items_view values.items ≡ items_of (map natural numbers.now)) }
+    ensures short { IfOk result (λ _. IsTrue (marks_short numbers.now)) }
 {
     let mut values = Vec::with_capacity(alloc, numbers.len())?;
     for number in numbers {
