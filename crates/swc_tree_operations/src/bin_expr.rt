@@ -4,47 +4,47 @@ ghost use Rattle.swc_tree_node.specs.declared.kind.Class.TheVariants as class;
 ghost use Rattle.swc_tree_node.specs.declared.slot.Slot.TheVariants.{One};
 ghost use Rattle.swc_tree_node.specs.declared.slot.Content.TheVariants.{Node as Of};
 ghost use Rattle.swc_tree_node.specs.Fits.{Fits};
-ghost use Rattle.swc_tree_expressions.specs.Nodes.{assign_expr_node};
+ghost use Rattle.swc_tree_operations.specs.Nodes.{bin_expr_node};
 
-use crate::assign_op::AssignOp;
+use crate::binary_op::BinaryOp;
 use std::alloc::{AllocError, Global};
 use swc_tree_handle::{Opened, Tree, class, collect, from_span, to_span};
 use swc_tree_marks::Span;
 use swc_tree_node::{Kind, Node};
 
-/// An assignment (ECMA-262, AssignmentExpression).
+/// Two operands and the operator between them (ECMA-262, 13.6 to 13.13).
 #[derive(Debug, Drop)]
-pub struct AssignExpr {
+pub struct BinExpr {
     pub span: Span,
-    pub op: AssignOp,
-    pub left: Tree<class::AssignTarget>,
+    pub op: BinaryOp,
+    pub left: Tree<class::Expr>,
     pub right: Tree<class::Expr>,
 }
 
-impl Opened<class::AssignExpr> for AssignExpr {
-    ghost class = { class.AssignExpr };
+impl Opened<class::BinExpr> for BinExpr {
+    ghost class = { class.BinExpr };
 
-    ghost node = { assign_expr_node };
+    ghost node = { bin_expr_node };
 
     #[tactic(auto, using(swc_tree_node::proofs::Fit::lengths))]
-    fn from_node(closed: Node) -> AssignExpr
-        requires { Fits closed (One (Of class.AssignExpr)) }
-        ensures { assign_expr_node result ≡ closed }
+    fn from_node(closed: Node) -> BinExpr
+        requires { Fits closed (One (Of class.BinExpr)) }
+        ensures { bin_expr_node result ≡ closed }
     {
-        let fields = Tree::<class::AssignExpr>::from_node(closed).into_fields(Kind::AssignExpr);
+        let fields = Tree::<class::BinExpr>::from_node(closed).into_fields(Kind::BinExpr);
         let [span, op, left, right] = fields.into_array::<4>();
-        AssignExpr {
+        BinExpr {
             span: to_span(span),
-            op: AssignOp::from_node(op),
+            op: BinaryOp::from_node(op),
             left: Tree::from_node(left),
             right: Tree::from_node(right),
         }
     }
 
     fn into_node(self, alloc: Global) -> Result<Node, AllocError>
-        ensures { IfOk result (λ closed. (closed ≡ assign_expr_node self) × Fits closed (One (Of class.AssignExpr))) }
+        ensures { IfOk result (λ closed. (closed ≡ bin_expr_node self) × Fits closed (One (Of class.BinExpr))) }
     {
-        let AssignExpr {
+        let BinExpr {
             span,
             op,
             left,
@@ -59,6 +59,6 @@ impl Opened<class::AssignExpr> for AssignExpr {
                 right.into_node(),
             ],
         )?;
-        Ok(Tree::<class::AssignExpr>::from_fields(Kind::AssignExpr, fields).into_node())
+        Ok(Tree::<class::BinExpr>::from_fields(Kind::BinExpr, fields).into_node())
     }
 }

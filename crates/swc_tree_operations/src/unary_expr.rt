@@ -4,7 +4,7 @@ ghost use Rattle.swc_tree_node.specs.declared.kind.Class.TheVariants as class;
 ghost use Rattle.swc_tree_node.specs.declared.slot.Slot.TheVariants.{One};
 ghost use Rattle.swc_tree_node.specs.declared.slot.Content.TheVariants.{Node as Of};
 ghost use Rattle.swc_tree_node.specs.Fits.{Fits};
-ghost use Rattle.swc_tree_expressions.specs.Nodes.{unary_expr_node};
+ghost use Rattle.swc_tree_operations.specs.Nodes.{unary_expr_node};
 
 use crate::unary_op::UnaryOp;
 use std::alloc::{AllocError, Global};
