@@ -34,10 +34,11 @@ class Field:
 
 
 class Family:
-    """A crate of structs and sums: what they are, and the crate's modules that are written by hand."""
+    """A crate of structs and sums: what they are, the crate's modules that are written by hand, and the crate whose
+    module of the table has the fields of its structs."""
 
-    def __init__(self, name, doc, by_hand):
-        self.name, self.doc, self.by_hand = name, doc, by_hand
+    def __init__(self, name, doc, by_hand, table):
+        self.name, self.doc, self.by_hand, self.table = name, doc, by_hand, table
 
 
 class Entry:
@@ -102,8 +103,10 @@ class Tree:
 
     def read_family(self, line):
         head, _, text = line.partition(': ')
+        head, _, table = head.partition(' beside ')
         self.family, *by_hand = head.split(' and ')
-        self.families.setdefault(self.family, Family(self.family, text, by_hand))
+        if text or self.family not in self.families:
+            self.families[self.family] = Family(self.family, text, by_hand, table or self.family)
 
     def read_entry(self, line):
         about = (self.family, self.doc)
@@ -155,3 +158,11 @@ class Tree:
 
     def of_family(self, family, entries):
         return [e for e in entries.values() if e.family == family]
+
+    def of_table(self, family):
+        """The structs whose fields stand in one module of the table."""
+        return [s for s in self.structs.values() if self.families[s.family].table == family]
+
+    def tables(self):
+        """The crates that the modules of the table are named for."""
+        return sorted({family.table for family in self.families.values()})

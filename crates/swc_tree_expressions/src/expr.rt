@@ -6,30 +6,17 @@ ghost use Rattle.swc_tree_node.specs.declared.slot.Content.TheVariants.{Node as 
 ghost use Rattle.swc_tree_node.specs.Fits.{Fits};
 ghost use Rattle.swc_tree_expressions.specs.Nodes.{of_expr};
 
-use crate::array_lit::ArrayLit;
-use crate::assign_expr::AssignExpr;
-use crate::await_expr::AwaitExpr;
-use crate::bin_expr::BinExpr;
-use crate::call_expr::CallExpr;
-use crate::cond_expr::CondExpr;
-use crate::member_expr::MemberExpr;
-use crate::new_expr::NewExpr;
-use crate::object_lit::ObjectLit;
-use crate::opt_chain_expr::OptChainExpr;
-use crate::paren_expr::ParenExpr;
-use crate::seq_expr::SeqExpr;
-use crate::super_prop_expr::SuperPropExpr;
-use crate::tagged_tpl::TaggedTpl;
-use crate::tpl::Tpl;
-use crate::unary_expr::UnaryExpr;
-use crate::update_expr::UpdateExpr;
-use crate::yield_expr::YieldExpr;
 use std::alloc::{AllocError, Global};
 use swc_tree_functions::{ArrowExpr, ClassExpr, FnExpr};
 use swc_tree_handle::{Opened, Tree, class};
 use swc_tree_marks::Ident;
 use swc_tree_names::{Lit, MetaPropExpr, PrivateName, ThisExpr};
 use swc_tree_node::{Kind, Node};
+use swc_tree_operations::{
+    ArrayLit, AssignExpr, AwaitExpr, BinExpr, CallExpr, CondExpr, MemberExpr, NewExpr, ObjectLit,
+    OptChainExpr, ParenExpr, SeqExpr, SuperPropExpr, TaggedTpl, Tpl, UnaryExpr, UpdateExpr,
+    YieldExpr,
+};
 
 /// An expression (ECMA-262, Expression).
 #[derive(Debug, Drop)]

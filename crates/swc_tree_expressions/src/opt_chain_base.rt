@@ -6,11 +6,10 @@ ghost use Rattle.swc_tree_node.specs.declared.slot.Content.TheVariants.{Node as 
 ghost use Rattle.swc_tree_node.specs.Fits.{Fits};
 ghost use Rattle.swc_tree_expressions.specs.Nodes.{of_opt_chain_base};
 
-use crate::member_expr::MemberExpr;
-use crate::opt_call::OptCall;
 use std::alloc::{AllocError, Global};
 use swc_tree_handle::{Opened, Tree, class};
 use swc_tree_node::{Kind, Node};
+use swc_tree_operations::{MemberExpr, OptCall};
 
 /// What a part of an optional chain does (ECMA-262, OptionalChain).
 #[derive(Debug, Drop)]

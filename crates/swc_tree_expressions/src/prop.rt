@@ -6,12 +6,12 @@ ghost use Rattle.swc_tree_node.specs.declared.slot.Content.TheVariants.{Node as 
 ghost use Rattle.swc_tree_node.specs.Fits.{Fits};
 ghost use Rattle.swc_tree_expressions.specs.Nodes.{of_prop};
 
-use crate::key_value_prop::KeyValueProp;
 use std::alloc::{AllocError, Global};
 use swc_tree_functions::{GetterProp, MethodProp, SetterProp};
 use swc_tree_handle::{Opened, Tree, class};
 use swc_tree_marks::Ident;
 use swc_tree_node::{Kind, Node};
+use swc_tree_operations::KeyValueProp;
 
 /// A property of an object literal (ECMA-262, PropertyDefinition).
 #[derive(Debug, Drop)]

@@ -7,10 +7,10 @@ ghost use Rattle.swc_tree_node.specs.Fits.{Fits};
 ghost use Rattle.swc_tree_expressions.specs.Nodes.{of_prop_or_spread};
 
 use crate::prop::Prop;
-use crate::spread_element::SpreadElement;
 use std::alloc::{AllocError, Global};
 use swc_tree_handle::{Opened, Tree, class};
 use swc_tree_node::{Kind, Node};
+use swc_tree_operations::SpreadElement;
 
 /// A property of an object literal, or a spread (ECMA-262, PropertyDefinition).
 #[derive(Debug, Drop)]

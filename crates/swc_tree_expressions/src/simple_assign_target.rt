@@ -6,13 +6,11 @@ ghost use Rattle.swc_tree_node.specs.declared.slot.Content.TheVariants.{Node as 
 ghost use Rattle.swc_tree_node.specs.Fits.{Fits};
 ghost use Rattle.swc_tree_expressions.specs.Nodes.{of_simple_assign_target};
 
-use crate::member_expr::MemberExpr;
-use crate::paren_expr::ParenExpr;
-use crate::super_prop_expr::SuperPropExpr;
 use std::alloc::{AllocError, Global};
 use swc_tree_handle::{Opened, Tree, class};
 use swc_tree_names::BindingIdent;
 use swc_tree_node::{Kind, Node};
+use swc_tree_operations::{MemberExpr, ParenExpr, SuperPropExpr};
 
 /// A target that is no pattern.
 #[derive(Debug, Drop)]

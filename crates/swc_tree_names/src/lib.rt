@@ -1,4 +1,4 @@
-//!
+//! Names, literals and other parts that hold no subtree.
 //!
 //! Each struct and sum stands one level deep: its subtrees are `Tree`s and `Trees`.
 //! Printed by tools/print_table.py from tools/tree.txt.

@@ -1,4 +1,4 @@
-//! Fields:
+//! Fields: Names, literals and other parts that hold no subtree.
 //!
 //! Printed by tools/print_table.py from tools/tree.txt.
 use crate::kind::{Class, WordClass};

@@ -1,0 +1,46 @@
+//! Printed by tools/print_table.py from tools/tree.txt.
+ghost use Rattle.std.specs.Prelude.{◌≡◌, IfOk};
+ghost use Rattle.swc_tree_node.specs.declared.kind.Class.TheVariants as class;
+ghost use Rattle.swc_tree_node.specs.declared.slot.Slot.TheVariants.{One};
+ghost use Rattle.swc_tree_node.specs.declared.slot.Content.TheVariants.{Node as Of};
+ghost use Rattle.swc_tree_node.specs.Fits.{Fits};
+ghost use Rattle.swc_tree_operations.specs.Nodes.{array_lit_node};
+
+use std::alloc::{AllocError, Global};
+use swc_tree_handle::{Holes, Opened, Tree, class, collect, from_span, to_span};
+use swc_tree_marks::Span;
+use swc_tree_node::{Kind, Node};
+
+/// An array literal, with elements left out where there is none (ECMA-262, ArrayLiteral).
+#[derive(Debug, Drop)]
+pub struct ArrayLit {
+    pub span: Span,
+    pub elems: Holes<class::ExprOrSpread>,
+}
+
+impl Opened<class::ArrayLit> for ArrayLit {
+    ghost class = { class.ArrayLit };
+
+    ghost node = { array_lit_node };
+
+    #[tactic(auto, using(swc_tree_node::proofs::Fit::lengths))]
+    fn from_node(closed: Node) -> ArrayLit
+        requires { Fits closed (One (Of class.ArrayLit)) }
+        ensures { array_lit_node result ≡ closed }
+    {
+        let fields = Tree::<class::ArrayLit>::from_node(closed).into_fields(Kind::ArrayLit);
+        let [span, elems] = fields.into_array::<2>();
+        ArrayLit {
+            span: to_span(span),
+            elems: Holes::from_node(elems),
+        }
+    }
+
+    fn into_node(self, alloc: Global) -> Result<Node, AllocError>
+        ensures { IfOk result (λ closed. (closed ≡ array_lit_node self) × Fits closed (One (Of class.ArrayLit))) }
+    {
+        let ArrayLit { span, elems } = self;
+        let fields = collect(alloc, [from_span(span), elems.into_node()])?;
+        Ok(Tree::<class::ArrayLit>::from_fields(Kind::ArrayLit, fields).into_node())
+    }
+}

@@ -1,0 +1,46 @@
+//! Printed by tools/print_table.py from tools/tree.txt.
+ghost use Rattle.std.specs.Prelude.{◌≡◌, IfOk};
+ghost use Rattle.swc_tree_node.specs.declared.kind.Class.TheVariants as class;
+ghost use Rattle.swc_tree_node.specs.declared.slot.Slot.TheVariants.{One};
+ghost use Rattle.swc_tree_node.specs.declared.slot.Content.TheVariants.{Node as Of};
+ghost use Rattle.swc_tree_node.specs.Fits.{Fits};
+ghost use Rattle.swc_tree_operations.specs.Nodes.{await_expr_node};
+
+use std::alloc::{AllocError, Global};
+use swc_tree_handle::{Opened, Tree, class, collect, from_span, to_span};
+use swc_tree_marks::Span;
+use swc_tree_node::{Kind, Node};
+
+/// `await` (ECMA-262, AwaitExpression).
+#[derive(Debug, Drop)]
+pub struct AwaitExpr {
+    pub span: Span,
+    pub arg: Tree<class::Expr>,
+}
+
+impl Opened<class::AwaitExpr> for AwaitExpr {
+    ghost class = { class.AwaitExpr };
+
+    ghost node = { await_expr_node };
+
+    #[tactic(auto, using(swc_tree_node::proofs::Fit::lengths))]
+    fn from_node(closed: Node) -> AwaitExpr
+        requires { Fits closed (One (Of class.AwaitExpr)) }
+        ensures { await_expr_node result ≡ closed }
+    {
+        let fields = Tree::<class::AwaitExpr>::from_node(closed).into_fields(Kind::AwaitExpr);
+        let [span, arg] = fields.into_array::<2>();
+        AwaitExpr {
+            span: to_span(span),
+            arg: Tree::from_node(arg),
+        }
+    }
+
+    fn into_node(self, alloc: Global) -> Result<Node, AllocError>
+        ensures { IfOk result (λ closed. (closed ≡ await_expr_node self) × Fits closed (One (Of class.AwaitExpr))) }
+    {
+        let AwaitExpr { span, arg } = self;
+        let fields = collect(alloc, [from_span(span), arg.into_node()])?;
+        Ok(Tree::<class::AwaitExpr>::from_fields(Kind::AwaitExpr, fields).into_node())
+    }
+}

@@ -1,0 +1,64 @@
+//! Printed by tools/print_table.py from tools/tree.txt.
+ghost use Rattle.std.specs.Prelude.{◌≡◌, IfOk};
+ghost use Rattle.swc_tree_node.specs.declared.kind.Class.TheVariants as class;
+ghost use Rattle.swc_tree_node.specs.declared.slot.Slot.TheVariants.{One};
+ghost use Rattle.swc_tree_node.specs.declared.slot.Content.TheVariants.{Node as Of};
+ghost use Rattle.swc_tree_node.specs.Fits.{Fits};
+ghost use Rattle.swc_tree_operations.specs.Nodes.{bin_expr_node};
+
+use crate::binary_op::BinaryOp;
+use std::alloc::{AllocError, Global};
+use swc_tree_handle::{Opened, Tree, class, collect, from_span, to_span};
+use swc_tree_marks::Span;
+use swc_tree_node::{Kind, Node};
+
+/// Two operands and the operator between them (ECMA-262, 13.6 to 13.13).
+#[derive(Debug, Drop)]
+pub struct BinExpr {
+    pub span: Span,
+    pub op: BinaryOp,
+    pub left: Tree<class::Expr>,
+    pub right: Tree<class::Expr>,
+}
+
+impl Opened<class::BinExpr> for BinExpr {
+    ghost class = { class.BinExpr };
+
+    ghost node = { bin_expr_node };
+
+    #[tactic(auto, using(swc_tree_node::proofs::Fit::lengths))]
+    fn from_node(closed: Node) -> BinExpr
+        requires { Fits closed (One (Of class.BinExpr)) }
+        ensures { bin_expr_node result ≡ closed }
+    {
+        let fields = Tree::<class::BinExpr>::from_node(closed).into_fields(Kind::BinExpr);
+        let [span, op, left, right] = fields.into_array::<4>();
+        BinExpr {
+            span: to_span(span),
+            op: BinaryOp::from_node(op),
+            left: Tree::from_node(left),
+            right: Tree::from_node(right),
+        }
+    }
+
+    fn into_node(self, alloc: Global) -> Result<Node, AllocError>
+        ensures { IfOk result (λ closed. (closed ≡ bin_expr_node self) × Fits closed (One (Of class.BinExpr))) }
+    {
+        let BinExpr {
+            span,
+            op,
+            left,
+            right,
+        } = self;
+        let fields = collect(
+            alloc,
+            [
+                from_span(span),
+                op.into_node(),
+                left.into_node(),
+                right.into_node(),
+            ],
+        )?;
+        Ok(Tree::<class::BinExpr>::from_fields(Kind::BinExpr, fields).into_node())
+    }
+}

@@ -1,0 +1,63 @@
+//! Printed by tools/print_table.py from tools/tree.txt.
+ghost use Rattle.std.specs.Prelude.{◌≡◌, IfOk};
+ghost use Rattle.swc_tree_node.specs.declared.kind.Class.TheVariants as class;
+ghost use Rattle.swc_tree_node.specs.declared.slot.Slot.TheVariants.{One};
+ghost use Rattle.swc_tree_node.specs.declared.slot.Content.TheVariants.{Node as Of};
+ghost use Rattle.swc_tree_node.specs.Fits.{Fits};
+ghost use Rattle.swc_tree_operations.specs.Nodes.{cond_expr_node};
+
+use std::alloc::{AllocError, Global};
+use swc_tree_handle::{Opened, Tree, class, collect, from_span, to_span};
+use swc_tree_marks::Span;
+use swc_tree_node::{Kind, Node};
+
+/// A choice by a test (ECMA-262, ConditionalExpression).
+#[derive(Debug, Drop)]
+pub struct CondExpr {
+    pub span: Span,
+    pub test: Tree<class::Expr>,
+    pub cons: Tree<class::Expr>,
+    pub alt: Tree<class::Expr>,
+}
+
+impl Opened<class::CondExpr> for CondExpr {
+    ghost class = { class.CondExpr };
+
+    ghost node = { cond_expr_node };
+
+    #[tactic(auto, using(swc_tree_node::proofs::Fit::lengths))]
+    fn from_node(closed: Node) -> CondExpr
+        requires { Fits closed (One (Of class.CondExpr)) }
+        ensures { cond_expr_node result ≡ closed }
+    {
+        let fields = Tree::<class::CondExpr>::from_node(closed).into_fields(Kind::CondExpr);
+        let [span, test, cons, alt] = fields.into_array::<4>();
+        CondExpr {
+            span: to_span(span),
+            test: Tree::from_node(test),
+            cons: Tree::from_node(cons),
+            alt: Tree::from_node(alt),
+        }
+    }
+
+    fn into_node(self, alloc: Global) -> Result<Node, AllocError>
+        ensures { IfOk result (λ closed. (closed ≡ cond_expr_node self) × Fits closed (One (Of class.CondExpr))) }
+    {
+        let CondExpr {
+            span,
+            test,
+            cons,
+            alt,
+        } = self;
+        let fields = collect(
+            alloc,
+            [
+                from_span(span),
+                test.into_node(),
+                cons.into_node(),
+                alt.into_node(),
+            ],
+        )?;
+        Ok(Tree::<class::CondExpr>::from_fields(Kind::CondExpr, fields).into_node())
+    }
+}

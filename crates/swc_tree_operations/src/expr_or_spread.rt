@@ -1,0 +1,46 @@
+//! Printed by tools/print_table.py from tools/tree.txt.
+ghost use Rattle.std.specs.Prelude.{◌≡◌, IfOk};
+ghost use Rattle.swc_tree_node.specs.declared.kind.Class.TheVariants as class;
+ghost use Rattle.swc_tree_node.specs.declared.slot.Slot.TheVariants.{One};
+ghost use Rattle.swc_tree_node.specs.declared.slot.Content.TheVariants.{Node as Of};
+ghost use Rattle.swc_tree_node.specs.Fits.{Fits};
+ghost use Rattle.swc_tree_operations.specs.Nodes.{expr_or_spread_node};
+
+use std::alloc::{AllocError, Global};
+use swc_tree_handle::{Opened, Tree, class, collect, from_optional_span, to_optional_span};
+use swc_tree_marks::Span;
+use swc_tree_node::{Kind, Node};
+
+/// An argument or element, after `...` where it stands for its elements (ECMA-262, ArgumentList).
+#[derive(Debug, Drop)]
+pub struct ExprOrSpread {
+    pub spread: Option<Span>,
+    pub expr: Tree<class::Expr>,
+}
+
+impl Opened<class::ExprOrSpread> for ExprOrSpread {
+    ghost class = { class.ExprOrSpread };
+
+    ghost node = { expr_or_spread_node };
+
+    #[tactic(auto, using(swc_tree_node::proofs::Fit::lengths))]
+    fn from_node(closed: Node) -> ExprOrSpread
+        requires { Fits closed (One (Of class.ExprOrSpread)) }
+        ensures { expr_or_spread_node result ≡ closed }
+    {
+        let fields = Tree::<class::ExprOrSpread>::from_node(closed).into_fields(Kind::ExprOrSpread);
+        let [spread, expr] = fields.into_array::<2>();
+        ExprOrSpread {
+            spread: to_optional_span(spread),
+            expr: Tree::from_node(expr),
+        }
+    }
+
+    fn into_node(self, alloc: Global) -> Result<Node, AllocError>
+        ensures { IfOk result (λ closed. (closed ≡ expr_or_spread_node self) × Fits closed (One (Of class.ExprOrSpread))) }
+    {
+        let ExprOrSpread { spread, expr } = self;
+        let fields = collect(alloc, [from_optional_span(spread), expr.into_node()])?;
+        Ok(Tree::<class::ExprOrSpread>::from_fields(Kind::ExprOrSpread, fields).into_node())
+    }
+}

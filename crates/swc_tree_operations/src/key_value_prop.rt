@@ -1,0 +1,45 @@
+//! Printed by tools/print_table.py from tools/tree.txt.
+ghost use Rattle.std.specs.Prelude.{◌≡◌, IfOk};
+ghost use Rattle.swc_tree_node.specs.declared.kind.Class.TheVariants as class;
+ghost use Rattle.swc_tree_node.specs.declared.slot.Slot.TheVariants.{One};
+ghost use Rattle.swc_tree_node.specs.declared.slot.Content.TheVariants.{Node as Of};
+ghost use Rattle.swc_tree_node.specs.Fits.{Fits};
+ghost use Rattle.swc_tree_operations.specs.Nodes.{key_value_prop_node};
+
+use std::alloc::{AllocError, Global};
+use swc_tree_handle::{Opened, Tree, class, collect};
+use swc_tree_node::{Kind, Node};
+
+/// A key and its value (ECMA-262, PropertyDefinition).
+#[derive(Debug, Drop)]
+pub struct KeyValueProp {
+    pub key: Tree<class::PropName>,
+    pub value: Tree<class::Expr>,
+}
+
+impl Opened<class::KeyValueProp> for KeyValueProp {
+    ghost class = { class.KeyValueProp };
+
+    ghost node = { key_value_prop_node };
+
+    #[tactic(auto, using(swc_tree_node::proofs::Fit::lengths))]
+    fn from_node(closed: Node) -> KeyValueProp
+        requires { Fits closed (One (Of class.KeyValueProp)) }
+        ensures { key_value_prop_node result ≡ closed }
+    {
+        let fields = Tree::<class::KeyValueProp>::from_node(closed).into_fields(Kind::KeyValueProp);
+        let [key, value] = fields.into_array::<2>();
+        KeyValueProp {
+            key: Tree::from_node(key),
+            value: Tree::from_node(value),
+        }
+    }
+
+    fn into_node(self, alloc: Global) -> Result<Node, AllocError>
+        ensures { IfOk result (λ closed. (closed ≡ key_value_prop_node self) × Fits closed (One (Of class.KeyValueProp))) }
+    {
+        let KeyValueProp { key, value } = self;
+        let fields = collect(alloc, [key.into_node(), value.into_node()])?;
+        Ok(Tree::<class::KeyValueProp>::from_fields(Kind::KeyValueProp, fields).into_node())
+    }
+}

@@ -1,0 +1,55 @@
+//! Printed by tools/print_table.py from tools/tree.txt.
+ghost use Rattle.std.specs.Prelude.{◌≡◌, IfOk};
+ghost use Rattle.swc_tree_node.specs.declared.kind.Class.TheVariants as class;
+ghost use Rattle.swc_tree_node.specs.declared.slot.Slot.TheVariants.{One};
+ghost use Rattle.swc_tree_node.specs.declared.slot.Content.TheVariants.{Node as Of};
+ghost use Rattle.swc_tree_node.specs.Fits.{Fits};
+ghost use Rattle.swc_tree_operations.specs.Nodes.{new_expr_node};
+
+use std::alloc::{AllocError, Global};
+use swc_tree_handle::{Opened, Tree, Trees, class, collect, from_span, to_span};
+use swc_tree_marks::Span;
+use swc_tree_node::{Kind, Node};
+
+/// `new`, with arguments or without (ECMA-262, NewExpression).
+#[derive(Debug, Drop)]
+pub struct NewExpr {
+    pub span: Span,
+    pub callee: Tree<class::Expr>,
+    pub args: Option<Trees<class::ExprOrSpread>>,
+}
+
+impl Opened<class::NewExpr> for NewExpr {
+    ghost class = { class.NewExpr };
+
+    ghost node = { new_expr_node };
+
+    #[tactic(auto, using(swc_tree_node::proofs::Fit::lengths))]
+    fn from_node(closed: Node) -> NewExpr
+        requires { Fits closed (One (Of class.NewExpr)) }
+        ensures { new_expr_node result ≡ closed }
+    {
+        let fields = Tree::<class::NewExpr>::from_node(closed).into_fields(Kind::NewExpr);
+        let [span, callee, args] = fields.into_array::<3>();
+        NewExpr {
+            span: to_span(span),
+            callee: Tree::from_node(callee),
+            args: Trees::from_optional(args),
+        }
+    }
+
+    fn into_node(self, alloc: Global) -> Result<Node, AllocError>
+        ensures { IfOk result (λ closed. (closed ≡ new_expr_node self) × Fits closed (One (Of class.NewExpr))) }
+    {
+        let NewExpr { span, callee, args } = self;
+        let fields = collect(
+            alloc,
+            [
+                from_span(span),
+                callee.into_node(),
+                Trees::into_optional(args),
+            ],
+        )?;
+        Ok(Tree::<class::NewExpr>::from_fields(Kind::NewExpr, fields).into_node())
+    }
+}

@@ -1,0 +1,51 @@
+//! Printed by tools/print_table.py from tools/tree.txt.
+ghost use Rattle.std.specs.Prelude.{◌≡◌, IfOk};
+ghost use Rattle.swc_tree_node.specs.declared.kind.Class.TheVariants as class;
+ghost use Rattle.swc_tree_node.specs.declared.slot.Slot.TheVariants.{One};
+ghost use Rattle.swc_tree_node.specs.declared.slot.Content.TheVariants.{Node as Of};
+ghost use Rattle.swc_tree_node.specs.Fits.{Fits};
+ghost use Rattle.swc_tree_operations.specs.Nodes.{opt_call_node};
+
+use std::alloc::{AllocError, Global};
+use swc_tree_handle::{Opened, Tree, Trees, class, collect, from_span, to_span};
+use swc_tree_marks::Span;
+use swc_tree_node::{Kind, Node};
+
+/// A call in an optional chain (ECMA-262, OptionalChain).
+#[derive(Debug, Drop)]
+pub struct OptCall {
+    pub span: Span,
+    pub callee: Tree<class::Expr>,
+    pub args: Trees<class::ExprOrSpread>,
+}
+
+impl Opened<class::OptCall> for OptCall {
+    ghost class = { class.OptCall };
+
+    ghost node = { opt_call_node };
+
+    #[tactic(auto, using(swc_tree_node::proofs::Fit::lengths))]
+    fn from_node(closed: Node) -> OptCall
+        requires { Fits closed (One (Of class.OptCall)) }
+        ensures { opt_call_node result ≡ closed }
+    {
+        let fields = Tree::<class::OptCall>::from_node(closed).into_fields(Kind::OptCall);
+        let [span, callee, args] = fields.into_array::<3>();
+        OptCall {
+            span: to_span(span),
+            callee: Tree::from_node(callee),
+            args: Trees::from_node(args),
+        }
+    }
+
+    fn into_node(self, alloc: Global) -> Result<Node, AllocError>
+        ensures { IfOk result (λ closed. (closed ≡ opt_call_node self) × Fits closed (One (Of class.OptCall))) }
+    {
+        let OptCall { span, callee, args } = self;
+        let fields = collect(
+            alloc,
+            [from_span(span), callee.into_node(), args.into_node()],
+        )?;
+        Ok(Tree::<class::OptCall>::from_fields(Kind::OptCall, fields).into_node())
+    }
+}

@@ -1,0 +1,55 @@
+//! Printed by tools/print_table.py from tools/tree.txt.
+ghost use Rattle.std.specs.Prelude.{◌≡◌, IfOk};
+ghost use Rattle.swc_tree_node.specs.declared.kind.Class.TheVariants as class;
+ghost use Rattle.swc_tree_node.specs.declared.slot.Slot.TheVariants.{One};
+ghost use Rattle.swc_tree_node.specs.declared.slot.Content.TheVariants.{Node as Of};
+ghost use Rattle.swc_tree_node.specs.Fits.{Fits};
+ghost use Rattle.swc_tree_operations.specs.Nodes.{opt_chain_expr_node};
+
+use std::alloc::{AllocError, Global};
+use swc_tree_handle::{Opened, Tree, class, collect, from_flag, from_span, to_flag, to_span};
+use swc_tree_marks::Span;
+use swc_tree_node::{Kind, Node};
+
+/// A part of an optional chain; whether it begins with `?.` (ECMA-262, OptionalExpression).
+#[derive(Debug, Drop)]
+pub struct OptChainExpr {
+    pub span: Span,
+    pub optional: bool,
+    pub base: Tree<class::OptChainBase>,
+}
+
+impl Opened<class::OptChainExpr> for OptChainExpr {
+    ghost class = { class.OptChainExpr };
+
+    ghost node = { opt_chain_expr_node };
+
+    #[tactic(auto, using(swc_tree_node::proofs::Fit::lengths))]
+    fn from_node(closed: Node) -> OptChainExpr
+        requires { Fits closed (One (Of class.OptChainExpr)) }
+        ensures { opt_chain_expr_node result ≡ closed }
+    {
+        let fields = Tree::<class::OptChainExpr>::from_node(closed).into_fields(Kind::OptChainExpr);
+        let [span, optional, base] = fields.into_array::<3>();
+        OptChainExpr {
+            span: to_span(span),
+            optional: to_flag(optional),
+            base: Tree::from_node(base),
+        }
+    }
+
+    fn into_node(self, alloc: Global) -> Result<Node, AllocError>
+        ensures { IfOk result (λ closed. (closed ≡ opt_chain_expr_node self) × Fits closed (One (Of class.OptChainExpr))) }
+    {
+        let OptChainExpr {
+            span,
+            optional,
+            base,
+        } = self;
+        let fields = collect(
+            alloc,
+            [from_span(span), from_flag(optional), base.into_node()],
+        )?;
+        Ok(Tree::<class::OptChainExpr>::from_fields(Kind::OptChainExpr, fields).into_node())
+    }
+}

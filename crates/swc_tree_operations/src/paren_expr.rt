@@ -1,0 +1,46 @@
+//! Printed by tools/print_table.py from tools/tree.txt.
+ghost use Rattle.std.specs.Prelude.{◌≡◌, IfOk};
+ghost use Rattle.swc_tree_node.specs.declared.kind.Class.TheVariants as class;
+ghost use Rattle.swc_tree_node.specs.declared.slot.Slot.TheVariants.{One};
+ghost use Rattle.swc_tree_node.specs.declared.slot.Content.TheVariants.{Node as Of};
+ghost use Rattle.swc_tree_node.specs.Fits.{Fits};
+ghost use Rattle.swc_tree_operations.specs.Nodes.{paren_expr_node};
+
+use std::alloc::{AllocError, Global};
+use swc_tree_handle::{Opened, Tree, class, collect, from_span, to_span};
+use swc_tree_marks::Span;
+use swc_tree_node::{Kind, Node};
+
+/// An expression in parentheses (ECMA-262, ParenthesizedExpression).
+#[derive(Debug, Drop)]
+pub struct ParenExpr {
+    pub span: Span,
+    pub expr: Tree<class::Expr>,
+}
+
+impl Opened<class::ParenExpr> for ParenExpr {
+    ghost class = { class.ParenExpr };
+
+    ghost node = { paren_expr_node };
+
+    #[tactic(auto, using(swc_tree_node::proofs::Fit::lengths))]
+    fn from_node(closed: Node) -> ParenExpr
+        requires { Fits closed (One (Of class.ParenExpr)) }
+        ensures { paren_expr_node result ≡ closed }
+    {
+        let fields = Tree::<class::ParenExpr>::from_node(closed).into_fields(Kind::ParenExpr);
+        let [span, expr] = fields.into_array::<2>();
+        ParenExpr {
+            span: to_span(span),
+            expr: Tree::from_node(expr),
+        }
+    }
+
+    fn into_node(self, alloc: Global) -> Result<Node, AllocError>
+        ensures { IfOk result (λ closed. (closed ≡ paren_expr_node self) × Fits closed (One (Of class.ParenExpr))) }
+    {
+        let ParenExpr { span, expr } = self;
+        let fields = collect(alloc, [from_span(span), expr.into_node()])?;
+        Ok(Tree::<class::ParenExpr>::from_fields(Kind::ParenExpr, fields).into_node())
+    }
+}

@@ -1,0 +1,46 @@
+//! Printed by tools/print_table.py from tools/tree.txt.
+ghost use Rattle.std.specs.Prelude.{◌≡◌, IfOk};
+ghost use Rattle.swc_tree_node.specs.declared.kind.Class.TheVariants as class;
+ghost use Rattle.swc_tree_node.specs.declared.slot.Slot.TheVariants.{One};
+ghost use Rattle.swc_tree_node.specs.declared.slot.Content.TheVariants.{Node as Of};
+ghost use Rattle.swc_tree_node.specs.Fits.{Fits};
+ghost use Rattle.swc_tree_operations.specs.Nodes.{seq_expr_node};
+
+use std::alloc::{AllocError, Global};
+use swc_tree_handle::{Opened, Tree, Trees, class, collect, from_span, to_span};
+use swc_tree_marks::Span;
+use swc_tree_node::{Kind, Node};
+
+/// Expressions one after another (ECMA-262, Expression).
+#[derive(Debug, Drop)]
+pub struct SeqExpr {
+    pub span: Span,
+    pub exprs: Trees<class::Expr>,
+}
+
+impl Opened<class::SeqExpr> for SeqExpr {
+    ghost class = { class.SeqExpr };
+
+    ghost node = { seq_expr_node };
+
+    #[tactic(auto, using(swc_tree_node::proofs::Fit::lengths))]
+    fn from_node(closed: Node) -> SeqExpr
+        requires { Fits closed (One (Of class.SeqExpr)) }
+        ensures { seq_expr_node result ≡ closed }
+    {
+        let fields = Tree::<class::SeqExpr>::from_node(closed).into_fields(Kind::SeqExpr);
+        let [span, exprs] = fields.into_array::<2>();
+        SeqExpr {
+            span: to_span(span),
+            exprs: Trees::from_node(exprs),
+        }
+    }
+
+    fn into_node(self, alloc: Global) -> Result<Node, AllocError>
+        ensures { IfOk result (λ closed. (closed ≡ seq_expr_node self) × Fits closed (One (Of class.SeqExpr))) }
+    {
+        let SeqExpr { span, exprs } = self;
+        let fields = collect(alloc, [from_span(span), exprs.into_node()])?;
+        Ok(Tree::<class::SeqExpr>::from_fields(Kind::SeqExpr, fields).into_node())
+    }
+}

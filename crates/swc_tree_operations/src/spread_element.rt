@@ -1,0 +1,48 @@
+//! Printed by tools/print_table.py from tools/tree.txt.
+ghost use Rattle.std.specs.Prelude.{◌≡◌, IfOk};
+ghost use Rattle.swc_tree_node.specs.declared.kind.Class.TheVariants as class;
+ghost use Rattle.swc_tree_node.specs.declared.slot.Slot.TheVariants.{One};
+ghost use Rattle.swc_tree_node.specs.declared.slot.Content.TheVariants.{Node as Of};
+ghost use Rattle.swc_tree_node.specs.Fits.{Fits};
+ghost use Rattle.swc_tree_operations.specs.Nodes.{spread_element_node};
+
+use std::alloc::{AllocError, Global};
+use swc_tree_handle::{Opened, Tree, class, collect, from_span, to_span};
+use swc_tree_marks::Span;
+use swc_tree_node::{Kind, Node};
+
+/// The properties of another object (ECMA-262, PropertyDefinition).
+#[derive(Debug, Drop)]
+pub struct SpreadElement {
+    pub dot3_token: Span,
+    pub expr: Tree<class::Expr>,
+}
+
+impl Opened<class::SpreadElement> for SpreadElement {
+    ghost class = { class.SpreadElement };
+
+    ghost node = { spread_element_node };
+
+    #[tactic(auto, using(swc_tree_node::proofs::Fit::lengths))]
+    fn from_node(closed: Node) -> SpreadElement
+        requires { Fits closed (One (Of class.SpreadElement)) }
+        ensures { spread_element_node result ≡ closed }
+    {
+        let fields = Tree::<class::SpreadElement>::from_node(closed).into_fields(
+            Kind::SpreadElement,
+        );
+        let [dot3_token, expr] = fields.into_array::<2>();
+        SpreadElement {
+            dot3_token: to_span(dot3_token),
+            expr: Tree::from_node(expr),
+        }
+    }
+
+    fn into_node(self, alloc: Global) -> Result<Node, AllocError>
+        ensures { IfOk result (λ closed. (closed ≡ spread_element_node self) × Fits closed (One (Of class.SpreadElement))) }
+    {
+        let SpreadElement { dot3_token, expr } = self;
+        let fields = collect(alloc, [from_span(dot3_token), expr.into_node()])?;
+        Ok(Tree::<class::SpreadElement>::from_fields(Kind::SpreadElement, fields).into_node())
+    }
+}

@@ -1,0 +1,48 @@
+//! Printed by tools/print_table.py from tools/tree.txt.
+ghost use Rattle.std.specs.Prelude.{◌≡◌, IfOk};
+ghost use Rattle.swc_tree_node.specs.declared.kind.Class.TheVariants as class;
+ghost use Rattle.swc_tree_node.specs.declared.slot.Slot.TheVariants.{One};
+ghost use Rattle.swc_tree_node.specs.declared.slot.Content.TheVariants.{Node as Of};
+ghost use Rattle.swc_tree_node.specs.Fits.{Fits};
+ghost use Rattle.swc_tree_operations.specs.Nodes.{tagged_tpl_node};
+
+use std::alloc::{AllocError, Global};
+use swc_tree_handle::{Opened, Tree, class, collect, from_span, to_span};
+use swc_tree_marks::Span;
+use swc_tree_node::{Kind, Node};
+
+/// A template with a tag (ECMA-262, MemberExpression).
+#[derive(Debug, Drop)]
+pub struct TaggedTpl {
+    pub span: Span,
+    pub tag: Tree<class::Expr>,
+    pub tpl: Tree<class::Tpl>,
+}
+
+impl Opened<class::TaggedTpl> for TaggedTpl {
+    ghost class = { class.TaggedTpl };
+
+    ghost node = { tagged_tpl_node };
+
+    #[tactic(auto, using(swc_tree_node::proofs::Fit::lengths))]
+    fn from_node(closed: Node) -> TaggedTpl
+        requires { Fits closed (One (Of class.TaggedTpl)) }
+        ensures { tagged_tpl_node result ≡ closed }
+    {
+        let fields = Tree::<class::TaggedTpl>::from_node(closed).into_fields(Kind::TaggedTpl);
+        let [span, tag, tpl] = fields.into_array::<3>();
+        TaggedTpl {
+            span: to_span(span),
+            tag: Tree::from_node(tag),
+            tpl: Tree::from_node(tpl),
+        }
+    }
+
+    fn into_node(self, alloc: Global) -> Result<Node, AllocError>
+        ensures { IfOk result (λ closed. (closed ≡ tagged_tpl_node self) × Fits closed (One (Of class.TaggedTpl))) }
+    {
+        let TaggedTpl { span, tag, tpl } = self;
+        let fields = collect(alloc, [from_span(span), tag.into_node(), tpl.into_node()])?;
+        Ok(Tree::<class::TaggedTpl>::from_fields(Kind::TaggedTpl, fields).into_node())
+    }
+}

@@ -1,0 +1,55 @@
+//! Printed by tools/print_table.py from tools/tree.txt.
+ghost use Rattle.std.specs.Prelude.{◌≡◌, IfOk};
+ghost use Rattle.swc_tree_node.specs.declared.kind.Class.TheVariants as class;
+ghost use Rattle.swc_tree_node.specs.declared.slot.Slot.TheVariants.{One};
+ghost use Rattle.swc_tree_node.specs.declared.slot.Content.TheVariants.{Node as Of};
+ghost use Rattle.swc_tree_node.specs.Fits.{Fits};
+ghost use Rattle.swc_tree_operations.specs.Nodes.{tpl_node};
+
+use std::alloc::{AllocError, Global};
+use swc_tree_handle::{Opened, Tree, Trees, class, collect, from_span, to_span};
+use swc_tree_marks::Span;
+use swc_tree_node::{Kind, Node};
+
+/// A template: its expressions, and the texts round them (ECMA-262, TemplateLiteral).
+#[derive(Debug, Drop)]
+pub struct Tpl {
+    pub span: Span,
+    pub exprs: Trees<class::Expr>,
+    pub quasis: Trees<class::TplElement>,
+}
+
+impl Opened<class::Tpl> for Tpl {
+    ghost class = { class.Tpl };
+
+    ghost node = { tpl_node };
+
+    #[tactic(auto, using(swc_tree_node::proofs::Fit::lengths))]
+    fn from_node(closed: Node) -> Tpl
+        requires { Fits closed (One (Of class.Tpl)) }
+        ensures { tpl_node result ≡ closed }
+    {
+        let fields = Tree::<class::Tpl>::from_node(closed).into_fields(Kind::Tpl);
+        let [span, exprs, quasis] = fields.into_array::<3>();
+        Tpl {
+            span: to_span(span),
+            exprs: Trees::from_node(exprs),
+            quasis: Trees::from_node(quasis),
+        }
+    }
+
+    fn into_node(self, alloc: Global) -> Result<Node, AllocError>
+        ensures { IfOk result (λ closed. (closed ≡ tpl_node self) × Fits closed (One (Of class.Tpl))) }
+    {
+        let Tpl {
+            span,
+            exprs,
+            quasis,
+        } = self;
+        let fields = collect(
+            alloc,
+            [from_span(span), exprs.into_node(), quasis.into_node()],
+        )?;
+        Ok(Tree::<class::Tpl>::from_fields(Kind::Tpl, fields).into_node())
+    }
+}

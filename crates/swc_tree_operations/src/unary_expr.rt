@@ -1,0 +1,49 @@
+//! Printed by tools/print_table.py from tools/tree.txt.
+ghost use Rattle.std.specs.Prelude.{◌≡◌, IfOk};
+ghost use Rattle.swc_tree_node.specs.declared.kind.Class.TheVariants as class;
+ghost use Rattle.swc_tree_node.specs.declared.slot.Slot.TheVariants.{One};
+ghost use Rattle.swc_tree_node.specs.declared.slot.Content.TheVariants.{Node as Of};
+ghost use Rattle.swc_tree_node.specs.Fits.{Fits};
+ghost use Rattle.swc_tree_operations.specs.Nodes.{unary_expr_node};
+
+use crate::unary_op::UnaryOp;
+use std::alloc::{AllocError, Global};
+use swc_tree_handle::{Opened, Tree, class, collect, from_span, to_span};
+use swc_tree_marks::Span;
+use swc_tree_node::{Kind, Node};
+
+/// An operator before its operand (ECMA-262, UnaryExpression).
+#[derive(Debug, Drop)]
+pub struct UnaryExpr {
+    pub span: Span,
+    pub op: UnaryOp,
+    pub arg: Tree<class::Expr>,
+}
+
+impl Opened<class::UnaryExpr> for UnaryExpr {
+    ghost class = { class.UnaryExpr };
+
+    ghost node = { unary_expr_node };
+
+    #[tactic(auto, using(swc_tree_node::proofs::Fit::lengths))]
+    fn from_node(closed: Node) -> UnaryExpr
+        requires { Fits closed (One (Of class.UnaryExpr)) }
+        ensures { unary_expr_node result ≡ closed }
+    {
+        let fields = Tree::<class::UnaryExpr>::from_node(closed).into_fields(Kind::UnaryExpr);
+        let [span, op, arg] = fields.into_array::<3>();
+        UnaryExpr {
+            span: to_span(span),
+            op: UnaryOp::from_node(op),
+            arg: Tree::from_node(arg),
+        }
+    }
+
+    fn into_node(self, alloc: Global) -> Result<Node, AllocError>
+        ensures { IfOk result (λ closed. (closed ≡ unary_expr_node self) × Fits closed (One (Of class.UnaryExpr))) }
+    {
+        let UnaryExpr { span, op, arg } = self;
+        let fields = collect(alloc, [from_span(span), op.into_node(), arg.into_node()])?;
+        Ok(Tree::<class::UnaryExpr>::from_fields(Kind::UnaryExpr, fields).into_node())
+    }
+}

@@ -1,0 +1,64 @@
+//! Printed by tools/print_table.py from tools/tree.txt.
+ghost use Rattle.std.specs.Prelude.{◌≡◌, IfOk};
+ghost use Rattle.swc_tree_node.specs.declared.kind.Class.TheVariants as class;
+ghost use Rattle.swc_tree_node.specs.declared.slot.Slot.TheVariants.{One};
+ghost use Rattle.swc_tree_node.specs.declared.slot.Content.TheVariants.{Node as Of};
+ghost use Rattle.swc_tree_node.specs.Fits.{Fits};
+ghost use Rattle.swc_tree_operations.specs.Nodes.{update_expr_node};
+
+use crate::update_op::UpdateOp;
+use std::alloc::{AllocError, Global};
+use swc_tree_handle::{Opened, Tree, class, collect, from_flag, from_span, to_flag, to_span};
+use swc_tree_marks::Span;
+use swc_tree_node::{Kind, Node};
+
+/// An increment or decrement, before its operand or after it (ECMA-262, UpdateExpression).
+#[derive(Debug, Drop)]
+pub struct UpdateExpr {
+    pub span: Span,
+    pub op: UpdateOp,
+    pub prefix: bool,
+    pub arg: Tree<class::Expr>,
+}
+
+impl Opened<class::UpdateExpr> for UpdateExpr {
+    ghost class = { class.UpdateExpr };
+
+    ghost node = { update_expr_node };
+
+    #[tactic(auto, using(swc_tree_node::proofs::Fit::lengths))]
+    fn from_node(closed: Node) -> UpdateExpr
+        requires { Fits closed (One (Of class.UpdateExpr)) }
+        ensures { update_expr_node result ≡ closed }
+    {
+        let fields = Tree::<class::UpdateExpr>::from_node(closed).into_fields(Kind::UpdateExpr);
+        let [span, op, prefix, arg] = fields.into_array::<4>();
+        UpdateExpr {
+            span: to_span(span),
+            op: UpdateOp::from_node(op),
+            prefix: to_flag(prefix),
+            arg: Tree::from_node(arg),
+        }
+    }
+
+    fn into_node(self, alloc: Global) -> Result<Node, AllocError>
+        ensures { IfOk result (λ closed. (closed ≡ update_expr_node self) × Fits closed (One (Of class.UpdateExpr))) }
+    {
+        let UpdateExpr {
+            span,
+            op,
+            prefix,
+            arg,
+        } = self;
+        let fields = collect(
+            alloc,
+            [
+                from_span(span),
+                op.into_node(),
+                from_flag(prefix),
+                arg.into_node(),
+            ],
+        )?;
+        Ok(Tree::<class::UpdateExpr>::from_fields(Kind::UpdateExpr, fields).into_node())
+    }
+}
