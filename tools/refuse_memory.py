@@ -43,11 +43,12 @@ def answers(number, file, counts):
 def main():
     number = int(sys.argv[1]) if len(sys.argv) > 1 else 4000
     file = sys.argv[2] if len(sys.argv) > 2 else os.path.join(CRATE, 'stdin')
-    coarse = answers(number, file, range(0, number, STEP))
-    refused = [count for count, answer in coarse.items() if answer == 'refused']
-    if coarse[0] != 'ample' or not refused:
+    coarse = answers(number, file, range(0, number + STEP, STEP))
+    if coarse[0] != 'ample':
         sys.exit('the run makes more requests than %d: give a greater number' % number)
-    fine = answers(number, file, range(max(min(refused) - STEP, 0), min(max(refused) + STEP, number)))
+    first = min(count for count in coarse if coarse[count] != 'ample') - STEP
+    last = max(count for count in coarse if coarse[count] != 'none') + STEP
+    fine = answers(number, file, range(first, last))
     within = range(min(c for c, a in fine.items() if a == 'refused'), max(c for c, a in fine.items() if a != 'none') + 1)
     others = [count for count in fine if fine[count] not in ('ample', 'refused', 'none')]
     others += [count for count in within if fine[count] == 'none']
