@@ -76,13 +76,8 @@ def fields_rt(tree, family):
 def table_rt(tree):
     imports = ('ghost use Rattle.std.specs.Prelude.{◌≡◌, map};\n'
                'ghost use Rattle.swc_tree_node.specs.Table.{name_of, fields_of, words_of, spelling_of, scope_of, is_identifier};\n\n'
-<<<<<<< HEAD
-               + ''.join('mod %s;\n' % module for module in sorted(['classes', 'places'] + [module_of(family) for family in tree.families])) + '\n'
+               + ''.join('mod %s;\n' % module for module in sorted(['classes', 'places'] + [module_of(family) for family in tree.tables()])) + '\n'
                'pub use classes::kinds_of;\npub use places::places_of;\n\n'
-=======
-               + ''.join('mod %s;\n' % module for module in sorted(['classes'] + [module_of(family) for family in tree.tables()])) + '\n'
-               'pub use classes::kinds_of;\n\n'
->>>>>>> 89c3350ba9d40eef08be7ebd066554cfed5ffdfc
                'use crate::kind::{Kind, Word, WordClass};\nuse crate::slot::{Field, Scope};\n')
     fields = [('Kind::' + s.name, '%s::%s' % (module_of(tree.families[s.family].table), snake(s.name).upper()))
               for s in tree.structs.values() if s.fields]
@@ -229,13 +224,8 @@ def files(tree):
     check_places(tree)
     crate = 'crates/swc_tree_node/'
     printed = {crate + 'src/kind.rt': kind_rt(tree), crate + 'src/table.rt': table_rt(tree),
-<<<<<<< HEAD
                crate + 'src/table/classes.rt': classes_rt(tree), crate + 'specs/Table.antt': table_antt(tree),
                crate + 'src/table/places.rt': places_rt(tree), crate + 'specs/Places.antt': places_antt(tree)}
-    for family in tree.families:
-=======
-               crate + 'src/table/classes.rt': classes_rt(tree), crate + 'specs/Table.antt': table_antt(tree)}
     for family in tree.tables():
->>>>>>> 89c3350ba9d40eef08be7ebd066554cfed5ffdfc
         printed[crate + 'src/table/%s.rt' % module_of(family)] = fields_rt(tree, family)
     return printed

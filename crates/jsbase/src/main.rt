@@ -2,6 +2,14 @@
 //! standard output or one line on standard error.
 #![tactic(auto)]
 
+ghost use Rattle.std.specs.Prelude.{◌≡◌, ◌≢◌, ◌⊎◌, IfErr, codes};
+ghost use Rattle.std.specs.IoError.{error_kind};
+ghost use Rattle.std.specs.declared.io.ErrorKind.TheVariants as kind;
+ghost use Rattle.swc_tree_marks.specs.declared.error.PassError.TheVariants as refusal;
+ghost use Rattle.jsbase_engine.specs.declared.fault.Fault.TheVariants as fault;
+ghost use Rattle.jsbase.specs.declared.Failure.TheVariants as failure;
+ghost use Rattle.jsbase.specs.Failures.{IsOutside};
+
 use jsbase_engine::{Fault, report, run, words};
 use std::io::{Read, Write};
 use std::process::ExitCode;
@@ -16,13 +24,18 @@ enum Failure {
 }
 
 impl From<Fault> for Failure {
+    ghost from_gives = { λ why e. e ≡ failure.Fault why };
+
     fn from(fault: Fault) -> Failure {
         Failure::Fault(fault)
     }
 }
 
 // A want of memory is a refusal; else what the arguments are is not known, and they count as wrong.
-fn unknown(error: &io::Error) -> Fault {
+fn unknown(error: &io::Error) -> Fault
+    ensures memory { error_kind error.now ≡ kind.OutOfMemory → result ≡ fault.Refused refusal.NoMemory }
+    ensures other { error_kind error.now ≢ kind.OutOfMemory → result ≡ fault.Usage }
+{
     if error.kind() == io::ErrorKind::OutOfMemory {
         return Fault::Refused(PassError::NoMemory);
     }
@@ -30,7 +43,9 @@ fn unknown(error: &io::Error) -> Fault {
 }
 
 // What comes after the program's name.
-fn arguments(rt: &HostRuntime) -> Result<Vec<String>, Fault> {
+fn arguments(rt: &HostRuntime) -> Result<Vec<String>, Fault>
+    ensures { IfErr result (λ why. (why ≡ fault.Usage) ⊎ (why ≡ fault.Refused refusal.NoMemory)) }
+{
     let all = match env::args(rt) {
         Ok(all) => all,
         Err(error) => return Err(unknown(&error)),
@@ -45,7 +60,10 @@ fn arguments(rt: &HostRuntime) -> Result<Vec<String>, Fault> {
 }
 
 // A want of memory while the input is read is a refusal like any other.
-fn unread(error: &io::Error) -> Failure {
+fn unread(error: &io::Error) -> Failure
+    ensures memory { error_kind error.now ≡ kind.OutOfMemory → result ≡ failure.Fault (fault.Refused refusal.NoMemory) }
+    ensures other { error_kind error.now ≢ kind.OutOfMemory → IsOutside (codes "read failed") result }
+{
     if error.kind() == io::ErrorKind::OutOfMemory {
         return Failure::Fault(Fault::Refused(PassError::NoMemory));
     }

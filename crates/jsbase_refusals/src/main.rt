@@ -1,0 +1,78 @@
+//! Runs `jsbase resolve module` once, after so many requests for memory: whoever refuses the n-th request of this
+//! program, for one n and each number of requests before, so refuses each request of the run in turn
+//! (`tools/refuse_memory.py` does).
+//!
+//! Standard input is three lines: how many requests are made first, an input, and what the run is to write with ample
+//! memory, to standard output or as a fault. Says which of the answers that are allowed it got.
+#![tactic(auto)]
+
+use anyhow::{Result, bail};
+use jsbase_engine::{Command, Fault, Kind, report, run};
+use std::alloc::{AllocError, Global};
+use std::fmt;
+use swc_tree_marks::PassError;
+
+/// What a run answered.
+#[derive(Clone, Copy)]
+enum Answer {
+    /// What it writes with ample memory.
+    Ample,
+    /// That memory was refused.
+    Refused,
+    Other,
+}
+
+impl fmt::Display for Answer {
+    fn fmt<W: fmt::Write>(&self, f: &mut fmt::Formatter<W>) -> fmt::Result {
+        f.write_str(match self {
+            Answer::Ample => "ample",
+            Answer::Refused => "refused",
+            Answer::Other => "other",
+        })
+    }
+}
+
+/// So many pieces of memory, each by a request of its own.
+fn pieces(alloc: Global, count: usize) -> Result<Vec<Box<u8>>, AllocError> {
+    let mut pieces = Vec::with_capacity(alloc, count)?;
+    for _ in 0..count {
+        pieces.push(Box::new(alloc, 0)?)?;
+    }
+    Ok(pieces)
+}
+
+/// What the run answers on an input. `line` has room for what is to be written, so that no request of its own is
+/// counted among those of the run.
+fn answered(alloc: Global, input: &str, expected: &str, mut line: Vec<u8>) -> Answer {
+    let written = match run(alloc, Command::Resolve, Kind::Module, input.as_bytes()) {
+        Ok(output) => output,
+        Err(Fault::Refused(PassError::NoMemory)) => return Answer::Refused,
+        Err(fault) => {
+            let _status = report(&fault, &mut line);
+            line
+        }
+    };
+    if written.as_slice().strip_suffix(b"\n") == Some(expected.as_bytes()) {
+        Answer::Ample
+    } else {
+        Answer::Other
+    }
+}
+
+fn main(rt: HostRuntime) -> Result<()> {
+    let alloc = rt.alloc();
+    let mut lines = rt.lines(alloc);
+    let (Some(count), Some(input), Some(expected)) = (lines.next(), lines.next(), lines.next())
+    else {
+        bail!("three lines are needed");
+    };
+    let (count, input, expected) = (count?, input?, expected?);
+    let line = Vec::with_capacity(alloc, expected.len().saturating_add(1))?;
+    let _pieces = pieces(alloc, count.parse()?)?;
+    let got = answered(alloc, input.as_str(), expected.as_str(), line);
+    println!(rt; "{got}")?;
+    if let Answer::Other = got {
+        bail!("the answer is neither the ample one nor a refusal");
+    }
+    Ok(())
+}
