@@ -1,0 +1,86 @@
+#!/usr/bin/env python3
+"""real_files.py JS2TREE JSBASE JSON_ALONE FILE..: jsbase on the trees of real JavaScript, as a table in Markdown.
+
+JS2TREE is a folder with estree2swc.mjs (JavaScript to an envelope) and swc2js.mjs (an envelope to JavaScript), run by
+node; JSBASE and JSON_ALONE are the built programs of those crates. Each file is converted, its tree resolved, and what
+comes out printed and parsed again: it must be the tree that went in, but for contexts and spans. Beside time and memory
+stand those of parsing and printing the same JSON alone."""
+import json
+import os
+import resource
+import subprocess
+import sys
+import tempfile
+import time
+
+
+def converted(js2tree, file, out):
+    """The kind of a file's program, whose envelope it writes."""
+    for kind in ('script', 'module'):
+        with open(out, 'w', encoding='utf-8') as target:
+            done = subprocess.run(['node', '--max-old-space-size=8000', os.path.join(js2tree, 'estree2swc.mjs'), '--' + kind, file],
+                                  stdout=target, stderr=subprocess.DEVNULL, check=False)
+        if done.returncode == 0:
+            return kind
+    return None
+
+
+def measured(command, source, target):
+    """The status, the seconds and the megabytes of a run."""
+    start = time.monotonic()
+    with open(source, 'rb') as stdin, open(target, 'wb') as stdout:
+        child = subprocess.Popen(command, stdin=stdin, stdout=stdout, stderr=subprocess.DEVNULL)
+        _, status, usage = os.wait4(child.pid, 0)
+    return os.waitstatus_to_exitcode(status), time.monotonic() - start, usage.ru_maxrss / 1000
+
+
+def bare(node):
+    """A tree without spans and contexts."""
+    stack = [node]
+    while stack:
+        top = stack.pop()
+        if isinstance(top, dict):
+            for key in ('span', 'ctxt', 'raw', 'dot3_token'):
+                top.pop(key, None)
+            if isinstance(top.get('spread'), list):
+                top['spread'] = 'here'
+        stack.extend(top.values() if isinstance(top, dict) else top if isinstance(top, list) else [])
+    return node
+
+
+def tree_of(path):
+    with open(path, encoding='utf-8') as file:
+        return bare(json.load(file)['tree'])
+
+
+def row(js2tree, jsbase, json_alone, file, folder):
+    source, answer, alone, printed, again = (os.path.join(folder, name) for name in ('in', 'out', 'alone', 'out.js', 'again'))
+    kind = converted(js2tree, file, source)
+    if not kind:
+        return '| %s | not converted |' % os.path.basename(file)
+    status, seconds, size = measured([jsbase, 'resolve', kind], source, answer)
+    bare_status, bare_seconds, _ = measured([jsbase, 'unparen', kind], source, alone)
+    _, alone_seconds, alone_size = measured([json_alone], source, alone)
+    same = status == 0 and tree_of(source) == tree_of(answer)
+    with open(printed, 'w', encoding='utf-8') as target:
+        subprocess.run(['node', '--max-old-space-size=8000', os.path.join(js2tree, 'swc2js.mjs'), answer], stdout=target, check=False)
+    again_kind = converted(js2tree, printed, again)
+    back = again_kind is not None and tree_of(answer) == tree_of(again)
+    return '| %s | %s | %.1f | %.1f | %s | %s | %.2f | %d | %.2f | %.2f | %d |' % (
+        os.path.basename(file), kind, os.path.getsize(file) / 1e6, os.path.getsize(source) / 1e6,
+        'yes' if same else 'NO (%d)' % status, 'yes' if back else 'NO', seconds, size,
+        bare_seconds if bare_status == 0 else -1, alone_seconds, alone_size)
+
+
+def main():
+    js2tree, jsbase, json_alone, *files = sys.argv[1:]
+    resource.setrlimit(resource.RLIMIT_STACK, (1 << 30, resource.getrlimit(resource.RLIMIT_STACK)[1]))
+    print('| file | kind | source, MB | envelope, MB | tree kept | parses back | resolve, s | resolve, MB | unparen, s | JSON alone, s | JSON alone, MB |')
+    print('|---|---|---|---|---|---|---|---|---|---|---|')
+    with tempfile.TemporaryDirectory() as folder:
+        for file in files:
+            print(row(js2tree, jsbase, json_alone, file, folder), flush=True)
+
+
+if __name__ == '__main__':
+    main()
