@@ -505,13 +505,11 @@ fn fields_of_tree(alloc: Global, class: Class, tree: &str) -> Result<Items<Node>
     let text = format!(in alloc;
         "{{\"marks\":[[1,0],[2,1]],\"unresolved\":1,\"top\":2,\"tree\":{tree}}}"
     )?;
-    match read_bytes(alloc, class, text.as_bytes()) {
-        Ok(
-            Envelope {
-                tree: Node::Tree(_, fields),
-                ..
-            },
-        ) => Ok(fields),
+    let Ok(Envelope { tree, .. }) = read_bytes(alloc, class, text.as_bytes()) else {
+        return Ok(Items::from_vec(Vec::new(alloc)));
+    };
+    match tree {
+        Node::Tree(_, fields) => Ok(fields),
         _ => Ok(Items::from_vec(Vec::new(alloc))),
     }
 }
