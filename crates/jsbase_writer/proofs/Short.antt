@@ -1,13 +1,10 @@
 -- Numbers of 32 bits in nodes that are written one after another.
-use Rattle.std.proofs.Common.{◌≡◌, List, [], ◌∷◌, Bool, true, false, ◌&&◌, IsTrue, length, map, refl, sym, subst, arith}
+use Rattle.std.proofs.Common.{◌≡◌, List, [], ◌∷◌, IsTrue, length, map, refl, sym, subst, arith}
 use Rattle.swc_tree_node.specs.declared.slot.Field.{Field}
 use Rattle.swc_tree_node.specs.declared.node.Node.{Node}
+use Rattle.swc_tree_node.proofs.Fit.{and_both}
 use Rattle.jsbase_form.specs.Known.{NumbersShort, numbers_short, all_keyed}
 use Rattle.jsbase_writer.proofs.Written.{row}
-
-and_both : (a b : Bool) → IsTrue a → IsTrue b → IsTrue (a && b)
-and_both true b h g = g
-and_both false b h g = h
 
 pub field_short : (fs later : List Field) (f : Field) (ts rest : List Node) (t : Node) → fs ≡ f ∷ later → ts ≡ t ∷ rest → NumbersShort t → IsTrue (all_keyed (map row later) (map numbers_short rest))
     → IsTrue (all_keyed (map row fs) (map numbers_short ts))

@@ -1,9 +1,10 @@
 use crate::{write, write_envelope};
+use jsbase_reader::{Envelope, read_bytes};
 use std::alloc::{AllocError, Global};
 use std::test::Fail;
 use swc_tree_items::{Boxed, Items, Text};
 use swc_tree_marks::{Globals, Ident, Mark, Span, SyntaxContext};
-use swc_tree_node::{Kind, Node, Word};
+use swc_tree_node::{Class, Kind, Node, Word};
 
 fn span(lo: u32, hi: u32) -> Node {
     Node::Span(Span { lo, hi })
@@ -121,5 +122,28 @@ fn writes_an_envelope(rt: HostRuntime) -> Result<(), Fail> {
     let want =
         "{\"marks\":[[1,0],[2,1]],\"top\":2,\"tree\":{\"body\":[{\"expr\":{\"left\":{\"ctxt\":[2],\"span\":[5,6],\"sym\":\"a\",\"type\":\"Ident\"},\"op\":\"+\",\"right\":{\"raw\":null,\"span\":[7,8],\"type\":\"Str\",\"value\":\"x\\\"\"},\"span\":[5,8],\"type\":\"BinExpr\"},\"span\":[5,9],\"type\":\"ExprStmt\"}],\"shebang\":null,\"span\":[3,9],\"type\":\"Module\"},\"unresolved\":1}\n";
     assert_eq!(rt; text.as_str(), want);
+    Ok(())
+}
+
+#[test]
+fn written_envelopes_read_back(rt: HostRuntime) -> Result<(), Fail> {
+    let alloc = rt.alloc();
+    let globals = Globals::from_table(alloc, &[(1, 0), (2, 1)])?;
+    let tree = module(alloc)?;
+    let text = write_envelope(alloc, &globals, Mark::from_u32(2), tree, Mark::from_u32(1))?;
+    let Ok(
+        Envelope {
+            globals,
+            unresolved,
+            top,
+            tree,
+            ..
+        },
+    ) = read_bytes(alloc, Class::Module, text.as_bytes())
+    else {
+        panic!(rt; "the envelope was not read");
+    };
+    let again = write_envelope(alloc, &globals, top, tree, unresolved)?;
+    assert_eq!(rt; again.as_str(), text.as_str());
     Ok(())
 }
