@@ -3,15 +3,19 @@
 
 JS2TREE is a folder with estree2swc.mjs (JavaScript to an envelope) and swc2js.mjs (an envelope to JavaScript), run by
 node; JSBASE and JSON_ALONE are the built programs of those crates. Each file is converted, its tree resolved, and what
-comes out printed and parsed again: it must be the tree that went in, but for contexts and spans. Beside time and memory
-stand those of parsing and printing the same JSON alone."""
+comes out printed and parsed again: it must be the tree that went in, but for contexts and spans. Parentheses are taken
+off too, and none may be left. A time is processor time, the least of some runs; beside it stands that of parsing and
+printing the same JSON alone."""
 import json
 import os
+import re
 import resource
 import subprocess
 import sys
 import tempfile
-import time
+
+PAIR = re.compile(rb'"type":\s*"ParenExpr"')
+RUNS = 3
 
 
 def converted(js2tree, file, out):
@@ -26,12 +30,22 @@ def converted(js2tree, file, out):
 
 
 def measured(command, source, target):
-    """The status, the seconds and the megabytes of a run."""
-    start = time.monotonic()
-    with open(source, 'rb') as stdin, open(target, 'wb') as stdout:
-        child = subprocess.Popen(command, stdin=stdin, stdout=stdout, stderr=subprocess.DEVNULL)
-        _, status, usage = os.wait4(child.pid, 0)
-    return os.waitstatus_to_exitcode(status), time.monotonic() - start, usage.ru_maxrss / 1000
+    """The status, the least processor time in seconds and the most memory in megabytes of some runs."""
+    least, most, status = None, 0, 0
+    for _ in range(RUNS):
+        with open(source, 'rb') as stdin, open(target, 'wb') as stdout:
+            child = subprocess.Popen(command, stdin=stdin, stdout=stdout, stderr=subprocess.DEVNULL)
+            _, ended, usage = os.wait4(child.pid, 0)
+        child.returncode = os.waitstatus_to_exitcode(ended)
+        took = usage.ru_utime + usage.ru_stime
+        least = took if least is None else min(least, took)
+        most, status = max(most, usage.ru_maxrss / 1000), status or child.returncode
+    return status, least, most
+
+
+def has_pairs(path):
+    with open(path, 'rb') as file:
+        return PAIR.search(file.read()) is not None
 
 
 def bare(node):
@@ -59,24 +73,27 @@ def row(js2tree, jsbase, json_alone, file, folder):
     if not kind:
         return '| %s | not converted |' % os.path.basename(file)
     status, seconds, size = measured([jsbase, 'resolve', kind], source, answer)
-    bare_status, bare_seconds, _ = measured([jsbase, 'unparen', kind], source, alone)
+    bare_status, bare_seconds, bare_size = measured([jsbase, 'unparen', kind], source, alone)
+    is_bare = bare_status == 0 and not has_pairs(alone)
     _, alone_seconds, alone_size = measured([json_alone], source, alone)
     same = status == 0 and tree_of(source) == tree_of(answer)
     with open(printed, 'w', encoding='utf-8') as target:
         subprocess.run(['node', '--max-old-space-size=8000', os.path.join(js2tree, 'swc2js.mjs'), answer], stdout=target, check=False)
-    again_kind = converted(js2tree, printed, again)
-    back = again_kind is not None and tree_of(answer) == tree_of(again)
-    return '| %s | %s | %.1f | %.1f | %s | %s | %.2f | %d | %.2f | %.2f | %d |' % (
+    back = converted(js2tree, printed, again) is not None and tree_of(answer) == tree_of(again)
+    return '| %s | %s | %.1f | %.1f | %s | %s | %s | %.2f, %d | %.2f, %d | %.2f, %d |' % (
         os.path.basename(file), kind, os.path.getsize(file) / 1e6, os.path.getsize(source) / 1e6,
-        'yes' if same else 'NO (%d)' % status, 'yes' if back else 'NO', seconds, size,
-        bare_seconds if bare_status == 0 else -1, alone_seconds, alone_size)
+        word(same), word(back), word(is_bare), seconds, size, bare_seconds, bare_size, alone_seconds, alone_size)
+
+
+def word(good):
+    return 'yes' if good else 'NO'
 
 
 def main():
     js2tree, jsbase, json_alone, *files = sys.argv[1:]
     resource.setrlimit(resource.RLIMIT_STACK, (1 << 30, resource.getrlimit(resource.RLIMIT_STACK)[1]))
-    print('| file | kind | source, MB | envelope, MB | tree kept | parses back | resolve, s | resolve, MB | unparen, s | JSON alone, s | JSON alone, MB |')
-    print('|---|---|---|---|---|---|---|---|---|---|---|')
+    print('| file | kind | source, MB | envelope, MB | tree kept | parses back | no pair left | resolve, s, MB | unparen, s, MB | JSON alone, s, MB |')
+    print('|---|---|---|---|---|---|---|---|---|---|')
     with tempfile.TemporaryDirectory() as folder:
         for file in files:
             print(row(js2tree, jsbase, json_alone, file, folder), flush=True)

@@ -56,7 +56,7 @@ fn remove_parens_alone(alloc: Global, node: Node) -> Result<Node, PassError>
 
 /// The pass on a tree with comments.
 #[tactic(auto, using(swc_tree_grammar::proofs::BlocksKept::unparened_fits, swc_tree_grammar::proofs::Pairless::unparened_pairless))]
-fn remove_parens_with<C: Comments>(
+pub fn remove_parens_with<C: Comments>(
     alloc: Global,
     comments: &mut C,
     node: Node,

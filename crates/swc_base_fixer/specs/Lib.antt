@@ -1,0 +1,3 @@
+pub mod Lent
+pub mod Unparened
+pub mod Visits

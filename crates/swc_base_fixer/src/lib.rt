@@ -1,0 +1,12 @@
+//! The pass that takes parentheses off a program: `paren_remover`.
+#![tactic(auto)]
+
+mod empty;
+mod pass;
+mod remover;
+
+pub use remover::{ParenRemover, paren_remover};
+pub use swc_base_fixer_unparen::{Comments, NoComments};
+
+#[cfg(test)]
+mod tests;
