@@ -5,7 +5,7 @@ use Rattle.std.specs.Cmp.Lexicographic.{pointwise}
 use Rattle.std.proofs.lemmas.Cmp.{nat_list_eq_equiv}
 use Rattle.std.specs.List.{list_any}
 use Rattle.swc_base_rename_substitution.specs.Names.{Id, same_id}
-use Rattle.swc_base_rename_substitution.specs.Exports.{without, distinct}
+use Rattle.swc_base_rename_substitution.specs.Exports.{without, distinct, with_one_more}
 
 both_left : (a b : Bool) → (a && b) ≡ true → a ≡ true
 both_left true b h = refl
@@ -45,17 +45,14 @@ without_end x y (z ∷ l) = without_step (same_id z y) (without_end x y l)
     without_step true r = r
     without_step false r = ap (λ l. z ∷ l) r
 
-abbrev added : Id → List Id → List Id
-added x l = if list_any (same_id x) l then l else l ++ x ∷ []
-
 choice : Id → Id → List Id → Bool → List Id
 choice x y l b = if b then y ∷ without y l else y ∷ (without y l ++ x ∷ [])
 
-added_is : (x y : Id) (l : List Id) (b c : Bool) → list_any (same_id x) (without y l) ≡ b → same_id x y ≡ c → added x (y ∷ without y l) ≡ choice x y l (c || b)
+added_is : (x y : Id) (l : List Id) (b c : Bool) → list_any (same_id x) (without y l) ≡ b → same_id x y ≡ c → with_one_more x (y ∷ without y l) ≡ choice x y l (c || b)
 unfolding choice
 added_is x y l b c g h = ap (λ d. choice x y l (d || list_any (same_id x) (without y l))) h ∙ ap (λ d. choice x y l (c || d)) g
 
-added_under : (x y : Id) (l : List Id) (b c : Bool) → list_any (same_id x) l ≡ b → same_id x y ≡ c → y ∷ without y (if b then l else l ++ x ∷ []) ≡ added x (y ∷ without y l)
+added_under : (x y : Id) (l : List Id) (b c : Bool) → list_any (same_id x) l ≡ b → same_id x y ≡ c → y ∷ without y (if b then l else l ++ x ∷ []) ≡ with_one_more x (y ∷ without y l)
 unfolding choice
 added_under x y l true true g h = sym (added_is x y l _ true refl h)
 added_under x y l false true g h =
@@ -64,12 +61,26 @@ added_under x y l true false g h = sym (added_is x y l true false (any_without x
 added_under x y l false false g h =
     ap (λ l. y ∷ l) (without_end x y l ∙ ap (λ b. without y l ++ (if b then [] else x ∷ [])) h) ∙ sym (added_is x y l false false (any_without x y l h ∙ g) h)
 
-distinct_end : (x : Id) (xs : List Id) → distinct (xs ++ x ∷ []) ≡ added x (distinct xs)
+distinct_end : (x : Id) (xs : List Id) → distinct (xs ++ x ∷ []) ≡ with_one_more x (distinct xs)
 distinct_end x [] = refl
 distinct_end x (y ∷ xs) = ap (λ l. y ∷ without y l) (distinct_end x xs) ∙ added_under x y (distinct xs) _ _ refl refl
 
-pub one_more_met : (kept xs : List Id) (x : Id) → kept ≡ distinct xs → list_any (same_id x) kept ≡ true → kept ≡ distinct (xs ++ x ∷ [])
-one_more_met kept xs x e h = e ∙ sym (distinct_end x xs ∙ ap (λ b. if b then distinct xs else distinct xs ++ x ∷ []) (ap (list_any (same_id x)) (sym e) ∙ h))
+pub one_more : (kept now xs : List Id) (x : Id) → kept ≡ distinct xs → now ≡ with_one_more x kept → now ≡ distinct (xs ++ x ∷ [])
+one_more kept now xs x e n = n ∙ ap (with_one_more x) e ∙ sym (distinct_end x xs)
 
-pub one_more_kept : (kept now xs : List Id) (x : Id) → kept ≡ distinct xs → list_any (same_id x) kept ≡ false → now ≡ kept ++ x ∷ [] → now ≡ distinct (xs ++ x ∷ [])
-one_more_kept kept now xs x e h n = n ∙ ap (λ l. l ++ x ∷ []) e ∙ sym (distinct_end x xs ∙ ap (λ b. if b then distinct xs else distinct xs ++ x ∷ []) (ap (list_any (same_id x)) (sym e) ∙ h))
+more_in : (b : Bool) (x y : Id) (xs : List Id) → same_id x y ≡ b → (if b then true else list_any (same_id x) xs) ≡ list_any (same_id x) (xs ++ y ∷ [])
+more_in true x y [] e = sym (ap (λ b. b || false) e)
+more_in false x y [] e = sym (ap (λ b. b || false) e)
+more_in b x y (z ∷ xs) e = more_step b (same_id x z) (more_in b x y xs e)
+  where
+    more_step : (b c : Bool) → (if b then true else list_any (same_id x) xs) ≡ list_any (same_id x) (xs ++ y ∷ []) → (if b then true else (c || list_any (same_id x) xs)) ≡ (c || list_any (same_id x) (xs ++ y ∷ []))
+    more_step true true r = refl
+    more_step true false r = r
+    more_step false true r = refl
+    more_step false false r = r
+
+-- a hashed set of the ids has one more
+pub one_more_seen : (before after : Id → Bool) (xs now : List Id) (y copy : Id) → copy ≡ y → now ≡ xs ++ y ∷ [] → ((x : Id) → before x ≡ list_any (same_id x) xs) → ((x : Id) → after x ≡ (if same_id copy x then true else before x))
+    → (x : Id) → after x ≡ list_any (same_id x) now
+one_more_seen before after xs now y copy e n h g x =
+    g x ∙ ap (λ b. if same_id copy x then true else b) (h x) ∙ ap (λ b. if b then true else list_any (same_id x) xs) (ap (λ c. same_id c x) e ∙ same_symm y x) ∙ more_in (same_id x y) x y xs refl ∙ ap (list_any (same_id x)) (sym n)

@@ -46,6 +46,10 @@ abbrev pub distinct : List Id → List Id
 distinct [] = []
 distinct (x ∷ xs) = x ∷ without x (distinct xs)
 
+-- the ids with one more, unless it is among them
+abbrev pub with_one_more : Id → List Id → List Id
+with_one_more x xs = if list_any (same_id x) xs then xs else xs ++ x ∷ []
+
 abbrev pub exported_in : Node-F Node → List Id
 exported_in (Node-F.Tree kind.ExportDecl (span ∷ declaration ∷ [])) = distinct (bound_ids declaration)
 exported_in y = []

@@ -1,5 +1,5 @@
 -- Which identifiers are bindings and references, and which have their name for another reason.
-use Rattle.std.specs.Prelude.{ℕ, zero, suc, Bool, option_map, unwrap_or, slice_get, if◌then◌else◌}
+use Rattle.std.specs.Prelude.{ℕ, Bool, option_map, unwrap_or, slice_get, if◌then◌else◌}
 use Rattle.swc_tree_node.specs.declared.kind.Kind.{Kind}
 use Rattle.swc_tree_node.specs.declared.kind.Kind.TheVariants as kind
 use Rattle.swc_tree_node.specs.declared.slot.Role.{Role}

@@ -1,12 +1,10 @@
 //! The names that a declaration binds.
-ghost use Rattle.std.specs.Prelude.{◌≡◌, ◌++◌, OnOk, IfOk, map};
-ghost use Rattle.std.specs.List.{flat_map, list_any};
-ghost use Rattle.swc_base_rename_substitution.specs.Names.{same_id};
+ghost use Rattle.std.specs.Prelude.{◌≡◌, ◌++◌, OnOk, map};
+ghost use Rattle.std.specs.List.{flat_map};
 ghost use Rattle.swc_base_rename_substitution.specs.Places.{field_role as role_in_table};
-ghost use Rattle.swc_base_rename_substitution.specs.Exports.{holds_bound as is_bound_role, bound_ids as are_bound, bound_in, bound_below, distinct as are_distinct};
+ghost use Rattle.swc_base_rename_substitution.specs.Exports.{holds_bound as is_bound_role, bound_ids as are_bound, bound_in, bound_below};
 
 use crate::place::field_role;
-use std::alloc::Global;
 use swc_tree_items::Items;
 use swc_tree_marks::{Id, NoMemory};
 use swc_tree_node::{Kind, Node, Role};
@@ -72,30 +70,4 @@ fn bound_in_field(role: Role, field: &Node, ids: &mut Items<Id>) -> Result<(), N
         bound_ids(field, ids)?;
     }
     Ok(())
-}
-
-// Whether the id is among those.
-fn contains(ids: &[Id], id: &Id) -> bool
-    ensures { result ≡ list_any (same_id id.now) ids.now }
-{
-    for other in ids {
-        if *id == *other {
-            return true;
-        }
-    }
-    false
-}
-
-/// The ids, each once, in the order in which they first stand.
-#[tactic(auto, using(crate::proofs::Distinct::one_more_kept, crate::proofs::Distinct::one_more_met))]
-pub fn distinct(alloc: Global, ids: Items<Id>) -> Result<Items<Id>, NoMemory>
-    ensures { IfOk result (λ kept. kept ≡ are_distinct ids) }
-{
-    let mut kept = Items::new(alloc);
-    for id in ids.into_vec() {
-        if !contains(kept.as_slice(), &id) {
-            kept.push(id)?;
-        }
-    }
-    Ok(kept)
 }

@@ -5,9 +5,10 @@ ghost use Rattle.swc_base_rename_substitution.specs.Names.{new_id};
 ghost use Rattle.swc_base_rename_substitution.specs.Exports.{made as is_made, specifier_to as is_specifier_to, specifier as is_specifier, export_list as is_export_list, declaration_of as is_declaration_of, exported_ids as are_exported, exports_of as is_exports_of, with_exports};
 ghost use Rattle.swc_base_rename_substitution.specs.Walk.{each_with_exports, is_exported_declaration};
 
-use crate::bound::{bound_ids, distinct};
+use crate::bound::bound_ids;
 use crate::identifiers::tree;
 use crate::names::Names;
+use crate::unique::distinct;
 use std::alloc::Global;
 use swc_tree_items::{Boxed, Items};
 use swc_tree_marks::{DUMMY_SP, Id, Ident, NoMemory, SyntaxContext};

@@ -14,6 +14,7 @@ mod place;
 mod substitution;
 #[cfg(test)]
 mod tests;
+mod unique;
 mod written_out;
 
 pub use config::Config;

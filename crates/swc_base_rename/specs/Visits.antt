@@ -1,0 +1,21 @@
+-- What the pass makes of a program.
+use Rattle.std.specs.Prelude.{◌≡◌}
+use Rattle.swc_tree_marks.specs.Globals.{Table}
+use Rattle.swc_tree_modules.specs.declared.module_.Module.{Module}
+use Rattle.swc_tree_modules.specs.declared.script.Script.{Script}
+use Rattle.swc_tree_modules.specs.Nodes.{module_node, script_node}
+use Rattle.swc_tree_node.specs.declared.node.Node.{Node}
+use Rattle.swc_base_rename_substitution.specs.Names.{new_id}
+use Rattle.swc_base_rename_substitution.specs.Substituted.{Substituted}
+use Rattle.swc_base_rename.specs.declared.pass.RenameWith.{RenameWith}
+
+-- the names are given anew as the pass's map says, and the table of marks stays
+pub record RenamesNode (pass : RenameWith) (old : Table) (before : Node) (new : Table) (after : Node) : Type 0 where
+  pub renamed : Substituted (new_id pass.names) pass.config.keep_class_names before after
+  pub marks : new ≡ old
+
+abbrev pub Renames : RenameWith → Table → Module → Table → Module → Type 0
+Renames pass old before new after = RenamesNode pass old (module_node before) new (module_node after)
+
+abbrev pub RenamesScript : RenameWith → Table → Script → Table → Script → Type 0
+RenamesScript pass old before new after = RenamesNode pass old (script_node before) new (script_node after)

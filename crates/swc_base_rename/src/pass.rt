@@ -1,0 +1,131 @@
+//! The pass that gives names anew.
+ghost use Rattle.std.specs.Prelude.{◌≡◌, [], false, None, OnOk, OnErr, IfErr};
+ghost use Rattle.swc_tree.specs.Passes.{IsEmptied, IsEmptiedScript, IsExtended};
+ghost use Rattle.swc_base_rename_substitution.specs.Names.{new_id, by_text, by_id};
+ghost use Rattle.swc_base_rename.specs.Visits.{Renames, RenamesScript};
+
+use std::alloc::Global;
+use std::collections::HashMap;
+use std::mem;
+use swc_base_rename_substitution::{Config, Names, substitute};
+use swc_tree::JsPass;
+use swc_tree_handle::{Opened, Trees};
+use swc_tree_marks::{Globals, Id, JsWord, PassError, Span};
+use swc_tree_modules::{Module, Script};
+
+/// Gives the names of a program anew, as a map says. The pass borrows the map.
+#[derive(Clone, Copy)]
+pub struct RenameWith<'a> {
+    names: Names<'a>,
+    config: Config,
+}
+
+/// The pass that puts new texts, with the empty context, in the place of ids.
+pub fn rename(map: &HashMap<Id, JsWord>) -> RenameWith<'_>
+    ensures names { new_id result.names ≡ by_text map.now }
+    ensures config { result.config ≡ record { keep_class_names = false; safari_10 = false; top_level_mark = 0; ignore_eval = false } }
+{
+    rename_with_config(map, Config::default())
+}
+
+/// The same, going by a configuration.
+pub fn rename_with_config(map: &HashMap<Id, JsWord>, config: Config) -> RenameWith<'_>
+    ensures names { new_id result.names ≡ by_text map.now }
+    ensures config { result.config ≡ config }
+{
+    RenameWith {
+        names: Names::Texts(map),
+        config,
+    }
+}
+
+/// The pass that puts new ids in the place of ids, where their texts differ.
+pub fn remap(map: &HashMap<Id, Id>, config: Config) -> RenameWith<'_>
+    ensures names { new_id result.names ≡ by_id map.now }
+    ensures config { result.config ≡ config }
+{
+    RenameWith {
+        names: Names::Ids(map),
+        config,
+    }
+}
+
+impl JsPass for RenameWith<'_> {
+    ghost visits = { Renames };
+
+    ghost visits_script = { RenamesScript };
+
+    /// Gives the names of a program anew. What is well-formed stays so.
+    ///
+    /// # Errors
+    ///
+    /// `NoMemory` alone. The program is then empty, with its span and no `#!` line.
+    fn visit_mut_module(
+        &mut self,
+        alloc: Global,
+        globals: &mut Globals,
+        program: &mut Module,
+    ) -> Result<(), PassError>
+        ensures done { OnOk result (Renames self.old globals.old program.old globals.new program.new) }
+        ensures refused { OnErr result (IsEmptied program.old program.new) }
+        ensures marks { IsExtended globals.old globals.new }
+        ensures table { globals.new ≡ globals.old }
+        ensures pass { self.new ≡ self.old }
+        ensures refusal { IfErr result (λ e. e ≡ PassError.NoMemory) }
+    {
+        let RenameWith { names, config } = *self;
+        let module = mem::replace(program, empty_module(alloc, program.span));
+        let node = module.into_node(alloc)?;
+        let answer = substitute(alloc, &names, &config, node)?;
+        *program = Module::from_node(answer);
+        Ok(())
+    }
+
+    /// Gives the names of a program of the goal Script anew, as `visit_mut_module` those of a module.
+    ///
+    /// # Errors
+    ///
+    /// `NoMemory` alone. The program is then empty, with its span and no `#!` line.
+    fn visit_mut_script(
+        &mut self,
+        alloc: Global,
+        globals: &mut Globals,
+        program: &mut Script,
+    ) -> Result<(), PassError>
+        ensures done { OnOk result (RenamesScript self.old globals.old program.old globals.new program.new) }
+        ensures refused { OnErr result (IsEmptiedScript program.old program.new) }
+        ensures marks { IsExtended globals.old globals.new }
+        ensures table { globals.new ≡ globals.old }
+        ensures pass { self.new ≡ self.old }
+        ensures refusal { IfErr result (λ e. e ≡ PassError.NoMemory) }
+    {
+        let RenameWith { names, config } = *self;
+        let script = mem::replace(program, empty_script(alloc, program.span));
+        let node = script.into_node(alloc)?;
+        let answer = substitute(alloc, &names, &config, node)?;
+        *program = Script::from_node(answer);
+        Ok(())
+    }
+}
+
+// A program of a span, with no item and no `#!` line.
+fn empty_module(alloc: Global, span: Span) -> Module
+    ensures { result ≡ record { span = span; body = []; shebang = None } }
+{
+    Module {
+        span,
+        body: Trees::new(alloc),
+        shebang: None,
+    }
+}
+
+// A program of a span, with no item and no `#!` line.
+fn empty_script(alloc: Global, span: Span) -> Script
+    ensures { result ≡ record { span = span; body = []; shebang = None } }
+{
+    Script {
+        span,
+        body: Trees::new(alloc),
+        shebang: None,
+    }
+}
