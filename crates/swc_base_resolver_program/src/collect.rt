@@ -1,102 +1,143 @@
-//! The first walk: which names each scope of a tree declares.
-ghost use Rattle.std.specs.Prelude.{◌≡◌, ◌++◌, map, OnOk, IfOk};
-ghost use Rattle.swc_tree_scoping.specs.Folds.{each_in};
-ghost use Rattle.swc_tree_scoping.specs.RolesBelow.{role_at};
-ghost use Rattle.swc_base_resolver_program.specs.Names.{members, either, no_name};
-ghost use Rattle.swc_base_resolver_program.specs.Collected.{children_bind, collected, declared_by, declared_in, identifier_binds, own_scope, passes, scopes_below};
-
-use crate::names::Names;
+//! The first two walks: the names that each scope takes, and then those that reach it from blocks.
+use crate::env::{Env, Layer, hoists, meets, seen, taker, variable_scope};
+use crate::lookup::Names;
+use crate::names::ScopeNames;
 use std::alloc::{AllocError, Global};
 use swc_tree_marks::Ident;
-use swc_tree_node::{Node, Role, Scope};
-use swc_tree_scoping::{RolesBelow, opened, roles_of_fields, roles_of_items};
+use swc_tree_node::Node;
+use swc_tree_scoping::{
+    PROGRAM_PLACE, Place, PlacesBelow, Standing, is_binding, places_of_fields, places_of_items,
+};
 
-/// The names that a scope declares.
-#[derive(Drop)]
-pub struct ScopeNames {
-    lexical: Names,
-    variables: Names,
+/// What a walk looks for.
+#[derive(Clone, Copy)]
+pub enum Stage<'a> {
+    /// For each name that is bound, the scope that takes it.
+    Bind,
+    /// For each plain function of sloppy code in a block, the scope that it is hoisted to; for each variable below
+    /// no catch clause whose parameter has its name, the scope that takes it. The names that the scopes take are
+    /// given.
+    Settle(Names<'a>),
 }
 
-impl ScopeNames {
-    // The names of a scope that declares none.
-    fn new(alloc: Global) -> ScopeNames
-        ensures lexical { members result.lexical ≡ no_name }
-        ensures variables { members result.variables ≡ no_name }
-    {
-        ScopeNames {
-            lexical: Names::new(alloc),
-            variables: Names::new(alloc),
+/// How many scopes a program has.
+pub fn count_scopes(node: &Node) -> usize {
+    count(node, PROGRAM_PLACE)
+}
+
+#[cycle(count)]
+fn count(node: &Node, place: Place) -> usize {
+    match node {
+        Node::List(items) => {
+            let items = items.as_slice();
+            count_children(items, places_of_items(place, items))
         }
-    }
-
-    /// Whether the scope declares the name.
-    pub fn has(&self, name: &str) -> bool
-        ensures { result ≡ declared_by self.now name.now }
-    {
-        self.lexical.has(name) || self.variables.has(name)
+        Node::Tree(kind, fields) => {
+            let fields = fields.as_slice();
+            let places = places_of_fields(place, *kind, fields);
+            let below = count_children(fields, places);
+            match places.opened() {
+                Some(_) => below.saturating_add(1),
+                None => below,
+            }
+        }
+        _ => 0,
     }
 }
 
-/// The names of the scopes of a tree, the scopes from the front.
-pub fn scopes_of(alloc: Global, tree: &Node) -> Result<Vec<ScopeNames>, AllocError>
-    ensures { IfOk result (λ scopes. map declared_by scopes.items ≡ (collected Role.Plain tree.now).scopes) }
-{
-    let mut scopes = Vec::new(alloc);
-    let mut lexical = Names::new(alloc);
-    let mut variables = Names::new(alloc);
-    collect(
-        alloc,
-        tree,
-        Role::Plain,
-        &mut lexical,
-        &mut variables,
-        &mut scopes,
-    )?;
-    Ok(scopes)
+#[cycle(count)]
+fn count_children(nodes: &[Node], places: PlacesBelow) -> usize {
+    let mut scopes: usize = 0;
+    for i in 0..nodes.len() {
+        scopes = scopes.saturating_add(count(&nodes[i], places.at(i)));
+    }
+    scopes
 }
 
-// Adds the names that a node binds and that no scope in it takes, and the node's scopes.
-#[cycle(collect)]
-fn collect(
+/// Tables for so many scopes, which take no name.
+pub fn empty_tables(alloc: Global, count: usize) -> Result<Vec<ScopeNames>, AllocError> {
+    let mut tables = Vec::new(alloc);
+    for _ in 0..count {
+        tables.push(ScopeNames::new(alloc))?;
+    }
+    Ok(tables)
+}
+
+/// Adds what a walk over a program looks for to the tables of the scopes, the scopes from the front.
+pub fn gather_program(
     alloc: Global,
+    stage: Stage,
+    program: &Node,
+    tables: &mut Vec<ScopeNames>,
+) -> Result<(), AllocError> {
+    let mut next = 0;
+    gather(
+        alloc,
+        stage,
+        program,
+        PROGRAM_PLACE,
+        &Env::Top,
+        &mut next,
+        tables,
+    )?;
+    Ok(())
+}
+
+#[cycle(gather)]
+fn gather(
+    alloc: Global,
+    stage: Stage,
     node: &Node,
-    role: Role,
-    lexical: &mut Names,
-    variables: &mut Names,
-    scopes: &mut Vec<ScopeNames>,
-) -> Result<(), AllocError>
-    ensures lexical { OnOk result (members lexical.new ≡ either (members lexical.old) ((collected role node.now).binds Role.Lexical)) }
-    ensures variables { OnOk result (members variables.new ≡ either (members variables.old) ((collected role node.now).binds Role.Variable)) }
-    ensures scopes { OnOk result (map declared_by scopes.new.items ≡ map declared_by scopes.old.items ++ (collected role node.now).scopes) }
-{
+    place: Place,
+    env: &Env,
+    next: &mut usize,
+    tables: &mut Vec<ScopeNames>,
+) -> Result<(), AllocError> {
     match node {
         Node::Identifier(_, ident) => {
-            bind(alloc, ident.get(), role, lexical, variables)?;
+            gather_identifier(alloc, stage, ident.get(), place.standing, env, tables)?;
             Ok(())
         }
         Node::List(items) => {
             let items = items.as_slice();
-            collect_children(
-                alloc,
-                items,
-                roles_of_items(role, items),
-                lexical,
-                variables,
-                scopes,
-            )?;
+            let places = places_of_items(place, items);
+            gather_children(alloc, stage, items, places, env, env, env, next, tables)?;
             Ok(())
         }
         Node::Tree(kind, fields) => {
             let fields = fields.as_slice();
-            let roles = roles_of_fields(role, *kind, fields);
-            match opened(role, *kind) {
+            let places = places_of_fields(place, *kind, fields);
+            match places.opened() {
                 Some(scope) => {
-                    collect_scope(alloc, scope, fields, roles, variables, scopes)?;
+                    let layer = Layer {
+                        scope,
+                        number: *next,
+                        whole: true,
+                    };
+                    *next += 1;
+                    let parameters = Env::In(
+                        Layer {
+                            whole: false,
+                            ..layer
+                        },
+                        &*env,
+                    );
+                    let whole = Env::In(layer, &*env);
+                    gather_children(
+                        alloc,
+                        stage,
+                        fields,
+                        places,
+                        &*env,
+                        &parameters,
+                        &whole,
+                        next,
+                        tables,
+                    )?;
                     Ok(())
                 }
                 None => {
-                    collect_children(alloc, fields, roles, lexical, variables, scopes)?;
+                    gather_children(alloc, stage, fields, places, env, env, env, next, tables)?;
                     Ok(())
                 }
             }
@@ -105,82 +146,81 @@ fn collect(
     }
 }
 
-// Adds a scope, and then those in it.
-#[cycle(collect)]
-fn collect_scope(
+#[cycle(gather)]
+fn gather_children(
     alloc: Global,
-    scope: Scope,
-    fields: &[Node],
-    roles: RolesBelow,
-    variables: &mut Names,
-    scopes: &mut Vec<ScopeNames>,
-) -> Result<(), AllocError>
-    ensures variables { let below = each_in collected (role_at roles) fields.now in OnOk result (members variables.new ≡ either (members variables.old) (passes Role.Variable (Some scope) (children_bind Role.Variable below))) }
-    ensures scopes { let below = each_in collected (role_at roles) fields.now in OnOk result (map declared_by scopes.new.items ≡ map declared_by scopes.old.items ++ (own_scope (Some scope) below ++ scopes_below below)) }
-{
-    let place = scopes.len();
-    scopes.push(ScopeNames::new(alloc))?;
-    let mut own = ScopeNames::new(alloc);
-    match scope {
-        Scope::Block => {
-            collect_children(alloc, fields, roles, &mut own.lexical, variables, scopes)?;
-            scopes[place] = own;
-            Ok(())
-        }
-        Scope::Program | Scope::Function => {
-            collect_children(
-                alloc,
-                fields,
-                roles,
-                &mut own.lexical,
-                &mut own.variables,
-                scopes,
-            )?;
-            scopes[place] = own;
-            Ok(())
-        }
-    }
-}
-
-#[cycle(collect)]
-fn collect_children(
-    alloc: Global,
-    children: &[Node],
-    roles: RolesBelow,
-    lexical: &mut Names,
-    variables: &mut Names,
-    scopes: &mut Vec<ScopeNames>,
-) -> Result<(), AllocError>
-    ensures lexical { OnOk result (members lexical.new ≡ either (members lexical.old) (children_bind Role.Lexical (each_in collected (role_at roles) children.now))) }
-    ensures variables { OnOk result (members variables.new ≡ either (members variables.old) (children_bind Role.Variable (each_in collected (role_at roles) children.now))) }
-    ensures scopes { OnOk result (map declared_by scopes.new.items ≡ map declared_by scopes.old.items ++ scopes_below (each_in collected (role_at roles) children.now)) }
-{
-    for i in 0..children.len() {
-        collect(alloc, &children[i], roles.at(i), lexical, variables, scopes)?;
+    stage: Stage,
+    nodes: &[Node],
+    places: PlacesBelow,
+    outside: &Env,
+    parameters: &Env,
+    whole: &Env,
+    next: &mut usize,
+    tables: &mut Vec<ScopeNames>,
+) -> Result<(), AllocError> {
+    for i in 0..nodes.len() {
+        let env = seen(places.view(i), &*outside, &*parameters, &*whole);
+        gather(alloc, stage, &nodes[i], places.at(i), env, next, tables)?;
     }
     Ok(())
 }
 
-// Adds the name of an identifier that binds it and that no pass has marked.
-fn bind(
+// Adds the name of an identifier that no pass has marked to the table of the scope that the stage gives it to.
+fn gather_identifier(
     alloc: Global,
+    stage: Stage,
     ident: &Ident,
-    role: Role,
-    lexical: &mut Names,
-    variables: &mut Names,
-) -> Result<(), AllocError>
-    ensures lexical { OnOk result (members lexical.new ≡ either (members lexical.old) (identifier_binds role Role.Lexical ident.now)) }
-    ensures variables { OnOk result (members variables.new ≡ either (members variables.old) (identifier_binds role Role.Variable ident.now)) }
-{
-    if !ident.ctxt.marks().is_empty() {
+    standing: Standing,
+    env: &Env,
+    tables: &mut Vec<ScopeNames>,
+) -> Result<(), AllocError> {
+    if !ident.ctxt.marks().is_empty() || !is_binding(standing) {
         return Ok(());
     }
-    match role {
-        Role::Lexical | Role::Function | Role::Class => lexical.insert(alloc, ident.sym.as_str())?,
-        Role::Variable | Role::Parameter | Role::Import => {
-            variables.insert(alloc, ident.sym.as_str())?
-        }
-        _ => (),
+    let name = ident.sym.as_str();
+    match target(stage, standing, name, env) {
+        Some(number) => add(alloc, tables, number, name, standing),
+        None => Ok(()),
     }
-    Ok(())
+}
+
+fn add(
+    alloc: Global,
+    tables: &mut Vec<ScopeNames>,
+    number: usize,
+    name: &str,
+    standing: Standing,
+) -> Result<(), AllocError> {
+    match tables.get_mut(number) {
+        Some(names) => {
+            names.insert(alloc, name, standing)?;
+            Ok(())
+        }
+        None => Ok(()),
+    }
+}
+
+// The scope that the stage gives a name to that is bound so.
+fn target(stage: Stage, standing: Standing, name: &str, env: &Env) -> Option<usize> {
+    match stage {
+        Stage::Bind => taker(env, standing),
+        Stage::Settle(bound) => match standing {
+            Standing::SloppyFunction => {
+                if hoists(env, &bound, name) {
+                    variable_scope(env)
+                } else {
+                    None
+                }
+            }
+            Standing::Variable => {
+                let scope = variable_scope(env)?;
+                if meets(env, &bound, name) == Some(scope) {
+                    Some(scope)
+                } else {
+                    None
+                }
+            }
+            _ => None,
+        },
+    }
 }

@@ -1,6 +1,0 @@
-pub mod Under
-pub mod Children
-pub mod Remarked
-pub mod First
-pub mod Program
-pub mod Rows
