@@ -1,4 +1,12 @@
 //! The first two walks: the names that each scope takes, and then those that reach it from blocks.
+ghost use Rattle.std.specs.Prelude.{◌≡◌, ◌+◌, ◌≤◌, [], is_some, length, IfOk, OnOk};
+ghost use Rattle.swc_tree_scoping.specs.Below.{place_of, view_of};
+ghost use Rattle.swc_tree_scoping.specs.Folds.{each_in};
+ghost use Rattle.swc_tree_scoping.specs.Places.{program_place};
+ghost use Rattle.swc_tree_scoping.specs.Scopes.{one_if, scope_count, total};
+ghost use Rattle.swc_base_resolver_program.specs.Lookup.{layers, same_number};
+ghost use Rattle.swc_base_resolver_program.specs.Walks.{AreEmpty, Gains, IsAdded, Reaches, ReachesBelow, ReachesHere, pick, target_in};
+
 use crate::env::{Env, Layer, hoists, meets, seen, taker, variable_scope};
 use crate::lookup::Names;
 use crate::names::ScopeNames;
@@ -6,7 +14,8 @@ use std::alloc::{AllocError, Global};
 use swc_tree_marks::Ident;
 use swc_tree_node::Node;
 use swc_tree_scoping::{
-    PROGRAM_PLACE, Place, PlacesBelow, Standing, is_binding, places_of_fields, places_of_items,
+    PROGRAM_PLACE, Place, PlacesBelow, Scope, Standing, is_binding, places_of_fields,
+    places_of_items,
 };
 
 /// What a walk looks for.
@@ -20,47 +29,76 @@ pub enum Stage<'a> {
     Settle(Names<'a>),
 }
 
-/// How many scopes a program has.
-pub fn count_scopes(node: &Node) -> usize {
-    count(node, PROGRAM_PLACE)
+/// The tables of the scopes of a program, the scopes from the front, which take no name yet.
+pub fn scope_tables(alloc: Global, program: &Node) -> Result<Vec<ScopeNames>, AllocError>
+    ensures size { IfOk result (λ tables. length tables.items ≡ scope_count program_place program.now) }
+    ensures empty { IfOk result (λ tables. AreEmpty tables.items) }
+{
+    let mut tables = Vec::new(alloc);
+    add_tables(alloc, program, PROGRAM_PLACE, &mut tables)?;
+    Ok(tables)
 }
 
-#[cycle(count)]
-fn count(node: &Node, place: Place) -> usize {
+// Adds an empty table for each scope of a node.
+#[cycle(add_tables)]
+fn add_tables(
+    alloc: Global,
+    node: &Node,
+    place: Place,
+    tables: &mut Vec<ScopeNames>,
+) -> Result<(), AllocError>
+    ensures size { OnOk result (length tables.new.items ≡ length tables.old.items + scope_count place node.now) }
+    ensures empty { AreEmpty tables.old.items → OnOk result (AreEmpty tables.new.items) }
+{
     match node {
         Node::List(items) => {
             let items = items.as_slice();
-            count_children(items, places_of_items(place, items))
+            add_children_tables(alloc, items, places_of_items(place, items), tables)?;
+            Ok(())
         }
         Node::Tree(kind, fields) => {
             let fields = fields.as_slice();
             let places = places_of_fields(place, *kind, fields);
-            let below = count_children(fields, places);
-            match places.opened() {
-                Some(_) => below.saturating_add(1),
-                None => below,
-            }
+            add_own_table(alloc, places.opened(), tables)?;
+            add_children_tables(alloc, fields, places, tables)?;
+            Ok(())
         }
-        _ => 0,
+        _ => Ok(()),
     }
 }
 
-#[cycle(count)]
-fn count_children(nodes: &[Node], places: PlacesBelow) -> usize {
-    let mut scopes: usize = 0;
+#[cycle(add_tables)]
+fn add_children_tables(
+    alloc: Global,
+    nodes: &[Node],
+    places: PlacesBelow,
+    tables: &mut Vec<ScopeNames>,
+) -> Result<(), AllocError>
+    ensures size { OnOk result (length tables.new.items ≡ length tables.old.items + total (each_in scope_count (place_of places) nodes.now)) }
+    ensures empty { AreEmpty tables.old.items → OnOk result (AreEmpty tables.new.items) }
+{
     for i in 0..nodes.len() {
-        scopes = scopes.saturating_add(count(&nodes[i], places.at(i)));
+        add_tables(alloc, &nodes[i], places.at(i), tables)?;
     }
-    scopes
+    Ok(())
 }
 
-/// Tables for so many scopes, which take no name.
-pub fn empty_tables(alloc: Global, count: usize) -> Result<Vec<ScopeNames>, AllocError> {
-    let mut tables = Vec::new(alloc);
-    for _ in 0..count {
-        tables.push(ScopeNames::new(alloc))?;
+// Adds the table of a scope, if there is one.
+fn add_own_table(
+    alloc: Global,
+    scope: Option<Scope>,
+    tables: &mut Vec<ScopeNames>,
+) -> Result<(), AllocError>
+    ensures size { OnOk result (length tables.new.items ≡ length tables.old.items + one_if (is_some scope)) }
+    ensures empty { AreEmpty tables.old.items → OnOk result (AreEmpty tables.new.items) }
+{
+    match scope {
+        Some(_) => {
+            tables.push(ScopeNames::new(alloc))?;
+            Ok(())
+        }
+        None => Ok(()),
     }
-    Ok(tables)
 }
 
 /// Adds what a walk over a program looks for to the tables of the scopes, the scopes from the front.
@@ -69,7 +107,10 @@ pub fn gather_program(
     stage: Stage,
     program: &Node,
     tables: &mut Vec<ScopeNames>,
-) -> Result<(), AllocError> {
+) -> Result<(), AllocError>
+    requires room { scope_count program_place program.now ≤ length tables.old.items }
+    ensures { OnOk result (Gains tables.old.items tables.new.items (Reaches stage.entry [] 0 program_place program.now)) }
+{
     let mut next = 0;
     gather(
         alloc,
@@ -92,16 +133,22 @@ fn gather(
     env: &Env,
     next: &mut usize,
     tables: &mut Vec<ScopeNames>,
-) -> Result<(), AllocError> {
+) -> Result<(), AllocError>
+    requires room { next.old + scope_count place node.now ≤ length tables.old.items }
+    ensures next { OnOk result (next.new ≡ next.old + scope_count place node.now) }
+    ensures tables { OnOk result (Gains tables.old.items tables.new.items (Reaches stage.entry (layers env.now) next.old place node.now)) }
+{
     match node {
         Node::Identifier(_, ident) => {
-            gather_identifier(alloc, stage, ident.get(), place.standing, env, tables)?;
+            gather_identifier(alloc, stage, ident.get(), place.standing, &*env, tables)?;
             Ok(())
         }
         Node::List(items) => {
             let items = items.as_slice();
             let places = places_of_items(place, items);
-            gather_children(alloc, stage, items, places, env, env, env, next, tables)?;
+            gather_children(
+                alloc, stage, items, places, &*env, &*env, &*env, next, tables,
+            )?;
             Ok(())
         }
         Node::Tree(kind, fields) => {
@@ -137,7 +184,9 @@ fn gather(
                     Ok(())
                 }
                 None => {
-                    gather_children(alloc, stage, fields, places, env, env, env, next, tables)?;
+                    gather_children(
+                        alloc, stage, fields, places, &*env, &*env, &*env, next, tables,
+                    )?;
                     Ok(())
                 }
             }
@@ -157,7 +206,11 @@ fn gather_children(
     whole: &Env,
     next: &mut usize,
     tables: &mut Vec<ScopeNames>,
-) -> Result<(), AllocError> {
+) -> Result<(), AllocError>
+    requires room { next.old + total (each_in scope_count (place_of places) nodes.now) ≤ length tables.old.items }
+    ensures next { OnOk result (next.new ≡ next.old + total (each_in scope_count (place_of places) nodes.now)) }
+    ensures tables { OnOk result (Gains tables.old.items tables.new.items (ReachesBelow stage.entry (λ i. pick (view_of places i) (layers outside.now) (layers parameters.now) (layers whole.now)) next.old (place_of places) nodes.now (length nodes.now))) }
+{
     for i in 0..nodes.len() {
         let env = seen(places.view(i), &*outside, &*parameters, &*whole);
         gather(alloc, stage, &nodes[i], places.at(i), env, next, tables)?;
@@ -173,13 +226,21 @@ fn gather_identifier(
     standing: Standing,
     env: &Env,
     tables: &mut Vec<ScopeNames>,
-) -> Result<(), AllocError> {
-    if !ident.ctxt.marks().is_empty() || !is_binding(standing) {
+) -> Result<(), AllocError>
+    ensures { OnOk result (Gains tables.old.items tables.new.items (ReachesHere stage.entry (layers env.now) standing ident.now)) }
+{
+    if !ident.ctxt.marks().is_empty() {
+        return Ok(());
+    }
+    if !is_binding(standing) {
         return Ok(());
     }
     let name = ident.sym.as_str();
     match target(stage, standing, name, env) {
-        Some(number) => add(alloc, tables, number, name, standing),
+        Some(number) => {
+            add(alloc, tables, number, name, standing)?;
+            Ok(())
+        }
         None => Ok(()),
     }
 }
@@ -190,7 +251,9 @@ fn add(
     number: usize,
     name: &str,
     standing: Standing,
-) -> Result<(), AllocError> {
+) -> Result<(), AllocError>
+    ensures { OnOk result (Gains tables.old.items tables.new.items (IsAdded number standing name.now)) }
+{
     match tables.get_mut(number) {
         Some(names) => {
             names.insert(alloc, name, standing)?;
@@ -201,7 +264,9 @@ fn add(
 }
 
 // The scope that the stage gives a name to that is bound so.
-fn target(stage: Stage, standing: Standing, name: &str, env: &Env) -> Option<usize> {
+fn target(stage: Stage, standing: Standing, name: &str, env: &Env) -> Option<usize>
+    ensures { result ≡ target_in stage.entry standing name.now (layers env.now) }
+{
     match stage {
         Stage::Bind => taker(env, standing),
         Stage::Settle(bound) => match standing {
@@ -212,15 +277,18 @@ fn target(stage: Stage, standing: Standing, name: &str, env: &Env) -> Option<usi
                     None
                 }
             }
-            Standing::Variable => {
-                let scope = variable_scope(env)?;
-                if meets(env, &bound, name) == Some(scope) {
-                    Some(scope)
-                } else {
-                    None
-                }
-            }
+            Standing::Variable => { uncaught(variable_scope(env), meets(env, &bound, name)) }
             _ => None,
         },
+    }
+}
+
+// The scope that takes a variable, if it is the first that the variable meets on its way.
+fn uncaught(scope: Option<usize>, met: Option<usize>) -> Option<usize>
+    ensures { result ≡ same_number scope met }
+{
+    match (scope, met) {
+        (Some(scope), Some(met)) if met == scope => Some(scope),
+        _ => None,
     }
 }

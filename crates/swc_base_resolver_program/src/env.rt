@@ -1,6 +1,10 @@
 //! The scopes that are open at a node.
+ghost use Rattle.std.specs.Prelude.{◌≡◌};
+ghost use Rattle.swc_base_resolver_program.specs.Lookup.{hoists_from as hoists_from_in, hoists_in, layers, meets_in, names_in, open_of, passes_in, taker_in};
+ghost use Rattle.swc_base_resolver_program.specs.Walks.{pick};
+
 use crate::lookup::Names;
-use swc_tree_scoping::{Scope, Standing, View, is_variable_scope, takes};
+use swc_tree_scoping::{Scope, Standing, View, takes};
 
 /// A scope that is open: its number from the front, and whether all its names are seen or only its parameters.
 #[derive(Clone, Copy, Debug)]
@@ -23,7 +27,9 @@ pub fn seen<'a>(
     outside: &'a Env<'a>,
     parameters: &'a Env<'a>,
     whole: &'a Env<'a>,
-) -> &'a Env<'a> {
+) -> &'a Env<'a>
+    ensures { result.now ≡ pick view outside.now parameters.now whole.now }
+{
     match view {
         View::Outside => outside,
         View::Parameters => parameters,
@@ -32,7 +38,10 @@ pub fn seen<'a>(
 }
 
 /// The number of the innermost scope that takes what is bound so.
-pub fn taker(env: &Env, standing: Standing) -> Option<usize> {
+#[tactic(auto, using(crate::proofs::Open::layers_top, crate::proofs::Open::layers_in))]
+pub fn taker(env: &Env, standing: Standing) -> Option<usize>
+    ensures { result ≡ taker_in standing (layers env.now) }
+{
     match env {
         Env::Top => None,
         Env::In(layer, outer) => {
@@ -46,38 +55,51 @@ pub fn taker(env: &Env, standing: Standing) -> Option<usize> {
 }
 
 /// The number of the innermost function, static block or program.
-pub fn variable_scope(env: &Env) -> Option<usize> {
+pub fn variable_scope(env: &Env) -> Option<usize>
+    ensures { result ≡ taker_in Standing.Variable (layers env.now) }
+{
     taker(env, Standing::Variable)
 }
 
 /// Whether a `var` of the name could stand in the place of a function of the name in a block whose scopes outwards
 /// these are: no lexical declaration, function or parameter meets it up to the nearest function, static block or
 /// program.
-pub fn passes(env: &Env, bound: &Names, name: &str) -> bool {
+#[tactic(auto, using(crate::proofs::Open::layers_top, crate::proofs::Open::layers_in))]
+pub fn passes(env: &Env, bound: &Names, name: &str) -> bool
+    ensures { result ≡ passes_in (names_in bound.now) name.now (layers env.now) }
+{
     match env {
         Env::Top => true,
         Env::In(layer, outer) => {
-            let ways = bound.ways(layer.number, name);
-            if ways.stops()
-                || ways.has(Standing::BlockFunction)
-                || ways.has(Standing::SloppyFunction)
-            {
+            if bound.ways(layer.number, name).stops_or_function() {
                 false
+            } else if takes(Standing::Variable, layer.scope) {
+                true
             } else {
-                is_variable_scope(layer.scope) || passes(outer, bound, name)
+                passes(outer, bound, name)
             }
         }
     }
 }
 
+/// Whether the plain functions of the name in a block are declared outside of it; `outer` are the scopes round it.
+pub fn hoists_from(layer: Layer, outer: &Env, bound: &Names, name: &str) -> bool
+    ensures { result ≡ hoists_from_in (names_in bound.now) name.now (open_of layer) (layers outer.now) }
+{
+    !bound.ways(layer.number, name).stops() && passes(outer, bound, name)
+}
+
 /// Whether the plain functions of the name in the innermost scope that takes them are declared outside of it
 /// (ECMA-262, B.3.2).
-pub fn hoists(env: &Env, bound: &Names, name: &str) -> bool {
+#[tactic(auto, using(crate::proofs::Open::layers_top, crate::proofs::Open::layers_in))]
+pub fn hoists(env: &Env, bound: &Names, name: &str) -> bool
+    ensures { result ≡ hoists_in (names_in bound.now) name.now (layers env.now) }
+{
     match env {
         Env::Top => false,
         Env::In(layer, outer) => {
             if takes(Standing::SloppyFunction, layer.scope) {
-                !bound.ways(layer.number, name).stops() && passes(outer, bound, name)
+                hoists_from(*layer, outer, bound, name)
             } else {
                 hoists(outer, bound, name)
             }
@@ -86,11 +108,14 @@ pub fn hoists(env: &Env, bound: &Names, name: &str) -> bool {
 }
 
 /// The number of the innermost scope that is a catch clause whose parameter has the name, or that takes variables.
-pub fn meets(env: &Env, bound: &Names, name: &str) -> Option<usize> {
+#[tactic(auto, using(crate::proofs::Open::layers_top, crate::proofs::Open::layers_in))]
+pub fn meets(env: &Env, bound: &Names, name: &str) -> Option<usize>
+    ensures { result ≡ meets_in (names_in bound.now) name.now (layers env.now) }
+{
     match env {
         Env::Top => None,
         Env::In(layer, outer) => {
-            if is_variable_scope(layer.scope)
+            if takes(Standing::Variable, layer.scope)
                 || bound.ways(layer.number, name).has(Standing::CatchParameter)
             {
                 Some(layer.number)

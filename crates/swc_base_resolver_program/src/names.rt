@@ -1,13 +1,15 @@
 //! The names that a scope takes, and how they are bound.
-ghost use Rattle.std.specs.Prelude.{◌≡◌, ◌||◌, false, IsTrue, OnOk};
-ghost use Rattle.swc_base_resolver_program.specs.Names.{has_way, is_same, ways_of};
+ghost use Rattle.std.specs.Prelude.{◌≡◌, ℕ, List, OnOk};
+ghost use Rattle.swc_tree_scoping.specs.Declares.{is_no_variable as binds_otherwise, is_parameter as binds_parameter, is_settled as binds_settled, stops as binds_stop, stops_or_function as binds_stop_or_function};
+ghost use Rattle.swc_base_resolver_program.specs.Names.{any_way, has_way, no_ways, ways_of, with_way};
+ghost use Rattle.swc_base_resolver_program.specs.Inserted.{IsInserted};
 
 use std::alloc::{AllocError, Global};
 use std::collections::HashMap;
 use swc_tree_scoping::Standing;
 
 /// The ways in which a scope takes one name.
-#[derive(Clone, Copy, Debug, Default)]
+#[derive(Clone, Copy, Debug)]
 pub struct Ways {
     variable: bool,
     lexical: bool,
@@ -22,6 +24,24 @@ pub struct Ways {
 }
 
 impl Ways {
+    /// No way: the scope does not take the name.
+    pub fn none() -> Ways
+        ensures { result ≡ no_ways }
+    {
+        Ways {
+            variable: false,
+            lexical: false,
+            function: false,
+            block_function: false,
+            sloppy_function: false,
+            parameter: false,
+            catch_parameter: false,
+            import: false,
+            function_name: false,
+            class_name: false,
+        }
+    }
+
     /// Whether the name is bound so.
     pub fn has(&self, standing: Standing) -> bool
         ensures { result ≡ has_way self.now standing }
@@ -42,17 +62,30 @@ impl Ways {
     }
 
     /// Whether it is a parameter's name.
-    pub fn is_parameter(&self) -> bool {
+    pub fn is_parameter(&self) -> bool
+        ensures { result ≡ any_way binds_parameter self.now }
+    {
         self.parameter || self.catch_parameter
     }
 
     /// Whether it stops a `var` of the name on its way out of blocks.
-    pub fn stops(&self) -> bool {
+    pub fn stops(&self) -> bool
+        ensures { result ≡ any_way binds_stop self.now }
+    {
         self.lexical || self.import || self.parameter || self.catch_parameter
     }
 
+    /// Whether it stops a `var` of the name, or is a function's of a block.
+    pub fn stops_or_function(&self) -> bool
+        ensures { result ≡ any_way binds_stop_or_function self.now }
+    {
+        self.stops() || self.block_function || self.sloppy_function
+    }
+
     /// Whether it is bound by something else than variables and plain functions of sloppy code in blocks.
-    pub fn is_no_variable(&self) -> bool {
+    pub fn is_no_variable(&self) -> bool
+        ensures { result ≡ any_way binds_otherwise self.now }
+    {
         self.lexical
             || self.function
             || self.block_function
@@ -64,12 +97,16 @@ impl Ways {
     }
 
     /// Whether it is bound by something else than plain functions of sloppy code in blocks.
-    pub fn is_settled(&self) -> bool {
+    pub fn is_settled(&self) -> bool
+        ensures { result ≡ any_way binds_settled self.now }
+    {
         self.variable || self.is_no_variable()
     }
 
     // The same with one way more, if names are bound so.
-    fn with(mut self, standing: Standing) -> Ways {
+    fn with(mut self, standing: Standing) -> Ways
+        ensures { result ≡ with_way self standing }
+    {
         match standing {
             Standing::Variable => self.variable = true,
             Standing::Lexical => self.lexical = true,
@@ -97,7 +134,9 @@ pub struct ScopeNames {
 
 impl ScopeNames {
     /// Those of a scope that takes none.
-    pub fn new(alloc: Global) -> ScopeNames {
+    pub fn new(alloc: Global) -> ScopeNames
+        ensures { (x : List ℕ) → ways_of result x ≡ no_ways }
+    {
         ScopeNames {
             names: HashMap::new(alloc),
         }
@@ -109,7 +148,7 @@ impl ScopeNames {
     {
         match self.names.get(name) {
             Some(ways) => *ways,
-            None => Ways::default(),
+            None => Ways::none(),
         }
     }
 
@@ -119,7 +158,9 @@ impl ScopeNames {
         alloc: Global,
         name: &str,
         standing: Standing,
-    ) -> Result<(), AllocError> {
+    ) -> Result<(), AllocError>
+        ensures { OnOk result (IsInserted self.old self.new name.now standing) }
+    {
         let ways = self.get(name).with(standing);
         let copy = String::from_str(alloc, name)?;
         self.names.insert(copy, ways)?;

@@ -1,4 +1,13 @@
 //! The last walk: writes the context of each identifier.
+ghost use Rattle.std.specs.Prelude.{◌≡◌, ◌+◌, ◌≤◌, [], ◌∷◌, length, IfOk, OnOk, MatchOption};
+ghost use Rattle.swc_tree_scoping.specs.Below.{place_of, view_of};
+ghost use Rattle.swc_tree_scoping.specs.Folds.{each_in};
+ghost use Rattle.swc_tree_scoping.specs.Places.{program_place};
+ghost use Rattle.swc_tree_scoping.specs.Scopes.{scope_count, total};
+ghost use Rattle.swc_tree_scoping.specs.Resolved.{is_global_value as names_global_value, is_script as is_script_node, remarked};
+ghost use Rattle.swc_base_resolver_program.specs.Lookup.{layers};
+ghost use Rattle.swc_base_resolver_program.specs.Walks.{context_of, fresh_context, mark_at as mark_by, marking_in, own_number, pick, walked, written};
+
 use crate::env::{Env, Layer, seen, taker};
 use crate::lookup::{Declarations, function_owner, meaning, variable_owner};
 use std::alloc::AllocError;
@@ -20,7 +29,10 @@ pub struct Answers<'a> {
 }
 
 /// The program with the context of each identifier that had none.
-pub fn write_contexts(program: Node, answers: &Answers) -> Result<Node, AllocError> {
+pub fn write_contexts(program: Node, answers: &Answers) -> Result<Node, AllocError>
+    requires { scope_count program_place program ≤ length answers.now.marks.now }
+    ensures { IfOk result (λ answer. answer ≡ remarked (written (marking_in answers.now) [] 0 program_place program) program) }
+{
     let mut next = 0;
     let answer = resolve(program, PROGRAM_PLACE, answers, &Env::Top, &mut next)?;
     Ok(answer)
@@ -34,7 +46,11 @@ fn resolve(
     answers: &Answers,
     env: &Env,
     next: &mut usize,
-) -> Result<Node, AllocError> {
+) -> Result<Node, AllocError>
+    requires { next.old + scope_count place node ≤ length answers.now.marks.now }
+    ensures answer { IfOk result (λ answer. answer ≡ remarked (written (marking_in answers.now) (layers env.now) next.old place node) node) }
+    ensures next { OnOk result (next.new ≡ next.old + scope_count place node) }
+{
     match node {
         Node::Identifier(kind, mut ident) => {
             mark_identifier(ident.get_mut(), place.standing, &*answers, &*env)?;
@@ -49,6 +65,7 @@ fn resolve(
             let places = places_of_fields(place, kind, fields.as_slice());
             match places.opened() {
                 Some(scope) => {
+                    prove!(*next < answers.marks.len());
                     let layer = Layer {
                         scope,
                         number: *next,
@@ -95,7 +112,11 @@ fn resolve_children(
     parameters: &Env,
     whole: &Env,
     next: &mut usize,
-) -> Result<Items<Node>, AllocError> {
+) -> Result<Items<Node>, AllocError>
+    requires { next.old + total (each_in scope_count (place_of places) nodes) ≤ length answers.now.marks.now }
+    ensures answer { IfOk result (λ answer. answer ≡ walked (marking_in answers.now) (λ i. pick (view_of places i) (layers outside.now) (layers parameters.now) (layers whole.now)) next.old (place_of places) nodes) }
+    ensures next { OnOk result (next.new ≡ next.old + total (each_in scope_count (place_of places) nodes)) }
+{
     for i in 0..nodes.len() {
         let node = nodes.replace(i, Node::Absent);
         let env = seen(places.view(i), &*outside, &*parameters, &*whole);
@@ -111,7 +132,9 @@ fn mark_identifier(
     standing: Standing,
     answers: &Answers,
     env: &Env,
-) -> Result<(), AllocError> {
+) -> Result<(), AllocError>
+    ensures { OnOk result (ident.new ≡ record ident.old { ctxt = context_of (marking_in answers.now) standing (layers env.now) ident.old }) }
+{
     if !ident.ctxt.marks().is_empty() {
         return Ok(());
     }
@@ -125,7 +148,9 @@ fn mark_identifier(
 }
 
 // The mark that an identifier is to have, if it is to have one.
-fn mark_of(standing: Standing, name: &str, answers: &Answers, env: &Env) -> Option<Mark> {
+fn mark_of(standing: Standing, name: &str, answers: &Answers, env: &Env) -> Option<Mark>
+    ensures { let context = fresh_context (marking_in answers.now) standing name.now (layers env.now) in MatchOption result (context ≡ []) (λ mark. context ≡ mark ∷ []) }
+{
     match standing {
         Standing::Reference | Standing::Body => {
             let scope = own_meaning(answers, name, meaning(env, &answers.declarations, name));
@@ -145,19 +170,25 @@ fn mark_of(standing: Standing, name: &str, answers: &Answers, env: &Env) -> Opti
 }
 
 // What is meant in a script, where `undefined`, `NaN` and `Infinity` are free though the program declares them.
-fn own_meaning(answers: &Answers, name: &str, scope: Option<usize>) -> Option<usize> {
+fn own_meaning(answers: &Answers, name: &str, scope: Option<usize>) -> Option<usize>
+    ensures { result ≡ own_number (marking_in answers.now) name.now scope }
+{
     match scope {
         Some(0) if answers.is_script && is_global_value(name) => None,
         _ => scope,
     }
 }
 
-fn is_global_value(name: &str) -> bool {
+fn is_global_value(name: &str) -> bool
+    ensures { result ≡ names_global_value name.now }
+{
     name == "undefined" || name == "NaN" || name == "Infinity"
 }
 
 // The mark of a scope; that of free names where there is none.
-fn mark_at(answers: &Answers, scope: Option<usize>) -> Mark {
+fn mark_at(answers: &Answers, scope: Option<usize>) -> Mark
+    ensures { result ≡ mark_by (marking_in answers.now) scope }
+{
     match scope {
         Some(number) => match answers.marks.get(number) {
             Some(mark) => *mark,
@@ -168,6 +199,8 @@ fn mark_at(answers: &Answers, scope: Option<usize>) -> Mark {
 }
 
 /// Whether a program is a script.
-pub fn is_script(program: &Node) -> bool {
+pub fn is_script(program: &Node) -> bool
+    ensures { result ≡ is_script_node program.now }
+{
     matches!(program, Node::Tree(Kind::Script, _))
 }

@@ -1,0 +1,5 @@
+pub mod Under
+pub mod Children
+pub mod Remarked
+pub mod First
+pub mod Program

@@ -1,0 +1,41 @@
+-- The places below a node are those that the code keeps.
+use Rattle.std.proofs.Common.{◌≡◌, ℕ, List, refl, sym, ap, ◌∙◌}
+use Rattle.swc_tree_node.specs.declared.kind.Kind.{Kind}
+use Rattle.swc_tree_node.specs.declared.slot.Role.{Role}
+use Rattle.swc_tree_node.specs.declared.slot.Role.TheVariants as role
+use Rattle.swc_tree_node.specs.declared.node.Node.{Node, List as Many, Tree}
+use Rattle.swc_tree_node.specs.declared.node.Node.TheVariants.{outs-List, outs-Tree}
+use Rattle.swc_tree_scoping.specs.declared.places.Place.{Place}
+use Rattle.swc_tree_scoping.specs.declared.below.PlacesBelow.TheVariants as below
+use Rattle.swc_tree_scoping.specs.Places.{field_role, opened, opened_in, place_below, place_in, standing_below, view_from}
+use Rattle.swc_tree_scoping.specs.Scopes.{view_in}
+use Rattle.swc_tree_scoping.specs.Below.{fields_are, place_of, scope_of_fields, standing_by, view_of}
+
+pub items_below : (w : Place) (ts : List Node) → place_of (below.Items w) ≡ place_below w (Many ts)
+items_below w ts = sym (ap (place_in w) (outs-List ts))
+
+standing_is : (w : Place) (k : Kind) (ts : List Node) (i : ℕ) (r : Role) → standing_by (fields_are w k ts) i r ≡ standing_below w k ts i r
+standing_is w k ts i role.Plain = refl
+standing_is w k ts i role.Inherited = refl
+standing_is w k ts i role.Reference = refl
+standing_is w k ts i role.Declared = refl
+standing_is w k ts i role.Function = refl
+standing_is w k ts i role.Class = refl
+standing_is w k ts i role.OwnName = refl
+standing_is w k ts i role.Parameter = refl
+standing_is w k ts i role.Catch = refl
+standing_is w k ts i role.Import = refl
+standing_is w k ts i role.Variable = refl
+standing_is w k ts i role.Lexical = refl
+standing_is w k ts i role.FunctionBody = refl
+standing_is w k ts i role.ExportLocal = refl
+standing_is w k ts i role.Label = refl
+standing_is w k ts i role.Imported = refl
+standing_is w k ts i role.Exported = refl
+
+pub fields_below : (w : Place) (k : Kind) (ts : List Node) → place_of (below.Fields (fields_are w k ts)) ≡ place_below w (Tree k ts)
+fields_below w k ts = λ j i. (ap (λ s. record (place_of (below.Fields (fields_are w k ts)) i) { standing = s }) (standing_is w k ts i (field_role k i)) ∙ sym (ap (λ y. place_in w y i) (outs-Tree k ts))) j
+
+pub fields_opened : (w : Place) (k : Kind) (ts : List Node) → scope_of_fields (below.Fields (fields_are w k ts)) ≡ opened w (Tree k ts)
+fields_opened w k ts = sym (ap (opened_in w) (outs-Tree k ts))
+
