@@ -1,8 +1,7 @@
 -- Tables that take no name.
-use Rattle.std.proofs.Common.{◌≡◌, ℕ, zero, suc, Option, Some, None, List, [], ◌∷◌, ◌++◌, refl, ap, ◌∙◌}
-use Rattle.std.specs.List.{slice_get}
+use Rattle.std.proofs.Common.{◌≡◌, ℕ, zero, suc, List, [], ◌∷◌, ◌++◌, refl, ap, ◌∙◌}
 use Rattle.swc_base_resolver_program.specs.declared.names.ScopeNames.{ScopeNames}
-use Rattle.swc_base_resolver_program.specs.Names.{no_ways, ways_if, ways_in, ways_of}
+use Rattle.swc_base_resolver_program.specs.Names.{no_ways, ways_in, ways_of}
 use Rattle.swc_base_resolver_program.specs.Walks.{AreEmpty}
 
 empty_at : (ss : List ScopeNames) (s : ScopeNames) → AreEmpty ss → ((x : List ℕ) → ways_of s x ≡ no_ways) → (k : ℕ) (x : List ℕ) → ways_in (ss ++ s ∷ []) k x ≡ no_ways

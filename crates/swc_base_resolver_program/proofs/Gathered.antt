@@ -29,10 +29,10 @@ use Rattle.swc_tree_scoping.proofs.Children.{fields_below, fields_opened, items_
 use Rattle.swc_base_resolver_program.specs.declared.names.ScopeNames.{ScopeNames}
 use Rattle.swc_base_resolver_program.specs.declared.collect.Stage.{Stage}
 use Rattle.swc_base_resolver_program.specs.declared.collect.Stage.TheVariants as stage
-use Rattle.swc_base_resolver_program.specs.Names.{has_way, is_way, ways_if, ways_in, ways_of, with_way}
+use Rattle.swc_base_resolver_program.specs.Names.{has_way, is_way, ways_if, ways_of, with_way}
 use Rattle.swc_base_resolver_program.specs.Inserted.{IsInserted}
 use Rattle.swc_base_resolver_program.specs.Lookup.{Open, taker_in}
-use Rattle.swc_base_resolver_program.specs.Walks.{AreEmpty, Gains, IsAdded, Reaches, ReachesBelow, ReachesHere, before, entered, has_at, open_at, open_round, pick, target_in}
+use Rattle.swc_base_resolver_program.specs.Walks.{Gains, IsAdded, Reaches, ReachesBelow, ReachesHere, before, entered, has_at, open_at, open_round, pick, target_in}
 use Rattle.swc_base_resolver_program.proofs.Counted.{count_out}
 use Rattle.swc_base_resolver_program.proofs.Ways.{one_way, or_cases, or_left, or_right, with_has}
 
@@ -157,17 +157,23 @@ module _ (s : Stage) (env : List Open) (n : ℕ) (w : Place) (t : Node) where
       where
         at : (o : Option Node) → child t j ≡ o → Below k r x
         at None h = let q = sym (no_place_under w t j p h) ∙ place in absurd (cc)
-        at (Some c) h = (j, c, within (children_in (out-Node t)) j c h, h, record {
-          path = p;
-          place = v;
-          kind = kd;
-          identifier = i;
-          stands = sym (place_under w t c j p h) ∙ place;
-          stands_so = so;
-          named = name;
-          unmarked = none;
-          given_to = sym (ap (target_in s r x) (round_under c j p h)) ∙ to;
-        })
+        at (Some c) h = (
+          j,
+          c,
+          within (children_in (out-Node t)) j c h,
+          h,
+          record {
+            path = p;
+            place = v;
+            kind = kd;
+            identifier = i;
+            stands = sym (place_under w t c j p h) ∙ place;
+            stands_so = so;
+            named = name;
+            unmarked = none;
+            given_to = sym (ap (target_in s r x) (round_under c j p h)) ∙ to;
+          },
+        )
 
     pub by_children : Reaches s env n w t k r x ↔ Below k r x
     by_children = (

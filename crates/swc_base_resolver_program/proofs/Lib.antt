@@ -6,3 +6,8 @@ pub mod Inserts
 pub mod Empties
 pub mod Gathered
 pub mod Walked
+pub mod Numbers
+pub mod Rounds
+pub mod Declared
+pub mod Theorem
+pub mod Together

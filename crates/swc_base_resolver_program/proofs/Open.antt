@@ -1,5 +1,5 @@
 -- What is found among the open scopes.
-use Rattle.std.proofs.Common.{◌≡◌, ℕ, [], ◌∷◌, Bor, refl}
+use Rattle.std.proofs.Common.{◌≡◌, [], ◌∷◌, Bor, refl}
 use Rattle.swc_base_resolver_program.specs.declared.env.Env.{Env, out-Env, fold_out-Env}
 use Rattle.swc_base_resolver_program.specs.declared.env.Env.TheVariants.{In, outs-In}
 use Rattle.swc_base_resolver_program.specs.declared.env.Env.TheOpen.{Env-F}

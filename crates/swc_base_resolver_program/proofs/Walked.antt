@@ -1,5 +1,5 @@
 -- What the last walk leaves of a node.
-use Rattle.std.proofs.Common.{◌≡◌, ℕ, zero, suc, ◌+◌, ◌<◌, ◌≤◌, true, false, Option, Some, None, List, [], ◌∷◌, ◌++◌, map, take, drop, length, refl, sym, ap, ◌∙◌, arith, add-one}
+use Rattle.std.proofs.Common.{◌≡◌, ℕ, zero, suc, ◌+◌, ◌<◌, ◌≤◌, true, false, Option, Some, None, List, [], ◌∷◌, ◌++◌, take, drop, length, refl, sym, ap, ◌∙◌, arith, add-one}
 use denote.Param.Weighed.{most}
 use Rattle.std.specs.List.{slice_get, slice_set}
 use Rattle.std.specs.Option.{is_some}
@@ -16,7 +16,6 @@ use Rattle.swc_tree_scoping.specs.Resolved.{Contexts, remarked}
 use Rattle.swc_tree_scoping.proofs.Remarked.{each_remarked, remarked-List, remarked-Tree}
 use Rattle.swc_base_resolver_program.specs.Lookup.{Open}
 use Rattle.swc_base_resolver_program.specs.Walks.{Marking, before, entered, open_round, context_at, pick, walked, written}
-use Rattle.swc_base_resolver_program.proofs.Counted.{total_next}
 use Rattle.swc_base_resolver_program.proofs.Gathered.{Known, opened_envs, plain_envs}
 
 module _ (a : Marking) where

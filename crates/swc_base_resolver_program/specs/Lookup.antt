@@ -74,7 +74,7 @@ meaning_in d x = found (declares_in d x)
 abbrev pub otherwise_in : Tables → List ℕ → ℕ → Bool
 otherwise_in d x k = any_way is_no_variable (d.bound k x) || (has_way (d.reached k x) standing.SloppyFunction || has_way (d.reached k x) standing.Variable)
 
-abbrev owner_of_variable : Tables → List ℕ → List Open → Option ℕ → Option ℕ
+abbrev pub owner_of_variable : Tables → List ℕ → List Open → Option ℕ → Option ℕ
 owner_of_variable d x os None = None
 owner_of_variable d x os (Some k) = if otherwise_in d x k then meets_in d.bound x os else Some k
 

@@ -1,5 +1,5 @@
 -- The walks by paths: which scopes are open at a path, what a walk adds to the tables, what it writes.
-use Rattle.std.specs.Prelude.{◌≡◌, ℕ, zero, suc, ◌+◌, ◌<◌, Bool, true, false, ◌⊎◌, ◌↔◌, IsTrue, Option, Some, None, is_some, List, [], ◌∷◌, ◌++◌, map, take, length, slice_get, if◌then◌else◌, ◌&&◌}
+use Rattle.std.specs.Prelude.{◌≡◌, ℕ, zero, suc, ◌+◌, ◌<◌, Bool, ◌⊎◌, ◌↔◌, IsTrue, Option, Some, None, is_some, List, [], ◌∷◌, ◌++◌, map, take, length, slice_get, if◌then◌else◌, ◌&&◌}
 use Rattle.std.specs.List.{range_with_len, slice_index_or}
 use Rattle.swc_tree_marks.specs.declared.ident.Ident.{Ident}
 use Rattle.swc_tree_node.specs.declared.kind.Kind.{Kind}

@@ -7,9 +7,8 @@ use Rattle.swc_tree_node.specs.declared.node.Node.{Node, List as Many, Tree}
 use Rattle.swc_tree_node.specs.declared.node.Node.TheVariants.{outs-List, outs-Tree}
 use Rattle.swc_tree_scoping.specs.declared.places.Place.{Place}
 use Rattle.swc_tree_scoping.specs.declared.below.PlacesBelow.TheVariants as below
-use Rattle.swc_tree_scoping.specs.Places.{field_role, opened, opened_in, place_below, place_in, standing_below, view_from}
-use Rattle.swc_tree_scoping.specs.Scopes.{view_in}
-use Rattle.swc_tree_scoping.specs.Below.{fields_are, place_of, scope_of_fields, standing_by, view_of}
+use Rattle.swc_tree_scoping.specs.Places.{field_role, opened, opened_in, place_below, place_in, standing_below}
+use Rattle.swc_tree_scoping.specs.Below.{fields_are, place_of, scope_of_fields, standing_by}
 
 pub items_below : (w : Place) (ts : List Node) → place_of (below.Items w) ≡ place_below w (Many ts)
 items_below w ts = sym (ap (place_in w) (outs-List ts))
@@ -38,4 +37,3 @@ fields_below w k ts = λ j i. (ap (λ s. record (place_of (below.Fields (fields_
 
 pub fields_opened : (w : Place) (k : Kind) (ts : List Node) → scope_of_fields (below.Fields (fields_are w k ts)) ≡ opened w (Tree k ts)
 fields_opened w k ts = sym (ap (opened_in w) (outs-Tree k ts))
-

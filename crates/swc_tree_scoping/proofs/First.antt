@@ -1,8 +1,7 @@
 -- The scopes round a path: each is a scope, each has round it those that come after it, and in a program there is
 -- one that takes what is bound.
-use Rattle.std.proofs.Common.{◌≡◌, ℕ, Bool, true, false, IsTrue, ◌↔◌, inl, inr, Option, Some, None, List, [], ◌∷◌, ◌++◌, map, refl, sym, ap, ◌∙◌, subst, arith, cond, append-nil, append_assoc}
+use Rattle.std.proofs.Common.{◌≡◌, ℕ, Bool, true, false, IsTrue, Option, Some, None, List, [], ◌∷◌, ◌++◌, map, refl, sym, ap, ◌∙◌, subst, cond}
 use Rattle.std.specs.Option.{is_some}
-use Rattle.std.proofs.lemmas.List.{map-append}
 use Rattle.swc_tree_node.specs.declared.node.Node.{Node, out-Node}
 use Rattle.swc_tree_node.specs.declared.node.Node.TheOpen.{Node-F}
 use Rattle.swc_tree_scoping.specs.declared.places.Standing.{Standing}
@@ -13,9 +12,9 @@ use Rattle.swc_tree_scoping.specs.declared.places.View.{View}
 use Rattle.swc_tree_scoping.specs.declared.places.View.TheVariants as view
 use Rattle.swc_tree_node.specs.declared.kind.Kind.{Kind}
 use Rattle.swc_tree_node.specs.declared.kind.Kind.TheVariants as kind
-use Rattle.swc_tree_scoping.specs.Places.{Path, child, given, opened, opened_as, opened_in, place_at, place_below, program_place, view_from}
+use Rattle.swc_tree_scoping.specs.Places.{Path, child, given, opened, opened_as, opened_in, place_below, program_place, view_from}
 use Rattle.swc_tree_scoping.specs.Scopes.{Round, is_binding, is_taken, rounds, scope_at, seen_as, view_in, first_that, taker}
-use Rattle.swc_tree_scoping.proofs.Under.{lower, no_place_under, no_rounds_under, rounds_under, scope_under}
+use Rattle.swc_tree_scoping.proofs.Under.{lower, no_rounds_under, rounds_under, scope_under}
 
 -- each of a list of rounds
 abbrev pub Each : (Round → Type 0) → List Round → Type 0

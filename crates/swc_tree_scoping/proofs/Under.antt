@@ -1,15 +1,13 @@
 -- A node and its children: induction, folds, and a path from a node down by its first step.
-use Rattle.std.proofs.Common.{◌≡◌, ℕ, zero, suc, Bool, true, false, ◌&&◌, Option, Some, None, List, [], ◌∷◌, ◌++◌, map, refl, sym, ap, ◌∙◌, subst, cond}
+use Rattle.std.proofs.Common.{◌≡◌, ℕ, zero, suc, Some, None, List, [], ◌∷◌, ◌++◌, map, refl, sym, ap, ◌∙◌, subst}
 use Rattle.std.specs.List.{slice_get}
-use Rattle.std.specs.Option.{is_some, option_and_then}
+use Rattle.std.specs.Option.{option_and_then}
 use Rattle.swc_tree_node.specs.declared.node.Node.{Node, out-Node, roll-Node, map-Node, ind-Node, fold-Node, fold_out-Node, out-roll-Node, roll-out-Node}
 use Rattle.swc_tree_node.specs.declared.node.Node.TheOpen.{Node-F}
-use Rattle.swc_tree_scoping.specs.declared.places.Standing.{Standing}
 use Rattle.swc_tree_scoping.specs.declared.places.Place.{Place}
-use Rattle.swc_tree_scoping.specs.declared.places.Scope.{Scope}
 use Rattle.swc_tree_scoping.specs.Places.{Path, children_in, child, opened, place_below, given, place_at}
 use Rattle.swc_tree_scoping.specs.Folds.{each_in, InPlace, place_step, fold_in_place}
-use Rattle.swc_tree_scoping.specs.Scopes.{Round, scope_at, view_in, seen_as, rounds, first_that, is_taken}
+use Rattle.swc_tree_scoping.specs.Scopes.{Round, scope_at, view_in, seen_as, rounds}
 
 -- a layer under a map
 children-map : {X Y : Type 0} (f : X → Y) (y : Node-F X) → children_in (map-Node X Y f y) ≡ map f (children_in y)

@@ -57,7 +57,7 @@ pub record Hoisted (t : Node) (s : Path) (name : List ℕ) : Type 0 where
   pub block : Path
   pub bound : Bound t block standing.SloppyFunction name
   pub hoists : Hoists t block name
-  pub reaches : variable_scope t block ≡ Some s
+  pub reaches : variable_scope t bound.path ≡ Some s
 
 abbrev pub is_settled : Standing → Bool
 is_settled standing.SloppyFunction = false

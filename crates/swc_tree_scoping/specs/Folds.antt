@@ -1,6 +1,6 @@
 -- Folds that know the place of each node.
-use Rattle.std.specs.Prelude.{ℕ, zero, suc, List, [], ◌∷◌, map}
-use Rattle.swc_tree_node.specs.declared.node.Node.{Node, out-Node, roll-Node, map-Node, fold-Node}
+use Rattle.std.specs.Prelude.{ℕ, zero, suc, List, [], ◌∷◌}
+use Rattle.swc_tree_node.specs.declared.node.Node.{Node, roll-Node, map-Node, fold-Node}
 use Rattle.swc_tree_node.specs.declared.node.Node.TheOpen.{Node-F}
 use Rattle.swc_tree_scoping.specs.declared.places.Place.{Place}
 use Rattle.swc_tree_scoping.specs.Places.{children_in, place_below}

@@ -2,7 +2,7 @@
 --
 -- A path is the list of the children to go through, from a node down to another: a child is a field of a
 -- tree, by its number in the table, or an item of a list, by its number in the list.
-use Rattle.std.specs.Prelude.{ℕ, zero, suc, Bool, true, false, not, ◌&&◌, ◌||◌, ◌==◌, Option, Some, None, is_some, List, [], ◌∷◌, slice_get, unwrap_or, option_map, codes, if◌then◌else◌}
+use Rattle.std.specs.Prelude.{ℕ, Bool, true, false, not, ◌&&◌, ◌||◌, ◌==◌, Option, Some, None, List, [], ◌∷◌, slice_get, unwrap_or, option_map, codes, if◌then◌else◌}
 use Rattle.std.specs.Str.{bytes_eq}
 use Rattle.swc_tree_node.specs.declared.kind.Word.{Word}
 use Rattle.swc_tree_node.specs.declared.kind.Word.TheVariants as word

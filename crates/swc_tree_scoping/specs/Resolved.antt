@@ -69,7 +69,7 @@ HasVariableMark marks t p name c = (m f : Path) × Meets t p name (Some m) × (v
 
 -- a plain function in a block of sloppy code has the mark of the scope that it is declared in
 abbrev pub HasFunctionMark : (Path → ℕ) → Node → Path → List ℕ → List ℕ → Type 0
-HasFunctionMark marks t p name c = (b f : Path) × (taker standing.SloppyFunction t p ≡ Some b) × (variable_scope t b ≡ Some f)
+HasFunctionMark marks t p name c = (b f : Path) × (taker standing.SloppyFunction t p ≡ Some b) × (variable_scope t p ≡ Some f)
     × ((Hoists t b name × (c ≡ marks f ∷ [])) ⊎ (¬ Hoists t b name × (c ≡ marks b ∷ [])))
 
 -- any other binding has the mark of the scope that takes it

@@ -1,7 +1,6 @@
 -- Which scopes stand round a place, and in which of them an identifier is bound (ECMA-262, 8.2 BoundNames,
 -- LexicallyScopedDeclarations, VarScopedDeclarations; 9.1 Environment Records).
-use Rattle.std.specs.Prelude.{◌≡◌, ℕ, ◌+◌, Bool, true, false, IsTrue, Option, Some, None, is_some, option_and_then, List, [], ◌∷◌, ◌++◌, map, if◌then◌else◌}
-use Rattle.swc_tree_node.specs.declared.kind.Kind.{Kind}
+use Rattle.std.specs.Prelude.{ℕ, ◌+◌, Bool, true, false, IsTrue, Option, Some, None, is_some, option_and_then, List, [], ◌∷◌, ◌++◌, map, if◌then◌else◌}
 use Rattle.swc_tree_node.specs.declared.node.Node.{Node, out-Node}
 use Rattle.swc_tree_node.specs.declared.node.Node.TheOpen.{Node-F}
 use Rattle.swc_tree_scoping.specs.declared.places.Standing.{Standing}

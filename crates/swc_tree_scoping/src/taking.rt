@@ -8,10 +8,7 @@ use crate::places::{Scope, Standing};
 pub fn is_variable_scope(scope: Scope) -> bool
     ensures { result ≡ takes_variables scope }
 {
-    matches!(
-        scope,
-        Scope::Program | Scope::Function | Scope::StaticBlock
-    )
+    matches!(scope, Scope::Program | Scope::Function | Scope::StaticBlock)
 }
 
 fn is_name_scope(scope: Scope) -> bool

@@ -1,13 +1,13 @@
 use Rattle.std.proofs.Common.{ℕ, List, arith, rules, refl, sym, ap, ◌∙◌}
 use Rattle.std.specs.Option.{is_some}
 use Rattle.std.proofs.lemmas.Option.{slice_get_read}
-use Rattle.swc_tree_node.specs.declared.node.Node.{Node, Identifier, List as Many, Tree, the_lemmas}
+use Rattle.swc_tree_node.specs.declared.node.Node.{Identifier, List as Many, Tree, the_lemmas}
 use Rattle.swc_tree_scoping.specs.Below.{place_of, scope_of_fields, view_of}
 use Rattle.swc_tree_scoping.specs.Scopes.{one_if, scope_count}
 use Rattle.swc_base_resolver_program.specs.Lookup.{Open, layers}
-use Rattle.swc_base_resolver_program.specs.Walks.{Reaches, ReachesBelow, ReachesHere, pick}
+use Rattle.swc_base_resolver_program.specs.Walks.{Reaches, ReachesHere, pick}
 use Rattle.swc_base_resolver_program.proofs.Counted.{total_next, total_part}
-use Rattle.swc_base_resolver_program.proofs.Gathered.{by_itself, child_gains, picked, counted, gains_alike, gains_both, known_list, known_tree, leaf, leaf_count, leaf_gains, one_below, opened_gains, plain_gains}
+use Rattle.swc_base_resolver_program.proofs.Gathered.{by_itself, child_gains, picked, counted, gains_alike, known_list, known_tree, leaf, leaf_count, leaf_gains, opened_gains, plain_gains}
 use Rattle.swc_base_resolver_program.proofs.Open.{layers_inside}
 use Rattle.swc_base_resolver_program.proofs.collect.+gather.Goals as goal
 

@@ -1,6 +1,6 @@
-use Rattle.std.proofs.Common.{◌≡◌, sym, refl, ap, ◌∙◌, ◌==◌, length}
+use Rattle.std.proofs.Common.{sym, ◌∙◌}
 use Rattle.swc_base_resolver_program.specs.Lookup.{layers}
-use Rattle.swc_base_resolver_program.proofs.Gathered.{targeted_gains, unbound_gains, untargeted_gains, no_marks}
+use Rattle.swc_base_resolver_program.proofs.Gathered.{unbound_gains}
 use Rattle.swc_base_resolver_program.proofs.collect.gather_identifier.Goals as goal
 
 pub returns-then-not-is_binding : goal.returns-then-not-is_binding

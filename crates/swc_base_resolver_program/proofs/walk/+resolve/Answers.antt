@@ -1,4 +1,4 @@
-use Rattle.std.proofs.Common.{ℕ, List, arith, rules, refl, sym, ap, ◌∙◌, ◌<◌, ◌+◌, length, length-set}
+use Rattle.std.proofs.Common.{ℕ, List, arith, rules, refl, sym, ap, ◌∙◌, length-set}
 use Rattle.std.specs.Option.{is_some}
 use Rattle.swc_tree_node.specs.declared.node.Node.{Node, List as Many, Tree, the_lemmas}
 use Rattle.swc_tree_scoping.specs.declared.below.PlacesBelow.TheVariants.{Fields}
