@@ -11,14 +11,13 @@ use Rattle.swc_tree_node.specs.declared.node.Node.{Node, Absent, Flag, Word, Tex
 use Rattle.swc_tree_node.specs.declared.node.Node.TheOpen.{Node-F}
 use Rattle.swc_tree_node.specs.declared.node.Node.TheVariants.{outs-Tree, rolls-Absent, rolls-Flag, rolls-Word, rolls-Text, rolls-Span, rolls-List, rolls-Identifier, rolls-Tree}
 use Rattle.swc_tree_node.specs.declared.slot.Content.TheVariants as content
-use Rattle.swc_tree_node.specs.declared.slot.Role.TheVariants as role
-use Rattle.swc_tree_node.specs.declared.slot.Scope.TheVariants as scope
 use Rattle.swc_tree_node.specs.declared.slot.Slot.TheVariants as slot
 use Rattle.swc_tree_node.specs.Fits.{Fits}
 use Rattle.swc_tree_node.specs.Table.{kinds_of, is_identifier}
 use Rattle.swc_tree_node.proofs.Fit.{fits-Absent, fits-Flag, fits-Word, fits-Text, fits-Span, fits-List}
 use Rattle.swc_tree_handle.proofs.Handles.{sole_tree, sole_unnamed}
-use Rattle.swc_tree_scoping.specs.Scopes.{opened}
+use Rattle.swc_tree_scoping.specs.declared.places.Scope.TheVariants as scope
+use Rattle.swc_tree_scoping.specs.Places.{opened, program_place}
 use Rattle.jsbase_engine.specs.declared.arguments.Kind.{Kind as Goal}
 use Rattle.jsbase_engine.specs.declared.arguments.Kind.TheVariants as goal
 use Rattle.jsbase_engine.specs.Run.{class_of}
@@ -60,9 +59,9 @@ sole_fields t c l h e n = by_form P
     P t = Fits t (slot.One (content.Node c)) → (ts : List Node) × (t ≡ Tree l ts)
 
 IsProgram : Node → Type 0
-IsProgram t = opened role.Plain t ≡ Some scope.Program
+IsProgram t = opened program_place t ≡ Some scope.Program
 
-pub is_program : (k : Goal) (t : Node) → Fits t (slot.One (content.Node (class_of k))) → opened role.Plain t ≡ Some scope.Program
+pub is_program : (k : Goal) (t : Node) → Fits t (slot.One (content.Node (class_of k))) → opened program_place t ≡ Some scope.Program
 unfolding IsProgram
 is_program goal.Module t h = let f = sole_fields t class.Module kind.Module h refl refl in subst IsProgram (sym f.1) (simp outs-Tree refl)
 is_program goal.Script t h = let f = sole_fields t class.Script kind.Script h refl refl in subst IsProgram (sym f.1) (simp outs-Tree refl)

@@ -1,8 +1,7 @@
 //! From the bytes of an envelope to the bytes of an envelope.
 ghost use Rattle.std.specs.Prelude.{◌≡◌, ◌≢◌, Some, MatchResult, string_bytes};
-ghost use Rattle.swc_tree_node.specs.declared.slot.Role.TheVariants as role;
-ghost use Rattle.swc_tree_node.specs.declared.slot.Scope.TheVariants as scope;
-ghost use Rattle.swc_tree_scoping.specs.Scopes.{opened};
+ghost use Rattle.swc_tree_scoping.specs.declared.places.Scope.TheVariants as scope;
+ghost use Rattle.swc_tree_scoping.specs.Places.{opened, program_place};
 ghost use Rattle.swc_base_resolver_program.specs.Marked.{MarksOk};
 ghost use Rattle.jsbase_engine.specs.Run.{class_of as class_in, Answers, Does, IsFaultOf, IsResolved, IsUnparened, IsRefusedFor, IsReadFault};
 
@@ -61,7 +60,7 @@ fn read_fault(alloc: Global, error: ReadError) -> Fault
 
 // The envelope that a command makes of an envelope.
 fn answer(alloc: Global, command: Command, envelope: Envelope) -> Result<String, PassError>
-    requires program { opened role.Plain envelope.tree ≡ Some scope.Program }
+    requires program { opened program_place envelope.tree ≡ Some scope.Program }
     requires marks { MarksOk envelope.globals envelope.unresolved envelope.top }
     ensures { MatchResult result (λ text. Does command envelope (string_bytes text)) (IsRefusedFor command envelope) }
 {
@@ -73,7 +72,7 @@ fn answer(alloc: Global, command: Command, envelope: Envelope) -> Result<String,
 
 // Gives each identifier of the program of an envelope its mark.
 fn resolve(alloc: Global, envelope: Envelope) -> Result<String, PassError>
-    requires program { opened role.Plain envelope.tree ≡ Some scope.Program }
+    requires program { opened program_place envelope.tree ≡ Some scope.Program }
     requires marks { MarksOk envelope.globals envelope.unresolved envelope.top }
     ensures { MatchResult result (λ text. IsResolved envelope (string_bytes text)) (IsRefusedFor Command.Resolve envelope) }
 {
