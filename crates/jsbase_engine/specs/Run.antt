@@ -6,7 +6,7 @@ use Rattle.swc_tree_marks.specs.declared.error.PassError.TheVariants as refusal
 use Rattle.swc_tree_node.specs.declared.kind.Class.{Class}
 use Rattle.swc_tree_node.specs.declared.kind.Class.TheVariants as class
 use Rattle.swc_tree_node.specs.declared.node.Node.{Node}
-use Rattle.swc_tree_node.specs.declared.slot.Role.TheVariants as role
+use Rattle.swc_tree_scoping.specs.Places.{program_place}
 use Rattle.swc_tree_scoping.specs.Scopes.{scope_count}
 use Rattle.swc_tree_scoping.specs.Resolved.{Resolved}
 use Rattle.jsbase_form.specs.Reads.{Path, path_text}
@@ -39,7 +39,7 @@ Does command.Resolve envelope output = IsResolved envelope output
 
 -- why the command may be refused on an envelope, beside want of memory
 abbrev pub IsRefusalOf : Command → Envelope → PassError → Type 0
-IsRefusalOf command.Resolve envelope refusal.MarksSpent = 4294967295 < greatest envelope.globals + (scope_count role.Plain envelope.tree - 1)
+IsRefusalOf command.Resolve envelope refusal.MarksSpent = 4294967295 < greatest envelope.globals + (scope_count program_place envelope.tree - 1)
 IsRefusalOf command.Resolve envelope _ = ⊥
 
 -- memory was refused, or the command's pass for its own cause

@@ -1,6 +1,7 @@
 //! The resolver as a pass.
 ghost use Rattle.std.specs.Prelude.{◌≡◌, ◌≢◌, ◌+◌, ◌-◌, ◌<◌, [], None, OnOk, OnErr, IfErr, IsErrOf};
 ghost use Rattle.swc_tree_marks.specs.Globals.{greatest};
+ghost use Rattle.swc_tree_scoping.specs.Places.{program_place};
 ghost use Rattle.swc_tree_scoping.specs.Scopes.{scope_count};
 ghost use Rattle.swc_tree.specs.Passes.{IsEmptied, IsEmptiedScript, IsExtended};
 ghost use Rattle.swc_tree_modules.specs.Nodes.{module_node, script_node};
@@ -15,7 +16,6 @@ use swc_tree::JsPass;
 use swc_tree_handle::{Opened, Trees};
 use swc_tree_marks::{Globals, Mark, PassError, Span};
 use swc_tree_modules::{Module, Script};
-use swc_tree_node::Role;
 
 /// The resolver of programs whose top mark and whose mark of names that nothing declares are these. Contracts see
 /// it as the pair of the two, the unresolved mark first; neither is the root.
@@ -70,7 +70,7 @@ impl JsPass for Resolver {
         ensures refused { OnErr result (IsEmptied program.old program.new) }
         ensures marks { IsExtended globals.old globals.new }
         ensures refusal { IfErr result IsRefusal }
-        ensures spent { IsErrOf result PassError.MarksSpent → 4294967295 < greatest globals.old + (scope_count Role.Plain (module_node program.old) - 1) }
+        ensures spent { IsErrOf result PassError.MarksSpent → 4294967295 < greatest globals.old + (scope_count program_place (module_node program.old) - 1) }
     {
         let module = mem::replace(program, empty_module(alloc, program.span));
         let node = module.into_node(alloc)?;
@@ -96,7 +96,7 @@ impl JsPass for Resolver {
         ensures refused { OnErr result (IsEmptiedScript program.old program.new) }
         ensures marks { IsExtended globals.old globals.new }
         ensures refusal { IfErr result IsRefusal }
-        ensures spent { IsErrOf result PassError.MarksSpent → 4294967295 < greatest globals.old + (scope_count Role.Plain (script_node program.old) - 1) }
+        ensures spent { IsErrOf result PassError.MarksSpent → 4294967295 < greatest globals.old + (scope_count program_place (script_node program.old) - 1) }
     {
         let script = mem::replace(program, empty_script(alloc, program.span));
         let node = script.into_node(alloc)?;

@@ -1,7 +1,7 @@
--- What the two walks write is right by the scopes.
-use Rattle.std.proofs.Common.{◌≡◌, ◌≢◌, ℕ, zero, suc, ◌+◌, ◌-◌, ◌<◌, true, IsTrue, ◌⊎◌, ◌↔◌, inl, inr, ⊎_elim, Option, Some, List, [], ◌∷◌, ◌++◌, map, length, get_or, Contains, refl, sym, ap, ◌∙◌, subst, arith}
+-- What the walks write is right by the definitions.
+use Rattle.std.proofs.Common.{◌≡◌, ◌≢◌, ℕ, zero, suc, ◌+◌, ◌-◌, ◌<◌, Bool, true, false, ◌&&◌, IsTrue, ◌⊎◌, ◌↔◌, inl, inr, ⊎_elim, Option, Some, None, List, [], ◌∷◌, ◌++◌, map, length, get_or, Contains, refl, sym, ap, ◌∙◌, subst, arith, cond}
 use Rattle.std.specs.List.{slice_index_or, range_with_len}
-use Rattle.std.specs.Option.{is_some}
+use Rattle.std.specs.Option.{is_some, option_map}
 use Rattle.std.proofs.lemmas.List.{length-map, get_or-map}
 use Rattle.std.proofs.lemmas.List.Elements.{Contains-append_left, Contains-append_right, Contains-append_cases}
 use Rattle.std.proofs.lemmas.List.FromFn.{get_or-range_with_len, get_or-map-range_with_len, length-range_with_len}
@@ -10,34 +10,39 @@ use Rattle.swc_tree_marks.specs.Globals.{Table, numbers, greatest, with_fresh_ma
 use Rattle.swc_tree_marks.proofs.Tables.{Contains-le-greatest}
 use Rattle.swc_tree_marks.proofs.Fresh.{with_fresh_marks-known}
 use Rattle.swc_tree_node.specs.declared.kind.Kind.{Kind}
-use Rattle.swc_tree_node.specs.declared.slot.Role.{Role}
-use Rattle.swc_tree_node.specs.declared.slot.Role.TheVariants as role
-use Rattle.swc_tree_node.specs.declared.slot.Scope.{Scope}
-use Rattle.swc_tree_node.specs.declared.slot.Scope.TheVariants as scope
 use Rattle.swc_tree_node.specs.declared.node.Node.{Node, Identifier, out-Node}
 use Rattle.swc_tree_node.specs.declared.node.Node.TheVariants.{outs-Identifier}
-use Rattle.swc_tree_scoping.specs.Places.{Path, place_at}
-use Rattle.swc_tree_scoping.specs.Scopes.{opened, scope_count, scopes_round, is_binding, is_taken, one_if, Declares}
-use Rattle.swc_tree_scoping.specs.Resolved.{remarked, mark_in, HasDeclaringMark, HasContext, Resolved}
-use Rattle.swc_tree_scoping.proofs.First.{Each-map, first_holds, round_opens, program_declares}
-use Rattle.swc_base_resolver_program.specs.Names.{no_name}
-use Rattle.swc_base_resolver_program.specs.Collected.{collected}
-use Rattle.swc_base_resolver_program.specs.SecondWalk.{Scopes, Open, marks_from, number, open_at, open_round, found, fresh_context, kept_or, context_of, context_in, context_at, written}
+use Rattle.swc_tree_scoping.specs.declared.places.Standing.{Standing}
+use Rattle.swc_tree_scoping.specs.declared.places.Standing.TheVariants as standing
+use Rattle.swc_tree_scoping.specs.declared.places.Place.{Place}
+use Rattle.swc_tree_scoping.specs.declared.places.Scope.{Scope}
+use Rattle.swc_tree_scoping.specs.declared.places.Scope.TheVariants as scope
+use Rattle.swc_tree_scoping.specs.Places.{Path, opened, place_at, program_place}
+use Rattle.swc_tree_scoping.specs.Scopes.{Round, is_binding, one_if, rounds, scope_count, taker}
+use Rattle.swc_tree_scoping.specs.Declares.{DeclaresOtherwise, Hoists}
+use Rattle.swc_tree_scoping.specs.Resolved.{HasContext, HasFunctionMark, HasMeantMark, HasTakersMark, HasVariableMark, Resolved, is_global_value, is_script, mark_in, own_meaning, remarked}
+use Rattle.swc_tree_scoping.proofs.First.{Opens}
+use Rattle.swc_base_resolver_program.specs.declared.names.ScopeNames.{ScopeNames}
+use Rattle.swc_base_resolver_program.specs.declared.collect.Stage.TheVariants as stage
+use Rattle.swc_base_resolver_program.specs.declared.lookup.Names.{Names}
+use Rattle.swc_base_resolver_program.specs.Names.{ways_in}
+use Rattle.swc_base_resolver_program.specs.Lookup.{Open, Tables, function_owner_in, hoists_in, meaning_in, meets_in, names_in, otherwise_in, owner_of_variable, taker_in, variable_owner_in}
+use Rattle.swc_base_resolver_program.specs.Walks.{Marking, Reaches, context_at, context_in, context_of, fresh_context, has_at, kept_or, mark_at, marks_from, number, open_round, own_number, written}
 use Rattle.swc_base_resolver_program.specs.Marked.{IsMark}
-use Rattle.swc_base_resolver_program.proofs.Declares.{names_declared}
-use Rattle.swc_base_resolver_program.proofs.Numbers.{OpensAt, number_less, one_number, scope_numbered, names_at_number}
-use Rattle.swc_base_resolver_program.proofs.Rounds.{rounds_are, found_first}
+use Rattle.swc_base_resolver_program.proofs.Declared.{below_root, hoists_is, meaning_is, meets_some, otherwise_is, some_variable, taker_is, taker_open}
+use Rattle.swc_base_resolver_program.proofs.Numbers.{number_less, one_number, scope_numbered}
+use Rattle.swc_base_resolver_program.proofs.Rounds.{number_of, rounds_are, there}
 
 -- the mark of the scope of a number
 mark_of : ℕ → ℕ → ℕ → ℕ
 mark_of top first zero = top
 mark_of top first (suc k) = first + k
 
-marks_at : (top first n k : ℕ) → k < n → slice_index_or (marks_from top first n) k 0 ≡ mark_of top first k
+marks_at : (top first n k free : ℕ) → k < n → slice_index_or (marks_from top first n) k free ≡ mark_of top first k
 unfolding mark_of
-marks_at top first zero k l = absurd (omega arith)
-marks_at top first (suc n) zero l = refl
-marks_at top first (suc n) (suc k) l = get_or-range_with_len first n k 0 (omega arith)
+marks_at top first zero k free l = absurd (omega arith)
+marks_at top first (suc n) zero free l = refl
+marks_at top first (suc n) (suc k) free l = get_or-range_with_len first n k free (omega arith)
 
 marks_apart : (top first j k : ℕ) → top < first → mark_of top first j ≡ mark_of top first k → j ≡ k
 unfolding mark_of
@@ -79,146 +84,203 @@ to_rows : (top first count m parent k : ℕ) → k < count → m ≡ first + k �
 to_rows top first count m parent k l e f =
     (k, omega (arith, l, rows_length top first count), row_at top first count k (m, parent) l ∙ ap (λ n. (n, top)) (sym e) ∙ ap (λ q. (m, q)) (sym f))
 
+abbrev O : Node → Round → Open
+O = there program_place
+
+abbrev nr : Node → Path → ℕ
+nr = number_of program_place
+
 -- the context of an identifier
 keeps : (xs new : List ℕ) → xs ≢ [] → kept_or xs new ≡ xs
 keeps [] new h = absurd (h refl)
 keeps (x ∷ xs) new h = refl
 
-module _ (ss : Scopes) (unresolved : ℕ) (t : Node) where
-  abbrev mark : Path → ℕ
-  mark s = (open_at ss 0 role.Plain t s).mark
-
+module _ (a : Marking) (t : Node) where
   abbrev round : Path → List Open
-  round p = map (open_at ss 0 role.Plain t) (scopes_round role.Plain t p) ++ []
+  round p = map (O t) (rounds program_place t p) ++ []
 
-  written_is : (p : Path) (r : Role) (k : Kind) (i : Ident) → place_at role.Plain t p ≡ Some (r, Identifier k i) → written ss unresolved [] 0 role.Plain t p ≡ context_of unresolved r (round p) i
-  written_is p r k i h =
-      ap (λ o. context_at unresolved (open_round ss [] 0 role.Plain t p) o) h ∙ ap (λ env. context_in unresolved r env (out-Node (Identifier k i))) (rounds_are ss p 0 role.Plain t [])
-      ∙ ap (context_in unresolved r (round p)) (outs-Identifier k i)
+  abbrev mark : Path → ℕ
+  mark s = slice_index_or a.marks (nr t s) a.unresolved
 
-  pub contexts_kept : (p : Path) (r : Role) (k : Kind) (i : Ident) → place_at role.Plain t p ≡ Some (r, Identifier k i) → i.ctxt ≢ [] → written ss unresolved [] 0 role.Plain t p ≡ i.ctxt
-  contexts_kept p r k i h some = written_is p r k i h ∙ keeps i.ctxt (fresh_context unresolved r i.sym (round p)) some
+  written_is : (p : Path) (w : Place) (k : Kind) (i : Ident) → place_at program_place t p ≡ Some (w, Identifier k i) → written a [] 0 program_place t p ≡ context_of a w.standing (round p) i
+  written_is p w k i h =
+      ap (λ o. context_at a (open_round [] 0 program_place t p) o) h ∙ ap (λ env. context_in a w.standing env (out-Node (Identifier k i))) (rounds_are p 0 program_place t [])
+      ∙ ap (context_in a w.standing (round p)) (outs-Identifier k i)
 
-  module _ (names : ss.names ≡ (collected role.Plain t).scopes) (opens : opened role.Plain t ≡ Some scope.Program) where
-    names_are : (s : Path) (x : List ℕ) → OpensAt role.Plain t s → IsTrue ((open_at ss 0 role.Plain t s).names x) ↔ Declares t s x
-    names_are s x o =
-        let start : 0 + number role.Plain t s ≡ number role.Plain t s = omega arith in
-        let same = ap (λ l. slice_index_or l (0 + number role.Plain t s) no_name) names ∙ ap (λ n. slice_index_or (collected role.Plain t).scopes n no_name) start ∙ names_at_number s role.Plain t o in
-        subst (λ f. IsTrue (f x) ↔ Declares t s x) (sym same) (names_declared t s x)
+  pub contexts_kept : (p : Path) (w : Place) (k : Kind) (i : Ident) → place_at program_place t p ≡ Some (w, Identifier k i) → i.ctxt ≢ [] → written a [] 0 program_place t p ≡ i.ctxt
+  contexts_kept p w k i h some = written_is p w k i h ∙ keeps i.ctxt (fresh_context a w.standing i.sym (round p)) some
 
-    meant : (p : Path) (x : List ℕ) → HasContext mark unresolved t p x role.Reference (found unresolved (λ o. o.names x) (round p) ∷ [])
-    meant p x = (
-      _,
-      first_holds (λ s. Declares t s x) (λ s. (open_at ss 0 role.Plain t s).names x) (scopes_round role.Plain t p)
-          (Each-map (OpensAt role.Plain t) (λ s. IsTrue ((open_at ss 0 role.Plain t s).names x) ↔ Declares t s x) (λ s o. names_are s x o) (scopes_round role.Plain t p) (round_opens p role.Plain t)),
-      ap (λ m. m ∷ []) (found_first unresolved (λ o. o.names x) (open_at ss 0 role.Plain t) (scopes_round role.Plain t p)),
-    )
+  marked : (m : Option Path) → mark_at a (option_map (nr t) m) ≡ mark_in mark a.unresolved m
+  marked None = refl
+  marked (Some s) = refl
 
-    declared : (p : Path) (r : Role) (d : Node) → is_binding r ≡ true → place_at role.Plain t p ≡ Some (r, d) → HasDeclaringMark mark t p r (found unresolved (λ o. is_taken r o.scope) (round p) ∷ [])
-    declared p r d b h =
-        let (s, e) = program_declares t p r d opens b h in
-        (s, e, ap (λ m. m ∷ []) (found_first unresolved (λ o. is_taken r o.scope) (open_at ss 0 role.Plain t) (scopes_round role.Plain t p) ∙ ap (mark_in mark unresolved) e))
+  module _ (opens : opened program_place t ≡ Some scope.Program) (bound reached : List ScopeNames) (names : Names) (same_names : names_in names ≡ ways_in bound)
+      (binds : (k : ℕ) (r : Standing) (x : List ℕ) → k < scope_count program_place t → IsTrue (has_at bound k r x) ↔ Reaches stage.Bind [] 0 program_place t k r x)
+      (reaches : (k : ℕ) (r : Standing) (x : List ℕ) → k < scope_count program_place t → IsTrue (has_at reached k r x) ↔ Reaches (stage.Settle names) [] 0 program_place t k r x)
+      (tables : a.tables ≡ record { bound = ways_in bound; reached = ways_in reached }) (script : a.is_script ≡ is_script t) where
+    abbrev T : Tables
+    T = record { bound = ways_in bound; reached = ways_in reached }
 
-    has_context : (p : Path) (r : Role) (x : List ℕ) (d : Node) → place_at role.Plain t p ≡ Some (r, d) → HasContext mark unresolved t p x r (fresh_context unresolved r x (round p))
-    has_context p role.Reference x d h = meant p x
-    has_context p role.Lexical x d h = declared p role.Lexical d refl h
-    has_context p role.FunctionBody x d h = meant p x
-    has_context p role.Function x d h = declared p role.Function d refl h
-    has_context p role.Class x d h = declared p role.Class d refl h
-    has_context p role.Variable x d h = declared p role.Variable d refl h
-    has_context p role.Parameter x d h = declared p role.Parameter d refl h
-    has_context p role.Import x d h = declared p role.Import d refl h
-    has_context p role.Plain x d h = refl
-    has_context p role.Inherited x d h = refl
-    has_context p role.Declared x d h = refl
-    has_context p role.OwnName x d h = refl
-    has_context p role.Catch x d h = refl
-    has_context p role.Label x d h = refl
-    has_context p role.Imported x d h = refl
-    has_context p role.Exported x d h = refl
-    has_context p role.ExportLocal x d h = refl
+    -- what a script leaves free
+    positive : (x : List ℕ) (n : ℕ) → 0 < n → own_number a x (Some n) ≡ Some n
+    positive x zero l = absurd (omega arith)
+    positive x (suc n) l = refl
 
-    pub contexts_right : (p : Path) (r : Role) (k : Kind) (i : Ident) → place_at role.Plain t p ≡ Some (r, Identifier k i) → i.ctxt ≡ [] → HasContext mark unresolved t p i.sym r (written ss unresolved [] 0 role.Plain t p)
-    contexts_right p r k i h none =
-        subst (HasContext mark unresolved t p i.sym r) (sym (written_is p r k i h ∙ ap (λ c. kept_or c (fresh_context unresolved r i.sym (round p))) none)) (has_context p r i.sym (Identifier k i) h)
+    own_is : (x : List ℕ) (m : Option Path) → own_number a x (option_map (nr t) m) ≡ option_map (nr t) (own_meaning t x m)
+    own_is x None = refl
+    own_is x (Some []) = ap (λ s. cond (s && is_global_value x) None (Some 0)) script ∙ free (is_script t && is_global_value x)
+      where
+        free : (b : Bool) → cond b None (Some 0) ≡ option_map (nr t) (cond b None (Some []))
+        free true = refl
+        free false = refl
+    own_is x (Some (i ∷ s)) = let one = ap (λ (o : Option Scope). one_if (is_some o)) opens in positive x (nr t (i ∷ s)) (omega (arith, one))
 
-    module _ (old new : Table) (top : ℕ) (known : IsMark old top) (marks : ss.marks ≡ marks_from top (greatest old + 1) (scope_count role.Plain t))
-        (gains : new ≡ with_fresh_marks old top (scope_count role.Plain t - 1)) where
+    meant : (p : Path) (x : List ℕ) → HasMeantMark mark a.unresolved t p x (mark_at a (own_number a x (meaning_in a.tables x (round p))) ∷ [])
+    meant p x =
+        let (m, q, e) = meaning_is t opens bound binds names same_names reached reaches x p in (
+          m,
+          q,
+          ap (λ z. mark_at a (own_number a x z) ∷ []) (ap (λ d. meaning_in d x (round p)) tables ∙ e) ∙ ap (λ z. mark_at a z ∷ []) (own_is x m) ∙ ap (λ z. z ∷ []) (marked (own_meaning t x m)),
+        )
+
+    -- a binding
+    taken : (p : Path) (w : Place) (k : Kind) (i : Ident) (r : Standing) → place_at program_place t p ≡ Some (w, Identifier k i) → w.standing ≡ r → is_binding r ≡ true → (s : Path) × (taker r t p ≡ Some s)
+    taken p w k i r h e b = below_root t opens bound binds names same_names reached reaches p w k i r h e b
+
+    takers : (p : Path) (r : Standing) → (s : Path) × (taker r t p ≡ Some s) → HasTakersMark mark t p r (mark_at a (taker_in r (round p)) ∷ [])
+    takers p r (s, e) = (s, e, ap (λ z. mark_at a z ∷ []) (taker_is t opens r p ∙ ap (option_map (nr t)) e))
+
+    variable : (p : Path) (x : List ℕ) → (s : Path) × (taker standing.Variable t p ≡ Some s) → HasVariableMark mark t p x (mark_at a (variable_owner_in a.tables x (round p)) ∷ [])
+    variable p x (f, e) =
+        let (m, q, there_too, met) = meets_some t opens bound binds x p f e in
+        let o = otherwise_is t opens bound binds names same_names reached reaches x f (taker_open t opens standing.Variable p f e) in
+        let owner : variable_owner_in a.tables x (round p) ≡ cond (otherwise_in T x (nr t f)) (meets_in T.bound x (round p)) (Some (nr t f))
+        = ap (λ d. variable_owner_in d x (round p)) tables ∙ ap (λ z. owner_of_variable T x (round p) z) (taker_is t opens standing.Variable p ∙ ap (option_map (nr t)) e) in
+        (m, f, q, e, by_case m met o (otherwise_in T x (nr t f)) refl owner)
+      where
+        by_case : (m : Path) → meets_in T.bound x (round p) ≡ Some (nr t m) → IsTrue (otherwise_in T x (nr t f)) ↔ DeclaresOtherwise t f x → (b : Bool) → otherwise_in T x (nr t f) ≡ b
+            → variable_owner_in a.tables x (round p) ≡ cond (otherwise_in T x (nr t f)) (meets_in T.bound x (round p)) (Some (nr t f))
+            → (DeclaresOtherwise t f x × (mark_at a (variable_owner_in a.tables x (round p)) ∷ [] ≡ mark m ∷ [])) ⊎ (¬ DeclaresOtherwise t f x × (mark_at a (variable_owner_in a.tables x (round p)) ∷ [] ≡ mark f ∷ []))
+        by_case m met o true g owner = inl (o.0 (rw g refl), ap (λ z. mark_at a z ∷ []) (owner ∙ ap (λ b. cond b (meets_in T.bound x (round p)) (Some (nr t f))) g ∙ met))
+        by_case m met o false g owner = inr ((λ d. let z = o.1 d in let y : true ≡ false = sym z ∙ g in absurd (cc)), ap (λ z. mark_at a z ∷ []) (owner ∙ ap (λ b. cond b (meets_in T.bound x (round p)) (Some (nr t f))) g))
+
+    function : (p : Path) (x : List ℕ) → (s : Path) × (taker standing.SloppyFunction t p ≡ Some s) → (s : Path) × (taker standing.Variable t p ≡ Some s)
+        → HasFunctionMark mark t p x (mark_at a (function_owner_in a.tables x (round p)) ∷ [])
+    function p x (b, e) (f, g) =
+        let h = hoists_is t opens bound binds x p b e in
+        let owner : function_owner_in a.tables x (round p) ≡ cond (hoists_in T.bound x (round p)) (Some (nr t f)) (Some (nr t b))
+        = ap (λ d. function_owner_in d x (round p)) tables ∙ ap (λ z. cond (hoists_in T.bound x (round p)) z (taker_in standing.SloppyFunction (round p))) (taker_is t opens standing.Variable p ∙ ap (option_map (nr t)) g)
+        ∙ ap (λ z. cond (hoists_in T.bound x (round p)) (Some (nr t f)) z) (taker_is t opens standing.SloppyFunction p ∙ ap (option_map (nr t)) e) in
+        (b, f, e, g, by_case h (hoists_in T.bound x (round p)) refl owner)
+      where
+        by_case : IsTrue (hoists_in T.bound x (round p)) ↔ Hoists t b x → (z : Bool) → hoists_in T.bound x (round p) ≡ z
+            → function_owner_in a.tables x (round p) ≡ cond (hoists_in T.bound x (round p)) (Some (nr t f)) (Some (nr t b))
+            → (Hoists t b x × (mark_at a (function_owner_in a.tables x (round p)) ∷ [] ≡ mark f ∷ [])) ⊎ (¬ Hoists t b x × (mark_at a (function_owner_in a.tables x (round p)) ∷ [] ≡ mark b ∷ []))
+        by_case h true z owner = inl (h.0 (rw z refl), ap (λ o. mark_at a o ∷ []) (owner ∙ ap (λ c. cond c (Some (nr t f)) (Some (nr t b))) z))
+        by_case h false z owner = inr ((λ d. let y = h.1 d in let v : true ≡ false = sym y ∙ z in absurd (cc)), ap (λ o. mark_at a o ∷ []) (owner ∙ ap (λ c. cond c (Some (nr t f)) (Some (nr t b))) z))
+
+    module _ (p : Path) (w : Place) (k : Kind) (i : Ident) (h : place_at program_place t p ≡ Some (w, Identifier k i)) where
+      has_context : (r : Standing) → w.standing ≡ r → HasContext mark a.unresolved t p i.sym r (fresh_context a r i.sym (round p))
+      has_context standing.Reference e = meant p i.sym
+      has_context standing.Body e = meant p i.sym
+      has_context standing.Variable e = variable p i.sym (taken p w k i standing.Variable h e refl)
+      has_context standing.SloppyFunction e = function p i.sym (taken p w k i standing.SloppyFunction h e refl) (variables_too e)
+        where
+          variables_too : w.standing ≡ standing.SloppyFunction → (s : Path) × (taker standing.Variable t p ≡ Some s)
+          variables_too e = some_variable t opens bound binds names same_names reached reaches p w k i standing.SloppyFunction h e refl
+      has_context standing.Lexical e = takers p standing.Lexical (taken p w k i standing.Lexical h e refl)
+      has_context standing.Function e = takers p standing.Function (taken p w k i standing.Function h e refl)
+      has_context standing.BlockFunction e = takers p standing.BlockFunction (taken p w k i standing.BlockFunction h e refl)
+      has_context standing.Parameter e = takers p standing.Parameter (taken p w k i standing.Parameter h e refl)
+      has_context standing.CatchParameter e = takers p standing.CatchParameter (taken p w k i standing.CatchParameter h e refl)
+      has_context standing.Import e = takers p standing.Import (taken p w k i standing.Import h e refl)
+      has_context standing.FunctionName e = takers p standing.FunctionName (taken p w k i standing.FunctionName h e refl)
+      has_context standing.ClassName e = takers p standing.ClassName (taken p w k i standing.ClassName h e refl)
+      has_context standing.Plain e = refl
+      has_context standing.Branch e = refl
+      has_context standing.DefaultExport e = refl
+
+    pub contexts_right : (p : Path) (w : Place) (k : Kind) (i : Ident) → place_at program_place t p ≡ Some (w, Identifier k i) → i.ctxt ≡ [] → HasContext mark a.unresolved t p i.sym w.standing (written a [] 0 program_place t p)
+    contexts_right p w k i h none =
+        subst (HasContext mark a.unresolved t p i.sym w.standing) (sym (written_is p w k i h ∙ ap (λ c. kept_or c (fresh_context a w.standing i.sym (round p))) none)) (has_context p w k i h w.standing refl)
+
+    module _ (old new : Table) (top : ℕ) (known : IsMark old top) (marks : a.marks ≡ marks_from top (greatest old + 1) (scope_count program_place t))
+        (gains : new ≡ with_fresh_marks old top (scope_count program_place t - 1)) where
       abbrev first : ℕ
       first = greatest old + 1
 
-      root_opens : OpensAt role.Plain t []
+      root_opens : Opens program_place t []
       root_opens = ap is_some opens
 
-      mark_is : (s : Path) → OpensAt role.Plain t s → mark s ≡ mark_of top first (number role.Plain t s)
+      mark_is : (s : Path) → Opens program_place t s → mark s ≡ mark_of top first (number program_place t s)
       mark_is s o =
-          let start : 0 + number role.Plain t s ≡ number role.Plain t s = omega arith in
-          ap (λ ms. slice_index_or ms (0 + number role.Plain t s) 0) marks ∙ ap (λ n. slice_index_or (marks_from top first (scope_count role.Plain t)) n 0) start
-          ∙ marks_at top first (scope_count role.Plain t) (number role.Plain t s) (number_less s role.Plain t o)
+          let start : 0 + number program_place t s ≡ number program_place t s = omega arith in
+          ap (λ ms. slice_index_or ms (0 + number program_place t s) a.unresolved) marks ∙ ap (λ n. slice_index_or (marks_from top first (scope_count program_place t)) n a.unresolved) start
+          ∙ marks_at top first (scope_count program_place t) (number program_place t s) a.unresolved (number_less s program_place t o)
 
       top_below : top < first
       top_below = let below = Contains-le-greatest old top known.1 in omega (arith, below)
 
-      one_to_one : (s u : Path) → OpensAt role.Plain t s → OpensAt role.Plain t u → mark s ≡ mark u → s ≡ u
-      one_to_one s u o q e = one_number s u role.Plain t o q (marks_apart top first _ _ top_below (sym (mark_is s o) ∙ e ∙ mark_is u q))
+      one_to_one : (s u : Path) → Opens program_place t s → Opens program_place t u → mark s ≡ mark u → s ≡ u
+      one_to_one s u o q e = one_number s u program_place t o q (marks_apart top first _ _ top_below (sym (mark_is s o) ∙ e ∙ mark_is u q))
 
-      later : (s : Path) → s ≢ [] → 0 < number role.Plain t s
+      later : (s : Path) → s ≢ [] → 0 < number program_place t s
       later [] ne = absurd (ne refl)
       later (i ∷ s) ne = let one = ap (λ (o : Option Scope). one_if (is_some o)) opens in omega (arith, one)
 
-      fresh : (s : Path) → OpensAt role.Plain t s → s ≢ [] → (parent : ℕ) → ¬ Contains old (mark s, parent)
+      fresh : (s : Path) → Opens program_place t s → s ≢ [] → (parent : ℕ) → ¬ Contains old (mark s, parent)
       fresh s o ne parent h =
           let below = Contains-le-greatest old (mark s) (has_number old (mark s) parent h) in
-          let at = later_mark top first (number role.Plain t s) (later s ne) in
+          let at = later_mark top first (number program_place t s) (later s ne) in
           let is = mark_is s o in
           let some = later s ne in
           omega (arith, below, at, is, some)
 
-      rows : new ≡ old ++ fresh_rows top first (scope_count role.Plain t - 1)
-      rows = gains ∙ with_fresh_marks-known old top (scope_count role.Plain t - 1) (inr known.1)
+      rows : new ≡ old ++ fresh_rows top first (scope_count program_place t - 1)
+      rows = gains ∙ with_fresh_marks-known old top (scope_count program_place t - 1) (inr known.1)
 
       abbrev GivenTo : ℕ → Type 0
-      GivenTo m = (s : Path) × OpensAt role.Plain t s × (s ≢ []) × (mark s ≡ m)
+      GivenTo m = (s : Path) × Opens program_place t s × (s ≢ []) × (mark s ≡ m)
 
-      given_to : (m k : ℕ) → k < scope_count role.Plain t - 1 → m ≡ first + k → GivenTo m
+      given_to : (m k : ℕ) → k < scope_count program_place t - 1 → m ≡ first + k → GivenTo m
       given_to m k l e =
-          let (s, o, n) = scope_numbered t role.Plain (suc k) (omega (arith, l)) in (
+          let (s, o, n) = scope_numbered t program_place (suc k) (omega (arith, l)) in (
             s,
             o,
-            (λ root. let zero_is : number role.Plain t s ≡ 0 = ap (number role.Plain t) root in omega (arith, n, zero_is)),
-            (let some : 0 < number role.Plain t s = omega (arith, n) in let at = later_mark top first (number role.Plain t s) some in let is = mark_is s o in omega (arith, n, e, at, is)),
+            (λ root. let zero_is : number program_place t s ≡ 0 = ap (number program_place t) root in omega (arith, n, zero_is)),
+            (let some : 0 < number program_place t s = omega (arith, n) in let at = later_mark top first (number program_place t s) some in let is = mark_is s o in omega (arith, n, e, at, is)),
           )
 
-      in_row : (m : ℕ) (s : Path) → OpensAt role.Plain t s → s ≢ [] → mark s ≡ m → Contains (fresh_rows top first (scope_count role.Plain t - 1)) (m, top)
+      in_row : (m : ℕ) (s : Path) → Opens program_place t s → s ≢ [] → mark s ≡ m → Contains (fresh_rows top first (scope_count program_place t - 1)) (m, top)
       in_row m s o ne e =
           let some = later s ne in
-          let less = number_less s role.Plain t o in
-          let at = later_mark top first (number role.Plain t s) some in
+          let less = number_less s program_place t o in
+          let at = later_mark top first (number program_place t s) some in
           let is = mark_is s o in
-          let k : ℕ = number role.Plain t s - 1 in
-          to_rows top first (scope_count role.Plain t - 1) m top (number role.Plain t s - 1) (omega (arith, some, less)) (omega (arith, some, at, is, e)) refl
+          let k : ℕ = number program_place t s - 1 in
+          to_rows top first (scope_count program_place t - 1) m top (number program_place t s - 1) (omega (arith, some, less)) (omega (arith, some, at, is, e)) refl
 
       gained : (m parent : ℕ) → Contains new (m, parent) ↔ (Contains old (m, parent) ⊎ ((parent ≡ top) × GivenTo m))
       gained m parent = (forth, back)
         where
           forth : Contains new (m, parent) → Contains old (m, parent) ⊎ ((parent ≡ top) × GivenTo m)
-          forth h = ⊎_elim inl (λ a. let (k, l, e, f) = from_rows top first (scope_count role.Plain t - 1) m parent a in inr (f, given_to m k l e))
-              (Contains-append_cases old (fresh_rows top first (scope_count role.Plain t - 1)) (m, parent) (subst (λ l. Contains l (m, parent)) rows h))
+          forth h = ⊎_elim inl (λ a. let (k, l, e, f) = from_rows top first (scope_count program_place t - 1) m parent a in inr (f, given_to m k l e))
+              (Contains-append_cases old (fresh_rows top first (scope_count program_place t - 1)) (m, parent) (subst (λ l. Contains l (m, parent)) rows h))
 
           back : Contains old (m, parent) ⊎ ((parent ≡ top) × GivenTo m) → Contains new (m, parent)
-          back (inl h) = subst (λ l. Contains l (m, parent)) (sym rows) (Contains-append_left old (fresh_rows top first (scope_count role.Plain t - 1)) (m, parent) h)
+          back (inl h) = subst (λ l. Contains l (m, parent)) (sym rows) (Contains-append_left old (fresh_rows top first (scope_count program_place t - 1)) (m, parent) h)
           back (inr (f, (s, o, ne, e))) =
-              subst (λ l. Contains l (m, parent)) (sym rows) (Contains-append_right old (fresh_rows top first (scope_count role.Plain t - 1)) (m, parent)
-              (subst (λ q. Contains (fresh_rows top first (scope_count role.Plain t - 1)) (m, q)) (sym f) (in_row m s o ne e)))
+              subst (λ l. Contains l (m, parent)) (sym rows) (Contains-append_right old (fresh_rows top first (scope_count program_place t - 1)) (m, parent)
+              (subst (λ q. Contains (fresh_rows top first (scope_count program_place t - 1)) (m, q)) (sym f) (in_row m s o ne e)))
 
-      pub resolves : (answer : Node) → answer ≡ remarked (written ss unresolved [] 0 role.Plain t) t → Resolved unresolved top old new t answer
+      pub resolves : (answer : Node) → answer ≡ remarked (written a [] 0 program_place t) t → Resolved a.unresolved top old new t answer
       resolves answer e = record {
         marks = mark;
         one_to_one = one_to_one;
         program = mark_is [] root_opens ∙ first_mark top first;
         fresh = fresh;
         gained = gained;
-        contexts = written ss unresolved [] 0 role.Plain t;
+        contexts = written a [] 0 program_place t;
         only_contexts = e;
         kept = contexts_kept;
         resolved = contexts_right;

@@ -1,6 +1,5 @@
 pub mod Names
-pub mod Collected
-pub mod SecondWalk
-pub mod Layers
-pub mod DeclaredAt
+pub mod Inserted
+pub mod Lookup
+pub mod Walks
 pub mod Marked

@@ -5,10 +5,9 @@ use Rattle.swc_tree_marks.specs.declared.error.PassError.{PassError}
 use Rattle.swc_tree_marks.specs.declared.error.PassError.TheVariants as error
 use Rattle.swc_tree_marks.specs.Globals.{Table, numbers}
 use Rattle.swc_tree_node.specs.declared.kind.Kind.{Kind}
-use Rattle.swc_tree_node.specs.declared.slot.Role.{Role}
-use Rattle.swc_tree_node.specs.declared.slot.Role.TheVariants as role
+use Rattle.swc_tree_scoping.specs.declared.places.Place.{Place}
 use Rattle.swc_tree_node.specs.declared.node.Node.{Node, Identifier}
-use Rattle.swc_tree_scoping.specs.Places.{Path, place_at}
+use Rattle.swc_tree_scoping.specs.Places.{Path, place_at, program_place}
 use Rattle.swc_tree_scoping.specs.Resolved.{Contexts, remarked}
 
 -- the table has the mark, which is not the root
@@ -23,7 +22,7 @@ MarksOk table unresolved top = IsMark table unresolved × IsMark table top
 pub record OnlyContexts (tree answer : Node) : Type 0 where
   pub contexts : Contexts
   pub only_contexts : answer ≡ remarked contexts tree
-  pub kept : (p : Path) (r : Role) (k : Kind) (i : Ident) → place_at role.Plain tree p ≡ Some (r, Identifier k i) → i.ctxt ≢ [] → contexts p ≡ i.ctxt
+  pub kept : (p : Path) (w : Place) (k : Kind) (i : Ident) → place_at program_place tree p ≡ Some (w, Identifier k i) → i.ctxt ≢ [] → contexts p ≡ i.ctxt
 
 -- the resolver refuses for no memory or for no marks
 abbrev pub IsRefusal : PassError → Type 0

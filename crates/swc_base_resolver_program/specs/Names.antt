@@ -1,23 +1,87 @@
--- Sets of names, as tests.
-use Rattle.std.specs.Prelude.{ℕ, Bool, false, ◌||◌, List}
-use Rattle.std.specs.Str.{bytes_eq}
-use Rattle.std.specs.HashSet.{contains_text}
-use Rattle.swc_base_resolver_program.specs.declared.names.Names.{Names}
+-- The names that scopes take, as the code keeps them.
+use Rattle.std.specs.Prelude.{ℕ, Bool, true, false, not, ◌&&◌, ◌||◌, ◌==◌, Option, Some, None, List, slice_get, unwrap_or}
+use Rattle.std.specs.HashMap.{get_by_text}
+use Rattle.swc_tree_scoping.specs.declared.places.Standing.{Standing}
+use Rattle.swc_tree_scoping.specs.declared.places.Standing.TheVariants as standing
+use Rattle.swc_base_resolver_program.specs.declared.names.Ways.{Ways}
+use Rattle.swc_base_resolver_program.specs.declared.names.ScopeNames.{ScopeNames}
 
-abbrev pub NameTest : Type 0
-NameTest = List ℕ → Bool
+abbrev pub no_ways : Ways
+no_ways = record {
+  variable = false;
+  lexical = false;
+  function = false;
+  block_function = false;
+  sloppy_function = false;
+  parameter = false;
+  catch_parameter = false;
+  import = false;
+  function_name = false;
+  class_name = false;
+}
 
-abbrev pub no_name : NameTest
-no_name x = false
+-- a name is bound so
+abbrev pub has_way : Ways → Standing → Bool
+has_way w standing.Variable = w.variable
+has_way w standing.Lexical = w.lexical
+has_way w standing.Function = w.function
+has_way w standing.BlockFunction = w.block_function
+has_way w standing.SloppyFunction = w.sloppy_function
+has_way w standing.Parameter = w.parameter
+has_way w standing.CatchParameter = w.catch_parameter
+has_way w standing.Import = w.import
+has_way w standing.FunctionName = w.function_name
+has_way w standing.ClassName = w.class_name
+has_way w _ = false
 
--- the set with one name more
-abbrev pub one_more : NameTest → List ℕ → NameTest
-one_more f name x = f x || bytes_eq name x
+-- ways, numbered; 0 where names are not bound so
+abbrev pub way_number : Standing → ℕ
+way_number standing.Variable = 1
+way_number standing.Lexical = 2
+way_number standing.Function = 3
+way_number standing.BlockFunction = 4
+way_number standing.SloppyFunction = 5
+way_number standing.Parameter = 6
+way_number standing.CatchParameter = 7
+way_number standing.Import = 8
+way_number standing.FunctionName = 9
+way_number standing.ClassName = 10
+way_number _ = 0
 
--- the names of either
-abbrev pub either : NameTest → NameTest → NameTest
-either f g x = f x || g x
+abbrev pub is_way : Standing → Standing → Bool
+is_way r q = not (way_number q == 0) && (way_number r == way_number q)
 
--- whether a name is in the set
-abbrev pub members : Names → NameTest
-members n = contains_text n.set
+abbrev pub with_way : Ways → Standing → Ways
+with_way w standing.Variable = record w { variable = true }
+with_way w standing.Lexical = record w { lexical = true }
+with_way w standing.Function = record w { function = true }
+with_way w standing.BlockFunction = record w { block_function = true }
+with_way w standing.SloppyFunction = record w { sloppy_function = true }
+with_way w standing.Parameter = record w { parameter = true }
+with_way w standing.CatchParameter = record w { catch_parameter = true }
+with_way w standing.Import = record w { import = true }
+with_way w standing.FunctionName = record w { function_name = true }
+with_way w standing.ClassName = record w { class_name = true }
+with_way w _ = w
+
+-- one of the ways in which a name is bound passes the test
+abbrev pub any_way : (Standing → Bool) → Ways → Bool
+any_way f w =
+    (f standing.Variable && w.variable) || ((f standing.Lexical && w.lexical) || ((f standing.Function && w.function) || ((f standing.BlockFunction && w.block_function)
+    || ((f standing.SloppyFunction && w.sloppy_function) || ((f standing.Parameter && w.parameter) || ((f standing.CatchParameter && w.catch_parameter)
+    || ((f standing.Import && w.import) || ((f standing.FunctionName && w.function_name) || (f standing.ClassName && w.class_name)))))))))
+
+-- the ways in which a scope takes a name
+abbrev pub ways_of : ScopeNames → List ℕ → Ways
+ways_of s x = unwrap_or (get_by_text s.names x) no_ways
+
+abbrev pub ways_if : Option ScopeNames → List ℕ → Ways
+ways_if None x = no_ways
+ways_if (Some s) x = ways_of s x
+
+-- the ways in which the scopes, by their numbers, take names
+abbrev pub Bindings : Type 0
+Bindings = ℕ → List ℕ → Ways
+
+abbrev pub ways_in : List ScopeNames → Bindings
+ways_in ss k x = ways_if (slice_get ss k) x

@@ -1,102 +1,192 @@
-//! The first walk: which names each scope of a tree declares.
-ghost use Rattle.std.specs.Prelude.{◌≡◌, ◌++◌, map, OnOk, IfOk};
+//! The first two walks: the names that each scope takes, and then those that reach it from blocks.
+ghost use Rattle.std.specs.Prelude.{◌≡◌, ◌+◌, ◌≤◌, [], is_some, length, IfOk, OnOk};
+ghost use Rattle.swc_tree_scoping.specs.Below.{place_of, view_of};
 ghost use Rattle.swc_tree_scoping.specs.Folds.{each_in};
-ghost use Rattle.swc_tree_scoping.specs.RolesBelow.{role_at};
-ghost use Rattle.swc_base_resolver_program.specs.Names.{members, either, no_name};
-ghost use Rattle.swc_base_resolver_program.specs.Collected.{children_bind, collected, declared_by, declared_in, identifier_binds, own_scope, passes, scopes_below};
+ghost use Rattle.swc_tree_scoping.specs.Places.{program_place};
+ghost use Rattle.swc_tree_scoping.specs.Scopes.{one_if, scope_count, total};
+ghost use Rattle.swc_base_resolver_program.specs.Lookup.{layers, same_number};
+ghost use Rattle.swc_base_resolver_program.specs.Walks.{AreEmpty, Gains, IsAdded, Reaches, ReachesBelow, ReachesHere, pick, target_in};
 
-use crate::names::Names;
+use crate::env::{Env, Layer, hoists, meets, seen, taker, variable_scope};
+use crate::lookup::Names;
+use crate::names::ScopeNames;
 use std::alloc::{AllocError, Global};
 use swc_tree_marks::Ident;
-use swc_tree_node::{Node, Role, Scope};
-use swc_tree_scoping::{RolesBelow, opened, roles_of_fields, roles_of_items};
+use swc_tree_node::Node;
+use swc_tree_scoping::{
+    PROGRAM_PLACE, Place, PlacesBelow, Scope, Standing, is_binding, places_of_fields,
+    places_of_items,
+};
 
-/// The names that a scope declares.
-#[derive(Drop)]
-pub struct ScopeNames {
-    lexical: Names,
-    variables: Names,
+/// What a walk looks for.
+#[derive(Clone, Copy)]
+pub enum Stage<'a> {
+    /// For each name that is bound, the scope that takes it.
+    Bind,
+    /// For each plain function of sloppy code in a block, the scope that it is hoisted to; for each variable below
+    /// no catch clause whose parameter has its name, the scope that takes it. The names that the scopes take are
+    /// given.
+    Settle(Names<'a>),
 }
 
-impl ScopeNames {
-    // The names of a scope that declares none.
-    fn new(alloc: Global) -> ScopeNames
-        ensures lexical { members result.lexical ≡ no_name }
-        ensures variables { members result.variables ≡ no_name }
-    {
-        ScopeNames {
-            lexical: Names::new(alloc),
-            variables: Names::new(alloc),
-        }
-    }
-
-    /// Whether the scope declares the name.
-    pub fn has(&self, name: &str) -> bool
-        ensures { result ≡ declared_by self.now name.now }
-    {
-        self.lexical.has(name) || self.variables.has(name)
-    }
-}
-
-/// The names of the scopes of a tree, the scopes from the front.
-pub fn scopes_of(alloc: Global, tree: &Node) -> Result<Vec<ScopeNames>, AllocError>
-    ensures { IfOk result (λ scopes. map declared_by scopes.items ≡ (collected Role.Plain tree.now).scopes) }
+/// The tables of the scopes of a program, the scopes from the front, which take no name yet.
+pub fn scope_tables(alloc: Global, program: &Node) -> Result<Vec<ScopeNames>, AllocError>
+    ensures size { IfOk result (λ tables. length tables.items ≡ scope_count program_place program.now) }
+    ensures empty { IfOk result (λ tables. AreEmpty tables.items) }
 {
-    let mut scopes = Vec::new(alloc);
-    let mut lexical = Names::new(alloc);
-    let mut variables = Names::new(alloc);
-    collect(
-        alloc,
-        tree,
-        Role::Plain,
-        &mut lexical,
-        &mut variables,
-        &mut scopes,
-    )?;
-    Ok(scopes)
+    let mut tables = Vec::new(alloc);
+    add_tables(alloc, program, PROGRAM_PLACE, &mut tables)?;
+    Ok(tables)
 }
 
-// Adds the names that a node binds and that no scope in it takes, and the node's scopes.
-#[cycle(collect)]
-fn collect(
+// Adds an empty table for each scope of a node.
+#[cycle(add_tables)]
+fn add_tables(
     alloc: Global,
     node: &Node,
-    role: Role,
-    lexical: &mut Names,
-    variables: &mut Names,
-    scopes: &mut Vec<ScopeNames>,
+    place: Place,
+    tables: &mut Vec<ScopeNames>,
 ) -> Result<(), AllocError>
-    ensures lexical { OnOk result (members lexical.new ≡ either (members lexical.old) ((collected role node.now).binds Role.Lexical)) }
-    ensures variables { OnOk result (members variables.new ≡ either (members variables.old) ((collected role node.now).binds Role.Variable)) }
-    ensures scopes { OnOk result (map declared_by scopes.new.items ≡ map declared_by scopes.old.items ++ (collected role node.now).scopes) }
+    ensures size { OnOk result (length tables.new.items ≡ length tables.old.items + scope_count place node.now) }
+    ensures empty { AreEmpty tables.old.items → OnOk result (AreEmpty tables.new.items) }
+{
+    match node {
+        Node::List(items) => {
+            let items = items.as_slice();
+            add_children_tables(alloc, items, places_of_items(place, items), tables)?;
+            Ok(())
+        }
+        Node::Tree(kind, fields) => {
+            let fields = fields.as_slice();
+            let places = places_of_fields(place, *kind, fields);
+            add_own_table(alloc, places.opened(), tables)?;
+            add_children_tables(alloc, fields, places, tables)?;
+            Ok(())
+        }
+        _ => Ok(()),
+    }
+}
+
+#[cycle(add_tables)]
+fn add_children_tables(
+    alloc: Global,
+    nodes: &[Node],
+    places: PlacesBelow,
+    tables: &mut Vec<ScopeNames>,
+) -> Result<(), AllocError>
+    ensures size { OnOk result (length tables.new.items ≡ length tables.old.items + total (each_in scope_count (place_of places) nodes.now)) }
+    ensures empty { AreEmpty tables.old.items → OnOk result (AreEmpty tables.new.items) }
+{
+    for i in 0..nodes.len() {
+        add_tables(alloc, &nodes[i], places.at(i), tables)?;
+    }
+    Ok(())
+}
+
+// Adds the table of a scope, if there is one.
+fn add_own_table(
+    alloc: Global,
+    scope: Option<Scope>,
+    tables: &mut Vec<ScopeNames>,
+) -> Result<(), AllocError>
+    ensures size { OnOk result (length tables.new.items ≡ length tables.old.items + one_if (is_some scope)) }
+    ensures empty { AreEmpty tables.old.items → OnOk result (AreEmpty tables.new.items) }
+{
+    match scope {
+        Some(_) => {
+            tables.push(ScopeNames::new(alloc))?;
+            Ok(())
+        }
+        None => Ok(()),
+    }
+}
+
+/// Adds what a walk over a program looks for to the tables of the scopes, the scopes from the front.
+pub fn gather_program(
+    alloc: Global,
+    stage: Stage,
+    program: &Node,
+    tables: &mut Vec<ScopeNames>,
+) -> Result<(), AllocError>
+    requires room { scope_count program_place program.now ≤ length tables.old.items }
+    ensures { OnOk result (Gains tables.old.items tables.new.items (Reaches stage.entry [] 0 program_place program.now)) }
+{
+    let mut next = 0;
+    gather(
+        alloc,
+        stage,
+        program,
+        PROGRAM_PLACE,
+        &Env::Top,
+        &mut next,
+        tables,
+    )?;
+    Ok(())
+}
+
+#[cycle(gather)]
+fn gather(
+    alloc: Global,
+    stage: Stage,
+    node: &Node,
+    place: Place,
+    env: &Env,
+    next: &mut usize,
+    tables: &mut Vec<ScopeNames>,
+) -> Result<(), AllocError>
+    requires room { next.old + scope_count place node.now ≤ length tables.old.items }
+    ensures next { OnOk result (next.new ≡ next.old + scope_count place node.now) }
+    ensures tables { OnOk result (Gains tables.old.items tables.new.items (Reaches stage.entry (layers env.now) next.old place node.now)) }
 {
     match node {
         Node::Identifier(_, ident) => {
-            bind(alloc, ident.get(), role, lexical, variables)?;
+            gather_identifier(alloc, stage, ident.get(), place.standing, &*env, tables)?;
             Ok(())
         }
         Node::List(items) => {
             let items = items.as_slice();
-            collect_children(
-                alloc,
-                items,
-                roles_of_items(role, items),
-                lexical,
-                variables,
-                scopes,
+            let places = places_of_items(place, items);
+            gather_children(
+                alloc, stage, items, places, &*env, &*env, &*env, next, tables,
             )?;
             Ok(())
         }
         Node::Tree(kind, fields) => {
             let fields = fields.as_slice();
-            let roles = roles_of_fields(role, *kind, fields);
-            match opened(role, *kind) {
+            let places = places_of_fields(place, *kind, fields);
+            match places.opened() {
                 Some(scope) => {
-                    collect_scope(alloc, scope, fields, roles, variables, scopes)?;
+                    let layer = Layer {
+                        scope,
+                        number: *next,
+                        whole: true,
+                    };
+                    *next += 1;
+                    let parameters = Env::In(
+                        Layer {
+                            whole: false,
+                            ..layer
+                        },
+                        &*env,
+                    );
+                    let whole = Env::In(layer, &*env);
+                    gather_children(
+                        alloc,
+                        stage,
+                        fields,
+                        places,
+                        &*env,
+                        &parameters,
+                        &whole,
+                        next,
+                        tables,
+                    )?;
                     Ok(())
                 }
                 None => {
-                    collect_children(alloc, fields, roles, lexical, variables, scopes)?;
+                    gather_children(
+                        alloc, stage, fields, places, &*env, &*env, &*env, next, tables,
+                    )?;
                     Ok(())
                 }
             }
@@ -105,82 +195,100 @@ fn collect(
     }
 }
 
-// Adds a scope, and then those in it.
-#[cycle(collect)]
-fn collect_scope(
+#[cycle(gather)]
+fn gather_children(
     alloc: Global,
-    scope: Scope,
-    fields: &[Node],
-    roles: RolesBelow,
-    variables: &mut Names,
-    scopes: &mut Vec<ScopeNames>,
+    stage: Stage,
+    nodes: &[Node],
+    places: PlacesBelow,
+    outside: &Env,
+    parameters: &Env,
+    whole: &Env,
+    next: &mut usize,
+    tables: &mut Vec<ScopeNames>,
 ) -> Result<(), AllocError>
-    ensures variables { let below = each_in collected (role_at roles) fields.now in OnOk result (members variables.new ≡ either (members variables.old) (passes Role.Variable (Some scope) (children_bind Role.Variable below))) }
-    ensures scopes { let below = each_in collected (role_at roles) fields.now in OnOk result (map declared_by scopes.new.items ≡ map declared_by scopes.old.items ++ (own_scope (Some scope) below ++ scopes_below below)) }
+    requires room { next.old + total (each_in scope_count (place_of places) nodes.now) ≤ length tables.old.items }
+    ensures next { OnOk result (next.new ≡ next.old + total (each_in scope_count (place_of places) nodes.now)) }
+    ensures tables { OnOk result (Gains tables.old.items tables.new.items (ReachesBelow stage.entry (λ i. pick (view_of places i) (layers outside.now) (layers parameters.now) (layers whole.now)) next.old (place_of places) nodes.now (length nodes.now))) }
 {
-    let place = scopes.len();
-    scopes.push(ScopeNames::new(alloc))?;
-    let mut own = ScopeNames::new(alloc);
-    match scope {
-        Scope::Block => {
-            collect_children(alloc, fields, roles, &mut own.lexical, variables, scopes)?;
-            scopes[place] = own;
-            Ok(())
-        }
-        Scope::Program | Scope::Function => {
-            collect_children(
-                alloc,
-                fields,
-                roles,
-                &mut own.lexical,
-                &mut own.variables,
-                scopes,
-            )?;
-            scopes[place] = own;
-            Ok(())
-        }
-    }
-}
-
-#[cycle(collect)]
-fn collect_children(
-    alloc: Global,
-    children: &[Node],
-    roles: RolesBelow,
-    lexical: &mut Names,
-    variables: &mut Names,
-    scopes: &mut Vec<ScopeNames>,
-) -> Result<(), AllocError>
-    ensures lexical { OnOk result (members lexical.new ≡ either (members lexical.old) (children_bind Role.Lexical (each_in collected (role_at roles) children.now))) }
-    ensures variables { OnOk result (members variables.new ≡ either (members variables.old) (children_bind Role.Variable (each_in collected (role_at roles) children.now))) }
-    ensures scopes { OnOk result (map declared_by scopes.new.items ≡ map declared_by scopes.old.items ++ scopes_below (each_in collected (role_at roles) children.now)) }
-{
-    for i in 0..children.len() {
-        collect(alloc, &children[i], roles.at(i), lexical, variables, scopes)?;
+    for i in 0..nodes.len() {
+        let env = seen(places.view(i), &*outside, &*parameters, &*whole);
+        gather(alloc, stage, &nodes[i], places.at(i), env, next, tables)?;
     }
     Ok(())
 }
 
-// Adds the name of an identifier that binds it and that no pass has marked.
-fn bind(
+// Adds the name of an identifier that no pass has marked to the table of the scope that the stage gives it to.
+fn gather_identifier(
     alloc: Global,
+    stage: Stage,
     ident: &Ident,
-    role: Role,
-    lexical: &mut Names,
-    variables: &mut Names,
+    standing: Standing,
+    env: &Env,
+    tables: &mut Vec<ScopeNames>,
 ) -> Result<(), AllocError>
-    ensures lexical { OnOk result (members lexical.new ≡ either (members lexical.old) (identifier_binds role Role.Lexical ident.now)) }
-    ensures variables { OnOk result (members variables.new ≡ either (members variables.old) (identifier_binds role Role.Variable ident.now)) }
+    ensures { OnOk result (Gains tables.old.items tables.new.items (ReachesHere stage.entry (layers env.now) standing ident.now)) }
 {
     if !ident.ctxt.marks().is_empty() {
         return Ok(());
     }
-    match role {
-        Role::Lexical | Role::Function | Role::Class => lexical.insert(alloc, ident.sym.as_str())?,
-        Role::Variable | Role::Parameter | Role::Import => {
-            variables.insert(alloc, ident.sym.as_str())?
-        }
-        _ => (),
+    if !is_binding(standing) {
+        return Ok(());
     }
-    Ok(())
+    let name = ident.sym.as_str();
+    match target(stage, standing, name, env) {
+        Some(number) => {
+            add(alloc, tables, number, name, standing)?;
+            Ok(())
+        }
+        None => Ok(()),
+    }
+}
+
+fn add(
+    alloc: Global,
+    tables: &mut Vec<ScopeNames>,
+    number: usize,
+    name: &str,
+    standing: Standing,
+) -> Result<(), AllocError>
+    ensures { OnOk result (Gains tables.old.items tables.new.items (IsAdded number standing name.now)) }
+{
+    match tables.get_mut(number) {
+        Some(names) => {
+            names.insert(alloc, name, standing)?;
+            Ok(())
+        }
+        None => Ok(()),
+    }
+}
+
+// The scope that the stage gives a name to that is bound so.
+fn target(stage: Stage, standing: Standing, name: &str, env: &Env) -> Option<usize>
+    ensures { result ≡ target_in stage.entry standing name.now (layers env.now) }
+{
+    match stage {
+        Stage::Bind => taker(env, standing),
+        Stage::Settle(bound) => match standing {
+            Standing::SloppyFunction => {
+                if hoists(env, &bound, name) {
+                    variable_scope(env)
+                } else {
+                    None
+                }
+            }
+            Standing::Variable => { uncaught(variable_scope(env), meets(env, &bound, name)) }
+            _ => None,
+        },
+    }
+}
+
+// The scope that takes a variable, if it is the first that the variable meets on its way.
+fn uncaught(scope: Option<usize>, met: Option<usize>) -> Option<usize>
+    ensures { result ≡ same_number scope met }
+{
+    match (scope, met) {
+        (Some(scope), Some(met)) if met == scope => Some(scope),
+        _ => None,
+    }
 }

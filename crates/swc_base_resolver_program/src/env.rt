@@ -1,51 +1,126 @@
 //! The scopes that are open at a node.
 ghost use Rattle.std.specs.Prelude.{◌≡◌};
-ghost use Rattle.swc_tree_scoping.specs.Scopes.{is_taken};
-ghost use Rattle.swc_base_resolver_program.specs.Layers.{layers};
-ghost use Rattle.swc_base_resolver_program.specs.SecondWalk.{found};
+ghost use Rattle.swc_base_resolver_program.specs.Lookup.{hoists_from as hoists_from_in, hoists_in, layers, meets_in, names_in, open_of, passes_in, taker_in};
+ghost use Rattle.swc_base_resolver_program.specs.Walks.{pick};
 
-use crate::collect::ScopeNames;
-use swc_tree_marks::Mark;
-use swc_tree_node::{Role, Scope};
-use swc_tree_scoping::takes;
+use crate::lookup::Names;
+use swc_tree_scoping::{Scope, Standing, View, takes};
 
-/// The open scopes, the innermost first, each with its mark and the names that it declares.
+/// A scope that is open: its number from the front, and whether all its names are seen or only its parameters.
+#[derive(Clone, Copy, Debug)]
+pub struct Layer {
+    pub scope: Scope,
+    pub number: usize,
+    pub whole: bool,
+}
+
+/// The open scopes, the innermost first.
 #[derive(Clone, Copy)]
 pub enum Env<'a> {
     Top,
-    In(Scope, Mark, &'a ScopeNames, &'a Env<'a>),
+    In(Layer, &'a Env<'a>),
 }
 
-/// The mark of the innermost scope that declares the name, else `unresolved`. It costs two look-ups a scope, at
-/// most.
-#[tactic(auto, using(crate::proofs::Open::found_top, crate::proofs::Open::found_here, crate::proofs::Open::found_outer))]
-pub fn mark_of_name(env: &Env, name: &str, unresolved: Mark) -> Mark
-    ensures { result ≡ found unresolved (λ o. o.names name.now) (layers env.now) }
+/// The environment of a child that sees so much of the scope that its parent opens.
+pub fn seen<'a>(
+    view: View,
+    outside: &'a Env<'a>,
+    parameters: &'a Env<'a>,
+    whole: &'a Env<'a>,
+) -> &'a Env<'a>
+    ensures { result.now ≡ pick view outside.now parameters.now whole.now }
+{
+    match view {
+        View::Outside => outside,
+        View::Parameters => parameters,
+        View::Whole => whole,
+    }
+}
+
+/// The number of the innermost scope that takes what is bound so.
+#[tactic(auto, using(crate::proofs::Open::layers_top, crate::proofs::Open::layers_in))]
+pub fn taker(env: &Env, standing: Standing) -> Option<usize>
+    ensures { result ≡ taker_in standing (layers env.now) }
 {
     match env {
-        Env::Top => unresolved,
-        Env::In(_, mark, names, outer) => {
-            if names.has(name) {
-                *mark
+        Env::Top => None,
+        Env::In(layer, outer) => {
+            if takes(standing, layer.scope) {
+                Some(layer.number)
             } else {
-                mark_of_name(outer, name, unresolved)
+                taker(outer, standing)
             }
         }
     }
 }
 
-/// The mark of the innermost scope that takes what an identifier of that role binds, else `unresolved`.
-#[tactic(auto, using(crate::proofs::Open::found_top, crate::proofs::Open::found_here, crate::proofs::Open::found_outer))]
-pub fn mark_of_role(env: &Env, role: Role, unresolved: Mark) -> Mark
-    ensures { result ≡ found unresolved (λ o. is_taken role o.scope) (layers env.now) }
+/// The number of the innermost function, static block or program.
+pub fn variable_scope(env: &Env) -> Option<usize>
+    ensures { result ≡ taker_in Standing.Variable (layers env.now) }
+{
+    taker(env, Standing::Variable)
+}
+
+/// Whether a `var` of the name could stand in the place of a function of the name in a block whose scopes outwards
+/// these are: no lexical declaration, function or parameter meets it up to the nearest function, static block or
+/// program.
+#[tactic(auto, using(crate::proofs::Open::layers_top, crate::proofs::Open::layers_in))]
+pub fn passes(env: &Env, bound: &Names, name: &str) -> bool
+    ensures { result ≡ passes_in (names_in bound.now) name.now (layers env.now) }
 {
     match env {
-        Env::Top => unresolved,
-        Env::In(scope, mark, _, outer) => {
-            if takes(role, *scope) {
-                *mark
+        Env::Top => true,
+        Env::In(layer, outer) => {
+            if bound.ways(layer.number, name).stops_or_function() {
+                false
+            } else if takes(Standing::Variable, layer.scope) {
+                true
             } else {
-                mark_of_role(outer, role, unresolved)
+                passes(outer, bound, name)
+            }
+        }
+    }
+}
+
+/// Whether the plain functions of the name in a block are declared outside of it; `outer` are the scopes round it.
+pub fn hoists_from(layer: Layer, outer: &Env, bound: &Names, name: &str) -> bool
+    ensures { result ≡ hoists_from_in (names_in bound.now) name.now (open_of layer) (layers outer.now) }
+{
+    !bound.ways(layer.number, name).stops() && passes(outer, bound, name)
+}
+
+/// Whether the plain functions of the name in the innermost scope that takes them are declared outside of it
+/// (ECMA-262, B.3.2).
+#[tactic(auto, using(crate::proofs::Open::layers_top, crate::proofs::Open::layers_in))]
+pub fn hoists(env: &Env, bound: &Names, name: &str) -> bool
+    ensures { result ≡ hoists_in (names_in bound.now) name.now (layers env.now) }
+{
+    match env {
+        Env::Top => false,
+        Env::In(layer, outer) => {
+            if takes(Standing::SloppyFunction, layer.scope) {
+                hoists_from(*layer, outer, bound, name)
+            } else {
+                hoists(outer, bound, name)
+            }
+        }
+    }
+}
+
+/// The number of the innermost scope that is a catch clause whose parameter has the name, or that takes variables.
+#[tactic(auto, using(crate::proofs::Open::layers_top, crate::proofs::Open::layers_in))]
+pub fn meets(env: &Env, bound: &Names, name: &str) -> Option<usize>
+    ensures { result ≡ meets_in (names_in bound.now) name.now (layers env.now) }
+{
+    match env {
+        Env::Top => None,
+        Env::In(layer, outer) => {
+            if takes(Standing::Variable, layer.scope)
+                || bound.ways(layer.number, name).has(Standing::CatchParameter)
+            {
+                Some(layer.number)
+            } else {
+                meets(outer, bound, name)
             }
         }
     }

@@ -2,7 +2,7 @@
 ghost use Rattle.std.specs.Prelude.{◌≡◌, ◌≢◌, ℕ, ◌+◌, ◌-◌, ◌<◌, ◌≤◌, ◌↔◌, IsTrue, IfOk, IfErr, OnErr, IsErrOf};
 ghost use Rattle.swc_tree_marks.specs.Globals.{greatest, with_fresh, with_fresh_marks};
 ghost use Rattle.swc_base_resolver_program.specs.Marked.{IsMark, IsRefusal, MarksOk};
-ghost use Rattle.swc_base_resolver_program.specs.SecondWalk.{marks_from};
+ghost use Rattle.swc_base_resolver_program.specs.Walks.{marks_from};
 
 use std::alloc::Global;
 use swc_tree_marks::{Globals, Mark, PassError};

@@ -1,41 +1,169 @@
-//! Sets of names.
-ghost use Rattle.std.specs.Prelude.{◌≡◌, OnOk};
-ghost use Rattle.swc_base_resolver_program.specs.Names.{members, no_name, one_more};
+//! The names that a scope takes, and how they are bound.
+ghost use Rattle.std.specs.Prelude.{◌≡◌, ℕ, List, OnOk};
+ghost use Rattle.swc_tree_scoping.specs.Declares.{is_no_variable as binds_otherwise, is_parameter as binds_parameter, is_settled as binds_settled, stops as binds_stop, stops_or_function as binds_stop_or_function};
+ghost use Rattle.swc_base_resolver_program.specs.Names.{any_way, has_way, no_ways, ways_of, with_way};
+ghost use Rattle.swc_base_resolver_program.specs.Inserted.{IsInserted};
 
 use std::alloc::{AllocError, Global};
-use std::collections::HashSet;
+use std::collections::HashMap;
+use swc_tree_scoping::Standing;
 
-/// A set of names. Contracts speak of it by the test of its members.
-///
-/// A look-up takes the same time whatever the size of the set.
-#[derive(Drop)]
-pub struct Names {
-    set: HashSet<String>,
+/// The ways in which a scope takes one name.
+#[derive(Clone, Copy, Debug)]
+pub struct Ways {
+    variable: bool,
+    lexical: bool,
+    function: bool,
+    block_function: bool,
+    sloppy_function: bool,
+    parameter: bool,
+    catch_parameter: bool,
+    import: bool,
+    function_name: bool,
+    class_name: bool,
 }
 
-impl Names {
-    /// The set of no name.
-    pub fn new(alloc: Global) -> Names
-        ensures { members result ≡ no_name }
+impl Ways {
+    /// No way: the scope does not take the name.
+    pub fn none() -> Ways
+        ensures { result ≡ no_ways }
     {
-        Names {
-            set: HashSet::new(alloc),
+        Ways {
+            variable: false,
+            lexical: false,
+            function: false,
+            block_function: false,
+            sloppy_function: false,
+            parameter: false,
+            catch_parameter: false,
+            import: false,
+            function_name: false,
+            class_name: false,
         }
     }
 
-    /// Whether the name is in the set.
-    pub fn has(&self, name: &str) -> bool
-        ensures { result ≡ members self.now name.now }
+    /// Whether the name is bound so.
+    pub fn has(&self, standing: Standing) -> bool
+        ensures { result ≡ has_way self.now standing }
     {
-        self.set.contains(name)
+        match standing {
+            Standing::Variable => self.variable,
+            Standing::Lexical => self.lexical,
+            Standing::Function => self.function,
+            Standing::BlockFunction => self.block_function,
+            Standing::SloppyFunction => self.sloppy_function,
+            Standing::Parameter => self.parameter,
+            Standing::CatchParameter => self.catch_parameter,
+            Standing::Import => self.import,
+            Standing::FunctionName => self.function_name,
+            Standing::ClassName => self.class_name,
+            _ => false,
+        }
     }
 
-    /// Adds a copy of the name.
-    pub fn insert(&mut self, alloc: Global, name: &str) -> Result<(), AllocError>
-        ensures { OnOk result (members self.new ≡ one_more (members self.old) name.now) }
+    /// Whether it is a parameter's name.
+    pub fn is_parameter(&self) -> bool
+        ensures { result ≡ any_way binds_parameter self.now }
     {
+        self.parameter || self.catch_parameter
+    }
+
+    /// Whether it stops a `var` of the name on its way out of blocks.
+    pub fn stops(&self) -> bool
+        ensures { result ≡ any_way binds_stop self.now }
+    {
+        self.lexical || self.import || self.parameter || self.catch_parameter
+    }
+
+    /// Whether it stops a `var` of the name, or is a function's of a block.
+    pub fn stops_or_function(&self) -> bool
+        ensures { result ≡ any_way binds_stop_or_function self.now }
+    {
+        self.stops() || self.block_function || self.sloppy_function
+    }
+
+    /// Whether it is bound by something else than variables and plain functions of sloppy code in blocks.
+    pub fn is_no_variable(&self) -> bool
+        ensures { result ≡ any_way binds_otherwise self.now }
+    {
+        self.lexical
+            || self.function
+            || self.block_function
+            || self.parameter
+            || self.catch_parameter
+            || self.import
+            || self.function_name
+            || self.class_name
+    }
+
+    /// Whether it is bound by something else than plain functions of sloppy code in blocks.
+    pub fn is_settled(&self) -> bool
+        ensures { result ≡ any_way binds_settled self.now }
+    {
+        self.variable || self.is_no_variable()
+    }
+
+    // The same with one way more, if names are bound so.
+    fn with(mut self, standing: Standing) -> Ways
+        ensures { result ≡ with_way self standing }
+    {
+        match standing {
+            Standing::Variable => self.variable = true,
+            Standing::Lexical => self.lexical = true,
+            Standing::Function => self.function = true,
+            Standing::BlockFunction => self.block_function = true,
+            Standing::SloppyFunction => self.sloppy_function = true,
+            Standing::Parameter => self.parameter = true,
+            Standing::CatchParameter => self.catch_parameter = true,
+            Standing::Import => self.import = true,
+            Standing::FunctionName => self.function_name = true,
+            Standing::ClassName => self.class_name = true,
+            _ => (),
+        }
+        self
+    }
+}
+
+/// The names that a scope takes, each with the ways in which it does.
+///
+/// A look-up takes the same time whatever the number of names.
+#[derive(Drop)]
+pub struct ScopeNames {
+    names: HashMap<String, Ways>,
+}
+
+impl ScopeNames {
+    /// Those of a scope that takes none.
+    pub fn new(alloc: Global) -> ScopeNames
+        ensures { (x : List ℕ) → ways_of result x ≡ no_ways }
+    {
+        ScopeNames {
+            names: HashMap::new(alloc),
+        }
+    }
+
+    /// The ways in which the scope takes a name.
+    pub fn get(&self, name: &str) -> Ways
+        ensures { result ≡ ways_of self.now name.now }
+    {
+        match self.names.get(name) {
+            Some(ways) => *ways,
+            None => Ways::none(),
+        }
+    }
+
+    /// Adds a way in which the scope takes a name.
+    pub fn insert(
+        &mut self,
+        alloc: Global,
+        name: &str,
+        standing: Standing,
+    ) -> Result<(), AllocError>
+        ensures { OnOk result (IsInserted self.old self.new name.now standing) }
+    {
+        let ways = self.get(name).with(standing);
         let copy = String::from_str(alloc, name)?;
-        self.set.insert(copy)?;
+        self.names.insert(copy, ways)?;
         Ok(())
     }
 }

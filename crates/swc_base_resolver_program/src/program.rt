@@ -3,16 +3,19 @@ ghost use Rattle.std.specs.Prelude.{◌≡◌, ℕ, ◌+◌, ◌-◌, ◌<◌, �
 ghost use Rattle.swc_tree_marks.specs.Globals.{greatest, with_fresh_marks};
 ghost use Rattle.swc_tree_node.specs.declared.slot.Slot.{Slot as Slot'};
 ghost use Rattle.swc_tree_node.specs.Fits.{fits};
-ghost use Rattle.swc_tree_scoping.specs.Scopes.{opened, scope_count};
+ghost use Rattle.swc_tree_scoping.specs.Places.{opened, program_place};
+ghost use Rattle.swc_tree_scoping.specs.Scopes.{scope_count};
 ghost use Rattle.swc_tree_scoping.specs.Resolved.{Resolved};
 ghost use Rattle.swc_base_resolver_program.specs.Marked.{IsRefusal, MarksOk, OnlyContexts};
 
-use crate::collect::scopes_of;
+use crate::collect::{Stage, gather_program, scope_tables};
+use crate::lookup::{Declarations, Names};
 use crate::marks::marks_of;
-use crate::walk::write_contexts;
+use crate::walk::{Answers, is_script, write_contexts};
 use std::alloc::Global;
 use swc_tree_marks::{Globals, Mark, PassError};
-use swc_tree_node::{Node, Role, Scope};
+use swc_tree_node::Node;
+use swc_tree_scoping::Scope;
 
 /// Gives each identifier of a program, the node of a `Module`, the one mark of the scope that it is declared in
 /// or means. The program has the top mark, each other scope a fresh one under it, in the order in which they
@@ -33,15 +36,27 @@ pub fn resolve_program(
     top: Mark,
     program: Node,
 ) -> Result<Node, PassError>
-    ensures resolved { opened Role.Plain program ≡ Some Scope.Program → MarksOk globals.old unresolved top → IfOk result (λ answer. Resolved unresolved top globals.old globals.new program answer) }
+    ensures resolved { opened program_place program ≡ Some Scope.Program → MarksOk globals.old unresolved top → IfOk result (λ answer. Resolved unresolved top globals.old globals.new program answer) }
     ensures contexts { IfOk result (λ answer. OnlyContexts program answer) }
     ensures place { (s : Slot') → IfOk result (λ answer. fits answer s ≡ fits program s) }
-    ensures table { (fresh : ℕ) × (fresh ≤ scope_count Role.Plain program - 1) × (globals.new ≡ with_fresh_marks globals.old top fresh) }
+    ensures table { (fresh : ℕ) × (fresh ≤ scope_count program_place program - 1) × (globals.new ≡ with_fresh_marks globals.old top fresh) }
     ensures refusal { IfErr result IsRefusal }
-    ensures spent { IsErrOf result PassError.MarksSpent → 4294967295 < greatest globals.old + (scope_count Role.Plain program - 1) }
+    ensures spent { IsErrOf result PassError.MarksSpent → 4294967295 < greatest globals.old + (scope_count program_place program - 1) }
 {
-    let names = scopes_of(alloc, &program)?;
-    let marks = marks_of(alloc, globals, top, names.len())?;
-    let answer = write_contexts(program, marks.as_slice(), names.as_slice(), unresolved)?;
+    let mut bound = scope_tables(alloc, &program)?;
+    gather_program(alloc, Stage::Bind, &program, &mut bound)?;
+    let bound = Names::new(bound.as_slice());
+    let mut reached = scope_tables(alloc, &program)?;
+    gather_program(alloc, Stage::Settle(bound), &program, &mut reached)?;
+    let reached_names = reached.as_slice();
+    let reached = Names::new(reached_names);
+    let marks = marks_of(alloc, globals, top, reached_names.len())?;
+    let answers = Answers {
+        marks: marks.as_slice(),
+        declarations: Declarations { bound, reached },
+        unresolved,
+        is_script: is_script(&program),
+    };
+    let answer = write_contexts(program, &answers)?;
     Ok(answer)
 }

@@ -1,43 +1,40 @@
-//! The second walk: writes the context of each identifier.
-ghost use Rattle.std.specs.Prelude.{◌≡◌, ◌+◌, ◌≤◌, [], ◌∷◌, length, map, IfOk, OnOk, MatchOption};
+//! The last walk: writes the context of each identifier.
+ghost use Rattle.std.specs.Prelude.{◌≡◌, ◌+◌, ◌≤◌, [], ◌∷◌, length, IfOk, OnOk, MatchOption};
+ghost use Rattle.swc_tree_scoping.specs.Below.{place_of, view_of};
 ghost use Rattle.swc_tree_scoping.specs.Folds.{each_in};
-ghost use Rattle.swc_tree_scoping.specs.RolesBelow.{role_at};
+ghost use Rattle.swc_tree_scoping.specs.Places.{program_place};
 ghost use Rattle.swc_tree_scoping.specs.Scopes.{scope_count, total};
-ghost use Rattle.swc_tree_scoping.specs.Resolved.{remarked};
-ghost use Rattle.swc_base_resolver_program.specs.Collected.{declared_by};
-ghost use Rattle.swc_base_resolver_program.specs.Layers.{layers, scopes_in};
-ghost use Rattle.swc_base_resolver_program.specs.SecondWalk.{context_of, fresh_context, walked, written};
+ghost use Rattle.swc_tree_scoping.specs.Resolved.{is_global_value as names_global_value, is_script as is_script_node, remarked};
+ghost use Rattle.swc_base_resolver_program.specs.Lookup.{layers};
+ghost use Rattle.swc_base_resolver_program.specs.Walks.{context_of, fresh_context, mark_at as mark_by, marking_in, own_number, pick, walked, written};
 
-use crate::collect::ScopeNames;
-use crate::env::{Env, mark_of_name, mark_of_role};
+use crate::env::{Env, Layer, seen, taker};
+use crate::lookup::{Declarations, function_owner, meaning, variable_owner};
 use std::alloc::AllocError;
 use swc_tree_items::Items;
 use swc_tree_marks::{Ident, Mark};
-use swc_tree_node::{Node, Role};
-use swc_tree_scoping::{RolesBelow, opened, roles_of_fields, roles_of_items};
+use swc_tree_node::{Kind, Node};
+use swc_tree_scoping::{
+    PROGRAM_PLACE, Place, PlacesBelow, Standing, is_reference, places_of_fields, places_of_items,
+};
 
-/// The marks of the scopes and the names that they declare, the scopes from the front.
+/// The marks of the scopes and what they declare, the scopes from the front; the mark of free names; and whether the
+/// program is a script.
 #[derive(Clone, Copy)]
-struct ScopeTable<'a> {
-    marks: &'a [Mark],
-    names: &'a [ScopeNames],
+pub struct Answers<'a> {
+    pub marks: &'a [Mark],
+    pub declarations: Declarations<'a>,
+    pub unresolved: Mark,
+    pub is_script: bool,
 }
 
-/// The tree with the context of each identifier that had none. The marks of the scopes and what they declare are
-/// given from the front.
-pub fn write_contexts(
-    tree: Node,
-    marks: &[Mark],
-    names: &[ScopeNames],
-    unresolved: Mark,
-) -> Result<Node, AllocError>
-    requires marks { scope_count Role.Plain tree ≤ length marks.now }
-    requires names { scope_count Role.Plain tree ≤ length names.now }
-    ensures { IfOk result (λ answer. answer ≡ remarked (written (record { marks = marks.now; names = map declared_by names.now }) unresolved [] 0 Role.Plain tree) tree) }
+/// The program with the context of each identifier that had none.
+pub fn write_contexts(program: Node, answers: &Answers) -> Result<Node, AllocError>
+    requires { scope_count program_place program ≤ length answers.now.marks.now }
+    ensures { IfOk result (λ answer. answer ≡ remarked (written (marking_in answers.now) [] 0 program_place program) program) }
 {
     let mut next = 0;
-    let table = ScopeTable { marks, names };
-    let answer = resolve(tree, Role::Plain, &table, &Env::Top, unresolved, &mut next)?;
+    let answer = resolve(program, PROGRAM_PLACE, answers, &Env::Top, &mut next)?;
     Ok(answer)
 }
 
@@ -45,40 +42,59 @@ pub fn write_contexts(
 #[cycle(resolve)]
 fn resolve(
     node: Node,
-    role: Role,
-    table: &ScopeTable,
+    place: Place,
+    answers: &Answers,
     env: &Env,
-    unresolved: Mark,
     next: &mut usize,
 ) -> Result<Node, AllocError>
-    requires marks { next.old + scope_count role node ≤ length table.now.marks.now }
-    requires names { next.old + scope_count role node ≤ length table.now.names.now }
-    ensures answer { IfOk result (λ answer. answer ≡ remarked (written (scopes_in table.now) unresolved (layers env.now) next.old role node) node) }
-    ensures next { OnOk result (next.new ≡ next.old + scope_count role node) }
+    requires { next.old + scope_count place node ≤ length answers.now.marks.now }
+    ensures answer { IfOk result (λ answer. answer ≡ remarked (written (marking_in answers.now) (layers env.now) next.old place node) node) }
+    ensures next { OnOk result (next.new ≡ next.old + scope_count place node) }
 {
     match node {
         Node::Identifier(kind, mut ident) => {
-            mark_identifier(ident.get_mut(), role, &*env, unresolved)?;
+            mark_identifier(ident.get_mut(), place.standing, &*answers, &*env)?;
             Ok(Node::Identifier(kind, ident))
         }
         Node::List(items) => {
-            let roles = roles_of_items(role, items.as_slice());
-            let items = resolve_children(items, roles, &*table, &*env, unresolved, next)?;
+            let places = places_of_items(place, items.as_slice());
+            let items = resolve_children(items, places, &*answers, &*env, &*env, &*env, next)?;
             Ok(Node::List(items))
         }
         Node::Tree(kind, fields) => {
-            let roles = roles_of_fields(role, kind, fields.as_slice());
-            match opened(role, kind) {
+            let places = places_of_fields(place, kind, fields.as_slice());
+            match places.opened() {
                 Some(scope) => {
-                    let inner = Env::In(scope, table.marks[*next], &table.names[*next], &*env);
+                    prove!(*next < answers.marks.len());
+                    let layer = Layer {
+                        scope,
+                        number: *next,
+                        whole: true,
+                    };
                     *next += 1;
+                    let parameters = Env::In(
+                        Layer {
+                            whole: false,
+                            ..layer
+                        },
+                        &*env,
+                    );
+                    let whole = Env::In(layer, &*env);
                     let fields = resolve_children(
-                        fields, roles, &*table, &inner, unresolved, next,
+                        fields,
+                        places,
+                        &*answers,
+                        &*env,
+                        &parameters,
+                        &whole,
+                        next,
                     )?;
                     Ok(Node::Tree(kind, fields))
                 }
                 None => {
-                    let fields = resolve_children(fields, roles, &*table, &*env, unresolved, next)?;
+                    let fields = resolve_children(
+                        fields, places, &*answers, &*env, &*env, &*env, next,
+                    )?;
                     Ok(Node::Tree(kind, fields))
                 }
             }
@@ -90,20 +106,21 @@ fn resolve(
 #[cycle(resolve)]
 fn resolve_children(
     mut nodes: Items<Node>,
-    roles: RolesBelow,
-    table: &ScopeTable,
-    env: &Env,
-    unresolved: Mark,
+    places: PlacesBelow,
+    answers: &Answers,
+    outside: &Env,
+    parameters: &Env,
+    whole: &Env,
     next: &mut usize,
 ) -> Result<Items<Node>, AllocError>
-    requires marks { next.old + total (each_in scope_count (role_at roles) nodes) ≤ length table.now.marks.now }
-    requires names { next.old + total (each_in scope_count (role_at roles) nodes) ≤ length table.now.names.now }
-    ensures answer { IfOk result (λ answer. answer ≡ walked (scopes_in table.now) unresolved (layers env.now) next.old (role_at roles) nodes) }
-    ensures next { OnOk result (next.new ≡ next.old + total (each_in scope_count (role_at roles) nodes)) }
+    requires { next.old + total (each_in scope_count (place_of places) nodes) ≤ length answers.now.marks.now }
+    ensures answer { IfOk result (λ answer. answer ≡ walked (marking_in answers.now) (λ i. pick (view_of places i) (layers outside.now) (layers parameters.now) (layers whole.now)) next.old (place_of places) nodes) }
+    ensures next { OnOk result (next.new ≡ next.old + total (each_in scope_count (place_of places) nodes)) }
 {
     for i in 0..nodes.len() {
         let node = nodes.replace(i, Node::Absent);
-        let done = resolve(node, roles.at(i), &*table, &*env, unresolved, next)?;
+        let env = seen(places.view(i), &*outside, &*parameters, &*whole);
+        let done = resolve(node, places.at(i), &*answers, env, next)?;
         nodes.set(i, done);
     }
     Ok(nodes)
@@ -112,16 +129,16 @@ fn resolve_children(
 // Writes the context of an identifier that has none.
 fn mark_identifier(
     ident: &mut Ident,
-    role: Role,
+    standing: Standing,
+    answers: &Answers,
     env: &Env,
-    unresolved: Mark,
 ) -> Result<(), AllocError>
-    ensures { OnOk result (ident.new ≡ record ident.old { ctxt = context_of unresolved role (layers env.now) ident.old }) }
+    ensures { OnOk result (ident.new ≡ record ident.old { ctxt = context_of (marking_in answers.now) standing (layers env.now) ident.old }) }
 {
     if !ident.ctxt.marks().is_empty() {
         return Ok(());
     }
-    match mark_of(role, ident.sym.as_str(), &*env, unresolved) {
+    match mark_of(standing, ident.sym.as_str(), &*answers, &*env) {
         Some(mark) => {
             ident.ctxt.apply_mark(mark)?;
             Ok(())
@@ -130,18 +147,60 @@ fn mark_identifier(
     }
 }
 
-// The mark that an identifier of that role is to have, if it is to have one.
-fn mark_of(role: Role, name: &str, env: &Env, unresolved: Mark) -> Option<Mark>
-    ensures { let context = fresh_context unresolved role name.now (layers env.now) in MatchOption result (context ≡ []) (λ mark. context ≡ mark ∷ []) }
+// The mark that an identifier is to have, if it is to have one.
+fn mark_of(standing: Standing, name: &str, answers: &Answers, env: &Env) -> Option<Mark>
+    ensures { let context = fresh_context (marking_in answers.now) standing name.now (layers env.now) in MatchOption result (context ≡ []) (λ mark. context ≡ mark ∷ []) }
 {
-    match role {
-        Role::Reference | Role::FunctionBody => Some(mark_of_name(env, name, unresolved)),
-        Role::Lexical
-        | Role::Function
-        | Role::Class
-        | Role::Variable
-        | Role::Parameter
-        | Role::Import => Some(mark_of_role(env, role, unresolved)),
-        _ => None,
+    match standing {
+        Standing::Reference | Standing::Body => {
+            let scope = own_meaning(answers, name, meaning(env, &answers.declarations, name));
+            Some(mark_at(answers, scope))
+        }
+        Standing::Variable => Some(mark_at(
+            answers,
+            variable_owner(env, &answers.declarations, name),
+        )),
+        Standing::SloppyFunction => Some(mark_at(
+            answers,
+            function_owner(env, &answers.declarations, name),
+        )),
+        Standing::Plain | Standing::Branch | Standing::DefaultExport => None,
+        _ => Some(mark_at(answers, taker(env, standing))),
     }
+}
+
+// What is meant in a script, where `undefined`, `NaN` and `Infinity` are free though the program declares them.
+fn own_meaning(answers: &Answers, name: &str, scope: Option<usize>) -> Option<usize>
+    ensures { result ≡ own_number (marking_in answers.now) name.now scope }
+{
+    match scope {
+        Some(0) if answers.is_script && is_global_value(name) => None,
+        _ => scope,
+    }
+}
+
+fn is_global_value(name: &str) -> bool
+    ensures { result ≡ names_global_value name.now }
+{
+    name == "undefined" || name == "NaN" || name == "Infinity"
+}
+
+// The mark of a scope; that of free names where there is none.
+fn mark_at(answers: &Answers, scope: Option<usize>) -> Mark
+    ensures { result ≡ mark_by (marking_in answers.now) scope }
+{
+    match scope {
+        Some(number) => match answers.marks.get(number) {
+            Some(mark) => *mark,
+            None => answers.unresolved,
+        },
+        None => answers.unresolved,
+    }
+}
+
+/// Whether a program is a script.
+pub fn is_script(program: &Node) -> bool
+    ensures { result ≡ is_script_node program.now }
+{
+    matches!(program, Node::Tree(Kind::Script, _))
 }

@@ -1,51 +1,39 @@
--- The roles below a node are those that the code keeps.
-use Rattle.std.proofs.Common.{◌≡◌, ℕ, zero, suc, ◌+◌, Option, Some, None, List, [], ◌∷◌, map, drop, sym, ap, ◌∙◌, add-one}
-use Rattle.std.specs.List.{slice_get}
-use Rattle.std.specs.Option.{option_map, unwrap_or}
-use Rattle.std.proofs.lemmas.Option.{slice_get-map}
+-- The places below a node are those that the code keeps.
+use Rattle.std.proofs.Common.{◌≡◌, ℕ, List, refl, sym, ap, ◌∙◌}
 use Rattle.swc_tree_node.specs.declared.kind.Kind.{Kind}
-use Rattle.swc_tree_node.specs.declared.kind.Word.{Word}
-use Rattle.swc_tree_node.specs.declared.slot.Field.{Field}
-use Rattle.swc_tree_node.specs.declared.slot.Slot.{Slot}
 use Rattle.swc_tree_node.specs.declared.slot.Role.{Role}
 use Rattle.swc_tree_node.specs.declared.slot.Role.TheVariants as role
-use Rattle.swc_tree_node.specs.declared.node.Node.{Node, List as Many, Tree, out-Node}
+use Rattle.swc_tree_node.specs.declared.node.Node.{Node, List as Many, Tree}
 use Rattle.swc_tree_node.specs.declared.node.Node.TheVariants.{outs-List, outs-Tree}
-use Rattle.swc_tree_node.specs.declared.node.Node.TheOpen.{Node-F}
-use Rattle.swc_tree_node.specs.Table.{fields_of}
-use Rattle.swc_tree_scoping.specs.Places.{field_role, role_of_word, word_in, role_below, role_in, role_by_keyword, word_of, children_in}
-use Rattle.swc_tree_scoping.specs.declared.below.RolesBelow.TheVariants as below
-use Rattle.swc_tree_scoping.specs.RolesBelow.{role_at}
+use Rattle.swc_tree_scoping.specs.declared.places.Place.{Place}
+use Rattle.swc_tree_scoping.specs.declared.below.PlacesBelow.TheVariants as below
+use Rattle.swc_tree_scoping.specs.Places.{field_role, opened, opened_in, place_below, place_in, standing_below}
+use Rattle.swc_tree_scoping.specs.Below.{fields_are, place_of, scope_of_fields, standing_by}
 
-pub items_below : (r : Role) (ts : List Node) → role_at (below.Items r) ≡ role_below r (Many ts)
-items_below r ts = sym (ap (λ y. role_in r y (map word_of (children_in y))) (outs-List ts))
+pub items_below : (w : Place) (ts : List Node) → place_of (below.Items w) ≡ place_below w (Many ts)
+items_below w ts = sym (ap (place_in w) (outs-List ts))
 
-pub fields_below : (r keyword : Role) (k : Kind) (ts : List Node) → keyword ≡ role_by_keyword (map word_of ts) → role_at (below.Fields k r keyword) ≡ role_below r (Tree k ts)
-fields_below r keyword k ts e = ap (λ keyword. role_at (below.Fields k r keyword)) e ∙ sym (ap (λ y. role_in r y (map word_of (children_in y))) (outs-Tree k ts))
+standing_is : (w : Place) (k : Kind) (ts : List Node) (i : ℕ) (r : Role) → standing_by (fields_are w k ts) i r ≡ standing_below w k ts i r
+standing_is w k ts i role.Plain = refl
+standing_is w k ts i role.Inherited = refl
+standing_is w k ts i role.Reference = refl
+standing_is w k ts i role.Declared = refl
+standing_is w k ts i role.Function = refl
+standing_is w k ts i role.Class = refl
+standing_is w k ts i role.OwnName = refl
+standing_is w k ts i role.Parameter = refl
+standing_is w k ts i role.Catch = refl
+standing_is w k ts i role.Import = refl
+standing_is w k ts i role.Variable = refl
+standing_is w k ts i role.Lexical = refl
+standing_is w k ts i role.FunctionBody = refl
+standing_is w k ts i role.ExportLocal = refl
+standing_is w k ts i role.Label = refl
+standing_is w k ts i role.Imported = refl
+standing_is w k ts i role.Exported = refl
 
-abbrev row : Field → List ℕ × Slot × Role
-row f = (f.key.now, f.slot, f.role)
+pub fields_below : (w : Place) (k : Kind) (ts : List Node) → place_of (below.Fields (fields_are w k ts)) ≡ place_below w (Tree k ts)
+fields_below w k ts = λ j i. (ap (λ s. record (place_of (below.Fields (fields_are w k ts)) i) { standing = s }) (standing_is w k ts i (field_role k i)) ∙ sym (ap (λ y. place_in w y i) (outs-Tree k ts))) j
 
-module _ (fs : List Field) (k : Kind) (i : ℕ) (rows : map row fs ≡ fields_of k) where
-  field_is : (o : Option Field) → o ≡ slice_get fs i → field_role k i ≡ unwrap_or (option_map (λ f. f.2) (option_map row o)) role.Plain
-  field_is o h = ap (λ l. unwrap_or (option_map (λ f. f.2) (slice_get l i)) role.Plain) (sym rows) ∙ ap (λ o. unwrap_or (option_map (λ f. f.2) o) role.Plain) (slice_get-map row fs i ∙ ap (option_map row) (sym h))
-
-  pub role_found : (f : Field) → Some f ≡ slice_get fs i → f.role ≡ field_role k i
-  role_found f h = sym (field_is (Some f) h)
-
-  pub role_missing : None ≡ slice_get fs i → role.Plain ≡ field_role k i
-  role_missing h = sym (field_is None h)
-
--- looking for the keyword
-pub word_here : (ts : List Node) (i : ℕ) (t : Node) (w : Word) → slice_get ts i ≡ Some t → out-Node t ≡ Node-F.Word w → role_by_keyword (map word_of (drop i ts)) ≡ role_of_word w
-word_here [] i t w h o = absurd (cc)
-word_here (x ∷ ts) zero t w h o = let same : x ≡ t = cc in ap (λ x. role_by_keyword (word_of x ∷ map word_of ts)) same ∙ ap (λ y. role_by_keyword (word_in y ∷ map word_of ts)) o
-word_here (x ∷ ts) (suc i) t w h o = word_here ts i t w h o
-
-pub word_later : (ts : List Node) (i : ℕ) (t : Node) → slice_get ts i ≡ Some t → word_of t ≡ None → role_by_keyword (map word_of (drop i ts)) ≡ role_by_keyword (map word_of (drop (i + 1) ts))
-word_later ts i t h o = rw add-one (from ts i h)
-  where
-    from : (ts : List Node) (i : ℕ) → slice_get ts i ≡ Some t → role_by_keyword (map word_of (drop i ts)) ≡ role_by_keyword (map word_of (drop (suc i) ts))
-    from [] i h = absurd (cc)
-    from (x ∷ ts) zero h = let same : x ≡ t = cc in ap (λ w. role_by_keyword (w ∷ map word_of ts)) (ap word_of same ∙ o)
-    from (x ∷ ts) (suc i) h = from ts i h
+pub fields_opened : (w : Place) (k : Kind) (ts : List Node) → scope_of_fields (below.Fields (fields_are w k ts)) ≡ opened w (Tree k ts)
+fields_opened w k ts = sym (ap (opened_in w) (outs-Tree k ts))

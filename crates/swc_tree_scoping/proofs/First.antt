@@ -1,95 +1,113 @@
--- The first of a list of paths with a property, and that what binds in a program is declared in it.
-use Rattle.std.proofs.Common.{◌≡◌, ℕ, Bool, true, false, IsTrue, ◌↔◌, inl, inr, Option, Some, None, List, [], ◌∷◌, ◌++◌, map, refl, sym, ap, ◌∙◌, subst, arith, cond}
+-- The scopes round a path: each is a scope, each has round it those that come after it, and in a program there is
+-- one that takes what is bound.
+use Rattle.std.proofs.Common.{◌≡◌, ℕ, Bool, true, false, IsTrue, Option, Some, None, List, [], ◌∷◌, ◌++◌, map, refl, sym, ap, ◌∙◌, subst, cond}
 use Rattle.std.specs.Option.{is_some}
-use Rattle.swc_tree_node.specs.declared.slot.Role.{Role}
-use Rattle.swc_tree_node.specs.declared.slot.Role.TheVariants as role
-use Rattle.swc_tree_node.specs.declared.slot.Scope.{Scope}
-use Rattle.swc_tree_node.specs.declared.slot.Scope.TheVariants as scope
-use Rattle.swc_tree_node.specs.declared.node.Node.{Node}
-use Rattle.swc_tree_scoping.specs.Places.{Path, child, given, place_at, role_below}
-use Rattle.swc_tree_scoping.specs.Scopes.{is_binding, opened, scope_at, itself, scopes_round, first_that, is_taken, declaring, First}
-use Rattle.swc_tree_scoping.proofs.Under.{declaring_under, no_place_under, scope_under, joined}
+use Rattle.swc_tree_node.specs.declared.node.Node.{Node, out-Node}
+use Rattle.swc_tree_node.specs.declared.node.Node.TheOpen.{Node-F}
+use Rattle.swc_tree_scoping.specs.declared.places.Standing.{Standing}
+use Rattle.swc_tree_scoping.specs.declared.places.Place.{Place}
+use Rattle.swc_tree_scoping.specs.declared.places.Scope.{Scope}
+use Rattle.swc_tree_scoping.specs.declared.places.Scope.TheVariants as scope
+use Rattle.swc_tree_scoping.specs.declared.places.View.{View}
+use Rattle.swc_tree_scoping.specs.declared.places.View.TheVariants as view
+use Rattle.swc_tree_node.specs.declared.kind.Kind.{Kind}
+use Rattle.swc_tree_node.specs.declared.kind.Kind.TheVariants as kind
+use Rattle.swc_tree_scoping.specs.Places.{Path, child, given, opened, opened_as, opened_in, place_below, program_place, view_from}
+use Rattle.swc_tree_scoping.specs.Scopes.{Round, is_binding, is_taken, rounds, scope_at, seen_as, view_in, first_that, taker}
+use Rattle.swc_tree_scoping.proofs.Under.{lower, no_rounds_under, rounds_under, scope_under}
 
--- each of a list of paths
-abbrev pub Each : (Path → Type 0) → List Path → Type 0
+-- each of a list of rounds
+abbrev pub Each : (Round → Type 0) → List Round → Type 0
 Each P [] = Unit {0}
 Each P (s ∷ ss) = P s × Each P ss
 
-pub Each-map : (P Q : Path → Type 0) → ((s : Path) → P s → Q s) → (ss : List Path) → Each P ss → Each Q ss
+pub Each-map : (P Q : Round → Type 0) → ((s : Round) → P s → Q s) → (ss : List Round) → Each P ss → Each Q ss
 Each-map P Q f [] h = tt
 Each-map P Q f (s ∷ ss) h = (f s h.0, Each-map P Q f ss h.1)
 
-Each-under : (P Q : Path → Type 0) (i : ℕ) → ((s : Path) → P s → Q (i ∷ s)) → (ss us : List Path) → Each P ss → Each Q us → Each Q (map (λ s. i ∷ s) ss ++ us)
+Each-under : (P Q : Round → Type 0) (i : ℕ) → ((s : Round) → P s → Q (lower i s)) → (ss us : List Round) → Each P ss → Each Q us → Each Q (map (lower i) ss ++ us)
 Each-under P Q i f [] us h g = g
 Each-under P Q i f (s ∷ ss) us h g = (f s h.0, Each-under P Q i f ss us h.1 g)
 
--- where the property is decided by a test, the first that passes the test
-pub first_holds : (P : Path → Type 0) (f : Path → Bool) (ss : List Path) → Each (λ s. IsTrue (f s) ↔ P s) ss → First P ss (first_that f ss)
-first_holds P f [] e = refl
-first_holds P f (s ∷ ss) e = next (f s) e.0 (first_holds P f ss e.1)
-  where
-    next : (b : Bool) → IsTrue b ↔ P s → First P ss (first_that f ss) → First P (s ∷ ss) (cond b (Some s) (first_that f ss))
-    next true d h = inl (d.0 refl, refl)
-    next false d h = inr (λ p. absurd (let q = d.1 p in grind arith), h)
-
 -- the scopes round a path are scopes
-abbrev Opens : Role → Node → Path → Type 0
-Opens r t s = IsTrue (is_some (scope_at r t s))
+abbrev pub Opens : Place → Node → Path → Type 0
+Opens w t s = IsTrue (is_some (scope_at w t s))
 
-itself_opens : (r : Role) (t : Node) (b : Bool) → is_some (opened r t) ≡ b → Each (Opens r t) (itself b)
-itself_opens r t true e = (e, tt)
-itself_opens r t false e = tt
+seen_opens : (w : Place) (t : Node) (o : Option Scope) (v : View) → opened w t ≡ o → Each (λ s. Opens w t s.0) (seen_as o v)
+seen_opens w t None v e = tt
+seen_opens w t (Some s) view.Outside e = tt
+seen_opens w t (Some s) view.Parameters e = (subst (λ (o : Option Scope). IsTrue (is_some o)) (sym e) refl, tt)
+seen_opens w t (Some s) view.Whole e = (subst (λ (o : Option Scope). IsTrue (is_some o)) (sym e) refl, tt)
 
-pub round_opens : (p : Path) (r : Role) (t : Node) → Each (λ s. IsTrue (is_some (scope_at r t s))) (scopes_round r t p)
-round_opens [] r t = tt
-round_opens (i ∷ p) r t = at (child t i) refl (λ c. round_opens p (role_below r t i) c)
+pub round_opens : (p : Path) (w : Place) (t : Node) → Each (λ s. Opens w t s.0) (rounds w t p)
+round_opens [] w t = tt
+round_opens (i ∷ p) w t = at (child t i) refl (λ c. round_opens p (place_below w t i) c)
   where
-    at : (o : Option Node) → child t i ≡ o → ((c : Node) → Each (Opens (role_below r t i) c) (scopes_round (role_below r t i) c p))
-        → Each (Opens r t) (map (λ s. i ∷ s) (given o [] (λ c. scopes_round (role_below r t i) c p)) ++ itself (is_some (opened r t)))
-    at None h below = itself_opens r t (is_some (opened r t)) refl
-    at (Some c) h below = Each-under (Opens (role_below r t i) c) (Opens r t) i (λ s o. subst (λ (z : Option Scope). IsTrue (is_some z)) (sym (scope_under r t c i s h)) o)
-        (scopes_round (role_below r t i) c p) (itself (is_some (opened r t))) (below c) (itself_opens r t (is_some (opened r t)) refl)
+    at : (o : Option Node) → child t i ≡ o → ((c : Node) → Each (λ s. Opens (place_below w t i) c s.0) (rounds (place_below w t i) c p)) → Each (λ s. Opens w t s.0) (rounds w t (i ∷ p))
+    at None h below = subst (Each (λ s. Opens w t s.0)) (sym (no_rounds_under w t i p h)) (seen_opens w t (opened w t) (view_in (out-Node t) i) refl)
+    at (Some c) h below = subst (Each (λ s. Opens w t s.0)) (sym (rounds_under w t c i p h))
+        (Each-under (λ s. Opens (place_below w t i) c s.0) (λ s. Opens w t s.0) i (λ s o. subst (λ (z : Option Scope). IsTrue (is_some z)) (sym (scope_under w t c i s.0 h)) o)
+        (rounds (place_below w t i) c p) (seen_as (opened w t) (view_in (out-Node t) i)) (below c) (seen_opens w t (opened w t) (view_in (out-Node t) i) refl))
 
--- a binding in a tree whose root takes its role is declared in a scope
-joined_some : (i : ℕ) (o : Option Path) → (s : Path) × (joined i true o ≡ Some s)
-joined_some i None = ([], refl)
-joined_some i (Some s) = (i ∷ s, refl)
+-- after each come those round it
+abbrev pub Nested : Place → Node → List Round → Type 0
+Nested w t [] = Unit {0}
+Nested w t (s ∷ ss) = (ss ≡ rounds w t s.0) × Nested w t ss
 
-pub has_declaring : (whole r : Role) (t c : Node) (i : ℕ) (p : Path) → child t i ≡ Some c → is_taken r (opened whole t) ≡ true → (s : Path) × (declaring whole r t (i ∷ p) ≡ Some s)
-has_declaring whole r t c i p h taken =
-    let o = joined_some i (declaring (role_below whole t i) r c p) in
-    (o.0, declaring_under whole r t c i p h ∙ ap (λ z. joined i z (declaring (role_below whole t i) r c p)) taken ∙ o.1)
+seen_nested : (w : Place) (t : Node) (o : Option Scope) (v : View) → Nested w t (seen_as o v)
+seen_nested w t None v = tt
+seen_nested w t (Some s) view.Outside = tt
+seen_nested w t (Some s) view.Parameters = (refl, tt)
+seen_nested w t (Some s) view.Whole = (refl, tt)
 
-program_takes : (r : Role) → is_binding r ≡ true → is_taken r (Some scope.Program) ≡ true
-program_takes role.Plain b = absurd (cc)
-program_takes role.Inherited b = absurd (cc)
-program_takes role.Reference b = absurd (cc)
-program_takes role.Declared b = absurd (cc)
-program_takes role.Function b = refl
-program_takes role.Parameter b = refl
-program_takes role.Variable b = refl
-program_takes role.Lexical b = refl
-program_takes role.FunctionBody b = absurd (cc)
-program_takes role.Class b = refl
-program_takes role.Import b = refl
-program_takes role.OwnName b = absurd (cc)
-program_takes role.Catch b = absurd (cc)
-program_takes role.Label b = absurd (cc)
-program_takes role.Imported b = absurd (cc)
-program_takes role.Exported b = absurd (cc)
-program_takes role.ExportLocal b = absurd (cc)
+nested_under : (w : Place) (t c : Node) (i : ℕ) → child t i ≡ Some c → (ss : List Round) → Nested (place_below w t i) c ss → Nested w t (map (lower i) ss ++ seen_as (opened w t) (view_in (out-Node t) i))
+nested_under w t c i h [] n = seen_nested w t (opened w t) (view_in (out-Node t) i)
+nested_under w t c i h (s ∷ ss) n =
+    (ap (λ l. map (lower i) l ++ seen_as (opened w t) (view_in (out-Node t) i)) n.0 ∙ sym (rounds_under w t c i s.0 h), nested_under w t c i h ss n.1)
 
-role_of_place : Option (Role × Node) → Role
-role_of_place None = role.Plain
-role_of_place (Some q) = q.0
-
--- in a program each binding has its declaring scope
-pub program_declares : (t : Node) (p : Path) (r : Role) (d : Node) → opened role.Plain t ≡ Some scope.Program → is_binding r ≡ true → place_at role.Plain t p ≡ Some (r, d)
-    → (s : Path) × (declaring role.Plain r t p ≡ Some s)
-unfolding role_of_place
-program_declares t [] r d opens b h = let same : role.Plain ≡ r = ap role_of_place h in let q : false ≡ true = ap is_binding same ∙ b in absurd (cc)
-program_declares t (i ∷ p) r d opens b h = at (child t i) refl
+pub rounds_nested : (p : Path) (w : Place) (t : Node) → Nested w t (rounds w t p)
+rounds_nested [] w t = tt
+rounds_nested (i ∷ p) w t = at (child t i) refl (λ c. rounds_nested p (place_below w t i) c)
   where
-    at : (o : Option Node) → child t i ≡ o → (s : Path) × (declaring role.Plain r t (i ∷ p) ≡ Some s)
-    at None e = let q = sym (no_place_under role.Plain t i p e) ∙ h in absurd (cc)
-    at (Some c) e = has_declaring role.Plain r t c i p e (ap (is_taken r) opens ∙ program_takes r b)
+    at : (o : Option Node) → child t i ≡ o → ((c : Node) → Nested (place_below w t i) c (rounds (place_below w t i) c p)) → Nested w t (rounds w t (i ∷ p))
+    at None h below = subst (Nested w t) (sym (no_rounds_under w t i p h)) (seen_nested w t (opened w t) (view_in (out-Node t) i))
+    at (Some c) h below = subst (Nested w t) (sym (rounds_under w t c i p h)) (nested_under w t c i h (rounds (place_below w t i) c p) (below c))
+
+-- from anywhere in a program, the program is the last of the scopes round
+pub last_round : (t : Node) (p : Path) (i : ℕ) → opened program_place t ≡ Some scope.Program → (front : List Round) × (rounds program_place t (i ∷ p) ≡ front ++ seen_as (Some scope.Program) (view_in (out-Node t) i))
+last_round t p i opens = (map (lower i) (given (child t i) [] (λ c. rounds (place_below program_place t i) c p)), ap (λ o. map (lower i) (given (child t i) [] (λ c. rounds (place_below program_place t i) c p)) ++ seen_as o (view_in (out-Node t) i)) opens)
+
+pub found_last : (f : Round → Bool) (front : List Round) (s : Round) → f s ≡ true → (q : Path) × (first_that f (front ++ s ∷ []) ≡ Some q)
+found_last f [] s h = (s.0, rw h refl)
+found_last f (u ∷ us) s h = next (f u) (found_last f us s h)
+  where
+    next : (b : Bool) → (q : Path) × (first_that f (us ++ s ∷ []) ≡ Some q) → (q : Path) × (cond b (Some u.0) (first_that f (us ++ s ∷ [])) ≡ Some q)
+    next true r = (u.0, refl)
+    next false r = r
+
+-- the kinds that open a program
+program_kind : (k : Kind) (b : Bool) (i : ℕ) → opened_as program_place k b ≡ Some scope.Program → view_from k i ≡ view.Whole
+program_kind kind.Module b i h = refl
+program_kind kind.Script b i h = refl
+program_kind kind.FnExpr true i h = absurd (cc)
+program_kind kind.FnExpr false i h = absurd (cc)
+program_kind kind.ClassExpr true i h = absurd (cc)
+program_kind kind.ClassExpr false i h = absurd (cc)
+program_kind _ b i h = absurd (cc)
+
+program_whole : (y : Node-F Node) (i : ℕ) → opened_in program_place y ≡ Some scope.Program → view_in y i ≡ view.Whole
+program_whole (Node-F.Tree k ts) i h = program_kind k _ i h
+program_whole Node-F.Absent i h = refl
+program_whole (Node-F.Flag x) i h = refl
+program_whole (Node-F.Word x) i h = refl
+program_whole (Node-F.Text x) i h = refl
+program_whole (Node-F.Span x) i h = refl
+program_whole (Node-F.List x) i h = refl
+program_whole (Node-F.Identifier k x) i h = refl
+
+-- what stands nowhere but at the root of a program is taken by a scope, if it is bound
+pub has_taker : (t : Node) (p : Path) (i : ℕ) (r : Standing) → opened program_place t ≡ Some scope.Program → is_binding r ≡ true → (s : Path) × (taker r t (i ∷ p) ≡ Some s)
+has_taker t p i r opens b =
+    let (front, e) = last_round t p i opens in
+    let (q, f) = found_last (λ s. is_taken r (scope_at program_place t s.0)) front ([], true) (ap (is_taken r) opens ∙ b) in
+    (q, ap (first_that (λ s. is_taken r (scope_at program_place t s.0))) (e ∙ ap (λ v. front ++ seen_as (Some scope.Program) v) (program_whole (out-Node t) i opens)) ∙ f)

@@ -1,14 +1,13 @@
 -- A node and its children: induction, folds, and a path from a node down by its first step.
-use Rattle.std.proofs.Common.{◌≡◌, ℕ, zero, suc, Bool, true, false, ◌&&◌, Option, Some, None, List, [], ◌∷◌, ◌++◌, map, refl, sym, ap, ◌∙◌, subst, cond}
+use Rattle.std.proofs.Common.{◌≡◌, ℕ, zero, suc, Some, None, List, [], ◌∷◌, ◌++◌, map, refl, sym, ap, ◌∙◌, subst}
 use Rattle.std.specs.List.{slice_get}
-use Rattle.std.specs.Option.{is_some, option_and_then}
-use Rattle.swc_tree_node.specs.declared.slot.Role.{Role}
-use Rattle.swc_tree_node.specs.declared.slot.Scope.{Scope}
-use Rattle.swc_tree_node.specs.declared.node.Node.{Node, out-Node, roll-Node, map-Node, ind-Node, fold-Node, fold_out-Node, out-roll-Node}
+use Rattle.std.specs.Option.{option_and_then}
+use Rattle.swc_tree_node.specs.declared.node.Node.{Node, out-Node, roll-Node, map-Node, ind-Node, fold-Node, fold_out-Node, out-roll-Node, roll-out-Node}
 use Rattle.swc_tree_node.specs.declared.node.Node.TheOpen.{Node-F}
-use Rattle.swc_tree_scoping.specs.Places.{Path, children_in, child, word_in, word_of, role_in, role_below, given, place_at}
-use Rattle.swc_tree_scoping.specs.Folds.{each_in, layer_in, InRole, role_step, fold_in_role}
-use Rattle.swc_tree_scoping.specs.Scopes.{opened_in, opened, scope_at, itself, scopes_round, first_that, is_taken, declaring}
+use Rattle.swc_tree_scoping.specs.declared.places.Place.{Place}
+use Rattle.swc_tree_scoping.specs.Places.{Path, children_in, child, opened, place_below, given, place_at}
+use Rattle.swc_tree_scoping.specs.Folds.{each_in, InPlace, place_step, fold_in_place}
+use Rattle.swc_tree_scoping.specs.Scopes.{Round, scope_at, view_in, seen_as, rounds}
 
 -- a layer under a map
 children-map : {X Y : Type 0} (f : X → Y) (y : Node-F X) → children_in (map-Node X Y f y) ≡ map f (children_in y)
@@ -20,40 +19,6 @@ children-map f (Node-F.Span x) = refl
 children-map f (Node-F.List xs) = refl
 children-map f (Node-F.Identifier k i) = refl
 children-map f (Node-F.Tree k xs) = refl
-
-word-map : {X Y : Type 0} (f : X → Y) (y : Node-F X) → word_in (map-Node X Y f y) ≡ word_in y
-word-map f Node-F.Absent = refl
-word-map f (Node-F.Flag x) = refl
-word-map f (Node-F.Word w) = refl
-word-map f (Node-F.Text x) = refl
-word-map f (Node-F.Span x) = refl
-word-map f (Node-F.List xs) = refl
-word-map f (Node-F.Identifier k i) = refl
-word-map f (Node-F.Tree k xs) = refl
-
-roles-map : {X Y : Type 0} (f : X → Y) (r : Role) (y : Node-F X) → role_in r (map-Node X Y f y) ≡ role_in r y
-roles-map f r Node-F.Absent = refl
-roles-map f r (Node-F.Flag x) = refl
-roles-map f r (Node-F.Word w) = refl
-roles-map f r (Node-F.Text x) = refl
-roles-map f r (Node-F.Span x) = refl
-roles-map f r (Node-F.List xs) = refl
-roles-map f r (Node-F.Identifier k i) = refl
-roles-map f r (Node-F.Tree k xs) = refl
-
-each-map : {X Y A : Type 0} (g : Role → Y → A) (f : X → Y) (roles : ℕ → Role) (xs : List X) → each_in g roles (map f xs) ≡ each_in (λ q x. g q (f x)) roles xs
-each-map g f roles [] = refl
-each-map g f roles (x ∷ xs) = ap (λ l. g (roles zero) (f x) ∷ l) (each-map g f (λ i. roles (suc i)) xs)
-
-layer-map : {X Y A : Type 0} (g : Role → Y → A) (f : X → Y) (roles : ℕ → Role) (y : Node-F X) → layer_in g roles (map-Node X Y f y) ≡ layer_in (λ q x. g q (f x)) roles y
-layer-map g f roles Node-F.Absent = refl
-layer-map g f roles (Node-F.Flag x) = refl
-layer-map g f roles (Node-F.Word w) = refl
-layer-map g f roles (Node-F.Text x) = refl
-layer-map g f roles (Node-F.Span x) = refl
-layer-map g f roles (Node-F.List xs) = ap (λ l. Node-F.List l) (each-map g f roles xs)
-layer-map g f roles (Node-F.Identifier k i) = refl
-layer-map g f roles (Node-F.Tree k xs) = ap (λ l. Node-F.Tree k l) (each-map g f roles xs)
 
 -- what holds of a node if it holds of its children, holds of each
 abbrev Proved : (Node → Type 0) → Type 0
@@ -73,98 +38,82 @@ by_children P step t = ind-Node P (λ x all e. subst (λ x. P (roll-Node x)) e (
         = ap children_in (out-roll-Node (map-Node (Proved P) Node (λ e. e.0) y)) ∙ children-map (λ e. e.0) y in
         proved_at P (children_in y) i c (ap (λ l. slice_get l i) (sym same) ∙ h)
 
--- a fold by roles: its step at the node's layer
-word_folded : {A : Type 0} (step : Role → Node-F A → A) (t : Node) → (fold-Node (InRole A) (role_step step) t).word ≡ word_of t
-word_folded {A = A} step t = ap (λ c. c.word) (fold_out-Node (InRole A) (role_step step) t) ∙ word-map (fold-Node (InRole A) (role_step step)) (out-Node t)
+-- a fold by places: its step at the node
+each_same : (f : Node → Node) (ts : List Node) → ((i : ℕ) (c : Node) → slice_get ts i ≡ Some c → f c ≡ c) → map f ts ≡ ts
+each_same f [] h = refl
+each_same f (t ∷ ts) h = ap (λ c. c ∷ map f ts) (h zero t refl) ∙ ap (λ l. t ∷ l) (each_same f ts (λ i. h (suc i)))
 
-words_folded : {A : Type 0} (step : Role → Node-F A → A) (ts : List Node) → map (λ c. c.word) (map (fold-Node (InRole A) (role_step step)) ts) ≡ map word_of ts
-words_folded step [] = refl
-words_folded {A = A} step (t ∷ ts) = ap (λ w. w ∷ map (λ c. c.word) (map (fold-Node (InRole A) (role_step step)) ts)) (word_folded step t) ∙ ap (λ l. word_of t ∷ l) (words_folded step ts)
+layer_same : (f : Node → Node) (y : Node-F Node) → ((i : ℕ) (c : Node) → slice_get (children_in y) i ≡ Some c → f c ≡ c) → map-Node Node Node f y ≡ y
+layer_same f Node-F.Absent h = refl
+layer_same f (Node-F.Flag x) h = refl
+layer_same f (Node-F.Word w) h = refl
+layer_same f (Node-F.Text x) h = refl
+layer_same f (Node-F.Span x) h = refl
+layer_same f (Node-F.List xs) h = ap (λ l. Node-F.List l) (each_same f xs h)
+layer_same f (Node-F.Identifier k i) h = refl
+layer_same f (Node-F.Tree k xs) h = ap (λ l. Node-F.Tree k l) (each_same f xs h)
 
-pub fold_in_role_out : {A : Type 0} (step : Role → Node-F A → A) (r : Role) (t : Node) → fold_in_role step r t ≡ step r (layer_in (fold_in_role step) (role_below r t) (out-Node t))
-fold_in_role_out {A = A} step r t =
-    ap (λ c. c.in_role r) (fold_out-Node (InRole A) (role_step step) t)
-    ∙ ap (step r) (layer-map (λ q c. c.in_role q) (fold-Node (InRole A) (role_step step)) roles (out-Node t)
-    ∙ ap (λ roles. layer_in (fold_in_role step) roles (out-Node t)) same)
-  where
-    layer : Node-F (InRole A)
-    layer = map-Node Node (InRole A) (fold-Node (InRole A) (role_step step)) (out-Node t)
+map_twice : {A B C : Type 0} (g : B → C) (f : A → B) (xs : List A) → map g (map f xs) ≡ map (λ x. g (f x)) xs
+map_twice g f [] = refl
+map_twice g f (x ∷ xs) = ap (λ l. g (f x) ∷ l) (map_twice g f xs)
 
-    roles : ℕ → Role
-    roles = role_in r layer (map (λ c. c.word) (children_in layer))
+layer_twice : {A B C : Type 0} (g : B → C) (f : A → B) (y : Node-F A) → map-Node B C g (map-Node A B f y) ≡ map-Node A C (λ x. g (f x)) y
+layer_twice g f Node-F.Absent = refl
+layer_twice g f (Node-F.Flag x) = refl
+layer_twice g f (Node-F.Word w) = refl
+layer_twice g f (Node-F.Text x) = refl
+layer_twice g f (Node-F.Span x) = refl
+layer_twice g f (Node-F.List xs) = ap (λ l. Node-F.List l) (map_twice g f xs)
+layer_twice g f (Node-F.Identifier k i) = refl
+layer_twice g f (Node-F.Tree k xs) = ap (λ l. Node-F.Tree k l) (map_twice g f xs)
 
-    same : roles ≡ role_below r t
-    same = ap (λ f. f (map (λ c. c.word) (children_in layer))) (roles-map (fold-Node (InRole A) (role_step step)) r (out-Node t))
-        ∙ ap (λ l. role_in r (out-Node t) l) (ap (map (λ c. c.word)) (children-map (fold-Node (InRole A) (role_step step)) (out-Node t)) ∙ words_folded step (children_in (out-Node t)))
+each-map : {X Y A : Type 0} (g : Place → Y → A) (f : X → Y) (places : ℕ → Place) (xs : List X) → each_in g places (map f xs) ≡ each_in (λ w x. g w (f x)) places xs
+each-map g f places [] = refl
+each-map g f places (x ∷ xs) = ap (λ l. g (places zero) (f x) ∷ l) (each-map g f (λ i. places (suc i)) xs)
 
-pub children-layer : {X A : Type 0} (g : Role → X → A) (roles : ℕ → Role) (y : Node-F X) → children_in (layer_in g roles y) ≡ each_in g roles (children_in y)
-children-layer g roles Node-F.Absent = refl
-children-layer g roles (Node-F.Flag x) = refl
-children-layer g roles (Node-F.Word w) = refl
-children-layer g roles (Node-F.Text x) = refl
-children-layer g roles (Node-F.Span x) = refl
-children-layer g roles (Node-F.List xs) = refl
-children-layer g roles (Node-F.Identifier k i) = refl
-children-layer g roles (Node-F.Tree k xs) = refl
+module _ {A : Type 0} (step : Place → Node → List A → A) where
+  abbrev folded : Node → InPlace A
+  folded = fold-Node (InPlace A) (place_step step)
 
-pub opened-layer : {X A : Type 0} (g : Role → X → A) (roles : ℕ → Role) (r : Role) (y : Node-F X) → opened_in r (layer_in g roles y) ≡ opened_in r y
-opened-layer g roles r Node-F.Absent = refl
-opened-layer g roles r (Node-F.Flag x) = refl
-opened-layer g roles r (Node-F.Word w) = refl
-opened-layer g roles r (Node-F.Text x) = refl
-opened-layer g roles r (Node-F.Span x) = refl
-opened-layer g roles r (Node-F.List xs) = refl
-opened-layer g roles r (Node-F.Identifier k i) = refl
-opened-layer g roles r (Node-F.Tree k xs) = refl
+  abbrev nodes : Node-F (InPlace A) → Node
+  nodes y = roll-Node (map-Node (InPlace A) Node (λ c. c.node) y)
 
-pub each_in-at : {X A : Type 0} (g : Role → X → A) (roles : ℕ → Role) (xs : List X) (i : ℕ) (x : X) → slice_get xs i ≡ Some x → slice_get (each_in g roles xs) i ≡ Some (g (roles i) x)
-each_in-at g roles [] i x h = absurd (cc)
-each_in-at g roles (y ∷ xs) zero x h = let same : y ≡ x = cc in ap (λ y. Some (g (roles zero) y)) same
-each_in-at g roles (y ∷ xs) (suc i) x h = each_in-at g (λ i. roles (suc i)) xs i x h
+  nodes_out : (t : Node) → ((i : ℕ) (c : Node) → child t i ≡ Some c → (folded c).node ≡ c) → nodes (map-Node Node (InPlace A) folded (out-Node t)) ≡ t
+  nodes_out t h = ap roll-Node (layer_twice (λ c. c.node) folded (out-Node t) ∙ layer_same (λ c. (folded c).node) (out-Node t) h) ∙ roll-out-Node t
+
+  node_folded : (t : Node) → (folded t).node ≡ t
+  node_folded = by_children (λ t. (folded t).node ≡ t) (λ t below. ap (λ c. c.node) (fold_out-Node (InPlace A) (place_step step) t) ∙ nodes_out t below)
+
+  pub fold_in_place_out : (w : Place) (t : Node) → fold_in_place step w t ≡ step w t (each_in (fold_in_place step) (place_below w t) (children_in (out-Node t)))
+  fold_in_place_out w t =
+      ap (λ c. c.made w) (fold_out-Node (InPlace A) (place_step step) t)
+      ∙ ap (λ d. step w d (each_in (λ v c. c.made v) (place_below w d) (children_in (map-Node Node (InPlace A) folded (out-Node t))))) (nodes_out t (λ i c h. node_folded c))
+      ∙ ap (λ cs. step w t (each_in (λ v c. c.made v) (place_below w t) cs)) (children-map folded (out-Node t))
+      ∙ ap (step w t) (each-map (λ v c. c.made v) folded (place_below w t) (children_in (out-Node t)))
+
+pub each_in-at : {X A : Type 0} (g : Place → X → A) (places : ℕ → Place) (xs : List X) (i : ℕ) (x : X) → slice_get xs i ≡ Some x → slice_get (each_in g places xs) i ≡ Some (g (places i) x)
+each_in-at g places [] i x h = absurd (cc)
+each_in-at g places (y ∷ xs) zero x h = let same : y ≡ x = cc in ap (λ y. Some (g (places zero) y)) same
+each_in-at g places (y ∷ xs) (suc i) x h = each_in-at g (λ i. places (suc i)) xs i x h
 
 -- by the first step of a path
-pub place_under : (r : Role) (t c : Node) (i : ℕ) (p : Path) → child t i ≡ Some c → place_at r t (i ∷ p) ≡ place_at (role_below r t i) c p
-place_under r t c i p h = ap (λ o. given o None (λ c. place_at (role_below r t i) c p)) h
+pub place_under : (w : Place) (t c : Node) (i : ℕ) (p : Path) → child t i ≡ Some c → place_at w t (i ∷ p) ≡ place_at (place_below w t i) c p
+place_under w t c i p h = ap (λ o. given o None (λ c. place_at (place_below w t i) c p)) h
 
-pub no_place_under : (r : Role) (t : Node) (i : ℕ) (p : Path) → child t i ≡ None → place_at r t (i ∷ p) ≡ None
-no_place_under r t i p h = ap (λ o. given o None (λ c. place_at (role_below r t i) c p)) h
+pub no_place_under : (w : Place) (t : Node) (i : ℕ) (p : Path) → child t i ≡ None → place_at w t (i ∷ p) ≡ None
+no_place_under w t i p h = ap (λ o. given o None (λ c. place_at (place_below w t i) c p)) h
 
-pub scope_under : (r : Role) (t c : Node) (i : ℕ) (s : Path) → child t i ≡ Some c → scope_at r t (i ∷ s) ≡ scope_at (role_below r t i) c s
-scope_under r t c i s h = ap (option_and_then (λ (q : Role × Node). opened q.0 q.1)) (place_under r t c i s h)
+pub scope_under : (w : Place) (t c : Node) (i : ℕ) (s : Path) → child t i ≡ Some c → scope_at w t (i ∷ s) ≡ scope_at (place_below w t i) c s
+scope_under w t c i s h = ap (option_and_then (λ (q : Place × Node). opened q.0 q.1)) (place_under w t c i s h)
 
-pub no_scope_under : (r : Role) (t : Node) (i : ℕ) (s : Path) → child t i ≡ None → scope_at r t (i ∷ s) ≡ None
-no_scope_under r t i s h = ap (option_and_then (λ (q : Role × Node). opened q.0 q.1)) (no_place_under r t i s h)
+pub no_scope_under : (w : Place) (t : Node) (i : ℕ) (s : Path) → child t i ≡ None → scope_at w t (i ∷ s) ≡ None
+no_scope_under w t i s h = ap (option_and_then (λ (q : Place × Node). opened q.0 q.1)) (no_place_under w t i s h)
 
-pub scopes_under : (r : Role) (t c : Node) (i : ℕ) (p : Path) → child t i ≡ Some c → scopes_round r t (i ∷ p) ≡ map (λ s. i ∷ s) (scopes_round (role_below r t i) c p) ++ itself (is_some (opened r t))
-scopes_under r t c i p h = ap (λ o. map (λ s. i ∷ s) (given o [] (λ c. scopes_round (role_below r t i) c p)) ++ itself (is_some (opened r t))) h
+abbrev pub lower : ℕ → Round → Round
+lower i s = (i ∷ s.0, s.1)
 
--- the declaring scope, by the one under the child
-abbrev pub joined : ℕ → Bool → Option Path → Option Path
-joined i b None = cond b (Some []) None
-joined i b (Some s) = Some (i ∷ s)
+pub rounds_under : (w : Place) (t c : Node) (i : ℕ) (p : Path) → child t i ≡ Some c → rounds w t (i ∷ p) ≡ map (lower i) (rounds (place_below w t i) c p) ++ seen_as (opened w t) (view_in (out-Node t) i)
+rounds_under w t c i p h = ap (λ o. map (lower i) (given o [] (λ c. rounds (place_below w t i) c p)) ++ seen_as (opened w t) (view_in (out-Node t) i)) h
 
-first_itself : (f : Path → Bool) (b : Bool) → first_that f (itself b) ≡ cond (b && f []) (Some []) None
-first_itself f true = refl
-first_itself f false = refl
-
-next_joined : (y : Bool) (i : ℕ) (z : Bool) (s : Path) (m n : Option Path) → m ≡ joined i z n → cond y (Some (i ∷ s)) m ≡ joined i z (cond y (Some s) n)
-next_joined true i z s m n h = refl
-next_joined false i z s m n h = h
-
-first_joined : (f g : Path → Bool) (i : ℕ) (b : Bool) → ((s : Path) → f (i ∷ s) ≡ g s) → (ss : List Path)
-    → first_that f (map (λ s. i ∷ s) ss ++ itself b) ≡ joined i (b && f []) (first_that g ss)
-first_joined f g i b e [] = first_itself f b
-first_joined f g i b e (s ∷ ss) = ap (λ y. cond y (Some (i ∷ s)) (first_that f (map (λ s. i ∷ s) ss ++ itself b))) (e s)
-    ∙ next_joined (g s) i (b && f []) s (first_that f (map (λ s. i ∷ s) ss ++ itself b)) (first_that g ss) (first_joined f g i b e ss)
-
--- what takes a role opens a scope
-taken_opened : (r : Role) (o : Option Scope) → (is_some o && is_taken r o) ≡ is_taken r o
-taken_opened r None = refl
-taken_opened r (Some s) = refl
-
-pub declaring_under : (whole r : Role) (t c : Node) (i : ℕ) (p : Path) → child t i ≡ Some c
-    → declaring whole r t (i ∷ p) ≡ joined i (is_taken r (opened whole t)) (declaring (role_below whole t i) r c p)
-declaring_under whole r t c i p h =
-    ap (first_that (λ s. is_taken r (scope_at whole t s))) (scopes_under whole t c i p h)
-    ∙ first_joined (λ s. is_taken r (scope_at whole t s)) (λ s. is_taken r (scope_at (role_below whole t i) c s)) i (is_some (opened whole t)) (λ s. ap (is_taken r) (scope_under whole t c i s h)) (scopes_round (role_below whole t i) c p)
-    ∙ ap (λ z. joined i z (declaring (role_below whole t i) r c p)) (taken_opened r (opened whole t))
+pub no_rounds_under : (w : Place) (t : Node) (i : ℕ) (p : Path) → child t i ≡ None → rounds w t (i ∷ p) ≡ seen_as (opened w t) (view_in (out-Node t) i)
+no_rounds_under w t i p h = ap (λ o. map (lower i) (given o [] (λ c. rounds (place_below w t i) c p)) ++ seen_as (opened w t) (view_in (out-Node t) i)) h

@@ -1,38 +1,26 @@
--- Folds that know the role of each node.
-use Rattle.std.specs.Prelude.{ℕ, zero, suc, Option, List, [], ◌∷◌, map}
-use Rattle.swc_tree_node.specs.declared.kind.Word.{Word}
-use Rattle.swc_tree_node.specs.declared.slot.Role.{Role}
-use Rattle.swc_tree_node.specs.declared.node.Node.{Node, fold-Node}
+-- Folds that know the place of each node.
+use Rattle.std.specs.Prelude.{ℕ, zero, suc, List, [], ◌∷◌}
+use Rattle.swc_tree_node.specs.declared.node.Node.{Node, roll-Node, map-Node, fold-Node}
 use Rattle.swc_tree_node.specs.declared.node.Node.TheOpen.{Node-F}
-use Rattle.swc_tree_scoping.specs.Places.{children_in, word_in, role_in}
+use Rattle.swc_tree_scoping.specs.declared.places.Place.{Place}
+use Rattle.swc_tree_scoping.specs.Places.{children_in, place_below}
 
--- each in the role of its place
-abbrev pub each_in : {X A : Type 0} → (Role → X → A) → (ℕ → Role) → List X → List A
-each_in g roles [] = []
-each_in g roles (x ∷ xs) = g (roles zero) x ∷ each_in g (λ i. roles (suc i)) xs
+-- each in its place
+abbrev pub each_in : {X A : Type 0} → (Place → X → A) → (ℕ → Place) → List X → List A
+each_in g places [] = []
+each_in g places (x ∷ xs) = g (places zero) x ∷ each_in g (λ i. places (suc i)) xs
 
--- a layer of a node, with each child in its role
-abbrev pub layer_in : {X A : Type 0} → (Role → X → A) → (ℕ → Role) → Node-F X → Node-F A
-layer_in g roles Node-F.Absent = Node-F.Absent
-layer_in g roles (Node-F.Flag x) = Node-F.Flag x
-layer_in g roles (Node-F.Word w) = Node-F.Word w
-layer_in g roles (Node-F.Text x) = Node-F.Text x
-layer_in g roles (Node-F.Span x) = Node-F.Span x
-layer_in g roles (Node-F.List xs) = Node-F.List (each_in g roles xs)
-layer_in g roles (Node-F.Identifier k i) = Node-F.Identifier k i
-layer_in g roles (Node-F.Tree k xs) = Node-F.Tree k (each_in g roles xs)
+-- a node, and what is made of it in a place
+pub record InPlace (A : Type 0) : Type 0 where
+  pub node : Node
+  pub made : Place → A
 
--- what is made of a node, by its role
-pub record InRole (A : Type 0) : Type 0 where
-  pub word : Option Word
-  pub in_role : Role → A
-
-abbrev pub role_step : {A : Type 0} → (Role → Node-F A → A) → Node-F (InRole A) → InRole A
-role_step step y = record {
-  word = word_in y;
-  in_role = λ r. step r (layer_in (λ q c. c.in_role q) (role_in r y (map (λ c. c.word) (children_in y))) y);
+abbrev pub place_step : {A : Type 0} → (Place → Node → List A → A) → Node-F (InPlace A) → InPlace A
+place_step {A = A} step y = record {
+  node = roll-Node (map-Node (InPlace A) Node (λ c. c.node) y);
+  made = λ w. step w (roll-Node (map-Node (InPlace A) Node (λ c. c.node) y)) (each_in (λ v c. c.made v) (place_below w (roll-Node (map-Node (InPlace A) Node (λ c. c.node) y))) (children_in y));
 }
 
--- what a step makes of a node of that role and of what it made of the node's children, each in its own role
-abbrev pub fold_in_role : {A : Type 0} → (Role → Node-F A → A) → Role → Node → A
-fold_in_role {A = A} step r t = (fold-Node (InRole A) (role_step step) t).in_role r
+-- what a step makes of a node in its place and of what it made of the node's children, each in its own place
+abbrev pub fold_in_place : {A : Type 0} → (Place → Node → List A → A) → Place → Node → A
+fold_in_place {A = A} step w t = (fold-Node (InPlace A) (place_step step) t).made w

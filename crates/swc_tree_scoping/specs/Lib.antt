@@ -1,5 +1,6 @@
 pub mod Places
 pub mod Folds
 pub mod Scopes
+pub mod Declares
 pub mod Resolved
-pub mod RolesBelow
+pub mod Below

@@ -1,16 +1,25 @@
--- Where a node stands in a tree, and in which role.
+-- Where a node stands in a tree, and as what.
 --
 -- A path is the list of the children to go through, from a node down to another: a child is a field of a
 -- tree, by its number in the table, or an item of a list, by its number in the list.
-use Rattle.std.specs.Prelude.{ℕ, Option, Some, None, List, [], ◌∷◌, map, slice_get, unwrap_or, option_map}
+use Rattle.std.specs.Prelude.{ℕ, Bool, true, false, not, ◌&&◌, ◌||◌, ◌==◌, Option, Some, None, List, [], ◌∷◌, slice_get, unwrap_or, option_map, codes, if◌then◌else◌}
+use Rattle.std.specs.Str.{bytes_eq}
 use Rattle.swc_tree_node.specs.declared.kind.Word.{Word}
 use Rattle.swc_tree_node.specs.declared.kind.Word.TheVariants as word
 use Rattle.swc_tree_node.specs.declared.kind.Kind.{Kind}
+use Rattle.swc_tree_node.specs.declared.kind.Kind.TheVariants as kind
 use Rattle.swc_tree_node.specs.declared.slot.Role.{Role}
 use Rattle.swc_tree_node.specs.declared.slot.Role.TheVariants as role
 use Rattle.swc_tree_node.specs.declared.node.Node.{Node, out-Node}
 use Rattle.swc_tree_node.specs.declared.node.Node.TheOpen.{Node-F}
 use Rattle.swc_tree_node.specs.Table.{fields_of}
+use Rattle.swc_tree_scoping.specs.declared.places.Standing.{Standing}
+use Rattle.swc_tree_scoping.specs.declared.places.Standing.TheVariants as standing
+use Rattle.swc_tree_scoping.specs.declared.places.Place.{Place}
+use Rattle.swc_tree_scoping.specs.declared.places.Scope.{Scope}
+use Rattle.swc_tree_scoping.specs.declared.places.Scope.TheVariants as scope
+use Rattle.swc_tree_scoping.specs.declared.places.View.{View}
+use Rattle.swc_tree_scoping.specs.declared.places.View.TheVariants as view
 
 abbrev pub Path : Type 0
 Path = List ℕ
@@ -24,50 +33,272 @@ children_in _ = []
 abbrev pub child : Node → ℕ → Option Node
 child t i = slice_get (children_in (out-Node t)) i
 
--- the names that `var` declares are variables, those of `let` and `const` are lexical
-abbrev pub role_of_word : Word → Role
-role_of_word word.Var = role.Variable
-role_of_word _ = role.Lexical
+-- the place of a whole program
+abbrev pub program_place : Place
+program_place = record { standing = standing.Plain; strict = false; nested = false }
 
-abbrev pub word_in : {X : Type 0} → Node-F X → Option Word
-word_in (Node-F.Word w) = Some w
-word_in _ = None
+-- the names that `var` declares are variables, those of `let` and `const` are lexical (14.3)
+abbrev pub by_word : Word → Standing
+by_word word.Var = standing.Variable
+by_word _ = standing.Lexical
 
-abbrev pub word_of : Node → Option Word
-word_of t = word_in (out-Node t)
+abbrev pub keyword_in : Node-F Node → Standing → Standing
+keyword_in (Node-F.Word w) rest = by_word w
+keyword_in _ rest = rest
 
 -- what the keyword among a declaration's fields makes of its names
-abbrev pub role_by_keyword : List (Option Word) → Role
-role_by_keyword [] = role.Plain
-role_by_keyword (None ∷ ws) = role_by_keyword ws
-role_by_keyword (Some w ∷ ws) = role_of_word w
+abbrev pub by_keyword : List Node → Standing
+by_keyword [] = standing.Plain
+by_keyword (t ∷ ts) = keyword_in (out-Node t) (by_keyword ts)
 
--- the role of a field by the table; some go by the role of the whole node, or by the keyword's
-abbrev pub role_in_field : Role → Role → Role → Role
-role_in_field whole keyword role.Inherited = whole
-role_in_field whole keyword role.Declared = keyword
-role_in_field whole keyword r = r
+abbrev pub absent_in : Node-F Node → Bool
+absent_in Node-F.Absent = true
+absent_in _ = false
+
+-- something stands in the field
+abbrev pub is_there : Option Node → Bool
+is_there None = false
+is_there (Some t) = not (absent_in (out-Node t))
+
+-- Directives (11.2.1)
+abbrev pub text_in : Node-F Node → Option (List ℕ)
+text_in (Node-F.Text x) = Some x
+text_in _ = None
+
+abbrev pub text_of : Option Node → Option (List ℕ)
+text_of None = None
+text_of (Some t) = text_in (out-Node t)
+
+abbrev pub literal_in : Node-F Node → Option (List ℕ)
+literal_in (Node-F.Tree kind.Str ts) = text_of (slice_get ts 1)
+literal_in _ = None
+
+abbrev pub literal_of : Option Node → Option (List ℕ)
+literal_of None = None
+literal_of (Some t) = literal_in (out-Node t)
+
+abbrev pub statement_in : Node-F Node → Option (List ℕ)
+statement_in (Node-F.Tree kind.ExprStmt ts) = literal_of (slice_get ts 1)
+statement_in _ = None
+
+-- the string that a statement is, if it is one
+abbrev pub string_of : Node → Option (List ℕ)
+string_of t = statement_in (out-Node t)
+
+abbrev pub says : List ℕ → Bool
+says x = bytes_eq x (codes "use strict")
+
+-- whether a statement is a directive, and then whether it is `use strict`
+abbrev pub directive_of : Node → Option Bool
+directive_of t = option_map says (string_of t)
+
+abbrev pub directive_or : Option Bool → Bool → Bool
+directive_or None rest = false
+directive_or (Some is_it) rest = is_it || rest
+
+-- one of the leading string statements is `use strict`
+abbrev pub has_use_strict : List Node → Bool
+has_use_strict [] = false
+has_use_strict (t ∷ ts) = directive_or (directive_of t) (has_use_strict ts)
+
+abbrev pub items_in : Node-F Node → List Node
+items_in (Node-F.List ts) = ts
+items_in _ = []
+
+abbrev pub items_of : Option Node → List Node
+items_of None = []
+items_of (Some t) = items_in (out-Node t)
+
+abbrev pub block_in : Node-F Node → List Node
+block_in (Node-F.Tree kind.BlockStmt ts) = items_of (slice_get ts 1)
+block_in _ = []
+
+-- the statements of a block
+abbrev pub statements_of : Option Node → List Node
+statements_of None = []
+statements_of (Some t) = block_in (out-Node t)
+
+-- Strict mode code (11.2.2): modules and classes, and a script or a function whose body has the directive
+abbrev pub is_strict : Kind → List Node → Bool
+is_strict kind.Module ts = true
+is_strict kind.Class ts = true
+is_strict kind.Script ts = has_use_strict (items_of (slice_get ts 1))
+is_strict kind.Function ts = has_use_strict (statements_of (slice_get ts 2))
+is_strict kind.ArrowExpr ts = has_use_strict (statements_of (slice_get ts 2))
+is_strict kind.Constructor ts = has_use_strict (statements_of (slice_get ts 3))
+is_strict kind.GetterProp ts = has_use_strict (statements_of (slice_get ts 2))
+is_strict kind.SetterProp ts = has_use_strict (statements_of (slice_get ts 3))
+is_strict _ ts = false
+
+abbrev pub is_branch : Standing → Bool
+is_branch standing.Branch = true
+is_branch _ = false
+
+-- a function declaration that is the branch of an `if` of sloppy code stands in a block of its own (B.3.3)
+abbrev pub own_block : Place → Bool
+own_block w = is_branch w.standing && not w.strict
+
+abbrev pub named : Bool → Scope → Option Scope
+named true s = Some s
+named false s = None
+
+abbrev pub name_scope : Standing → Bool → Scope → Option Scope
+name_scope standing.DefaultExport has_name s = None
+name_scope _ has_name s = named has_name s
+
+abbrev pub block_scope : Standing → Option Scope
+block_scope standing.Body = None
+block_scope _ = Some scope.Block
+
+-- the scope that a node opens: a name's scope only where there is a name; the body of a function, a catch clause
+-- or a static block is no scope of its own
+abbrev pub opened_as : Place → Kind → Bool → Option Scope
+opened_as w kind.Module has_name = Some scope.Program
+opened_as w kind.Script has_name = Some scope.Program
+opened_as w kind.Function has_name = Some scope.Function
+opened_as w kind.ArrowExpr has_name = Some scope.Function
+opened_as w kind.Constructor has_name = Some scope.Function
+opened_as w kind.GetterProp has_name = Some scope.Function
+opened_as w kind.SetterProp has_name = Some scope.Function
+opened_as w kind.FnExpr has_name = name_scope w.standing has_name scope.FunctionName
+opened_as w kind.ClassExpr has_name = name_scope w.standing has_name scope.ClassName
+opened_as w kind.BlockStmt has_name = block_scope w.standing
+opened_as w kind.FnDecl has_name = named (own_block w) scope.Block
+opened_as w kind.ForStmt has_name = Some scope.For
+opened_as w kind.ForInStmt has_name = Some scope.For
+opened_as w kind.ForOfStmt has_name = Some scope.For
+opened_as w kind.SwitchStmt has_name = Some scope.Switch
+opened_as w kind.CatchClause has_name = Some scope.Catch
+opened_as w kind.StaticBlock has_name = Some scope.StaticBlock
+opened_as w _ has_name = None
+
+abbrev pub opened_in : Place → Node-F Node → Option Scope
+opened_in w (Node-F.Tree k ts) = opened_as w k (is_there (slice_get ts 0))
+opened_in w _ = None
+
+abbrev pub opened : Place → Node → Option Scope
+opened w t = opened_in w (out-Node t)
+
+-- the field that stands outside of the scope that the node opens: a key, or the discriminant of a `switch`
+abbrev pub outer_field : Kind → Option ℕ
+outer_field kind.Constructor = Some 1
+outer_field kind.GetterProp = Some 1
+outer_field kind.SetterProp = Some 1
+outer_field kind.SwitchStmt = Some 1
+outer_field _ = None
+
+-- the parameters of a function or a catch clause
+abbrev pub parameter_field : Kind → Option ℕ
+parameter_field kind.Function = Some 1
+parameter_field kind.ArrowExpr = Some 1
+parameter_field kind.Constructor = Some 2
+parameter_field kind.SetterProp = Some 2
+parameter_field kind.CatchClause = Some 1
+parameter_field _ = None
+
+abbrev pub is_at : Option ℕ → ℕ → Bool
+is_at None i = false
+is_at (Some n) i = n == i
+
+-- how much of the scope that a node opens is seen from one of its fields: only the parameters' names from them
+abbrev pub view_from : Kind → ℕ → View
+view_from k i = if is_at (outer_field k) i then view.Outside else (if is_at (parameter_field k) i then view.Parameters else view.Whole)
+
+abbrev pub is_inside : View → Bool
+is_inside view.Outside = false
+is_inside _ = true
+
+-- functions that stand in a block, a case list or a catch body are nested; those at the top of a function, a
+-- static block or a program are not
+abbrev pub nests : Scope → Bool → Bool
+nests scope.Block n = true
+nests scope.Switch n = true
+nests scope.Catch n = true
+nests scope.For n = n
+nests scope.FunctionName n = n
+nests scope.ClassName n = n
+nests _ n = false
+
+abbrev pub nested_below : Bool → Option Scope → View → Bool
+nested_below n None v = n
+nested_below n (Some s) view.Outside = n
+nested_below n (Some s) _ = nests s n
+
+abbrev pub flag_in : Node-F Node → Bool
+flag_in (Node-F.Flag x) = x
+flag_in _ = false
+
+abbrev pub flag_of : Option Node → Bool
+flag_of None = false
+flag_of (Some t) = flag_in (out-Node t)
+
+abbrev pub plain_in : Node-F Node → Bool
+plain_in (Node-F.Tree kind.Function ts) = not (flag_of (slice_get ts 3)) && not (flag_of (slice_get ts 4))
+plain_in _ = false
+
+-- neither async nor a generator
+abbrev pub is_plain_function : Option Node → Bool
+is_plain_function None = false
+is_plain_function (Some t) = plain_in (out-Node t)
+
+-- as what a function declaration's name is bound (14.1.3, B.3.2): at the top as variables are; in a block there,
+-- but a plain function of sloppy code may be declared outside of its block
+abbrev pub function_standing : Place → Bool → Standing
+function_standing w plain =
+    if not (w.nested || own_block w) then standing.Function else (if not w.strict && plain then standing.SloppyFunction else standing.BlockFunction)
+
+-- as what a function or class expression's name is bound: a default export's as a declaration's
+abbrev pub own_name : Standing → Kind → Standing
+own_name standing.DefaultExport kind.FnExpr = standing.Function
+own_name standing.DefaultExport _ = standing.Lexical
+own_name _ kind.FnExpr = standing.FunctionName
+own_name _ _ = standing.ClassName
+
+-- what stands in a field that holds no names of itself
+abbrev pub plain_standing : Kind → ℕ → Standing
+plain_standing kind.IfStmt i = if i == 2 || i == 3 then standing.Branch else standing.Plain
+plain_standing kind.ExportDefaultDecl i = if i == 1 then standing.DefaultExport else standing.Plain
+plain_standing _ i = standing.Plain
 
 abbrev pub field_role : Kind → ℕ → Role
 field_role k i = unwrap_or (option_map (λ f. f.2) (slice_get (fields_of k) i)) role.Plain
 
--- the role of a child of a node, whose own role and whose children's words are given
-abbrev pub role_in : {X : Type 0} → Role → Node-F X → List (Option Word) → ℕ → Role
-role_in whole (Node-F.List ts) words i = whole
-role_in whole (Node-F.Tree k ts) words i = role_in_field whole (role_by_keyword words) (field_role k i)
-role_in whole _ words i = role.Plain
+-- as what a field stands, by its role in the table; some go by the whole node, or by the fields beside it
+abbrev pub standing_below : Place → Kind → List Node → ℕ → Role → Standing
+standing_below w k ts i role.Plain = plain_standing k i
+standing_below w k ts i role.Inherited = w.standing
+standing_below w k ts i role.Reference = standing.Reference
+standing_below w k ts i role.Declared = by_keyword ts
+standing_below w k ts i role.Function = function_standing w (is_plain_function (slice_get ts 1))
+standing_below w k ts i role.Class = standing.Lexical
+standing_below w k ts i role.OwnName = own_name w.standing k
+standing_below w k ts i role.Parameter = standing.Parameter
+standing_below w k ts i role.Catch = standing.CatchParameter
+standing_below w k ts i role.Import = standing.Import
+standing_below w k ts i role.Variable = standing.Variable
+standing_below w k ts i role.Lexical = standing.Lexical
+standing_below w k ts i role.FunctionBody = standing.Body
+standing_below w k ts i role.ExportLocal = if is_there (slice_get ts 2) then standing.Plain else standing.Reference
+standing_below w k ts i _ = standing.Plain
 
-abbrev pub words_below : Node → List (Option Word)
-words_below t = map word_of (children_in (out-Node t))
+-- the place of a child of a node
+abbrev pub place_in : Place → Node-F Node → ℕ → Place
+place_in w (Node-F.List ts) i = w
+place_in w (Node-F.Tree k ts) i = record {
+  standing = standing_below w k ts i (field_role k i);
+  strict = w.strict || (is_inside (view_from k i) && is_strict k ts);
+  nested = nested_below w.nested (opened_as w k (is_there (slice_get ts 0))) (view_from k i);
+}
+place_in w _ i = program_place
 
-abbrev pub role_below : Role → Node → ℕ → Role
-role_below whole t i = role_in whole (out-Node t) (words_below t) i
+abbrev pub place_below : Place → Node → ℕ → Place
+place_below w t i = place_in w (out-Node t) i
 
 abbrev pub given {ℓ} : {B : Type ℓ} → Option Node → B → (Node → B) → B
 given None b f = b
 given (Some c) b f = f c
 
--- what stands at a path, with its role; `r` is the role of the whole
-abbrev pub place_at : Role → Node → Path → Option (Role × Node)
-place_at r t [] = Some (r, t)
-place_at r t (i ∷ p) = given (child t i) None (λ c. place_at (role_below r t i) c p)
+-- what stands at a path, with its place; `w` is the place of the whole
+abbrev pub place_at : Place → Node → Path → Option (Place × Node)
+place_at w t [] = Some (w, t)
+place_at w t (i ∷ p) = given (child t i) None (λ c. place_at (place_below w t i) c p)

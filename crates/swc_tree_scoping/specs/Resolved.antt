@@ -1,13 +1,17 @@
 -- What a resolver may answer: each identifier with the mark of its scope.
-use Rattle.std.specs.Prelude.{◌≡◌, ◌≢◌, ℕ, zero, suc, ◌⊎◌, ◌↔◌, Option, Some, None, List, [], ◌∷◌, Contains}
+use Rattle.std.specs.Prelude.{◌≡◌, ◌≢◌, ℕ, zero, suc, Bool, true, false, ◌&&◌, ◌||◌, ◌⊎◌, ◌↔◌, Option, Some, None, List, [], ◌∷◌, Contains, codes, if◌then◌else◌}
+use Rattle.std.specs.Str.{bytes_eq}
 use Rattle.swc_tree_marks.specs.declared.ident.Ident.{Ident}
 use Rattle.swc_tree_node.specs.declared.kind.Kind.{Kind}
-use Rattle.swc_tree_node.specs.declared.slot.Role.{Role}
-use Rattle.swc_tree_node.specs.declared.slot.Role.TheVariants as role
-use Rattle.swc_tree_node.specs.declared.node.Node.{Node, Absent, Flag, Word, Text, Span, List as Many, Identifier, Tree, fold-Node}
+use Rattle.swc_tree_node.specs.declared.kind.Kind.TheVariants as kind
+use Rattle.swc_tree_node.specs.declared.node.Node.{Node, Absent, Flag, Word, Text, Span, List as Many, Identifier, Tree, out-Node, fold-Node}
 use Rattle.swc_tree_node.specs.declared.node.Node.TheOpen.{Node-F}
-use Rattle.swc_tree_scoping.specs.Places.{Path, place_at}
-use Rattle.swc_tree_scoping.specs.Scopes.{IsScope, declaring, Means}
+use Rattle.swc_tree_scoping.specs.declared.places.Standing.{Standing}
+use Rattle.swc_tree_scoping.specs.declared.places.Standing.TheVariants as standing
+use Rattle.swc_tree_scoping.specs.declared.places.Place.{Place}
+use Rattle.swc_tree_scoping.specs.Places.{Path, program_place, place_at}
+use Rattle.swc_tree_scoping.specs.Scopes.{IsScope, taker, variable_scope}
+use Rattle.swc_tree_scoping.specs.Declares.{Hoists, Means, Meets, DeclaresOtherwise}
 
 abbrev pub Contexts : Type 0
 Contexts = Path → List ℕ
@@ -35,25 +39,57 @@ abbrev pub mark_in : (Path → ℕ) → ℕ → Option Path → ℕ
 mark_in marks unresolved None = unresolved
 mark_in marks unresolved (Some s) = marks s
 
--- the context is the one mark of the scope that declares an identifier of that role
-abbrev pub HasDeclaringMark : (Path → ℕ) → Node → Path → Role → List ℕ → Type 0
-HasDeclaringMark marks t p r c = (s : Path) × (declaring role.Plain r t p ≡ Some s) × (c ≡ marks s ∷ [])
+-- values of the global object that a script can't declare anew (19.1)
+abbrev pub is_global_value : List ℕ → Bool
+is_global_value name = bytes_eq name (codes "undefined") || (bytes_eq name (codes "NaN") || bytes_eq name (codes "Infinity"))
 
--- the context is the one mark of the scope that a name means there, or the unresolved mark
+abbrev script_in : Node-F Node → Bool
+script_in (Node-F.Tree kind.Script ts) = true
+script_in _ = false
+
+abbrev pub is_script : Node → Bool
+is_script t = script_in (out-Node t)
+
+-- what is free in a script though the program declares it
+abbrev pub own_meaning : Node → List ℕ → Option Path → Option Path
+own_meaning t name (Some []) = if is_script t && is_global_value name then None else Some []
+own_meaning t name m = m
+
+-- a reference has the mark of the scope that it means, or the unresolved mark; in a script so have `undefined`,
+-- `NaN` and `Infinity` where they mean the program
 abbrev pub HasMeantMark : (Path → ℕ) → ℕ → Node → Path → List ℕ → List ℕ → Type 0
-HasMeantMark marks unresolved t p name c = (m : Option Path) × Means t p name m × (c ≡ mark_in marks unresolved m ∷ [])
+HasMeantMark marks unresolved t p name c = (m : Option Path) × Means t p name m × (c ≡ mark_in marks unresolved (own_meaning t name m) ∷ [])
 
--- the context of an identifier that had none: a binding has the mark of the scope that declares it, a reference
--- that of the scope that it means, or the unresolved mark; an arrow function's body may be a reference
-abbrev pub HasContext : (Path → ℕ) → ℕ → Node → Path → List ℕ → Role → List ℕ → Type 0
-HasContext marks unresolved t p name role.Reference c = HasMeantMark marks unresolved t p name c
-HasContext marks unresolved t p name role.FunctionBody c = HasMeantMark marks unresolved t p name c
-HasContext marks unresolved t p name role.Lexical c = HasDeclaringMark marks t p role.Lexical c
-HasContext marks unresolved t p name role.Function c = HasDeclaringMark marks t p role.Function c
-HasContext marks unresolved t p name role.Class c = HasDeclaringMark marks t p role.Class c
-HasContext marks unresolved t p name role.Variable c = HasDeclaringMark marks t p role.Variable c
-HasContext marks unresolved t p name role.Parameter c = HasDeclaringMark marks t p role.Parameter c
-HasContext marks unresolved t p name role.Import c = HasDeclaringMark marks t p role.Import c
+-- a variable has the mark of the function, static block or program that declares it; but below a catch clause whose
+-- parameter has its name the mark of that clause, where the name is declared outside by something else than such
+-- variables
+abbrev pub HasVariableMark : (Path → ℕ) → Node → Path → List ℕ → List ℕ → Type 0
+HasVariableMark marks t p name c = (m f : Path) × Meets t p name (Some m) × (variable_scope t p ≡ Some f)
+    × ((DeclaresOtherwise t f name × (c ≡ marks m ∷ [])) ⊎ (¬ DeclaresOtherwise t f name × (c ≡ marks f ∷ [])))
+
+-- a plain function in a block of sloppy code has the mark of the scope that it is declared in
+abbrev pub HasFunctionMark : (Path → ℕ) → Node → Path → List ℕ → List ℕ → Type 0
+HasFunctionMark marks t p name c = (b f : Path) × (taker standing.SloppyFunction t p ≡ Some b) × (variable_scope t p ≡ Some f)
+    × ((Hoists t b name × (c ≡ marks f ∷ [])) ⊎ (¬ Hoists t b name × (c ≡ marks b ∷ [])))
+
+-- any other binding has the mark of the scope that takes it
+abbrev pub HasTakersMark : (Path → ℕ) → Node → Path → Standing → List ℕ → Type 0
+HasTakersMark marks t p r c = (s : Path) × (taker r t p ≡ Some s) × (c ≡ marks s ∷ [])
+
+-- the context of an identifier that had none
+abbrev pub HasContext : (Path → ℕ) → ℕ → Node → Path → List ℕ → Standing → List ℕ → Type 0
+HasContext marks unresolved t p name standing.Reference c = HasMeantMark marks unresolved t p name c
+HasContext marks unresolved t p name standing.Body c = HasMeantMark marks unresolved t p name c
+HasContext marks unresolved t p name standing.Variable c = HasVariableMark marks t p name c
+HasContext marks unresolved t p name standing.SloppyFunction c = HasFunctionMark marks t p name c
+HasContext marks unresolved t p name standing.Lexical c = HasTakersMark marks t p standing.Lexical c
+HasContext marks unresolved t p name standing.Function c = HasTakersMark marks t p standing.Function c
+HasContext marks unresolved t p name standing.BlockFunction c = HasTakersMark marks t p standing.BlockFunction c
+HasContext marks unresolved t p name standing.Parameter c = HasTakersMark marks t p standing.Parameter c
+HasContext marks unresolved t p name standing.CatchParameter c = HasTakersMark marks t p standing.CatchParameter c
+HasContext marks unresolved t p name standing.Import c = HasTakersMark marks t p standing.Import c
+HasContext marks unresolved t p name standing.FunctionName c = HasTakersMark marks t p standing.FunctionName c
+HasContext marks unresolved t p name standing.ClassName c = HasTakersMark marks t p standing.ClassName c
 HasContext marks unresolved t p name _ c = c ≡ []
 
 -- `answer` is `tree` with each identifier resolved; `old` and `new` are the table of marks before and after
@@ -68,6 +104,6 @@ pub record Resolved (unresolved top : ℕ) (old new : List (ℕ × ℕ)) (tree a
   -- only contexts change, and those that are not empty stay
   pub contexts : Contexts
   pub only_contexts : answer ≡ remarked contexts tree
-  pub kept : (p : Path) (r : Role) (k : Kind) (i : Ident) → place_at role.Plain tree p ≡ Some (r, Identifier k i) → i.ctxt ≢ [] → contexts p ≡ i.ctxt
-  pub resolved : (p : Path) (r : Role) (k : Kind) (i : Ident) → place_at role.Plain tree p ≡ Some (r, Identifier k i) → i.ctxt ≡ []
-      → HasContext marks unresolved tree p i.sym r (contexts p)
+  pub kept : (p : Path) (w : Place) (k : Kind) (i : Ident) → place_at program_place tree p ≡ Some (w, Identifier k i) → i.ctxt ≢ [] → contexts p ≡ i.ctxt
+  pub resolved : (p : Path) (w : Place) (k : Kind) (i : Ident) → place_at program_place tree p ≡ Some (w, Identifier k i) → i.ctxt ≡ []
+      → HasContext marks unresolved tree p i.sym w.standing (contexts p)

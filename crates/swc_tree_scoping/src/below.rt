@@ -1,54 +1,132 @@
-ghost use Rattle.std.specs.Prelude.{◌≡◌, map};
+//! The places of a node's children.
+ghost use Rattle.std.specs.Prelude.{◌≡◌, if◌then◌else◌, slice_get};
 ghost use Rattle.swc_tree_node.specs.declared.node.Node.{List as Many, Tree};
-ghost use Rattle.swc_tree_scoping.specs.RolesBelow.{role_at};
-ghost use Rattle.swc_tree_scoping.specs.Places.{field_role, role_below, role_by_keyword, role_in_field, word_of};
+ghost use Rattle.swc_tree_scoping.specs.Below.{field_place, fields_are, place_of, scope_of_fields, standing_beside, view_of};
+ghost use Rattle.swc_tree_scoping.specs.Places.{by_keyword, by_word, field_role, function_standing as stands_as_function, is_plain_function as is_plain, is_there as stands_there, keyword_in, nested_below as is_nested_below, own_name as stands_as_name, place_below, plain_standing as stands_plain};
 
-use crate::roles::role_of_word;
-use swc_tree_node::{Kind, Node, Role, fields_of};
+use crate::directives::{is_plain_function, is_strict};
+use crate::opened::{is_inside, is_there, nests, opened_by, own_block, view_from};
+use crate::places::{Place, Scope, Standing, View};
+use swc_tree_node::{Kind, Node, Role, Word, fields_of};
 
-/// The roles of a node's children.
+/// The place of a whole program.
+pub const PROGRAM_PLACE: Place = Place {
+    standing: Standing::Plain,
+    strict: false,
+    nested: false,
+};
+
+// What the place of a field goes by beside the place of the whole tree.
 #[derive(Clone, Copy, Debug)]
-pub enum RolesBelow {
-    /// Those of a list's items: that of the list.
-    Items(Role),
-    /// Those of a tree's fields: the kind, the tree's own role, and that of the names which its keyword declares.
-    Fields(Kind, Role, Role),
+pub struct Fields {
+    kind: Kind,
+    whole: Place,
+    opened: Option<Scope>,
+    strict: bool,
+    keyword: Standing,
+    function: Standing,
+    exported: Standing,
 }
 
-impl RolesBelow {
-    /// The role of the child at an index.
-    pub fn at(&self, index: usize) -> Role
-        ensures { result ≡ role_at self.now index }
+/// The places of a node's children.
+#[derive(Clone, Copy, Debug)]
+pub enum PlacesBelow {
+    /// Those of a list's items: that of the list.
+    Items(Place),
+    /// Those of a tree's fields.
+    Fields(Fields),
+}
+
+impl PlacesBelow {
+    /// The place of the child at an index.
+    pub fn at(&self, index: usize) -> Place
+        ensures { result ≡ place_of self.now index }
     {
         match self {
-            RolesBelow::Items(role) => *role,
-            RolesBelow::Fields(kind, whole, keyword) => in_field(
-                *whole,
-                *keyword,
-                role_of_field(*kind, index),
-            ),
+            PlacesBelow::Items(place) => *place,
+            PlacesBelow::Fields(fields) => fields.at(index),
+        }
+    }
+
+    /// The scope that the node opens.
+    pub fn opened(&self) -> Option<Scope>
+        ensures { result ≡ scope_of_fields self.now }
+    {
+        match self {
+            PlacesBelow::Items(_) => None,
+            PlacesBelow::Fields(fields) => fields.opened,
+        }
+    }
+
+    /// How much of the scope that the node opens is seen from the child at an index.
+    pub fn view(&self, index: usize) -> View
+        ensures { result ≡ view_of self.now index }
+    {
+        match self {
+            PlacesBelow::Items(_) => View::Whole,
+            PlacesBelow::Fields(fields) => view_from(fields.kind, index),
         }
     }
 }
 
-/// The roles of the items of a list that has a role.
-#[tactic(auto, using(crate::proofs::Children::items_below))]
-pub fn roles_of_items(role: Role, items: &[Node]) -> RolesBelow
-    ensures { role_at result ≡ role_below role (Many items.now) }
-{
-    RolesBelow::Items(role)
+impl Fields {
+    fn at(&self, index: usize) -> Place
+        ensures { result ≡ field_place self.now index }
+    {
+        let view = view_from(self.kind, index);
+        Place {
+            standing: self.standing(index),
+            strict: self.whole.strict || (is_inside(view) && self.strict),
+            nested: nested_below(self.whole.nested, self.opened, view),
+        }
+    }
+
+    fn standing(&self, index: usize) -> Standing
+        ensures { result ≡ standing_beside self.now index }
+    {
+        match role_of_field(self.kind, index) {
+            Role::Plain => plain_standing(self.kind, index),
+            Role::Inherited => self.whole.standing,
+            Role::Reference => Standing::Reference,
+            Role::Declared => self.keyword,
+            Role::Function => self.function,
+            Role::Class | Role::Lexical => Standing::Lexical,
+            Role::OwnName => own_name(self.whole.standing, self.kind),
+            Role::Parameter => Standing::Parameter,
+            Role::Catch => Standing::CatchParameter,
+            Role::Import => Standing::Import,
+            Role::Variable => Standing::Variable,
+            Role::FunctionBody => Standing::Body,
+            Role::ExportLocal => self.exported,
+            Role::Label | Role::Imported | Role::Exported => Standing::Plain,
+        }
+    }
 }
 
-/// The roles of the fields of a tree that has a role. It costs time in step with the number of fields.
-#[tactic(auto, using(crate::proofs::Children::fields_below))]
-pub fn roles_of_fields(role: Role, kind: Kind, fields: &[Node]) -> RolesBelow
-    ensures { role_at result ≡ role_below role (Tree kind fields.now) }
+/// The places of the items of a list in a place.
+pub fn places_of_items(place: Place, items: &[Node]) -> PlacesBelow
+    ensures { result ≡ PlacesBelow.Items place }
 {
-    RolesBelow::Fields(kind, role, keyword_role(fields))
+    PlacesBelow::Items(place)
+}
+
+/// The places of the fields of a tree in a place. It costs time in step with the number of fields, and with the
+/// directives at the beginning of a function or a script.
+pub fn places_of_fields(place: Place, kind: Kind, fields: &[Node]) -> PlacesBelow
+    ensures { result ≡ PlacesBelow.Fields (fields_are place kind fields.now) }
+{
+    PlacesBelow::Fields(Fields {
+        kind,
+        whole: place,
+        opened: opened_by(place, kind, is_there(fields, 0)),
+        strict: is_strict(kind, fields),
+        keyword: keyword_standing(fields),
+        function: function_standing(place, is_plain_function(fields, 1)),
+        exported: exported_standing(is_there(fields, 2)),
+    })
 }
 
 // The role of a field by the table.
-#[tactic(auto, using(crate::proofs::Children::role_found, crate::proofs::Children::role_missing))]
 fn role_of_field(kind: Kind, index: usize) -> Role
     ensures { result ≡ field_role kind index }
 {
@@ -58,25 +136,76 @@ fn role_of_field(kind: Kind, index: usize) -> Role
     }
 }
 
-// The role of a field, where it may go by the whole node's or the keyword's.
-fn in_field(whole: Role, keyword: Role, field: Role) -> Role
-    ensures { result ≡ role_in_field whole keyword field }
+fn plain_standing(kind: Kind, index: usize) -> Standing
+    ensures { result ≡ stands_plain kind index }
 {
-    match field {
-        Role::Inherited => whole,
-        Role::Declared => keyword,
-        role => role,
+    match kind {
+        Kind::IfStmt if index == 2 || index == 3 => Standing::Branch,
+        Kind::ExportDefaultDecl if index == 1 => Standing::DefaultExport,
+        _ => Standing::Plain,
     }
 }
 
-// The role of the names that the keyword among the fields declares.
-fn keyword_role(fields: &[Node]) -> Role
-    ensures { result ≡ role_by_keyword (map word_of fields.now) }
+fn own_name(standing: Standing, kind: Kind) -> Standing
+    ensures { result ≡ stands_as_name standing kind }
+{
+    match (standing, kind) {
+        (Standing::DefaultExport, Kind::FnExpr) => Standing::Function,
+        (Standing::DefaultExport, _) => Standing::Lexical,
+        (_, Kind::FnExpr) => Standing::FunctionName,
+        _ => Standing::ClassName,
+    }
+}
+
+fn exported_standing(has_source: bool) -> Standing
+    ensures { result ≡ (if has_source then Standing.Plain else Standing.Reference) }
+{
+    if has_source {
+        Standing::Plain
+    } else {
+        Standing::Reference
+    }
+}
+
+// As what the name of a function declaration is bound.
+fn function_standing(place: Place, plain: bool) -> Standing
+    ensures { result ≡ stands_as_function place plain }
+{
+    if !(place.nested || own_block(place)) {
+        Standing::Function
+    } else if !place.strict && plain {
+        Standing::SloppyFunction
+    } else {
+        Standing::BlockFunction
+    }
+}
+
+fn nested_below(nested: bool, opened: Option<Scope>, view: View) -> bool
+    ensures { result ≡ is_nested_below nested opened view }
+{
+    match opened {
+        Some(scope) if is_inside(view) => nests(scope, nested),
+        _ => nested,
+    }
+}
+
+// As what the names are bound that the keyword among the fields declares.
+fn keyword_standing(fields: &[Node]) -> Standing
+    ensures { result ≡ by_keyword fields.now }
 {
     for field in fields {
         if let Node::Word(word) = field {
-            return role_of_word(*word);
+            return standing_of_word(*word);
         }
     }
-    Role::Plain
+    Standing::Plain
+}
+
+fn standing_of_word(word: Word) -> Standing
+    ensures { result ≡ by_word word }
+{
+    match word {
+        Word::Var => Standing::Variable,
+        _ => Standing::Lexical,
+    }
 }
