@@ -47,11 +47,14 @@ fn block<const N: usize>(alloc: Global, items: [Node; N]) -> Result<Node, AllocE
     tree(alloc, Kind::BlockStmt, [span(), items])
 }
 
-fn function(alloc: Global, name: &str, parameter: &str, body: Node) -> Result<Node, AllocError> {
-    let parameter = identifier(alloc, Kind::BindingIdent, parameter)?;
-    let parameter = tree(alloc, Kind::Param, [span(), parameter])?;
-    let parameters = list(alloc, [parameter])?;
-    let function = tree(
+// A function with those parameters and that body.
+fn function_with(
+    alloc: Global,
+    parameters: Node,
+    body: Node,
+    is_async: bool,
+) -> Result<Node, AllocError> {
+    tree(
         alloc,
         Kind::Function,
         [
@@ -59,16 +62,65 @@ fn function(alloc: Global, name: &str, parameter: &str, body: Node) -> Result<No
             parameters,
             body,
             Node::Flag(false),
-            Node::Flag(false),
+            Node::Flag(is_async),
         ],
-    )?;
+    )
+}
+
+fn parameter(alloc: Global, pattern: Node) -> Result<Node, AllocError> {
+    tree(alloc, Kind::Param, [span(), pattern])
+}
+
+fn declared_function(
+    alloc: Global,
+    name: &str,
+    parameters: Node,
+    body: Node,
+) -> Result<Node, AllocError> {
     let name = identifier(alloc, Kind::Ident, name)?;
+    let function = function_with(alloc, parameters, body, false)?;
     tree(alloc, Kind::FnDecl, [name, function])
 }
 
-fn program<const N: usize>(alloc: Global, items: [Node; N]) -> Result<Node, AllocError> {
+fn function(alloc: Global, name: &str, bound: &str, body: Node) -> Result<Node, AllocError> {
+    let pattern = identifier(alloc, Kind::BindingIdent, bound)?;
+    let parameters = list(alloc, [parameter(alloc, pattern)?])?;
+    declared_function(alloc, name, parameters, body)
+}
+
+// function NAME() {}
+fn empty_function(alloc: Global, name: &str) -> Result<Node, AllocError> {
+    let body = block(alloc, [])?;
+    let parameters = list(alloc, [])?;
+    declared_function(alloc, name, parameters, body)
+}
+
+fn text_of(alloc: Global, value: &str) -> Result<Node, AllocError> {
+    Ok(Node::Text(Text::new(alloc, value)?))
+}
+
+// A statement that is a string.
+fn directive(alloc: Global, value: &str) -> Result<Node, AllocError> {
+    let value = text_of(alloc, value)?;
+    let literal = tree(alloc, Kind::Str, [span(), value, Node::Absent])?;
+    tree(alloc, Kind::ExprStmt, [span(), literal])
+}
+
+fn of_kind<const N: usize>(
+    alloc: Global,
+    kind: Kind,
+    items: [Node; N],
+) -> Result<Node, AllocError> {
     let items = list(alloc, items)?;
-    tree(alloc, Kind::Module, [span(), items, Node::Absent])
+    tree(alloc, kind, [span(), items, Node::Absent])
+}
+
+fn program<const N: usize>(alloc: Global, items: [Node; N]) -> Result<Node, AllocError> {
+    of_kind(alloc, Kind::Module, items)
+}
+
+fn script<const N: usize>(alloc: Global, items: [Node; N]) -> Result<Node, AllocError> {
+    of_kind(alloc, Kind::Script, items)
 }
 
 // The names of a tree from the front, each with its marks.
@@ -128,6 +180,138 @@ fn hoisted(alloc: Global) -> Result<Node, AllocError> {
     program(alloc, items)
 }
 
+// switch (x) { case 0: b; case 1: let b; }
+fn switched(alloc: Global) -> Result<Node, AllocError> {
+    let zero = tree(alloc, Kind::Number, [span(), text_of(alloc, "0")?])?;
+    let first = list(alloc, [mention(alloc, "b")?])?;
+    let first = tree(alloc, Kind::SwitchCase, [span(), zero, first])?;
+    let one = tree(alloc, Kind::Number, [span(), text_of(alloc, "1")?])?;
+    let second = list(alloc, [declaration(alloc, Word::Let, "b")?])?;
+    let second = tree(alloc, Kind::SwitchCase, [span(), one, second])?;
+    let cases = list(alloc, [first, second])?;
+    let discriminant = identifier(alloc, Kind::Ident, "x")?;
+    let switch = tree(alloc, Kind::SwitchStmt, [span(), discriminant, cases])?;
+    program(alloc, [switch])
+}
+
+// (class C extends C {})
+fn heritage(alloc: Global) -> Result<Node, AllocError> {
+    let name = identifier(alloc, Kind::Ident, "C")?;
+    let heritage = identifier(alloc, Kind::Ident, "C")?;
+    let members = list(alloc, [])?;
+    let class = tree(alloc, Kind::Class, [span(), heritage, members])?;
+    let class = tree(alloc, Kind::ClassExpr, [name, class])?;
+    let statement = tree(alloc, Kind::ExprStmt, [span(), class])?;
+    program(alloc, [statement])
+}
+
+// var undefined; undefined;
+fn global_value(alloc: Global) -> Result<Node, AllocError> {
+    let items = [
+        declaration(alloc, Word::Var, "undefined")?,
+        mention(alloc, "undefined")?,
+    ];
+    script(alloc, items)
+}
+
+// { function f() {} } f;
+fn in_block(alloc: Global, kind: Kind) -> Result<Node, AllocError> {
+    let inner = block(alloc, [empty_function(alloc, "f")?])?;
+    of_kind(alloc, kind, [inner, mention(alloc, "f")?])
+}
+
+// let f; { function f() {} }
+fn stopped(alloc: Global) -> Result<Node, AllocError> {
+    let inner = block(alloc, [empty_function(alloc, "f")?])?;
+    script(alloc, [declaration(alloc, Word::Let, "f")?, inner])
+}
+
+// { async function f() {} } f;
+fn asynchronous(alloc: Global) -> Result<Node, AllocError> {
+    let body = block(alloc, [])?;
+    let parameters = list(alloc, [])?;
+    let function = function_with(alloc, parameters, body, true)?;
+    let name = identifier(alloc, Kind::Ident, "f")?;
+    let function = tree(alloc, Kind::FnDecl, [name, function])?;
+    let inner = block(alloc, [function])?;
+    script(alloc, [inner, mention(alloc, "f")?])
+}
+
+// 'a'; 'use strict'; { function f() {} } f;
+fn strict(alloc: Global) -> Result<Node, AllocError> {
+    let inner = block(alloc, [empty_function(alloc, "f")?])?;
+    let items = [
+        directive(alloc, "a")?,
+        directive(alloc, "use strict")?,
+        inner,
+        mention(alloc, "f")?,
+    ];
+    script(alloc, items)
+}
+
+// function g(f) { { function f() {} } }
+fn stopped_by_parameter(alloc: Global) -> Result<Node, AllocError> {
+    let inner = block(alloc, [empty_function(alloc, "f")?])?;
+    let body = block(alloc, [inner])?;
+    script(alloc, [function(alloc, "g", "f", body)?])
+}
+
+// function f(a, b = a) { var a; }
+fn redeclared_parameter(alloc: Global) -> Result<Node, AllocError> {
+    let first = identifier(alloc, Kind::BindingIdent, "a")?;
+    let second = identifier(alloc, Kind::BindingIdent, "b")?;
+    let default = identifier(alloc, Kind::Ident, "a")?;
+    let second = tree(alloc, Kind::AssignPat, [span(), second, default])?;
+    let parameters = list(alloc, [parameter(alloc, first)?, parameter(alloc, second)?])?;
+    let body = block(alloc, [declaration(alloc, Word::Var, "a")?])?;
+    script(alloc, [declared_function(alloc, "f", parameters, body)?])
+}
+
+// var x; function g(p = () => x) { var x; }
+fn default_sees_no_body(alloc: Global) -> Result<Node, AllocError> {
+    let result = identifier(alloc, Kind::Ident, "x")?;
+    let none = list(alloc, [])?;
+    let arrow = tree(
+        alloc,
+        Kind::ArrowExpr,
+        [span(), none, result, Node::Flag(false)],
+    )?;
+    let bound = identifier(alloc, Kind::BindingIdent, "p")?;
+    let pattern = tree(alloc, Kind::AssignPat, [span(), bound, arrow])?;
+    let parameters = list(alloc, [parameter(alloc, pattern)?])?;
+    let body = block(alloc, [declaration(alloc, Word::Var, "x")?])?;
+    let items = [
+        declaration(alloc, Word::Var, "x")?,
+        declared_function(alloc, "g", parameters, body)?,
+    ];
+    script(alloc, items)
+}
+
+// try {} catch (e) { var e; }
+fn caught(alloc: Global) -> Result<Node, AllocError> {
+    let body = block(alloc, [declaration(alloc, Word::Var, "e")?])?;
+    let bound = identifier(alloc, Kind::BindingIdent, "e")?;
+    let handler = tree(alloc, Kind::CatchClause, [span(), bound, body])?;
+    let guarded = block(alloc, [])?;
+    tree(
+        alloc,
+        Kind::TryStmt,
+        [span(), guarded, handler, Node::Absent],
+    )
+}
+
+// a: { break a; }
+fn labelled(alloc: Global) -> Result<Node, AllocError> {
+    let target = identifier(alloc, Kind::Ident, "a")?;
+    let jump = tree(alloc, Kind::BreakStmt, [span(), target])?;
+    let body = block(alloc, [jump])?;
+    let label = identifier(alloc, Kind::Ident, "a")?;
+    program(
+        alloc,
+        [tree(alloc, Kind::LabeledStmt, [span(), label, body])?],
+    )
+}
+
 fn resolved(alloc: Global, program: Node) -> anyhow::Result<String> {
     let mut globals = Globals::new(alloc);
     let unresolved = Mark::new(&mut globals)?;
@@ -144,6 +328,46 @@ fn names_have_the_marks_of_their_scopes(rt: HostRuntime) -> anyhow::Result<()> {
     let rows = [
         (shadowed(alloc)?, "a:2 a:3 a:3 b:1 a:2 "),
         (hoisted(alloc)?, "f:2 x:3 y:3 z:3 x:3 z:3 f:2 y:1 "),
+        (switched(alloc)?, "x:1 b:3 b:3 "),
+        (heritage(alloc)?, "C:3 C:3 "),
+        (global_value(alloc)?, "undefined:2 undefined:1 "),
+        (labelled(alloc)?, "a a "),
+    ];
+    for (program, want) in Vec::from_array(alloc, rows)? {
+        let text = resolved(alloc, program)?;
+        assert_eq!(rt; text.as_str(), want);
+    }
+    Ok(())
+}
+
+#[test]
+fn functions_in_blocks_of_sloppy_code_are_hoisted(rt: HostRuntime) -> anyhow::Result<()> {
+    let alloc = rt.alloc();
+    let rows = [
+        (in_block(alloc, Kind::Script)?, "f:2 f:2 "),
+        (in_block(alloc, Kind::Module)?, "f:3 f:1 "),
+        (stopped(alloc)?, "f:2 f:3 "),
+        (asynchronous(alloc)?, "f:3 f:1 "),
+        (strict(alloc)?, "f:3 f:1 "),
+        (stopped_by_parameter(alloc)?, "g:2 f:3 f:4 "),
+    ];
+    for (program, want) in Vec::from_array(alloc, rows)? {
+        let text = resolved(alloc, program)?;
+        assert_eq!(rt; text.as_str(), want);
+    }
+    Ok(())
+}
+
+#[test]
+fn parameters_stand_beside_the_body(rt: HostRuntime) -> anyhow::Result<()> {
+    let alloc = rt.alloc();
+    let after = [caught(alloc)?, mention(alloc, "e")?];
+    let declared_after = [caught(alloc)?, declaration(alloc, Word::Var, "e")?];
+    let rows = [
+        (redeclared_parameter(alloc)?, "f:2 a:3 b:3 a:3 a:3 "),
+        (default_sees_no_body(alloc)?, "x:2 g:2 p:3 x:2 x:3 "),
+        (script(alloc, after)?, "e:4 e:2 e:2 "),
+        (script(alloc, declared_after)?, "e:4 e:4 e:2 "),
     ];
     for (program, want) in Vec::from_array(alloc, rows)? {
         let text = resolved(alloc, program)?;
