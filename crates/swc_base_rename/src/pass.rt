@@ -33,10 +33,8 @@ pub fn rename_with_config(map: &HashMap<Id, JsWord>, config: Config) -> RenameWi
     ensures names { new_id result.names ≡ by_text map.now }
     ensures config { result.config ≡ config }
 {
-    RenameWith {
-        names: Names::Texts(map),
-        config,
-    }
+    let names = Names::Texts(map);
+    RenameWith { names, config }
 }
 
 /// The pass that puts new ids in the place of ids, where their texts differ.
@@ -44,10 +42,8 @@ pub fn remap(map: &HashMap<Id, Id>, config: Config) -> RenameWith<'_>
     ensures names { new_id result.names ≡ by_id map.now }
     ensures config { result.config ≡ config }
 {
-    RenameWith {
-        names: Names::Ids(map),
-        config,
-    }
+    let names = Names::Ids(map);
+    RenameWith { names, config }
 }
 
 impl JsPass for RenameWith<'_> {

@@ -543,3 +543,150 @@ fn gives_other_contexts_with_other_texts_alone(rt: HostRuntime) -> Result<(), Fa
     ]?;
     check(&rt, a, &Names::Ids(&other), false, rows)
 }
+
+fn number(alloc: Global) -> Built {
+    tree(
+        alloc,
+        Kind::Number,
+        [Ok(Node::Text(Text::new(alloc, "1")?))],
+    )
+}
+
+fn block(alloc: Global, statement: Built) -> Built {
+    tree(alloc, Kind::BlockStmt, [list(alloc, [statement])])
+}
+
+// `let { a: target = 1 } = o;`, where the key was made of a shorthand.
+fn declare_key_with_default(alloc: Global, target: Built) -> Built {
+    let default = tree_at(alloc, Kind::AssignPat, OF_NAME, [target, number(alloc)]);
+    let property = bare(alloc, Kind::KeyValuePatProp, [key(alloc, "a"), default]);
+    declare_let(alloc, object_pattern(alloc, [property]))
+}
+
+// `class { m() { return value; } }`.
+fn class_with_method(alloc: Global, value: Built) -> Built {
+    let answer = tree(alloc, Kind::ReturnStmt, [value]);
+    let function = tree(
+        alloc,
+        Kind::Function,
+        [
+            list(alloc, []),
+            block(alloc, answer),
+            Ok(Node::Flag(false)),
+            Ok(Node::Flag(false)),
+        ],
+    );
+    let method = tree(
+        alloc,
+        Kind::ClassMethod,
+        [
+            key(alloc, "m"),
+            function,
+            Ok(Node::Word(Word::Method)),
+            Ok(Node::Flag(false)),
+        ],
+    );
+    tree(alloc, Kind::Class, [absent(), list(alloc, [method])])
+}
+
+// `left = o;`.
+fn assignment(alloc: Global, left: Built) -> Built {
+    let fields = [Ok(Node::Word(Word::Assign)), left, name(alloc, "o", 0)];
+    statement(alloc, tree(alloc, Kind::AssignExpr, fields))
+}
+
+// `for (left in o) ;`.
+fn for_in(alloc: Global, left: Built) -> Built {
+    let body = tree(alloc, Kind::EmptyStmt, []);
+    tree(alloc, Kind::ForInStmt, [left, name(alloc, "o", 0), body])
+}
+
+#[test]
+fn renames_whole_programs(rt: HostRuntime) -> Result<(), Fail> {
+    let a = rt.alloc();
+    let map = texts(a, "a", "b")?;
+    let specifier = |local: Built, other: Built| {
+        import(a, tree(a, Kind::ImportNamedSpecifier, [local, other]))
+    };
+    let labelled = || {
+        let jump = tree(a, Kind::BreakStmt, [name(a, "a", 1)]);
+        tree(a, Kind::LabeledStmt, [name(a, "a", 1), block(a, jump)])
+    };
+    let exported = |local_name: Built, other: Built| {
+        export_list(a, [local(a, local_name, other)], absent())
+    };
+    let rows = vec![in a;
+        (
+            module(
+                a,
+                [
+                    declare_let(a, object_pattern(a, [short(a, "a", 1, number(a))])),
+                    exported(name(a, "a", 1), absent())
+                ]
+            ),
+            module(
+                a,
+                [
+                    declare_key_with_default(a, binding(a, "b", 0)),
+                    exported(name(a, "b", 0), name(a, "a", 0))
+                ]
+            ),
+        ),
+        (
+            module(a, [specifier(name(a, "a", 1), absent()), labelled()]),
+            module(a, [specifier(name(a, "b", 0), name(a, "a", 0)), labelled()]),
+        ),
+    ]?;
+    check(&rt, a, &Names::Texts(&map), false, rows)
+}
+
+#[test]
+fn renames_what_is_assigned_to(rt: HostRuntime) -> Result<(), Fail> {
+    let a = rt.alloc();
+    let map = texts(a, "a", "b")?;
+    let target = || bare(a, Kind::KeyValuePatProp, [key(a, "a"), binding(a, "b", 0)]);
+    let array = |text: &str, mark: u32| {
+        let element = tree(a, Kind::AssignPat, [binding(a, text, mark), number(a)]);
+        tree(a, Kind::ArrayPat, [list(a, [absent(), element])])
+    };
+    let rows = vec![in a;
+        (
+            assignment(a, object_pattern(a, [short(a, "a", 1, absent())])),
+            assignment(a, object_pattern(a, [target()]))
+        ),
+        (assignment(a, array("a", 1)), assignment(a, array("b", 0))),
+        (
+            assignment(a, binding(a, "a", 1)),
+            assignment(a, binding(a, "b", 0))
+        ),
+        (
+            for_in(a, object_pattern(a, [short(a, "a", 1, absent())])),
+            for_in(a, object_pattern(a, [target()]))
+        ),
+        (for_in(a, array("a", 1)), for_in(a, array("b", 0))),
+        (for_in(a, binding(a, "a", 1)), for_in(a, binding(a, "b", 0))),
+    ]?;
+    check(&rt, a, &Names::Texts(&map), false, rows)
+}
+
+#[test]
+fn renames_references_in_a_class_that_keeps_its_name(rt: HostRuntime) -> Result<(), Fail> {
+    let a = rt.alloc();
+    let map = texts(a, "A", "B")?;
+    let expression = bare(
+        a,
+        Kind::ClassExpr,
+        [name(a, "A", 0), class_with_method(a, name(a, "B", 0))],
+    );
+    let rows = vec![in a;
+        (
+            bare(
+                a,
+                Kind::ClassDecl,
+                [name(a, "A", 1), class_with_method(a, name(a, "A", 1))]
+            ),
+            declare(a, Word::Let, OF_NODE, binding(a, "B", 0), expression),
+        ),
+    ]?;
+    check(&rt, a, &Names::Texts(&map), true, rows)
+}
