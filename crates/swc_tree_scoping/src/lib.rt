@@ -14,9 +14,6 @@ mod taking;
 pub use below::{Fields, PROGRAM_PLACE, PlacesBelow, places_of_fields, places_of_items};
 pub use places::{Place, Scope, Standing, View};
 pub use taking::{is_binding, is_reference, is_variable_scope, takes};
-<<<<<<< HEAD
-=======
 
 #[cfg(test)]
 mod tests;
->>>>>>> fefd66e976b6ee9f65cf6fcedacb1a9bb9bcfd10
