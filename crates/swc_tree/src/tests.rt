@@ -1,5 +1,7 @@
 ghost use Rattle.std.specs.Prelude.{◌≡◌};
 
+mod deep;
+
 use super::*;
 use std::alloc::{AllocError, Global};
 
@@ -283,6 +285,41 @@ fn passes_take_and_put(rt: HostRuntime) -> Result<(), AllocError> {
     Ok(())
 }
 
+fn script(alloc: Global) -> Result<Script, AllocError> {
+    let mut body = Trees::new(alloc);
+    for stmt in [name_statement(alloc, "x")?, function(alloc)?] {
+        body.push(stmt.close(alloc)?)?;
+    }
+    Ok(Script {
+        span: Span { lo: 3, hi: 4 },
+        body,
+        shebang: None,
+    })
+}
+
+/// Scripts, in place and by value.
+#[test]
+fn passes_take_scripts(rt: HostRuntime) -> Result<(), AllocError> {
+    let alloc = rt.alloc();
+    let mut globals = Globals::new(alloc);
+    let mut program = script(alloc)?;
+    assert_eq!(rt;
+        noop().visit_mut_script(alloc, &mut globals, &mut program),
+        Ok(())
+    );
+    assert!(rt; should_work::<HasItems, Script>(&program));
+    let Ok(program) = Nothing.fold_script(alloc, &mut globals, program) else {
+        panic!(rt; "a program")
+    };
+    assert_eq!(rt; program.body.len(), 2);
+    assert_eq!(rt; program.span, Span { lo: 3, hi: 4 });
+    match Refused.fold_script(alloc, &mut globals, program) {
+        Err(error) => assert_eq!(rt; error, PassError::CounterSpent),
+        Ok(_) => panic!(rt; "a refusal"),
+    }
+    Ok(())
+}
+
 /// A list read and written in place.
 #[test]
 fn lists_change_in_place(rt: HostRuntime) -> Result<(), AllocError> {
@@ -314,7 +351,7 @@ fn binding(alloc: Global, name: &str) -> Result<Tree<class::Pat>, AllocError> {
     Pat::Ident(binding).close(alloc)
 }
 
-/// `{ a, b: [c = d, , ...e] }`
+/// `{ a, b: [c = d, ...e] }`
 fn pattern(alloc: Global) -> Result<Pat, AllocError> {
     let default = AssignPat {
         span: DUMMY_SP,
@@ -327,7 +364,6 @@ fn pattern(alloc: Global) -> Result<Pat, AllocError> {
     };
     let mut elems = Holes::new(alloc);
     elems.push(Some(Pat::Assign(default).close(alloc)?))?;
-    elems.push(None)?;
     elems.push(Some(Pat::Rest(rest).close(alloc)?))?;
     let array = ArrayPat {
         span: DUMMY_SP,
@@ -407,7 +443,14 @@ fn prepends_after_directives(rt: HostRuntime) -> Result<(), NoMemory> {
         };
         assert_eq!(rt; name.sym.as_str(), expected);
     }
-    assert_eq!(rt; stmts.len(), 1);
+    let Some(Stmt::Expr(first)) = stmts.pop().map(Tree::open) else {
+        panic!(rt; "a statement")
+    };
+    let Expr::Lit(Lit::Str(text)) = first.expr.open() else {
+        panic!(rt; "a string")
+    };
+    assert_eq!(rt; text.value.as_str(), "a");
+    assert!(rt; stmts.is_empty());
     Ok(())
 }
 
