@@ -1,2 +1,4 @@
 pub mod Table
 pub mod Fits
+pub mod Sameness
+pub mod Parts
