@@ -11,7 +11,7 @@ fn deep_expr(alloc: Global) -> Result<Tree<class::Expr>, AllocError> {
             span: DUMMY_SP,
             expr,
         };
-        expr = Expr::Paren(paren).close(alloc)?;
+        expr = paren.close(alloc)?.widen();
     }
     Ok(expr)
 }
@@ -27,14 +27,14 @@ fn deep_pat(alloc: Global) -> Result<Tree<class::Pat>, AllocError> {
             span: DUMMY_SP,
             elems,
         };
-        pat = Pat::Array(array).close(alloc)?;
+        pat = array.close(alloc)?.widen();
     }
     Ok(pat)
 }
 
 /// A statement in 200 blocks.
-fn deep_stmt(alloc: Global, innermost: Stmt) -> Result<Tree<class::Stmt>, AllocError> {
-    let mut stmt = innermost.close(alloc)?;
+fn deep_stmt(alloc: Global, innermost: Tree<class::Stmt>) -> Result<Tree<class::Stmt>, AllocError> {
+    let mut stmt = innermost;
     for _ in 0..DEPTH {
         let mut stmts = Trees::new(alloc);
         stmts.push(stmt)?;
@@ -42,7 +42,7 @@ fn deep_stmt(alloc: Global, innermost: Stmt) -> Result<Tree<class::Stmt>, AllocE
             span: DUMMY_SP,
             stmts,
         };
-        stmt = Stmt::Block(block).close(alloc)?;
+        stmt = block.close(alloc)?.widen();
     }
     Ok(stmt)
 }
@@ -58,44 +58,35 @@ fn module_of(alloc: Global, stmt: Tree<class::Stmt>) -> Result<Module, AllocErro
     })
 }
 
-/// What stands in the parentheses, and how many pairs there are.
-fn peel(expr: Tree<class::Expr>) -> (usize, Expr) {
-    let mut opened: Expr = expr.open();
-    for pairs in 0..=DEPTH {
-        match opened {
-            Expr::Paren(paren) => opened = paren.expr.open(),
-            other => return (pairs, other),
-        }
+/// How many nodes stand one in another, at most, lists left out.
+fn depth(node: &Node) -> usize {
+    match node {
+        Node::Tree(_, fields) => depth_of_all(fields.as_slice()).saturating_add(1),
+        Node::List(items) => depth_of_all(items.as_slice()),
+        Node::Identifier(_, _) => 1,
+        _ => 0,
     }
-    (DEPTH, opened)
 }
 
-/// How many blocks stand round the innermost statement, and that statement.
-fn unblock(stmt: Tree<class::Stmt>) -> (usize, Stmt) {
-    let mut opened: Stmt = stmt.open();
-    for blocks in 0..=DEPTH {
-        match opened {
-            Stmt::Block(mut block) => match block.stmts.pop() {
-                Some(inner) => opened = inner.open(),
-                None => return (blocks, Stmt::Block(block)),
-            },
-            other => return (blocks, other),
-        }
+fn depth_of_all(nodes: &[Node]) -> usize {
+    let mut deepest = 0;
+    for node in nodes {
+        deepest = deepest.max(depth(node));
     }
-    (DEPTH, opened)
+    deepest
 }
 
 #[test]
-fn expressions_are_copied(rt: HostRuntime) -> Result<(), AllocError> {
+fn expressions_are_copied_and_compared(rt: HostRuntime) -> Result<(), AllocError> {
     let expr = deep_expr(rt.alloc())?;
     let copy = expr.clone()?;
+    assert!(rt; copy == expr);
     drop(expr);
-    let (pairs, inside) = peel(copy);
-    assert_eq!(rt; pairs, DEPTH);
-    let Some(name) = inside.as_ident() else {
-        panic!(rt; "a name")
+    assert_eq!(rt; depth(copy.node()), DEPTH + 1);
+    let Expr::Paren(outermost) = copy.open() else {
+        panic!(rt; "parentheses")
     };
-    assert_eq!(rt; name.sym.as_str(), "x");
+    assert_eq!(rt; depth(outermost.expr.node()), DEPTH);
     Ok(())
 }
 
@@ -114,19 +105,14 @@ fn patterns_bind(rt: HostRuntime) -> Result<(), NoMemory> {
 fn statements_go_after_directives(rt: HostRuntime) -> Result<(), NoMemory> {
     let alloc = rt.alloc();
     let mut stmts: Trees<class::Stmt> = Trees::new(alloc);
-    stmts.push(string_statement(alloc, "a")?.close(alloc)?)?;
+    stmts.push(string_statement(alloc, "a")?)?;
+    let deep = deep_stmt(alloc, string_statement(alloc, "use strict")?)?;
     let mut more = Trees::new(alloc);
-    more.push(deep_stmt(alloc, string_statement(alloc, "use strict")?)?)?;
+    more.push(deep.clone()?)?;
     prepend_stmts(&mut stmts, more)?;
     assert_eq!(rt; stmts.len(), 2);
-    let Some(last) = stmts.pop() else {
-        panic!(rt; "a statement")
-    };
-    let (blocks, inside) = unblock(last);
-    assert_eq!(rt; blocks, DEPTH);
-    assert!(rt; is_use_strict(&inside));
-    let deep: Stmt = deep_stmt(alloc, inside)?.open();
-    assert!(rt; !is_use_strict(&deep));
+    assert!(rt; stmts.pop() == Some(deep.clone()?));
+    assert!(rt; !is_strict(deep));
     Ok(())
 }
 
@@ -144,12 +130,9 @@ fn programs_pass(rt: HostRuntime) -> Result<(), AllocError> {
     let Ok(module) = Nothing.fold_module(alloc, &mut globals, module) else {
         panic!(rt; "a program")
     };
-    let mut module: Module = module.close(alloc)?.open();
-    let Some(ModuleItem::Stmt(stmt)) = module.body.pop().map(Tree::open) else {
-        panic!(rt; "a statement")
-    };
-    let (blocks, inside) = unblock(stmt.close(alloc)?);
-    assert_eq!(rt; blocks, DEPTH);
-    assert!(rt; matches!(inside, Stmt::Expr(_)));
+    let closed = module.close(alloc)?;
+    assert_eq!(rt; depth(closed.node()), DEPTH + 3);
+    let module: Module = closed.open();
+    assert_eq!(rt; module.body.len(), 1);
     Ok(())
 }
