@@ -59,6 +59,7 @@ fn module_of(alloc: Global, stmt: Tree<class::Stmt>) -> Result<Module, AllocErro
 }
 
 /// How many nodes stand one in another, at most, lists left out.
+#[cycle(depth)]
 fn depth(node: &Node) -> usize {
     match node {
         Node::Tree(_, fields) => depth_of_all(fields.as_slice()).saturating_add(1),
@@ -68,6 +69,7 @@ fn depth(node: &Node) -> usize {
     }
 }
 
+#[cycle(depth)]
 fn depth_of_all(nodes: &[Node]) -> usize {
     let mut deepest = 0;
     for node in nodes {
