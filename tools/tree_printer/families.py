@@ -60,7 +60,7 @@ def struct_rt(tree, struct):
     forms = [form_of(tree, field) for field in struct.fields]
     name, keys = struct.name, ', '.join(field.name for field in struct.fields)
     uses = set().union(*(form.uses | form.types for form in forms)) | {(HANDLE, 'collect')}
-    declared = '/// %s\n#[derive(Debug, Drop)]\npub struct %s {\n%s}\n' % (
+    declared = '/// %s\n#[derive(Clone, Debug, Drop, PartialEq, Eq)]\npub struct %s {\n%s}\n' % (
         struct.doc, name, ''.join('    pub %s: %s,\n' % (f.name, form.type) for f, form in zip(struct.fields, forms)))
     from_node = '''        let fields = Tree::<class::%s>::from_node(closed).into_fields(Kind::%s);
         let [%s] = fields.into_array::<%d>();
@@ -77,7 +77,7 @@ def struct_rt(tree, struct):
 
 def identifier_rt(tree, struct):
     name = struct.name
-    declared = '/// %s\n#[derive(Debug, Drop, PartialEq, Eq, Hash)]\npub struct %s {\n    pub id: Ident,\n}\n' % (struct.doc, name)
+    declared = '/// %s\n#[derive(Clone, Debug, Drop, PartialEq, Eq, Hash)]\npub struct %s {\n    pub id: Ident,\n}\n' % (struct.doc, name)
     from_node = '''        %s { id: Tree::<class::%s>::from_node(closed).into_identifier(Kind::%s) }
 ''' % (name, name, name)
     into_node = '''        let tree = Tree::<class::%s>::from_identifier(alloc, Kind::%s, self.id)?;
@@ -126,7 +126,7 @@ def wide_proof(tree, sum_):
 
 def sum_rt(tree, sum_):
     name = sum_.name
-    declared = '/// %s\n#[derive(Debug, Drop)]\npub enum %s {\n%s}\n' % (
+    declared = '/// %s\n#[derive(Clone, Debug, Drop, PartialEq, Eq)]\npub enum %s {\n%s}\n' % (
         sum_.doc, name, ''.join('    %s(%s),\n' % (v.name, 'Tree<class::%s>' % v.member if v.is_subtree else v.member)
                                 for v in sum_.variants))
     arms, seen = '', set()

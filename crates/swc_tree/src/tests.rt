@@ -1,4 +1,6 @@
-ghost use Rattle.std.specs.Prelude.{◌≡◌};
+ghost use Rattle.std.specs.Prelude.{◌≡◌, ⊤};
+
+mod deep;
 
 use super::*;
 use std::alloc::{AllocError, Global};
@@ -74,7 +76,7 @@ fn opens_expressions(rt: HostRuntime) -> Result<(), AllocError> {
 }
 
 /// `function f(x) { return x }`
-fn function(alloc: Global) -> Result<Stmt, AllocError> {
+fn function(alloc: Global) -> Result<Tree<class::Stmt>, AllocError> {
     let pat = Pat::Ident(BindingIdent {
         id: ident(alloc, "x")?,
     });
@@ -89,7 +91,7 @@ fn function(alloc: Global) -> Result<Stmt, AllocError> {
         arg: Some(reference(alloc, "x")?),
     };
     let mut stmts = Trees::new(alloc);
-    stmts.push(Stmt::Return(answer).close(alloc)?)?;
+    stmts.push(answer.close(alloc)?.widen())?;
     let body = BlockStmt {
         span: DUMMY_SP,
         stmts,
@@ -101,14 +103,15 @@ fn function(alloc: Global) -> Result<Stmt, AllocError> {
         is_generator: false,
         is_async: true,
     };
-    Ok(Stmt::Decl(Decl::Fn(FnDecl {
+    let declaration = FnDecl {
         ident: ident(alloc, "f")?,
         function: function.close(alloc)?,
-    })))
+    };
+    Ok(declaration.close(alloc)?.widen())
 }
 
 /// `const y = (f(1)), z`
-fn variables(alloc: Global) -> Result<Stmt, AllocError> {
+fn variables(alloc: Global) -> Result<Tree<class::VarDecl>, AllocError> {
     let mut args = Trees::new(alloc);
     let argument = ExprOrSpread {
         spread: None,
@@ -137,27 +140,19 @@ fn variables(alloc: Global) -> Result<Stmt, AllocError> {
         };
         decls.push(declarator.close(alloc)?)?;
     }
-    Ok(Stmt::Decl(Decl::Var(VarDecl {
+    let declaration = VarDecl {
         span: DUMMY_SP,
         kind: VarDeclKind::Const,
         decls,
-    })))
+    };
+    declaration.close(alloc)
 }
 
 fn program(alloc: Global) -> Result<Module, AllocError> {
-    let text = Str {
-        span: DUMMY_SP,
-        value: Text::new(alloc, "use strict")?,
-        raw: None,
-    };
-    let directive = ExprStmt {
-        span: DUMMY_SP,
-        expr: Expr::Lit(Lit::Str(text)).close(alloc)?,
-    };
     let mut body = Trees::new(alloc);
-    for stmt in [Stmt::Expr(directive), function(alloc)?, variables(alloc)?] {
-        body.push(ModuleItem::Stmt(stmt).close(alloc)?)?;
-    }
+    body.push(string_statement(alloc, "use strict")?.widen())?;
+    body.push(function(alloc)?.widen())?;
+    body.push(variables(alloc)?.widen())?;
     Ok(Module {
         span: Span { lo: 1, hi: 2 },
         body,
@@ -165,19 +160,12 @@ fn program(alloc: Global) -> Result<Module, AllocError> {
     })
 }
 
-/// A program closed, opened, and each part of it looked at, the last item first.
+/// Declarators, the last first.
 #[test]
-fn opens_programs(rt: HostRuntime) -> Result<(), AllocError> {
-    let alloc = rt.alloc();
-    let closed = program(alloc)?.close(alloc)?;
-    let mut module: Module = closed.open();
-    assert_eq!(rt; module.body.len(), 3);
-    let Some(ModuleItem::Stmt(Stmt::Decl(Decl::Var(mut var)))) = module.body.pop().map(Tree::open)
-    else {
-        panic!(rt; "variables")
-    };
-    assert_eq!(rt; var.kind, VarDeclKind::Const);
-    let Some(last) = var.decls.pop() else {
+fn opens_declarations(rt: HostRuntime) -> Result<(), AllocError> {
+    let mut declaration: VarDecl = variables(rt.alloc())?.open();
+    assert_eq!(rt; declaration.kind, VarDeclKind::Const);
+    let Some(last) = declaration.decls.pop() else {
         panic!(rt; "a declarator")
     };
     let VarDeclarator { name, init, .. } = last.open();
@@ -186,18 +174,25 @@ fn opens_programs(rt: HostRuntime) -> Result<(), AllocError> {
     };
     assert_eq!(rt; name.id.sym.as_str(), "z");
     assert!(rt; init.is_none());
-    let Some(ModuleItem::Stmt(Stmt::Decl(Decl::Fn(FnDecl { ident, function })))) = module
-        .body
-        .pop()
-        .map(Tree::open)
-    else {
-        panic!(rt; "a function")
+    Ok(())
+}
+
+/// A program closed and opened, and its items read in place.
+#[test]
+fn opens_programs(rt: HostRuntime) -> Result<(), AllocError> {
+    let closed = program(rt.alloc())?.close(rt.alloc())?;
+    let copy = closed.clone()?;
+    assert!(rt; copy == closed);
+    let mut module: Module = closed.open();
+    assert_eq!(rt; module.body.len(), 3);
+    let Some(last) = module.body.pop() else {
+        panic!(rt; "variables")
     };
-    assert_eq!(rt; ident.sym.as_str(), "f");
-    let function: Function = function.open();
-    assert!(rt; function.is_async && !function.is_generator);
-    let body: BlockStmt = function.body.open();
-    assert_eq!(rt; body.stmts.len(), 1);
+    assert_eq!(rt; last.kind(), Kind::VarDecl);
+    let Some(decls) = last.field("decls") else {
+        panic!(rt; "declarators")
+    };
+    assert_eq!(rt; decls.children().len(), 2);
     Ok(())
 }
 
@@ -283,6 +278,40 @@ fn passes_take_and_put(rt: HostRuntime) -> Result<(), AllocError> {
     Ok(())
 }
 
+fn script(alloc: Global) -> Result<Script, AllocError> {
+    let mut body = Trees::new(alloc);
+    body.push(name_statement(alloc, "x")?)?;
+    body.push(function(alloc)?)?;
+    Ok(Script {
+        span: Span { lo: 3, hi: 4 },
+        body,
+        shebang: None,
+    })
+}
+
+/// Scripts, in place and by value.
+#[test]
+fn passes_take_scripts(rt: HostRuntime) -> Result<(), AllocError> {
+    let alloc = rt.alloc();
+    let mut globals = Globals::new(alloc);
+    let mut program = script(alloc)?;
+    assert_eq!(rt;
+        noop().visit_mut_script(alloc, &mut globals, &mut program),
+        Ok(())
+    );
+    assert!(rt; should_work::<HasItems, Script>(&program));
+    let Ok(program) = Nothing.fold_script(alloc, &mut globals, program) else {
+        panic!(rt; "a program")
+    };
+    assert_eq!(rt; program.body.len(), 2);
+    assert_eq!(rt; program.span, Span { lo: 3, hi: 4 });
+    match Refused.fold_script(alloc, &mut globals, program) {
+        Err(error) => assert_eq!(rt; error, PassError::CounterSpent),
+        Ok(_) => panic!(rt; "a refusal"),
+    }
+    Ok(())
+}
+
 /// A list read and written in place.
 #[test]
 fn lists_change_in_place(rt: HostRuntime) -> Result<(), AllocError> {
@@ -314,7 +343,7 @@ fn binding(alloc: Global, name: &str) -> Result<Tree<class::Pat>, AllocError> {
     Pat::Ident(binding).close(alloc)
 }
 
-/// `{ a, b: [c = d, , ...e] }`
+/// `{ a, b: [c = d, ...e] }`
 fn pattern(alloc: Global) -> Result<Pat, AllocError> {
     let default = AssignPat {
         span: DUMMY_SP,
@@ -327,7 +356,6 @@ fn pattern(alloc: Global) -> Result<Pat, AllocError> {
     };
     let mut elems = Holes::new(alloc);
     elems.push(Some(Pat::Assign(default).close(alloc)?))?;
-    elems.push(None)?;
     elems.push(Some(Pat::Rest(rest).close(alloc)?))?;
     let array = ArrayPat {
         span: DUMMY_SP,
@@ -369,23 +397,25 @@ fn finds_pattern_ids(rt: HostRuntime) -> Result<(), NoMemory> {
     Ok(())
 }
 
-fn string_statement(alloc: Global, text: &str) -> Result<Stmt, AllocError> {
+fn string_statement(alloc: Global, text: &str) -> Result<Tree<class::Stmt>, AllocError> {
     let text = Str {
         span: DUMMY_SP,
         value: Text::new(alloc, text)?,
         raw: None,
     };
-    Ok(Stmt::Expr(ExprStmt {
+    let stmt = ExprStmt {
         span: DUMMY_SP,
-        expr: Expr::Lit(Lit::Str(text)).close(alloc)?,
-    }))
+        expr: text.close(alloc)?.widen(),
+    };
+    Ok(stmt.close(alloc)?.widen())
 }
 
-fn name_statement(alloc: Global, name: &str) -> Result<Stmt, AllocError> {
-    Ok(Stmt::Expr(ExprStmt {
+fn name_statement(alloc: Global, name: &str) -> Result<Tree<class::Stmt>, AllocError> {
+    let stmt = ExprStmt {
         span: DUMMY_SP,
         expr: reference(alloc, name)?,
-    }))
+    };
+    Ok(stmt.close(alloc)?.widen())
 }
 
 /// `y;` before `'a'; x;` gives `'a'; y; x;`.
@@ -393,30 +423,29 @@ fn name_statement(alloc: Global, name: &str) -> Result<Stmt, AllocError> {
 fn prepends_after_directives(rt: HostRuntime) -> Result<(), NoMemory> {
     let alloc = rt.alloc();
     let mut stmts: Trees<class::Stmt> = Trees::new(alloc);
-    stmts.push(string_statement(alloc, "a")?.close(alloc)?)?;
-    stmts.push(name_statement(alloc, "x")?.close(alloc)?)?;
+    stmts.push(string_statement(alloc, "a")?)?;
+    stmts.push(name_statement(alloc, "x")?)?;
     let mut more = Trees::new(alloc);
-    more.push(name_statement(alloc, "y")?.close(alloc)?)?;
+    more.push(name_statement(alloc, "y")?)?;
     prepend_stmts(&mut stmts, more)?;
-    for expected in ["x", "y"] {
-        let Some(Stmt::Expr(last)) = stmts.pop().map(Tree::open) else {
-            panic!(rt; "a statement")
-        };
-        let Some(name) = last.expr.as_ident() else {
-            panic!(rt; "a name")
-        };
-        assert_eq!(rt; name.sym.as_str(), expected);
-    }
-    assert_eq!(rt; stmts.len(), 1);
+    assert!(rt; stmts.pop() == Some(name_statement(alloc, "x")?));
+    assert!(rt; stmts.pop() == Some(name_statement(alloc, "y")?));
+    assert!(rt; stmts.pop() == Some(string_statement(alloc, "a")?));
+    assert!(rt; stmts.is_empty());
     Ok(())
+}
+
+fn is_strict(stmt: Tree<class::Stmt>) -> bool {
+    let opened: Stmt = stmt.open();
+    is_use_strict(&opened)
 }
 
 #[test]
 fn knows_use_strict(rt: HostRuntime) -> Result<(), AllocError> {
     let alloc = rt.alloc();
-    assert!(rt; is_use_strict(&string_statement(alloc, "use strict")?));
-    assert!(rt; !is_use_strict(&string_statement(alloc, "use  strict")?));
-    assert!(rt; !is_use_strict(&name_statement(alloc, "x")?));
+    assert!(rt; is_strict(string_statement(alloc, "use strict")?));
+    assert!(rt; !is_strict(string_statement(alloc, "use  strict")?));
+    assert!(rt; !is_strict(name_statement(alloc, "x")?));
     Ok(())
 }
 
@@ -443,11 +472,15 @@ fn keeps_pairs_and_callees(rt: HostRuntime) -> Result<(), AllocError> {
     };
     assert_eq!(rt; key.as_str(), "type");
     assert_eq!(rt; value.as_str(), "json");
-    let callee = Some(Callee::Expr(reference(alloc, "f")?));
+    let mut callee = Some(Callee::Expr(reference(alloc, "f")?));
+    match callee.as_expr_mut() {
+        Some(called) => *called = number(alloc, "1")?,
+        None => panic!(rt; "an expression"),
+    }
     let Some(called) = callee.as_expr() else {
         panic!(rt; "an expression")
     };
-    assert_eq!(rt; called.kind(), Kind::Ident);
+    assert_eq!(rt; called.kind(), Kind::Number);
     Ok(())
 }
 

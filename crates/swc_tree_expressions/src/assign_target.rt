@@ -13,7 +13,7 @@ use swc_tree_handle::{Opened, Tree, class};
 use swc_tree_node::{Kind, Node};
 
 /// What a value is assigned to (ECMA-262, LeftHandSideExpression).
-#[derive(Debug, Drop)]
+#[derive(Clone, Debug, Drop, PartialEq, Eq)]
 pub enum AssignTarget {
     Simple(SimpleAssignTarget),
     Pat(AssignTargetPat),

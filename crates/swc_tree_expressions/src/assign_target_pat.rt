@@ -12,7 +12,7 @@ use swc_tree_node::{Kind, Node};
 use swc_tree_patterns::{ArrayPat, ObjectPat};
 
 /// A target that is a pattern (ECMA-262, AssignmentPattern).
-#[derive(Debug, Drop)]
+#[derive(Clone, Debug, Drop, PartialEq, Eq)]
 pub enum AssignTargetPat {
     Array(ArrayPat),
     Object(ObjectPat),

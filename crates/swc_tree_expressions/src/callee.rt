@@ -12,7 +12,7 @@ use swc_tree_names::{Import, Super};
 use swc_tree_node::{Kind, Node};
 
 /// What is called.
-#[derive(Debug, Drop)]
+#[derive(Clone, Debug, Drop, PartialEq, Eq)]
 pub enum Callee {
     Super(Super),
     Import(Import),

@@ -19,7 +19,7 @@ use swc_tree_operations::{
 };
 
 /// An expression (ECMA-262, Expression).
-#[derive(Debug, Drop)]
+#[derive(Clone, Debug, Drop, PartialEq, Eq)]
 pub enum Expr {
     This(ThisExpr),
     Array(ArrayLit),

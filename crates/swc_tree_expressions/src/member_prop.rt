@@ -13,7 +13,7 @@ use swc_tree_names::{IdentName, PrivateName};
 use swc_tree_node::{Kind, Node};
 
 /// What a member is called: a name, a private name or a computed key.
-#[derive(Debug, Drop)]
+#[derive(Clone, Debug, Drop, PartialEq, Eq)]
 pub enum MemberProp {
     Ident(IdentName),
     PrivateName(PrivateName),

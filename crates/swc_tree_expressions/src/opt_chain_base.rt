@@ -12,7 +12,7 @@ use swc_tree_node::{Kind, Node};
 use swc_tree_operations::{MemberExpr, OptCall};
 
 /// What a part of an optional chain does (ECMA-262, OptionalChain).
-#[derive(Debug, Drop)]
+#[derive(Clone, Debug, Drop, PartialEq, Eq)]
 pub enum OptChainBase {
     Member(MemberExpr),
     Call(OptCall),

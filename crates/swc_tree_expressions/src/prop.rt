@@ -14,7 +14,7 @@ use swc_tree_node::{Kind, Node};
 use swc_tree_operations::KeyValueProp;
 
 /// A property of an object literal (ECMA-262, PropertyDefinition).
-#[derive(Debug, Drop)]
+#[derive(Clone, Debug, Drop, PartialEq, Eq)]
 pub enum Prop {
     Shorthand(Ident),
     KeyValue(KeyValueProp),

@@ -13,7 +13,7 @@ use swc_tree_node::{Kind, Node};
 use swc_tree_operations::SpreadElement;
 
 /// A property of an object literal, or a spread (ECMA-262, PropertyDefinition).
-#[derive(Debug, Drop)]
+#[derive(Clone, Debug, Drop, PartialEq, Eq)]
 pub enum PropOrSpread {
     Spread(SpreadElement),
     Prop(Prop),

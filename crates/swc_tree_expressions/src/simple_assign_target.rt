@@ -13,7 +13,7 @@ use swc_tree_node::{Kind, Node};
 use swc_tree_operations::{MemberExpr, ParenExpr, SuperPropExpr};
 
 /// A target that is no pattern.
-#[derive(Debug, Drop)]
+#[derive(Clone, Debug, Drop, PartialEq, Eq)]
 pub enum SimpleAssignTarget {
     Ident(BindingIdent),
     Member(MemberExpr),

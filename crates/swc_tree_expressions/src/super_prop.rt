@@ -13,7 +13,7 @@ use swc_tree_names::IdentName;
 use swc_tree_node::{Kind, Node};
 
 /// What a property of `super` is called.
-#[derive(Debug, Drop)]
+#[derive(Clone, Debug, Drop, PartialEq, Eq)]
 pub enum SuperProp {
     Ident(IdentName),
     Computed(ComputedPropName),

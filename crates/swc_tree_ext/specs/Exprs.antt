@@ -29,3 +29,12 @@ called _ = None
 abbrev pub within : {N : Type 0} → (N → Option Node) → Option N → Option Node
 within expr None = None
 within expr (Some n) = expr n
+
+-- the callee with another expression called, if it calls one
+abbrev pub called_as : Callee → Node → Callee
+called_as (callee.Expr x) t = callee.Expr t
+called_as c t = c
+
+abbrev pub put_within : {N : Type 0} → (N → Node → N) → Option N → Node → Option N
+put_within put None t = None
+put_within put (Some n) t = Some (put n t)

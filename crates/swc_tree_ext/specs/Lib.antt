@@ -1,3 +1,4 @@
 pub mod BoundIds
 pub mod Directives
 pub mod Exprs
+pub mod Rows

@@ -1,7 +1,9 @@
 //! Expressions, seen through what holds them.
 ghost use Rattle.std.specs.Prelude.{◌≡◌};
-ghost use Rattle.std.specs.Option.{option_copied};
-ghost use Rattle.swc_tree_ext.specs.Exprs.{called, identifier_at, identifier_of, within};
+ghost use Rattle.std.specs.Borrow.{LendsIf, sem};
+ghost use Rattle.swc_tree_ext.specs.Rows.{expr_row};
+ghost use Rattle.std.specs.Option.{option_copied, option_copied_mut};
+ghost use Rattle.swc_tree_ext.specs.Exprs.{called, called_as, identifier_at, identifier_of, put_within, within};
 
 use swc_tree_expressions::{Callee, Expr};
 use swc_tree_handle::{Tree, class};
@@ -60,17 +62,34 @@ pub trait AsOptExpr {
     /// The expression, if there is one.
     ghost expr: { Self → Option Node };
 
+    /// The same, with another expression in the place of its own, where it has one.
+    ghost put: { Self → Node → Self };
+
     /// The expression that is held. It takes no memory.
     fn as_expr(&self) -> Option<&Tree<class::Expr>>
         ensures { option_copied result ≡ expr self.now };
+
+    /// The expression that is held, to be changed in place. It takes no memory.
+    fn as_expr_mut(&mut self) -> Option<&mut Tree<class::Expr>>
+        ensures value { option_copied_mut result ≡ expr self.old }
+        ensures* writes_back { sem 𝓛 (LendsIf Self.row expr_row self.entry result (put self.old) self.old) };
 }
 
 impl AsOptExpr for Callee {
     ghost expr = { called };
 
+    ghost put = { called_as };
+
     fn as_expr(&self) -> Option<&Tree<class::Expr>> {
         match self {
             Callee::Expr(expr) => Some(expr),
+            _ => None,
+        }
+    }
+
+    fn as_expr_mut(&mut self) -> Option<&mut Tree<class::Expr>> {
+        match self {
+            Callee::Expr(held) => Some(held),
             _ => None,
         }
     }
@@ -79,9 +98,18 @@ impl AsOptExpr for Callee {
 impl<N: AsOptExpr> AsOptExpr for Option<N> {
     ghost expr = { within N.expr };
 
+    ghost put = { put_within N.put };
+
     fn as_expr(&self) -> Option<&Tree<class::Expr>> {
         match self {
             Some(held) => held.as_expr(),
+            None => None,
+        }
+    }
+
+    fn as_expr_mut(&mut self) -> Option<&mut Tree<class::Expr>> {
+        match self {
+            Some(held) => held.as_expr_mut(),
             None => None,
         }
     }

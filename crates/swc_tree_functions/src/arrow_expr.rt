@@ -14,7 +14,7 @@ use swc_tree_marks::Span;
 use swc_tree_node::{Kind, Node};
 
 /// An arrow function (ECMA-262, ArrowFunction).
-#[derive(Debug, Drop)]
+#[derive(Clone, Debug, Drop, PartialEq, Eq)]
 pub struct ArrowExpr {
     pub span: Span,
     pub params: Trees<class::Pat>,

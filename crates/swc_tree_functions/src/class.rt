@@ -12,7 +12,7 @@ use swc_tree_marks::Span;
 use swc_tree_node::{Kind, Node};
 
 /// The heritage and the members of a class (ECMA-262, ClassTail).
-#[derive(Debug, Drop)]
+#[derive(Clone, Debug, Drop, PartialEq, Eq)]
 pub struct Class {
     pub span: Span,
     pub super_class: Option<Tree<class::Expr>>,

@@ -12,7 +12,7 @@ use swc_tree_marks::Ident;
 use swc_tree_node::{Kind, Node};
 
 /// A class expression (ECMA-262, ClassExpression).
-#[derive(Debug, Drop)]
+#[derive(Clone, Debug, Drop, PartialEq, Eq)]
 pub struct ClassExpr {
     pub ident: Option<Ident>,
     pub class_: Tree<class::Class>,

@@ -18,7 +18,7 @@ use swc_tree_names::EmptyStmt;
 use swc_tree_node::{Kind, Node};
 
 /// A member of a class (ECMA-262, ClassElement).
-#[derive(Debug, Drop)]
+#[derive(Clone, Debug, Drop, PartialEq, Eq)]
 pub enum ClassMember {
     Constructor(Constructor),
     Method(ClassMethod),

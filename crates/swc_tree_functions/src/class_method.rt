@@ -13,7 +13,7 @@ use swc_tree_marks::Span;
 use swc_tree_node::{Kind, Node};
 
 /// A method of a class (ECMA-262, MethodDefinition).
-#[derive(Debug, Drop)]
+#[derive(Clone, Debug, Drop, PartialEq, Eq)]
 pub struct ClassMethod {
     pub span: Span,
     pub key: Tree<class::PropName>,

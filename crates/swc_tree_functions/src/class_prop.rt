@@ -12,7 +12,7 @@ use swc_tree_marks::Span;
 use swc_tree_node::{Kind, Node};
 
 /// A field of a class (ECMA-262, FieldDefinition).
-#[derive(Debug, Drop)]
+#[derive(Clone, Debug, Drop, PartialEq, Eq)]
 pub struct ClassProp {
     pub span: Span,
     pub key: Tree<class::PropName>,

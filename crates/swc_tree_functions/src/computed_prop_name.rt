@@ -12,7 +12,7 @@ use swc_tree_marks::Span;
 use swc_tree_node::{Kind, Node};
 
 /// A computed key (ECMA-262, ComputedPropertyName).
-#[derive(Debug, Drop)]
+#[derive(Clone, Debug, Drop, PartialEq, Eq)]
 pub struct ComputedPropName {
     pub span: Span,
     pub expr: Tree<class::Expr>,

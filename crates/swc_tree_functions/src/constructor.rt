@@ -12,7 +12,7 @@ use swc_tree_marks::Span;
 use swc_tree_node::{Kind, Node};
 
 /// The constructor of a class (ECMA-262, MethodDefinition).
-#[derive(Debug, Drop)]
+#[derive(Clone, Debug, Drop, PartialEq, Eq)]
 pub struct Constructor {
     pub span: Span,
     pub key: Tree<class::PropName>,

@@ -12,7 +12,7 @@ use swc_tree_marks::Ident;
 use swc_tree_node::{Kind, Node};
 
 /// A function expression (ECMA-262, FunctionExpression).
-#[derive(Debug, Drop)]
+#[derive(Clone, Debug, Drop, PartialEq, Eq)]
 pub struct FnExpr {
     pub ident: Option<Ident>,
     pub function: Tree<class::Function>,

@@ -14,7 +14,7 @@ use swc_tree_marks::Span;
 use swc_tree_node::{Kind, Node};
 
 /// The parameters and the body of a function (ECMA-262, 15.2).
-#[derive(Debug, Drop)]
+#[derive(Clone, Debug, Drop, PartialEq, Eq)]
 pub struct Function {
     pub span: Span,
     pub params: Trees<class::Param>,

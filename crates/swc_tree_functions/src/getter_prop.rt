@@ -12,7 +12,7 @@ use swc_tree_marks::Span;
 use swc_tree_node::{Kind, Node};
 
 /// A getter of an object (ECMA-262, MethodDefinition).
-#[derive(Debug, Drop)]
+#[derive(Clone, Debug, Drop, PartialEq, Eq)]
 pub struct GetterProp {
     pub span: Span,
     pub key: Tree<class::PropName>,

@@ -11,7 +11,7 @@ use swc_tree_handle::{Opened, Tree, class, collect};
 use swc_tree_node::{Kind, Node};
 
 /// A method of an object (ECMA-262, MethodDefinition).
-#[derive(Debug, Drop)]
+#[derive(Clone, Debug, Drop, PartialEq, Eq)]
 pub struct MethodProp {
     pub key: Tree<class::PropName>,
     pub function: Tree<class::Function>,

@@ -12,7 +12,7 @@ use swc_tree_marks::Span;
 use swc_tree_node::{Kind, Node};
 
 /// A parameter of a function (ECMA-262, FormalParameter).
-#[derive(Debug, Drop)]
+#[derive(Clone, Debug, Drop, PartialEq, Eq)]
 pub struct Param {
     pub span: Span,
     pub pat: Tree<class::Pat>,

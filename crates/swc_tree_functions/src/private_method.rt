@@ -14,7 +14,7 @@ use swc_tree_names::PrivateName;
 use swc_tree_node::{Kind, Node};
 
 /// A private method of a class (ECMA-262, MethodDefinition).
-#[derive(Debug, Drop)]
+#[derive(Clone, Debug, Drop, PartialEq, Eq)]
 pub struct PrivateMethod {
     pub span: Span,
     pub key: PrivateName,

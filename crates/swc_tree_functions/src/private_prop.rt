@@ -13,7 +13,7 @@ use swc_tree_names::PrivateName;
 use swc_tree_node::{Kind, Node};
 
 /// A private field of a class (ECMA-262, FieldDefinition).
-#[derive(Debug, Drop)]
+#[derive(Clone, Debug, Drop, PartialEq, Eq)]
 pub struct PrivateProp {
     pub span: Span,
     pub key: PrivateName,

@@ -13,7 +13,7 @@ use swc_tree_names::{BigInt, IdentName, Number, Str};
 use swc_tree_node::{Kind, Node};
 
 /// The key of a property (ECMA-262, PropertyName).
-#[derive(Debug, Drop)]
+#[derive(Clone, Debug, Drop, PartialEq, Eq)]
 pub enum PropName {
     Ident(IdentName),
     Str(Str),

@@ -12,7 +12,7 @@ use swc_tree_marks::Span;
 use swc_tree_node::{Kind, Node};
 
 /// A static block of a class (ECMA-262, ClassStaticBlock).
-#[derive(Debug, Drop)]
+#[derive(Clone, Debug, Drop, PartialEq, Eq)]
 pub struct StaticBlock {
     pub span: Span,
     pub body: Tree<class::BlockStmt>,

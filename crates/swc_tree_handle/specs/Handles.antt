@@ -6,19 +6,10 @@ use Rattle.swc_tree_marks.specs.declared.ident.Ident.{Ident}
 use Rattle.swc_tree_node.specs.declared.kind.Kind.{Kind}
 use Rattle.swc_tree_node.specs.declared.kind.Kind.TheVariants as kind
 use Rattle.swc_tree_node.specs.declared.kind.Class.{Class}
-use Rattle.swc_tree_node.specs.declared.node.Node.{Node, Absent, Text, Span, List as Many, Identifier, out-Node}
-use Rattle.swc_tree_node.specs.declared.node.Node.TheOpen.{Node-F}
+use Rattle.swc_tree_node.specs.declared.node.Node.{Node, Absent, Text, Span, List as Many, Identifier}
 use Rattle.swc_tree_node.specs.Table.{kinds_of}
 use Rattle.swc_tree_node.specs.Fits.{belongs}
-
-abbrev pub kind_in : Node-F Node → Option Kind
-kind_in (Node-F.Identifier k i) = Some k
-kind_in (Node-F.Tree k ts) = Some k
-kind_in _ = None
-
--- what struct the node is, if it is one
-abbrev pub kind_of : Node → Option Kind
-kind_of t = kind_in (out-Node t)
+pub use Rattle.swc_tree_node.specs.Parts.{kind_of}
 
 abbrev pub takes : Class → Option Kind → Bool
 takes c None = false

@@ -4,6 +4,7 @@ ghost use Rattle.swc_tree_node.specs.declared.node.Node.{List as Many};
 ghost use Rattle.swc_tree_node.specs.declared.slot.Slot.TheVariants.{Optional, Holes as Several};
 ghost use Rattle.swc_tree_node.specs.declared.slot.Content.TheVariants.{Node as Of};
 ghost use Rattle.swc_tree_node.specs.Fits.{Fits, AllFit};
+ghost use Rattle.swc_tree_node.specs.Sameness.{all_same, all_same_equiv, all_same_per};
 ghost use Rattle.swc_tree_handle.specs.Handles.{optional_node};
 
 use crate::class::Syntax;
@@ -155,6 +156,24 @@ impl<C: Syntax> Clone for Holes<C> {
             of: PhantomData,
         })
     }
+}
+
+impl<C: Syntax> PartialEq for Holes<C> {
+    ghost eq = { all_same };
+
+    ghost laws = { all_same_per };
+
+    #[tactic(auto, using(swc_tree_node::proofs::Same::lists_same))]
+    fn eq(&self, other: &Holes<C>) -> bool
+        ensures is { result ≡ all_same self.now other.now }
+        ensures exactly { IsTrue result ↔ (self.now ≡ other.now) }
+    {
+        self.nodes.as_slice() == other.nodes.as_slice()
+    }
+}
+
+impl<C: Syntax> Eq for Holes<C> {
+    ghost laws = { all_same_equiv };
 }
 
 impl<C: Syntax> fmt::Debug for Holes<C> {

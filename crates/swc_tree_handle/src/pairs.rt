@@ -2,6 +2,7 @@
 ghost use Rattle.std.specs.Prelude.{◌≡◌, [], ◌++◌, ◌∷◌, ◌↔◌, IsTrue, OnOk, OnErr, MatchOption, length};
 ghost use Rattle.swc_tree_node.specs.declared.slot.Slot.TheVariants.{Pair, Pairs as Several};
 ghost use Rattle.swc_tree_node.specs.Fits.{Fits, AllFit};
+ghost use Rattle.swc_tree_node.specs.Sameness.{all_same, all_same_equiv, all_same_per};
 ghost use Rattle.swc_tree_handle.specs.Handles.{optional_list, pair_node};
 
 use crate::leaves::to_text;
@@ -121,6 +122,24 @@ impl Clone for Pairs {
         let nodes = copy_nodes(&self.nodes)?;
         Ok(Pairs { nodes })
     }
+}
+
+impl PartialEq for Pairs {
+    ghost eq = { all_same };
+
+    ghost laws = { all_same_per };
+
+    #[tactic(auto, using(swc_tree_node::proofs::Same::lists_same))]
+    fn eq(&self, other: &Pairs) -> bool
+        ensures is { result ≡ all_same self.now other.now }
+        ensures exactly { IsTrue result ↔ (self.now ≡ other.now) }
+    {
+        self.nodes.as_slice() == other.nodes.as_slice()
+    }
+}
+
+impl Eq for Pairs {
+    ghost laws = { all_same_equiv };
 }
 
 /// The texts of a pair.

@@ -1,10 +1,13 @@
 //! A node with its class.
-ghost use Rattle.std.specs.Prelude.{◌≡◌, [], ◌∷◌, Some, IsTrue, IfOk, not};
+ghost use Rattle.std.specs.Prelude.{◌≡◌, [], ◌∷◌, ◌↔◌, Some, IsTrue, IfOk, not};
 ghost use Rattle.swc_tree_node.specs.declared.node.Node.{Identifier, Tree as Plain};
 ghost use Rattle.swc_tree_node.specs.declared.slot.Slot.TheVariants.{One, Optional};
 ghost use Rattle.swc_tree_node.specs.declared.slot.Content.TheVariants.{Node as Of};
 ghost use Rattle.swc_tree_node.specs.Table.{kinds_of, slots_of, is_identifier};
 ghost use Rattle.swc_tree_node.specs.Fits.{Fits, FieldsFit, belongs};
+ghost use Rattle.std.specs.Option.{option_copied};
+ghost use Rattle.swc_tree_node.specs.Parts.{children_of, field_of};
+ghost use Rattle.swc_tree_node.specs.Sameness.{same, same_equiv, same_per};
 ghost use Rattle.swc_tree_handle.specs.Handles.{kind_of, is_of, is_within, optional_node};
 
 use crate::class::Syntax;
@@ -86,6 +89,20 @@ impl<C: Syntax> Tree<C> {
             Node::Tree(kind, _) => *kind,
             _ => unreachable!(),
         }
+    }
+
+    /// The field of a key, as the table calls it; an identifier has none.
+    pub fn field(&self, key: &str) -> Option<&Node>
+        ensures { option_copied result ≡ field_of key.now self.now }
+    {
+        self.node.field(key)
+    }
+
+    /// The fields in the order of the source; an identifier has none.
+    pub fn children(&self) -> &[Node]
+        ensures { result.now ≡ children_of self.now }
+    {
+        self.node.children()
     }
 
     /// The node as one of a class that takes its kind.
@@ -198,6 +215,23 @@ impl<C: Syntax> Clone for Tree<C> {
             of: PhantomData,
         })
     }
+}
+
+impl<C: Syntax> PartialEq for Tree<C> {
+    ghost eq = { same };
+
+    ghost laws = { same_per };
+
+    fn eq(&self, other: &Tree<C>) -> bool
+        ensures is { result ≡ same self.now other.now }
+        ensures exactly { IsTrue result ↔ (self.now ≡ other.now) }
+    {
+        self.node == other.node
+    }
+}
+
+impl<C: Syntax> Eq for Tree<C> {
+    ghost laws = { same_equiv };
 }
 
 impl<C: Syntax> fmt::Debug for Tree<C> {

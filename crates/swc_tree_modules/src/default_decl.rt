@@ -12,7 +12,7 @@ use swc_tree_handle::{Opened, Tree, class};
 use swc_tree_node::{Kind, Node};
 
 /// What may be declared as the default export.
-#[derive(Debug, Drop)]
+#[derive(Clone, Debug, Drop, PartialEq, Eq)]
 pub enum DefaultDecl {
     Class(ClassExpr),
     Fn(FnExpr),

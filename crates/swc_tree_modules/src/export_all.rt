@@ -13,7 +13,7 @@ use swc_tree_names::Str;
 use swc_tree_node::{Kind, Node};
 
 /// All that another module exports (ECMA-262, ExportFromClause).
-#[derive(Debug, Drop)]
+#[derive(Clone, Debug, Drop, PartialEq, Eq)]
 pub struct ExportAll {
     pub span: Span,
     pub src: Str,

@@ -12,7 +12,7 @@ use swc_tree_marks::Span;
 use swc_tree_node::{Kind, Node};
 
 /// A declaration that is exported (ECMA-262, ExportDeclaration).
-#[derive(Debug, Drop)]
+#[derive(Clone, Debug, Drop, PartialEq, Eq)]
 pub struct ExportDecl {
     pub span: Span,
     pub decl: Tree<class::Decl>,

@@ -12,7 +12,7 @@ use swc_tree_marks::Span;
 use swc_tree_node::{Kind, Node};
 
 /// An expression as the default export (ECMA-262, ExportDeclaration).
-#[derive(Debug, Drop)]
+#[derive(Clone, Debug, Drop, PartialEq, Eq)]
 pub struct ExportDefaultExpr {
     pub span: Span,
     pub expr: Tree<class::Expr>,

@@ -12,7 +12,7 @@ use swc_tree_marks::Span;
 use swc_tree_node::{Kind, Node};
 
 /// One name that is exported (ECMA-262, ExportSpecifier).
-#[derive(Debug, Drop)]
+#[derive(Clone, Debug, Drop, PartialEq, Eq)]
 pub struct ExportNamedSpecifier {
     pub span: Span,
     pub orig: Tree<class::ModuleExportName>,

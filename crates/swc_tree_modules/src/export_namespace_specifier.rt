@@ -12,7 +12,7 @@ use swc_tree_marks::Span;
 use swc_tree_node::{Kind, Node};
 
 /// The whole of a module, exported under a name (ECMA-262, ExportFromClause).
-#[derive(Debug, Drop)]
+#[derive(Clone, Debug, Drop, PartialEq, Eq)]
 pub struct ExportNamespaceSpecifier {
     pub span: Span,
     pub name: Tree<class::ModuleExportName>,

@@ -13,7 +13,7 @@ use swc_tree_handle::{Opened, Tree, class};
 use swc_tree_node::{Kind, Node};
 
 /// One part of an export list (ECMA-262, ExportSpecifier).
-#[derive(Debug, Drop)]
+#[derive(Clone, Debug, Drop, PartialEq, Eq)]
 pub enum ExportSpecifier {
     Namespace(ExportNamespaceSpecifier),
     Named(ExportNamedSpecifier),

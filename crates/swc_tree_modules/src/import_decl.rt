@@ -13,7 +13,7 @@ use swc_tree_names::Str;
 use swc_tree_node::{Kind, Node};
 
 /// An import (ECMA-262, ImportDeclaration).
-#[derive(Debug, Drop)]
+#[derive(Clone, Debug, Drop, PartialEq, Eq)]
 pub struct ImportDecl {
     pub span: Span,
     pub specifiers: Trees<class::ImportSpecifier>,

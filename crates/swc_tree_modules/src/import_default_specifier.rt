@@ -12,7 +12,7 @@ use swc_tree_marks::{Ident, Span};
 use swc_tree_node::{Kind, Node};
 
 /// The default import (ECMA-262, ImportedDefaultBinding).
-#[derive(Debug, Drop)]
+#[derive(Clone, Debug, Drop, PartialEq, Eq)]
 pub struct ImportDefaultSpecifier {
     pub span: Span,
     pub local: Ident,

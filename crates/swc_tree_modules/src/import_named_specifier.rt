@@ -12,7 +12,7 @@ use swc_tree_marks::{Ident, Span};
 use swc_tree_node::{Kind, Node};
 
 /// One name of an import list (ECMA-262, ImportSpecifier).
-#[derive(Debug, Drop)]
+#[derive(Clone, Debug, Drop, PartialEq, Eq)]
 pub struct ImportNamedSpecifier {
     pub span: Span,
     pub local: Ident,

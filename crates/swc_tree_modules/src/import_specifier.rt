@@ -14,7 +14,7 @@ use swc_tree_handle::{Opened, Tree, class};
 use swc_tree_node::{Kind, Node};
 
 /// What an import binds (ECMA-262, ImportClause).
-#[derive(Debug, Drop)]
+#[derive(Clone, Debug, Drop, PartialEq, Eq)]
 pub enum ImportSpecifier {
     Named(ImportNamedSpecifier),
     Default(ImportDefaultSpecifier),

@@ -12,7 +12,7 @@ use swc_tree_marks::{Ident, Span};
 use swc_tree_node::{Kind, Node};
 
 /// The whole of a module under a name (ECMA-262, NameSpaceImport).
-#[derive(Debug, Drop)]
+#[derive(Clone, Debug, Drop, PartialEq, Eq)]
 pub struct ImportStarAsSpecifier {
     pub span: Span,
     pub local: Ident,

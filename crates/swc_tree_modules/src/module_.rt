@@ -14,7 +14,7 @@ use swc_tree_marks::{Atom, Span};
 use swc_tree_node::{Kind, Node};
 
 /// A program of the goal Module (ECMA-262, Module).
-#[derive(Debug, Drop)]
+#[derive(Clone, Debug, Drop, PartialEq, Eq)]
 pub struct Module {
     pub span: Span,
     pub body: Trees<class::ModuleItem>,

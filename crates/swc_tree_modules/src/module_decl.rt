@@ -17,7 +17,7 @@ use swc_tree_handle::{Opened, Tree, class};
 use swc_tree_node::{Kind, Node};
 
 /// An import or an export (ECMA-262, ImportDeclaration and ExportDeclaration).
-#[derive(Debug, Drop)]
+#[derive(Clone, Debug, Drop, PartialEq, Eq)]
 pub enum ModuleDecl {
     Import(ImportDecl),
     ExportDecl(ExportDecl),

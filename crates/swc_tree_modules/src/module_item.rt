@@ -13,7 +13,7 @@ use swc_tree_node::{Kind, Node};
 use swc_tree_statements::Stmt;
 
 /// An item of a module (ECMA-262, ModuleItem).
-#[derive(Debug, Drop)]
+#[derive(Clone, Debug, Drop, PartialEq, Eq)]
 pub enum ModuleItem {
     ModuleDecl(ModuleDecl),
     Stmt(Stmt),

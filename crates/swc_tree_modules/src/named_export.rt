@@ -13,7 +13,7 @@ use swc_tree_names::Str;
 use swc_tree_node::{Kind, Node};
 
 /// An export list, of this module or of another (ECMA-262, NamedExports and ExportFromClause).
-#[derive(Debug, Drop)]
+#[derive(Clone, Debug, Drop, PartialEq, Eq)]
 pub struct NamedExport {
     pub span: Span,
     pub specifiers: Trees<class::ExportSpecifier>,

@@ -14,7 +14,7 @@ use swc_tree_marks::{Atom, Span};
 use swc_tree_node::{Kind, Node};
 
 /// A program of the goal Script (ECMA-262, Script).
-#[derive(Debug, Drop)]
+#[derive(Clone, Debug, Drop, PartialEq, Eq)]
 pub struct Script {
     pub span: Span,
     pub body: Trees<class::Stmt>,

@@ -12,7 +12,7 @@ use swc_tree_marks::{Atom, Span};
 use swc_tree_node::{Kind, Node};
 
 /// A literal of a big integer, as it is written (ECMA-262, NumericLiteral).
-#[derive(Debug, Drop)]
+#[derive(Clone, Debug, Drop, PartialEq, Eq)]
 pub struct BigInt {
     pub span: Span,
     pub text: Atom,

@@ -12,7 +12,7 @@ use swc_tree_marks::Ident;
 use swc_tree_node::{Kind, Node};
 
 /// An identifier that a pattern binds (ECMA-262, BindingIdentifier).
-#[derive(Debug, Drop, PartialEq, Eq, Hash)]
+#[derive(Clone, Debug, Drop, PartialEq, Eq, Hash)]
 pub struct BindingIdent {
     pub id: Ident,
 }

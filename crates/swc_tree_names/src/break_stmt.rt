@@ -12,7 +12,7 @@ use swc_tree_marks::{Ident, Span};
 use swc_tree_node::{Kind, Node};
 
 /// A `break` statement (ECMA-262, BreakStatement).
-#[derive(Debug, Drop)]
+#[derive(Clone, Debug, Drop, PartialEq, Eq)]
 pub struct BreakStmt {
     pub span: Span,
     pub label: Option<Ident>,

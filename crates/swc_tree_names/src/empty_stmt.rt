@@ -12,7 +12,7 @@ use swc_tree_marks::Span;
 use swc_tree_node::{Kind, Node};
 
 /// An empty statement, or an empty member of a class (ECMA-262, EmptyStatement).
-#[derive(Debug, Drop)]
+#[derive(Clone, Debug, Drop, PartialEq, Eq)]
 pub struct EmptyStmt {
     pub span: Span,
 }

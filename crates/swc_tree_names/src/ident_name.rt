@@ -12,7 +12,7 @@ use swc_tree_marks::{Atom, Span};
 use swc_tree_node::{Kind, Node};
 
 /// A name that is no identifier, as a key (ECMA-262, IdentifierName).
-#[derive(Debug, Drop)]
+#[derive(Clone, Debug, Drop, PartialEq, Eq)]
 pub struct IdentName {
     pub span: Span,
     pub sym: Atom,

@@ -17,7 +17,7 @@ use swc_tree_handle::{Opened, Tree, class};
 use swc_tree_node::{Kind, Node};
 
 /// A literal (ECMA-262, Literal).
-#[derive(Debug, Drop)]
+#[derive(Clone, Debug, Drop, PartialEq, Eq)]
 pub enum Lit {
     Str(Str),
     Bool(Bool),

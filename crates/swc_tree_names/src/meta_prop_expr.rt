@@ -13,7 +13,7 @@ use swc_tree_marks::Span;
 use swc_tree_node::{Kind, Node};
 
 /// `new.target` or `import.meta` (ECMA-262, MetaProperty).
-#[derive(Debug, Drop)]
+#[derive(Clone, Debug, Drop, PartialEq, Eq)]
 pub struct MetaPropExpr {
     pub span: Span,
     pub kind: MetaPropKind,

@@ -13,7 +13,7 @@ use swc_tree_marks::Ident;
 use swc_tree_node::{Kind, Node};
 
 /// A name under which something is exported or imported (ECMA-262, ModuleExportName).
-#[derive(Debug, Drop)]
+#[derive(Clone, Debug, Drop, PartialEq, Eq)]
 pub enum ModuleExportName {
     Ident(Ident),
     Str(Str),

@@ -12,7 +12,7 @@ use swc_tree_marks::{Atom, Span};
 use swc_tree_node::{Kind, Node};
 
 /// A number literal, as it is written (ECMA-262, NumericLiteral).
-#[derive(Debug, Drop)]
+#[derive(Clone, Debug, Drop, PartialEq, Eq)]
 pub struct Number {
     pub span: Span,
     pub text: Atom,

@@ -12,7 +12,7 @@ use swc_tree_marks::{Atom, Span};
 use swc_tree_node::{Kind, Node};
 
 /// A private name, without its `#` (ECMA-262, PrivateIdentifier).
-#[derive(Debug, Drop)]
+#[derive(Clone, Debug, Drop, PartialEq, Eq)]
 pub struct PrivateName {
     pub span: Span,
     pub name: Atom,

@@ -12,7 +12,7 @@ use swc_tree_marks::{Atom, Span};
 use swc_tree_node::{Kind, Node};
 
 /// A regular expression: its pattern and its flags (ECMA-262, RegularExpressionLiteral).
-#[derive(Debug, Drop)]
+#[derive(Clone, Debug, Drop, PartialEq, Eq)]
 pub struct Regex {
     pub span: Span,
     pub exp: Atom,

@@ -15,7 +15,7 @@ use swc_tree_marks::{Atom, Span};
 use swc_tree_node::{Kind, Node};
 
 /// A string literal: its value, and how it is written where that is known (ECMA-262, StringLiteral).
-#[derive(Debug, Drop)]
+#[derive(Clone, Debug, Drop, PartialEq, Eq)]
 pub struct Str {
     pub span: Span,
     pub value: Atom,

@@ -15,7 +15,7 @@ use swc_tree_marks::{Atom, Span};
 use swc_tree_node::{Kind, Node};
 
 /// A text of a template: its value where it has one, and how it is written (ECMA-262, TemplateCharacters).
-#[derive(Debug, Drop)]
+#[derive(Clone, Debug, Drop, PartialEq, Eq)]
 pub struct TplElement {
     pub span: Span,
     pub tail: bool,

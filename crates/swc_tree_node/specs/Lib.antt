@@ -1,3 +1,5 @@
 pub mod Table
 pub mod Fits
 pub mod Places
+pub mod Sameness
+pub mod Parts

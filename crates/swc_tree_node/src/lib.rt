@@ -1,12 +1,16 @@
 //! The syntax tree as one recursive type, and the table of what stands where in it.
 #![tactic(auto)]
 
+mod compare;
 mod copies;
 mod kind;
 mod node;
+mod parts;
 mod place;
 mod slot;
 mod table;
+#[cfg(test)]
+mod tests;
 
 pub use copies::copy_nodes;
 pub use kind::{Class, Kind, Word, WordClass};

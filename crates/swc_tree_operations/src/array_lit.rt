@@ -12,7 +12,7 @@ use swc_tree_marks::Span;
 use swc_tree_node::{Kind, Node};
 
 /// An array literal, with elements left out where there is none (ECMA-262, ArrayLiteral).
-#[derive(Debug, Drop)]
+#[derive(Clone, Debug, Drop, PartialEq, Eq)]
 pub struct ArrayLit {
     pub span: Span,
     pub elems: Holes<class::ExprOrSpread>,

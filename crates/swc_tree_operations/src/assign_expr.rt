@@ -13,7 +13,7 @@ use swc_tree_marks::Span;
 use swc_tree_node::{Kind, Node};
 
 /// An assignment (ECMA-262, AssignmentExpression).
-#[derive(Debug, Drop)]
+#[derive(Clone, Debug, Drop, PartialEq, Eq)]
 pub struct AssignExpr {
     pub span: Span,
     pub op: AssignOp,

@@ -12,7 +12,7 @@ use swc_tree_marks::Span;
 use swc_tree_node::{Kind, Node};
 
 /// `await` (ECMA-262, AwaitExpression).
-#[derive(Debug, Drop)]
+#[derive(Clone, Debug, Drop, PartialEq, Eq)]
 pub struct AwaitExpr {
     pub span: Span,
     pub arg: Tree<class::Expr>,

@@ -13,7 +13,7 @@ use swc_tree_marks::Span;
 use swc_tree_node::{Kind, Node};
 
 /// Two operands and the operator between them (ECMA-262, 13.6 to 13.13).
-#[derive(Debug, Drop)]
+#[derive(Clone, Debug, Drop, PartialEq, Eq)]
 pub struct BinExpr {
     pub span: Span,
     pub op: BinaryOp,

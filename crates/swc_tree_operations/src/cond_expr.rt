@@ -12,7 +12,7 @@ use swc_tree_marks::Span;
 use swc_tree_node::{Kind, Node};
 
 /// A choice by a test (ECMA-262, ConditionalExpression).
-#[derive(Debug, Drop)]
+#[derive(Clone, Debug, Drop, PartialEq, Eq)]
 pub struct CondExpr {
     pub span: Span,
     pub test: Tree<class::Expr>,

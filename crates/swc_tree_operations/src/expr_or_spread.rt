@@ -12,7 +12,7 @@ use swc_tree_marks::Span;
 use swc_tree_node::{Kind, Node};
 
 /// An argument or element, after `...` where it stands for its elements (ECMA-262, ArgumentList).
-#[derive(Debug, Drop)]
+#[derive(Clone, Debug, Drop, PartialEq, Eq)]
 pub struct ExprOrSpread {
     pub spread: Option<Span>,
     pub expr: Tree<class::Expr>,

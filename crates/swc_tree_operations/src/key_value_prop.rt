@@ -11,7 +11,7 @@ use swc_tree_handle::{Opened, Tree, class, collect};
 use swc_tree_node::{Kind, Node};
 
 /// A key and its value (ECMA-262, PropertyDefinition).
-#[derive(Debug, Drop)]
+#[derive(Clone, Debug, Drop, PartialEq, Eq)]
 pub struct KeyValueProp {
     pub key: Tree<class::PropName>,
     pub value: Tree<class::Expr>,

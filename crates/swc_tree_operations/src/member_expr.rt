@@ -12,7 +12,7 @@ use swc_tree_marks::Span;
 use swc_tree_node::{Kind, Node};
 
 /// A property of an object (ECMA-262, MemberExpression).
-#[derive(Debug, Drop)]
+#[derive(Clone, Debug, Drop, PartialEq, Eq)]
 pub struct MemberExpr {
     pub span: Span,
     pub obj: Tree<class::Expr>,

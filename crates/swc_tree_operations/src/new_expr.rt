@@ -12,7 +12,7 @@ use swc_tree_marks::Span;
 use swc_tree_node::{Kind, Node};
 
 /// `new`, with arguments or without (ECMA-262, NewExpression).
-#[derive(Debug, Drop)]
+#[derive(Clone, Debug, Drop, PartialEq, Eq)]
 pub struct NewExpr {
     pub span: Span,
     pub callee: Tree<class::Expr>,

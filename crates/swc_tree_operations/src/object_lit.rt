@@ -12,7 +12,7 @@ use swc_tree_marks::Span;
 use swc_tree_node::{Kind, Node};
 
 /// An object literal (ECMA-262, ObjectLiteral).
-#[derive(Debug, Drop)]
+#[derive(Clone, Debug, Drop, PartialEq, Eq)]
 pub struct ObjectLit {
     pub span: Span,
     pub props: Trees<class::PropOrSpread>,

@@ -12,7 +12,7 @@ use swc_tree_marks::Span;
 use swc_tree_node::{Kind, Node};
 
 /// A call in an optional chain (ECMA-262, OptionalChain).
-#[derive(Debug, Drop)]
+#[derive(Clone, Debug, Drop, PartialEq, Eq)]
 pub struct OptCall {
     pub span: Span,
     pub callee: Tree<class::Expr>,

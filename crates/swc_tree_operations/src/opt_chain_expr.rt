@@ -12,7 +12,7 @@ use swc_tree_marks::Span;
 use swc_tree_node::{Kind, Node};
 
 /// A part of an optional chain; whether it begins with `?.` (ECMA-262, OptionalExpression).
-#[derive(Debug, Drop)]
+#[derive(Clone, Debug, Drop, PartialEq, Eq)]
 pub struct OptChainExpr {
     pub span: Span,
     pub optional: bool,

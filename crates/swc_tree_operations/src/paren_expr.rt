@@ -12,7 +12,7 @@ use swc_tree_marks::Span;
 use swc_tree_node::{Kind, Node};
 
 /// An expression in parentheses (ECMA-262, ParenthesizedExpression).
-#[derive(Debug, Drop)]
+#[derive(Clone, Debug, Drop, PartialEq, Eq)]
 pub struct ParenExpr {
     pub span: Span,
     pub expr: Tree<class::Expr>,

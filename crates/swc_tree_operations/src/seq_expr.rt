@@ -12,7 +12,7 @@ use swc_tree_marks::Span;
 use swc_tree_node::{Kind, Node};
 
 /// Expressions one after another (ECMA-262, Expression).
-#[derive(Debug, Drop)]
+#[derive(Clone, Debug, Drop, PartialEq, Eq)]
 pub struct SeqExpr {
     pub span: Span,
     pub exprs: Trees<class::Expr>,

@@ -12,7 +12,7 @@ use swc_tree_marks::Span;
 use swc_tree_node::{Kind, Node};
 
 /// The properties of another object (ECMA-262, PropertyDefinition).
-#[derive(Debug, Drop)]
+#[derive(Clone, Debug, Drop, PartialEq, Eq)]
 pub struct SpreadElement {
     pub dot3_token: Span,
     pub expr: Tree<class::Expr>,

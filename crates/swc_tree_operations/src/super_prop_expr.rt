@@ -13,7 +13,7 @@ use swc_tree_names::Super;
 use swc_tree_node::{Kind, Node};
 
 /// A property of `super` (ECMA-262, SuperProperty).
-#[derive(Debug, Drop)]
+#[derive(Clone, Debug, Drop, PartialEq, Eq)]
 pub struct SuperPropExpr {
     pub span: Span,
     pub obj: Super,

@@ -12,7 +12,7 @@ use swc_tree_marks::Span;
 use swc_tree_node::{Kind, Node};
 
 /// A template with a tag (ECMA-262, MemberExpression).
-#[derive(Debug, Drop)]
+#[derive(Clone, Debug, Drop, PartialEq, Eq)]
 pub struct TaggedTpl {
     pub span: Span,
     pub tag: Tree<class::Expr>,

@@ -12,7 +12,7 @@ use swc_tree_marks::Span;
 use swc_tree_node::{Kind, Node};
 
 /// A template: its expressions, and the texts round them (ECMA-262, TemplateLiteral).
-#[derive(Debug, Drop)]
+#[derive(Clone, Debug, Drop, PartialEq, Eq)]
 pub struct Tpl {
     pub span: Span,
     pub exprs: Trees<class::Expr>,

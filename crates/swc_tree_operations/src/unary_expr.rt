@@ -13,7 +13,7 @@ use swc_tree_marks::Span;
 use swc_tree_node::{Kind, Node};
 
 /// An operator before its operand (ECMA-262, UnaryExpression).
-#[derive(Debug, Drop)]
+#[derive(Clone, Debug, Drop, PartialEq, Eq)]
 pub struct UnaryExpr {
     pub span: Span,
     pub op: UnaryOp,

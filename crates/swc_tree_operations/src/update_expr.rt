@@ -13,7 +13,7 @@ use swc_tree_marks::Span;
 use swc_tree_node::{Kind, Node};
 
 /// An increment or decrement, before its operand or after it (ECMA-262, UpdateExpression).
-#[derive(Debug, Drop)]
+#[derive(Clone, Debug, Drop, PartialEq, Eq)]
 pub struct UpdateExpr {
     pub span: Span,
     pub op: UpdateOp,

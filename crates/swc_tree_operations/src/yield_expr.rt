@@ -12,7 +12,7 @@ use swc_tree_marks::Span;
 use swc_tree_node::{Kind, Node};
 
 /// `yield` (ECMA-262, YieldExpression).
-#[derive(Debug, Drop)]
+#[derive(Clone, Debug, Drop, PartialEq, Eq)]
 pub struct YieldExpr {
     pub span: Span,
     pub arg: Option<Tree<class::Expr>>,

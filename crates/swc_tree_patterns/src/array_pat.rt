@@ -12,7 +12,7 @@ use swc_tree_marks::Span;
 use swc_tree_node::{Kind, Node};
 
 /// A pattern of elements, some left out (ECMA-262, ArrayBindingPattern).
-#[derive(Debug, Drop)]
+#[derive(Clone, Debug, Drop, PartialEq, Eq)]
 pub struct ArrayPat {
     pub span: Span,
     pub elems: Holes<class::Pat>,

@@ -12,7 +12,7 @@ use swc_tree_marks::Span;
 use swc_tree_node::{Kind, Node};
 
 /// A pattern with a default (ECMA-262, BindingElement).
-#[derive(Debug, Drop)]
+#[derive(Clone, Debug, Drop, PartialEq, Eq)]
 pub struct AssignPat {
     pub span: Span,
     pub left: Tree<class::Pat>,

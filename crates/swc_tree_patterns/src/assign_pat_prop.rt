@@ -13,7 +13,7 @@ use swc_tree_names::BindingIdent;
 use swc_tree_node::{Kind, Node};
 
 /// A name that is both key and target, with its default (ECMA-262, SingleNameBinding).
-#[derive(Debug, Drop)]
+#[derive(Clone, Debug, Drop, PartialEq, Eq)]
 pub struct AssignPatProp {
     pub span: Span,
     pub key: BindingIdent,

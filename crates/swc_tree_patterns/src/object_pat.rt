@@ -12,7 +12,7 @@ use swc_tree_marks::Span;
 use swc_tree_node::{Kind, Node};
 
 /// A pattern of properties (ECMA-262, ObjectBindingPattern).
-#[derive(Debug, Drop)]
+#[derive(Clone, Debug, Drop, PartialEq, Eq)]
 pub struct ObjectPat {
     pub span: Span,
     pub props: Trees<class::ObjectPatProp>,

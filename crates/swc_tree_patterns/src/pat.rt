@@ -16,7 +16,7 @@ use swc_tree_names::BindingIdent;
 use swc_tree_node::{Kind, Node};
 
 /// What a value is bound or assigned to (ECMA-262, BindingPattern and AssignmentPattern).
-#[derive(Debug, Drop)]
+#[derive(Clone, Debug, Drop, PartialEq, Eq)]
 pub enum Pat {
     Ident(BindingIdent),
     Array(ArrayPat),

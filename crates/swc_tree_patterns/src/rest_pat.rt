@@ -12,7 +12,7 @@ use swc_tree_marks::Span;
 use swc_tree_node::{Kind, Node};
 
 /// What takes the rest (ECMA-262, BindingRestElement).
-#[derive(Debug, Drop)]
+#[derive(Clone, Debug, Drop, PartialEq, Eq)]
 pub struct RestPat {
     pub span: Span,
     pub arg: Tree<class::Pat>,

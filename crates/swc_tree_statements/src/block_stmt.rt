@@ -12,7 +12,7 @@ use swc_tree_marks::Span;
 use swc_tree_node::{Kind, Node};
 
 /// A block, or the body of a function (ECMA-262, Block and FunctionBody).
-#[derive(Debug, Drop)]
+#[derive(Clone, Debug, Drop, PartialEq, Eq)]
 pub struct BlockStmt {
     pub span: Span,
     pub stmts: Trees<class::Stmt>,

@@ -12,7 +12,7 @@ use swc_tree_handle::{Opened, Tree, class};
 use swc_tree_node::{Kind, Node};
 
 /// The body of an arrow function (ECMA-262, ConciseBody).
-#[derive(Debug, Drop)]
+#[derive(Clone, Debug, Drop, PartialEq, Eq)]
 pub enum BlockStmtOrExpr {
     BlockStmt(BlockStmt),
     Expr(Tree<class::Expr>),

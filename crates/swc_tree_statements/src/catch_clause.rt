@@ -12,7 +12,7 @@ use swc_tree_marks::Span;
 use swc_tree_node::{Kind, Node};
 
 /// What catches an exception (ECMA-262, Catch).
-#[derive(Debug, Drop)]
+#[derive(Clone, Debug, Drop, PartialEq, Eq)]
 pub struct CatchClause {
     pub span: Span,
     pub param: Option<Tree<class::Pat>>,

@@ -12,7 +12,7 @@ use swc_tree_marks::Ident;
 use swc_tree_node::{Kind, Node};
 
 /// A declaration of a class (ECMA-262, ClassDeclaration).
-#[derive(Debug, Drop)]
+#[derive(Clone, Debug, Drop, PartialEq, Eq)]
 pub struct ClassDecl {
     pub ident: Ident,
     pub class_: Tree<class::Class>,

@@ -15,7 +15,7 @@ use swc_tree_handle::{Opened, Tree, class};
 use swc_tree_node::{Kind, Node};
 
 /// A declaration (ECMA-262, Declaration and VariableStatement).
-#[derive(Debug, Drop)]
+#[derive(Clone, Debug, Drop, PartialEq, Eq)]
 pub enum Decl {
     Class(ClassDecl),
     Fn(FnDecl),

@@ -12,7 +12,7 @@ use swc_tree_marks::Span;
 use swc_tree_node::{Kind, Node};
 
 /// A `do` statement (ECMA-262, DoWhileStatement).
-#[derive(Debug, Drop)]
+#[derive(Clone, Debug, Drop, PartialEq, Eq)]
 pub struct DoWhileStmt {
     pub span: Span,
     pub body: Tree<class::Stmt>,

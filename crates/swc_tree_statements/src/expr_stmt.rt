@@ -12,7 +12,7 @@ use swc_tree_marks::Span;
 use swc_tree_node::{Kind, Node};
 
 /// An expression as a statement (ECMA-262, ExpressionStatement).
-#[derive(Debug, Drop)]
+#[derive(Clone, Debug, Drop, PartialEq, Eq)]
 pub struct ExprStmt {
     pub span: Span,
     pub expr: Tree<class::Expr>,

@@ -12,7 +12,7 @@ use swc_tree_marks::Ident;
 use swc_tree_node::{Kind, Node};
 
 /// A declaration of a function (ECMA-262, FunctionDeclaration).
-#[derive(Debug, Drop)]
+#[derive(Clone, Debug, Drop, PartialEq, Eq)]
 pub struct FnDecl {
     pub ident: Ident,
     pub function: Tree<class::Function>,

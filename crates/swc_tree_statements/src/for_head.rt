@@ -14,7 +14,7 @@ use swc_tree_node::{Kind, Node};
 use swc_tree_patterns::Pat;
 
 /// What a `for` statement assigns to or declares (ECMA-262, ForDeclaration).
-#[derive(Debug, Drop)]
+#[derive(Clone, Debug, Drop, PartialEq, Eq)]
 pub enum ForHead {
     VarDecl(VarDecl),
     UsingDecl(UsingDecl),

@@ -12,7 +12,7 @@ use swc_tree_marks::Span;
 use swc_tree_node::{Kind, Node};
 
 /// A `for` statement over keys (ECMA-262, ForInOfStatement).
-#[derive(Debug, Drop)]
+#[derive(Clone, Debug, Drop, PartialEq, Eq)]
 pub struct ForInStmt {
     pub span: Span,
     pub left: Tree<class::ForHead>,

@@ -12,7 +12,7 @@ use swc_tree_marks::Span;
 use swc_tree_node::{Kind, Node};
 
 /// A `for` statement (ECMA-262, ForStatement).
-#[derive(Debug, Drop)]
+#[derive(Clone, Debug, Drop, PartialEq, Eq)]
 pub struct ForStmt {
     pub span: Span,
     pub init: Option<Tree<class::VarDeclOrExpr>>,

@@ -12,7 +12,7 @@ use swc_tree_marks::Span;
 use swc_tree_node::{Kind, Node};
 
 /// An `if` statement (ECMA-262, IfStatement).
-#[derive(Debug, Drop)]
+#[derive(Clone, Debug, Drop, PartialEq, Eq)]
 pub struct IfStmt {
     pub span: Span,
     pub test: Tree<class::Expr>,

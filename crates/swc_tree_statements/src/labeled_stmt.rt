@@ -12,7 +12,7 @@ use swc_tree_marks::{Ident, Span};
 use swc_tree_node::{Kind, Node};
 
 /// A statement with a label (ECMA-262, LabelledStatement).
-#[derive(Debug, Drop)]
+#[derive(Clone, Debug, Drop, PartialEq, Eq)]
 pub struct LabeledStmt {
     pub span: Span,
     pub label: Ident,

@@ -12,7 +12,7 @@ use swc_tree_marks::Span;
 use swc_tree_node::{Kind, Node};
 
 /// A return statement (ECMA-262, ReturnStatement).
-#[derive(Debug, Drop)]
+#[derive(Clone, Debug, Drop, PartialEq, Eq)]
 pub struct ReturnStmt {
     pub span: Span,
     pub arg: Option<Tree<class::Expr>>,

@@ -27,7 +27,7 @@ use swc_tree_names::{BreakStmt, ContinueStmt, DebuggerStmt, EmptyStmt};
 use swc_tree_node::{Kind, Node};
 
 /// A statement or declaration (ECMA-262, StatementListItem).
-#[derive(Debug, Drop)]
+#[derive(Clone, Debug, Drop, PartialEq, Eq)]
 pub enum Stmt {
     Block(BlockStmt),
     Empty(EmptyStmt),

@@ -12,7 +12,7 @@ use swc_tree_marks::Span;
 use swc_tree_node::{Kind, Node};
 
 /// A case of a `switch`; the default has no test (ECMA-262, CaseClause and DefaultClause).
-#[derive(Debug, Drop)]
+#[derive(Clone, Debug, Drop, PartialEq, Eq)]
 pub struct SwitchCase {
     pub span: Span,
     pub test: Option<Tree<class::Expr>>,

@@ -12,7 +12,7 @@ use swc_tree_marks::Span;
 use swc_tree_node::{Kind, Node};
 
 /// A `switch` statement (ECMA-262, SwitchStatement).
-#[derive(Debug, Drop)]
+#[derive(Clone, Debug, Drop, PartialEq, Eq)]
 pub struct SwitchStmt {
     pub span: Span,
     pub discriminant: Tree<class::Expr>,

@@ -12,7 +12,7 @@ use swc_tree_marks::Span;
 use swc_tree_node::{Kind, Node};
 
 /// A throw statement (ECMA-262, ThrowStatement).
-#[derive(Debug, Drop)]
+#[derive(Clone, Debug, Drop, PartialEq, Eq)]
 pub struct ThrowStmt {
     pub span: Span,
     pub arg: Tree<class::Expr>,

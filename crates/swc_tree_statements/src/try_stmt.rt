@@ -12,7 +12,7 @@ use swc_tree_marks::Span;
 use swc_tree_node::{Kind, Node};
 
 /// A `try` statement (ECMA-262, TryStatement).
-#[derive(Debug, Drop)]
+#[derive(Clone, Debug, Drop, PartialEq, Eq)]
 pub struct TryStmt {
     pub span: Span,
     pub block: Tree<class::BlockStmt>,

@@ -14,7 +14,7 @@ use swc_tree_marks::Span;
 use swc_tree_node::{Kind, Node};
 
 /// Variables that are disposed of at the end of their scope.
-#[derive(Debug, Drop)]
+#[derive(Clone, Debug, Drop, PartialEq, Eq)]
 pub struct UsingDecl {
     pub span: Span,
     pub is_await: bool,

@@ -13,7 +13,7 @@ use swc_tree_marks::Span;
 use swc_tree_node::{Kind, Node};
 
 /// Variables that one keyword declares (ECMA-262, VariableStatement and LexicalDeclaration).
-#[derive(Debug, Drop)]
+#[derive(Clone, Debug, Drop, PartialEq, Eq)]
 pub struct VarDecl {
     pub span: Span,
     pub kind: VarDeclKind,

@@ -12,7 +12,7 @@ use swc_tree_handle::{Opened, Tree, class};
 use swc_tree_node::{Kind, Node};
 
 /// What a `for` statement begins with.
-#[derive(Debug, Drop)]
+#[derive(Clone, Debug, Drop, PartialEq, Eq)]
 pub enum VarDeclOrExpr {
     VarDecl(VarDecl),
     Expr(Tree<class::Expr>),

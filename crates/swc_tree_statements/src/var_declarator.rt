@@ -12,7 +12,7 @@ use swc_tree_marks::Span;
 use swc_tree_node::{Kind, Node};
 
 /// One declared variable or pattern, with its initializer (ECMA-262, VariableDeclaration and LexicalBinding).
-#[derive(Debug, Drop)]
+#[derive(Clone, Debug, Drop, PartialEq, Eq)]
 pub struct VarDeclarator {
     pub span: Span,
     pub name: Tree<class::Pat>,

@@ -12,7 +12,7 @@ use swc_tree_marks::Span;
 use swc_tree_node::{Kind, Node};
 
 /// A `while` statement (ECMA-262, WhileStatement).
-#[derive(Debug, Drop)]
+#[derive(Clone, Debug, Drop, PartialEq, Eq)]
 pub struct WhileStmt {
     pub span: Span,
     pub test: Tree<class::Expr>,

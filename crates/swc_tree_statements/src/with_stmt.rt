@@ -12,7 +12,7 @@ use swc_tree_marks::Span;
 use swc_tree_node::{Kind, Node};
 
 /// A `with` statement (ECMA-262, WithStatement).
-#[derive(Debug, Drop)]
+#[derive(Clone, Debug, Drop, PartialEq, Eq)]
 pub struct WithStmt {
     pub span: Span,
     pub obj: Tree<class::Expr>,
