@@ -134,7 +134,7 @@ mod tests {
     use std::test::Fail;
 
     #[test]
-    fn says_what_was_refused(rt: HostRuntime) -> Result<(), Fail> {
+    fn says_why_a_pass_refused(rt: HostRuntime) -> Result<(), Fail> {
         for (error, name, text) in [
             (PassError::NoMemory, "NoMemory", "no memory"),
             (PassError::MarksSpent, "MarksSpent", "marks are spent"),
@@ -144,6 +144,11 @@ mod tests {
             assert_eq!(rt; error.name(), name);
             assert_eq!(rt; format!(in rt.alloc(); "{error}")?.as_str(), text);
         }
+        Ok(())
+    }
+
+    #[test]
+    fn says_why_no_mark_was_made(rt: HostRuntime) -> Result<(), Fail> {
         for (error, text) in [
             (MarkError::NoMemory, "no memory"),
             (MarkError::MarksSpent, "marks are spent"),
@@ -152,10 +157,16 @@ mod tests {
             assert_eq!(rt; format!(in rt.alloc(); "{error}")?.as_str(), text);
         }
         assert_eq!(rt; format!(in rt.alloc(); "{NoMemory}")?.as_str(), "no memory");
-        let spent = PassError::from_fresh(MarkError::MarksSpent);
-        assert_eq!(rt; spent, PassError::MarksSpent);
+        Ok(())
+    }
+
+    #[test]
+    fn errors_become_one_another(rt: HostRuntime) {
+        assert_eq!(rt;
+            PassError::from_fresh(MarkError::MarksSpent),
+            PassError::MarksSpent
+        );
         assert_eq!(rt; PassError::from(NoMemory), PassError::NoMemory);
         assert_eq!(rt; MarkError::from(NoMemory), MarkError::NoMemory);
-        Ok(())
     }
 }

@@ -58,11 +58,16 @@ mod tests {
         hasher.finish()
     }
 
-    fn ident_of(alloc: Global, sym: &str, marks: &[u32]) -> Result<Ident, AllocError> {
+    fn context_of(alloc: Global, marks: &[u32]) -> Result<SyntaxContext, AllocError> {
         let mut ctxt = SyntaxContext::empty(alloc);
         for number in marks {
             ctxt.apply_mark(Mark::from_u32(*number))?;
         }
+        Ok(ctxt)
+    }
+
+    fn ident_of(alloc: Global, sym: &str, marks: &[u32]) -> Result<Ident, AllocError> {
+        let ctxt = context_of(alloc, marks)?;
         Ok(Ident {
             span: DUMMY_SP,
             ctxt,
@@ -70,19 +75,30 @@ mod tests {
         })
     }
 
+    fn has_marks(ctxt: &SyntaxContext, marks: &[u32]) -> bool {
+        let last = marks.last().copied().unwrap_or(0);
+        ctxt.outer().as_u32() == last
+            && ctxt.marks().len() == marks.len()
+            && ctxt
+                .marks()
+                .iter()
+                .zip(marks)
+                .all(|(mark, number)| mark.as_u32() == *number)
+    }
+
+    fn are_as_one(one: &Ident, other: &Ident) -> bool {
+        one == other
+            && hash_of(one) == hash_of(other)
+            && hash_of(&one.ctxt) == hash_of(&other.ctxt)
+            && hash_of(&one.sym) == hash_of(&other.sym)
+            && hash_of(&one.span) == hash_of(&other.span)
+    }
+
     #[test]
     fn gives_its_id(rt: HostRuntime) -> Result<(), Fail> {
         for marks in [[].as_slice(), &[1], &[1, 2, 3]] {
-            let ident = ident_of(rt.alloc(), "a", marks)?;
-            let (sym, ctxt) = ident.to_id()?;
-            assert_eq!(rt; sym.as_str(), "a");
-            let mut numbers = Vec::new(rt.alloc());
-            for mark in ctxt.marks() {
-                numbers.push(mark.as_u32())?;
-            }
-            assert_eq!(rt; numbers.as_slice(), marks);
-            let last = marks.last().copied().unwrap_or(0);
-            assert_eq!(rt; ctxt.outer().as_u32(), last);
+            let (sym, ctxt) = ident_of(rt.alloc(), "a", marks)?.to_id()?;
+            assert!(rt; sym.as_str() == "a" && has_marks(&ctxt, marks));
         }
         Ok(())
     }
@@ -92,16 +108,19 @@ mod tests {
         for marks in [[].as_slice(), &[1], &[1, 2, 3]] {
             let ident = ident_of(rt.alloc(), "a", marks)?;
             let copy = ident.clone()?;
-            assert!(rt; ident == copy);
-            assert_eq!(rt; hash_of(&ident), hash_of(&copy));
+            assert!(rt; are_as_one(&ident, &copy));
             assert_eq!(rt; hash_of(&ident.to_id()?), hash_of(&copy.to_id()?));
-            assert_eq!(rt; hash_of(&ident.ctxt), hash_of(&copy.ctxt));
-            assert_eq!(rt; hash_of(&ident.sym), hash_of(&copy.sym));
-            assert_eq!(rt; hash_of(&ident.span), hash_of(&copy.span));
         }
         assert_eq!(rt; hash_of(&Mark::default()), hash_of(&Mark::root()));
-        assert!(rt; ident_of(rt.alloc(), "a", &[1])? != ident_of(rt.alloc(), "a", &[2])?);
-        assert!(rt; ident_of(rt.alloc(), "a", &[1])? != ident_of(rt.alloc(), "b", &[1])?);
+        Ok(())
+    }
+
+    #[test]
+    fn other_texts_and_contexts_differ(rt: HostRuntime) -> Result<(), Fail> {
+        let ident = ident_of(rt.alloc(), "a", &[1])?;
+        for (sym, mark) in [("a", 2), ("b", 1)] {
+            assert!(rt; ident != ident_of(rt.alloc(), sym, &[mark])?);
+        }
         Ok(())
     }
 }
