@@ -3,3 +3,4 @@ pub mod Children
 pub mod Remarked
 pub mod First
 pub mod Program
+pub mod NameRows
