@@ -9,8 +9,6 @@ mod parts;
 mod place;
 mod slot;
 mod table;
-#[cfg(test)]
-mod tests;
 
 pub use copies::copy_nodes;
 pub use kind::{Class, Kind, Word, WordClass};

@@ -1,0 +1,5 @@
+//! Tests of the tree.
+#![tactic(auto)]
+
+#[cfg(test)]
+mod node;
