@@ -1,15 +1,15 @@
-//! Runs `jsbase resolve module` once, after so many requests for memory: whoever refuses the n-th request of this
-//! program, for one n and each number of requests before, so refuses each request of the run in turn
-//! (`tools/refuse_memory.py` does).
+//! Runs `jsbase` once, by the command and kind that are its arguments, after so many requests for memory: whoever
+//! refuses the n-th request of this program, for one n and each number of requests before, so refuses each request of
+//! the run in turn (`tools/refuse_memory.py` does).
 //!
 //! Standard input is three lines: how many requests are made first, an input, and what the run is to write with ample
 //! memory, to standard output or as a fault. Says which of the answers that are allowed it got.
 #![tactic(auto)]
 
 use anyhow::{Result, bail};
-use jsbase_engine::{Command, Fault, Kind, report, run};
+use jsbase_engine::{Fault, report, run, words};
 use std::alloc::{AllocError, Global};
-use std::fmt;
+use std::{env, fmt};
 use swc_tree_marks::PassError;
 
 /// What a run answered.
@@ -41,10 +41,22 @@ fn pieces(alloc: Global, count: usize) -> Result<Vec<Box<u8>>, AllocError> {
     Ok(pieces)
 }
 
+/// What the program writes, or why it writes nothing.
+fn output(alloc: Global, arguments: &[String], input: &str) -> Result<Vec<u8>, Fault> {
+    let (command, kind) = words(arguments)?;
+    run(alloc, command, kind, input.as_bytes())
+}
+
 /// What the run answers on an input. `line` has room for what is to be written, so that no request of its own is
 /// counted among those of the run.
-fn answered(alloc: Global, input: &str, expected: &str, mut line: Vec<u8>) -> Answer {
-    let written = match run(alloc, Command::Resolve, Kind::Module, input.as_bytes()) {
+fn answered(
+    alloc: Global,
+    arguments: &[String],
+    input: &str,
+    expected: &str,
+    mut line: Vec<u8>,
+) -> Answer {
+    let written = match output(alloc, arguments, input) {
         Ok(output) => output,
         Err(Fault::Refused(PassError::NoMemory)) => return Answer::Refused,
         Err(fault) => {
@@ -61,6 +73,10 @@ fn answered(alloc: Global, input: &str, expected: &str, mut line: Vec<u8>) -> An
 
 fn main(rt: HostRuntime) -> Result<()> {
     let alloc = rt.alloc();
+    let mut arguments = Vec::new(alloc);
+    for word in env::args(&rt)?.skip(1) {
+        arguments.push(word)?;
+    }
     let mut lines = rt.lines(alloc);
     let (Some(count), Some(input), Some(expected)) = (lines.next(), lines.next(), lines.next())
     else {
@@ -69,7 +85,13 @@ fn main(rt: HostRuntime) -> Result<()> {
     let (count, input, expected) = (count?, input?, expected?);
     let line = Vec::with_capacity(alloc, expected.len().saturating_add(1))?;
     let _pieces = pieces(alloc, count.parse()?)?;
-    let got = answered(alloc, input.as_str(), expected.as_str(), line);
+    let got = answered(
+        alloc,
+        arguments.as_slice(),
+        input.as_str(),
+        expected.as_str(),
+        line,
+    );
     println!(rt; "{got}")?;
     if let Answer::Other = got {
         bail!("the answer is neither the ample one nor a refusal");
