@@ -13,8 +13,6 @@ mod idle;
 mod pass;
 mod passes;
 pub mod table;
-#[cfg(test)]
-mod tests;
 mod version;
 
 pub use check::{Check, Checked, should_work};
