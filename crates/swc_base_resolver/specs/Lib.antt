@@ -1,1 +1,2 @@
+pub mod DeclKinds
 pub mod Visits

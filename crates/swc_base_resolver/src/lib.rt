@@ -3,10 +3,8 @@
 
 mod build;
 mod pass;
+pub mod scope;
 
 pub use build::resolver;
 pub use pass::Resolver;
 pub use swc_base_resolver_program::{marks_ok, resolve_program};
-
-#[cfg(test)]
-mod tests;

@@ -11,6 +11,3 @@ mod walk;
 
 pub use marks::marks_ok;
 pub use program::resolve_program;
-
-#[cfg(test)]
-mod tests;
