@@ -7,6 +7,3 @@ mod remover;
 
 pub use remover::{ParenRemover, paren_remover};
 pub use swc_base_fixer_unparen::{Comments, NoComments};
-
-#[cfg(test)]
-mod tests;

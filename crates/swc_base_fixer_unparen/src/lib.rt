@@ -15,6 +15,3 @@ pub use comments::{Comments, NoComments};
 pub use pass::{remove_parens, remove_parens_with};
 pub use stripping::strip;
 pub use targets::all_bare;
-
-#[cfg(test)]
-mod tests;
