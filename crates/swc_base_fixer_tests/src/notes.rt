@@ -2,8 +2,7 @@
 ghost use Rattle.std.specs.Prelude.{◌≡◌, ◌∷◌, ◌++◌, [], OnOk, OnErr};
 
 use std::alloc::Global;
-use swc_base_fixer::Comments;
-use swc_tree_grammar::Move;
+use swc_tree_comments::{Comments, Move};
 use swc_tree_items::Items;
 use swc_tree_marks::{BytePos, NoMemory};
 

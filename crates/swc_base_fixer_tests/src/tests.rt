@@ -5,7 +5,7 @@ use std::alloc::{AllocError, Global};
 use std::test::Fail;
 use swc_base_fixer::paren_remover;
 use swc_tree::{Globals, JsPass, Module, Opened, PassError, Script, Span};
-use swc_tree_grammar::Move;
+use swc_tree_comments::Move;
 use swc_tree_items::Items;
 use swc_tree_node::Class;
 
