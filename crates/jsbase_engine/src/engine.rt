@@ -10,8 +10,9 @@ use crate::fault::Fault;
 use jsbase_reader::{Envelope, ReadError, read_bytes};
 use jsbase_writer::write_envelope;
 use std::alloc::Global;
-use swc_base_fixer_unparen::{NoComments, remove_parens};
+use swc_base_fixer_unparen::remove_parens;
 use swc_base_resolver_program::resolve_program;
+use swc_tree_comments::NoComments;
 use swc_tree_marks::PassError;
 use swc_tree_node::Class;
 

@@ -2,7 +2,7 @@
 use Rattle.std.specs.Prelude.{List, Option, Some, None, Result}
 use Rattle.std.specs.Option.{option_map}
 use Rattle.std.specs.Borrow.{GName, MutBor}
-use Rattle.swc_tree_grammar.specs.declared.pairs.Move.{Move}
+use Rattle.swc_tree_comments.specs.declared.moves.Move.{Move}
 use Rattle.swc_base_fixer_unparen.specs.Moves.{Moving, Moved}
 
 -- of comments that are there, all moves were made where the call succeeded, and a beginning of them where it was refused

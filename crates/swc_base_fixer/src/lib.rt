@@ -6,7 +6,4 @@ mod pass;
 mod remover;
 
 pub use remover::{ParenRemover, paren_remover};
-pub use swc_base_fixer_unparen::{Comments, NoComments};
-
-#[cfg(test)]
-mod tests;
+pub use swc_tree_comments::{Comments, NoComments};

@@ -12,7 +12,8 @@ ghost use Rattle.swc_base_fixer.specs.Lent.{MovedBehind, reference};
 ghost use Rattle.swc_base_fixer.specs.Unparened.{IsRefusal};
 
 use std::alloc::Global;
-use swc_base_fixer_unparen::{Comments, NoComments, remove_parens, remove_parens_with};
+use swc_base_fixer_unparen::{remove_parens, remove_parens_with};
+use swc_tree_comments::{Comments, NoComments};
 use swc_tree_marks::PassError;
 use swc_tree_node::Node;
 

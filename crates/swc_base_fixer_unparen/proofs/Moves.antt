@@ -3,7 +3,7 @@ use Rattle.std.proofs.Common.{◌≡◌, ℕ, zero, suc, ◌+◌, ◌<◌, Resul
 use Rattle.std.specs.List.{flat_map}
 use Rattle.std.specs.Result.{IsErr}
 use Rattle.std.proofs.lemmas.List.{append-nil}
-use Rattle.swc_tree_grammar.specs.declared.pairs.Move.{Move}
+use Rattle.swc_tree_comments.specs.declared.moves.Move.{Move}
 use Rattle.swc_base_fixer_unparen.specs.Moves.{Moving, LeadTo, LeadPartlyTo, Moved}
 
 lead_on : {C : Type 0} (R : Moving C) (c d e : C) (ms ns : List Move) → LeadTo R c ms d → LeadTo R d ns e → LeadTo R c (ms ++ ns) e

@@ -2,7 +2,7 @@
 use Rattle.std.specs.Prelude.{◌≡◌, ◌⊎◌, List, [], ◌∷◌, ◌++◌, Option, Some, None, Result, Ok, Err}
 use Rattle.std.specs.Borrow.{MutBor}
 use Rattle.std.proofs.Common.{inl, inr}
-use Rattle.swc_tree_grammar.specs.declared.pairs.Move.{Move}
+use Rattle.swc_tree_comments.specs.declared.moves.Move.{Move}
 
 -- what one move may lead to
 abbrev pub Moving : Type 0 → Type 1

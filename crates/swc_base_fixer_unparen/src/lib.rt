@@ -11,10 +11,6 @@ mod stripping;
 mod targets;
 
 pub use blocks::add_blocks;
-pub use comments::{Comments, NoComments};
 pub use pass::{remove_parens, remove_parens_with};
 pub use stripping::strip;
 pub use targets::all_bare;
-
-#[cfg(test)]
-mod tests;

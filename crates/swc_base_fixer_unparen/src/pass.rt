@@ -10,11 +10,12 @@ ghost use Rattle.swc_tree_grammar.specs.Targets.{all_bare as bare};
 ghost use Rattle.swc_base_fixer_unparen.specs.Moves.{Moved, MovedIn};
 
 use crate::blocks::add_blocks;
-use crate::comments::{Comments, move_pairs};
+use crate::comments::move_pairs;
 use crate::pairs::pairs_of;
 use crate::stripping::strip;
 use crate::targets::all_bare;
 use std::alloc::Global;
+use swc_tree_comments::Comments;
 use swc_tree_marks::{NoMemory, PassError};
 use swc_tree_node::Node;
 

@@ -19,6 +19,7 @@ pub use check::{Check, Checked, should_work};
 pub use idle::Noop;
 pub use pass::JsPass;
 pub use passes::noop;
+pub use swc_tree_comments::{Comments, Move, NoComments};
 pub use swc_tree_ext::{
     AsOptExpr, ExprRefExt, StmtLike, find_pat_ids, is_use_strict, prepend_stmts,
 };

@@ -8,8 +8,8 @@ use Rattle.swc_tree_marks.specs.declared.span.Span.{Span as Range}
 use Rattle.swc_tree_node.specs.declared.node.Node.{Node, fold-Node, map-Node}
 use Rattle.swc_tree_node.specs.declared.node.Node.TheOpen.{Node-F}
 use Rattle.swc_tree_grammar.specs.declared.pairs.Pair.{Pair}
-use Rattle.swc_tree_grammar.specs.declared.pairs.Move.{Move}
-use Rattle.swc_tree_grammar.specs.declared.pairs.Move.TheVariants as move
+use Rattle.swc_tree_comments.specs.declared.moves.Move.{Move}
+use Rattle.swc_tree_comments.specs.declared.moves.Move.TheVariants as move
 use Rattle.swc_tree_grammar.specs.Shapes.{Paren, Assign, children_in}
 use Rattle.swc_tree_grammar.specs.Blocks.{span_step}
 

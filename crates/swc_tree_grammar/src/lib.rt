@@ -15,4 +15,4 @@
 
 mod pairs;
 
-pub use pairs::{Move, Pair};
+pub use pairs::Pair;
