@@ -8,6 +8,3 @@ mod pass;
 
 pub use pass::{RenameWith, remap, rename, rename_with_config};
 pub use swc_base_rename_substitution::{Config, Names, substitute};
-
-#[cfg(test)]
-mod tests;

@@ -34,13 +34,21 @@ abbrev exports_room : Option Content → Bool
 exports_room (Some c) = takes_exports c
 exports_room None = true
 
+-- what holds of the four kinds of declarations holds of each kind of their class
+of_declarations : (b : Kind → Bool) → IsTrue (b kind.ClassDecl) → IsTrue (b kind.FnDecl) → IsTrue (b kind.VarDecl) → IsTrue (b kind.UsingDecl) → (k : Kind) → IsTrue (belongs k class.Decl) → IsTrue (b k)
+of_declarations b c f v u kind.ClassDecl h = c
+of_declarations b c f v u kind.FnDecl h = f
+of_declarations b c f v u kind.VarDecl h = v
+of_declarations b c f v u kind.UsingDecl h = u
+of_declarations b c f v u k h = absurd (cc)
+
 declarations_wide : (c : Class) → (belongs kind.NamedExport c && (belongs kind.ClassDecl c && (belongs kind.FnDecl c && (belongs kind.VarDecl c && belongs kind.UsingDecl c)))) ≡ true
     → (k : Kind) → IsTrue (belongs k class.Decl) → IsTrue (belongs k c)
-declarations_wide c r kind.ClassDecl h = left _ _ (right (belongs kind.NamedExport c) _ r)
-declarations_wide c r kind.FnDecl h = left _ _ (right (belongs kind.ClassDecl c) _ (right (belongs kind.NamedExport c) _ r))
-declarations_wide c r kind.VarDecl h = left _ _ (right (belongs kind.FnDecl c) _ (right (belongs kind.ClassDecl c) _ (right (belongs kind.NamedExport c) _ r)))
-declarations_wide c r kind.UsingDecl h = right (belongs kind.VarDecl c) _ (right (belongs kind.FnDecl c) _ (right (belongs kind.ClassDecl c) _ (right (belongs kind.NamedExport c) _ r)))
-declarations_wide c r k h = absurd (cc)
+declarations_wide c r =
+    let classes = right (belongs kind.NamedExport c) _ r in
+    let functions = right (belongs kind.ClassDecl c) _ classes in
+    let variables = right (belongs kind.FnDecl c) _ functions in
+    of_declarations (λ k. belongs k c) (left _ _ classes) (left _ _ functions) (left _ _ variables) (right (belongs kind.VarDecl c) _ variables)
 
 declaration_fits : (y : Node-F Node) (u : Node) (s : Slot) → u ≡ roll-Node y → exports_room (single s) ≡ true → Fits u s → Fits (declaration_in u y) s
 declaration_fits (Node-F.Tree kind.ExportDecl (a ∷ d ∷ [])) u s e r h =

@@ -12,8 +12,6 @@ mod names;
 mod pass;
 mod place;
 mod substitution;
-#[cfg(test)]
-mod tests;
 mod unique;
 mod written_out;
 
