@@ -1,7 +1,6 @@
 //! The pass that takes parentheses off a program: `paren_remover`.
 #![tactic(auto)]
 
-mod empty;
 mod pass;
 mod remover;
 

@@ -9,11 +9,10 @@ ghost use Rattle.swc_base_fixer.specs.Lent.{MovedBehind, reference};
 ghost use Rattle.swc_base_fixer.specs.Unparened.{IsRefusal};
 ghost use Rattle.swc_base_fixer.specs.Visits.{Unparens, UnparensScript};
 
-use crate::empty::{empty_module, empty_script};
 use crate::remover::ParenRemover;
 use std::alloc::Global;
 use std::mem;
-use swc_tree::JsPass;
+use swc_tree::{JsPass, empty_module, empty_script};
 use swc_tree_comments::Comments;
 use swc_tree_handle::Trees;
 use swc_tree_marks::{Globals, PassError};

@@ -1,5 +1,5 @@
 //! The pass that gives names anew.
-ghost use Rattle.std.specs.Prelude.{◌≡◌, [], false, None, OnOk, OnErr, IfErr};
+ghost use Rattle.std.specs.Prelude.{◌≡◌, false, OnOk, OnErr, IfErr};
 ghost use Rattle.swc_tree.specs.Passes.{IsEmptied, IsEmptiedScript, IsExtended};
 ghost use Rattle.swc_base_rename_substitution.specs.Names.{new_id, by_text, by_id};
 ghost use Rattle.swc_base_rename.specs.Visits.{Renames, RenamesScript};
@@ -8,9 +8,9 @@ use std::alloc::Global;
 use std::collections::HashMap;
 use std::mem;
 use swc_base_rename_substitution::{Config, Names, substitute};
-use swc_tree::JsPass;
-use swc_tree_handle::{Opened, Trees};
-use swc_tree_marks::{Globals, Id, JsWord, PassError, Span};
+use swc_tree::{JsPass, empty_module, empty_script};
+use swc_tree_handle::Opened;
+use swc_tree_marks::{Globals, Id, JsWord, PassError};
 use swc_tree_modules::{Module, Script};
 
 /// Gives the names of a program anew, as a map says. The pass borrows the map.
@@ -101,27 +101,5 @@ impl JsPass for RenameWith<'_> {
         let answer = substitute(alloc, &names, &config, node)?;
         *program = Script::from_node(answer);
         Ok(())
-    }
-}
-
-// A program of a span, with no item and no `#!` line.
-fn empty_module(alloc: Global, span: Span) -> Module
-    ensures { result ≡ record { span = span; body = []; shebang = None } }
-{
-    Module {
-        span,
-        body: Trees::new(alloc),
-        shebang: None,
-    }
-}
-
-// A program of a span, with no item and no `#!` line.
-fn empty_script(alloc: Global, span: Span) -> Script
-    ensures { result ≡ record { span = span; body = []; shebang = None } }
-{
-    Script {
-        span,
-        body: Trees::new(alloc),
-        shebang: None,
     }
 }

@@ -1,5 +1,5 @@
 //! The resolver as a pass.
-ghost use Rattle.std.specs.Prelude.{◌≡◌, ◌≢◌, ◌+◌, ◌-◌, ◌<◌, [], None, OnOk, OnErr, IfErr, IsErrOf};
+ghost use Rattle.std.specs.Prelude.{◌≡◌, ◌≢◌, ◌+◌, ◌-◌, ◌<◌, OnOk, OnErr, IfErr, IsErrOf};
 ghost use Rattle.swc_tree_marks.specs.Globals.{greatest};
 ghost use Rattle.swc_tree_scoping.specs.Places.{program_place};
 ghost use Rattle.swc_tree_scoping.specs.Scopes.{scope_count};
@@ -12,9 +12,9 @@ use std::alloc::Global;
 use std::marker::Model;
 use std::mem;
 use swc_base_resolver_program::resolve_program;
-use swc_tree::JsPass;
-use swc_tree_handle::{Opened, Trees};
-use swc_tree_marks::{Globals, Mark, PassError, Span};
+use swc_tree::{JsPass, empty_module, empty_script};
+use swc_tree_handle::Opened;
+use swc_tree_marks::{Globals, Mark, PassError};
 use swc_tree_modules::{Module, Script};
 
 /// The resolver of programs whose top mark and whose mark of names that nothing declares are these. Contracts see
@@ -107,27 +107,5 @@ impl JsPass for Resolver {
         let answer = resolve_program(alloc, globals, *unresolved_mark, *top_level_mark, node)?;
         *program = Script::from_node(answer);
         Ok(())
-    }
-}
-
-// A program of a span, with no item and no `#!` line.
-fn empty_module(alloc: Global, span: Span) -> Module
-    ensures { result ≡ record { span = span; body = []; shebang = None } }
-{
-    Module {
-        span,
-        body: Trees::new(alloc),
-        shebang: None,
-    }
-}
-
-// A program of a span, with no item and no `#!` line.
-fn empty_script(alloc: Global, span: Span) -> Script
-    ensures { result ≡ record { span = span; body = []; shebang = None } }
-{
-    Script {
-        span,
-        body: Trees::new(alloc),
-        shebang: None,
     }
 }

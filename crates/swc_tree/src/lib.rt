@@ -9,6 +9,7 @@
 #![tactic(auto)]
 
 mod check;
+mod empty;
 mod idle;
 mod pass;
 mod passes;
@@ -16,6 +17,7 @@ pub mod table;
 mod version;
 
 pub use check::{Check, Checked, should_work};
+pub use empty::{empty_module, empty_script};
 pub use idle::Noop;
 pub use pass::JsPass;
 pub use passes::noop;
