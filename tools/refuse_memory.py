@@ -1,10 +1,13 @@
 #!/usr/bin/env python3
-"""refuse_memory.py [NUMBER [FILE]]: refuses each request for memory of a run of `jsbase resolve module` in turn.
+"""refuse_memory.py CRATE [NUMBER [FILE [WORD..]]]: refuses each request for memory of a program's work in turn.
 
-The run is that of crates/jsbase_refusals on the input in FILE, or in the crate's `stdin`. The toolchain's `rt try`
-refuses one request, of the number given (4000, if left out), in each of many cases, and each case makes another number
-of requests before the run: so one build serves all cases. Each answer must be `refused: NoMemory` or the one with ample
-memory; any other ends with status 1. The last line says how many requests were refused, and what the answers were."""
+CRATE is `jsbase_refusals`, which runs `jsbase`, `rename_all`, which renames the names of a module, or another program
+that takes three lines: a count, an input, and what comes of it with ample memory. It is run on the last two of FILE, or
+of the crate's `stdin`, with each WORD as an argument, or with the words of the crate's `args`. The toolchain's `rt try` refuses one
+request, of the number given (4000, if left out), in each of many cases, and each case has the program make another
+number of requests before its work: so one build serves all cases. Each answer must be `refused: NoMemory` or the one
+with ample memory; any other ends with status 1. The last line says how many requests were refused, and what the answers
+were."""
 import os
 import re
 import subprocess
@@ -12,11 +15,21 @@ import sys
 import tempfile
 
 ROOT = os.path.dirname(os.path.dirname(os.path.abspath(__file__)))
-CRATE = os.path.join(ROOT, 'crates', 'jsbase_refusals')
 STEP = 100
 
 
-def answers(number, file, counts):
+def words_of(crate):
+    """The program's arguments: those given, or those of a run of the gate."""
+    if len(sys.argv) > 4:
+        return ['--', *sys.argv[4:]]
+    file = os.path.join(crate, 'args')
+    if not os.path.exists(file):
+        return []
+    with open(file, encoding='utf-8') as words:
+        return ['--', *words.read().splitlines()]
+
+
+def answers(crate, number, file, counts):
     """What the program says for each count of requests before the run, where the request of that number is refused.
 
     A program that got no memory for its own work before the run says nothing, and 'none' stands for it."""
@@ -27,8 +40,8 @@ def answers(number, file, counts):
             with open(os.path.join(folder, '%06d' % count), 'w') as case:
                 case.write('%d\n%s\n%s\n' % (count, text, ample))
         # The interpreter, the other of the two runners of `rt try`, does not know all that the program calls.
-        words = ['rt', 'try', '--steps', '1', '--fail-alloc', str(number), '--cases', folder]
-        ran = subprocess.run(words, cwd=CRATE, capture_output=True, text=True)
+        words = ['rt', 'try', '--steps', '1', '--fail-alloc', str(number), '--cases', folder, *words_of(crate)]
+        ran = subprocess.run(words, cwd=crate, capture_output=True, text=True)
     said = {}
     for part in re.split(r'^== ', ran.stdout, flags=re.M)[1:]:
         name, _, output = part.partition('\n')
@@ -41,14 +54,15 @@ def answers(number, file, counts):
 
 
 def main():
-    number = int(sys.argv[1]) if len(sys.argv) > 1 else 4000
-    file = sys.argv[2] if len(sys.argv) > 2 else os.path.join(CRATE, 'stdin')
-    coarse = answers(number, file, range(0, number + STEP, STEP))
+    crate = os.path.join(ROOT, 'crates', sys.argv[1])
+    number = int(sys.argv[2]) if len(sys.argv) > 2 else 4000
+    file = sys.argv[3] if len(sys.argv) > 3 else os.path.join(crate, 'stdin')
+    coarse = answers(crate, number, file, range(0, number + STEP, STEP))
     if coarse[0] != 'ample':
         sys.exit('the run makes more requests than %d: give a greater number' % number)
     first = min(count for count in coarse if coarse[count] != 'ample') - STEP
     last = max(count for count in coarse if coarse[count] != 'none') + STEP
-    fine = answers(number, file, range(first, last))
+    fine = answers(crate, number, file, range(first, last))
     within = range(min(c for c, a in fine.items() if a == 'refused'), max(c for c, a in fine.items() if a != 'none') + 1)
     others = [count for count in fine if fine[count] not in ('ample', 'refused', 'none')]
     others += [count for count in within if fine[count] == 'none']

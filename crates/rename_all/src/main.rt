@@ -1,65 +1,31 @@
 //! Gives every name of a script's tree a new text: what substitution is measured by.
 //!
 //! Standard input is an envelope with a tree of the goal Script. The argument says how far to go: `write` only reads
-//! and writes it, `name` also makes a map from each id to a new text, and `rename` renames by it.
+//! and writes it, `name` also makes a map from each id to a new text, and `rename` renames by it. With `refused` the
+//! input is that of `refusals`.
 #![tactic(auto)]
+
+mod names;
+mod refusals;
 
 use anyhow::{Result, bail};
 use jsbase_reader::read_bytes;
 use jsbase_writer::write_envelope;
-use std::alloc::Global;
+use names::name_all;
 use std::collections::HashMap;
 use std::env;
 use std::io::{Read, Write};
 use swc_base_rename_substitution::{Config, Names, substitute};
-use swc_tree_items::Text;
-use swc_tree_marks::{Id, Ident, JsWord, NoMemory};
-use swc_tree_node::{Class, Node};
-
-// Gives an identifier's id a new text, unless it has one.
-fn name_identifier(
-    alloc: Global,
-    ident: &Ident,
-    map: &mut HashMap<Id, JsWord>,
-) -> Result<(), NoMemory> {
-    let id = ident.to_id()?;
-    if !map.contains_key(&id) {
-        let count = map.len();
-        let text = format!(in alloc; "v{count}")?;
-        map.insert(id, Text::from_string(text))?;
-    }
-    Ok(())
-}
-
-// Gives the id of each identifier of a tree a new text.
-#[cycle(names)]
-fn name_all(alloc: Global, node: &Node, map: &mut HashMap<Id, JsWord>) -> Result<(), NoMemory> {
-    match node {
-        Node::Identifier(_, ident) => {
-            name_identifier(alloc, ident.get(), map)?;
-            Ok(())
-        }
-        Node::List(nodes) | Node::Tree(_, nodes) => {
-            name_each(alloc, nodes.as_slice(), map)?;
-            Ok(())
-        }
-        _ => Ok(()),
-    }
-}
-
-#[cycle(names)]
-fn name_each(alloc: Global, nodes: &[Node], map: &mut HashMap<Id, JsWord>) -> Result<(), NoMemory> {
-    for node in nodes {
-        name_all(alloc, node, map)?;
-    }
-    Ok(())
-}
+use swc_tree_node::Class;
 
 fn main(rt: HostRuntime) -> Result<()> {
     let alloc = rt.alloc();
     let Some(word) = env::args(&rt)?.nth(1) else {
-        bail!("usage: rename_all write|name|rename");
+        bail!("usage: rename_all write|name|rename|refused");
     };
+    if word.as_str() == "refused" {
+        return refusals::run(&rt);
+    }
     let mut input = Vec::new(alloc);
     rt.stdin().read_to_end(&mut input)?;
     let Ok(envelope) = read_bytes(alloc, Class::Script, input.as_slice()) else {
