@@ -101,6 +101,18 @@ fn add_own_table(
     }
 }
 
+/// Tables of so many scopes, which take no name yet.
+pub fn empty_tables(alloc: Global, count: usize) -> Result<Vec<ScopeNames>, AllocError>
+    ensures size { IfOk result (λ tables. length tables.items ≡ count) }
+    ensures empty { IfOk result (λ tables. AreEmpty tables.items) }
+{
+    let mut tables = Vec::new(alloc);
+    for made in 0..count {
+        tables.push(ScopeNames::new(alloc))?;
+    }
+    Ok(tables)
+}
+
 /// Adds what a walk over a program looks for to the tables of the scopes, the scopes from the front.
 pub fn gather_program(
     alloc: Global,

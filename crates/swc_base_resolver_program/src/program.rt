@@ -8,7 +8,7 @@ ghost use Rattle.swc_tree_scoping.specs.Scopes.{scope_count};
 ghost use Rattle.swc_tree_scoping.specs.Resolved.{Resolved};
 ghost use Rattle.swc_base_resolver_program.specs.Marked.{IsRefusal, MarksOk, OnlyContexts};
 
-use crate::collect::{Stage, gather_program, scope_tables};
+use crate::collect::{Stage, empty_tables, gather_program, scope_tables};
 use crate::lookup::{Declarations, Names};
 use crate::marks::marks_of;
 use crate::walk::{Answers, is_script, write_contexts};
@@ -45,8 +45,9 @@ pub fn resolve_program(
 {
     let mut bound = scope_tables(alloc, &program)?;
     gather_program(alloc, Stage::Bind, &program, &mut bound)?;
-    let bound = Names::new(bound.as_slice());
-    let mut reached = scope_tables(alloc, &program)?;
+    let bound_names = bound.as_slice();
+    let mut reached = empty_tables(alloc, bound_names.len())?;
+    let bound = Names::new(bound_names);
     gather_program(alloc, Stage::Settle(bound), &program, &mut reached)?;
     let reached_names = reached.as_slice();
     let reached = Names::new(reached_names);
