@@ -87,17 +87,44 @@ const PAIRS: [(&str, &str, &[Move]); 3] = [
     ),
 ];
 
+/// Whether the pass leaves that of a statement, in a module and in a script, and asks for those moves.
+fn leaves(alloc: Global, given: &str, left: &str, moves: &[Move]) -> Result<bool, ReadError> {
+    let (answer, program, made) = unparened(alloc, given, moves.len())?;
+    let (script_answer, script_made) = unparened_script(alloc, given, moves.len())?;
+    Ok(
+        answer == Ok(())
+            && program == module(alloc, left)?
+            && made.as_slice() == moves
+            && script_answer == Ok(script(alloc, left)?)
+            && script_made.as_slice() == moves,
+    )
+}
+
+/// Whether the pass refuses a statement so, with nothing left of the program, after those moves.
+fn refuses(
+    alloc: Global,
+    given: &str,
+    error: PassError,
+    moves: &[Move],
+) -> Result<bool, ReadError> {
+    let (answer, program, made) = unparened(alloc, given, moves.len())?;
+    let (script_answer, script_made) = unparened_script(alloc, given, moves.len())?;
+    Ok(
+        answer == Err(error)
+            && program.span == Span { lo: 0, hi: 10 }
+            && program.body.is_empty()
+            && program.shebang.is_none()
+            && made.as_slice() == moves
+            && script_answer == Err(error)
+            && script_made.as_slice() == moves,
+    )
+}
+
 #[test]
 fn comments_move_to_what_stays(rt: HostRuntime) -> Result<(), Fail> {
     let alloc = rt.alloc();
     for (given, left, moves) in PAIRS {
-        let (answer, program, made) = unparened(alloc, given, moves.len())?;
-        assert_eq!(rt; answer, Ok(()), "{given}");
-        assert_eq!(rt; program, module(alloc, left)?, "{given}");
-        assert_eq!(rt; made.as_slice(), moves, "{given}");
-        let (answer, made) = unparened_script(alloc, given, moves.len())?;
-        assert_eq!(rt; answer, Ok(script(alloc, left)?), "{given}");
-        assert_eq!(rt; made.as_slice(), moves, "{given}");
+        assert!(rt; leaves(alloc, given, left, moves)?, "{given}");
     }
     Ok(())
 }
@@ -106,14 +133,9 @@ fn comments_move_to_what_stays(rt: HostRuntime) -> Result<(), Fail> {
 fn a_refused_move_ends_the_pass(rt: HostRuntime) -> Result<(), Fail> {
     let alloc = rt.alloc();
     for (given, _, moves) in PAIRS {
-        for room in 0..moves.len() {
-            let (answer, program, made) = unparened(alloc, given, room)?;
-            assert_eq!(rt; answer, Err(PassError::NoMemory), "{given}");
-            assert!(rt;
-                program.body.is_empty() && program.shebang.is_none(),
-                "{given}"
-            );
-            assert_eq!(rt; made.as_slice(), &moves[..room], "{given}");
+        for made in 0..moves.len() {
+            let refused = refuses(alloc, given, PassError::NoMemory, &moves[..made])?;
+            assert!(rt; refused, "move {made} of {given}");
         }
     }
     Ok(())
@@ -134,16 +156,8 @@ fn targets_that_take_no_value_are_refused(rt: HostRuntime) -> Result<(), Fail> {
         let statement = format!(in alloc;
             r#"{{"type":"ExprStmt","span":[0,0],"expr":{{"type":"AssignExpr","span":[0,0],"op":"=","left":{{"type":"ParenExpr","span":[0,0],"expr":{target}}},"right":{{"type":"Number","span":[0,0],"text":"1"}}}}}}"#
         )?;
-        let (answer, program, made) = unparened(alloc, statement.as_str(), 4)?;
-        assert_eq!(rt; answer, Err(PassError::NotAssignable), "{target}");
-        assert_eq!(rt; program.span, Span { lo: 0, hi: 10 }, "{target}");
-        assert!(rt;
-            program.body.is_empty() && program.shebang.is_none(),
-            "{target}"
-        );
-        assert!(rt; made.is_empty(), "{target}");
-        let (answer, _) = unparened_script(alloc, statement.as_str(), 4)?;
-        assert_eq!(rt; answer.err(), Some(PassError::NotAssignable), "{target}");
+        let refused = refuses(alloc, statement.as_str(), PassError::NotAssignable, &[])?;
+        assert!(rt; refused, "{target}");
     }
     Ok(())
 }
