@@ -6,7 +6,5 @@
 #![tactic(auto)]
 
 mod path;
-#[cfg(test)]
-mod tests;
 
 pub use path::{FaultPath, Step};

@@ -8,8 +8,6 @@ mod envelope;
 mod error;
 mod leaves;
 mod nodes;
-#[cfg(test)]
-mod tests;
 
 pub use envelope::{Envelope, read_bytes, read_envelope};
 pub use error::ReadError;

@@ -6,8 +6,6 @@
 
 mod envelope;
 mod nodes;
-#[cfg(test)]
-mod tests;
 
 pub use envelope::write_envelope;
 pub use nodes::write;

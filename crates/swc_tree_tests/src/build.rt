@@ -7,14 +7,21 @@ use swc_tree::{
     BindingIdent, DUMMY_SP, ExprStmt, Ident, Number, Opened, Str, SyntaxContext, Text, Tree, class,
 };
 
-/// What a look at an opened node says. The type stays open here, since the proof of a function with a local of a wide
-/// sum is dear.
-pub fn seen<C: Syntax, T: Opened<C> + Drop, F: Fn(&T) -> bool>(tree: Tree<C>, look: F) -> bool
+/// What a look at an opened node says. The node is closed again, so that no proof here has to follow a wide sum.
+pub fn seen<C: Syntax, T: Opened<C>, R, F: Fn(&T) -> R>(
+    alloc: Global,
+    tree: Tree<C>,
+    look: F,
+) -> Result<(R, Tree<C>), AllocError>
+where
+    R: Drop,
     requires class { T.class ≡ C.class }
     requires look { F.IsAlwaysCallable look }
 {
     let opened: T = tree.open();
-    look(&opened)
+    let answer = look(&opened);
+    let closed = opened.close(alloc)?;
+    Ok((answer, closed))
 }
 
 pub fn ident(alloc: Global, text: &str) -> Result<Ident, AllocError> {

@@ -1,11 +1,12 @@
 //! Trees 200 nodes deep, through each call.
 use crate::build::{binding, name_statement, reference, string_statement};
+use crate::pats::ids_of;
 use crate::programs::{HasItems, Nothing};
 use crate::stmts::is_strict;
 use std::alloc::{AllocError, Global};
 use swc_tree::{
     ArrayPat, BlockStmt, DUMMY_SP, Globals, Holes, JsPass, Module, NoMemory, Node, Opened,
-    ParenExpr, Pat, Tree, Trees, class, find_pat_ids, noop, prepend_stmts, should_work,
+    ParenExpr, Tree, Trees, class, noop, prepend_stmts, should_work,
 };
 
 const DEPTH: usize = 200;
@@ -92,8 +93,7 @@ fn expressions_are_copied_and_compared(rt: HostRuntime) -> Result<(), AllocError
 
 #[test]
 fn patterns_bind(rt: HostRuntime) -> Result<(), NoMemory> {
-    let pat: Pat = deep_pat(rt.alloc())?.open();
-    let ids = find_pat_ids(rt.alloc(), &pat)?;
+    let ids = ids_of(rt.alloc(), deep_pat(rt.alloc())?)?;
     assert_eq!(rt; ids.len(), 1);
     for id in &ids {
         assert_eq!(rt; id.0.as_str(), "x");
@@ -112,7 +112,7 @@ fn statements_go_after_directives(rt: HostRuntime) -> Result<(), NoMemory> {
     prepend_stmts(&mut stmts, more)?;
     assert_eq!(rt; stmts.len(), 2);
     assert!(rt; stmts.pop() == Some(deep.clone()?));
-    assert!(rt; !is_strict(deep));
+    assert!(rt; !is_strict(alloc, deep)?);
     Ok(())
 }
 

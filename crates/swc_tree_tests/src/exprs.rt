@@ -21,13 +21,11 @@ fn operation(
     Ok(operation.close(alloc)?.widen())
 }
 
-fn is_sum(tree: Tree<class::Expr>) -> bool {
-    seen::<class::Expr, Expr, _>(tree, |opened| match opened {
-        Expr::Bin(sum) => sum.op == BinaryOp::Add
-            && sum.left.kind() == Kind::Ident
-            && sum.right.kind() == Kind::BinExpr,
+fn is_sum(sum: &Expr) -> bool {
+    match sum {
+        Expr::Bin(sum) => sum.op == BinaryOp::Add && sum.left.kind() == Kind::Ident,
         _ => false,
-    })
+    }
 }
 
 /// `a + b * c` opens to a sum.
@@ -42,13 +40,22 @@ fn opens_expressions(rt: HostRuntime) -> Result<(), AllocError> {
     let product = operation(alloc, BinaryOp::Mul, b, c)?;
     let sum = operation(alloc, BinaryOp::Add, a, product.clone()?)?;
     assert_eq!(rt; sum.kind(), Kind::BinExpr);
-    assert!(rt; is_sum(sum));
-    assert!(rt; !is_sum(product));
+    let (is_sum, closed) = seen::<class::Expr, Expr, _, _>(
+        alloc,
+        sum.clone()?,
+        |opened| is_sum(opened),
+    )?;
+    assert!(rt; is_sum && closed == sum);
     Ok(())
 }
 
-fn opens_to_a_name(tree: Tree<class::Expr>) -> bool {
-    seen::<class::Expr, Expr, _>(tree, |opened| opened.as_ident().is_some())
+fn opens_to_a_name(alloc: Global, tree: Tree<class::Expr>) -> Result<bool, AllocError> {
+    let (answer, _) = seen::<class::Expr, Expr, _, _>(
+        alloc,
+        tree,
+        |opened| opened.as_ident().is_some(),
+    )?;
+    Ok(answer)
 }
 
 /// A handle is a name where its node is one, as an opened expression is.
@@ -57,10 +64,10 @@ fn knows_names(rt: HostRuntime) -> Result<(), AllocError> {
     let alloc = rt.alloc();
     let name = reference(alloc, "a")?;
     assert!(rt; matches!(name.as_ident(), Some(ident) if ident.sym.as_str() == "a"));
-    assert!(rt; opens_to_a_name(name));
+    assert!(rt; opens_to_a_name(alloc, name)?);
     let number = number(alloc, "1")?;
     assert!(rt; number.as_ident().is_none());
-    assert!(rt; !opens_to_a_name(number));
+    assert!(rt; !opens_to_a_name(alloc, number)?);
     Ok(())
 }
 

@@ -1,9 +1,10 @@
 //! The names that patterns bind.
-use crate::build::{binding, ident, reference};
+use crate::build::{binding, ident, reference, seen};
 use std::alloc::{AllocError, Global};
 use swc_tree::{
-    ArrayPat, AssignPat, AssignPatProp, BindingIdent, DUMMY_SP, Holes, IdentName, KeyValuePatProp,
-    NoMemory, ObjectPat, Opened, Pat, RestPat, Text, Tree, Trees, class, find_pat_ids,
+    ArrayPat, AssignPat, AssignPatProp, BindingIdent, DUMMY_SP, Holes, Id, IdentName,
+    KeyValuePatProp, NoMemory, ObjectPat, Opened, Pat, RestPat, Text, Tree, Trees, class,
+    find_pat_ids,
 };
 
 /// `[c = d, ...e]`
@@ -53,21 +54,28 @@ fn property(alloc: Global) -> Result<Tree<class::ObjectPatProp>, AllocError> {
 }
 
 /// `{ a, b: [c = d, ...e] }`
-fn pattern(alloc: Global) -> Result<Pat, AllocError> {
+fn pattern(alloc: Global) -> Result<Tree<class::Pat>, AllocError> {
     let mut props = Trees::new(alloc);
     props.push(shorthand(alloc)?)?;
     props.push(property(alloc)?)?;
-    Ok(Pat::Object(ObjectPat {
+    let object = ObjectPat {
         span: DUMMY_SP,
         props,
-    }))
+    };
+    Ok(object.close(alloc)?.widen())
+}
+
+/// What a closed pattern binds.
+pub fn ids_of(alloc: Global, pat: Tree<class::Pat>) -> Result<Vec<Id>, NoMemory> {
+    let (ids, _) = seen::<class::Pat, Pat, _, _>(alloc, pat, |opened| find_pat_ids(alloc, opened))?;
+    ids
 }
 
 /// Keys and defaults bind nothing.
 #[test]
 fn finds_pattern_ids(rt: HostRuntime) -> Result<(), NoMemory> {
     let alloc = rt.alloc();
-    let ids = find_pat_ids(alloc, &pattern(alloc)?)?;
+    let ids = ids_of(alloc, pattern(alloc)?)?;
     assert_eq!(rt; ids.len(), 3);
     for (id, name) in ids.iter().zip(["a", "c", "e"]) {
         assert_eq!(rt; id.0.as_str(), name);

@@ -24,17 +24,22 @@ fn prepends_after_directives(rt: HostRuntime) -> Result<(), NoMemory> {
 }
 
 /// Whether a closed statement is the directive.
-pub fn is_strict(stmt: Tree<class::Stmt>) -> bool {
-    seen::<class::Stmt, Stmt, _>(stmt, |opened| is_use_strict(opened))
+pub fn is_strict(alloc: Global, stmt: Tree<class::Stmt>) -> Result<bool, AllocError> {
+    let (answer, _) = seen::<class::Stmt, Stmt, _, _>(alloc, stmt, |opened| is_use_strict(opened))?;
+    Ok(answer)
 }
 
 #[test]
 fn knows_use_strict(rt: HostRuntime) -> Result<(), AllocError> {
     let alloc = rt.alloc();
     for (text, want) in [("use strict", true), ("use  strict", false)] {
-        assert_eq!(rt; is_strict(string_statement(alloc, text)?), want, "{text}");
+        assert_eq!(rt;
+            is_strict(alloc, string_statement(alloc, text)?)?,
+            want,
+            "{text}"
+        );
     }
-    assert!(rt; !is_strict(name_statement(alloc, "x")?));
+    assert!(rt; !is_strict(alloc, name_statement(alloc, "x")?)?);
     Ok(())
 }
 

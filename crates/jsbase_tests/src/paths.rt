@@ -1,4 +1,5 @@
-use crate::{FaultPath, Step};
+//! Paths to faults, as text.
+use jsbase_form::{FaultPath, Step};
 use std::test::Fail;
 
 #[test]
