@@ -107,8 +107,7 @@ fn writes_holes_and_pairs(rt: HostRuntime) -> Result<(), Fail> {
             "{\"span\":[0,0],\"src\":{\"raw\":\"'\\\\x61'\",\"span\":[0,0],\"type\":\"Str\",\"value\":\"a\"},\"type\":\"ExportAll\",\"with\":[[\"a\",\"b\"],[\"c\",\"\"]]}",
         ),
     ] {
-        let value = write(alloc, tree)?;
-        assert_eq!(rt; value.to_string(alloc)?.as_str(), want);
+        assert_eq!(rt; write(alloc, &tree)?.as_str(), want);
     }
     Ok(())
 }
@@ -118,7 +117,7 @@ fn writes_an_envelope(rt: HostRuntime) -> Result<(), Fail> {
     let alloc = rt.alloc();
     let globals = Globals::from_table(alloc, &[(1, 0), (2, 1)])?;
     let tree = module(alloc)?;
-    let text = write_envelope(alloc, &globals, Mark::from_u32(2), tree, Mark::from_u32(1))?;
+    let text = write_envelope(alloc, &globals, Mark::from_u32(2), &tree, Mark::from_u32(1))?;
     let want =
         "{\"marks\":[[1,0],[2,1]],\"top\":2,\"tree\":{\"body\":[{\"expr\":{\"left\":{\"ctxt\":[2],\"span\":[5,6],\"sym\":\"a\",\"type\":\"Ident\"},\"op\":\"+\",\"right\":{\"raw\":null,\"span\":[7,8],\"type\":\"Str\",\"value\":\"x\\\"\"},\"span\":[5,8],\"type\":\"BinExpr\"},\"span\":[5,9],\"type\":\"ExprStmt\"}],\"shebang\":null,\"span\":[3,9],\"type\":\"Module\"},\"unresolved\":1}\n";
     assert_eq!(rt; text.as_str(), want);
@@ -130,7 +129,7 @@ fn written_envelopes_read_back(rt: HostRuntime) -> Result<(), Fail> {
     let alloc = rt.alloc();
     let globals = Globals::from_table(alloc, &[(1, 0), (2, 1)])?;
     let tree = module(alloc)?;
-    let text = write_envelope(alloc, &globals, Mark::from_u32(2), tree, Mark::from_u32(1))?;
+    let text = write_envelope(alloc, &globals, Mark::from_u32(2), &tree, Mark::from_u32(1))?;
     let Ok(
         Envelope {
             globals,
@@ -143,7 +142,7 @@ fn written_envelopes_read_back(rt: HostRuntime) -> Result<(), Fail> {
     else {
         panic!(rt; "the envelope was not read");
     };
-    let again = write_envelope(alloc, &globals, top, tree, unresolved)?;
+    let again = write_envelope(alloc, &globals, top, &tree, unresolved)?;
     assert_eq!(rt; again.as_str(), text.as_str());
     Ok(())
 }
