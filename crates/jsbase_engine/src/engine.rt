@@ -85,7 +85,7 @@ fn resolve(alloc: Global, envelope: Envelope) -> Result<String, PassError>
         ..
     } = envelope;
     let resolved = resolve_program(alloc, &mut globals, unresolved, top, tree)?;
-    let text = write_envelope(alloc, &globals, top, resolved, unresolved)?;
+    let text = write_envelope(alloc, &globals, top, &resolved, unresolved)?;
     Ok(text)
 }
 
@@ -101,6 +101,6 @@ fn unparen(alloc: Global, envelope: Envelope) -> Result<String, PassError>
         ..
     } = envelope;
     let bare = remove_parens(alloc, None::<&mut NoComments>, tree)?;
-    let text = write_envelope(alloc, &globals, top, bare, unresolved)?;
+    let text = write_envelope(alloc, &globals, top, &bare, unresolved)?;
     Ok(text)
 }

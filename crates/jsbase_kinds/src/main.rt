@@ -71,7 +71,7 @@ fn read_and_written(
     value: Value,
 ) -> Result<String, AllocError> {
     match read(alloc, globals, value, Slot::One(Content::Node(class))) {
-        Ok(node) => write(alloc, node)?.to_string(alloc),
+        Ok(node) => write(alloc, &node),
         Err(ReadError::Fault(path)) => path.to_text(alloc),
         Err(ReadError::NoMemory) => String::from_str(alloc, "no memory"),
     }

@@ -31,7 +31,7 @@ fn reads_an_envelope(rt: HostRuntime) -> Result<(), Fail> {
     assert_eq!(rt; globals.table(), [(1, 0), (2, 1)].as_slice());
     assert_eq!(rt; (unresolved.as_u32(), top.as_u32()), (1, 2));
     assert_eq!(rt; (keep_class_names, ignore_eval), (false, true));
-    let written = write_envelope(alloc, &globals, top, tree, unresolved)?;
+    let written = write_envelope(alloc, &globals, top, &tree, unresolved)?;
     assert_eq!(rt; written.as_str().strip_suffix("\n"), Some(WRITTEN));
     Ok(())
 }

@@ -1,6 +1,7 @@
-pub mod Heights
-pub mod Written
-pub mod Floats
-pub mod Short
 pub mod Line
+pub mod Places
+pub mod Rests
+pub mod Outlines
+pub mod Trees
 pub mod Back
+pub mod Tokens

@@ -1,11 +1,13 @@
 //! Writing syntax trees as JSON.
 //!
-//! What a tree is written as stands in `jsbase_form`. Texts are moved into the JSON value, and the
-//! parts of the tree are let go as they are written.
+//! What a tree is written as stands in `jsbase_form`. The text is written straight from the tree, which
+//! is only read.
 #![tactic(auto)]
 
 mod envelope;
+mod members;
 mod nodes;
+mod numbers;
 
 pub use envelope::write_envelope;
 pub use nodes::write;

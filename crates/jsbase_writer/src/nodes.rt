@@ -1,173 +1,124 @@
 //! Writing nodes.
-ghost use Rattle.std.specs.Prelude.{◌≡◌, IfOk, OnOk, IsTrue, map};
-ghost use Rattle.serde_json.specs.Data.{put, string};
-ghost use Rattle.serde_json.specs.View.{view, items_view, members_view, items_of};
-ghost use Rattle.jsbase_form.specs.Known.{ReadsAs, NumbersShort, numbers_short, all_of, all_keyed, span_short, marks_short, ident_short};
-ghost use Rattle.jsbase_form.specs.Writing.{json, natural, numbers_json, span_json, typed, ident_json, fields_put};
+ghost use Rattle.std.specs.Prelude.{◌≡◌, ◌≤◌, [], ◌++◌, Some, IfOk, OnOk, IsTrue, map, string_bytes};
+ghost use Rattle.json.specs.Lex.{tokens};
+ghost use Rattle.json.specs.Print.{print};
+ghost use Rattle.serde_json.specs.Data.{depth};
+ghost use Rattle.serde_json.specs.Read.{read, max_depth};
+ghost use Rattle.serde_json.specs.View.{items_of};
+ghost use Rattle.serde_json.specs.Written.{compact_text};
+ghost use Rattle.jsbase_form.specs.Known.{ReadsAs, NumbersShort, numbers_short, all_of, ident_short};
+ghost use Rattle.jsbase_form.specs.Writing.{json, ident_json};
+ghost use Rattle.jsbase_writer.specs.Members.{members_data, MembersShort};
+ghost use Rattle.jsbase_writer.specs.Tokens.{tokens_of, tokens_of_items, tokens_of_members};
 
-use serde_json::{Map, Value};
+use crate::members::{Member, Part, members_of};
+use crate::numbers::{write_marks, write_pair};
+use json::Writer;
 use std::alloc::{AllocError, Global};
-use swc_tree_marks::{Ident, Mark, Span};
-use swc_tree_node::{Field, Kind, Node, fields_of, name_of, spelling_of};
+use swc_tree_marks::Ident;
+use swc_tree_node::{Kind, Node, name_of, spelling_of};
 
-pub(crate) fn write_numbers(alloc: Global, numbers: &[u32]) -> Result<Vec<Value>, AllocError>
-    ensures values { IfOk result (λ values. items_view values.items ≡ items_of (map natural numbers.now)) }
-    ensures short { IfOk result (λ _. IsTrue (marks_short numbers.now)) }
+fn write_ident(out: &mut Writer, kind: Kind, ident: &Ident) -> Result<(), AllocError>
+    ensures written { OnOk result (out.new.tokens ≡ out.old.tokens ++ tokens_of (ident_json kind ident.now)) }
+    ensures before { OnOk result (out.new.before ≡ out.old.before) }
+    ensures short { OnOk result (IsTrue (ident_short ident.now)) }
 {
-    let mut values = Vec::with_capacity(alloc, numbers.len())?;
-    for number in numbers {
-        values.push(Value::from(u64::from(*number)))?;
-    }
-    Ok(values)
-}
-
-fn write_span(alloc: Global, span: Span) -> Result<Value, AllocError>
-    ensures value { IfOk result (λ value. view value ≡ span_json span) }
-    ensures short { IfOk result (λ _. IsTrue (span_short span)) }
-{
-    let ends = write_numbers(alloc, &[span.lo, span.hi])?;
-    Ok(Value::Array(ends))
-}
-
-fn write_marks(alloc: Global, marks: &[Mark]) -> Result<Vec<Value>, AllocError>
-    ensures values { IfOk result (λ values. items_view values.items ≡ items_of (map natural marks.now)) }
-    ensures short { IfOk result (λ _. IsTrue (marks_short marks.now)) }
-{
-    let mut values = Vec::with_capacity(alloc, marks.len())?;
-    for mark in marks {
-        values.push(Value::from(u64::from(mark.as_u32())))?;
-    }
-    Ok(values)
-}
-
-fn write_text(alloc: Global, text: &str) -> Result<Value, AllocError>
-    ensures { IfOk result (λ value. view value ≡ string text.now) }
-{
-    let text = String::from_str(alloc, text)?;
-    Ok(Value::String(text))
-}
-
-/// Puts a value at a key.
-pub(crate) fn put_value(
-    alloc: Global,
-    members: &mut Map<String, Value>,
-    key: &str,
-    value: Value,
-) -> Result<(), AllocError>
-    ensures { OnOk result (members_view members.new.entries
-        ≡ put key.now (view value) (members_view members.old.entries)) }
-{
-    let key = String::from_str(alloc, key)?;
-    drop(members.insert(key, value)?);
+    out.begin_object()?;
+    out.key("ctxt")?;
+    write_marks(out, ident.ctxt.marks())?;
+    out.key("span")?;
+    write_pair(out, ident.span.lo, ident.span.hi)?;
+    out.key("sym")?;
+    out.string(ident.sym.as_str())?;
+    out.key("type")?;
+    out.string(name_of(kind))?;
+    out.end_object()?;
     Ok(())
 }
 
-/// The member that names the kind.
-fn typed_members(alloc: Global, kind: Kind) -> Result<Map<String, Value>, AllocError>
-    ensures { IfOk result (λ members. members_view members.entries ≡ typed kind) }
+/// The text that was written.
+pub(crate) fn text_of(out: Writer) -> String
+    requires { out.before ≡ [] }
+    ensures text { string_bytes result ≡ print out.tokens }
+    ensures reads_back { tokens (string_bytes result) ≡ out.tokens }
 {
-    let mut members = Map::new(alloc);
-    let name = write_text(alloc, name_of(kind))?;
-    put_value(alloc, &mut members, "type", name)?;
-    Ok(members)
+    match String::from_utf8(out.into_inner()) {
+        Ok(text) => text,
+        Err(_) => unreachable!(),
+    }
 }
 
-fn write_ident(alloc: Global, kind: Kind, ident: Ident) -> Result<Value, AllocError>
-    ensures value { IfOk result (λ value. view value ≡ ident_json kind ident) }
-    ensures short { IfOk result (λ _. IsTrue (ident_short ident)) }
-{
-    let mut members = typed_members(alloc, kind)?;
-    let span = write_span(alloc, ident.span)?;
-    put_value(alloc, &mut members, "span", span)?;
-    let marks = write_marks(alloc, ident.ctxt.marks())?;
-    put_value(alloc, &mut members, "ctxt", Value::Array(marks))?;
-    put_value(
-        alloc,
-        &mut members,
-        "sym",
-        Value::String(ident.sym.into_string()),
-    )?;
-    Ok(Value::Object(members))
-}
-
-/// The JSON value of a tree.
+/// The JSON text of a tree.
 ///
-/// Nothing is copied: texts are moved into the value, and the parts of the tree are let go as they are
-/// written. The time is in step with the tree's size, but for putting members into an object, which
-/// costs the logarithm of how many there are.
+/// The tree is only read. Memory is taken for the text, and for the members of the objects that the
+/// writer is in. The time is in step with the tree's size, but for putting members into the order of
+/// their keys, which costs the square of how many there are.
 ///
 /// # Errors
 ///
 /// Where memory is refused.
-#[tactic(auto, using(jsbase_form::proofs::RoundTrip::reads_as))]
-pub fn write(alloc: Global, tree: Node) -> Result<Value, AllocError>
-    ensures value { IfOk result (λ value. view value ≡ json tree) }
-    ensures reads_back { IfOk result (λ value. ReadsAs (view value) tree) }
+pub fn write(alloc: Global, tree: &Node) -> Result<String, AllocError>
+    ensures text { IfOk result (λ text. string_bytes text ≡ compact_text (json tree.now)) }
+    ensures value { IfOk result (λ text. depth (json tree.now) ≤ max_depth → read (string_bytes text) ≡ Some (json tree.now)) }
+    ensures reads_back { IfOk result (λ _. ReadsAs (json tree.now) tree.now) }
 {
-    let value = write_value(alloc, tree)?;
-    Ok(value)
+    let mut out = Writer::new(Vec::new(alloc));
+    write_value(alloc, &mut out, tree)?;
+    Ok(text_of(out))
 }
 
 #[cycle(write)]
-fn write_value(alloc: Global, node: Node) -> Result<Value, AllocError>
-    ensures value { IfOk result (λ value. view value ≡ json node) }
-    ensures short { IfOk result (λ _. NumbersShort node) }
+pub(crate) fn write_value(alloc: Global, out: &mut Writer, node: &Node) -> Result<(), AllocError>
+    ensures written { OnOk result (out.new.tokens ≡ out.old.tokens ++ tokens_of (json node.now)) }
+    ensures before { OnOk result (out.new.before ≡ out.old.before) }
+    ensures short { OnOk result (NumbersShort node.now) }
 {
     match node {
-        Node::Absent => Ok(Value::Null),
-        Node::Flag(flag) => Ok(Value::Bool(flag)),
-        Node::Word(word) => {
-            let spelling = write_text(alloc, spelling_of(word))?;
-            Ok(spelling)
-        }
-        Node::Text(text) => Ok(Value::String(text.into_string())),
-        Node::Span(span) => {
-            let ends = write_span(alloc, span)?;
-            Ok(ends)
-        }
+        Node::Absent => out.null()?,
+        Node::Flag(flag) => out.boolean(*flag)?,
+        Node::Word(word) => out.string(spelling_of(*word))?,
+        Node::Text(text) => out.string(text.as_str())?,
+        Node::Span(span) => write_pair(out, span.lo, span.hi)?,
         Node::List(nodes) => {
-            let values = write_all(alloc, nodes.into_vec())?;
-            Ok(Value::Array(values))
+            out.begin_array()?;
+            write_all(alloc, out, nodes.as_slice())?;
         }
-        Node::Identifier(kind, ident) => {
-            let value = write_ident(alloc, kind, ident.into_inner())?;
-            Ok(value)
-        }
-        Node::Tree(kind, fields) => {
-            let members = typed_members(alloc, kind)?;
-            let members = write_fields(alloc, fields_of(kind), fields.into_vec(), members)?;
-            Ok(Value::Object(members))
+        Node::Identifier(kind, ident) => write_ident(out, *kind, ident.get())?,
+        Node::Tree(kind, nodes) => {
+            let members = members_of(alloc, *kind, nodes.as_slice())?;
+            out.begin_object()?;
+            write_members(alloc, out, members.as_slice())?;
         }
     }
+    Ok(())
 }
 
 #[cycle(write)]
-fn write_all(alloc: Global, nodes: Vec<Node>) -> Result<Vec<Value>, AllocError>
-    ensures values { IfOk result (λ values. items_view values.items ≡ items_of (map json nodes.items)) }
-    ensures short { IfOk result (λ _. IsTrue (all_of (map numbers_short nodes.items))) }
+fn write_all(alloc: Global, out: &mut Writer, nodes: &[Node]) -> Result<(), AllocError>
+    ensures written { OnOk result (out.new.tokens ≡ out.old.tokens ++ tokens_of_items (items_of (map json nodes.now))) }
+    ensures before { OnOk result (out.new.before ≡ out.old.before) }
+    ensures short { OnOk result (IsTrue (all_of (map numbers_short nodes.now))) }
 {
-    let mut values = Vec::with_capacity(alloc, nodes.len())?;
     for node in nodes {
-        let value = write_value(alloc, node)?;
-        values.push(value)?;
+        write_value(alloc, out, node)?;
     }
-    Ok(values)
+    out.end_array()?;
+    Ok(())
 }
 
 #[cycle(write)]
-fn write_fields(
-    alloc: Global,
-    fields: &[Field],
-    nodes: Vec<Node>,
-    mut members: Map<String, Value>,
-) -> Result<Map<String, Value>, AllocError>
-    ensures members { IfOk result (λ written. members_view written.entries
-        ≡ fields_put (map (λ f. (f.key.now, f.slot, f.role)) fields.now) (map json nodes.items) (members_view members.entries)) }
-    ensures short { IfOk result (λ _. IsTrue (all_keyed (map (λ f. (f.key.now, f.slot, f.role)) fields.now) (map numbers_short nodes.items))) }
+fn write_members(alloc: Global, out: &mut Writer, members: &[Member<'_>]) -> Result<(), AllocError>
+    ensures written { OnOk result (out.new.tokens ≡ out.old.tokens ++ tokens_of_members (members_data members.now)) }
+    ensures before { OnOk result (out.new.before ≡ out.old.before) }
+    ensures short { OnOk result (MembersShort members.now) }
 {
-    for (field, node) in fields.iter().zip(nodes) {
-        let value = write_value(alloc, node)?;
-        put_value(alloc, &mut members, field.key, value)?;
+    for member in members {
+        out.key(member.key)?;
+        match member.part {
+            Part::Name(kind) => out.string(name_of(kind))?,
+            Part::Node(node) => write_value(alloc, out, node)?,
+        }
     }
-    Ok(members)
+    out.end_object()?;
+    Ok(())
 }

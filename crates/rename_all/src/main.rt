@@ -43,7 +43,7 @@ fn main(rt: HostRuntime) -> Result<()> {
         alloc,
         &envelope.globals,
         envelope.top,
-        tree,
+        &tree,
         envelope.unresolved,
     )?;
     rt.stdout().write_all(text.as_bytes())?;

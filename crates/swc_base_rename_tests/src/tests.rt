@@ -6,6 +6,7 @@ use crate::rows::{
 };
 use jsbase_reader::read;
 use jsbase_writer::write;
+use serde_json::Value;
 use std::alloc::Global;
 use std::collections::HashMap;
 use std::process::Abort;
@@ -72,7 +73,8 @@ fn visit_script(
 // What a pass makes of a module of these items, which is written and read so that it is known to fit.
 fn in_module(pass: &Pass, alloc: Global, items: &str) -> Result<Node, Fail> {
     let mut globals = globals(alloc)?;
-    let value = write(alloc, program(alloc, Kind::Module, items)?)?;
+    let text = write(alloc, &program(alloc, Kind::Module, items)?)?;
+    let value = Value::from_str(alloc, text.as_str())?;
     let node = read(
         alloc,
         &globals,
@@ -87,7 +89,8 @@ fn in_module(pass: &Pass, alloc: Global, items: &str) -> Result<Node, Fail> {
 // The same of a script.
 fn in_script(pass: &Pass, alloc: Global, items: &str) -> Result<Node, Fail> {
     let mut globals = globals(alloc)?;
-    let value = write(alloc, program(alloc, Kind::Script, items)?)?;
+    let text = write(alloc, &program(alloc, Kind::Script, items)?)?;
+    let value = Value::from_str(alloc, text.as_str())?;
     let node = read(
         alloc,
         &globals,

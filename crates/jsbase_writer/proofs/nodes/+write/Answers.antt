@@ -1,29 +1,93 @@
-use Rattle.std.proofs.Common.{inl, inr, sym, ◌∙◌}
-use Rattle.serde_json.specs.View.{view, members_view}
-use Rattle.jsbase_writer.proofs.Heights.{rest_within}
-use Rattle.jsbase_writer.proofs.Written.{field_put, no_fields, no_nodes}
-use Rattle.jsbase_writer.proofs.Short.{field_short, no_fields_short, no_nodes_short}
+use Rattle.std.proofs.Common.{◌≡◌, ◌+◌, [], ◌∷◌, ◌++◌, drop, map, sym, ap, ◌∙◌, subst, arith}
+use Rattle.std.proofs.lemmas.List.{drop_more, drop_all}
+use Rattle.json.specs.Token.{string}
+use Rattle.serde_json.specs.View.{items_of}
+use Rattle.swc_tree_node.specs.Table.{fields_of}
+use Rattle.jsbase_form.specs.Writing.{json, typed, fields_put}
+use Rattle.jsbase_writer.specs.Members.{part_data, members_data, PartShort}
+use Rattle.jsbase_writer.specs.Tokens.{tokens_of, tokens_of_items}
+use Rattle.jsbase_writer.proofs.Tokens.{name_written, absent_written, flag_written, word_written, text_written, list_written, tree_written, item_written, array_closed, member_more, no_member}
+use Rattle.jsbase_writer.proofs.Rests.{nodes_within, nodes_short, members_within, members_short}
 use Rattle.jsbase_writer.proofs.nodes.+write.Goals as goal
+use Rattle.jsbase_writer.proofs.nodes.+write.Goals.{write_members-in-Name+in_ok-string-in-Name, write_members-in-Node+in_ok-write_value-in-Node}
 
-pub write_fields-loop-field-preserved : goal.write_fields-loop-field-preserved
-write_fields-loop-field-preserved t c =
-    let i = c.loop-field.field-iterator in
-    let steps = c.in-Some.ensures.steps in (
-      field_put i.a.rest.now _ c.in-Some.field.now i.b.rest.items _ c.in-Some.node (view c.in_ok-value.value) (members_view c.loop-field.members.entries) _ _ c.loop-field.invariant.0 steps.0 steps.1.0 c.in_ok-value.ensures.value c.in_ok-put_value.ensures,
-      rest_within i.b.rest.items _ c.in-Some.node _ steps.1.0 c.loop-field.invariant.1,
-      λ later. c.loop-field.invariant.2 (field_short i.a.rest.now _ c.in-Some.field.now i.b.rest.items _ c.in-Some.node steps.0 steps.1.0 c.in_ok-value.ensures.short later),
+pub write_all-loop-node-preserved : goal.write_all-loop-node-preserved
+write_all-loop-node-preserved t c =
+    let ts = c.args.nodes.now in
+    let i = c.loop-node.node-index in
+    let node = c.node-item.result in
+    let done = c.in_ok-write_value.ensures in
+    let here : drop i ts ≡ node ∷ drop (i + 1) ts = drop_more ts i node (omega arith) ∙ ap (λ t. t ∷ drop (i + 1) ts) (sym c.node-item.is) in (
+      item_written (map json (drop i ts)) (map json (drop (i + 1) ts)) (json node) _ _ _ c.loop-node.invariant.0 (ap (map json) here) done.written,
+      done.before ∙ c.loop-node.invariant.1,
+      nodes_within (drop i ts) (drop (i + 1) ts) node ts here c.loop-node.invariant.2,
+      λ rest. c.loop-node.invariant.3 (nodes_short (drop i ts) (drop (i + 1) ts) node here done.short rest),
     )
 
-pub write_fields-returns : goal.write_fields-returns
-write_fields-returns t c =
-    let i = c.loop-field.field-iterator in
-    elim c.in-None.ensures.steps [
-      | inl done ↦ record {
-        members = sym (c.loop-field.invariant.0 ∙ no_fields i.a.rest.now _ _ done.1.0);
-        short = c.loop-field.invariant.2 (no_fields_short i.a.rest.now _ done.1.0);
-      }
-      | inr done ↦ record {
-        members = sym (c.loop-field.invariant.0 ∙ no_nodes i.a.rest.now i.b.rest.items _ (sym i.b.rest.ok.0 ∙ done.1.0));
-        short = c.loop-field.invariant.2 (no_nodes_short i.a.rest.now i.b.rest.items (sym i.b.rest.ok.0 ∙ done.1.0));
-      }
-    ]
+pub write_all-returns-clause-written : goal.write_all-returns-clause-written
+write_all-returns-clause-written t c =
+    let ts = c.args.nodes.now in
+    let i = c.loop-node.node-index in
+    array_closed (map json (drop i ts)) _ _ _ c.loop-node.invariant.0 (ap (map json) (drop_all i ts (omega arith))) c.in_ok-end_array.ensures.ok
+
+pub write_members-loop-member-preserved : goal.write_members-loop-member-preserved
+write_members-loop-member-preserved t c =
+    let ms = c.args.members.now in
+    let i = c.loop-member.member-index in
+    let m = c.member-item.result in
+    let here : drop i ms ≡ m ∷ drop (i + 1) ms = drop_more ms i m (omega arith) ∙ ap (λ m. m ∷ drop (i + 1) ms) (sym c.member-item.is) in
+    let step : (c.match-member.out.tokens ≡ c.key.new.self.tokens ++ tokens_of (part_data m.part)) × (c.match-member.out.before ≡ c.key.new.self.before) × PartShort m.part = elim c.match-member.branch [
+      | write_members-in-Name+in_ok-string-in-Name b ↦
+          let name = b.in_ok-string-in-Name.ensures.ok ∙ ap (λ s. c.key.new.self.tokens ++ string s ∷ []) b.name_of.ensures in
+          rw b.out-is (
+            name ∙ ap (λ ts. c.key.new.self.tokens ++ ts) (sym (name_written m.part b.in-Name.kind b.in-Name.is)),
+            b.in_ok-string-in-Name.ensures.room.0,
+            subst PartShort (sym b.in-Name.is) tt,
+          )
+      | write_members-in-Node+in_ok-write_value-in-Node b ↦
+          let done = b.in_ok-write_value-in-Node.ensures in
+          rw b.out-is (
+            done.written ∙ ap (λ p. c.key.new.self.tokens ++ tokens_of (part_data p)) (sym b.in-Node.is),
+            done.before,
+            subst PartShort (sym b.in-Node.is) done.short,
+          )
+    ] in (
+      member_more (drop i ms) (drop (i + 1) ms) m _ _ _ _ c.loop-member.invariant.0 here c.in_ok-key.ensures.ok step.0,
+      step.1 ∙ c.in_ok-key.ensures.room.0 ∙ c.loop-member.invariant.1,
+      members_within (drop i ms) (drop (i + 1) ms) m ms here c.loop-member.invariant.2,
+      λ rest. c.loop-member.invariant.3 (members_short (drop i ms) (drop (i + 1) ms) m here step.2 rest),
+    )
+
+pub write_members-returns-clause-written : goal.write_members-returns-clause-written
+write_members-returns-clause-written t c =
+    no_member (drop c.loop-member.member-index c.args.members.now) _ _ _ c.loop-member.invariant.0 (drop_all c.loop-member.member-index c.args.members.now (omega arith)) c.in_ok-end_object.ensures.ok
+
+pub write_value-returns-in_ok-null-in-Absent-clause-written : goal.write_value-returns-in_ok-null-in-Absent-clause-written
+write_value-returns-in_ok-null-in-Absent-clause-written t c =
+    c.in_ok-null-in-Absent.ensures.ok ∙ ap (λ ts. c.args.out.now.tokens ++ ts) (sym (absent_written c.args.node.now c.in-Absent.is))
+
+pub write_value-returns-in_ok-boolean-in-Flag-clause-written : goal.write_value-returns-in_ok-boolean-in-Flag-clause-written
+write_value-returns-in_ok-boolean-in-Flag-clause-written t c =
+    c.in_ok-boolean-in-Flag.ensures.ok ∙ ap (λ ts. c.args.out.now.tokens ++ ts) (sym (flag_written c.args.node.now _ c.in-Flag.is))
+
+pub write_value-returns-in_ok-string-in-Word-clause-written : goal.write_value-returns-in_ok-string-in-Word-clause-written
+write_value-returns-in_ok-string-in-Word-clause-written t c =
+    c.in_ok-string-in-Word.ensures.ok ∙ ap (λ s. c.args.out.now.tokens ++ string s ∷ []) c.spelling_of.ensures
+    ∙ ap (λ ts. c.args.out.now.tokens ++ ts) (sym (word_written c.args.node.now _ c.in-Word.is))
+
+pub write_value-returns-in_ok-string-in-Text-clause-written : goal.write_value-returns-in_ok-string-in-Text-clause-written
+write_value-returns-in_ok-string-in-Text-clause-written t c =
+    c.in_ok-string-in-Text.ensures.ok ∙ ap (λ s. c.args.out.now.tokens ++ string s ∷ []) c.as_str.ensures
+    ∙ ap (λ ts. c.args.out.now.tokens ++ ts) (sym (text_written c.args.node.now _ c.in-Text.is))
+
+pub write_value-returns-in_ok-write_all-in-List-clause-written : goal.write_value-returns-in_ok-write_all-in-List-clause-written
+write_value-returns-in_ok-write_all-in-List-clause-written t c =
+    let nodes = c.in_ok-write_all-in-List.ensures.written ∙ ap (λ ts. c.begin_array.new.self.tokens ++ tokens_of_items (items_of (map json ts))) c.as_slice.ensures in
+    list_written c.args.node.now c.in-List.nodes c.args.out.now.tokens _ _ c.in-List.is c.in_ok-begin_array-in-List.ensures.ok nodes
+
+pub write_value-returns-in_ok-write_members-in-Tree-clause-written : goal.write_value-returns-in_ok-write_members-in-Tree-clause-written
+write_value-returns-in_ok-write_members-in-Tree-clause-written t c =
+    let k = c.in-Tree.kind in
+    let members = ap members_data c.as_slice-in-Tree-2.ensures.value ∙ c.in_ok-members-in-Tree.ensures.«data» ∙ ap (λ ts. fields_put (fields_of k) (map json ts) (typed k)) c.as_slice-in-Tree.ensures in
+    tree_written c.args.node.now k c.in-Tree.nodes (members_data c.as_slice-in-Tree-2.result.now) c.args.out.now.tokens _ _ c.in-Tree.is members c.in_ok-begin_object-in-Tree.ensures.ok
+    c.in_ok-write_members-in-Tree.ensures.written

@@ -1,30 +1,29 @@
-use Rattle.std.proofs.Common.{◌≡◌, ◌≤◌, ◌+◌, ◌*◌, ◌++◌, map, IsTrue}
-use Rattle.serde_json.specs.View.{view, members_view}
-use Rattle.jsbase_form.specs.Writing.{json, fields_put}
-use Rattle.jsbase_form.specs.Known.{numbers_short, all_of, all_keyed}
-use Rattle.jsbase_writer.proofs.Heights.{height, greatest}
+use Rattle.std.proofs.Common.{◌≡◌, ◌≤◌, ◌+◌, ◌*◌, ◌++◌, map, drop, IsTrue}
+use Rattle.serde_json.specs.View.{items_of}
+use Rattle.jsbase_form.specs.Known.{all_of, numbers_short}
+use Rattle.jsbase_form.specs.Writing.{json}
+use Rattle.jsbase_writer.specs.Members.{height, greatest, tallest, members_data, MembersShort}
+use Rattle.jsbase_writer.specs.Tokens.{tokens_of_items, tokens_of_members}
 use Rattle.jsbase_writer.proofs.nodes.+write.Given as goal
 
 abbrev pub decreases-write_value : goal.decreases-write_value
-decreases-write_value l = 2 * height l.node
+decreases-write_value l = 2 * height l.node.now
 
 abbrev pub decreases-write_all : goal.decreases-write_all
-decreases-write_all l = 2 * greatest (map height l.nodes.items) + 1
+decreases-write_all l = 2 * greatest (map height l.nodes.now) + 1
 
-abbrev pub decreases-write_fields : goal.decreases-write_fields
-decreases-write_fields l = 2 * greatest (map height l.nodes.items) + 1
+abbrev pub decreases-write_members : goal.decreases-write_members
+decreases-write_members l = 2 * tallest l.members.now + 1
 
 abbrev pub invariant-write_all-loop-node : goal.invariant-write_all-loop-node
 invariant-write_all-loop-node l =
-    let rest = l.node-iterator.rest.items in
-    (map view l.values.items ++ map json rest ≡ map json l.fn.nodes.items) × (greatest (map height rest) ≤ greatest (map height l.fn.nodes.items))
-    × (IsTrue (all_of (map numbers_short rest)) → IsTrue (all_of (map numbers_short l.fn.nodes.items)))
+    let rest = drop l.node-index l.nodes in
+    (l.fn.out.tokens ++ tokens_of_items (items_of (map json l.nodes)) ≡ l.out.tokens ++ tokens_of_items (items_of (map json rest)))
+    × (l.out.before ≡ l.fn.out.before) × (greatest (map height rest) ≤ greatest (map height l.nodes))
+    × (IsTrue (all_of (map numbers_short rest)) → IsTrue (all_of (map numbers_short l.nodes)))
 
-abbrev pub invariant-write_fields-loop-field : goal.invariant-write_fields-loop-field
-invariant-write_fields-loop-field l =
-    let fields = l.field-iterator.a.rest.now in
-    let nodes = l.field-iterator.b.rest.items in
-    (fields_put (map (λ f. (f.key.now, f.slot, f.role)) l.fn.fields) (map json l.fn.nodes.items) (members_view l.fn.members.entries)
-    ≡ fields_put (map (λ f. (f.key.now, f.slot, f.role)) fields) (map json nodes) (members_view l.members.entries))
-    × (greatest (map height nodes) ≤ greatest (map height l.fn.nodes.items))
-    × (IsTrue (all_keyed (map (λ f. (f.key.now, f.slot, f.role)) fields) (map numbers_short nodes)) → IsTrue (all_keyed (map (λ f. (f.key.now, f.slot, f.role)) l.fn.fields) (map numbers_short l.fn.nodes.items)))
+abbrev pub invariant-write_members-loop-member : goal.invariant-write_members-loop-member
+invariant-write_members-loop-member l =
+    let rest = drop l.member-index l.members in
+    (l.fn.out.tokens ++ tokens_of_members (members_data l.members) ≡ l.out.tokens ++ tokens_of_members (members_data rest))
+    × (l.out.before ≡ l.fn.out.before) × (tallest rest ≤ tallest l.members) × (MembersShort rest → MembersShort l.members)
