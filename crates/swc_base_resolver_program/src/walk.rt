@@ -57,7 +57,7 @@ fn resolve(
             Ok(Node::Identifier(kind, ident))
         }
         Node::List(items) => {
-            let places = places_of_items(place, items.as_slice());
+            let places = places_of_items(place);
             let items = resolve_children(items, places, &*answers, &*env, &*env, &*env, next)?;
             Ok(Node::List(items))
         }

@@ -1,6 +1,6 @@
 use Rattle.std.proofs.Common.{ℕ, List, arith, rules, refl, sym, ap, ◌∙◌, length-set}
 use Rattle.std.specs.Option.{is_some}
-use Rattle.swc_tree_node.specs.declared.node.Node.{Node, List as Many, Tree, the_lemmas}
+use Rattle.swc_tree_node.specs.declared.node.Node.{Node, Tree, the_lemmas}
 use Rattle.swc_tree_scoping.specs.declared.below.PlacesBelow.TheVariants.{Fields}
 use Rattle.swc_tree_scoping.specs.Folds.{each_in}
 use Rattle.swc_tree_scoping.specs.Below.{fields_are, place_of, scope_of_fields, view_of}
@@ -15,77 +15,72 @@ use Rattle.swc_base_resolver_program.proofs.walk.+resolve.Goals as goal
 
 pub resolve-resolve_children-requires : goal.resolve-resolve_children-requires
 resolve-resolve_children-requires t c =
-    let items_are = c.as_slice.ensures in
-    let known = known_list c.args.place c.args.node c.as_slice.result.now c.places_of_items-places.result (c.in-List.is ∙ ap (λ ts. Many ts) (sym items_are)) c.places_of_items-places.ensures in
-    let all = counted c.args.place c.args.node c.as_slice.result.now c.places_of_items-places.result known in
+    let known = known_list c.args.place c.args.node c.in-List.items c.places_of_items-places.result c.in-List.is c.places_of_items-places.ensures in
+    let all = counted c.args.place c.args.node c.in-List.items c.places_of_items-places.result known in
     let none = ap (λ p. one_if (is_some (scope_of_fields p))) c.places_of_items-places.ensures in
-    let same = ap (λ ts. total (each_in scope_count (place_of c.places_of_items-places.result) ts)) items_are in
-    (search (rules, the_lemmas), omega (arith, all, none, same, c.requires))
+    (search (rules, the_lemmas), omega (arith, all, none, c.requires))
 
 pub resolve-resolve_children-requires-in-Some : goal.resolve-resolve_children-requires-in-Some
 resolve-resolve_children-requires-in-Some t c =
-    let same_fields = c.as_slice-in-Tree.ensures in
-    let known = known_tree c.args.place c.args.node c.as_slice-in-Tree.result.now c.places_of_fields-places.result c.in-Tree.kind (c.in-Tree.is ∙ ap (λ ts. Tree c.in-Tree.kind ts) (sym same_fields)) c.places_of_fields-places.ensures in
-    let all = counted c.args.place c.args.node c.as_slice-in-Tree.result.now c.places_of_fields-places.result known in
+    let same_fields = c.as_slice.ensures in
+    let known = known_tree c.args.place c.args.node c.as_slice.result.now c.places_of_fields-places.result c.in-Tree.kind (c.in-Tree.is ∙ ap (λ ts. Tree c.in-Tree.kind ts) (sym same_fields)) c.places_of_fields-places.ensures in
+    let all = counted c.args.place c.args.node c.as_slice.result.now c.places_of_fields-places.result known in
     let own = ap (λ o. one_if (is_some o)) c.in-Some.ensures in
     let same = ap (λ ts. total (each_in scope_count (place_of c.places_of_fields-places.result) ts)) same_fields in
     (search (rules, the_lemmas), omega (arith, all, own, same, c.requires))
 
 pub resolve-resolve_children-requires-in-None : goal.resolve-resolve_children-requires-in-None
 resolve-resolve_children-requires-in-None t c =
-    let same_fields = c.as_slice-in-Tree.ensures in
-    let known = known_tree c.args.place c.args.node c.as_slice-in-Tree.result.now c.places_of_fields-places.result c.in-Tree.kind (c.in-Tree.is ∙ ap (λ ts. Tree c.in-Tree.kind ts) (sym same_fields)) c.places_of_fields-places.ensures in
-    let all = counted c.args.place c.args.node c.as_slice-in-Tree.result.now c.places_of_fields-places.result known in
+    let same_fields = c.as_slice.ensures in
+    let known = known_tree c.args.place c.args.node c.as_slice.result.now c.places_of_fields-places.result c.in-Tree.kind (c.in-Tree.is ∙ ap (λ ts. Tree c.in-Tree.kind ts) (sym same_fields)) c.places_of_fields-places.ensures in
+    let all = counted c.args.place c.args.node c.as_slice.result.now c.places_of_fields-places.result known in
     let same = ap (λ ts. total (each_in scope_count (place_of c.places_of_fields-places.result) ts)) same_fields in
     (search (rules, the_lemmas), omega (arith, all, same, c.requires))
 
 pub resolve-prove-unreachable-requires : goal.resolve-prove-unreachable-requires
 resolve-prove-unreachable-requires t c =
-    let same_fields = c.as_slice-in-Tree.ensures in
-    let known = known_tree c.args.place c.args.node c.as_slice-in-Tree.result.now c.places_of_fields-places.result c.in-Tree.kind (c.in-Tree.is ∙ ap (λ ts. Tree c.in-Tree.kind ts) (sym same_fields)) c.places_of_fields-places.ensures in
-    let all = counted c.args.place c.args.node c.as_slice-in-Tree.result.now c.places_of_fields-places.result known in
+    let same_fields = c.as_slice.ensures in
+    let known = known_tree c.args.place c.args.node c.as_slice.result.now c.places_of_fields-places.result c.in-Tree.kind (c.in-Tree.is ∙ ap (λ ts. Tree c.in-Tree.kind ts) (sym same_fields)) c.places_of_fields-places.ensures in
+    let all = counted c.args.place c.args.node c.as_slice.result.now c.places_of_fields-places.result known in
     let own = ap (λ o. one_if (is_some o)) c.in-Some.ensures in
     omega (arith, all, own, c.requires, c.if-prove.true)
 
 pub resolve-returns-in_ok-items-in-List-clause-answer : goal.resolve-returns-in_ok-items-in-List-clause-answer
 resolve-returns-in_ok-items-in-List-clause-answer t c =
-    let items_are = c.as_slice.ensures in
-    let known = known_list c.args.place c.args.node c.in-List.items c.places_of_items-places.result c.in-List.is (c.places_of_items-places.ensures) in
+    let known = known_list c.args.place c.args.node c.in-List.items c.places_of_items-places.result c.in-List.is c.places_of_items-places.ensures in
     list_done (marking_in c.args.answers.now) c.args.place c.args.node c.in-List.items c.places_of_items-places.result known (layers c.args.env.now) c.args.next.now c.in_ok-items-in-List.items c.in-List.is (sym (ap scope_of_fields c.places_of_items-places.ensures)) c.in_ok-items-in-List.ensures.answer
 
 pub resolve-returns-in_ok-items-in-List-clause-next : goal.resolve-returns-in_ok-items-in-List-clause-next
 resolve-returns-in_ok-items-in-List-clause-next t c =
-    let items_are = c.as_slice.ensures in
-    let known = known_list c.args.place c.args.node c.as_slice.result.now c.places_of_items-places.result (c.in-List.is ∙ ap (λ ts. Many ts) (sym items_are)) c.places_of_items-places.ensures in
-    let all = counted c.args.place c.args.node c.as_slice.result.now c.places_of_items-places.result known in
+    let known = known_list c.args.place c.args.node c.in-List.items c.places_of_items-places.result c.in-List.is c.places_of_items-places.ensures in
+    let all = counted c.args.place c.args.node c.in-List.items c.places_of_items-places.result known in
     let none = ap (λ p. one_if (is_some (scope_of_fields p))) c.places_of_items-places.ensures in
-    let same = ap (λ ts. total (each_in scope_count (place_of c.places_of_items-places.result) ts)) items_are in
-    omega (arith, all, none, same, c.in_ok-items-in-List.ensures.next)
+    omega (arith, all, none, c.in_ok-items-in-List.ensures.next)
 
 pub resolve-returns-in_ok-fields-in-None-clause-answer : goal.resolve-returns-in_ok-fields-in-None-clause-answer
 resolve-returns-in_ok-fields-in-None-clause-answer t c =
-    let known = known_tree c.args.place c.args.node c.in-Tree.fields c.places_of_fields-places.result c.in-Tree.kind c.in-Tree.is (c.places_of_fields-places.ensures ∙ ap (λ ts. Fields (fields_are c.args.place c.in-Tree.kind ts)) c.as_slice-in-Tree.ensures) in
+    let known = known_tree c.args.place c.args.node c.in-Tree.fields c.places_of_fields-places.result c.in-Tree.kind c.in-Tree.is (c.places_of_fields-places.ensures ∙ ap (λ ts. Fields (fields_are c.args.place c.in-Tree.kind ts)) c.as_slice.ensures) in
     plain_done (marking_in c.args.answers.now) c.args.place c.args.node c.in-Tree.fields c.places_of_fields-places.result known (layers c.args.env.now) c.args.next.now c.in-Tree.kind c.in_ok-fields-in-None.fields c.in-Tree.is c.in-None.ensures c.in_ok-fields-in-None.ensures.answer
 
 pub resolve-returns-in_ok-fields-in-None-clause-next : goal.resolve-returns-in_ok-fields-in-None-clause-next
 resolve-returns-in_ok-fields-in-None-clause-next t c =
-    let same_fields = c.as_slice-in-Tree.ensures in
-    let known = known_tree c.args.place c.args.node c.as_slice-in-Tree.result.now c.places_of_fields-places.result c.in-Tree.kind (c.in-Tree.is ∙ ap (λ ts. Tree c.in-Tree.kind ts) (sym same_fields)) c.places_of_fields-places.ensures in
-    let all = counted c.args.place c.args.node c.as_slice-in-Tree.result.now c.places_of_fields-places.result known in
+    let same_fields = c.as_slice.ensures in
+    let known = known_tree c.args.place c.args.node c.as_slice.result.now c.places_of_fields-places.result c.in-Tree.kind (c.in-Tree.is ∙ ap (λ ts. Tree c.in-Tree.kind ts) (sym same_fields)) c.places_of_fields-places.ensures in
+    let all = counted c.args.place c.args.node c.as_slice.result.now c.places_of_fields-places.result known in
     let none = ap (λ o. one_if (is_some o)) c.in-None.ensures in
     let same = ap (λ ts. total (each_in scope_count (place_of c.places_of_fields-places.result) ts)) same_fields in
     omega (arith, all, none, same, c.in_ok-fields-in-None.ensures.next)
 
 pub resolve-returns-in_ok-fields-in-Some-clause-answer : goal.resolve-returns-in_ok-fields-in-Some-clause-answer
 resolve-returns-in_ok-fields-in-Some-clause-answer t c =
-    let known = known_tree c.args.place c.args.node c.in-Tree.fields c.places_of_fields-places.result c.in-Tree.kind c.in-Tree.is (c.places_of_fields-places.ensures ∙ ap (λ ts. Fields (fields_are c.args.place c.in-Tree.kind ts)) c.as_slice-in-Tree.ensures) in
+    let known = known_tree c.args.place c.args.node c.in-Tree.fields c.places_of_fields-places.result c.in-Tree.kind c.in-Tree.is (c.places_of_fields-places.ensures ∙ ap (λ ts. Fields (fields_are c.args.place c.in-Tree.kind ts)) c.as_slice.ensures) in
     scope_done (marking_in c.args.answers.now) c.args.place c.args.node c.in-Tree.fields c.places_of_fields-places.result known (layers c.args.env.now) c.args.next.now c.in-Tree.kind c.in_ok-fields-in-Some.fields c.in-Some.scope _ _ _ c.in-Tree.is c.in-Some.ensures (layers_inside _ _) (layers_inside _ _) refl c.in_ok-fields-in-Some.ensures.answer
 
 pub resolve-returns-in_ok-fields-in-Some-clause-next : goal.resolve-returns-in_ok-fields-in-Some-clause-next
 resolve-returns-in_ok-fields-in-Some-clause-next t c =
-    let same_fields = c.as_slice-in-Tree.ensures in
-    let known = known_tree c.args.place c.args.node c.as_slice-in-Tree.result.now c.places_of_fields-places.result c.in-Tree.kind (c.in-Tree.is ∙ ap (λ ts. Tree c.in-Tree.kind ts) (sym same_fields)) c.places_of_fields-places.ensures in
-    let all = counted c.args.place c.args.node c.as_slice-in-Tree.result.now c.places_of_fields-places.result known in
+    let same_fields = c.as_slice.ensures in
+    let known = known_tree c.args.place c.args.node c.as_slice.result.now c.places_of_fields-places.result c.in-Tree.kind (c.in-Tree.is ∙ ap (λ ts. Tree c.in-Tree.kind ts) (sym same_fields)) c.places_of_fields-places.ensures in
+    let all = counted c.args.place c.args.node c.as_slice.result.now c.places_of_fields-places.result known in
     let own = ap (λ o. one_if (is_some o)) c.in-Some.ensures in
     let same = ap (λ ts. total (each_in scope_count (place_of c.places_of_fields-places.result) ts)) same_fields in
     omega (arith, all, own, same, c.in_ok-fields-in-Some.ensures.next)
