@@ -32,7 +32,7 @@ use Rattle.swc_base_resolver_program.specs.declared.collect.Stage.TheVariants as
 use Rattle.swc_base_resolver_program.specs.Names.{has_way, is_way, no_ways, ways_if, ways_of, with_way}
 use Rattle.swc_base_resolver_program.specs.Inserted.{IsInserted}
 use Rattle.swc_base_resolver_program.specs.Lookup.{Open, taker_in}
-use Rattle.swc_base_resolver_program.specs.Walks.{Gains, IsAdded, Reaches, ReachesBelow, ReachesHere, TakeAlike, Takes, before, entered, has_at, open_at, open_round, pick, target_in}
+use Rattle.swc_base_resolver_program.specs.Walks.{Gains, IsAdded, Reaches, ReachesBelow, ReachesHere, TakeAlike, Takes, before, entered, has_at, is_sought, open_at, open_round, pick, target_in}
 use Rattle.swc_base_resolver_program.proofs.Counted.{count_out}
 use Rattle.swc_base_resolver_program.proofs.Ways.{is_true, one_way, or_cases, or_left, or_right, with_has}
 
@@ -419,7 +419,13 @@ no_taker : (r : Standing) (env : List Open) → is_binding r ≡ false → taker
 no_taker r [] h = refl
 no_taker r (o ∷ env) h = rw (never_taken r o.scope h) (no_taker r env h)
 
-no_target : (s : Stage) (r : Standing) (x : List ℕ) (env : List Open) → is_binding r ≡ false → target_in s r x env ≡ None
+sought_bound : (s : Stage) (r : Standing) → is_sought s r ≡ true → is_binding r ≡ true
+sought_bound stage.Bind r h = h
+sought_bound (stage.Settle b) standing.SloppyFunction h = refl
+sought_bound (stage.Settle b) standing.Variable h = refl
+sought_bound (stage.Settle b) _ h = absurd (cc)
+
+no_target : (s : Stage) (r : Standing) (x : List ℕ) (env : List Open) → is_sought s r ≡ false → target_in s r x env ≡ None
 no_target stage.Bind r x env h = no_taker r env h
 no_target (stage.Settle b) standing.SloppyFunction x env h = absurd (cc)
 no_target (stage.Settle b) standing.Variable x env h = absurd (cc)
@@ -433,15 +439,15 @@ module _ (s : Stage) (env : List Open) (q : Standing) (i : Ident) (old : List Sc
   untargeted_gains h = gains_none old (ReachesHere s env q i)
       (λ k r x (so, name, none, to). let e : target_in s q i.sym env ≡ Some k = ap (λ r. target_in s r i.sym env) so ∙ ap (λ x. target_in s r x env) name ∙ to in let d = sym h ∙ e in absurd (cc))
 
-  pub unbound_gains : is_binding q ≡ false → Gains old old (ReachesHere s env q i)
-  unbound_gains h = untargeted_gains (no_target s q i.sym env h)
+  pub unsought_gains : is_sought s q ≡ false → Gains old old (ReachesHere s env q i)
+  unsought_gains h = untargeted_gains (no_target s q i.sym env h)
 
-  pub targeted_gains : (new : List ScopeNames) (number : ℕ) → is_binding q ≡ true → i.ctxt ≡ [] → target_in s q i.sym env ≡ Some number → Gains old new (IsAdded number q i.sym) → Gains old new (ReachesHere s env q i)
-  targeted_gains new number bound none h g = gains_alike old new (IsAdded number q i.sym) (ReachesHere s env q i) g
+  pub targeted_gains : (new : List ScopeNames) (number : ℕ) → is_sought s q ≡ true → i.ctxt ≡ [] → target_in s q i.sym env ≡ Some number → Gains old new (IsAdded number q i.sym) → Gains old new (ReachesHere s env q i)
+  targeted_gains new number sought none h g = gains_alike old new (IsAdded number q i.sym) (ReachesHere s env q i) g
       (λ k r x. (
         λ (so, name, free, to).
             let e : Some k ≡ Some number = sym to ∙ sym (ap (λ r. target_in s r i.sym env) so ∙ ap (λ x. target_in s r x env) name) ∙ h in
-            (some_same k number e, subst (λ r. IsTrue (is_way q r)) so (way_self q bound), name),
+            (some_same k number e, subst (λ r. IsTrue (is_way q r)) so (way_self q (sought_bound s q sought)), name),
         λ (e, way, name).
             let so = one_way q r way in
             (so, name, none, sym (ap (λ r. target_in s r i.sym env) so ∙ ap (λ x. target_in s r x env) name) ∙ h ∙ ap (λ n. Some n) (sym e)),

@@ -6,7 +6,7 @@ ghost use Rattle.swc_tree_scoping.specs.Folds.{each_in};
 ghost use Rattle.swc_tree_scoping.specs.Places.{program_place};
 ghost use Rattle.swc_tree_scoping.specs.Scopes.{scope_count, total};
 ghost use Rattle.swc_base_resolver_program.specs.Lookup.{layers, same_number};
-ghost use Rattle.swc_base_resolver_program.specs.Walks.{AreBelow, Gains, IsAdded, Reaches, ReachesBelow, ReachesHere, TakeAlike, Takes, pick, target_in};
+ghost use Rattle.swc_base_resolver_program.specs.Walks.{AreBelow, Gains, IsAdded, Reaches, ReachesBelow, ReachesHere, TakeAlike, Takes, is_sought, pick, target_in};
 
 use crate::env::{Env, Layer, hoists, meets, seen, taker, variable_scope};
 use crate::lookup::Names;
@@ -157,10 +157,11 @@ fn gather_identifier(
     ensures size { OnOk result (length tables.new.items ≡ length tables.old.items) }
     ensures tables { OnOk result (Gains tables.old.items tables.new.items (ReachesHere stage.entry (layers env.now) standing ident.now)) }
 {
-    if !ident.ctxt.marks().is_empty() {
+    // Most identifiers bind nothing: they are told by where they stand, with no look at their own memory.
+    if !seeks(stage, standing) {
         return Ok(());
     }
-    if !is_binding(standing) {
+    if !ident.ctxt.marks().is_empty() {
         return Ok(());
     }
     let name = ident.sym.as_str();
@@ -170,6 +171,16 @@ fn gather_identifier(
             Ok(())
         }
         None => Ok(()),
+    }
+}
+
+// Whether the stage looks for names that are bound so.
+fn seeks(stage: Stage, standing: Standing) -> bool
+    ensures { result ≡ is_sought stage.entry standing }
+{
+    match stage {
+        Stage::Bind => is_binding(standing),
+        Stage::Settle(_) => matches!(standing, Standing::SloppyFunction | Standing::Variable),
     }
 }
 

@@ -60,7 +60,7 @@ resolve-returns-in_ok-items-in-List-clause-next t c =
 pub resolve-returns-in_ok-fields-in-None-clause-answer : goal.resolve-returns-in_ok-fields-in-None-clause-answer
 resolve-returns-in_ok-fields-in-None-clause-answer t c =
     let known = known_tree c.args.place c.args.node c.in-Tree.fields c.places_of_fields-places.result c.in-Tree.kind c.in-Tree.is (c.places_of_fields-places.ensures ∙ ap (λ ts. Fields (fields_are c.args.place c.in-Tree.kind ts)) c.as_slice.ensures) in
-    plain_done (marking_in c.args.answers.now) c.args.place c.args.node c.in-Tree.fields c.places_of_fields-places.result known (layers c.args.env.now) c.args.next.now c.in-Tree.kind c.in_ok-fields-in-None.fields c.in-Tree.is c.in-None.ensures c.in_ok-fields-in-None.ensures.answer
+    plain_done (marking_in c.args.answers.now) c.args.place c.args.node c.in-Tree.fields c.places_of_fields-places.result known (layers c.args.env.now) c.args.next.now c.in-Tree.kind c.in_ok-fields-in-None.fields _ _ c.in-Tree.is c.in-None.ensures (search rules) (search rules) c.in_ok-fields-in-None.ensures.answer
 
 pub resolve-returns-in_ok-fields-in-None-clause-next : goal.resolve-returns-in_ok-fields-in-None-clause-next
 resolve-returns-in_ok-fields-in-None-clause-next t c =
@@ -90,7 +90,7 @@ resolve_children-resolve-requires t c =
     let envs : ℕ → List Open = λ i. pick (view_of c.args.places i) (layers c.args.outside.now) (layers c.args.parameters.now) (layers c.args.whole.now) in
     let here = child_is (marking_in c.args.answers.now) envs c.args.nodes c.loop-i.nodes (place_of c.args.places) c.args.next.now c.loop-i.i c.loop-i.next c.replace-node.result (omega arith) c.loop-i.invariant.done c.replace-node.ensures.taken in
     let part = total_part (place_of c.args.places) c.args.nodes c.loop-i.i c.replace-node.result here in
-    let same = ap (λ w. scope_count w c.replace-node.result) c.at.ensures in
+    let same = ap (λ w. scope_count w c.replace-node.result) c.at-place.ensures in
     let smaller = λ (μ : Node → ℕ). got_at_most μ c.args.nodes c.loop-i.i c.replace-node.result here in
     (search (rules, the_lemmas, smaller), omega (arith, part, same, c.requires, c.loop-i.invariant.count))
 
@@ -99,11 +99,11 @@ resolve_children-loop-i-preserved t c =
     let envs : ℕ → List Open = λ i. pick (view_of c.args.places i) (layers c.args.outside.now) (layers c.args.parameters.now) (layers c.args.whole.now) in
     let here = child_is (marking_in c.args.answers.now) envs c.args.nodes c.loop-i.nodes (place_of c.args.places) c.args.next.now c.loop-i.i c.loop-i.next c.replace-node.result (omega arith) c.loop-i.invariant.done c.replace-node.ensures.taken in
     let next = total_next (place_of c.args.places) c.args.nodes c.loop-i.i c.replace-node.result here in
-    let same = ap (λ w. scope_count w c.replace-node.result) c.at.ensures in
-    let env_is = ap layers c.seen-env.ensures ∙ picked layers _ _ _ (view_of c.args.places c.loop-i.i) c.view.result c.view.ensures in
+    let same = ap (λ w. scope_count w c.replace-node.result) c.at-place.ensures in
+    let env_is = ap layers c.seen-env.ensures ∙ picked layers _ _ _ (view_of c.args.places c.loop-i.i) c.view-extent.result c.view-extent.ensures in
     record {
       size = simp (c.set.ensures, c.replace-node.ensures.list, length-set) c.loop-i.invariant.size;
       done = child_done (marking_in c.args.answers.now) envs c.args.nodes c.loop-i.nodes (place_of c.args.places) c.args.next.now c.loop-i.i c.loop-i.next c.replace-node.result (omega arith) c.loop-i.invariant.done c.replace-node.ensures.taken
-          c.loop-i.invariant.count (layers c.seen-env.result.now) c.at.result env_is c.at.ensures _ _ _ _ c.replace-node.ensures.list c.set.ensures c.in_ok-done.ensures.answer;
+          c.loop-i.invariant.count (layers c.seen-env.result.now) c.at-place.result env_is c.at-place.ensures _ _ _ _ c.replace-node.ensures.list c.set.ensures c.in_ok-done.ensures.answer;
       count = omega (arith, next, same, c.loop-i.invariant.count, c.in_ok-done.ensures.next);
     }
