@@ -1,5 +1,5 @@
 -- The tables of the first two walks say what the scopes declare.
-use Rattle.std.proofs.Common.{◌≡◌, ℕ, ◌<◌, Bool, true, false, not, ◌&&◌, ◌||◌, ◌==◌, IsTrue, ◌⊎◌, ◌↔◌, inl, inr, ⊎_elim, Option, Some, None, List, [], ◌∷◌, ◌++◌, map, refl, sym, ap, ◌∙◌, subst, arith, cond}
+use Rattle.std.proofs.Common.{◌≡◌, ℕ, Bool, true, false, not, ◌&&◌, ◌||◌, ◌==◌, IsTrue, ◌⊎◌, ◌↔◌, inl, inr, ⊎_elim, Option, Some, None, List, [], ◌∷◌, ◌++◌, map, refl, sym, ap, ◌∙◌, subst, arith, cond}
 use Rattle.std.specs.Option.{option_map}
 use Rattle.swc_tree_marks.specs.declared.ident.Ident.{Ident}
 use Rattle.swc_tree_node.specs.declared.kind.Kind.{Kind}
@@ -9,7 +9,7 @@ use Rattle.swc_tree_scoping.specs.declared.places.Standing.TheVariants as standi
 use Rattle.swc_tree_scoping.specs.declared.places.Place.{Place}
 use Rattle.swc_tree_scoping.specs.declared.places.Scope.TheVariants as scope
 use Rattle.swc_tree_scoping.specs.Places.{Path, opened, place_at, program_place}
-use Rattle.swc_tree_scoping.specs.Scopes.{Round, first_that, is_binding, is_taken, rounds, scope_at, scope_count, taker, variable_scope}
+use Rattle.swc_tree_scoping.specs.Scopes.{Round, first_that, is_binding, is_taken, rounds, scope_at, taker, variable_scope}
 use Rattle.swc_tree_scoping.specs.Declares.{Bound, BoundAs, DeclaresFor, DeclaresOtherwise, Hoisted, Hoists, IsUncaught, Means, Meets, Passes, is_no_variable, is_parameter, is_settled, stops, stops_or_function}
 use Rattle.swc_tree_scoping.proofs.First.{Each, Nested, Opens, has_taker, round_opens, rounds_nested}
 use Rattle.swc_base_resolver_program.specs.declared.names.Ways.{Ways}
@@ -18,9 +18,9 @@ use Rattle.swc_base_resolver_program.specs.declared.collect.Stage.TheVariants as
 use Rattle.swc_base_resolver_program.specs.declared.lookup.Names.{Names}
 use Rattle.swc_base_resolver_program.specs.Names.{any_way, has_way, ways_in}
 use Rattle.swc_base_resolver_program.specs.Lookup.{Open, Tables, declares_in, hoists_from, hoists_in, meaning_in, meets_in, names_in, otherwise_in, passes_in, same_number, taker_in}
-use Rattle.swc_base_resolver_program.specs.Walks.{Reaches, has_at, open_round}
+use Rattle.swc_base_resolver_program.specs.Walks.{Reaches, Takes, has_at, open_round}
 use Rattle.std.proofs.lemmas.Bool.Decides.{nat_tests}
-use Rattle.swc_base_resolver_program.proofs.Numbers.{number_less, one_number}
+use Rattle.swc_base_resolver_program.proofs.Numbers.{one_number}
 use Rattle.swc_base_resolver_program.proofs.Rounds.{first_among, first_unique, found_first, found_holds, none_that, number_of, rounds_are, that_among, there}
 use Rattle.swc_base_resolver_program.proofs.Ways.{and_both, both, is_true, not_true, or_cases, or_left, or_right, true_not}
 
@@ -111,18 +111,15 @@ module _ (t : Node) (opens : opened program_place t ≡ Some scope.Program) wher
   pub taker_open : (r : Standing) (p u : Path) → taker r t p ≡ Some u → IsOpen u
   taker_open r p u h = (that_among (λ s. is_taken r (scope_at program_place t s.0)) (λ s. IsOpen s.0) (rounds program_place t p) u h (round_opens p program_place t)).1
 
-  module _ (bound : List ScopeNames) (binds : (k : ℕ) (r : Standing) (x : List ℕ) → k < scope_count program_place t → IsTrue (has_at bound k r x) ↔ Reaches stage.Bind [] 0 program_place t k r x) where
-    less : (s : Path) → IsOpen s → nr s < scope_count program_place t
-    less s o = let l = number_less s program_place t o in omega (arith, l)
-
+  module _ (bound : List ScopeNames) (binds : Takes bound (Reaches stage.Bind [] 0 program_place t)) where
     pub bound_is : (s : Path) (r : Standing) (x : List ℕ) → IsOpen s → IsTrue (has_at bound (nr s) r x) ↔ Bound t s r x
     bound_is s r x o = (
       λ h.
-          let b = (binds (nr s) r x (less s o)).0 h in
+          let b = (binds (nr s) r x).0 h in
           let (u, e, f) = numbered program_place t (taker r t b.path) (nr s) (sym (ap (taker_in r) (env_is b.path) ∙ taker_is r b.path) ∙ b.given_to) in
           let same = same_scope u s (taker_open r b.path u e) o f in
           record { path = b.path; place = b.place; kind = b.kind; identifier = b.identifier; stands = b.stands; stands_so = b.stands_so; named = b.named; unmarked = b.unmarked; taken = e ∙ ap (λ u. Some u) same },
-      λ b. (binds (nr s) r x (less s o)).1 (record {
+      λ b. (binds (nr s) r x).1 (record {
         path = b.path;
         place = b.place;
         kind = b.kind;
@@ -201,7 +198,7 @@ module _ (t : Node) (opens : opened program_place t ≡ Some scope.Program) wher
         at (Some m) q e = (m, q, (first_among (MeetsAt x) (λ s. IsOpen s.0) (rounds program_place t p) m q (round_opens p program_place t)).1, e)
 
     module _ (names : Names) (same_names : names_in names ≡ ways_in bound) (reached : List ScopeNames)
-        (reaches : (k : ℕ) (r : Standing) (x : List ℕ) → k < scope_count program_place t → IsTrue (has_at reached k r x) ↔ Reaches (stage.Settle names) [] 0 program_place t k r x) where
+        (reaches : Takes reached (Reaches (stage.Settle names) [] 0 program_place t)) where
       -- where the root stands nothing is bound
       standing_of : Option (Place × Node) → Standing → Standing
       standing_of None d = d
@@ -224,7 +221,7 @@ module _ (t : Node) (opens : opened program_place t ≡ Some scope.Program) wher
       pub hoisted_is : (s : Path) (x : List ℕ) → IsOpen s → IsTrue (has_at reached (nr s) standing.SloppyFunction x) ↔ Hoisted t s x
       hoisted_is s x o = (
         λ h.
-            let b = (reaches (nr s) standing.SloppyFunction x (less s o)).0 h in
+            let b = (reaches (nr s) standing.SloppyFunction x).0 h in
             let (block, taken) = below_root b.path b.place b.kind b.identifier standing.SloppyFunction b.stands b.stands_so refl in
             let (does, to) = if_some (hoists_in (names_in names) x (open_round [] 0 program_place t b.path)) (taker_in standing.Variable (open_round [] 0 program_place t b.path)) (nr s) b.given_to in
             let (u, e, f) = numbered program_place t (variable_scope t b.path) (nr s) (sym (ap (taker_in standing.Variable) (env_is b.path) ∙ taker_is standing.Variable b.path) ∙ to) in
@@ -238,7 +235,7 @@ module _ (t : Node) (opens : opened program_place t ≡ Some scope.Program) wher
             let b = h.bound in
             let does : hoists_in (names_in names) x (open_round [] 0 program_place t b.path) ≡ true
             = ap (λ n. hoists_in n x (open_round [] 0 program_place t b.path)) same_names ∙ ap (hoists_in (ways_in bound) x) (env_is b.path) ∙ is_true _ ((hoists_is x b.path h.block b.taken).1 h.hoists) in
-            (reaches (nr s) standing.SloppyFunction x (less s o)).1 (record {
+            (reaches (nr s) standing.SloppyFunction x).1 (record {
               path = b.path;
               place = b.place;
               kind = b.kind;
@@ -262,7 +259,7 @@ module _ (t : Node) (opens : opened program_place t ≡ Some scope.Program) wher
       pub uncaught_is : (s : Path) (x : List ℕ) → IsOpen s → IsTrue (has_at reached (nr s) standing.Variable x) ↔ ((b : Bound t s standing.Variable x) × IsUncaught t b.path x)
       uncaught_is s x o = (
         λ h.
-            let b = (reaches (nr s) standing.Variable x (less s o)).0 h in
+            let b = (reaches (nr s) standing.Variable x).0 h in
             let (f, taken) = below_root b.path b.place b.kind b.identifier standing.Variable b.stands b.stands_so refl in
             let (m, q, opened_there, e) = meets_some x b.path f taken in
             let both_are : same_number (Some (nr f)) (Some (nr m)) ≡ Some (nr s)
@@ -278,7 +275,7 @@ module _ (t : Node) (opens : opened program_place t ≡ Some scope.Program) wher
             let (m, q, opened_there, e) = meets_some x b.path s b.taken in
             let one : Some m ≡ Some s = first_unique _ (rounds program_place t b.path) (Some m) (variable_scope t b.path) q un ∙ b.taken in
             let is : m ≡ s = cc in
-            (reaches (nr s) standing.Variable x (less s o)).1 (record {
+            (reaches (nr s) standing.Variable x).1 (record {
               path = b.path;
               place = b.place;
               kind = b.kind;

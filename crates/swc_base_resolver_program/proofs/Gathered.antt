@@ -1,5 +1,5 @@
 -- What the first walks add to the tables, by paths.
-use Rattle.std.proofs.Common.{◌≡◌, ℕ, zero, suc, ◌+◌, ◌<◌, Bool, true, false, ◌||◌, ◌==◌, IsTrue, ◌⊎◌, ◌↔◌, inl, inr, ⊎_elim, Option, Some, None, List, [], ◌∷◌, ◌++◌, map, take, length, refl, sym, ap, ◌∙◌, subst, arith, cond, length-set}
+use Rattle.std.proofs.Common.{◌≡◌, ℕ, zero, suc, ◌+◌, ◌<◌, Bool, true, false, ◌||◌, ◌==◌, IsTrue, ◌⊎◌, ◌↔◌, inl, inr, ⊎_elim, Option, Some, None, List, [], ◌∷◌, ◌++◌, map, take, length, refl, sym, ap, ◌∙◌, subst, arith, cond}
 use Rattle.std.specs.List.{slice_get, slice_set}
 use Rattle.std.specs.Option.{is_some}
 use Rattle.std.specs.Str.{bytes_eq}
@@ -29,36 +29,63 @@ use Rattle.swc_tree_scoping.proofs.Children.{fields_below, fields_opened, items_
 use Rattle.swc_base_resolver_program.specs.declared.names.ScopeNames.{ScopeNames}
 use Rattle.swc_base_resolver_program.specs.declared.collect.Stage.{Stage}
 use Rattle.swc_base_resolver_program.specs.declared.collect.Stage.TheVariants as stage
-use Rattle.swc_base_resolver_program.specs.Names.{has_way, is_way, ways_if, ways_of, with_way}
+use Rattle.swc_base_resolver_program.specs.Names.{has_way, is_way, no_ways, ways_if, ways_of, with_way}
 use Rattle.swc_base_resolver_program.specs.Inserted.{IsInserted}
 use Rattle.swc_base_resolver_program.specs.Lookup.{Open, taker_in}
-use Rattle.swc_base_resolver_program.specs.Walks.{Gains, IsAdded, Reaches, ReachesBelow, ReachesHere, before, entered, has_at, open_at, open_round, pick, target_in}
+use Rattle.swc_base_resolver_program.specs.Walks.{Gains, IsAdded, Reaches, ReachesBelow, ReachesHere, TakeAlike, Takes, before, entered, has_at, is_sought, open_at, open_round, pick, target_in}
 use Rattle.swc_base_resolver_program.proofs.Counted.{count_out}
-use Rattle.swc_base_resolver_program.proofs.Ways.{one_way, or_cases, or_left, or_right, with_has}
+use Rattle.swc_base_resolver_program.proofs.Ways.{is_true, one_way, or_cases, or_left, or_right, with_has}
 
 abbrev pub Gained : Type 1
 Gained = ℕ → Standing → List ℕ → Type 0
 
+no_way : (r : Standing) → has_way no_ways r ≡ false
+no_way standing.Variable = refl
+no_way standing.Lexical = refl
+no_way standing.Function = refl
+no_way standing.BlockFunction = refl
+no_way standing.SloppyFunction = refl
+no_way standing.Parameter = refl
+no_way standing.CatchParameter = refl
+no_way standing.Import = refl
+no_way standing.FunctionName = refl
+no_way standing.ClassName = refl
+no_way standing.Plain = refl
+no_way standing.Reference = refl
+no_way standing.Body = refl
+no_way standing.Branch = refl
+no_way standing.DefaultExport = refl
+
 -- gains, one after another
 pub gains_none : (old : List ScopeNames) (P : Gained) → ((k : ℕ) (r : Standing) (x : List ℕ) → P k r x → ⊥) → Gains old old P
-gains_none old P none = (refl, λ k r x l. (λ h. inl h, λ h. ⊎_elim (λ a. a) (λ p. absurd (none k r x p)) h))
+gains_none old P none = λ k r x. (λ h. inl h, λ h. ⊎_elim (λ a. a) (λ p. absurd (none k r x p)) h)
 
 pub gains_both : (a b c : List ScopeNames) (P Q R : Gained) → Gains a b P → Gains b c Q → ((k : ℕ) (r : Standing) (x : List ℕ) → R k r x ↔ (P k r x ⊎ Q k r x)) → Gains a c R
-gains_both a b c P Q R g h e = (
-  h.0 ∙ g.0,
-  λ k r x l.
-      let first = g.1 k r x l in
-      let second = h.1 k r x (omega (arith, l, g.0)) in (
-        λ z. ⊎_elim (λ y. ⊎_elim inl (λ p. inr ((e k r x).1 (inl p))) (first.0 y)) (λ q. inr ((e k r x).1 (inr q))) (second.0 z),
-        λ z. ⊎_elim (λ y. second.1 (inl (first.1 (inl y)))) (λ y. ⊎_elim (λ p. second.1 (inl (first.1 (inr p)))) (λ q. second.1 (inr q)) ((e k r x).0 y)) z,
-      ),
-)
+gains_both a b c P Q R g h e = λ k r x.
+    let first = g k r x in
+    let second = h k r x in (
+      λ z. ⊎_elim (λ y. ⊎_elim inl (λ p. inr ((e k r x).1 (inl p))) (first.0 y)) (λ q. inr ((e k r x).1 (inr q))) (second.0 z),
+      λ z. ⊎_elim (λ y. second.1 (inl (first.1 (inl y)))) (λ y. ⊎_elim (λ p. second.1 (inl (first.1 (inr p)))) (λ q. second.1 (inr q)) ((e k r x).0 y)) z,
+    )
 
 pub gains_alike : (a b : List ScopeNames) (P Q : Gained) → Gains a b P → ((k : ℕ) (r : Standing) (x : List ℕ) → Q k r x ↔ P k r x) → Gains a b Q
-gains_alike a b P Q g e = (
-  g.0,
-  λ k r x l. let first = g.1 k r x l in (λ z. ⊎_elim inl (λ p. inr ((e k r x).1 p)) (first.0 z), λ z. ⊎_elim (λ y. first.1 (inl y)) (λ q. first.1 (inr ((e k r x).0 q))) z),
-)
+gains_alike a b P Q g e = λ k r x.
+    let first = g k r x in
+    (λ z. ⊎_elim inl (λ p. inr ((e k r x).1 p)) (first.0 z), λ z. ⊎_elim (λ y. first.1 (inl y)) (λ q. first.1 (inr ((e k r x).0 q))) z)
+
+-- after tables that took the same
+pub gains_after : (a b c : List ScopeNames) (P : Gained) → TakeAlike a b → Gains b c P → Gains a c P
+gains_after a b c P same g = λ k r x.
+    let is : has_at b k r x ≡ has_at a k r x = ap (λ w. has_way w r) (same k x) in
+    let (forth, back) = g k r x in
+    (λ z. ⊎_elim (λ y. inl (subst IsTrue is y)) inr (forth z), λ z. back (⊎_elim (λ y. inl (subst IsTrue (sym is) y)) inr z))
+
+-- what was gained by no table
+pub gained_alone : (old new : List ScopeNames) (P : Gained) → old ≡ [] → Gains old new P → Takes new P
+gained_alone old new P none g = λ k r x.
+    let (forth, back) = g k r x in
+    let gone : has_at old k r x ≡ false = ap (λ ss. has_at ss k r x) none ∙ no_way r in
+    (λ h. ⊎_elim (λ a. let z : false ≡ true = sym gone ∙ is_true _ a in absurd (cc)) (λ p. p) (forth h), λ p. back (inr p))
 
 -- one name more in one table
 set_here : (xs : List ScopeNames) (n : ℕ) (s y : ScopeNames) → slice_get xs n ≡ Some s → slice_get (slice_set xs n y) n ≡ Some y
@@ -96,7 +123,7 @@ module _ (s y : ScopeNames) (name : List ℕ) (q : Standing) (ins : IsInserted s
       )
 
 pub added : (old new : List ScopeNames) (number : ℕ) (s y : ScopeNames) (name : List ℕ) (q : Standing) → slice_get old number ≡ Some s → new ≡ slice_set old number y → IsInserted s y name q → Gains old new (IsAdded number q name)
-added old new number s y name q here is ins = (ap length is ∙ length-set old number y, λ k r x l. ⊎_elim (same k r x) (other k r x) (same_or_not k number))
+added old new number s y name q here is ins = λ k r x. ⊎_elim (same k r x) (other k r x) (same_or_not k number)
   where
     same : (k : ℕ) (r : Standing) (x : List ℕ) → k ≡ number → IsTrue (has_at new k r x) ↔ (IsTrue (has_at old k r x) ⊎ IsAdded number q name k r x)
     same k r x e =
@@ -392,7 +419,13 @@ no_taker : (r : Standing) (env : List Open) → is_binding r ≡ false → taker
 no_taker r [] h = refl
 no_taker r (o ∷ env) h = rw (never_taken r o.scope h) (no_taker r env h)
 
-no_target : (s : Stage) (r : Standing) (x : List ℕ) (env : List Open) → is_binding r ≡ false → target_in s r x env ≡ None
+sought_bound : (s : Stage) (r : Standing) → is_sought s r ≡ true → is_binding r ≡ true
+sought_bound stage.Bind r h = h
+sought_bound (stage.Settle b) standing.SloppyFunction h = refl
+sought_bound (stage.Settle b) standing.Variable h = refl
+sought_bound (stage.Settle b) _ h = absurd (cc)
+
+no_target : (s : Stage) (r : Standing) (x : List ℕ) (env : List Open) → is_sought s r ≡ false → target_in s r x env ≡ None
 no_target stage.Bind r x env h = no_taker r env h
 no_target (stage.Settle b) standing.SloppyFunction x env h = absurd (cc)
 no_target (stage.Settle b) standing.Variable x env h = absurd (cc)
@@ -406,15 +439,15 @@ module _ (s : Stage) (env : List Open) (q : Standing) (i : Ident) (old : List Sc
   untargeted_gains h = gains_none old (ReachesHere s env q i)
       (λ k r x (so, name, none, to). let e : target_in s q i.sym env ≡ Some k = ap (λ r. target_in s r i.sym env) so ∙ ap (λ x. target_in s r x env) name ∙ to in let d = sym h ∙ e in absurd (cc))
 
-  pub unbound_gains : is_binding q ≡ false → Gains old old (ReachesHere s env q i)
-  unbound_gains h = untargeted_gains (no_target s q i.sym env h)
+  pub unsought_gains : is_sought s q ≡ false → Gains old old (ReachesHere s env q i)
+  unsought_gains h = untargeted_gains (no_target s q i.sym env h)
 
-  pub targeted_gains : (new : List ScopeNames) (number : ℕ) → is_binding q ≡ true → i.ctxt ≡ [] → target_in s q i.sym env ≡ Some number → Gains old new (IsAdded number q i.sym) → Gains old new (ReachesHere s env q i)
-  targeted_gains new number bound none h g = gains_alike old new (IsAdded number q i.sym) (ReachesHere s env q i) g
+  pub targeted_gains : (new : List ScopeNames) (number : ℕ) → is_sought s q ≡ true → i.ctxt ≡ [] → target_in s q i.sym env ≡ Some number → Gains old new (IsAdded number q i.sym) → Gains old new (ReachesHere s env q i)
+  targeted_gains new number sought none h g = gains_alike old new (IsAdded number q i.sym) (ReachesHere s env q i) g
       (λ k r x. (
         λ (so, name, free, to).
             let e : Some k ≡ Some number = sym to ∙ sym (ap (λ r. target_in s r i.sym env) so ∙ ap (λ x. target_in s r x env) name) ∙ h in
-            (some_same k number e, subst (λ r. IsTrue (is_way q r)) so (way_self q bound), name),
+            (some_same k number e, subst (λ r. IsTrue (is_way q r)) so (way_self q (sought_bound s q sought)), name),
         λ (e, way, name).
             let so = one_way q r way in
             (so, name, none, sym (ap (λ r. target_in s r i.sym env) so ∙ ap (λ x. target_in s r x env) name) ∙ h ∙ ap (λ n. Some n) (sym e)),

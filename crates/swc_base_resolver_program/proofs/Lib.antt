@@ -4,6 +4,7 @@ pub mod Ways
 pub mod Counted
 pub mod Inserts
 pub mod Empties
+pub mod Below
 pub mod Gathered
 pub mod Walked
 pub mod Numbers

@@ -27,7 +27,7 @@ use Rattle.swc_base_resolver_program.specs.declared.collect.Stage.TheVariants as
 use Rattle.swc_base_resolver_program.specs.declared.lookup.Names.{Names}
 use Rattle.swc_base_resolver_program.specs.Names.{ways_in}
 use Rattle.swc_base_resolver_program.specs.Lookup.{Open, Tables, function_owner_in, hoists_in, meaning_in, meets_in, names_in, otherwise_in, owner_of_variable, taker_in, variable_owner_in}
-use Rattle.swc_base_resolver_program.specs.Walks.{Marking, Reaches, context_at, context_in, context_of, fresh_context, has_at, kept_or, mark_at, marks_from, number, open_round, own_number, written}
+use Rattle.swc_base_resolver_program.specs.Walks.{Marking, Reaches, Takes, context_at, context_in, context_of, fresh_context, kept_or, mark_at, marks_from, number, open_round, own_number, written}
 use Rattle.swc_base_resolver_program.specs.Marked.{IsMark}
 use Rattle.swc_base_resolver_program.proofs.Declared.{below_root, hoists_is, meaning_is, meets_some, otherwise_is, some_variable, taker_is, taker_open}
 use Rattle.swc_base_resolver_program.proofs.Numbers.{number_less, one_number, scope_numbered}
@@ -115,8 +115,8 @@ module _ (a : Marking) (t : Node) where
   marked (Some s) = refl
 
   module _ (opens : opened program_place t ≡ Some scope.Program) (bound reached : List ScopeNames) (names : Names) (same_names : names_in names ≡ ways_in bound)
-      (binds : (k : ℕ) (r : Standing) (x : List ℕ) → k < scope_count program_place t → IsTrue (has_at bound k r x) ↔ Reaches stage.Bind [] 0 program_place t k r x)
-      (reaches : (k : ℕ) (r : Standing) (x : List ℕ) → k < scope_count program_place t → IsTrue (has_at reached k r x) ↔ Reaches (stage.Settle names) [] 0 program_place t k r x)
+      (binds : Takes bound (Reaches stage.Bind [] 0 program_place t))
+      (reaches : Takes reached (Reaches (stage.Settle names) [] 0 program_place t))
       (tables : a.tables ≡ record { bound = ways_in bound; reached = ways_in reached }) (script : a.is_script ≡ is_script t) where
     abbrev T : Tables
     T = record { bound = ways_in bound; reached = ways_in reached }

@@ -5,6 +5,9 @@ use Rattle.std.specs.List.{slice_get, slice_set}
 use Rattle.std.specs.Option.{is_some}
 use Rattle.swc_tree_node.specs.declared.kind.Kind.{Kind}
 use Rattle.swc_tree_node.specs.declared.node.Node.{Node, List as Many, Tree, out-Node}
+use Rattle.swc_tree_marks.specs.declared.ident.Ident.{Ident}
+use Rattle.swc_tree_scoping.specs.declared.places.Standing.{Standing}
+use Rattle.swc_tree_scoping.specs.declared.places.Standing.TheVariants as standing
 use Rattle.swc_tree_scoping.specs.declared.places.Place.{Place}
 use Rattle.swc_tree_scoping.specs.declared.places.Scope.{Scope}
 use Rattle.swc_tree_scoping.specs.declared.below.PlacesBelow.{PlacesBelow}
@@ -15,8 +18,19 @@ use Rattle.swc_tree_scoping.specs.Scopes.{one_if, total, scope_count}
 use Rattle.swc_tree_scoping.specs.Resolved.{Contexts, remarked}
 use Rattle.swc_tree_scoping.proofs.Remarked.{each_remarked, remarked-List, remarked-Tree}
 use Rattle.swc_base_resolver_program.specs.Lookup.{Open}
-use Rattle.swc_base_resolver_program.specs.Walks.{Marking, before, entered, open_round, context_at, pick, walked, written}
+use Rattle.swc_base_resolver_program.specs.Walks.{Marking, before, entered, open_round, context_at, context_of, is_marked, kept_or, pick, walked, written}
 use Rattle.swc_base_resolver_program.proofs.Gathered.{Known, opened_envs, plain_envs}
+
+-- an identifier that has no mark stays as it is
+kept_none : (ms : List ℕ) → kept_or ms [] ≡ ms
+kept_none [] = refl
+kept_none (m ∷ ms) = refl
+
+pub unmarked_stays : (a : Marking) (r : Standing) (env : List Open) (i : Ident) → is_marked r ≡ false → i ≡ record i { ctxt = context_of a r env i }
+unmarked_stays a standing.Plain env i h = ap (λ c. record i { ctxt = c }) (sym (kept_none i.ctxt))
+unmarked_stays a standing.Branch env i h = ap (λ c. record i { ctxt = c }) (sym (kept_none i.ctxt))
+unmarked_stays a standing.DefaultExport env i h = ap (λ c. record i { ctxt = c }) (sym (kept_none i.ctxt))
+unmarked_stays a _ env i h = absurd (cc)
 
 module _ (a : Marking) where
   each_walked : (envs : ℕ → List Open) (ts : List Node) (m : ℕ → Contexts) (places : ℕ → Place) (n : ℕ)
@@ -55,8 +69,10 @@ module _ (a : Marking) where
     pub list_done : (rs : List Node) → t ≡ Many ts → None ≡ scope_of_fields pl → rs ≡ walked a (λ i. pick (view_of pl i) env env env) n (place_of pl) ts → Many rs ≡ remarked (written a env n w t) t
     list_done rs is nothing h = ap (λ l. Many l) (plain rs nothing h) ∙ sym (remarked-List (written a env n w t) ts) ∙ ap (remarked (written a env n w t)) (sym is)
 
-    pub plain_done : (k : Kind) (rs : List Node) → t ≡ Tree k ts → None ≡ scope_of_fields pl → rs ≡ walked a (λ i. pick (view_of pl i) env env env) n (place_of pl) ts → Tree k rs ≡ remarked (written a env n w t) t
-    plain_done k rs is nothing h = ap (λ l. Tree k l) (plain rs nothing h) ∙ sym (remarked-Tree (written a env n w t) k ts) ∙ ap (remarked (written a env n w t)) (sym is)
+    pub plain_done : (k : Kind) (rs : List Node) (outside whole : List Open) → t ≡ Tree k ts → None ≡ scope_of_fields pl → outside ≡ env → whole ≡ env
+        → rs ≡ walked a (λ i. pick (view_of pl i) outside env whole) n (place_of pl) ts → Tree k rs ≡ remarked (written a env n w t) t
+    plain_done k rs outside whole is nothing o e h =
+        ap (λ l. Tree k l) (plain rs nothing (h ∙ ap (λ x. walked a (λ i. pick (view_of pl i) x env whole) n (place_of pl) ts) o ∙ ap (λ y. walked a (λ i. pick (view_of pl i) env env y) n (place_of pl) ts) e)) ∙ sym (remarked-Tree (written a env n w t) k ts) ∙ ap (remarked (written a env n w t)) (sym is)
 
     pub scope_done : (k : Kind) (rs : List Node) (sc : Scope) (parameters whole : List Open) (m : ℕ) → t ≡ Tree k ts → Some sc ≡ scope_of_fields pl
         → parameters ≡ record { scope = Some sc; number = n; whole = false } ∷ env → whole ≡ record { scope = Some sc; number = n; whole = true } ∷ env → m ≡ n + 1

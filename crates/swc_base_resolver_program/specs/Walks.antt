@@ -1,5 +1,5 @@
 -- The walks by paths: which scopes are open at a path, what a walk adds to the tables, what it writes.
-use Rattle.std.specs.Prelude.{◌≡◌, ℕ, zero, suc, ◌+◌, ◌<◌, Bool, ◌⊎◌, ◌↔◌, IsTrue, Option, Some, None, is_some, List, [], ◌∷◌, ◌++◌, map, take, length, slice_get, if◌then◌else◌, ◌&&◌}
+use Rattle.std.specs.Prelude.{◌≡◌, ℕ, zero, suc, ◌+◌, ◌<◌, Bool, true, false, ◌⊎◌, ◌↔◌, IsTrue, Option, Some, None, is_some, List, [], ◌∷◌, ◌++◌, map, take, slice_get, if◌then◌else◌, ◌&&◌}
 use Rattle.std.specs.List.{range_with_len, slice_index_or}
 use Rattle.swc_tree_marks.specs.declared.ident.Ident.{Ident}
 use Rattle.swc_tree_node.specs.declared.kind.Kind.{Kind}
@@ -12,13 +12,13 @@ use Rattle.swc_tree_scoping.specs.declared.places.View.{View}
 use Rattle.swc_tree_scoping.specs.declared.places.View.TheVariants as view
 use Rattle.swc_tree_scoping.specs.Places.{Path, children_in, child, given, opened, place_below, place_at}
 use Rattle.swc_tree_scoping.specs.Folds.{each_in}
-use Rattle.swc_tree_scoping.specs.Scopes.{Round, one_if, scope_at, scope_count, seen_as, total, view_in}
+use Rattle.swc_tree_scoping.specs.Scopes.{Round, is_binding, one_if, scope_at, scope_count, seen_as, total, view_in}
 use Rattle.swc_tree_scoping.specs.Resolved.{Contexts, is_global_value, remarked}
 use Rattle.swc_base_resolver_program.specs.declared.names.ScopeNames.{ScopeNames}
 use Rattle.swc_base_resolver_program.specs.declared.collect.Stage.{Stage}
 use Rattle.swc_base_resolver_program.specs.declared.collect.Stage.TheVariants as stage
 use Rattle.swc_base_resolver_program.specs.declared.walk.Answers.{Answers}
-use Rattle.swc_base_resolver_program.specs.Names.{has_way, is_way, no_ways, ways_in}
+use Rattle.swc_base_resolver_program.specs.Names.{has_way, is_way, ways_in}
 use Rattle.swc_base_resolver_program.specs.Lookup.{Open, Tables, function_owner_in, hoists_in, meaning_in, meets_in, names_in, same_number, tables_in, taker_in, variable_owner_in}
 
 -- the number of scopes that begin before a child, its parent counted in
@@ -53,6 +53,13 @@ abbrev pub target_in : Stage → Standing → List ℕ → List Open → Option 
 target_in stage.Bind r x env = taker_in r env
 target_in (stage.Settle b) r x env = settled r x env (hoists_in (names_in b)) (meets_in (names_in b))
 
+-- a stage looks for names that are bound so
+abbrev pub is_sought : Stage → Standing → Bool
+is_sought stage.Bind r = is_binding r
+is_sought (stage.Settle b) standing.SloppyFunction = true
+is_sought (stage.Settle b) standing.Variable = true
+is_sought (stage.Settle b) _ = false
+
 -- below a node an identifier that no pass has marked binds the name so, and the stage gives it to that scope
 pub record Reaches (s : Stage) (env : List Open) (n : ℕ) (w : Place) (t : Node) (k : ℕ) (r : Standing) (x : List ℕ) : Type 0 where
   pub path : Path
@@ -82,13 +89,22 @@ IsAdded number standing name k r x = (k ≡ number) × IsTrue (is_way standing r
 abbrev pub has_at : List ScopeNames → ℕ → Standing → List ℕ → Bool
 has_at ss k r x = has_way (ways_in ss k x) r
 
--- the tables gain just what reaches their scopes
-abbrev pub Gains : List ScopeNames → List ScopeNames → (ℕ → Standing → List ℕ → Type 0) → Type 0
-Gains old new P = (length new ≡ length old) × ((k : ℕ) (r : Standing) (x : List ℕ) → k < length old → IsTrue (has_at new k r x) ↔ (IsTrue (has_at old k r x) ⊎ P k r x))
+-- the scopes take just such names
+abbrev pub Takes : List ScopeNames → (ℕ → Standing → List ℕ → Type 0) → Type 0
+Takes ss P = (k : ℕ) (r : Standing) (x : List ℕ) → IsTrue (has_at ss k r x) ↔ P k r x
 
--- no scope takes a name
-abbrev pub AreEmpty : List ScopeNames → Type 0
-AreEmpty ss = (k : ℕ) (x : List ℕ) → ways_in ss k x ≡ no_ways
+-- the tables gain just such names
+abbrev pub Gains : List ScopeNames → List ScopeNames → (ℕ → Standing → List ℕ → Type 0) → Type 0
+Gains old new P = Takes new (λ k r x. IsTrue (has_at old k r x) ⊎ P k r x)
+
+-- the tables take the same names
+abbrev pub TakeAlike : List ScopeNames → List ScopeNames → Type 0
+TakeAlike old new = (k : ℕ) (x : List ℕ) → ways_in new k x ≡ ways_in old k x
+
+-- there is a table of each of the open scopes among so many
+abbrev pub AreBelow : ℕ → List Open → Type 0
+AreBelow n [] = Unit {0}
+AreBelow n (o ∷ os) = (o.number < n) × AreBelow n os
 
 abbrev pub pick : {A : Type 0} → View → A → A → A → A
 pick view.Outside x y z = x
@@ -119,6 +135,13 @@ abbrev pub own_number : Marking → List ℕ → Option ℕ → Option ℕ
 own_number a x None = None
 own_number a x (Some zero) = if a.is_script && is_global_value x then None else Some zero
 own_number a x (Some (suc k)) = Some (suc k)
+
+-- an identifier that stands so has a mark
+abbrev pub is_marked : Standing → Bool
+is_marked standing.Plain = false
+is_marked standing.Branch = false
+is_marked standing.DefaultExport = false
+is_marked _ = true
 
 -- the context of an identifier that had none
 abbrev pub fresh_context : Marking → Standing → List ℕ → List Open → List ℕ

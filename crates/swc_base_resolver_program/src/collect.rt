@@ -1,11 +1,12 @@
 //! The first two walks: the names that each scope takes, and then those that reach it from blocks.
-ghost use Rattle.std.specs.Prelude.{◌≡◌, ◌+◌, ◌≤◌, [], is_some, length, IfOk, OnOk};
+ghost use Rattle.std.specs.Prelude.{◌≡◌, ◌+◌, ◌<◌, [], length, IfOk, OnOk};
+ghost use Rattle.swc_tree_scoping.specs.declared.places.View.{View};
 ghost use Rattle.swc_tree_scoping.specs.Below.{place_of, view_of};
 ghost use Rattle.swc_tree_scoping.specs.Folds.{each_in};
 ghost use Rattle.swc_tree_scoping.specs.Places.{program_place};
-ghost use Rattle.swc_tree_scoping.specs.Scopes.{one_if, scope_count, total};
+ghost use Rattle.swc_tree_scoping.specs.Scopes.{scope_count, total};
 ghost use Rattle.swc_base_resolver_program.specs.Lookup.{layers, same_number};
-ghost use Rattle.swc_base_resolver_program.specs.Walks.{AreEmpty, Gains, IsAdded, Reaches, ReachesBelow, ReachesHere, pick, target_in};
+ghost use Rattle.swc_base_resolver_program.specs.Walks.{AreBelow, Gains, IsAdded, Reaches, ReachesBelow, ReachesHere, TakeAlike, Takes, is_sought, pick, target_in};
 
 use crate::env::{Env, Layer, hoists, meets, seen, taker, variable_scope};
 use crate::lookup::Names;
@@ -14,8 +15,7 @@ use std::alloc::{AllocError, Global};
 use swc_tree_marks::Ident;
 use swc_tree_node::Node;
 use swc_tree_scoping::{
-    PROGRAM_PLACE, Place, PlacesBelow, Scope, Standing, is_binding, places_of_fields,
-    places_of_items,
+    PROGRAM_PLACE, Place, PlacesBelow, Standing, is_binding, places_of_fields, places_of_items,
 };
 
 /// What a walk looks for.
@@ -29,113 +29,23 @@ pub enum Stage<'a> {
     Settle(Names<'a>),
 }
 
-/// The tables of the scopes of a program, the scopes from the front, which take no name yet.
-pub fn scope_tables(alloc: Global, program: &Node) -> Result<Vec<ScopeNames>, AllocError>
-    ensures size { IfOk result (λ tables. length tables.items ≡ scope_count program_place program.now) }
-    ensures empty { IfOk result (λ tables. AreEmpty tables.items) }
-{
-    let mut tables = Vec::new(alloc);
-    add_tables(alloc, program, PROGRAM_PLACE, &mut tables)?;
-    Ok(tables)
-}
-
-// Adds an empty table for each scope of a node.
-#[cycle(add_tables)]
-fn add_tables(
-    alloc: Global,
-    node: &Node,
-    place: Place,
-    tables: &mut Vec<ScopeNames>,
-) -> Result<(), AllocError>
-    ensures size { OnOk result (length tables.new.items ≡ length tables.old.items + scope_count place node.now) }
-    ensures empty { AreEmpty tables.old.items → OnOk result (AreEmpty tables.new.items) }
-{
-    match node {
-        Node::List(items) => {
-            let items = items.as_slice();
-            add_children_tables(alloc, items, places_of_items(place, items), tables)?;
-            Ok(())
-        }
-        Node::Tree(kind, fields) => {
-            let fields = fields.as_slice();
-            let places = places_of_fields(place, *kind, fields);
-            add_own_table(alloc, places.opened(), tables)?;
-            add_children_tables(alloc, fields, places, tables)?;
-            Ok(())
-        }
-        _ => Ok(()),
-    }
-}
-
-#[cycle(add_tables)]
-fn add_children_tables(
-    alloc: Global,
-    nodes: &[Node],
-    places: PlacesBelow,
-    tables: &mut Vec<ScopeNames>,
-) -> Result<(), AllocError>
-    ensures size { OnOk result (length tables.new.items ≡ length tables.old.items + total (each_in scope_count (place_of places) nodes.now)) }
-    ensures empty { AreEmpty tables.old.items → OnOk result (AreEmpty tables.new.items) }
-{
-    for i in 0..nodes.len() {
-        add_tables(alloc, &nodes[i], places.at(i), tables)?;
-    }
-    Ok(())
-}
-
-// Adds the table of a scope, if there is one.
-fn add_own_table(
-    alloc: Global,
-    scope: Option<Scope>,
-    tables: &mut Vec<ScopeNames>,
-) -> Result<(), AllocError>
-    ensures size { OnOk result (length tables.new.items ≡ length tables.old.items + one_if (is_some scope)) }
-    ensures empty { AreEmpty tables.old.items → OnOk result (AreEmpty tables.new.items) }
-{
-    match scope {
-        Some(_) => {
-            tables.push(ScopeNames::new(alloc))?;
-            Ok(())
-        }
-        None => Ok(()),
-    }
-}
-
-/// Tables of so many scopes, which take no name yet.
-pub fn empty_tables(alloc: Global, count: usize) -> Result<Vec<ScopeNames>, AllocError>
-    ensures size { IfOk result (λ tables. length tables.items ≡ count) }
-    ensures empty { IfOk result (λ tables. AreEmpty tables.items) }
-{
-    let mut tables = Vec::new(alloc);
-    for made in 0..count {
-        tables.push(ScopeNames::new(alloc))?;
-    }
-    Ok(tables)
-}
-
-/// Adds what a walk over a program looks for to the tables of the scopes, the scopes from the front.
+/// The tables of the scopes of a program, the scopes from the front, with just what a walk over it looks for. Up to
+/// `room` tables are never moved to larger memory.
 pub fn gather_program(
     alloc: Global,
     stage: Stage,
     program: &Node,
-    tables: &mut Vec<ScopeNames>,
-) -> Result<(), AllocError>
-    requires room { scope_count program_place program.now ≤ length tables.old.items }
-    ensures { OnOk result (Gains tables.old.items tables.new.items (Reaches stage.entry [] 0 program_place program.now)) }
+    room: usize,
+) -> Result<Vec<ScopeNames>, AllocError>
+    ensures size { IfOk result (λ tables. length tables.items ≡ scope_count program_place program.now) }
+    ensures names { IfOk result (λ tables. Takes tables.items (Reaches stage.entry [] 0 program_place program.now)) }
 {
-    let mut next = 0;
-    gather(
-        alloc,
-        stage,
-        program,
-        PROGRAM_PLACE,
-        &Env::Top,
-        &mut next,
-        tables,
-    )?;
-    Ok(())
+    let mut tables = Vec::with_capacity(alloc, room)?;
+    gather(alloc, stage, program, PROGRAM_PLACE, &Env::Top, &mut tables)?;
+    Ok(tables)
 }
 
+// Adds the tables of the scopes of a node, and to them and to those of the scopes round it what the stage looks for.
 #[cycle(gather)]
 fn gather(
     alloc: Global,
@@ -143,12 +53,11 @@ fn gather(
     node: &Node,
     place: Place,
     env: &Env,
-    next: &mut usize,
     tables: &mut Vec<ScopeNames>,
 ) -> Result<(), AllocError>
-    requires room { next.old + scope_count place node.now ≤ length tables.old.items }
-    ensures next { OnOk result (next.new ≡ next.old + scope_count place node.now) }
-    ensures tables { OnOk result (Gains tables.old.items tables.new.items (Reaches stage.entry (layers env.now) next.old place node.now)) }
+    requires { AreBelow (length tables.old.items) (layers env.now) }
+    ensures size { OnOk result (length tables.new.items ≡ length tables.old.items + scope_count place node.now) }
+    ensures tables { OnOk result (Gains tables.old.items tables.new.items (Reaches stage.entry (layers env.now) (length tables.old.items) place node.now)) }
 {
     match node {
         Node::Identifier(_, ident) => {
@@ -157,10 +66,8 @@ fn gather(
         }
         Node::List(items) => {
             let items = items.as_slice();
-            let places = places_of_items(place, items);
-            gather_children(
-                alloc, stage, items, places, &*env, &*env, &*env, next, tables,
-            )?;
+            let places = places_of_items(place);
+            gather_children(alloc, stage, items, places, &*env, &*env, &*env, tables)?;
             Ok(())
         }
         Node::Tree(kind, fields) => {
@@ -168,12 +75,12 @@ fn gather(
             let places = places_of_fields(place, *kind, fields);
             match places.opened() {
                 Some(scope) => {
+                    let number = add_table(alloc, tables)?;
                     let layer = Layer {
                         scope,
-                        number: *next,
+                        number,
                         whole: true,
                     };
-                    *next += 1;
                     let parameters = Env::In(
                         Layer {
                             whole: false,
@@ -190,15 +97,12 @@ fn gather(
                         &*env,
                         &parameters,
                         &whole,
-                        next,
                         tables,
                     )?;
                     Ok(())
                 }
                 None => {
-                    gather_children(
-                        alloc, stage, fields, places, &*env, &*env, &*env, next, tables,
-                    )?;
+                    gather_children(alloc, stage, fields, places, &*env, &*env, &*env, tables)?;
                     Ok(())
                 }
             }
@@ -216,18 +120,28 @@ fn gather_children(
     outside: &Env,
     parameters: &Env,
     whole: &Env,
-    next: &mut usize,
     tables: &mut Vec<ScopeNames>,
 ) -> Result<(), AllocError>
-    requires room { next.old + total (each_in scope_count (place_of places) nodes.now) ≤ length tables.old.items }
-    ensures next { OnOk result (next.new ≡ next.old + total (each_in scope_count (place_of places) nodes.now)) }
-    ensures tables { OnOk result (Gains tables.old.items tables.new.items (ReachesBelow stage.entry (λ i. pick (view_of places i) (layers outside.now) (layers parameters.now) (layers whole.now)) next.old (place_of places) nodes.now (length nodes.now))) }
+    requires { (v : View) → AreBelow (length tables.old.items) (pick v (layers outside.now) (layers parameters.now) (layers whole.now)) }
+    ensures size { OnOk result (length tables.new.items ≡ length tables.old.items + total (each_in scope_count (place_of places) nodes.now)) }
+    ensures tables { OnOk result (Gains tables.old.items tables.new.items (ReachesBelow stage.entry (λ i. pick (view_of places i) (layers outside.now) (layers parameters.now) (layers whole.now)) (length tables.old.items) (place_of places) nodes.now (length nodes.now))) }
 {
     for i in 0..nodes.len() {
         let env = seen(places.view(i), &*outside, &*parameters, &*whole);
-        gather(alloc, stage, &nodes[i], places.at(i), env, next, tables)?;
+        gather(alloc, stage, &nodes[i], places.at(i), env, tables)?;
     }
     Ok(())
+}
+
+// Adds the table of one scope more, which takes no name yet, and gives the number of the scope.
+fn add_table(alloc: Global, tables: &mut Vec<ScopeNames>) -> Result<usize, AllocError>
+    ensures number { IfOk result (λ number. number ≡ length tables.old.items) }
+    ensures size { OnOk result (length tables.new.items ≡ length tables.old.items + 1) }
+    ensures alike { OnOk result (TakeAlike tables.old.items tables.new.items) }
+{
+    let number = tables.len();
+    tables.push(ScopeNames::new(alloc))?;
+    Ok(number)
 }
 
 // Adds the name of an identifier that no pass has marked to the table of the scope that the stage gives it to.
@@ -239,12 +153,15 @@ fn gather_identifier(
     env: &Env,
     tables: &mut Vec<ScopeNames>,
 ) -> Result<(), AllocError>
-    ensures { OnOk result (Gains tables.old.items tables.new.items (ReachesHere stage.entry (layers env.now) standing ident.now)) }
+    requires { AreBelow (length tables.old.items) (layers env.now) }
+    ensures size { OnOk result (length tables.new.items ≡ length tables.old.items) }
+    ensures tables { OnOk result (Gains tables.old.items tables.new.items (ReachesHere stage.entry (layers env.now) standing ident.now)) }
 {
-    if !ident.ctxt.marks().is_empty() {
+    // Most identifiers bind nothing: they are told by where they stand, with no look at their own memory.
+    if !seeks(stage, standing) {
         return Ok(());
     }
-    if !is_binding(standing) {
+    if !ident.ctxt.marks().is_empty() {
         return Ok(());
     }
     let name = ident.sym.as_str();
@@ -257,6 +174,16 @@ fn gather_identifier(
     }
 }
 
+// Whether the stage looks for names that are bound so.
+fn seeks(stage: Stage, standing: Standing) -> bool
+    ensures { result ≡ is_sought stage.entry standing }
+{
+    match stage {
+        Stage::Bind => is_binding(standing),
+        Stage::Settle(_) => matches!(standing, Standing::SloppyFunction | Standing::Variable),
+    }
+}
+
 fn add(
     alloc: Global,
     tables: &mut Vec<ScopeNames>,
@@ -264,7 +191,9 @@ fn add(
     name: &str,
     standing: Standing,
 ) -> Result<(), AllocError>
-    ensures { OnOk result (Gains tables.old.items tables.new.items (IsAdded number standing name.now)) }
+    requires { number < length tables.old.items }
+    ensures size { OnOk result (length tables.new.items ≡ length tables.old.items) }
+    ensures tables { OnOk result (Gains tables.old.items tables.new.items (IsAdded number standing name.now)) }
 {
     match tables.get_mut(number) {
         Some(names) => {

@@ -8,7 +8,7 @@ ghost use Rattle.swc_tree_scoping.specs.Scopes.{scope_count};
 ghost use Rattle.swc_tree_scoping.specs.Resolved.{Resolved};
 ghost use Rattle.swc_base_resolver_program.specs.Marked.{IsRefusal, MarksOk, OnlyContexts};
 
-use crate::collect::{Stage, empty_tables, gather_program, scope_tables};
+use crate::collect::{Stage, gather_program};
 use crate::lookup::{Declarations, Names};
 use crate::marks::marks_of;
 use crate::walk::{Answers, is_script, write_contexts};
@@ -22,8 +22,8 @@ use swc_tree_scoping::Scope;
 /// begin, and a name that no scope declares has the unresolved mark.
 ///
 /// An identifier that has marks keeps them, and declares nothing. The tree is changed in place: only contexts, the
-/// marks of the scopes and the names that they declare take memory. It costs two walks over the tree, and in the
-/// second one two hashed look-ups, at most, for each reference and each scope round it.
+/// marks of the scopes and the names that they declare take memory. It costs three walks over the tree, and in the
+/// last one two hashed look-ups, at most, for each reference and each scope round it.
 ///
 /// # Errors
 ///
@@ -43,15 +43,14 @@ pub fn resolve_program(
     ensures refusal { IfErr result IsRefusal }
     ensures spent { IsErrOf result PassError.MarksSpent → 4294967295 < greatest globals.old + (scope_count program_place program - 1) }
 {
-    let mut bound = scope_tables(alloc, &program)?;
-    gather_program(alloc, Stage::Bind, &program, &mut bound)?;
+    let bound = gather_program(alloc, Stage::Bind, &program, 0)?;
     let bound_names = bound.as_slice();
-    let mut reached = empty_tables(alloc, bound_names.len())?;
+    let scope_count = bound_names.len();
     let bound = Names::new(bound_names);
-    gather_program(alloc, Stage::Settle(bound), &program, &mut reached)?;
+    let reached = gather_program(alloc, Stage::Settle(bound), &program, scope_count)?;
     let reached_names = reached.as_slice();
     let reached = Names::new(reached_names);
-    let marks = marks_of(alloc, globals, top, reached_names.len())?;
+    let marks = marks_of(alloc, globals, top, scope_count)?;
     let answers = Answers {
         marks: marks.as_slice(),
         declarations: Declarations { bound, reached },

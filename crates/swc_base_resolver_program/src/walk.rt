@@ -6,7 +6,7 @@ ghost use Rattle.swc_tree_scoping.specs.Places.{program_place};
 ghost use Rattle.swc_tree_scoping.specs.Scopes.{scope_count, total};
 ghost use Rattle.swc_tree_scoping.specs.Resolved.{is_global_value as names_global_value, is_script as is_script_node, remarked};
 ghost use Rattle.swc_base_resolver_program.specs.Lookup.{layers};
-ghost use Rattle.swc_base_resolver_program.specs.Walks.{context_of, fresh_context, mark_at as mark_by, marking_in, own_number, pick, walked, written};
+ghost use Rattle.swc_base_resolver_program.specs.Walks.{context_of, fresh_context, is_marked, mark_at as mark_by, marking_in, own_number, pick, walked, written};
 
 use crate::env::{Env, Layer, seen, taker};
 use crate::lookup::{Declarations, function_owner, meaning, variable_owner};
@@ -15,7 +15,7 @@ use swc_tree_items::Items;
 use swc_tree_marks::{Ident, Mark};
 use swc_tree_node::{Kind, Node};
 use swc_tree_scoping::{
-    PROGRAM_PLACE, Place, PlacesBelow, Standing, is_reference, places_of_fields, places_of_items,
+    PROGRAM_PLACE, Place, PlacesBelow, Standing, places_of_fields, places_of_items,
 };
 
 /// The marks of the scopes and what they declare, the scopes from the front; the mark of free names; and whether the
@@ -57,7 +57,7 @@ fn resolve(
             Ok(Node::Identifier(kind, ident))
         }
         Node::List(items) => {
-            let places = places_of_items(place, items.as_slice());
+            let places = places_of_items(place);
             let items = resolve_children(items, places, &*answers, &*env, &*env, &*env, next)?;
             Ok(Node::List(items))
         }
@@ -118,9 +118,11 @@ fn resolve_children(
     ensures next { OnOk result (next.new ≡ next.old + total (each_in scope_count (place_of places) nodes)) }
 {
     for i in 0..nodes.len() {
+        let place = places.at(i);
+        let extent = places.view(i);
+        let env = seen(extent, &*outside, &*parameters, &*whole);
         let node = nodes.replace(i, Node::Absent);
-        let env = seen(places.view(i), &*outside, &*parameters, &*whole);
-        let done = resolve(node, places.at(i), &*answers, env, next)?;
+        let done = resolve(node, place, &*answers, env, next)?;
         nodes.set(i, done);
     }
     Ok(nodes)
@@ -135,6 +137,10 @@ fn mark_identifier(
 ) -> Result<(), AllocError>
     ensures { OnOk result (ident.new ≡ record ident.old { ctxt = context_of (marking_in answers.now) standing (layers env.now) ident.old }) }
 {
+    // What has no mark is told by where it stands, with no look at its own memory.
+    if !gets_mark(standing) {
+        return Ok(());
+    }
     if !ident.ctxt.marks().is_empty() {
         return Ok(());
     }
@@ -145,6 +151,16 @@ fn mark_identifier(
         }
         None => Ok(()),
     }
+}
+
+// Whether an identifier that stands so is to have a mark.
+fn gets_mark(standing: Standing) -> bool
+    ensures { result ≡ is_marked standing }
+{
+    !matches!(
+        standing,
+        Standing::Plain | Standing::Branch | Standing::DefaultExport
+    )
 }
 
 // The mark that an identifier is to have, if it is to have one.

@@ -104,7 +104,7 @@ impl Fields {
 }
 
 /// The places of the items of a list in a place.
-pub fn places_of_items(place: Place, items: &[Node]) -> PlacesBelow
+pub fn places_of_items(place: Place) -> PlacesBelow
     ensures { result ≡ PlacesBelow.Items place }
 {
     PlacesBelow::Items(place)

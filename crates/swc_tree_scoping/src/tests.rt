@@ -44,7 +44,7 @@ fn names_go_by_the_keyword(rt: HostRuntime) {
         let places = places_of_fields(PROGRAM_PLACE, Kind::VarDecl, &fields);
         let list = places.at(2);
         assert_eq!(rt; list.standing, want);
-        assert_eq!(rt; places_of_items(list, &[]).at(7).standing, want);
+        assert_eq!(rt; places_of_items(list).at(7).standing, want);
     }
 }
 

@@ -1,7 +1,5 @@
-use Rattle.std.proofs.Common.{◌≡◌, ◌∙◌, ◌+◌, ap, length, arith}
+use Rattle.std.proofs.Common.{◌∙◌, ◌+◌, ap, length, arith}
 use Rattle.swc_tree_marks.specs.Globals.{greatest}
-use Rattle.swc_tree_scoping.specs.Places.{program_place}
-use Rattle.swc_tree_scoping.specs.Scopes.{scope_count}
 use Rattle.swc_base_resolver_program.specs.Names.{ways_in}
 use Rattle.swc_base_resolver_program.specs.Lookup.{names_in}
 use Rattle.swc_base_resolver_program.proofs.Together.{marks_length, fits_alike, program_resolved}
@@ -10,9 +8,8 @@ use Rattle.swc_base_resolver_program.proofs.program.resolve_program.Goals as goa
 pub write_contexts-requires : goal.write_contexts-requires
 write_contexts-requires c =
     let long = ap length (c.as_slice.ensures.value ∙ c.in_ok-marks.ensures.marks) ∙ marks_length c.args.top (greatest c.args.globals.now + 1) _ in
-    let many = ap length c.as_slice-reached_names.ensures.value in
     let some = ap length c.as_slice-bound_names.ensures.value in
-    omega (arith, long, many, some, c.in_ok-reached.ensures.size, c.in_ok-gather_program-2.ensures.0, c.in_ok-gather_program.ensures.0, c.in_ok-bound.ensures.size)
+    omega (arith, long, some, c.in_ok-bound.ensures.size)
 
 pub returns-clause-place : goal.returns-clause-place
 returns-clause-place c = fits_alike c.args.program c.in_ok-answer.answer (record { marks = c.as_slice.result.now; tables = record { bound = names_in c.new-bound.result; reached = names_in c.new-reached.result }; unresolved = c.args.unresolved; is_script = c.is_script.result }) c.in_ok-answer.ensures
@@ -21,10 +18,8 @@ pub returns-clause-resolved : goal.returns-clause-resolved
 returns-clause-resolved c =
     let bound_is = ap ways_in c.as_slice-bound_names.ensures.value in
     let reached_is = ap ways_in c.as_slice-reached_names.ensures.value in
-    let long = ap length c.as_slice-bound_names.ensures.value in
-    let size_too : length c.in_ok-reached.reached.items ≡ scope_count program_place c.args.program = omega (arith, long, c.in_ok-reached.ensures.size, c.in_ok-gather_program.ensures.0, c.in_ok-bound.ensures.size) in
-    let count : length c.as_slice-reached_names.result.now ≡ _ = ap length c.as_slice-reached_names.ensures.value ∙ c.in_ok-gather_program-2.ensures.0 ∙ size_too in
-    program_resolved c.args.program c.in_ok-answer.answer (record { marks = c.as_slice.result.now; tables = record { bound = names_in c.new-bound.result; reached = names_in c.new-reached.result }; unresolved = c.args.unresolved; is_script = c.is_script.result }) c.in_ok-answer.ensures c.in_ok-bound.bound.items _ c.in_ok-reached.reached.items _ c.new-bound.result
-    c.in_ok-bound.ensures.size c.in_ok-bound.ensures.empty c.in_ok-gather_program.ensures size_too c.in_ok-reached.ensures.empty c.in_ok-gather_program-2.ensures (c.new-bound.ensures ∙ bound_is)
-    (ap (λ b. record { bound = b; reached = names_in c.new-reached.result }) (c.new-bound.ensures ∙ bound_is) ∙ ap (λ r. record { bound = ways_in c.gather_program.new.tables.items; reached = r }) (c.new-reached.ensures ∙ reached_is))
+    let count = ap length c.as_slice-bound_names.ensures.value ∙ c.in_ok-bound.ensures.size in
+    program_resolved c.args.program c.in_ok-answer.answer (record { marks = c.as_slice.result.now; tables = record { bound = names_in c.new-bound.result; reached = names_in c.new-reached.result }; unresolved = c.args.unresolved; is_script = c.is_script.result }) c.in_ok-answer.ensures c.in_ok-bound.bound.items c.in_ok-reached.reached.items c.new-bound.result
+    c.in_ok-bound.ensures.names c.in_ok-reached.ensures.names (c.new-bound.ensures ∙ bound_is)
+    (ap (λ b. record { bound = b; reached = names_in c.new-reached.result }) (c.new-bound.ensures ∙ bound_is) ∙ ap (λ r. record { bound = ways_in c.in_ok-bound.bound.items; reached = r }) (c.new-reached.ensures ∙ reached_is))
     c.is_script.ensures c.args.globals.now c.marks_of.new.globals c.args.top _ count (c.as_slice.ensures.value ∙ c.in_ok-marks.ensures.marks) c.in_ok-marks.ensures.table

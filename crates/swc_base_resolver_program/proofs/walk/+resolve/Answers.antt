@@ -1,6 +1,6 @@
 use Rattle.std.proofs.Common.{ℕ, List, arith, rules, refl, sym, ap, ◌∙◌, length-set}
 use Rattle.std.specs.Option.{is_some}
-use Rattle.swc_tree_node.specs.declared.node.Node.{Node, List as Many, Tree, the_lemmas}
+use Rattle.swc_tree_node.specs.declared.node.Node.{Node, Tree, the_lemmas}
 use Rattle.swc_tree_scoping.specs.declared.below.PlacesBelow.TheVariants.{Fields}
 use Rattle.swc_tree_scoping.specs.Folds.{each_in}
 use Rattle.swc_tree_scoping.specs.Below.{fields_are, place_of, scope_of_fields, view_of}
@@ -15,77 +15,72 @@ use Rattle.swc_base_resolver_program.proofs.walk.+resolve.Goals as goal
 
 pub resolve-resolve_children-requires : goal.resolve-resolve_children-requires
 resolve-resolve_children-requires t c =
-    let items_are = c.as_slice.ensures in
-    let known = known_list c.args.place c.args.node c.as_slice.result.now c.places_of_items-places.result (c.in-List.is ∙ ap (λ ts. Many ts) (sym items_are)) c.places_of_items-places.ensures in
-    let all = counted c.args.place c.args.node c.as_slice.result.now c.places_of_items-places.result known in
+    let known = known_list c.args.place c.args.node c.in-List.items c.places_of_items-places.result c.in-List.is c.places_of_items-places.ensures in
+    let all = counted c.args.place c.args.node c.in-List.items c.places_of_items-places.result known in
     let none = ap (λ p. one_if (is_some (scope_of_fields p))) c.places_of_items-places.ensures in
-    let same = ap (λ ts. total (each_in scope_count (place_of c.places_of_items-places.result) ts)) items_are in
-    (search (rules, the_lemmas), omega (arith, all, none, same, c.requires))
+    (search (rules, the_lemmas), omega (arith, all, none, c.requires))
 
 pub resolve-resolve_children-requires-in-Some : goal.resolve-resolve_children-requires-in-Some
 resolve-resolve_children-requires-in-Some t c =
-    let same_fields = c.as_slice-in-Tree.ensures in
-    let known = known_tree c.args.place c.args.node c.as_slice-in-Tree.result.now c.places_of_fields-places.result c.in-Tree.kind (c.in-Tree.is ∙ ap (λ ts. Tree c.in-Tree.kind ts) (sym same_fields)) c.places_of_fields-places.ensures in
-    let all = counted c.args.place c.args.node c.as_slice-in-Tree.result.now c.places_of_fields-places.result known in
+    let same_fields = c.as_slice.ensures in
+    let known = known_tree c.args.place c.args.node c.as_slice.result.now c.places_of_fields-places.result c.in-Tree.kind (c.in-Tree.is ∙ ap (λ ts. Tree c.in-Tree.kind ts) (sym same_fields)) c.places_of_fields-places.ensures in
+    let all = counted c.args.place c.args.node c.as_slice.result.now c.places_of_fields-places.result known in
     let own = ap (λ o. one_if (is_some o)) c.in-Some.ensures in
     let same = ap (λ ts. total (each_in scope_count (place_of c.places_of_fields-places.result) ts)) same_fields in
     (search (rules, the_lemmas), omega (arith, all, own, same, c.requires))
 
 pub resolve-resolve_children-requires-in-None : goal.resolve-resolve_children-requires-in-None
 resolve-resolve_children-requires-in-None t c =
-    let same_fields = c.as_slice-in-Tree.ensures in
-    let known = known_tree c.args.place c.args.node c.as_slice-in-Tree.result.now c.places_of_fields-places.result c.in-Tree.kind (c.in-Tree.is ∙ ap (λ ts. Tree c.in-Tree.kind ts) (sym same_fields)) c.places_of_fields-places.ensures in
-    let all = counted c.args.place c.args.node c.as_slice-in-Tree.result.now c.places_of_fields-places.result known in
+    let same_fields = c.as_slice.ensures in
+    let known = known_tree c.args.place c.args.node c.as_slice.result.now c.places_of_fields-places.result c.in-Tree.kind (c.in-Tree.is ∙ ap (λ ts. Tree c.in-Tree.kind ts) (sym same_fields)) c.places_of_fields-places.ensures in
+    let all = counted c.args.place c.args.node c.as_slice.result.now c.places_of_fields-places.result known in
     let same = ap (λ ts. total (each_in scope_count (place_of c.places_of_fields-places.result) ts)) same_fields in
     (search (rules, the_lemmas), omega (arith, all, same, c.requires))
 
 pub resolve-prove-unreachable-requires : goal.resolve-prove-unreachable-requires
 resolve-prove-unreachable-requires t c =
-    let same_fields = c.as_slice-in-Tree.ensures in
-    let known = known_tree c.args.place c.args.node c.as_slice-in-Tree.result.now c.places_of_fields-places.result c.in-Tree.kind (c.in-Tree.is ∙ ap (λ ts. Tree c.in-Tree.kind ts) (sym same_fields)) c.places_of_fields-places.ensures in
-    let all = counted c.args.place c.args.node c.as_slice-in-Tree.result.now c.places_of_fields-places.result known in
+    let same_fields = c.as_slice.ensures in
+    let known = known_tree c.args.place c.args.node c.as_slice.result.now c.places_of_fields-places.result c.in-Tree.kind (c.in-Tree.is ∙ ap (λ ts. Tree c.in-Tree.kind ts) (sym same_fields)) c.places_of_fields-places.ensures in
+    let all = counted c.args.place c.args.node c.as_slice.result.now c.places_of_fields-places.result known in
     let own = ap (λ o. one_if (is_some o)) c.in-Some.ensures in
     omega (arith, all, own, c.requires, c.if-prove.true)
 
 pub resolve-returns-in_ok-items-in-List-clause-answer : goal.resolve-returns-in_ok-items-in-List-clause-answer
 resolve-returns-in_ok-items-in-List-clause-answer t c =
-    let items_are = c.as_slice.ensures in
-    let known = known_list c.args.place c.args.node c.in-List.items c.places_of_items-places.result c.in-List.is (c.places_of_items-places.ensures) in
+    let known = known_list c.args.place c.args.node c.in-List.items c.places_of_items-places.result c.in-List.is c.places_of_items-places.ensures in
     list_done (marking_in c.args.answers.now) c.args.place c.args.node c.in-List.items c.places_of_items-places.result known (layers c.args.env.now) c.args.next.now c.in_ok-items-in-List.items c.in-List.is (sym (ap scope_of_fields c.places_of_items-places.ensures)) c.in_ok-items-in-List.ensures.answer
 
 pub resolve-returns-in_ok-items-in-List-clause-next : goal.resolve-returns-in_ok-items-in-List-clause-next
 resolve-returns-in_ok-items-in-List-clause-next t c =
-    let items_are = c.as_slice.ensures in
-    let known = known_list c.args.place c.args.node c.as_slice.result.now c.places_of_items-places.result (c.in-List.is ∙ ap (λ ts. Many ts) (sym items_are)) c.places_of_items-places.ensures in
-    let all = counted c.args.place c.args.node c.as_slice.result.now c.places_of_items-places.result known in
+    let known = known_list c.args.place c.args.node c.in-List.items c.places_of_items-places.result c.in-List.is c.places_of_items-places.ensures in
+    let all = counted c.args.place c.args.node c.in-List.items c.places_of_items-places.result known in
     let none = ap (λ p. one_if (is_some (scope_of_fields p))) c.places_of_items-places.ensures in
-    let same = ap (λ ts. total (each_in scope_count (place_of c.places_of_items-places.result) ts)) items_are in
-    omega (arith, all, none, same, c.in_ok-items-in-List.ensures.next)
+    omega (arith, all, none, c.in_ok-items-in-List.ensures.next)
 
 pub resolve-returns-in_ok-fields-in-None-clause-answer : goal.resolve-returns-in_ok-fields-in-None-clause-answer
 resolve-returns-in_ok-fields-in-None-clause-answer t c =
-    let known = known_tree c.args.place c.args.node c.in-Tree.fields c.places_of_fields-places.result c.in-Tree.kind c.in-Tree.is (c.places_of_fields-places.ensures ∙ ap (λ ts. Fields (fields_are c.args.place c.in-Tree.kind ts)) c.as_slice-in-Tree.ensures) in
-    plain_done (marking_in c.args.answers.now) c.args.place c.args.node c.in-Tree.fields c.places_of_fields-places.result known (layers c.args.env.now) c.args.next.now c.in-Tree.kind c.in_ok-fields-in-None.fields c.in-Tree.is c.in-None.ensures c.in_ok-fields-in-None.ensures.answer
+    let known = known_tree c.args.place c.args.node c.in-Tree.fields c.places_of_fields-places.result c.in-Tree.kind c.in-Tree.is (c.places_of_fields-places.ensures ∙ ap (λ ts. Fields (fields_are c.args.place c.in-Tree.kind ts)) c.as_slice.ensures) in
+    plain_done (marking_in c.args.answers.now) c.args.place c.args.node c.in-Tree.fields c.places_of_fields-places.result known (layers c.args.env.now) c.args.next.now c.in-Tree.kind c.in_ok-fields-in-None.fields _ _ c.in-Tree.is c.in-None.ensures (search rules) (search rules) c.in_ok-fields-in-None.ensures.answer
 
 pub resolve-returns-in_ok-fields-in-None-clause-next : goal.resolve-returns-in_ok-fields-in-None-clause-next
 resolve-returns-in_ok-fields-in-None-clause-next t c =
-    let same_fields = c.as_slice-in-Tree.ensures in
-    let known = known_tree c.args.place c.args.node c.as_slice-in-Tree.result.now c.places_of_fields-places.result c.in-Tree.kind (c.in-Tree.is ∙ ap (λ ts. Tree c.in-Tree.kind ts) (sym same_fields)) c.places_of_fields-places.ensures in
-    let all = counted c.args.place c.args.node c.as_slice-in-Tree.result.now c.places_of_fields-places.result known in
+    let same_fields = c.as_slice.ensures in
+    let known = known_tree c.args.place c.args.node c.as_slice.result.now c.places_of_fields-places.result c.in-Tree.kind (c.in-Tree.is ∙ ap (λ ts. Tree c.in-Tree.kind ts) (sym same_fields)) c.places_of_fields-places.ensures in
+    let all = counted c.args.place c.args.node c.as_slice.result.now c.places_of_fields-places.result known in
     let none = ap (λ o. one_if (is_some o)) c.in-None.ensures in
     let same = ap (λ ts. total (each_in scope_count (place_of c.places_of_fields-places.result) ts)) same_fields in
     omega (arith, all, none, same, c.in_ok-fields-in-None.ensures.next)
 
 pub resolve-returns-in_ok-fields-in-Some-clause-answer : goal.resolve-returns-in_ok-fields-in-Some-clause-answer
 resolve-returns-in_ok-fields-in-Some-clause-answer t c =
-    let known = known_tree c.args.place c.args.node c.in-Tree.fields c.places_of_fields-places.result c.in-Tree.kind c.in-Tree.is (c.places_of_fields-places.ensures ∙ ap (λ ts. Fields (fields_are c.args.place c.in-Tree.kind ts)) c.as_slice-in-Tree.ensures) in
+    let known = known_tree c.args.place c.args.node c.in-Tree.fields c.places_of_fields-places.result c.in-Tree.kind c.in-Tree.is (c.places_of_fields-places.ensures ∙ ap (λ ts. Fields (fields_are c.args.place c.in-Tree.kind ts)) c.as_slice.ensures) in
     scope_done (marking_in c.args.answers.now) c.args.place c.args.node c.in-Tree.fields c.places_of_fields-places.result known (layers c.args.env.now) c.args.next.now c.in-Tree.kind c.in_ok-fields-in-Some.fields c.in-Some.scope _ _ _ c.in-Tree.is c.in-Some.ensures (layers_inside _ _) (layers_inside _ _) refl c.in_ok-fields-in-Some.ensures.answer
 
 pub resolve-returns-in_ok-fields-in-Some-clause-next : goal.resolve-returns-in_ok-fields-in-Some-clause-next
 resolve-returns-in_ok-fields-in-Some-clause-next t c =
-    let same_fields = c.as_slice-in-Tree.ensures in
-    let known = known_tree c.args.place c.args.node c.as_slice-in-Tree.result.now c.places_of_fields-places.result c.in-Tree.kind (c.in-Tree.is ∙ ap (λ ts. Tree c.in-Tree.kind ts) (sym same_fields)) c.places_of_fields-places.ensures in
-    let all = counted c.args.place c.args.node c.as_slice-in-Tree.result.now c.places_of_fields-places.result known in
+    let same_fields = c.as_slice.ensures in
+    let known = known_tree c.args.place c.args.node c.as_slice.result.now c.places_of_fields-places.result c.in-Tree.kind (c.in-Tree.is ∙ ap (λ ts. Tree c.in-Tree.kind ts) (sym same_fields)) c.places_of_fields-places.ensures in
+    let all = counted c.args.place c.args.node c.as_slice.result.now c.places_of_fields-places.result known in
     let own = ap (λ o. one_if (is_some o)) c.in-Some.ensures in
     let same = ap (λ ts. total (each_in scope_count (place_of c.places_of_fields-places.result) ts)) same_fields in
     omega (arith, all, own, same, c.in_ok-fields-in-Some.ensures.next)
@@ -95,7 +90,7 @@ resolve_children-resolve-requires t c =
     let envs : ℕ → List Open = λ i. pick (view_of c.args.places i) (layers c.args.outside.now) (layers c.args.parameters.now) (layers c.args.whole.now) in
     let here = child_is (marking_in c.args.answers.now) envs c.args.nodes c.loop-i.nodes (place_of c.args.places) c.args.next.now c.loop-i.i c.loop-i.next c.replace-node.result (omega arith) c.loop-i.invariant.done c.replace-node.ensures.taken in
     let part = total_part (place_of c.args.places) c.args.nodes c.loop-i.i c.replace-node.result here in
-    let same = ap (λ w. scope_count w c.replace-node.result) c.at.ensures in
+    let same = ap (λ w. scope_count w c.replace-node.result) c.at-place.ensures in
     let smaller = λ (μ : Node → ℕ). got_at_most μ c.args.nodes c.loop-i.i c.replace-node.result here in
     (search (rules, the_lemmas, smaller), omega (arith, part, same, c.requires, c.loop-i.invariant.count))
 
@@ -104,11 +99,11 @@ resolve_children-loop-i-preserved t c =
     let envs : ℕ → List Open = λ i. pick (view_of c.args.places i) (layers c.args.outside.now) (layers c.args.parameters.now) (layers c.args.whole.now) in
     let here = child_is (marking_in c.args.answers.now) envs c.args.nodes c.loop-i.nodes (place_of c.args.places) c.args.next.now c.loop-i.i c.loop-i.next c.replace-node.result (omega arith) c.loop-i.invariant.done c.replace-node.ensures.taken in
     let next = total_next (place_of c.args.places) c.args.nodes c.loop-i.i c.replace-node.result here in
-    let same = ap (λ w. scope_count w c.replace-node.result) c.at.ensures in
-    let env_is = ap layers c.seen-env.ensures ∙ picked layers _ _ _ (view_of c.args.places c.loop-i.i) c.view.result c.view.ensures in
+    let same = ap (λ w. scope_count w c.replace-node.result) c.at-place.ensures in
+    let env_is = ap layers c.seen-env.ensures ∙ picked layers _ _ _ (view_of c.args.places c.loop-i.i) c.view-extent.result c.view-extent.ensures in
     record {
       size = simp (c.set.ensures, c.replace-node.ensures.list, length-set) c.loop-i.invariant.size;
       done = child_done (marking_in c.args.answers.now) envs c.args.nodes c.loop-i.nodes (place_of c.args.places) c.args.next.now c.loop-i.i c.loop-i.next c.replace-node.result (omega arith) c.loop-i.invariant.done c.replace-node.ensures.taken
-          c.loop-i.invariant.count (layers c.seen-env.result.now) c.at.result env_is c.at.ensures _ _ _ _ c.replace-node.ensures.list c.set.ensures c.in_ok-done.ensures.answer;
+          c.loop-i.invariant.count (layers c.seen-env.result.now) c.at-place.result env_is c.at-place.ensures _ _ _ _ c.replace-node.ensures.list c.set.ensures c.in_ok-done.ensures.answer;
       count = omega (arith, next, same, c.loop-i.invariant.count, c.in_ok-done.ensures.next);
     }
