@@ -1,5 +1,6 @@
 //! Programs, closed and opened, and passes and checks over them.
 ghost use Rattle.std.specs.Prelude.{◌≡◌};
+ghost use Rattle.swc_tree_marks.specs.declared.error.PassError.TheVariants as refusal;
 
 use crate::build::{name_statement, string_statement};
 use std::alloc::{AllocError, Global};
@@ -95,9 +96,9 @@ impl JsPass for Refused {
 
     ghost visits_script = { λ pass table before held after. ⊥ };
 
-    ghost refuses = { λ pass table before error. error ≡ PassError.CounterSpent };
+    ghost refuses = { λ pass table before error. error ≡ refusal.CounterSpent };
 
-    ghost refuses_script = { λ pass table before error. error ≡ PassError.CounterSpent };
+    ghost refuses_script = { λ pass table before error. error ≡ refusal.CounterSpent };
 
     fn visit_mut_module(
         &mut self,
