@@ -1,10 +1,11 @@
 """The classes as types, and that kinds have numbers of their own, in the crate swc_tree_handle."""
 PRINTED = 'Printed by tools/print_table.py from tools/tree.txt.'
 
-CLASS_HEAD = '''//! The classes of nodes, as types.
+CLASS_HEAD = '''//! The classes of nodes, as types, those of a family of the tree in a file.
 //!
 //! %s
 
+%s
 /// A class, as a type: what a `Tree` or a `Trees` holds.
 pub trait Syntax {
     ghost use Rattle.swc_tree_node.specs.declared.kind.Class.{Class};
@@ -12,7 +13,13 @@ pub trait Syntax {
     /// The class.
     ghost class: { Class };
 }
-''' % PRINTED
+'''
+
+FAMILY_HEAD = '''//! The classes of the family %s.
+//!
+//! %s
+use crate::class::Syntax;
+'''
 
 CLASS = '''
 /// The class `%(name)s`.
@@ -47,8 +54,23 @@ same_kind k l e = rw (← kind_back k) (rw (← kind_back l) (ap kind_at e))
 '''
 
 
-def class_rt(tree):
-    return CLASS_HEAD + ''.join(CLASS % {'name': name} for name in tree.classes())
+def family_of(tree, name):
+    """The family that a class's struct or sum stands in, without what all families' names begin with."""
+    return tree.entry(name).family.removeprefix('swc_tree_')
+
+
+def class_files(tree):
+    """The trait and a file for each family, by what stands after `src/`."""
+    families = {}
+    for name in tree.classes():
+        families.setdefault(family_of(tree, name), []).append(name)
+    uses = ''.join('mod %s;\n' % family for family in sorted(families)) + '\n'
+    for family in sorted(families):
+        uses += 'pub use %s::{%s};\n' % (family, ', '.join(sorted(families[family], key=str.lower)))
+    printed = {'class.rt': CLASS_HEAD % (PRINTED, uses)}
+    for family, names in families.items():
+        printed['class/%s.rt' % family] = FAMILY_HEAD % (family, PRINTED) + ''.join(CLASS % {'name': name} for name in names)
+    return printed
 
 
 def numbers_antt(tree):
@@ -61,4 +83,5 @@ def numbers_antt(tree):
 
 def files(tree):
     crate = 'crates/swc_tree_handle/'
-    return {crate + 'src/class.rt': class_rt(tree), crate + 'proofs/Numbers.antt': numbers_antt(tree)}
+    printed = {crate + 'src/' + path: text for path, text in class_files(tree).items()}
+    return {**printed, crate + 'proofs/Numbers.antt': numbers_antt(tree)}

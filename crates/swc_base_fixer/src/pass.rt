@@ -7,7 +7,7 @@ ghost use Rattle.swc_tree_grammar.specs.Pairs.{moves};
 ghost use Rattle.swc_tree_grammar.specs.Targets.{all_bare};
 ghost use Rattle.swc_base_fixer.specs.Lent.{MovedBehind, reference};
 ghost use Rattle.swc_base_fixer.specs.Unparened.{IsRefusal};
-ghost use Rattle.swc_base_fixer.specs.Visits.{Unparens, UnparensScript};
+ghost use Rattle.swc_base_fixer.specs.Visits.{Refuses, RefusesScript, Unparens, UnparensScript};
 
 use crate::remover::ParenRemover;
 use std::alloc::Global;
@@ -22,6 +22,10 @@ impl<'a, C: Comments> JsPass for ParenRemover<'a, C> {
     ghost visits = { λ _ old before new after. Unparens old before new after };
 
     ghost visits_script = { λ _ old before new after. UnparensScript old before new after };
+
+    ghost refuses = { λ _ _ before e. Refuses before e };
+
+    ghost refuses_script = { λ _ _ before e. RefusesScript before e };
 
     /// Takes every pair of parentheses off a program. Comments move once the program is done, from the last pair of
     /// the source to the first.
@@ -43,7 +47,7 @@ impl<'a, C: Comments> JsPass for ParenRemover<'a, C> {
         ensures refused { OnErr result (IsEmptied program.old program.new) }
         ensures marks { IsExtended globals.old globals.new }
         ensures table { globals.new ≡ globals.old }
-        ensures refusal { IfErr result IsRefusal }
+        ensures cause { IfErr result (Refuses program.old) }
         ensures not_assignable { IsErrAnd result (λ e. e ≡ pass.NotAssignable) ↔ (all_bare (module_node program.old) ≡ false) }
         ensures moved { MovedBehind C.moved self.old.comments (moves (module_node program.old)) self.new.comments result }
         ensures same { reference self.new.comments ≡ reference self.old.comments }
@@ -79,7 +83,7 @@ impl<'a, C: Comments> JsPass for ParenRemover<'a, C> {
         ensures refused { OnErr result (IsEmptiedScript program.old program.new) }
         ensures marks { IsExtended globals.old globals.new }
         ensures table { globals.new ≡ globals.old }
-        ensures refusal { IfErr result IsRefusal }
+        ensures cause { IfErr result (RefusesScript program.old) }
         ensures not_assignable { IsErrAnd result (λ e. e ≡ pass.NotAssignable) ↔ (all_bare (script_node program.old) ≡ false) }
         ensures moved { MovedBehind C.moved self.old.comments (moves (script_node program.old)) self.new.comments result }
         ensures same { reference self.new.comments ≡ reference self.old.comments }

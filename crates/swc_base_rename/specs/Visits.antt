@@ -1,5 +1,7 @@
 -- What the pass makes of a program.
 use Rattle.std.specs.Prelude.{◌≡◌}
+use Rattle.swc_tree_marks.specs.declared.error.PassError.{PassError}
+use Rattle.swc_tree_marks.specs.declared.error.PassError.TheVariants as error
 use Rattle.swc_tree_marks.specs.Globals.{Table}
 use Rattle.swc_tree_modules.specs.declared.module_.Module.{Module}
 use Rattle.swc_tree_modules.specs.declared.script.Script.{Script}
@@ -19,3 +21,10 @@ Renames pass old before new after = RenamesNode pass old (module_node before) ne
 
 abbrev pub RenamesScript : RenameWith → Table → Script → Table → Script → Type 0
 RenamesScript pass old before new after = RenamesNode pass old (script_node before) new (script_node after)
+
+-- a program is refused for want of memory alone
+abbrev pub Refuses : RenameWith → Table → Module → PassError → Type 0
+Refuses pass old before e = e ≡ error.NoMemory
+
+abbrev pub RefusesScript : RenameWith → Table → Script → PassError → Type 0
+RefusesScript pass old before e = e ≡ error.NoMemory

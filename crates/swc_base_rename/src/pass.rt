@@ -2,7 +2,7 @@
 ghost use Rattle.std.specs.Prelude.{◌≡◌, false, OnOk, OnErr, IfErr};
 ghost use Rattle.swc_tree.specs.Passes.{IsEmptied, IsEmptiedScript, IsExtended};
 ghost use Rattle.swc_base_rename_substitution.specs.Names.{new_id, by_text, by_id};
-ghost use Rattle.swc_base_rename.specs.Visits.{Renames, RenamesScript};
+ghost use Rattle.swc_base_rename.specs.Visits.{Refuses, RefusesScript, Renames, RenamesScript};
 
 use std::alloc::Global;
 use std::collections::HashMap;
@@ -51,6 +51,10 @@ impl JsPass for RenameWith<'_> {
 
     ghost visits_script = { RenamesScript };
 
+    ghost refuses = { Refuses };
+
+    ghost refuses_script = { RefusesScript };
+
     /// Gives the names of a program anew. What is well-formed stays so.
     ///
     /// # Errors
@@ -67,7 +71,7 @@ impl JsPass for RenameWith<'_> {
         ensures marks { IsExtended globals.old globals.new }
         ensures table { globals.new ≡ globals.old }
         ensures pass { self.new ≡ self.old }
-        ensures refusal { IfErr result (λ e. e ≡ PassError.NoMemory) }
+        ensures cause { IfErr result (Refuses self.old globals.old program.old) }
     {
         let RenameWith { names, config } = *self;
         let module = mem::replace(program, empty_module(alloc, program.span));
@@ -93,7 +97,7 @@ impl JsPass for RenameWith<'_> {
         ensures marks { IsExtended globals.old globals.new }
         ensures table { globals.new ≡ globals.old }
         ensures pass { self.new ≡ self.old }
-        ensures refusal { IfErr result (λ e. e ≡ PassError.NoMemory) }
+        ensures cause { IfErr result (RefusesScript self.old globals.old program.old) }
     {
         let RenameWith { names, config } = *self;
         let script = mem::replace(program, empty_script(alloc, program.span));

@@ -1,12 +1,16 @@
 -- What the resolver makes of a program; a pass is seen as its unresolved mark and its top mark.
-use Rattle.std.specs.Prelude.{ℕ}
-use Rattle.swc_tree_marks.specs.Globals.{Table}
+use Rattle.std.specs.Prelude.{◌≡◌, ℕ, ◌+◌, ◌-◌, ◌<◌}
+use Rattle.swc_tree_marks.specs.declared.error.PassError.{PassError}
+use Rattle.swc_tree_marks.specs.declared.error.PassError.TheVariants as error
+use Rattle.swc_tree_marks.specs.Globals.{Table, greatest}
 use Rattle.swc_tree_modules.specs.declared.module_.Module.{Module}
 use Rattle.swc_tree_modules.specs.declared.script.Script.{Script}
 use Rattle.swc_tree_modules.specs.Nodes.{module_node, script_node}
 use Rattle.swc_tree_node.specs.declared.node.Node.{Node}
+use Rattle.swc_tree_scoping.specs.Places.{program_place}
 use Rattle.swc_tree_scoping.specs.Resolved.{Resolved}
-use Rattle.swc_base_resolver_program.specs.Marked.{MarksOk, OnlyContexts}
+use Rattle.swc_tree_scoping.specs.Scopes.{scope_count}
+use Rattle.swc_base_resolver_program.specs.Marked.{IsRefusal, MarksOk, OnlyContexts}
 
 -- each identifier is resolved where the table has the two marks; whatever the marks, only contexts change, and
 -- those that are not empty stay
@@ -19,3 +23,15 @@ Resolves pass old before new after = ResolvesNode pass old (module_node before) 
 
 abbrev pub ResolvesScript : ℕ × ℕ → Table → Script → Table → Script → Type 0
 ResolvesScript pass old before new after = ResolvesNode pass old (script_node before) new (script_node after)
+
+-- a program is refused for want of memory; or for want of marks, where the table has no room for one to each of its
+-- scopes but itself
+pub record RefusesNode (old : Table) (before : Node) (e : PassError) : Type 0 where
+  pub refusal : IsRefusal e
+  pub spent : e ≡ error.MarksSpent → 4294967295 < greatest old + (scope_count program_place before - 1)
+
+abbrev pub Refuses : ℕ × ℕ → Table → Module → PassError → Type 0
+Refuses pass old before e = RefusesNode old (module_node before) e
+
+abbrev pub RefusesScript : ℕ × ℕ → Table → Script → PassError → Type 0
+RefusesScript pass old before e = RefusesNode old (script_node before) e

@@ -6,7 +6,7 @@ ghost use Rattle.swc_tree_scoping.specs.Scopes.{scope_count};
 ghost use Rattle.swc_tree.specs.Passes.{IsEmptied, IsEmptiedScript, IsExtended};
 ghost use Rattle.swc_tree_modules.specs.Nodes.{module_node, script_node};
 ghost use Rattle.swc_base_resolver_program.specs.Marked.{IsRefusal};
-ghost use Rattle.swc_base_resolver.specs.Visits.{Resolves, ResolvesScript};
+ghost use Rattle.swc_base_resolver.specs.Visits.{Refuses, RefusesScript, Resolves, ResolvesScript};
 
 use std::alloc::Global;
 use std::marker::Model;
@@ -54,6 +54,10 @@ impl JsPass for Resolver {
 
     ghost visits_script = { ResolvesScript };
 
+    ghost refuses = { Refuses };
+
+    ghost refuses_script = { RefusesScript };
+
     /// Resolves a program. Each run is by itself: nothing is kept from an earlier one.
     ///
     /// # Errors
@@ -69,8 +73,7 @@ impl JsPass for Resolver {
         ensures done { OnOk result (Resolves self.old globals.old program.old globals.new program.new) }
         ensures refused { OnErr result (IsEmptied program.old program.new) }
         ensures marks { IsExtended globals.old globals.new }
-        ensures refusal { IfErr result IsRefusal }
-        ensures spent { IsErrOf result PassError.MarksSpent → 4294967295 < greatest globals.old + (scope_count program_place (module_node program.old) - 1) }
+        ensures cause { IfErr result (Refuses self.old globals.old program.old) }
     {
         let module = mem::replace(program, empty_module(alloc, program.span));
         let node = module.into_node(alloc)?;
@@ -95,8 +98,7 @@ impl JsPass for Resolver {
         ensures done { OnOk result (ResolvesScript self.old globals.old program.old globals.new program.new) }
         ensures refused { OnErr result (IsEmptiedScript program.old program.new) }
         ensures marks { IsExtended globals.old globals.new }
-        ensures refusal { IfErr result IsRefusal }
-        ensures spent { IsErrOf result PassError.MarksSpent → 4294967295 < greatest globals.old + (scope_count program_place (script_node program.old) - 1) }
+        ensures cause { IfErr result (RefusesScript self.old globals.old program.old) }
     {
         let script = mem::replace(program, empty_script(alloc, program.span));
         let node = script.into_node(alloc)?;

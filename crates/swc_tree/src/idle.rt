@@ -15,6 +15,10 @@ impl JsPass for Noop {
 
     ghost visits_script = { λ pass table before held after. (held ≡ table) × (after ≡ before) };
 
+    ghost refuses = { λ pass table before error. ⊥ };
+
+    ghost refuses_script = { λ pass table before error. ⊥ };
+
     fn visit_mut_module(
         &mut self,
         alloc: Global,

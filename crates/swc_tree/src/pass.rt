@@ -1,5 +1,5 @@
 //! Passes over programs.
-ghost use Rattle.std.specs.Prelude.{IfOk, OnOk, OnErr};
+ghost use Rattle.std.specs.Prelude.{IfOk, IfErr, OnOk, OnErr};
 ghost use Rattle.swc_tree.specs.Passes.{IsEmptied, IsEmptiedScript, IsExtended};
 
 use std::alloc::Global;
@@ -9,6 +9,7 @@ use swc_tree_modules::{Module, Script};
 /// A pass over programs, which works in place.
 pub trait JsPass {
     ghost use Rattle.swc_tree_marks.specs.Globals.{Table};
+    ghost use Rattle.swc_tree_marks.specs.declared.error.PassError.{PassError};
     ghost use Rattle.swc_tree_modules.specs.declared.module_.Module.{Module};
     ghost use Rattle.swc_tree_modules.specs.declared.script.Script.{Script};
 
@@ -19,12 +20,18 @@ pub trait JsPass {
     /// What the pass does to a program of the goal Script.
     ghost visits_script: { Self → Table → Script → Table → Script → Type 0 };
 
+    /// When the pass is refused, and why: of the pass, the table of marks and the program before, and the error.
+    ghost refuses: { Self → Table → Module → PassError → Type 0 };
+
+    /// When the pass is refused a program of the goal Script, and why.
+    ghost refuses_script: { Self → Table → Script → PassError → Type 0 };
+
     /// Runs the pass on a program.
     ///
     /// # Errors
     ///
-    /// Whatever the error, the program is then empty, with its span and no `#!` line. The table of
-    /// marks keeps what it has, and may have more.
+    /// As `refuses` says. Whatever the error, the program is then empty, with its span and no `#!` line.
+    /// The table of marks keeps what it has, and may have more.
     fn visit_mut_module(
         &mut self,
         alloc: Global,
@@ -33,6 +40,7 @@ pub trait JsPass {
     ) -> Result<(), PassError>
         ensures done { OnOk result (visits self.old globals.old program.old globals.new program.new) }
         ensures refused { OnErr result (IsEmptied program.old program.new) }
+        ensures cause { IfErr result (refuses self.old globals.old program.old) }
         ensures marks { IsExtended globals.old globals.new };
 
     /// Runs the pass on a program of the goal Script.
@@ -48,13 +56,14 @@ pub trait JsPass {
     ) -> Result<(), PassError>
         ensures done { OnOk result (visits_script self.old globals.old program.old globals.new program.new) }
         ensures refused { OnErr result (IsEmptiedScript program.old program.new) }
+        ensures cause { IfErr result (refuses_script self.old globals.old program.old) }
         ensures marks { IsExtended globals.old globals.new };
 
     /// Runs the pass on a program by value.
     ///
     /// # Errors
     ///
-    /// Whatever the error, nothing is given back. The table of marks keeps what it has, and may have
+    /// Those of `visit_mut_module`. Whatever the error, nothing is given back. The table of marks keeps what it has, and may have
     /// more.
     fn fold_module(
         &mut self,
@@ -63,6 +72,7 @@ pub trait JsPass {
         program: Module,
     ) -> Result<Module, PassError>
         ensures done { IfOk result (λ folded. visits self.old globals.old program globals.new folded) }
+        ensures cause { IfErr result (refuses self.old globals.old program) }
         ensures marks { IsExtended globals.old globals.new }
     {
         let mut program = program;
@@ -82,6 +92,7 @@ pub trait JsPass {
         program: Script,
     ) -> Result<Script, PassError>
         ensures done { IfOk result (λ folded. visits_script self.old globals.old program globals.new folded) }
+        ensures cause { IfErr result (refuses_script self.old globals.old program) }
         ensures marks { IsExtended globals.old globals.new }
     {
         let mut program = program;

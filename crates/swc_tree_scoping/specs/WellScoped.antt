@@ -106,19 +106,20 @@ is_method kind.PrivateMethod = true
 is_method kind.MethodProp = true
 is_method _ = false
 
--- an arrow, a constructor or a setter by itself; a method's function is a field of the method
-abbrev pub is_strict_in_parameters : Kind → Bool
-is_strict_in_parameters kind.ArrowExpr = true
-is_strict_in_parameters kind.Constructor = true
-is_strict_in_parameters kind.SetterProp = true
-is_strict_in_parameters _ = false
+-- the parameters of an arrow, a constructor or a setter are UniqueFormalParameters; of a method those of its function,
+-- which is a field of it
+abbrev pub has_unique_parameters : Kind → Bool
+has_unique_parameters kind.ArrowExpr = true
+has_unique_parameters kind.Constructor = true
+has_unique_parameters kind.SetterProp = true
+has_unique_parameters _ = false
 
 abbrev pub IsAt : (Kind → Bool) → Node → Path → Type 0
 IsAt kinds t p = (w : Place) × (k : Kind) × (ts : List Node) × (place_at program_place t p ≡ Some (w, Tree k ts)) × IsTrue (kinds k)
 
 -- the function at a path is an arrow or a method
 abbrev pub IsArrowOrMethod : Node → Path → Type 0
-IsArrowOrMethod t f = IsAt is_strict_in_parameters t f ⊎ ((q : Path) × (i : ℕ) × (f ≡ q ++ (i ∷ [])) × IsAt is_method t q)
+IsArrowOrMethod t f = IsAt has_unique_parameters t f ⊎ ((q : Path) × (i : ℕ) × (f ≡ q ++ (i ∷ [])) × IsAt is_method t q)
 
 -- two parameters of strict code, an arrow or a method have two names (15.1.1, 15.3.1, 15.5.1)
 abbrev pub NoParameterTwice : Node → Type 0

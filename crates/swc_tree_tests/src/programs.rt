@@ -59,6 +59,10 @@ impl JsPass for Nothing {
 
     ghost visits_script = { λ pass table before held after. (held ≡ table) × (after ≡ before) };
 
+    ghost refuses = { λ pass table before error. ⊥ };
+
+    ghost refuses_script = { λ pass table before error. ⊥ };
+
     fn visit_mut_module(
         &mut self,
         alloc: Global,
@@ -90,6 +94,10 @@ impl JsPass for Refused {
     ghost visits = { λ pass table before held after. ⊥ };
 
     ghost visits_script = { λ pass table before held after. ⊥ };
+
+    ghost refuses = { λ pass table before error. error ≡ PassError.CounterSpent };
+
+    ghost refuses_script = { λ pass table before error. error ≡ PassError.CounterSpent };
 
     fn visit_mut_module(
         &mut self,
