@@ -3,43 +3,16 @@
 //! the run in turn (`tools/refuse_memory.py` does).
 //!
 //! Standard input is three lines: how many requests are made first, an input, and what the run is to write with ample
-//! memory, to standard output or as a fault. Says which of the answers that are allowed it got.
+//! memory, to standard output or as a fault. Says which of the answers that are allowed it got. Where the first line is
+//! `before` or `after`, says how many requests are granted in place of the run or after it, before one is refused.
 #![tactic(auto)]
 
 use anyhow::{Result, bail};
 use jsbase_engine::{Fault, report, run, words};
-use std::alloc::{AllocError, Global};
-use std::{env, fmt};
+use refusals::{Answer, MOST, granted, pieces};
+use std::alloc::Global;
+use std::env;
 use swc_tree_marks::PassError;
-
-/// What a run answered.
-#[derive(Clone, Copy)]
-enum Answer {
-    /// What it writes with ample memory.
-    Ample,
-    /// That memory was refused.
-    Refused,
-    Other,
-}
-
-impl fmt::Display for Answer {
-    fn fmt<W: fmt::Write>(&self, f: &mut fmt::Formatter<W>) -> fmt::Result {
-        f.write_str(match self {
-            Answer::Ample => "ample",
-            Answer::Refused => "refused",
-            Answer::Other => "other",
-        })
-    }
-}
-
-/// So many pieces of memory, each by a request of its own.
-fn pieces(alloc: Global, count: usize) -> Result<Vec<Box<u8>>, AllocError> {
-    let mut pieces = Vec::with_capacity(alloc, count)?;
-    for _ in 0..count {
-        pieces.push(Box::new(alloc, 0)?)?;
-    }
-    Ok(pieces)
-}
 
 /// What the program writes, or why it writes nothing.
 fn output(alloc: Global, arguments: &[String], input: &str) -> Result<Vec<u8>, Fault> {
@@ -78,13 +51,21 @@ fn main(rt: HostRuntime) -> Result<()> {
         arguments.push(word)?;
     }
     let mut lines = rt.lines(alloc);
-    let (Some(count), Some(input), Some(expected)) = (lines.next(), lines.next(), lines.next())
+    let (Some(asked), Some(input), Some(expected)) = (lines.next(), lines.next(), lines.next())
     else {
         bail!("three lines are needed");
     };
-    let (count, input, expected) = (count?, input?, expected?);
+    let (asked, input, expected) = (asked?, input?, expected?);
     let line = Vec::with_capacity(alloc, expected.len().saturating_add(1))?;
-    let _pieces = pieces(alloc, count.parse()?)?;
+    let count = match asked.as_str() {
+        "before" => {
+            println!(rt; "{}", granted(alloc, MOST))?;
+            return Ok(());
+        }
+        "after" => 0,
+        count => count.parse()?,
+    };
+    let _pieces = pieces(alloc, count)?;
     let got = answered(
         alloc,
         arguments.as_slice(),
@@ -92,6 +73,10 @@ fn main(rt: HostRuntime) -> Result<()> {
         expected.as_str(),
         line,
     );
+    if asked.as_str() == "after" {
+        println!(rt; "{}", granted(alloc, MOST))?;
+        return Ok(());
+    }
     println!(rt; "{got}")?;
     if let Answer::Other = got {
         bail!("the answer is neither the ample one nor a refusal");

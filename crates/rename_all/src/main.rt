@@ -1,18 +1,13 @@
 //! Gives every name of a script's tree a new text: what substitution is measured by.
 //!
 //! Standard input is an envelope with a tree of the goal Script. The argument says how far to go: `write` only reads
-//! and writes it, `name` also makes a map from each id to a new text, and `rename` renames by it. With `refused` the
-//! input is that of `refusals`.
+//! and writes it, `name` also makes a map from each id to a new text, and `rename` renames by it.
 #![tactic(auto)]
-
-mod names;
-mod refusals;
 
 use anyhow::{Result, bail};
 use jsbase_reader::read_bytes;
 use jsbase_writer::write_envelope;
-use names::name_all;
-use std::collections::HashMap;
+use new_texts::text_each;
 use std::env;
 use std::io::{Read, Write};
 use swc_base_rename_substitution::{Config, Names, substitute};
@@ -21,11 +16,8 @@ use swc_tree_node::Class;
 fn main(rt: HostRuntime) -> Result<()> {
     let alloc = rt.alloc();
     let Some(word) = env::args(&rt)?.nth(1) else {
-        bail!("usage: rename_all write|name|rename|refused");
+        bail!("usage: rename_all write|name|rename");
     };
-    if word.as_str() == "refused" {
-        return refusals::run(&rt);
-    }
     let mut input = Vec::new(alloc);
     rt.stdin().read_to_end(&mut input)?;
     let Ok(envelope) = read_bytes(alloc, Class::Script, input.as_slice()) else {
@@ -33,10 +25,9 @@ fn main(rt: HostRuntime) -> Result<()> {
     };
     let mut tree = envelope.tree;
     if word.as_str() != "write" {
-        let mut map = HashMap::new(alloc);
-        name_all(alloc, &tree, &mut map)?;
+        let texts = text_each(alloc, &tree)?;
         if word.as_str() != "name" {
-            tree = substitute(alloc, &Names::Texts(&map), &Config::default(), tree)?;
+            tree = substitute(alloc, &Names::Texts(&texts), &Config::default(), tree)?;
         }
     }
     let text = write_envelope(
