@@ -10,15 +10,31 @@
 #![tactic(auto)]
 
 mod arguments;
+mod asked;
 mod program;
 mod run;
 mod visit;
 
 use anyhow::{Result, bail};
 use arguments::words;
-use refusals::{Answer, MOST, granted, pieces};
+use asked::{Asked, Said};
 use run::Run;
+use std::alloc::Global;
 use std::env;
+
+/// What is said of the run that the arguments and the three lines ask for.
+fn said(
+    alloc: Global,
+    arguments: &[String],
+    asked: &str,
+    input: &str,
+    wanted: &str,
+) -> Result<Said> {
+    let (command, class) = words(arguments)?;
+    let asked = Asked::from_word(asked)?;
+    let run = Run::read(alloc, command, class, input, wanted)?;
+    Ok(asked.of(alloc, run))
+}
 
 fn main(rt: HostRuntime) -> Result<()> {
     let alloc = rt.alloc();
@@ -26,29 +42,20 @@ fn main(rt: HostRuntime) -> Result<()> {
     for word in env::args(&rt)?.skip(1) {
         arguments.push(word)?;
     }
-    let (command, class) = words(arguments.as_slice())?;
     let mut lines = rt.lines(alloc);
     let (Some(asked), Some(input), Some(wanted)) = (lines.next(), lines.next(), lines.next()) else {
         bail!("three lines are needed");
     };
-    let asked = asked?;
-    let run = Run::read(alloc, command, class, input?.as_str(), wanted?.as_str())?;
-    let count = match asked.as_str() {
-        "before" => {
-            println!(rt; "{}", granted(alloc, MOST))?;
-            return Ok(());
-        }
-        "after" => 0,
-        count => count.parse()?,
-    };
-    let _pieces = pieces(alloc, count)?;
-    let got = run.answer(alloc);
-    if asked.as_str() == "after" {
-        println!(rt; "{}", granted(alloc, MOST))?;
-        return Ok(());
-    }
-    println!(rt; "{got}")?;
-    if let Answer::Other = got {
+    let (asked, input, wanted) = (asked?, input?, wanted?);
+    let said = said(
+        alloc,
+        arguments.as_slice(),
+        asked.as_str(),
+        input.as_str(),
+        wanted.as_str(),
+    )?;
+    println!(rt; "{said}")?;
+    if said.is_other() {
         bail!("the answer is neither the ample one nor a refusal");
     }
     Ok(())

@@ -12,7 +12,7 @@ use jsbase_reader::{Envelope, read_bytes};
 use new_texts::text_each;
 use refusals::Answer;
 use std::alloc::Global;
-use swc_base_resolver::{marks_ok, resolver};
+use swc_base_resolver::{Resolver, marks_ok, resolver};
 use swc_tree::{Globals, PassError, Span};
 use swc_tree_node::Class;
 
@@ -23,6 +23,21 @@ fn read(alloc: Global, class: Class, line: &str) -> Result<Envelope>
         bail!("a line is no envelope of such a program, or memory was refused");
     };
     Ok(envelope)
+}
+
+/// The resolver of an envelope's marks, where they are known and neither is the root.
+fn resolver_of(envelope: &Envelope) -> Option<Resolver> {
+    let Envelope {
+        globals,
+        unresolved,
+        top,
+        ..
+    } = envelope;
+    if marks_ok(globals, *unresolved, *top) {
+        Some(resolver(*unresolved, *top))
+    } else {
+        None
+    }
 }
 
 /// What a pass answers with ample memory.
@@ -99,34 +114,33 @@ impl Run {
         input: &str,
         wanted: &str,
     ) -> Result<Run> {
-        let Envelope {
-            globals,
-            unresolved,
-            top,
-            keep_class_names,
-            tree,
-            ..
-        } = read(alloc, class, input)?;
-        if !marks_ok(&globals, unresolved, top) {
-            bail!("the marks are not known");
-        }
-        let passes = Passes {
-            resolver: resolver(unresolved, top),
-            texts: text_each(alloc, &tree)?,
-            keep_class_names,
+        let wanted = Wanted::read(alloc, class, wanted)?;
+        let envelope = read(alloc, class, input)?;
+        let texts = text_each(alloc, &envelope.tree);
+        let marks = Vec::from_slice(alloc, envelope.globals.table());
+        let (Ok(texts), Ok(marks)) = (texts, marks) else {
+            bail!("memory was refused");
         };
-        let program = Program::open(class, tree)?;
+        let Some(resolver) = resolver_of(&envelope) else {
+            bail!("the marks are not known");
+        };
+        let passes = Passes {
+            resolver,
+            texts,
+            keep_class_names: envelope.keep_class_names,
+        };
+        let program = Program::open(class, envelope.tree)?;
         let before = Before {
             span: program.span(),
-            marks: Vec::from_slice(alloc, globals.table())?,
+            marks,
         };
         Ok(Run {
             command,
             passes,
-            globals,
+            globals: envelope.globals,
             program,
             before,
-            wanted: Wanted::read(alloc, class, wanted)?,
+            wanted,
         })
     }
 
