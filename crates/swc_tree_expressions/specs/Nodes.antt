@@ -24,7 +24,7 @@ use Rattle.swc_tree_expressions.specs.declared.opt_chain_base.OptChainBase.{OptC
 use Rattle.swc_tree_expressions.specs.declared.opt_chain_base.OptChainBase.TheVariants as opt_chain_base
 use Rattle.swc_tree_functions.specs.Nodes.{arrow_expr_node, class_expr_node, computed_prop_name_node, fn_expr_node, getter_prop_node, method_prop_node, setter_prop_node}
 use Rattle.swc_tree_handle.specs.Handles.{ident_node}
-use Rattle.swc_tree_names.specs.Nodes.{binding_ident_node, ident_name_node, import_node, meta_prop_expr_node, of_lit, private_name_node, super_node, this_expr_node}
+use Rattle.swc_tree_leaves.specs.Nodes.{binding_ident_node, ident_name_node, import_node, meta_prop_expr_node, of_lit, private_name_node, super_node, this_expr_node}
 use Rattle.swc_tree_operations.specs.Nodes.{array_lit_node, assign_expr_node, await_expr_node, bin_expr_node, call_expr_node, cond_expr_node, key_value_prop_node, member_expr_node, new_expr_node, object_lit_node, opt_call_node, opt_chain_expr_node, paren_expr_node, seq_expr_node, spread_element_node, super_prop_expr_node, tagged_tpl_node, tpl_node, unary_expr_node, update_expr_node, yield_expr_node}
 use Rattle.swc_tree_patterns.specs.Nodes.{array_pat_node, object_pat_node}
 

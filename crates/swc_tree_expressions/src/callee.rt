@@ -8,7 +8,7 @@ ghost use Rattle.swc_tree_expressions.specs.Nodes.{of_callee};
 
 use std::alloc::{AllocError, Global};
 use swc_tree_handle::{Opened, Tree, class};
-use swc_tree_names::{Import, Super};
+use swc_tree_leaves::{Import, Super};
 use swc_tree_node::{Kind, Node};
 
 /// What is called.

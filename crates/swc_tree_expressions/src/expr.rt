@@ -9,8 +9,8 @@ ghost use Rattle.swc_tree_expressions.specs.Nodes.{of_expr};
 use std::alloc::{AllocError, Global};
 use swc_tree_functions::{ArrowExpr, ClassExpr, FnExpr};
 use swc_tree_handle::{Opened, Tree, class};
+use swc_tree_leaves::{Lit, MetaPropExpr, PrivateName, ThisExpr};
 use swc_tree_marks::Ident;
-use swc_tree_names::{Lit, MetaPropExpr, PrivateName, ThisExpr};
 use swc_tree_node::{Kind, Node};
 use swc_tree_operations::{
     ArrayLit, AssignExpr, AwaitExpr, BinExpr, CallExpr, CondExpr, MemberExpr, NewExpr, ObjectLit,

@@ -9,7 +9,7 @@ ghost use Rattle.swc_tree_expressions.specs.Nodes.{of_member_prop};
 use std::alloc::{AllocError, Global};
 use swc_tree_functions::ComputedPropName;
 use swc_tree_handle::{Opened, Tree, class};
-use swc_tree_names::{IdentName, PrivateName};
+use swc_tree_leaves::{IdentName, PrivateName};
 use swc_tree_node::{Kind, Node};
 
 /// What a member is called: a name, a private name or a computed key.

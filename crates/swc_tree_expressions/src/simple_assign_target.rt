@@ -8,7 +8,7 @@ ghost use Rattle.swc_tree_expressions.specs.Nodes.{of_simple_assign_target};
 
 use std::alloc::{AllocError, Global};
 use swc_tree_handle::{Opened, Tree, class};
-use swc_tree_names::BindingIdent;
+use swc_tree_leaves::BindingIdent;
 use swc_tree_node::{Kind, Node};
 use swc_tree_operations::{MemberExpr, ParenExpr, SuperPropExpr};
 

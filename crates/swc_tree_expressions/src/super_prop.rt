@@ -9,7 +9,7 @@ ghost use Rattle.swc_tree_expressions.specs.Nodes.{of_super_prop};
 use std::alloc::{AllocError, Global};
 use swc_tree_functions::ComputedPropName;
 use swc_tree_handle::{Opened, Tree, class};
-use swc_tree_names::IdentName;
+use swc_tree_leaves::IdentName;
 use swc_tree_node::{Kind, Node};
 
 /// What a property of `super` is called.

@@ -31,7 +31,7 @@ use Rattle.swc_tree_functions.specs.declared.class_member.ClassMember.TheVariant
 use Rattle.swc_tree_functions.specs.declared.prop_name.PropName.{PropName}
 use Rattle.swc_tree_functions.specs.declared.prop_name.PropName.TheVariants as prop_name
 use Rattle.swc_tree_handle.specs.Handles.{ident_node, optional_node}
-use Rattle.swc_tree_names.specs.Nodes.{big_int_node, empty_stmt_node, ident_name_node, number_node, private_name_node, str_node}
+use Rattle.swc_tree_leaves.specs.Nodes.{big_int_node, empty_stmt_node, ident_name_node, number_node, private_name_node, str_node}
 
 abbrev pub method_kind_word : MethodKind → Word
 method_kind_word method_kind.Method = word.Method

@@ -14,7 +14,7 @@ use crate::private_prop::PrivateProp;
 use crate::static_block::StaticBlock;
 use std::alloc::{AllocError, Global};
 use swc_tree_handle::{Opened, Tree, class};
-use swc_tree_names::EmptyStmt;
+use swc_tree_leaves::EmptyStmt;
 use swc_tree_node::{Kind, Node};
 
 /// A member of a class (ECMA-262, ClassElement).

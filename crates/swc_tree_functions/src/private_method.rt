@@ -9,8 +9,8 @@ ghost use Rattle.swc_tree_functions.specs.Nodes.{private_method_node};
 use crate::method_kind::MethodKind;
 use std::alloc::{AllocError, Global};
 use swc_tree_handle::{Opened, Tree, class, collect, from_flag, from_span, to_flag, to_span};
+use swc_tree_leaves::PrivateName;
 use swc_tree_marks::Span;
-use swc_tree_names::PrivateName;
 use swc_tree_node::{Kind, Node};
 
 /// A private method of a class (ECMA-262, MethodDefinition).

@@ -8,8 +8,8 @@ ghost use Rattle.swc_tree_functions.specs.Nodes.{private_prop_node};
 
 use std::alloc::{AllocError, Global};
 use swc_tree_handle::{Opened, Tree, class, collect, from_flag, from_span, to_flag, to_span};
+use swc_tree_leaves::PrivateName;
 use swc_tree_marks::Span;
-use swc_tree_names::PrivateName;
 use swc_tree_node::{Kind, Node};
 
 /// A private field of a class (ECMA-262, FieldDefinition).

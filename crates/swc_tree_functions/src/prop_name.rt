@@ -9,7 +9,7 @@ ghost use Rattle.swc_tree_functions.specs.Nodes.{of_prop_name};
 use crate::computed_prop_name::ComputedPropName;
 use std::alloc::{AllocError, Global};
 use swc_tree_handle::{Opened, Tree, class};
-use swc_tree_names::{BigInt, IdentName, Number, Str};
+use swc_tree_leaves::{BigInt, IdentName, Number, Str};
 use swc_tree_node::{Kind, Node};
 
 /// The key of a property (ECMA-262, PropertyName).

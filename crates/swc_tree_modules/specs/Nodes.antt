@@ -31,7 +31,7 @@ use Rattle.swc_tree_modules.specs.declared.default_decl.DefaultDecl.{DefaultDecl
 use Rattle.swc_tree_modules.specs.declared.default_decl.DefaultDecl.TheVariants as default_decl
 use Rattle.swc_tree_functions.specs.Nodes.{class_expr_node, fn_expr_node}
 use Rattle.swc_tree_handle.specs.Handles.{ident_node, optional_list, optional_node, optional_text}
-use Rattle.swc_tree_names.specs.Nodes.{str_node}
+use Rattle.swc_tree_leaves.specs.Nodes.{str_node}
 use Rattle.swc_tree_statements.specs.Nodes.{of_stmt}
 
 abbrev pub module_node : Module → Node

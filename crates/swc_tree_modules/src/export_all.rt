@@ -8,8 +8,8 @@ ghost use Rattle.swc_tree_modules.specs.Nodes.{export_all_node};
 
 use std::alloc::{AllocError, Global};
 use swc_tree_handle::{Opened, Pairs, Tree, class, collect, from_span, to_span};
+use swc_tree_leaves::Str;
 use swc_tree_marks::Span;
-use swc_tree_names::Str;
 use swc_tree_node::{Kind, Node};
 
 /// All that another module exports (ECMA-262, ExportFromClause).

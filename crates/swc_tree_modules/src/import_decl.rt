@@ -8,8 +8,8 @@ ghost use Rattle.swc_tree_modules.specs.Nodes.{import_decl_node};
 
 use std::alloc::{AllocError, Global};
 use swc_tree_handle::{Opened, Pairs, Tree, Trees, class, collect, from_span, to_span};
+use swc_tree_leaves::Str;
 use swc_tree_marks::Span;
-use swc_tree_names::Str;
 use swc_tree_node::{Kind, Node};
 
 /// An import (ECMA-262, ImportDeclaration).

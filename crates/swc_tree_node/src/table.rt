@@ -8,8 +8,8 @@ ghost use Rattle.swc_tree_node.specs.Table.{name_of, fields_of, words_of, spelli
 mod classes;
 mod expressions;
 mod functions;
+mod leaves;
 mod modules;
-mod names;
 mod patterns;
 mod places;
 mod statements;
@@ -142,23 +142,23 @@ pub fn fields_of(kind: Kind) -> &'static [Field]
         Kind::ExportDefaultDecl => modules::EXPORT_DEFAULT_DECL,
         Kind::ExportDefaultExpr => modules::EXPORT_DEFAULT_EXPR,
         Kind::ExportAll => modules::EXPORT_ALL,
-        Kind::IdentName => names::IDENT_NAME,
-        Kind::PrivateName => names::PRIVATE_NAME,
-        Kind::Str => names::STR,
-        Kind::Bool => names::BOOL,
-        Kind::Null => names::NULL,
-        Kind::Number => names::NUMBER,
-        Kind::BigInt => names::BIG_INT,
-        Kind::Regex => names::REGEX,
-        Kind::TplElement => names::TPL_ELEMENT,
-        Kind::ThisExpr => names::THIS_EXPR,
-        Kind::Super => names::SUPER,
-        Kind::Import => names::IMPORT,
-        Kind::MetaPropExpr => names::META_PROP_EXPR,
-        Kind::EmptyStmt => names::EMPTY_STMT,
-        Kind::DebuggerStmt => names::DEBUGGER_STMT,
-        Kind::BreakStmt => names::BREAK_STMT,
-        Kind::ContinueStmt => names::CONTINUE_STMT,
+        Kind::IdentName => leaves::IDENT_NAME,
+        Kind::PrivateName => leaves::PRIVATE_NAME,
+        Kind::Str => leaves::STR,
+        Kind::Bool => leaves::BOOL,
+        Kind::Null => leaves::NULL,
+        Kind::Number => leaves::NUMBER,
+        Kind::BigInt => leaves::BIG_INT,
+        Kind::Regex => leaves::REGEX,
+        Kind::TplElement => leaves::TPL_ELEMENT,
+        Kind::ThisExpr => leaves::THIS_EXPR,
+        Kind::Super => leaves::SUPER,
+        Kind::Import => leaves::IMPORT,
+        Kind::MetaPropExpr => leaves::META_PROP_EXPR,
+        Kind::EmptyStmt => leaves::EMPTY_STMT,
+        Kind::DebuggerStmt => leaves::DEBUGGER_STMT,
+        Kind::BreakStmt => leaves::BREAK_STMT,
+        Kind::ContinueStmt => leaves::CONTINUE_STMT,
         Kind::Function => functions::FUNCTION,
         Kind::Param => functions::PARAM,
         Kind::FnExpr => functions::FN_EXPR,

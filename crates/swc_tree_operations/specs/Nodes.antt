@@ -38,7 +38,7 @@ use Rattle.swc_tree_operations.specs.declared.tagged_tpl.TaggedTpl.{TaggedTpl}
 use Rattle.swc_tree_operations.specs.declared.opt_chain_expr.OptChainExpr.{OptChainExpr}
 use Rattle.swc_tree_operations.specs.declared.opt_call.OptCall.{OptCall}
 use Rattle.swc_tree_handle.specs.Handles.{optional_list, optional_node, optional_span}
-use Rattle.swc_tree_names.specs.Nodes.{super_node}
+use Rattle.swc_tree_leaves.specs.Nodes.{super_node}
 
 abbrev pub unary_op_word : UnaryOp → Word
 unary_op_word unary_op.Minus = word.Minus

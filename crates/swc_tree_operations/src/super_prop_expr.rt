@@ -8,8 +8,8 @@ ghost use Rattle.swc_tree_operations.specs.Nodes.{super_prop_expr_node};
 
 use std::alloc::{AllocError, Global};
 use swc_tree_handle::{Opened, Tree, class, collect, from_span, to_span};
+use swc_tree_leaves::Super;
 use swc_tree_marks::Span;
-use swc_tree_names::Super;
 use swc_tree_node::{Kind, Node};
 
 /// A property of `super` (ECMA-262, SuperProperty).

@@ -16,7 +16,7 @@ use Rattle.swc_tree_patterns.specs.declared.pat.Pat.TheVariants as pat
 use Rattle.swc_tree_patterns.specs.declared.object_pat_prop.ObjectPatProp.{ObjectPatProp}
 use Rattle.swc_tree_patterns.specs.declared.object_pat_prop.ObjectPatProp.TheVariants as object_pat_prop
 use Rattle.swc_tree_handle.specs.Handles.{optional_node}
-use Rattle.swc_tree_names.specs.Nodes.{binding_ident_node}
+use Rattle.swc_tree_leaves.specs.Nodes.{binding_ident_node}
 
 abbrev pub array_pat_node : ArrayPat → Node
 array_pat_node x = node.Tree kind.ArrayPat (node.Span x.span ∷ node.List x.elems ∷ [])

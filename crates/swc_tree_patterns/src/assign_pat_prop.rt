@@ -8,8 +8,8 @@ ghost use Rattle.swc_tree_patterns.specs.Nodes.{assign_pat_prop_node};
 
 use std::alloc::{AllocError, Global};
 use swc_tree_handle::{Opened, Tree, class, collect, from_span, to_span};
+use swc_tree_leaves::BindingIdent;
 use swc_tree_marks::Span;
-use swc_tree_names::BindingIdent;
 use swc_tree_node::{Kind, Node};
 
 /// A name that is both key and target, with its default (ECMA-262, SingleNameBinding).

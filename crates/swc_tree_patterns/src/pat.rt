@@ -12,7 +12,7 @@ use crate::object_pat::ObjectPat;
 use crate::rest_pat::RestPat;
 use std::alloc::{AllocError, Global};
 use swc_tree_handle::{Opened, Tree, class};
-use swc_tree_names::BindingIdent;
+use swc_tree_leaves::BindingIdent;
 use swc_tree_node::{Kind, Node};
 
 /// What a value is bound or assigned to (ECMA-262, BindingPattern and AssignmentPattern).

@@ -41,7 +41,7 @@ use Rattle.swc_tree_statements.specs.declared.var_decl_or_expr.VarDeclOrExpr.The
 use Rattle.swc_tree_statements.specs.declared.for_head.ForHead.{ForHead}
 use Rattle.swc_tree_statements.specs.declared.for_head.ForHead.TheVariants as for_head
 use Rattle.swc_tree_handle.specs.Handles.{ident_node, optional_node}
-use Rattle.swc_tree_names.specs.Nodes.{break_stmt_node, continue_stmt_node, debugger_stmt_node, empty_stmt_node}
+use Rattle.swc_tree_leaves.specs.Nodes.{break_stmt_node, continue_stmt_node, debugger_stmt_node, empty_stmt_node}
 use Rattle.swc_tree_patterns.specs.Nodes.{of_pat}
 
 abbrev pub var_decl_kind_word : VarDeclKind → Word

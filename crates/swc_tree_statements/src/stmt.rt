@@ -23,7 +23,7 @@ use crate::while_stmt::WhileStmt;
 use crate::with_stmt::WithStmt;
 use std::alloc::{AllocError, Global};
 use swc_tree_handle::{Opened, Tree, class};
-use swc_tree_names::{BreakStmt, ContinueStmt, DebuggerStmt, EmptyStmt};
+use swc_tree_leaves::{BreakStmt, ContinueStmt, DebuggerStmt, EmptyStmt};
 use swc_tree_node::{Kind, Node};
 
 /// A statement or declaration (ECMA-262, StatementListItem).

@@ -5,7 +5,7 @@ ghost use Rattle.swc_tree_node.specs.declared.node.Node.TheVariants as leaf;
 ghost use Rattle.swc_tree_node.specs.declared.slot.Slot.TheVariants.{One};
 ghost use Rattle.swc_tree_node.specs.declared.slot.Content.TheVariants.{Word as Of};
 ghost use Rattle.swc_tree_node.specs.Fits.{Fits, is_among};
-ghost use Rattle.swc_tree_names.specs.Nodes.{meta_prop_kind_word};
+ghost use Rattle.swc_tree_leaves.specs.Nodes.{meta_prop_kind_word};
 
 use swc_tree_node::{Node, Word};
 

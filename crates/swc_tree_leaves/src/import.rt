@@ -4,41 +4,41 @@ ghost use Rattle.swc_tree_node.specs.declared.kind.Class.TheVariants as class;
 ghost use Rattle.swc_tree_node.specs.declared.slot.Slot.TheVariants.{One};
 ghost use Rattle.swc_tree_node.specs.declared.slot.Content.TheVariants.{Node as Of};
 ghost use Rattle.swc_tree_node.specs.Fits.{Fits};
-ghost use Rattle.swc_tree_names.specs.Nodes.{debugger_stmt_node};
+ghost use Rattle.swc_tree_leaves.specs.Nodes.{import_node};
 
 use std::alloc::{AllocError, Global};
 use swc_tree_handle::{Opened, Tree, class, collect, from_span, to_span};
 use swc_tree_marks::Span;
 use swc_tree_node::{Kind, Node};
 
-/// A `debugger` statement (ECMA-262, DebuggerStatement).
+/// `import` as it is called (ECMA-262, ImportCall).
 #[derive(Clone, Debug, Drop, PartialEq, Eq)]
-pub struct DebuggerStmt {
+pub struct Import {
     pub span: Span,
 }
 
-impl Opened<class::DebuggerStmt> for DebuggerStmt {
-    ghost class = { class.DebuggerStmt };
+impl Opened<class::Import> for Import {
+    ghost class = { class.Import };
 
-    ghost node = { debugger_stmt_node };
+    ghost node = { import_node };
 
     #[tactic(auto, using(swc_tree_node::proofs::Fit::lengths))]
-    fn from_node(closed: Node) -> DebuggerStmt
-        requires { Fits closed (One (Of class.DebuggerStmt)) }
-        ensures { debugger_stmt_node result ≡ closed }
+    fn from_node(closed: Node) -> Import
+        requires { Fits closed (One (Of class.Import)) }
+        ensures { import_node result ≡ closed }
     {
-        let fields = Tree::<class::DebuggerStmt>::from_node(closed).into_fields(Kind::DebuggerStmt);
+        let fields = Tree::<class::Import>::from_node(closed).into_fields(Kind::Import);
         let [span] = fields.into_array::<1>();
-        DebuggerStmt {
+        Import {
             span: to_span(span),
         }
     }
 
     fn into_node(self, alloc: Global) -> Result<Node, AllocError>
-        ensures { IfOk result (λ closed. (closed ≡ debugger_stmt_node self) × Fits closed (One (Of class.DebuggerStmt))) }
+        ensures { IfOk result (λ closed. (closed ≡ import_node self) × Fits closed (One (Of class.Import))) }
     {
-        let DebuggerStmt { span } = self;
+        let Import { span } = self;
         let fields = collect(alloc, [from_span(span)])?;
-        Ok(Tree::<class::DebuggerStmt>::from_fields(Kind::DebuggerStmt, fields).into_node())
+        Ok(Tree::<class::Import>::from_fields(Kind::Import, fields).into_node())
     }
 }

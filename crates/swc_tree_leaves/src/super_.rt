@@ -4,41 +4,41 @@ ghost use Rattle.swc_tree_node.specs.declared.kind.Class.TheVariants as class;
 ghost use Rattle.swc_tree_node.specs.declared.slot.Slot.TheVariants.{One};
 ghost use Rattle.swc_tree_node.specs.declared.slot.Content.TheVariants.{Node as Of};
 ghost use Rattle.swc_tree_node.specs.Fits.{Fits};
-ghost use Rattle.swc_tree_names.specs.Nodes.{import_node};
+ghost use Rattle.swc_tree_leaves.specs.Nodes.{super_node};
 
 use std::alloc::{AllocError, Global};
 use swc_tree_handle::{Opened, Tree, class, collect, from_span, to_span};
 use swc_tree_marks::Span;
 use swc_tree_node::{Kind, Node};
 
-/// `import` as it is called (ECMA-262, ImportCall).
+/// `super` as it is called or read (ECMA-262, SuperCall and SuperProperty).
 #[derive(Clone, Debug, Drop, PartialEq, Eq)]
-pub struct Import {
+pub struct Super {
     pub span: Span,
 }
 
-impl Opened<class::Import> for Import {
-    ghost class = { class.Import };
+impl Opened<class::Super> for Super {
+    ghost class = { class.Super };
 
-    ghost node = { import_node };
+    ghost node = { super_node };
 
     #[tactic(auto, using(swc_tree_node::proofs::Fit::lengths))]
-    fn from_node(closed: Node) -> Import
-        requires { Fits closed (One (Of class.Import)) }
-        ensures { import_node result ≡ closed }
+    fn from_node(closed: Node) -> Super
+        requires { Fits closed (One (Of class.Super)) }
+        ensures { super_node result ≡ closed }
     {
-        let fields = Tree::<class::Import>::from_node(closed).into_fields(Kind::Import);
+        let fields = Tree::<class::Super>::from_node(closed).into_fields(Kind::Super);
         let [span] = fields.into_array::<1>();
-        Import {
+        Super {
             span: to_span(span),
         }
     }
 
     fn into_node(self, alloc: Global) -> Result<Node, AllocError>
-        ensures { IfOk result (λ closed. (closed ≡ import_node self) × Fits closed (One (Of class.Import))) }
+        ensures { IfOk result (λ closed. (closed ≡ super_node self) × Fits closed (One (Of class.Super))) }
     {
-        let Import { span } = self;
+        let Super { span } = self;
         let fields = collect(alloc, [from_span(span)])?;
-        Ok(Tree::<class::Import>::from_fields(Kind::Import, fields).into_node())
+        Ok(Tree::<class::Super>::from_fields(Kind::Super, fields).into_node())
     }
 }

@@ -4,7 +4,7 @@ ghost use Rattle.swc_tree_node.specs.declared.kind.Class.TheVariants as class;
 ghost use Rattle.swc_tree_node.specs.declared.slot.Slot.TheVariants.{One};
 ghost use Rattle.swc_tree_node.specs.declared.slot.Content.TheVariants.{Node as Of};
 ghost use Rattle.swc_tree_node.specs.Fits.{Fits};
-ghost use Rattle.swc_tree_names.specs.Nodes.{of_module_export_name};
+ghost use Rattle.swc_tree_leaves.specs.Nodes.{of_module_export_name};
 
 use crate::str::Str;
 use std::alloc::{AllocError, Global};

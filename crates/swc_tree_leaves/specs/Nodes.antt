@@ -8,30 +8,30 @@ use Rattle.swc_tree_node.specs.declared.kind.Word.{Word}
 use Rattle.swc_tree_node.specs.declared.kind.Word.TheVariants as word
 use Rattle.swc_tree_node.specs.declared.node.Node.{Node}
 use Rattle.swc_tree_node.specs.declared.node.Node.TheVariants as node
-use Rattle.swc_tree_names.specs.declared.meta_prop_kind.MetaPropKind.{MetaPropKind}
-use Rattle.swc_tree_names.specs.declared.meta_prop_kind.MetaPropKind.TheVariants as meta_prop_kind
-use Rattle.swc_tree_names.specs.declared.binding_ident.BindingIdent.{BindingIdent}
-use Rattle.swc_tree_names.specs.declared.ident_name.IdentName.{IdentName}
-use Rattle.swc_tree_names.specs.declared.private_name.PrivateName.{PrivateName}
-use Rattle.swc_tree_names.specs.declared.str.Str.{Str}
-use Rattle.swc_tree_names.specs.declared.bool.Bool.{Bool}
-use Rattle.swc_tree_names.specs.declared.null.Null.{Null}
-use Rattle.swc_tree_names.specs.declared.number.Number.{Number}
-use Rattle.swc_tree_names.specs.declared.big_int.BigInt.{BigInt}
-use Rattle.swc_tree_names.specs.declared.regex.Regex.{Regex}
-use Rattle.swc_tree_names.specs.declared.tpl_element.TplElement.{TplElement}
-use Rattle.swc_tree_names.specs.declared.this_expr.ThisExpr.{ThisExpr}
-use Rattle.swc_tree_names.specs.declared.super_.Super.{Super}
-use Rattle.swc_tree_names.specs.declared.import.Import.{Import}
-use Rattle.swc_tree_names.specs.declared.meta_prop_expr.MetaPropExpr.{MetaPropExpr}
-use Rattle.swc_tree_names.specs.declared.empty_stmt.EmptyStmt.{EmptyStmt}
-use Rattle.swc_tree_names.specs.declared.debugger_stmt.DebuggerStmt.{DebuggerStmt}
-use Rattle.swc_tree_names.specs.declared.break_stmt.BreakStmt.{BreakStmt}
-use Rattle.swc_tree_names.specs.declared.continue_stmt.ContinueStmt.{ContinueStmt}
-use Rattle.swc_tree_names.specs.declared.module_export_name.ModuleExportName.{ModuleExportName}
-use Rattle.swc_tree_names.specs.declared.module_export_name.ModuleExportName.TheVariants as module_export_name
-use Rattle.swc_tree_names.specs.declared.lit.Lit.{Lit}
-use Rattle.swc_tree_names.specs.declared.lit.Lit.TheVariants as lit
+use Rattle.swc_tree_leaves.specs.declared.meta_prop_kind.MetaPropKind.{MetaPropKind}
+use Rattle.swc_tree_leaves.specs.declared.meta_prop_kind.MetaPropKind.TheVariants as meta_prop_kind
+use Rattle.swc_tree_leaves.specs.declared.binding_ident.BindingIdent.{BindingIdent}
+use Rattle.swc_tree_leaves.specs.declared.ident_name.IdentName.{IdentName}
+use Rattle.swc_tree_leaves.specs.declared.private_name.PrivateName.{PrivateName}
+use Rattle.swc_tree_leaves.specs.declared.str.Str.{Str}
+use Rattle.swc_tree_leaves.specs.declared.bool.Bool.{Bool}
+use Rattle.swc_tree_leaves.specs.declared.null.Null.{Null}
+use Rattle.swc_tree_leaves.specs.declared.number.Number.{Number}
+use Rattle.swc_tree_leaves.specs.declared.big_int.BigInt.{BigInt}
+use Rattle.swc_tree_leaves.specs.declared.regex.Regex.{Regex}
+use Rattle.swc_tree_leaves.specs.declared.tpl_element.TplElement.{TplElement}
+use Rattle.swc_tree_leaves.specs.declared.this_expr.ThisExpr.{ThisExpr}
+use Rattle.swc_tree_leaves.specs.declared.super_.Super.{Super}
+use Rattle.swc_tree_leaves.specs.declared.import.Import.{Import}
+use Rattle.swc_tree_leaves.specs.declared.meta_prop_expr.MetaPropExpr.{MetaPropExpr}
+use Rattle.swc_tree_leaves.specs.declared.empty_stmt.EmptyStmt.{EmptyStmt}
+use Rattle.swc_tree_leaves.specs.declared.debugger_stmt.DebuggerStmt.{DebuggerStmt}
+use Rattle.swc_tree_leaves.specs.declared.break_stmt.BreakStmt.{BreakStmt}
+use Rattle.swc_tree_leaves.specs.declared.continue_stmt.ContinueStmt.{ContinueStmt}
+use Rattle.swc_tree_leaves.specs.declared.module_export_name.ModuleExportName.{ModuleExportName}
+use Rattle.swc_tree_leaves.specs.declared.module_export_name.ModuleExportName.TheVariants as module_export_name
+use Rattle.swc_tree_leaves.specs.declared.lit.Lit.{Lit}
+use Rattle.swc_tree_leaves.specs.declared.lit.Lit.TheVariants as lit
 use Rattle.swc_tree_handle.specs.Handles.{ident_node, optional_node, optional_text}
 
 abbrev pub meta_prop_kind_word : MetaPropKind → Word

@@ -1,4 +1,4 @@
-//! The classes of the family names.
+//! The classes of the family leaves.
 //!
 //! Printed by tools/print_table.py from tools/tree.txt.
 use crate::class::Syntax;

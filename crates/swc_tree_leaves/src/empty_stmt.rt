@@ -4,41 +4,41 @@ ghost use Rattle.swc_tree_node.specs.declared.kind.Class.TheVariants as class;
 ghost use Rattle.swc_tree_node.specs.declared.slot.Slot.TheVariants.{One};
 ghost use Rattle.swc_tree_node.specs.declared.slot.Content.TheVariants.{Node as Of};
 ghost use Rattle.swc_tree_node.specs.Fits.{Fits};
-ghost use Rattle.swc_tree_names.specs.Nodes.{null_node};
+ghost use Rattle.swc_tree_leaves.specs.Nodes.{empty_stmt_node};
 
 use std::alloc::{AllocError, Global};
 use swc_tree_handle::{Opened, Tree, class, collect, from_span, to_span};
 use swc_tree_marks::Span;
 use swc_tree_node::{Kind, Node};
 
-/// The literal `null` (ECMA-262, NullLiteral).
+/// An empty statement, or an empty member of a class (ECMA-262, EmptyStatement).
 #[derive(Clone, Debug, Drop, PartialEq, Eq)]
-pub struct Null {
+pub struct EmptyStmt {
     pub span: Span,
 }
 
-impl Opened<class::Null> for Null {
-    ghost class = { class.Null };
+impl Opened<class::EmptyStmt> for EmptyStmt {
+    ghost class = { class.EmptyStmt };
 
-    ghost node = { null_node };
+    ghost node = { empty_stmt_node };
 
     #[tactic(auto, using(swc_tree_node::proofs::Fit::lengths))]
-    fn from_node(closed: Node) -> Null
-        requires { Fits closed (One (Of class.Null)) }
-        ensures { null_node result ≡ closed }
+    fn from_node(closed: Node) -> EmptyStmt
+        requires { Fits closed (One (Of class.EmptyStmt)) }
+        ensures { empty_stmt_node result ≡ closed }
     {
-        let fields = Tree::<class::Null>::from_node(closed).into_fields(Kind::Null);
+        let fields = Tree::<class::EmptyStmt>::from_node(closed).into_fields(Kind::EmptyStmt);
         let [span] = fields.into_array::<1>();
-        Null {
+        EmptyStmt {
             span: to_span(span),
         }
     }
 
     fn into_node(self, alloc: Global) -> Result<Node, AllocError>
-        ensures { IfOk result (λ closed. (closed ≡ null_node self) × Fits closed (One (Of class.Null))) }
+        ensures { IfOk result (λ closed. (closed ≡ empty_stmt_node self) × Fits closed (One (Of class.EmptyStmt))) }
     {
-        let Null { span } = self;
+        let EmptyStmt { span } = self;
         let fields = collect(alloc, [from_span(span)])?;
-        Ok(Tree::<class::Null>::from_fields(Kind::Null, fields).into_node())
+        Ok(Tree::<class::EmptyStmt>::from_fields(Kind::EmptyStmt, fields).into_node())
     }
 }

@@ -4,41 +4,41 @@ ghost use Rattle.swc_tree_node.specs.declared.kind.Class.TheVariants as class;
 ghost use Rattle.swc_tree_node.specs.declared.slot.Slot.TheVariants.{One};
 ghost use Rattle.swc_tree_node.specs.declared.slot.Content.TheVariants.{Node as Of};
 ghost use Rattle.swc_tree_node.specs.Fits.{Fits};
-ghost use Rattle.swc_tree_names.specs.Nodes.{super_node};
+ghost use Rattle.swc_tree_leaves.specs.Nodes.{null_node};
 
 use std::alloc::{AllocError, Global};
 use swc_tree_handle::{Opened, Tree, class, collect, from_span, to_span};
 use swc_tree_marks::Span;
 use swc_tree_node::{Kind, Node};
 
-/// `super` as it is called or read (ECMA-262, SuperCall and SuperProperty).
+/// The literal `null` (ECMA-262, NullLiteral).
 #[derive(Clone, Debug, Drop, PartialEq, Eq)]
-pub struct Super {
+pub struct Null {
     pub span: Span,
 }
 
-impl Opened<class::Super> for Super {
-    ghost class = { class.Super };
+impl Opened<class::Null> for Null {
+    ghost class = { class.Null };
 
-    ghost node = { super_node };
+    ghost node = { null_node };
 
     #[tactic(auto, using(swc_tree_node::proofs::Fit::lengths))]
-    fn from_node(closed: Node) -> Super
-        requires { Fits closed (One (Of class.Super)) }
-        ensures { super_node result ≡ closed }
+    fn from_node(closed: Node) -> Null
+        requires { Fits closed (One (Of class.Null)) }
+        ensures { null_node result ≡ closed }
     {
-        let fields = Tree::<class::Super>::from_node(closed).into_fields(Kind::Super);
+        let fields = Tree::<class::Null>::from_node(closed).into_fields(Kind::Null);
         let [span] = fields.into_array::<1>();
-        Super {
+        Null {
             span: to_span(span),
         }
     }
 
     fn into_node(self, alloc: Global) -> Result<Node, AllocError>
-        ensures { IfOk result (λ closed. (closed ≡ super_node self) × Fits closed (One (Of class.Super))) }
+        ensures { IfOk result (λ closed. (closed ≡ null_node self) × Fits closed (One (Of class.Null))) }
     {
-        let Super { span } = self;
+        let Null { span } = self;
         let fields = collect(alloc, [from_span(span)])?;
-        Ok(Tree::<class::Super>::from_fields(Kind::Super, fields).into_node())
+        Ok(Tree::<class::Null>::from_fields(Kind::Null, fields).into_node())
     }
 }

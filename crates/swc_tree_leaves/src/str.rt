@@ -4,7 +4,7 @@ ghost use Rattle.swc_tree_node.specs.declared.kind.Class.TheVariants as class;
 ghost use Rattle.swc_tree_node.specs.declared.slot.Slot.TheVariants.{One};
 ghost use Rattle.swc_tree_node.specs.declared.slot.Content.TheVariants.{Node as Of};
 ghost use Rattle.swc_tree_node.specs.Fits.{Fits};
-ghost use Rattle.swc_tree_names.specs.Nodes.{str_node};
+ghost use Rattle.swc_tree_leaves.specs.Nodes.{str_node};
 
 use std::alloc::{AllocError, Global};
 use swc_tree_handle::{
