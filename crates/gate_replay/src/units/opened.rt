@@ -10,91 +10,16 @@ use swc_tree_node::Class;
 
 pub fn units(alloc: Global) -> [Unit; 13] {
     [
-        (
-            "a sum opens",
-            opens::<class::Expr, Expr, _>(alloc, Class::Expr, SUM, |opened| is_sum(opened)),
-        ),
-        (
-            "a name opens",
-            opens::<class::Expr, Expr, _>(
-                alloc,
-                Class::Expr,
-                NAME,
-                |opened| opened.as_ident().is_some(),
-            ),
-        ),
-        (
-            "a number is no name",
-            opens::<class::Expr, Expr, _>(
-                alloc,
-                Class::Expr,
-                NUMBER,
-                |opened| opened.as_ident().is_none(),
-            ),
-        ),
-        (
-            "an import opens",
-            opens::<class::ImportDecl, ImportDecl, _>(
-                alloc,
-                Class::ImportDecl,
-                IMPORT,
-                |opened| is_import(opened),
-            ),
-        ),
-        (
-            "a declaration opens",
-            opens::<class::VarDecl, VarDecl, _>(
-                alloc,
-                Class::VarDecl,
-                VARIABLES,
-                |opened| is_declaration(opened),
-            ),
-        ),
-        (
-            "a declarator opens",
-            opens::<class::VarDeclarator, VarDeclarator, _>(
-                alloc,
-                Class::VarDeclarator,
-                DECLARATOR,
-                |opened| opened.init.is_none(),
-            ),
-        ),
-        (
-            "a pattern binds",
-            opens::<class::Pat, Pat, _>(
-                alloc,
-                Class::Pat,
-                PATTERN,
-                |opened| binds(alloc, opened, &["a", "c", "e"]),
-            ),
-        ),
-        (
-            "a directive is one",
-            opens::<class::Stmt, Stmt, _>(
-                alloc,
-                Class::Stmt,
-                USE_STRICT,
-                |opened| is_use_strict(opened),
-            ),
-        ),
-        (
-            "another text is none",
-            opens::<class::Stmt, Stmt, _>(
-                alloc,
-                Class::Stmt,
-                TEXT,
-                |opened| !is_use_strict(opened),
-            ),
-        ),
-        (
-            "a name is none",
-            opens::<class::Stmt, Stmt, _>(
-                alloc,
-                Class::Stmt,
-                NAME_STATEMENT,
-                |opened| !is_use_strict(opened),
-            ),
-        ),
+        ("a sum opens", opens_sum(alloc)),
+        ("a name opens", opens_name(alloc)),
+        ("a number is no name", opens_number(alloc)),
+        ("an import opens", opens_import(alloc)),
+        ("a declaration opens", opens_declaration(alloc)),
+        ("a declarator opens", opens_declarator(alloc)),
+        ("a pattern binds", opens_pattern(alloc)),
+        ("a directive is one", opens_directive(alloc)),
+        ("another text is none", opens_no_directive(alloc, TEXT)),
+        ("a name is none", opens_no_directive(alloc, NAME_STATEMENT)),
         ("a handle of a name is one", knows_names(alloc)),
         ("a callee changes in place", changes_callee(alloc)),
         ("statements go after directives", prepends(alloc)),
@@ -149,12 +74,83 @@ fn is_declaration(declaration: &VarDecl) -> bool {
     declaration.kind == VarDeclKind::Const && declaration.decls.len() == 2
 }
 
+fn opens_sum(alloc: Global) -> Option<bool> {
+    opens::<class::Expr, Expr, _>(alloc, Class::Expr, SUM, |opened| is_sum(opened))
+}
+
+fn opens_name(alloc: Global) -> Option<bool> {
+    opens::<class::Expr, Expr, _>(
+        alloc,
+        Class::Expr,
+        NAME,
+        |opened| opened.as_ident().is_some(),
+    )
+}
+
+fn opens_number(alloc: Global) -> Option<bool> {
+    opens::<class::Expr, Expr, _>(
+        alloc,
+        Class::Expr,
+        NUMBER,
+        |opened| opened.as_ident().is_none(),
+    )
+}
+
+fn opens_import(alloc: Global) -> Option<bool> {
+    opens::<class::ImportDecl, ImportDecl, _>(
+        alloc,
+        Class::ImportDecl,
+        IMPORT,
+        |opened| is_import(opened),
+    )
+}
+
+fn opens_declaration(alloc: Global) -> Option<bool> {
+    opens::<class::VarDecl, VarDecl, _>(
+        alloc,
+        Class::VarDecl,
+        VARIABLES,
+        |opened| is_declaration(opened),
+    )
+}
+
+fn opens_declarator(alloc: Global) -> Option<bool> {
+    opens::<class::VarDeclarator, VarDeclarator, _>(
+        alloc,
+        Class::VarDeclarator,
+        DECLARATOR,
+        |opened| opened.init.is_none(),
+    )
+}
+
 /// Whether a pattern binds these names.
 pub fn binds(alloc: Global, pat: &Pat, names: &[&str]) -> bool {
     match find_pat_ids(alloc, pat) {
         Ok(ids) => ids.iter().map(|id| id.0.as_str()).eq(names.iter().copied()),
         Err(_) => false,
     }
+}
+
+fn opens_pattern(alloc: Global) -> Option<bool> {
+    opens::<class::Pat, Pat, _>(
+        alloc,
+        Class::Pat,
+        PATTERN,
+        |opened| binds(alloc, opened, &["a", "c", "e"]),
+    )
+}
+
+fn opens_directive(alloc: Global) -> Option<bool> {
+    opens::<class::Stmt, Stmt, _>(
+        alloc,
+        Class::Stmt,
+        USE_STRICT,
+        |opened| is_use_strict(opened),
+    )
+}
+
+fn opens_no_directive(alloc: Global, text: &str) -> Option<bool> {
+    opens::<class::Stmt, Stmt, _>(alloc, Class::Stmt, text, |opened| !is_use_strict(opened))
 }
 
 fn knows_names(alloc: Global) -> Option<bool> {

@@ -20,7 +20,7 @@ pub fn units(alloc: Global) -> [Unit; 7] {
     ]
 }
 
-/// `a;` behind a `#!` line.
+// `a;` behind a `#!` line.
 const MODULE: &str =
     r#"{"type":"Module","span":[1,2],"body":[{"type":"ExprStmt","span":[0,0],"expr":{"type":"Ident","span":[0,0],"ctxt":[],"sym":"a"}}],"shebang":"node"}"#;
 
