@@ -1,9 +1,7 @@
 """The structs, the sums and the words of a family of the tree, one level deep, each family a crate."""
 from tree_printer.classes import PRINTED
-from tree_printer.forms import HANDLE, MARKS, NODE, form_of, owner_of, snake, spec_module, spec_name
+from tree_printer.forms import HANDLE, KEYWORDS, MARKS, NODE, form_of, owner_of, snake, spec_module, spec_name
 
-# Names that no module may have: the module's name has an underscore after them.
-KEYWORDS = {'super', 'module'}
 PRELUDE = 'Rattle.std.specs.Prelude'
 SLOT_USES = ('ghost use Rattle.swc_tree_node.specs.declared.slot.Slot.TheVariants.{One};\n'
              'ghost use Rattle.swc_tree_node.specs.declared.slot.Content.TheVariants.{%s as Of};\n'

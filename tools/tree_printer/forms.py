@@ -2,7 +2,8 @@
 import re
 
 HANDLE, MARKS, NODE = 'swc_tree_handle', 'swc_tree_marks', 'swc_tree_node'
-SYNTAX = 'swc_tree_handle::class'
+# Names that no module may have: the module's name has an underscore after them.
+KEYWORDS = {'super', 'module'}
 
 
 def snake(name):

@@ -15,14 +15,11 @@ CLAUSE_WORDS = {'class', 'with'}
 
 
 class Field:
-    """A field of a struct: its key in JSON, its name in code, what stands in it, where it is in the grammar, and what
-    an identifier is there."""
+    """A field of a struct: its key in JSON, its name in code, what stands in it, and what an identifier is there."""
 
     def __init__(self, text):
         key, rest = text.strip().split(' ', 1)
         type_, role = (rest.split(' ', 1) + [''])[:2]
-        type_, _, place = type_.partition('@')
-        self.operand, self.in_operator = re.fullmatch(r'(\w*)([+-]in)?', place).groups()
         self.key = key
         self.name = key + '_' if key in CLAUSE_WORDS else key
         self.role = ROLES[role.strip()]
@@ -52,7 +49,6 @@ class Struct(Entry):
     def __init__(self, name, family, doc, marks, fields):
         super().__init__(name, family, doc)
         self.identifier = 'identifier' in marks
-        self.scope = marks[marks.index('scope') + 1] if 'scope' in marks else None
         self.fields = fields
 
 
