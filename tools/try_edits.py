@@ -69,7 +69,8 @@ def main():
     wanted = sorted(wanted & changed(given.since) if given.since else wanted)
     with tempfile.TemporaryDirectory(prefix='try-edits-') as folder:
         root = os.path.join(folder, 'copy')
-        copied(root, wanted)
+        if wanted:
+            copied(root, wanted)
         return 0 if all([are_refused(root, crate) for crate in wanted]) else 1
 
 
