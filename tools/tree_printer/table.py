@@ -1,5 +1,5 @@
 """The table, in the crate swc_tree_node: kinds, classes and words, and what stands in each field."""
-from tree_printer.forms import snake
+from tree_printer.forms import KEYWORDS, snake
 
 PRINTED = 'Printed by tools/print_table.py from tools/tree.txt.'
 
@@ -34,7 +34,7 @@ def spec_slot(tree, field):
 
 
 def rust_enum(doc, name, variants):
-    return '/// %s\n#[derive(Clone, Copy, Debug, PartialEq, Eq)]\npub enum %s {\n%s}\n' % (
+    return '/// %s\n#[derive(Clone, Copy, PartialEq, Eq)]\npub enum %s {\n%s}\n' % (
         doc, name, ''.join('    %s,\n' % v for v in variants))
 
 
@@ -73,16 +73,41 @@ def fields_rt(tree, family):
             + 'use crate::slot::{Content, Field, Role, Slot};\n' + body)
 
 
+def with_fields(tree, family):
+    """The structs of a module of the table that have fields."""
+    return [s for s in tree.of_table(family) if s.fields]
+
+
+def indices_rt(tree, family):
+    """Where each field of a struct stands among its fields, for each struct of a module of the table."""
+    modules = ''.join('\n/// %s\npub mod %s {\n%s}\n' % (
+        s.doc, index_module(s), ''.join('    pub const %s: usize = %d;\n' % (f.name.upper().rstrip('_'), i) for i, f in enumerate(s.fields)))
+                      for s in with_fields(tree, family))
+    return '//! Where fields stand: %s\n//!\n//! %s\n' % (tree.families[family].doc, PRINTED) + modules
+
+
+def index_module(struct):
+    name = snake(struct.name)
+    return name + ('_' if name in KEYWORDS else '')
+
+
+def all_indices_rt(tree):
+    modules = sorted(map(module_of, tree.tables()))
+    names = {module_of(family): sorted(index_module(s) for s in with_fields(tree, family)) for family in tree.tables()}
+    return ('//! Where each field of a kind stands among its fields, by its name: `if_stmt::ALT`.\n//!\n//! %s\n' % PRINTED
+            + ''.join('pub mod %s;\n' % module for module in modules) + '\n'
+            + ''.join('pub use %s::{%s};\n' % (module, ', '.join(names[module])) for module in modules))
+
+
 def table_rt(tree):
     imports = ('ghost use Rattle.std.specs.Prelude.{◌≡◌, map};\n'
-               'ghost use Rattle.swc_tree_node.specs.Table.{name_of, fields_of, words_of, spelling_of, scope_of, is_identifier};\n\n'
-               + ''.join('mod %s;\n' % module for module in sorted(['classes', 'places'] + [module_of(family) for family in tree.tables()])) + '\n'
-               'pub use classes::kinds_of;\npub use places::places_of;\n\n'
-               'use crate::kind::{Kind, Word, WordClass};\nuse crate::slot::{Field, Scope};\n')
+               'ghost use Rattle.swc_tree_node.specs.Table.{name_of, fields_of, words_of, spelling_of, is_identifier};\n\n'
+               + ''.join('mod %s;\n' % module for module in sorted(['classes'] + [module_of(family) for family in tree.tables()])) + '\n'
+               'pub use classes::kinds_of;\n\n'
+               'use crate::kind::{Kind, Word, WordClass};\nuse crate::slot::Field;\n')
     fields = [('Kind::' + s.name, '%s::%s' % (module_of(tree.families[s.family].table), snake(s.name).upper()))
               for s in tree.structs.values() if s.fields]
     fields.append((' | '.join('Kind::' + s.name for s in tree.structs.values() if not s.fields), '&[]'))
-    scopes = [('Kind::' + s.name, 'Some(Scope::%s)' % s.scope) for s in tree.structs.values() if s.scope]
     identifiers = ' | '.join('Kind::' + s.name for s in tree.structs.values() if s.identifier)
     return '\n'.join([
         '//! The table: what each kind of node is called and holds.\n//!\n//! %s\n' % PRINTED,
@@ -97,72 +122,9 @@ def table_rt(tree):
                    [('WordClass::' + n, '&[%s]' % ', '.join('Word::' + word for _, _, word in ws.words)) for n, ws in tree.words.items()]),
         rust_match('spelling_of', 'A word as it is written.', 'word', 'Word', "&'static str",
                    'result.now ≡ spelling_of word', [('Word::' + v, '"%s"' % s) for v, s in tree.spellings().items()]),
-        rust_match('scope_of', 'The scope that a node of the kind opens, if it opens one.', 'kind', 'Kind', 'Option<Scope>',
-                   'result ≡ scope_of kind', scopes + [('_', 'None')]),
         '/// Whether the kind is that of an identifier.\npub fn is_identifier(kind: Kind) -> bool\n'
         '    ensures { result ≡ is_identifier kind }\n{\n    matches!(kind, %s)\n}\n' % identifiers,
     ])
-
-
-# What an operand is called that is none of a level.
-OPERANDS = ('Left', 'Right', 'Base', 'Link', 'Constructor', 'Computed', 'Target')
-IN_OPERATORS = {None: 'Inherited', '+in': 'Allowed', '-in': 'Excluded'}
-
-
-def has_places(struct):
-    return any(field.operand for field in struct.fields)
-
-
-def rust_place(field):
-    operand = field.operand or 'Nothing'
-    if operand not in OPERANDS + ('Nothing',):
-        operand = 'AtLeast(Level::%s)' % operand
-    return 'Place { operand: Operand::%s, in_operator: InOperator::%s },' % (operand, IN_OPERATORS[field.in_operator])
-
-
-def spec_place(field):
-    operand = field.operand or 'Nothing'
-    if operand not in OPERANDS + ('Nothing',):
-        operand = 'AtLeast level.%s' % operand
-    return '(operand.%s, in_operator.%s)' % (operand, IN_OPERATORS[field.in_operator])
-
-
-def check_places(tree):
-    """Each field in which parentheses may stand says where it is in the grammar, and no other does."""
-    for struct in tree.structs.values():
-        for field in struct.fields:
-            is_node = field.type in tree.structs or field.type in tree.sums
-            if bool(field.operand) != (is_node and 'ParenExpr' in tree.kinds_of(field.type)):
-                raise SystemExit('a place in the grammar, or none, at %s.%s' % (struct.name, field.key))
-
-
-def places_rt(tree):
-    with_places = [s for s in tree.structs.values() if has_places(s)]
-    body = ''.join('\nconst %s: &[Place] = &[%s];\n' % (snake(s.name).upper(), ''.join(rust_place(f) for f in s.fields))
-                   for s in with_places)
-    return '\n'.join([
-        '//! Where expressions stand in the grammar.\n//!\n//! %s\n' % PRINTED,
-        'ghost use Rattle.std.specs.Prelude.{◌≡◌, map};\nghost use Rattle.swc_tree_node.specs.Places.{places_of};\n\n'
-        'use crate::kind::Kind;\nuse crate::place::{InOperator, Level, Operand, Place};\n',
-        rust_match('places_of', 'The place in the grammar of each field of a kind, in the order of its fields; none where no field\n'
-                   '/// holds an expression.', 'kind', 'Kind', "&'static [Place]",
-                   'map (λ p. (p.operand, p.in_operator)) result.now ≡ places_of kind',
-                   [('Kind::' + s.name, snake(s.name).upper()) for s in with_places] + [('_', '&[]')]) + body])
-
-
-def places_antt(tree):
-    of = lambda module, name: 'use Rattle.swc_tree_node.specs.declared.%s.%s.{%s}\n' % (module, name, name)
-    variants = lambda module, name, as_: 'use Rattle.swc_tree_node.specs.declared.%s.%s.TheVariants as %s\n' % (module, name, as_)
-    head = ('-- Where expressions stand in the grammar (ECMA-262, 13 to 16).\n--\n-- Printed by tools/print_table.py from tools/tree.txt.\n'
-            'use Rattle.std.specs.Prelude.{List, [], ◌∷◌}\n' + of('kind', 'Kind') + variants('kind', 'Kind', 'kind')
-            + variants('place', 'Level', 'level') + of('place', 'Operand') + variants('place', 'Operand', 'operand')
-            + of('place', 'InOperator') + variants('place', 'InOperator', 'in_operator'))
-    return '\n'.join([
-        head,
-        spec_cases('the place of each field of a kind: which expressions stand there without parentheses, and whether `in` is allowed;\n'
-                   '-- none where no field holds an expression', 'places_of', 'Kind → List (Operand × InOperator)',
-                   [('kind.' + s.name, spec_list([spec_place(f) for f in s.fields]))
-                    for s in tree.structs.values() if has_places(s)] + [('_', '[]')])])
 
 
 def classes_rt(tree):
@@ -187,11 +149,11 @@ def table_antt(tree):
     of = lambda module, name: 'use Rattle.swc_tree_node.specs.declared.%s.%s.{%s}\n' % (module, name, name)
     variants = lambda module, name, as_: 'use Rattle.swc_tree_node.specs.declared.%s.%s.TheVariants as %s\n' % (module, name, as_)
     head = ('-- The table: what each kind of node is called and holds.\n--\n-- Printed by tools/print_table.py from tools/tree.txt.\n'
-            'use Rattle.std.specs.Prelude.{ℕ, List, [], ◌∷◌, codes, Bool, true, false, Option, Some, None, map}\n'
+            'use Rattle.std.specs.Prelude.{ℕ, List, [], ◌∷◌, codes, Bool, true, false, map}\n'
             + of('kind', 'Kind') + variants('kind', 'Kind', 'kind') + of('kind', 'Class') + variants('kind', 'Class', 'class')
             + of('kind', 'Word') + variants('kind', 'Word', 'word') + of('kind', 'WordClass') + variants('kind', 'WordClass', 'word_class')
             + variants('slot', 'Content', 'content') + of('slot', 'Slot') + variants('slot', 'Slot', 'slot')
-            + of('slot', 'Role') + variants('slot', 'Role', 'role') + of('slot', 'Scope') + variants('slot', 'Scope', 'scope'))
+            + of('slot', 'Role') + variants('slot', 'Role', 'role'))
     rows = []
     for s in tree.structs.values():
         rows.append(('kind.' + s.name, spec_list(['(codes "%s", %s, role.%s)' % (
@@ -208,8 +170,6 @@ def table_antt(tree):
                    [('word_class.' + n, spec_list(['word.' + word for _, _, word in ws.words])) for n, ws in tree.words.items()]),
         spec_cases('a word as it is written', 'spelling_of', 'Word → List ℕ',
                    [('word.' + v, 'codes "%s"' % s) for v, s in tree.spellings().items()]),
-        spec_cases('the scope that a node of the kind opens, if it opens one', 'scope_of', 'Kind → Option Scope',
-                   [('kind.' + s.name, 'Some scope.%s' % s.scope) for s in tree.structs.values() if s.scope] + [('_', 'None')]),
         spec_cases('whether the kind is that of an identifier', 'is_identifier', 'Kind → Bool',
                    [('kind.' + s.name, 'true') for s in tree.structs.values() if s.identifier] + [('_', 'false')]),
         spec_cases('kinds, numbered, so that two can be compared', 'kind_number', 'Kind → ℕ',
@@ -221,11 +181,11 @@ def table_antt(tree):
 
 
 def files(tree):
-    check_places(tree)
     crate = 'crates/swc_tree_node/'
     printed = {crate + 'src/kind.rt': kind_rt(tree), crate + 'src/table.rt': table_rt(tree),
                crate + 'src/table/classes.rt': classes_rt(tree), crate + 'specs/Table.antt': table_antt(tree),
-               crate + 'src/table/places.rt': places_rt(tree), crate + 'specs/Places.antt': places_antt(tree)}
+               crate + 'src/fields.rt': all_indices_rt(tree)}
     for family in tree.tables():
         printed[crate + 'src/table/%s.rt' % module_of(family)] = fields_rt(tree, family)
+        printed[crate + 'src/fields/%s.rt' % module_of(family)] = indices_rt(tree, family)
     return printed

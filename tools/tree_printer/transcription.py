@@ -15,14 +15,11 @@ CLAUSE_WORDS = {'class', 'with'}
 
 
 class Field:
-    """A field of a struct: its key in JSON, its name in code, what stands in it, where it is in the grammar, and what
-    an identifier is there."""
+    """A field of a struct: its key in JSON, its name in code, what stands in it, and what an identifier is there."""
 
     def __init__(self, text):
         key, rest = text.strip().split(' ', 1)
         type_, role = (rest.split(' ', 1) + [''])[:2]
-        type_, _, place = type_.partition('@')
-        self.operand, self.in_operator = re.fullmatch(r'(\w*)([+-]in)?', place).groups()
         self.key = key
         self.name = key + '_' if key in CLAUSE_WORDS else key
         self.role = ROLES[role.strip()]
@@ -52,7 +49,6 @@ class Struct(Entry):
     def __init__(self, name, family, doc, marks, fields):
         super().__init__(name, family, doc)
         self.identifier = 'identifier' in marks
-        self.scope = marks[marks.index('scope') + 1] if 'scope' in marks else None
         self.fields = fields
 
 
@@ -155,6 +151,11 @@ class Tree:
         """Whether a struct holds no subtree, so that it is held by value."""
         fields = self.structs[name].fields if name in self.structs else None
         return fields is not None and not any(f.type in self.structs or f.type in self.sums for f in fields)
+
+    def held_as(self, name):
+        """The forms of places, `One` or `Optional`, in which a struct that holds no subtree stands by value."""
+        fields = [field for struct in self.structs.values() for field in struct.fields]
+        return {field.slot for field in fields if field.type == name and field.is_single() and self.is_leaf(name)}
 
     def of_family(self, family, entries):
         return [e for e in entries.values() if e.family == family]

@@ -48,7 +48,6 @@ no_part role.OwnName ids n = refl
 no_part role.Parameter ids n = refl
 no_part role.Catch ids n = refl
 no_part role.Import ids n = refl
-no_part role.Variable ids n = refl
 no_part role.Lexical ids n = refl
 no_part role.FunctionBody ids n = refl
 no_part role.Label ids n = refl

@@ -1,7 +1,7 @@
 -- The table: what each kind of node is called and holds.
 --
 -- Printed by tools/print_table.py from tools/tree.txt.
-use Rattle.std.specs.Prelude.{ℕ, List, [], ◌∷◌, codes, Bool, true, false, Option, Some, None, map}
+use Rattle.std.specs.Prelude.{ℕ, List, [], ◌∷◌, codes, Bool, true, false, map}
 use Rattle.swc_tree_node.specs.declared.kind.Kind.{Kind}
 use Rattle.swc_tree_node.specs.declared.kind.Kind.TheVariants as kind
 use Rattle.swc_tree_node.specs.declared.kind.Class.{Class}
@@ -15,8 +15,6 @@ use Rattle.swc_tree_node.specs.declared.slot.Slot.{Slot}
 use Rattle.swc_tree_node.specs.declared.slot.Slot.TheVariants as slot
 use Rattle.swc_tree_node.specs.declared.slot.Role.{Role}
 use Rattle.swc_tree_node.specs.declared.slot.Role.TheVariants as role
-use Rattle.swc_tree_node.specs.declared.slot.Scope.{Scope}
-use Rattle.swc_tree_node.specs.declared.slot.Scope.TheVariants as scope
 
 -- the name of the struct, as it stands in JSON
 abbrev pub name_of : Kind → List ℕ
@@ -412,14 +410,6 @@ spelling_of word.OrAssign = codes "||="
 spelling_of word.NullishAssign = codes "??="
 spelling_of word.NewTarget = codes "new.target"
 spelling_of word.ImportMeta = codes "import.meta"
-
--- the scope that a node of the kind opens, if it opens one
-abbrev pub scope_of : Kind → Option Scope
-scope_of kind.Module = Some scope.Program
-scope_of kind.Script = Some scope.Program
-scope_of kind.Function = Some scope.Function
-scope_of kind.BlockStmt = Some scope.Block
-scope_of _ = None
 
 -- whether the kind is that of an identifier
 abbrev pub is_identifier : Kind → Bool

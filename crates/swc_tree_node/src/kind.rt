@@ -3,7 +3,7 @@
 //! Printed by tools/print_table.py from tools/tree.txt.
 
 /// What a node is: the struct of the syntax tree that it stands for.
-#[derive(Clone, Copy, Debug, PartialEq, Eq)]
+#[derive(Clone, Copy, PartialEq, Eq)]
 pub enum Kind {
     Module,
     Script,
@@ -105,7 +105,7 @@ pub enum Kind {
 }
 
 /// What a place takes: one struct, or one of the structs of a sum.
-#[derive(Clone, Copy, Debug, PartialEq, Eq)]
+#[derive(Clone, Copy, PartialEq, Eq)]
 pub enum Class {
     Module,
     Script,
@@ -233,7 +233,7 @@ pub enum Class {
 }
 
 /// A word that a node holds: an operator or the keyword of a declaration.
-#[derive(Clone, Copy, Debug, PartialEq, Eq)]
+#[derive(Clone, Copy, PartialEq, Eq)]
 pub enum Word {
     Method,
     Getter,
@@ -294,7 +294,7 @@ pub enum Word {
 }
 
 /// Which words a place takes.
-#[derive(Clone, Copy, Debug, PartialEq, Eq)]
+#[derive(Clone, Copy, PartialEq, Eq)]
 pub enum WordClass {
     MethodKind,
     VarDeclKind,

@@ -3,18 +3,16 @@
 
 mod compare;
 mod copies;
+pub mod fields;
 mod kind;
 mod node;
 mod parts;
-mod place;
+mod shown;
 mod slot;
 mod table;
 
 pub use copies::copy_nodes;
 pub use kind::{Class, Kind, Word, WordClass};
 pub use node::Node;
-pub use place::{InOperator, Level, Operand, Place};
-pub use slot::{Content, Field, Role, Scope, Slot};
-pub use table::{
-    fields_of, is_identifier, kinds_of, name_of, places_of, scope_of, spelling_of, words_of,
-};
+pub use slot::{Content, Field, Role, Slot};
+pub use table::{fields_of, is_identifier, kinds_of, name_of, spelling_of, words_of};

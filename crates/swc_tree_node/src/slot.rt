@@ -51,8 +51,6 @@ pub enum Role {
     Catch,
     /// A name that an import binds.
     Import,
-    /// A name that `var` binds.
-    Variable,
     /// A name that `let` or `const` binds.
     Lexical,
     /// The block here is the body of a function, and no scope of its own; an expression here may be an
@@ -66,14 +64,6 @@ pub enum Role {
     Exported,
     /// The local side of an export list: a reference, or an imported name where the list has a source.
     ExportLocal,
-}
-
-/// The kinds of scopes.
-#[derive(Clone, Copy, Debug, PartialEq, Eq)]
-pub enum Scope {
-    Program,
-    Function,
-    Block,
 }
 
 /// A field of a kind: its key in JSON, what stands in it, and what an identifier is there.

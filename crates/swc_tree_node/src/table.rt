@@ -3,7 +3,7 @@
 //! Printed by tools/print_table.py from tools/tree.txt.
 
 ghost use Rattle.std.specs.Prelude.{◌≡◌, map};
-ghost use Rattle.swc_tree_node.specs.Table.{name_of, fields_of, words_of, spelling_of, scope_of, is_identifier};
+ghost use Rattle.swc_tree_node.specs.Table.{name_of, fields_of, words_of, spelling_of, is_identifier};
 
 mod classes;
 mod expressions;
@@ -11,13 +11,11 @@ mod functions;
 mod leaves;
 mod modules;
 mod patterns;
-mod places;
 mod statements;
 
 use crate::kind::{Kind, Word, WordClass};
-use crate::slot::{Field, Scope};
+use crate::slot::Field;
 pub use classes::kinds_of;
-pub use places::places_of;
 
 /// The name of the struct, as it stands in JSON.
 pub fn name_of(kind: Kind) -> &'static str
@@ -355,19 +353,6 @@ pub fn spelling_of(word: Word) -> &'static str
         Word::NullishAssign => "??=",
         Word::NewTarget => "new.target",
         Word::ImportMeta => "import.meta",
-    }
-}
-
-/// The scope that a node of the kind opens, if it opens one.
-pub fn scope_of(kind: Kind) -> Option<Scope>
-    ensures { result ≡ scope_of kind }
-{
-    match kind {
-        Kind::Module => Some(Scope::Program),
-        Kind::Script => Some(Scope::Program),
-        Kind::Function => Some(Scope::Function),
-        Kind::BlockStmt => Some(Scope::Block),
-        _ => None,
     }
 }
 

@@ -24,7 +24,6 @@ standing_is w k ts i role.OwnName = refl
 standing_is w k ts i role.Parameter = refl
 standing_is w k ts i role.Catch = refl
 standing_is w k ts i role.Import = refl
-standing_is w k ts i role.Variable = refl
 standing_is w k ts i role.Lexical = refl
 standing_is w k ts i role.FunctionBody = refl
 standing_is w k ts i role.ExportLocal = refl

@@ -26,7 +26,6 @@ standing_by f i role.OwnName = own_name f.whole.standing f.kind
 standing_by f i role.Parameter = standing.Parameter
 standing_by f i role.Catch = standing.CatchParameter
 standing_by f i role.Import = standing.Import
-standing_by f i role.Variable = standing.Variable
 standing_by f i role.Lexical = standing.Lexical
 standing_by f i role.FunctionBody = standing.Body
 standing_by f i role.ExportLocal = f.exported

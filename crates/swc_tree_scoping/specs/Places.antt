@@ -275,7 +275,6 @@ standing_below w k ts i role.OwnName = own_name w.standing k
 standing_below w k ts i role.Parameter = standing.Parameter
 standing_below w k ts i role.Catch = standing.CatchParameter
 standing_below w k ts i role.Import = standing.Import
-standing_below w k ts i role.Variable = standing.Variable
 standing_below w k ts i role.Lexical = standing.Lexical
 standing_below w k ts i role.FunctionBody = standing.Body
 standing_below w k ts i role.ExportLocal = if is_there (slice_get ts 2) then standing.Plain else standing.Reference

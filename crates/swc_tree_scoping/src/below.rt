@@ -95,7 +95,6 @@ impl Fields {
             Role::Parameter => Standing::Parameter,
             Role::Catch => Standing::CatchParameter,
             Role::Import => Standing::Import,
-            Role::Variable => Standing::Variable,
             Role::FunctionBody => Standing::Body,
             Role::ExportLocal => self.exported,
             Role::Label | Role::Imported | Role::Exported => Standing::Plain,

@@ -2,7 +2,7 @@
 use serde_json::{Map, Value};
 use std::alloc::{AllocError, Global};
 use swc_tree_node::{
-    Content, Kind, Slot, fields_of, is_identifier, kinds_of, name_of, spelling_of, words_of,
+    Class, Content, Kind, Slot, fields_of, is_identifier, kinds_of, name_of, spelling_of, words_of,
 };
 
 // No kind leads through the first kinds of its fields to more nodes in one another than this.
@@ -46,26 +46,53 @@ fn identifier(alloc: Global, members: &mut Map<String, Value>) -> Result<(), All
     put(alloc, members, "sym", text(alloc, "a")?)
 }
 
-// A value of the kind in which nothing stands that may be left out; nothing, where that is deeper than `depth`.
-fn least(alloc: Global, kind: Kind, depth: u32) -> Result<Value, AllocError> {
-    let Some(below) = depth.checked_sub(1) else {
-        return Ok(Value::Null);
-    };
+fn pair(alloc: Global) -> Result<Value, AllocError> {
+    let (key, value) = (text(alloc, "a")?, text(alloc, "b")?);
+    list(alloc, [key, value])
+}
+
+// The members that an object of the kind has beside its fields.
+fn head(alloc: Global, kind: Kind) -> Result<Map<String, Value>, AllocError> {
     let mut members = Map::new(alloc);
     put(alloc, &mut members, "type", text(alloc, name_of(kind))?)?;
     if is_identifier(kind) {
         identifier(alloc, &mut members)?;
     }
+    Ok(members)
+}
+
+fn first_of(class: Class) -> Option<Kind> {
+    kinds_of(class).first().copied()
+}
+
+// The kind of the node that has to stand in a slot, if one has to.
+fn needed(slot: Slot) -> Option<Kind> {
+    match slot {
+        Slot::One(Content::Node(class)) => first_of(class),
+        _ => None,
+    }
+}
+
+// What stands in a slot in which nothing stands that may be left out, but for a node.
+fn least_leaf(alloc: Global, slot: Slot) -> Result<Value, AllocError> {
+    match slot {
+        Slot::One(content) => leaf(alloc, content),
+        Slot::List(_) | Slot::Holes(_) => Ok(Value::Array(Vec::new(alloc))),
+        Slot::Pair => pair(alloc),
+        Slot::Optional(_) | Slot::OptionalList(_) | Slot::Pairs => Ok(Value::Null),
+    }
+}
+
+// A value of the kind in which nothing stands that may be left out; nothing, where that is deeper than `depth`.
+fn least(alloc: Global, kind: Kind, depth: u32) -> Result<Value, AllocError> {
+    let Some(below) = depth.checked_sub(1) else {
+        return Ok(Value::Null);
+    };
+    let mut members = head(alloc, kind)?;
     for field in fields_of(kind) {
-        let value = match field.slot {
-            Slot::One(Content::Node(class)) => match kinds_of(class).first() {
-                Some(first) => least(alloc, *first, below)?,
-                None => Value::Null,
-            },
-            Slot::One(content) => leaf(alloc, content)?,
-            Slot::List(_) | Slot::Holes(_) => Value::Array(Vec::new(alloc)),
-            Slot::Pair => list(alloc, [text(alloc, "a")?, text(alloc, "b")?])?,
-            Slot::Optional(_) | Slot::OptionalList(_) | Slot::Pairs => Value::Null,
+        let value = match needed(field.slot) {
+            Some(first) => least(alloc, first, below)?,
+            None => least_leaf(alloc, field.slot)?,
         };
         put(alloc, &mut members, field.key, value)?;
     }
@@ -74,8 +101,8 @@ fn least(alloc: Global, kind: Kind, depth: u32) -> Result<Value, AllocError> {
 
 fn one(alloc: Global, content: Content) -> Result<Value, AllocError> {
     match content {
-        Content::Node(class) => match kinds_of(class).first() {
-            Some(first) => least(alloc, *first, DEPTH),
+        Content::Node(class) => match first_of(class) {
+            Some(first) => least(alloc, first, DEPTH),
             None => Ok(Value::Null),
         },
         content => leaf(alloc, content),
@@ -91,21 +118,14 @@ pub fn in_slot(alloc: Global, slot: Slot) -> Result<Value, AllocError> {
             list(alloc, [item, one(alloc, content)?])
         }
         Slot::Holes(content) => list(alloc, [Value::Null, one(alloc, content)?]),
-        Slot::Pair => list(alloc, [text(alloc, "a")?, text(alloc, "b")?]),
-        Slot::Pairs => {
-            let pair = list(alloc, [text(alloc, "a")?, text(alloc, "b")?])?;
-            list(alloc, [pair])
-        }
+        Slot::Pair => pair(alloc),
+        Slot::Pairs => list(alloc, [pair(alloc)?]),
     }
 }
 
 /// The members of an object of the kind.
 pub fn of_kind(alloc: Global, kind: Kind) -> Result<Map<String, Value>, AllocError> {
-    let mut members = Map::new(alloc);
-    put(alloc, &mut members, "type", text(alloc, name_of(kind))?)?;
-    if is_identifier(kind) {
-        identifier(alloc, &mut members)?;
-    }
+    let mut members = head(alloc, kind)?;
     for field in fields_of(kind) {
         put(alloc, &mut members, field.key, in_slot(alloc, field.slot)?)?;
     }
