@@ -16,7 +16,7 @@ pub use passes::{Pass, class_of};
 pub use program::{Given, read};
 use std::alloc::{AllocError, Global};
 use swc_base_fixer::paren_remover;
-use swc_base_rename::{remap, rename_with_config};
+use swc_base_rename::{remap, rename, rename_with_config};
 use swc_tree_marks::PassError;
 
 /// What is left after a pass.
@@ -40,11 +40,16 @@ pub fn left(
     }
 }
 
+// The configuration counts only where it says more than the default.
 fn rename_row(alloc: Global, mut given: Given, input: &str) -> Result<String> {
     let Some(texts) = names::texts(alloc, input) else {
         bail!("the names are not as they should be");
     };
-    let mut pass = rename_with_config(&texts, config_of(&given));
+    let mut pass = if given.keep_class_names {
+        rename_with_config(&texts, config_of(&given))
+    } else {
+        rename(&texts)
+    };
     let answer = given.program.visit(&mut pass, alloc, &mut given.globals);
     Ok(left(alloc, answer, given)?)
 }

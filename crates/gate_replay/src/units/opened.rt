@@ -3,12 +3,13 @@ use crate::units::Unit;
 use crate::units::read::{opens, tree};
 use std::alloc::Global;
 use swc_tree::{
-    AsOptExpr, BinaryOp, Callee, Expr, ExprRefExt, ImportDecl, Kind, Pat, Stmt, Tree, Trees,
-    VarDecl, VarDeclKind, VarDeclarator, class, find_pat_ids, is_use_strict, prepend_stmts,
+    AsOptExpr, BinaryOp, Callee, Expr, ExprRefExt, ImportDecl, Kind, ObjectPatProp, Pat, PropName,
+    Stmt, Tree, Trees, VarDecl, VarDeclKind, VarDeclarator, class, find_pat_ids, is_use_strict,
+    prepend_stmts,
 };
 use swc_tree_node::Class;
 
-pub fn units(alloc: Global) -> [Unit; 13] {
+pub fn units(alloc: Global) -> [Unit; 16] {
     [
         ("a sum opens", opens_sum(alloc)),
         ("a name opens", opens_name(alloc)),
@@ -17,6 +18,9 @@ pub fn units(alloc: Global) -> [Unit; 13] {
         ("a declaration opens", opens_declaration(alloc)),
         ("a declarator opens", opens_declarator(alloc)),
         ("a pattern binds", opens_pattern(alloc)),
+        ("patterns open", opens_patterns(alloc)),
+        ("properties of patterns open", opens_properties(alloc)),
+        ("a key opens", opens_key(alloc)),
         ("a directive is one", opens_directive(alloc)),
         ("another text is none", opens_no_directive(alloc, TEXT)),
         ("a name is none", opens_no_directive(alloc, NAME_STATEMENT)),
@@ -49,6 +53,21 @@ const DECLARATOR: &str =
 // `{ a, b: [c = d, ...e] }`
 const PATTERN: &str =
     r#"{"type":"ObjectPat","span":[0,0],"props":[{"type":"AssignPatProp","span":[0,0],"key":{"type":"BindingIdent","span":[0,0],"ctxt":[],"sym":"a"}},{"type":"KeyValuePatProp","key":{"type":"IdentName","span":[0,0],"sym":"b"},"value":{"type":"ArrayPat","span":[0,0],"elems":[{"type":"AssignPat","span":[0,0],"left":{"type":"BindingIdent","span":[0,0],"ctxt":[],"sym":"c"},"right":{"type":"Ident","span":[0,0],"ctxt":[],"sym":"d"}},{"type":"RestPat","span":[0,0],"arg":{"type":"BindingIdent","span":[0,0],"ctxt":[],"sym":"e"}}]}}]}"#;
+
+// `c`, `c = d` and `...e`
+const PATTERNS: [&str; 3] = [
+    r#"{"type":"BindingIdent","span":[0,0],"ctxt":[],"sym":"c"}"#,
+    r#"{"type":"AssignPat","span":[0,0],"left":{"type":"BindingIdent","span":[0,0],"ctxt":[],"sym":"c"},"right":{"type":"Ident","span":[0,0],"ctxt":[],"sym":"d"}}"#,
+    r#"{"type":"RestPat","span":[0,0],"arg":{"type":"BindingIdent","span":[0,0],"ctxt":[],"sym":"e"}}"#,
+];
+
+// `a = d` and `b: c`
+const PROPERTIES: [&str; 2] = [
+    r#"{"type":"AssignPatProp","span":[0,0],"key":{"type":"BindingIdent","span":[0,0],"ctxt":[],"sym":"a"},"value":{"type":"Ident","span":[0,0],"ctxt":[],"sym":"d"}}"#,
+    r#"{"type":"KeyValuePatProp","key":{"type":"IdentName","span":[0,0],"sym":"b"},"value":{"type":"BindingIdent","span":[0,0],"ctxt":[],"sym":"c"}}"#,
+];
+
+const KEY: &str = r#"{"type":"IdentName","span":[0,0],"sym":"b"}"#;
 
 /// `'use strict';`
 pub const USE_STRICT: &str =
@@ -138,6 +157,30 @@ fn opens_pattern(alloc: Global) -> Option<bool> {
         PATTERN,
         |opened| binds(alloc, opened, &["a", "c", "e"]),
     )
+}
+
+fn opens_patterns(alloc: Global) -> Option<bool> {
+    let mut open = true;
+    for text in PATTERNS {
+        open = open && opens::<class::Pat, Pat, _>(alloc, Class::Pat, text, |_| true)?;
+    }
+    Some(open)
+}
+
+fn opens_property(alloc: Global, text: &str) -> Option<bool> {
+    opens::<class::ObjectPatProp, ObjectPatProp, _>(alloc, Class::ObjectPatProp, text, |_| true)
+}
+
+fn opens_properties(alloc: Global) -> Option<bool> {
+    let mut open = true;
+    for text in PROPERTIES {
+        open = open && opens_property(alloc, text)?;
+    }
+    Some(open)
+}
+
+fn opens_key(alloc: Global) -> Option<bool> {
+    opens::<class::PropName, PropName, _>(alloc, Class::PropName, KEY, |_| true)
 }
 
 fn opens_directive(alloc: Global) -> Option<bool> {
