@@ -2,11 +2,11 @@
 use crate::units::Unit;
 use crate::units::opened::{NAME, NAME_STATEMENT, USE_STRICT, binds};
 use crate::units::programs::HasItems;
-use crate::units::read::tree;
+use crate::units::read::{tree, tree_opens};
 use std::alloc::Global;
 use swc_tree::{
     ArrayPat, BlockStmt, DUMMY_SP, Globals, Holes, JsPass, Module, Node, Opened, ParenExpr, Pat,
-    Tree, Trees, class, is_use_strict, noop, prepend_stmts, should_work,
+    Stmt, Tree, Trees, class, is_use_strict, noop, prepend_stmts, should_work,
 };
 use swc_tree_node::Class;
 
@@ -39,6 +39,11 @@ fn deep_expr(alloc: Global) -> Option<Tree<class::Expr>> {
         expr = paren(alloc, expr)?;
     }
     Some(expr)
+}
+
+// Whether a statement opens, and is no directive.
+fn opens_block(alloc: Global, stmt: Tree<class::Stmt>) -> Option<bool> {
+    tree_opens::<class::Stmt, Stmt, _>(alloc, stmt, |opened| !is_use_strict(opened))
 }
 
 // A pattern of one element, after one that is left out.
@@ -112,8 +117,11 @@ fn copies_expr(alloc: Global) -> Option<bool> {
 }
 
 fn pattern_binds(alloc: Global) -> Option<bool> {
-    let pat: Pat = deep_pat(alloc)?.open();
-    Some(binds(alloc, &pat, &["a"]))
+    tree_opens::<class::Pat, Pat, _>(
+        alloc,
+        deep_pat(alloc)?,
+        |opened| binds(alloc, opened, &["a"]),
+    )
 }
 
 fn prepends(alloc: Global) -> Option<bool> {
@@ -123,8 +131,7 @@ fn prepends(alloc: Global) -> Option<bool> {
     more.push(deep_stmt(alloc, USE_STRICT)?).ok()?;
     prepend_stmts(&mut stmts, more).ok()?;
     let last = stmts.pop()?;
-    let is_strict = is_use_strict(&last.clone().ok()?.open());
-    Some(stmts.len() == 1 && last == deep_stmt(alloc, USE_STRICT)? && !is_strict)
+    Some(stmts.len() == 1 && last == deep_stmt(alloc, USE_STRICT)? && opens_block(alloc, last)?)
 }
 
 fn module_passes(alloc: Global) -> Option<bool> {
