@@ -1,5 +1,5 @@
 -- A node with a field changed.
-use Rattle.std.proofs.Common.{◌≡◌, ℕ, List, [], ◌∷◌, ◌++◌, Option, Some, None, length, take, slice_set, Bool, true, false, not, get_or, ◌≢◌, ◌∙◌, refl, ap, arith}
+use Rattle.std.proofs.Common.{◌≡◌, ℕ, List, [], ◌∷◌, ◌++◌, Option, Some, None, length, take, slice_set, Bool, true, false, not, get_or, ◌≢◌, ◌∙◌, refl, sym, ap, arith}
 use Rattle.std.specs.List.{filter, flat_map, list_all, slice_get}
 use Rattle.swc_tree_node.specs.declared.kind.Kind.{Kind}
 use Rattle.swc_tree_node.specs.declared.kind.Kind.TheVariants as kind
@@ -14,14 +14,19 @@ use Rattle.swc_tree_node.specs.declared.node.Node.TheOpen.{Node-F}
 use Rattle.swc_tree_grammar.specs.Shapes.{items_of}
 use Rattle.swc_tree_grammar.specs.Stripped.{strip_step, target, is_member, is_idle, busy, is_void, effects, front, end, settled}
 
-pub assigned : (fields : List Node) (left : Node) → length fields ≡ 4 → slice_get fields 2 ≡ Some left
+assigned_at : (fields : List Node) (left : Node) → length fields ≡ 4 → slice_get fields 2 ≡ Some left
     → Tree kind.AssignExpr (slice_set (slice_set fields 2 Absent) 2 (target left)) ≡ strip_step (Node-F.Tree kind.AssignExpr fields)
-assigned (a ∷ b ∷ c ∷ d ∷ []) left h g = cc
-assigned [] left h g = absurd (omega arith)
-assigned (a ∷ []) left h g = absurd (omega arith)
-assigned (a ∷ b ∷ []) left h g = absurd (omega arith)
-assigned (a ∷ b ∷ c ∷ []) left h g = absurd (omega arith)
-assigned (a ∷ b ∷ c ∷ d ∷ e ∷ fs) left h g = absurd (omega arith)
+assigned_at (a ∷ b ∷ c ∷ d ∷ []) left h g = cc
+assigned_at [] left h g = absurd (omega arith)
+assigned_at (a ∷ []) left h g = absurd (omega arith)
+assigned_at (a ∷ b ∷ []) left h g = absurd (omega arith)
+assigned_at (a ∷ b ∷ c ∷ []) left h g = absurd (omega arith)
+assigned_at (a ∷ b ∷ c ∷ d ∷ e ∷ fs) left h g = absurd (omega arith)
+
+-- an assignment whose target was taken out, and put back as a target
+pub assigned : (fields out back : List Node) (left new : Node) → length fields ≡ 4 → slice_get fields 2 ≡ Some left → out ≡ slice_set fields 2 Absent → new ≡ target left → back ≡ slice_set out 2 new
+    → Tree kind.AssignExpr back ≡ strip_step (Node-F.Tree kind.AssignExpr fields)
+assigned fields out back left new h g o n b = rw (b, n, o) (assigned_at fields left h g)
 
 pub class_of_members : (fields : List Node) (body : Node) → length fields ≡ 3 → slice_get fields 2 ≡ Some body
     → Tree kind.Class (slice_set (slice_set fields 2 Absent) 2 (Many (filter is_member (items_of body)))) ≡ strip_step (Node-F.Tree kind.Class fields)
@@ -105,14 +110,19 @@ no_else kind.ForStmt (a ∷ b ∷ c ∷ d ∷ l ∷ []) h = absurd (cc)
 no_else kind.ForOfStmt (a ∷ b ∷ c ∷ d ∷ l ∷ []) h = absurd (cc)
 no_else k ts h = takes_else_of_tree k ts
 
-pub branched : (fields : List Node) (cons : Node) → length fields ≡ 4 → slice_get fields 2 ≡ Some cons
+branched_at : (fields : List Node) (cons : Node) → length fields ≡ 4 → slice_get fields 2 ≡ Some cons
     → Tree kind.IfStmt (slice_set (slice_set fields 2 Absent) 2 (branch cons)) ≡ block_step (Node-F.Tree kind.IfStmt fields)
-branched (a ∷ b ∷ c ∷ d ∷ []) cons h g = cc
-branched [] cons h g = absurd (omega arith)
-branched (a ∷ []) cons h g = absurd (omega arith)
-branched (a ∷ b ∷ []) cons h g = absurd (omega arith)
-branched (a ∷ b ∷ c ∷ []) cons h g = absurd (omega arith)
-branched (a ∷ b ∷ c ∷ d ∷ e ∷ fs) cons h g = absurd (omega arith)
+branched_at (a ∷ b ∷ c ∷ d ∷ []) cons h g = cc
+branched_at [] cons h g = absurd (omega arith)
+branched_at (a ∷ []) cons h g = absurd (omega arith)
+branched_at (a ∷ b ∷ []) cons h g = absurd (omega arith)
+branched_at (a ∷ b ∷ c ∷ []) cons h g = absurd (omega arith)
+branched_at (a ∷ b ∷ c ∷ d ∷ e ∷ fs) cons h g = absurd (omega arith)
+
+-- an `if` whose first branch was taken out, and put back with its block
+pub branched : (fields out back : List Node) (cons new : Node) → length fields ≡ 4 → slice_get fields 2 ≡ Some cons → out ≡ slice_set fields 2 Absent → new ≡ branch cons → back ≡ slice_set out 2 new
+    → Tree kind.IfStmt back ≡ block_step (Node-F.Tree kind.IfStmt fields)
+branched fields out back cons new h g o n b = rw (b, n, o) (branched_at fields cons h g)
 
 first_at : (a : Node) (ts : List Node) (i : ℕ) (e : Node) → Some 0 ≡ Some i → e ≡ get_or (a ∷ ts) i e → a ≡ e
 first_at a ts i e h g = let here : 0 ≡ i = cc in let found = rw (← here) at g in cc
@@ -150,3 +160,13 @@ pub no_target : (ts : List Node) → length ts ≢ 1 → is_target (Many ts) ≡
 no_target [] h = target_of_list []
 no_target (t ∷ []) h = absurd (h refl)
 no_target (t ∷ u ∷ ts) h = target_of_list (t ∷ u ∷ ts)
+
+-- what is said of a node is what is said of one of its fields
+pub by_field : {X : Type 0} (f : Node → X) (g : Kind → List Node → Option ℕ) → ((k : Kind) (ts : List Node) (i : ℕ) (e : Node) → g k ts ≡ Some i → e ≡ get_or ts i e → f (Tree k ts) ≡ f e)
+    → (t : Node) (k : Kind) (ts us : List Node) (i : ℕ) (e : Node) (x : X) → t ≡ Tree k ts → us ≡ ts → Some i ≡ g k us → e ≡ get_or us i e → x ≡ f e → x ≡ f t
+by_field f g law t k ts us i e x is same there here found = found ∙ sym (law k us i e (sym there) here) ∙ ap (λ l. f (Tree k l)) same ∙ ap f (sym is)
+
+-- what is said of a node of which no field says it
+pub by_none : {X : Type 0} (f : Node → X) (g : Kind → List Node → Option ℕ) (x : X) → ((k : Kind) (ts : List Node) → g k ts ≡ None → f (Tree k ts) ≡ x)
+    → (t : Node) (k : Kind) (ts us : List Node) → t ≡ Tree k ts → us ≡ ts → None ≡ g k us → x ≡ f t
+by_none f g x law t k ts us is same there = sym (law k us (sym there)) ∙ ap (λ l. f (Tree k l)) same ∙ ap f (sym is)

@@ -23,7 +23,6 @@ fn last_statement(kind: Kind, fields: &[Node]) -> Option<usize>
 }
 
 /// Whether an `else` right behind the statement would go to an `if` in it.
-#[tactic(auto, using(crate::proofs::Fields::else_in_last, crate::proofs::Fields::no_else))]
 fn takes_else(statement: &Node) -> bool
     ensures { result ≡ takes_an_else statement.now }
 {
@@ -65,7 +64,6 @@ fn branch(alloc: Global, statement: Node) -> Result<Node, AllocError>
     }
 }
 
-#[tactic(auto, using(crate::proofs::Fields::branched))]
 fn choice(alloc: Global, mut fields: Items<Node>) -> Result<Node, AllocError>
     requires { length fields ≡ 4 }
     ensures { IfOk result (λ t. t ≡ block_step (Node-F.Tree kind.IfStmt fields)) }
@@ -103,12 +101,7 @@ pub fn add_blocks(alloc: Global, node: Node) -> Result<Node, AllocError>
             let tree = blocked(alloc, kind, fields)?;
             Ok(tree)
         }
-        Node::Absent => Ok(Node::Absent),
-        Node::Flag(flag) => Ok(Node::Flag(flag)),
-        Node::Word(word) => Ok(Node::Word(word)),
-        Node::Text(text) => Ok(Node::Text(text)),
-        Node::Span(span) => Ok(Node::Span(span)),
-        Node::Identifier(kind, ident) => Ok(Node::Identifier(kind, ident)),
+        leaf => Ok(leaf),
     }
 }
 

@@ -33,7 +33,6 @@ fn add_own(kind: Kind, fields: &[Node], out: &mut Items<Pair>) -> Result<(), All
 
 /// Adds the pairs in a node, each before those in it.
 #[cycle(pairs)]
-#[tactic(auto, using(crate::proofs::Found::pairs_in_list, crate::proofs::Found::pairs_in_tree))]
 fn add_pairs(node: &Node, out: &mut Items<Pair>) -> Result<(), AllocError>
     ensures { OnOk result (out.new ≡ out.old ++ pairs node.now) }
 {
@@ -51,7 +50,6 @@ fn add_pairs(node: &Node, out: &mut Items<Pair>) -> Result<(), AllocError>
 
 /// Adds the pairs in a target, but for the one that the target is.
 #[cycle(pairs)]
-#[tactic(auto, using(crate::proofs::Found::below_list, crate::proofs::Found::below_tree))]
 fn add_below(node: &Node, out: &mut Items<Pair>) -> Result<(), AllocError>
     ensures { OnOk result (out.new ≡ out.old ++ pairs_inside node.now) }
 {
@@ -63,7 +61,6 @@ fn add_below(node: &Node, out: &mut Items<Pair>) -> Result<(), AllocError>
 }
 
 #[cycle(pairs)]
-#[tactic(auto, using(crate::proofs::Found::inside_assignment, crate::proofs::Found::inside_other))]
 fn add_inside(kind: Kind, fields: &[Node], out: &mut Items<Pair>) -> Result<(), AllocError>
     ensures { OnOk result (out.new ≡ out.old ++ inside_of (Node-F.Tree kind (map found fields.now))) }
 {

@@ -18,7 +18,6 @@ fn span_field(kind: Kind, fields: &[Node]) -> Option<usize>
 }
 
 /// Where a node stands in the source.
-#[tactic(auto, using(crate::proofs::Fields::span_in_field, crate::proofs::Fields::no_span_field))]
 pub fn span_of(node: &Node) -> Span
     ensures { result ≡ place_of node.now }
 {

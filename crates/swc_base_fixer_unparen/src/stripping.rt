@@ -78,12 +78,7 @@ pub fn strip(alloc: Global, node: Node) -> Result<Node, AllocError>
             let tree = settle(alloc, kind, fields)?;
             Ok(tree)
         }
-        Node::Absent => Ok(Node::Absent),
-        Node::Flag(flag) => Ok(Node::Flag(flag)),
-        Node::Word(word) => Ok(Node::Word(word)),
-        Node::Text(text) => Ok(Node::Text(text)),
-        Node::Span(span) => Ok(Node::Span(span)),
-        Node::Identifier(kind, ident) => Ok(Node::Identifier(kind, ident)),
+        leaf => Ok(leaf),
     }
 }
 
