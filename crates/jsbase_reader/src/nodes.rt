@@ -214,7 +214,6 @@ fn class_of(slot: Slot) -> Option<Class>
 ///
 /// `Fault` with the path to the first fault, in the order in which fields are read; `NoMemory` where
 /// memory is refused.
-#[tactic(auto, using(jsbase_form::proofs::Seen::seen_fits, jsbase_form::proofs::Seen::seen_known))]
 pub fn read(alloc: Global, globals: &Globals, value: Value, slot: Slot) -> Result<Node, ReadError>
     ensures tree { Gives result (seen globals.now (view value) slot) }
     ensures fits { IfOk result (λ tree. Fits tree slot) }

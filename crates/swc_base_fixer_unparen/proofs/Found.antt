@@ -1,6 +1,5 @@
 -- The pairs in a node, by its form.
-use Rattle.std.proofs.Common.{◌≡◌, true, false, List, [], ◌∷◌, ◌++◌, length, map, get_or, append_assoc, Result, refl, sym, ap, ◌∙◌, subst, arith}
-use Rattle.std.specs.Prelude.{OnOk}
+use Rattle.std.proofs.Common.{◌≡◌, true, false, List, [], ◌∷◌, ◌++◌, length, map, get_or, append_assoc, refl, sym, ap, ◌∙◌, arith}
 use Rattle.std.specs.List.{flat_map}
 use Rattle.swc_tree_node.specs.declared.kind.Kind.{Kind}
 use Rattle.swc_tree_node.specs.declared.kind.Kind.TheVariants as kind
@@ -50,10 +49,6 @@ pub own_and_inside : (node : Node) (k : Kind) (ts fs : List Node) (now before al
     → before ≡ all ++ own_of (Node-F.Tree k (map found fs)) → now ≡ before ++ inside_of (Node-F.Tree k (map found fs)) → now ≡ all ++ pairs node
 own_and_inside node k ts fs now before all n f b w =
     rw (w, b, n, f) (append_assoc all (own_of (Node-F.Tree k (map found ts))) (inside_of (Node-F.Tree k (map found ts))) ∙ ap (λ ps. all ++ ps) (sym (pairs_in_tree k ts)))
-
--- what was added, said in other words
-pub added_as : {T E : Type 0} (r : Result T E) (now all a b : List Pair) → a ≡ b → OnOk r (now ≡ all ++ a) → OnOk r (now ≡ all ++ b)
-added_as r now all a b e h = subst (λ ps. OnOk r (now ≡ all ++ ps)) e h
 
 pub items_inside : (node : Node) (ts us : List Node) → node ≡ Many ts → us ≡ ts → flat_map pairs us ≡ pairs_inside node
 items_inside node ts us is same = ap (flat_map pairs) same ∙ sym (below_list ts) ∙ ap pairs_inside (sym is)

@@ -1,5 +1,6 @@
 use Rattle.std.proofs.Common.{sym, ◌∙◌}
-use Rattle.swc_base_fixer_unparen.proofs.Found.{added_as, fields_inside, inside_other, inside_sides, items_inside, items_pairs, own_and_inside}
+use Rattle.swc_base_fixer_unparen.proofs.Each.{added_as}
+use Rattle.swc_base_fixer_unparen.proofs.Found.{fields_inside, inside_other, inside_sides, items_inside, items_pairs, own_and_inside}
 use Rattle.swc_base_fixer_unparen.proofs.pairs.+pairs.Goals as goal
 
 pub add_pairs-returns-in_ok-add_inside-in-Tree : goal.add_pairs-returns-in_ok-add_inside-in-Tree
