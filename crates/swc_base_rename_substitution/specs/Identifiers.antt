@@ -33,13 +33,13 @@ changed m p i = option_map (with_id i) (m (id_of i))
 abbrev pub key_of : Ident → Node
 key_of i = Tree kind.IdentName (Span i.span ∷ Text i.sym ∷ [])
 
+abbrev pub computed_key : Ident → Node
+computed_key i = Tree kind.ComputedPropName (Span i.span ∷ Tree kind.Str (Span i.span ∷ Text i.sym ∷ Absent ∷ []) ∷ [])
+
 -- with the key `__proto__` a property sets the prototype (ECMA-262, PropertyDefinitionEvaluation), which its
 -- shorthand did not
 abbrev pub property_key : Ident → Node
-property_key i =
-    if pointwise nat_eq i.sym (codes "__proto__")
-    then Tree kind.ComputedPropName (Span i.span ∷ Tree kind.Str (Span i.span ∷ Text i.sym ∷ Absent ∷ []) ∷ [])
-    else key_of i
+property_key i = if pointwise nat_eq i.sym (codes "__proto__") then computed_key i else key_of i
 
 -- what stands in the place of an identifier, given the new one where its text changes; the shorthand `{ a }`
 -- becomes `{ a: a1 }`

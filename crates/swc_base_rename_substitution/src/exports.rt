@@ -27,44 +27,46 @@ fn any_changes(names: &Names, ids: &[Id]) -> bool
 }
 
 // An identifier that stands in no source text.
-fn made(alloc: Global, id: Id) -> Result<Node, NoMemory>
-    ensures { IfOk result (λ node. node ≡ Node.Identifier Kind.Ident (is_made id)) }
+fn made(alloc: Global, id: Id) -> Result<Boxed<Ident>, NoMemory>
+    ensures { IfOk result (λ ident. ident ≡ is_made id) }
 {
     let (sym, ctxt) = id;
     let span = DUMMY_SP;
-    let ident = Boxed::new(alloc, Ident { span, ctxt, sym })?;
-    Ok(Node::Identifier(Kind::Ident, ident))
+    Ok(Boxed::new(alloc, Ident { span, ctxt, sym })?)
 }
 
-// The specifier of an id, with its new id where the text changes.
-fn specifier_to(alloc: Global, id: Id, new: Option<Id>) -> Result<Node, NoMemory>
-    ensures { IfOk result (λ node. node ≡ is_specifier_to id new) }
+// The specifier of an id whose text stays.
+fn unchanged_specifier(alloc: Global, id: Id) -> Result<Node, NoMemory>
+    ensures { IfOk result (λ node. node ≡ is_specifier_to id None) }
 {
-    match new {
-        None => {
-            let local = made(alloc, id)?;
-            let fields = [Node::Span(DUMMY_SP), local, Node::Absent];
-            let specifier = tree(alloc, Kind::ExportNamedSpecifier, fields)?;
-            Ok(specifier)
-        }
-        Some(new) => {
-            let (sym, _) = id;
-            let exported = made(alloc, (sym, SyntaxContext::empty(alloc)))?;
-            let local = made(alloc, new)?;
-            let fields = [Node::Span(DUMMY_SP), local, exported];
-            let specifier = tree(alloc, Kind::ExportNamedSpecifier, fields)?;
-            Ok(specifier)
-        }
-    }
+    let local = Node::Identifier(Kind::Ident, made(alloc, id)?);
+    let fields = [Node::Span(DUMMY_SP), local, Node::Absent];
+    tree(alloc, Kind::ExportNamedSpecifier, fields)
+}
+
+// The specifier of an id whose new id has another text.
+fn changed_specifier(alloc: Global, id: Id, new: Id) -> Result<Node, NoMemory>
+    ensures { IfOk result (λ node. node ≡ is_specifier_to id (Some new)) }
+{
+    let (sym, _) = id;
+    let local = made(alloc, new)?;
+    let exported = made(alloc, (sym, SyntaxContext::empty(alloc)))?;
+    let fields = [
+        Node::Span(DUMMY_SP),
+        Node::Identifier(Kind::Ident, local),
+        Node::Identifier(Kind::Ident, exported),
+    ];
+    tree(alloc, Kind::ExportNamedSpecifier, fields)
 }
 
 // `a1 as a` where `a` becomes `a1`, and else `a`.
 fn specifier(alloc: Global, names: &Names, id: Id) -> Result<Node, NoMemory>
     ensures { IfOk result (λ node. node ≡ is_specifier (new_id names.now) id) }
 {
-    let new = names.new_id(alloc, &id)?;
-    let specifier = specifier_to(alloc, id, new)?;
-    Ok(specifier)
+    match names.new_id(alloc, &id)? {
+        None => unchanged_specifier(alloc, id),
+        Some(new) => changed_specifier(alloc, id, new),
+    }
 }
 
 // `export { a1 as a, b };`
@@ -82,8 +84,7 @@ fn export_list(alloc: Global, names: &Names, ids: Items<Id>) -> Result<Node, NoM
         Node::Absent,
         Node::Absent,
     ];
-    let list = tree(alloc, Kind::NamedExport, fields)?;
-    Ok(list)
+    tree(alloc, Kind::NamedExport, fields)
 }
 
 // The ids that an exported declaration binds, each once; of any other node none.
@@ -99,8 +100,7 @@ fn exported_ids(alloc: Global, item: &Node) -> Result<Items<Id>, NoMemory>
         }
         _ => {}
     }
-    let ids = distinct(alloc, ids)?;
-    Ok(ids)
+    distinct(alloc, ids)
 }
 
 // The export list of an item's names, where it is an exported declaration one of whose names changes.

@@ -68,12 +68,10 @@ pub fn substitute_node(
             Ok(Node::List(items))
         }
         Node::Identifier(kind, ident) => {
-            let node = substitute_identifier(alloc, &*names, place, kind, ident)?;
-            Ok(node)
+            substitute_identifier(alloc, &*names, place, kind, ident)
         }
         Node::Tree(kind, fields) => {
-            let node = substitute_tree(alloc, &*names, keeps_classes, place, kind, fields)?;
-            Ok(node)
+            substitute_tree(alloc, &*names, keeps_classes, place, kind, fields)
         }
         Node::Absent => Ok(Node::Absent),
         Node::Flag(flag) => Ok(Node::Flag(flag)),
@@ -96,13 +94,11 @@ fn substitute_items(
     ensures { IfOk result (λ answer. answer ≡ items_substituted (new_id names.now) keeps_classes place items) }
 {
     if !any_exported(items.as_slice()) {
-        let items = substitute_each(alloc, &*names, keeps_classes, Below::Items(place), items)?;
-        return Ok(items);
+        return substitute_each(alloc, &*names, keeps_classes, Below::Items(place), items);
     }
     let exports = exports_of_all(alloc, &*names, items.as_slice())?;
     let items = substitute_each(alloc, &*names, keeps_classes, Below::Items(place), items)?;
-    let items = with_all_exports(alloc, items, exports)?;
-    Ok(items)
+    with_all_exports(alloc, items, exports)
 }
 
 // The items of a list, or the fields of a node, each at its place.
@@ -146,12 +142,10 @@ fn substitute_tree(
     if keeps_name(keeps_classes, place, kind) {
         let old = identifier_at(&fields, 0)?;
         let fields = substitute_each(alloc, &*names, keeps_classes, below, fields)?;
-        let node = kept_class(alloc, old, fields)?;
-        return Ok(node);
+        return kept_class(alloc, old, fields);
     }
     if writes_name(kind, &fields) {
-        let node = substitute_named(alloc, &*names, keeps_classes, place, kind, fields)?;
-        return Ok(node);
+        return substitute_named(alloc, &*names, keeps_classes, place, kind, fields);
     }
     let fields = substitute_each(alloc, &*names, keeps_classes, below, fields)?;
     Ok(Node::Tree(kind, fields))
@@ -174,6 +168,5 @@ fn substitute_named(
     let below = Below::Others(place, sourced, kind);
     let fields = substitute_each(alloc, &*names, keeps_classes, below, fields)?;
     let at = Below::Fields(place, sourced, kind).place(keeps_classes, 1);
-    let node = rename_named(alloc, &*names, at, kind, fields)?;
-    Ok(node)
+    rename_named(alloc, &*names, at, kind, fields)
 }

@@ -34,8 +34,7 @@ fn with_default(alloc: Global, old: &Ident, target: Node, value: Node) -> Result
         Node::Absent => Ok(target),
         value => {
             let span = Node::Span(old.span);
-            let pattern = tree(alloc, Kind::AssignPat, [span, target, value])?;
-            Ok(pattern)
+            tree(alloc, Kind::AssignPat, [span, target, value])
         }
     }
 }
@@ -47,10 +46,11 @@ fn pattern_property(alloc: Global, old: Ident, mut fields: Items<Node>) -> Resul
 {
     let target = fields.replace(1, Node::Absent);
     let value = fields.replace(2, Node::Absent);
-    let value = with_default(alloc, &old, target, value)?;
+    let target = with_default(alloc, &old, target, value)?;
+    fields.set(1, target);
     let key = key_of(alloc, old)?;
-    let property = tree(alloc, Kind::KeyValuePatProp, [key, value])?;
-    Ok(property)
+    let target = fields.replace(1, Node::Absent);
+    tree(alloc, Kind::KeyValuePatProp, [key, target])
 }
 
 // The fields of a specifier, whose name was `old` and changed.
@@ -73,15 +73,9 @@ fn specifier_fields(
 fn written_out(alloc: Global, kind: Kind, old: Ident, fields: Items<Node>) -> Result<Node, NoMemory>
     ensures { IfOk result (λ node. node ≡ is_written_out kind old fields) }
 {
-    if fields.len() != 3 {
-        return Ok(Node::Tree(kind, fields));
-    }
     match kind {
-        Kind::AssignPatProp => {
-            let property = pattern_property(alloc, old, fields)?;
-            Ok(property)
-        }
-        Kind::ImportNamedSpecifier | Kind::ExportNamedSpecifier => {
+        Kind::AssignPatProp if fields.len() == 3 => pattern_property(alloc, old, fields),
+        Kind::ImportNamedSpecifier | Kind::ExportNamedSpecifier if fields.len() == 3 => {
             let fields = specifier_fields(alloc, old, fields)?;
             Ok(Node::Tree(kind, fields))
         }
@@ -100,10 +94,7 @@ fn written_out_if(
 {
     match old {
         None => Ok(Node::Tree(kind, fields)),
-        Some(old) => {
-            let node = written_out(alloc, kind, old, fields)?;
-            Ok(node)
-        }
+        Some(old) => written_out(alloc, kind, old, fields),
     }
 }
 
@@ -122,8 +113,7 @@ pub fn rename_named(
         Node::Identifier(name_kind, name) => {
             let (name, old) = rename(alloc, &*names, place, name)?;
             fields.set(1, Node::Identifier(name_kind, name));
-            let node = written_out_if(alloc, kind, old, fields)?;
-            Ok(node)
+            written_out_if(alloc, kind, old, fields)
         }
         other => {
             fields.set(1, other);
