@@ -15,8 +15,8 @@ use swc_tree_marks::{DUMMY_SP, Id, Ident, NoMemory, SyntaxContext};
 use swc_tree_node::{Kind, Node};
 
 // Whether the text of one of the ids changes.
-fn any_changes(names: &Names, ids: &[Id]) -> bool
-    ensures { result ≡ list_any (λ id. is_some (new_id names.now id)) ids.now }
+fn any_changes(names: Names, ids: &[Id]) -> bool
+    ensures { result ≡ list_any (λ id. is_some (new_id names.entry id)) ids.now }
 {
     for id in ids {
         if names.changes(id) {
@@ -60,8 +60,8 @@ fn changed_specifier(alloc: Global, id: Id, new: Id) -> Result<Node, NoMemory>
 }
 
 // `a1 as a` where `a` becomes `a1`, and else `a`.
-fn specifier(alloc: Global, names: &Names, id: Id) -> Result<Node, NoMemory>
-    ensures { IfOk result (λ node. node ≡ is_specifier (new_id names.now) id) }
+fn specifier(alloc: Global, names: Names, id: Id) -> Result<Node, NoMemory>
+    ensures { IfOk result (λ node. node ≡ is_specifier (new_id names.entry) id) }
 {
     match names.new_id(alloc, &id)? {
         None => unchanged_specifier(alloc, id),
@@ -70,12 +70,12 @@ fn specifier(alloc: Global, names: &Names, id: Id) -> Result<Node, NoMemory>
 }
 
 // `export { a1 as a, b };`
-fn export_list(alloc: Global, names: &Names, ids: Items<Id>) -> Result<Node, NoMemory>
-    ensures { IfOk result (λ node. node ≡ is_export_list (new_id names.now) ids) }
+fn export_list(alloc: Global, names: Names, ids: Items<Id>) -> Result<Node, NoMemory>
+    ensures { IfOk result (λ node. node ≡ is_export_list (new_id names.entry) ids) }
 {
     let mut specifiers = Items::new(alloc);
     for id in ids.into_vec() {
-        let specifier = specifier(alloc, &*names, id)?;
+        let specifier = specifier(alloc, names, id)?;
         specifiers.push(specifier)?;
     }
     let fields = [
@@ -104,11 +104,11 @@ fn exported_ids(alloc: Global, item: &Node) -> Result<Items<Id>, NoMemory>
 }
 
 // The export list of an item's names, where it is an exported declaration one of whose names changes.
-fn exports_of(alloc: Global, names: &Names, item: &Node) -> Result<Option<Node>, NoMemory>
-    ensures { IfOk result (λ exports. exports ≡ is_exports_of (new_id names.now) (are_exported item.now)) }
+fn exports_of(alloc: Global, names: Names, item: &Node) -> Result<Option<Node>, NoMemory>
+    ensures { IfOk result (λ exports. exports ≡ is_exports_of (new_id names.entry) (are_exported item.now)) }
 {
     let ids = exported_ids(alloc, item)?;
-    if !any_changes(&*names, ids.as_slice()) {
+    if !any_changes(names, ids.as_slice()) {
         return Ok(None);
     }
     let list = export_list(alloc, names, ids)?;
@@ -118,14 +118,14 @@ fn exports_of(alloc: Global, names: &Names, item: &Node) -> Result<Option<Node>,
 /// The same for each of the items.
 pub fn exports_of_all(
     alloc: Global,
-    names: &Names,
+    names: Names,
     items: &[Node],
 ) -> Result<Items<Option<Node>>, NoMemory>
-    ensures { IfOk result (λ exports. exports ≡ map (λ item. is_exports_of (new_id names.now) (are_exported item)) items.now) }
+    ensures { IfOk result (λ exports. exports ≡ map (λ item. is_exports_of (new_id names.entry) (are_exported item)) items.now) }
 {
     let mut all = Items::new(alloc);
     for item in items {
-        let exports = exports_of(alloc, &*names, item)?;
+        let exports = exports_of(alloc, names, item)?;
         all.push(exports)?;
     }
     Ok(all)

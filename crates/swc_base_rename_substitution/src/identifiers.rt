@@ -34,12 +34,12 @@ fn give_id(ident: &mut Ident, id: Id)
 /// The identifier with its new id, and beside it how it was where its text changed.
 pub fn rename(
     alloc: Global,
-    names: &Names,
+    names: Names,
     place: Place,
     mut ident: Boxed<Ident>,
 ) -> Result<(Boxed<Ident>, Option<Ident>), NoMemory>
-    ensures new { IfOk result (λ r. r.0 ≡ unwrap_or (changed (new_id names.now) place ident) ident) }
-    ensures old { IfOk result (λ r. r.1 ≡ if_changed (new_id names.now) place (Some ident)) }
+    ensures new { IfOk result (λ r. r.0 ≡ unwrap_or (changed (new_id names.entry) place ident) ident) }
+    ensures old { IfOk result (λ r. r.1 ≡ if_changed (new_id names.entry) place (Some ident)) }
 {
     if matches!(place, Place::ClassName | Place::Other) {
         return Ok((ident, None));
@@ -118,17 +118,17 @@ fn property(alloc: Global, old: Ident, kind: Kind, ident: Boxed<Ident>) -> Resul
 /// What stands in the place of an identifier.
 pub fn substitute_identifier(
     alloc: Global,
-    names: &Names,
+    names: Names,
     place: Place,
     kind: Kind,
     ident: Boxed<Ident>,
 ) -> Result<Node, NoMemory>
-    ensures { IfOk result (λ node. node ≡ identifier_to place kind ident (changed (new_id names.now) place ident)) }
+    ensures { IfOk result (λ node. node ≡ identifier_to place kind ident (changed (new_id names.entry) place ident)) }
 {
     if place == Place::ClassName {
         return Ok(Node::Identifier(kind, keep_name(alloc, ident)));
     }
-    let (ident, old) = rename(alloc, &*names, place, ident)?;
+    let (ident, old) = rename(alloc, names, place, ident)?;
     match old {
         Some(old) if place == Place::Shorthand => property(alloc, old, kind, ident),
         _ => Ok(Node::Identifier(kind, ident)),

@@ -38,5 +38,5 @@ pub fn substitute(
     ensures answer { IfOk result (Substituted (new_id names.now) config.now.keep_class_names node) }
     ensures fits { IfOk result (FitsAs node) }
 {
-    substitute_node(alloc, names, config.keep_class_names, Place::Other, node)
+    substitute_node(alloc, *names, config.keep_class_names, Place::Other, node)
 }

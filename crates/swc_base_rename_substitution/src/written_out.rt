@@ -101,17 +101,17 @@ fn written_out_if(
 /// A node of a kind and with these fields, where the identifier in the second is still to be renamed.
 pub fn rename_named(
     alloc: Global,
-    names: &Names,
+    names: Names,
     place: Place,
     kind: Kind,
     mut fields: Items<Node>,
 ) -> Result<Node, NoMemory>
     requires { 1 < length fields }
-    ensures { IfOk result (IsRenamed (new_id names.now) place kind fields) }
+    ensures { IfOk result (IsRenamed (new_id names.entry) place kind fields) }
 {
     match fields.replace(1, Node::Absent) {
         Node::Identifier(name_kind, name) => {
-            let (name, old) = rename(alloc, &*names, place, name)?;
+            let (name, old) = rename(alloc, names, place, name)?;
             fields.set(1, Node::Identifier(name_kind, name));
             written_out_if(alloc, kind, old, fields)
         }
