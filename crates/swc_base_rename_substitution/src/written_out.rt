@@ -1,6 +1,6 @@
 //! Nodes that write a changed name out.
 ghost use Rattle.std.specs.Prelude.{◌≡◌, ◌<◌, IfOk, length};
-ghost use Rattle.swc_base_rename_substitution.specs.Identifiers.{or_kept as is_or_kept, with_default as is_with_default, written_out as is_written_out, written_out_if as is_written_out_if};
+ghost use Rattle.swc_base_rename_substitution.specs.Identifiers.{or_kept as is_or_kept, with_default as is_with_default, with_other, written_out as is_written_out, written_out_if as is_written_out_if};
 ghost use Rattle.swc_base_rename_substitution.specs.Names.{new_id};
 ghost use Rattle.swc_tree_node.specs.declared.kind.Kind.TheVariants as kind;
 ghost use Rattle.swc_base_rename_substitution.specs.Walk.{IsRenamed};
@@ -60,8 +60,7 @@ fn specifier_fields(
     mut fields: Items<Node>,
 ) -> Result<Items<Node>, NoMemory>
     requires { length fields ≡ 3 }
-    ensures import { IfOk result (λ fields'. Node.Tree kind.ImportNamedSpecifier fields' ≡ is_written_out kind.ImportNamedSpecifier old fields) }
-    ensures export { IfOk result (λ fields'. Node.Tree kind.ExportNamedSpecifier fields' ≡ is_written_out kind.ExportNamedSpecifier old fields) }
+    ensures { IfOk result (λ fields'. fields' ≡ with_other old fields) }
 {
     let other = fields.replace(2, Node::Absent);
     let other = or_kept(alloc, old, other)?;
