@@ -173,6 +173,7 @@ fn declaration_of(node: Node) -> Node
 
 // Adds an item and, where it has one, its export list.
 fn push_with_exports(
+    alloc: Global,
     items: &mut Items<Node>,
     item: Node,
     exports: Option<Node>,
@@ -182,8 +183,8 @@ fn push_with_exports(
     match exports {
         None => items.push(item)?,
         Some(exports) => {
-            items.push(declaration_of(item))?;
-            items.push(exports)?;
+            let both = Vec::from_array(alloc, [declaration_of(item), exports])?;
+            items.append(Items::from_vec(both))?;
         }
     }
     Ok(())
@@ -202,7 +203,7 @@ pub fn with_all_exports(
     for i in 0..items.len() {
         let item = items.replace(i, Node::Absent);
         let exports = exports.replace(i, None);
-        push_with_exports(&mut all, item, exports)?;
+        push_with_exports(alloc, &mut all, item, exports)?;
     }
     Ok(all)
 }

@@ -15,8 +15,8 @@ fn keep_new(id: Id, kept: &mut Items<Id>, seen: &mut HashSet<Id>) -> Result<(), 
     ensures seen { OnOk result (AreSeen kept.new seen.new) }
 {
     if !seen.contains(&id) {
-        seen.insert(copy(&id)?)?;
-        kept.push(id)?;
+        kept.push(copy(&id)?)?;
+        seen.insert(id)?;
     }
     Ok(())
 }
