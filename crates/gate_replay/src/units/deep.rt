@@ -1,6 +1,6 @@
 //! Trees 200 nodes deep.
 use crate::units::Unit;
-use crate::units::opened::{NAME, NAME_STATEMENT, USE_STRICT, binds};
+use crate::units::opened::{NAME, NAME_STATEMENT, USE_STRICT, binds, statement};
 use crate::units::programs::HasItems;
 use crate::units::read::{tree, tree_opens};
 use std::alloc::Global;
@@ -10,11 +10,12 @@ use swc_tree::{
 };
 use swc_tree_node::Class;
 
-pub fn units(alloc: Global) -> [Unit; 5] {
+pub fn units(alloc: Global) -> [Unit; 6] {
     [
         ("an expression is copied and compared", copies_expr(alloc)),
         ("a pattern binds", pattern_binds(alloc)),
         ("a statement goes after directives", prepends(alloc)),
+        ("a block is no directive", block_opens(alloc)),
         ("a module passes", module_passes(alloc)),
         ("a module is opened", module_opens(alloc)),
     ]
@@ -41,11 +42,6 @@ fn deep_expr(alloc: Global) -> Option<Tree<class::Expr>> {
     Some(expr)
 }
 
-// Whether a statement opens, and is no directive.
-fn opens_block(alloc: Global, stmt: Tree<class::Stmt>) -> Option<bool> {
-    tree_opens::<class::Stmt, Stmt, _>(alloc, stmt, |opened| !is_use_strict(opened))
-}
-
 // A pattern of one element, after one that is left out.
 fn array(alloc: Global, pat: Tree<class::Pat>) -> Option<Tree<class::Pat>> {
     let mut elems = Holes::new(alloc);
@@ -67,9 +63,14 @@ fn deep_pat(alloc: Global) -> Option<Tree<class::Pat>> {
     Some(pat)
 }
 
-fn block(alloc: Global, stmt: Tree<class::Stmt>) -> Option<Tree<class::Stmt>> {
+fn list(alloc: Global, stmt: Tree<class::Stmt>) -> Option<Trees<class::Stmt>> {
     let mut stmts = Trees::new(alloc);
     stmts.push(stmt).ok()?;
+    Some(stmts)
+}
+
+fn block(alloc: Global, stmt: Tree<class::Stmt>) -> Option<Tree<class::Stmt>> {
+    let stmts = list(alloc, stmt)?;
     let block = BlockStmt {
         span: DUMMY_SP,
         stmts,
@@ -125,13 +126,16 @@ fn pattern_binds(alloc: Global) -> Option<bool> {
 }
 
 fn prepends(alloc: Global) -> Option<bool> {
-    let mut stmts: Trees<class::Stmt> = Trees::new(alloc);
-    stmts.push(tree(alloc, Class::Stmt, USE_STRICT)?).ok()?;
-    let mut more = Trees::new(alloc);
-    more.push(deep_stmt(alloc, USE_STRICT)?).ok()?;
+    let more = list(alloc, deep_stmt(alloc, NAME_STATEMENT)?)?;
+    let mut stmts = statement(alloc, USE_STRICT)?;
     prepend_stmts(&mut stmts, more).ok()?;
     let last = stmts.pop()?;
-    Some(stmts.len() == 1 && last == deep_stmt(alloc, USE_STRICT)? && opens_block(alloc, last)?)
+    Some(stmts.len() == 1 && last == deep_stmt(alloc, NAME_STATEMENT)?)
+}
+
+fn block_opens(alloc: Global) -> Option<bool> {
+    let block = deep_stmt(alloc, USE_STRICT)?;
+    tree_opens::<class::Stmt, Stmt, _>(alloc, block, |opened| !is_use_strict(opened))
 }
 
 fn module_passes(alloc: Global) -> Option<bool> {
