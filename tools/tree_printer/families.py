@@ -1,9 +1,9 @@
 """The structs, the sums and the words of a family of the tree, one level deep, each family a crate."""
 from tree_printer.classes import PRINTED
-from tree_printer.forms import HANDLE, KEYWORDS, MARKS, NODE, form_of, owner_of, snake, spec_module, spec_name
+from tree_printer.forms import HANDLE, KEYWORDS, MARKS, NODE, form_of, optional_type, owner_of, snake, spec_module, spec_name
 
 PRELUDE = 'Rattle.std.specs.Prelude'
-SLOT_USES = ('ghost use Rattle.swc_tree_node.specs.declared.slot.Slot.TheVariants.{One};\n'
+SLOT_USES = ('ghost use Rattle.swc_tree_node.specs.declared.slot.Slot.TheVariants.{%s};\n'
              'ghost use Rattle.swc_tree_node.specs.declared.slot.Content.TheVariants.{%s as Of};\n'
              'ghost use Rattle.swc_tree_node.specs.Fits.{%s};\n')
 FIT = 'swc_tree_node::proofs::Fit::'
@@ -46,31 +46,84 @@ impl Opened<class::%(name)s> for %(name)s {
 ''' % {'name': name, 'spec': spec, 'tactic': tactic, 'from_node': from_node, 'into_node': into_node}
 
 
-def opened_head(family, spec, uses):
+def opened_head(family, tree, entry, uses):
+    held = tree.held_as(entry.name)
+    slots = ', '.join(slot for slot in ('One', 'Optional') if slot == 'One' or slot in held)
+    uses = uses | {('std::alloc', 'AllocError'), ('std::alloc', 'Global'), (NODE, 'Kind'), (NODE, 'Node'), (HANDLE, 'Opened'),
+                   (HANDLE, 'class')}
+    optional = ('ghost use Rattle.std.specs.Option.{option_map};\n'
+                'ghost use Rattle.swc_tree_handle.specs.Handles.{optional_node};\n') if 'Optional' in held else ''
     return ('//! %s\n' % PRINTED + 'ghost use %s.{◌≡◌, IfOk};\n' % PRELUDE
             + 'ghost use Rattle.swc_tree_node.specs.declared.kind.Class.TheVariants as class;\n'
-            + SLOT_USES % ('Node', 'Fits') + 'ghost use Rattle.%s.specs.Nodes.{%s};\n\n' % (family, spec)
-            + use_lines(family, uses | {('std::alloc', 'AllocError'), ('std::alloc', 'Global'), (NODE, 'Kind'),
-                                        (NODE, 'Node'), (HANDLE, 'Opened'), (HANDLE, 'Tree'), (HANDLE, 'class')}) + '\n')
+            + SLOT_USES % (slots, 'Node', 'Fits') + optional
+            + 'ghost use Rattle.%s.specs.Nodes.{%s};\n\n' % (family, spec_name(tree, entry.name))
+            + use_lines(family, uses | ({(HANDLE, 'Place')} if held else set())) + '\n')
+
+
+# How many fields a struct has, in words.
+COUNTS = {1: 'one', 2: 'two', 3: 'three', 4: 'four', 5: 'five'}
 
 
 def struct_rt(tree, struct):
     forms = [form_of(tree, field) for field in struct.fields]
-    name, keys = struct.name, ', '.join(field.name for field in struct.fields)
-    uses = set().union(*(form.uses | form.types for form in forms)) | {(HANDLE, 'collect')}
+    names = [field.name for field in struct.fields]
+    name, keys, count = struct.name, ', '.join(names), COUNTS[len(names)]
+    row = '(%s)' % keys if len(names) > 1 else keys
+    places = ', '.join(form.place or '_' for form in forms)
+    opened = ', '.join('%s: %s.held' % (f.name, f.name) if form.place else f.name for f, form in zip(struct.fields, forms))
+    closed = ', '.join('%s { held: %s }' % (form.place, f.name) if form.place else f.name for f, form in zip(struct.fields, forms))
+    uses = set().union(*(form.types for form in forms)) | {(HANDLE, 'open_' + count), (HANDLE, 'close_' + count)}
     declared = '/// %s\n#[derive(Clone, Debug, Drop, PartialEq, Eq)]\npub struct %s {\n%s}\n' % (
         struct.doc, name, ''.join('    pub %s: %s,\n' % (f.name, form.type) for f, form in zip(struct.fields, forms)))
-    from_node = '''        let fields = Tree::<class::%s>::from_node(closed).into_fields(Kind::%s);
-        let [%s] = fields.into_array::<%d>();
+    from_node = '''        let %s = open_%s::<class::%s, %s>(closed, Kind::%s);
         %s { %s }
-''' % (name, name, keys, len(forms), name, ', '.join('%s: %s' % (f.name, form.open) for f, form in zip(struct.fields, forms)))
+''' % (row, count, name, places, name, name, opened)
     into_node = '''        let %s { %s } = self;
-        let fields = collect(alloc, [%s])?;
-        Ok(Tree::<class::%s>::from_fields(Kind::%s, fields).into_node())
-''' % (name, keys, ', '.join(form.close for form in forms), name, name)
-    tactic = '    #[tactic(auto, using(%slengths))]\n' % FIT
-    return (opened_head(struct.family, spec_name(tree, name), uses) + declared
-            + opened_impl(struct, tree, tactic, from_node, into_node))
+        close_%s::<class::%s, %s>(alloc, Kind::%s, %s)
+''' % (name, keys, count, name, places, name, '(%s)' % closed if len(names) > 1 else closed)
+    return (opened_head(struct.family, tree, struct, uses) + declared + opened_impl(struct, tree, '', from_node, into_node)
+            + place_impls(tree, struct))
+
+
+PLACE = '''
+impl Place for %(type)s {
+    ghost slot = { %(slot)s (Of class.%(name)s) };
+
+    ghost node = { %(node)s };
+
+    fn taken(closed: Node) -> %(type)s {
+        %(taken)s
+    }
+
+    fn given(self, alloc: Global) -> Result<Node, AllocError> {
+        %(given)s
+    }
+}
+'''
+
+# An impl of a foreign trait has to name a type of its own crate, which `Option<Str>` is not.
+OPTIONAL = '''
+/// A `%(name)s`, or nothing: what stands in a field that may be absent.
+#[derive(Drop)]
+pub struct %(type)s {
+    pub held: Option<%(name)s>,
+}
+'''
+
+
+def place_impls(tree, struct):
+    """What lets a struct stand in a field by value, for each way in which one does."""
+    name, spec = struct.name, spec_name(tree, struct.name)
+    impls = ''
+    if 'One' in tree.held_as(name):
+        impls += PLACE % {'type': name, 'slot': 'One', 'name': name, 'node': spec, 'taken': name + '::from_node(closed)',
+                          'given': 'self.into_node(alloc)'}
+    if 'Optional' in tree.held_as(name):
+        type_ = optional_type(name)
+        impls += (OPTIONAL + PLACE) % {
+            'type': type_, 'slot': 'Optional', 'name': name, 'node': 'λ place. optional_node (option_map %s place.held)' % spec,
+            'taken': '%s { held: %s::from_optional(closed) }' % (type_, name), 'given': '%s::into_optional(self.held, alloc)' % name}
+    return impls
 
 
 def identifier_rt(tree, struct):
@@ -81,8 +134,8 @@ def identifier_rt(tree, struct):
     into_node = '''        let tree = Tree::<class::%s>::from_identifier(alloc, Kind::%s, self.id)?;
         Ok(tree.into_node())
 ''' % (name, name)
-    return (opened_head(struct.family, spec_name(tree, name), {(MARKS, 'Ident')}) + declared
-            + opened_impl(struct, tree, '', from_node, into_node))
+    return (opened_head(struct.family, tree, struct, {(MARKS, 'Ident'), (HANDLE, 'Tree')}) + declared
+            + opened_impl(struct, tree, '', from_node, into_node) + place_impls(tree, struct))
 
 
 # Beyond so many kinds the last variant of a sum takes all kinds that the others leave.
@@ -147,8 +200,8 @@ def sum_rt(tree, sum_):
         Ok(tree.into_node())
 ''' % (name, ''.join('            %s::%s(%s,\n' % (name, v.name, 'tree) => tree.widen()' if v.is_subtree else 'opened) => opened.close(alloc)?.widen()')
                      for v in sum_.variants))
-    uses = {(owner_of(tree, v.member), v.member) for v in sum_.variants if not v.is_subtree}
-    return opened_head(sum_.family, spec_name(tree, name), uses) + declared + opened_impl(sum_, tree, '', from_node, into_node)
+    uses = {(owner_of(tree, v.member), v.member) for v in sum_.variants if not v.is_subtree} | {(HANDLE, 'Tree')}
+    return opened_head(sum_.family, tree, sum_, uses) + declared + opened_impl(sum_, tree, '', from_node, into_node)
 
 
 WORDS = '''//! %(printed)s
@@ -157,6 +210,8 @@ ghost use Rattle.swc_tree_node.specs.declared.kind.WordClass.TheVariants as word
 ghost use Rattle.swc_tree_node.specs.declared.node.Node.TheVariants as leaf;
 %(slots)sghost use Rattle.%(family)s.specs.Nodes.{%(spec)s};
 
+use std::alloc::{AllocError, Global};
+use swc_tree_handle::Place;
 use swc_tree_node::{Node, Word};
 
 /// %(doc)s
@@ -183,26 +238,24 @@ impl %(name)s {
 %(of)s            _ => unreachable!(),
         }
     }
+}
 
-    /// The word that a node is.
+impl Place for %(name)s {
+    ghost slot = { One (Of word_class.%(name)s) };
+
+    ghost node = { λ held. leaf.Word (%(spec)s held) };
+
     #[tactic(auto, using(%(fit)sfitting))]
-    pub fn from_node(node: Node) -> %(name)s
-        requires { Fits node (One (Of word_class.%(name)s)) }
-        ensures { leaf.Word (%(spec)s result) ≡ node }
-    {
-        match node {
+    fn taken(closed: Node) -> %(name)s {
+        match closed {
             Node::Word(word) => %(name)s::from_word(word),
             _ => unreachable!(),
         }
     }
 
-    /// The word as a node.
     #[tactic(auto, using(%(fit)sfitting))]
-    pub fn into_node(self) -> Node
-        ensures is { result ≡ leaf.Word (%(spec)s self) }
-        ensures fits { Fits result (One (Of word_class.%(name)s)) }
-    {
-        Node::Word(self.word())
+    fn given(self, alloc: Global) -> Result<Node, AllocError> {
+        Ok(Node::Word(self.word()))
     }
 }
 '''
@@ -211,7 +264,7 @@ impl %(name)s {
 def words_rt(words):
     name = words.name
     return WORDS % {
-        'printed': PRINTED, 'prelude': PRELUDE, 'slots': SLOT_USES % ('Word', 'Fits, is_among'), 'family': words.family,
+        'printed': PRINTED, 'prelude': PRELUDE, 'slots': SLOT_USES % ('One', 'Word', 'is_among'), 'family': words.family,
         'spec': snake(name) + '_word', 'doc': words.doc, 'name': name, 'fit': FIT,
         'variants': ''.join('    %s,\n' % here for _, here, _ in words.words),
         'to': ''.join('            %s::%s => Word::%s,\n' % (name, here, word) for _, here, word in words.words),
@@ -232,6 +285,11 @@ def entry_rt(tree, entry):
     return identifier_rt(tree, entry) if entry.identifier else struct_rt(tree, entry)
 
 
+def exports(tree, name):
+    """What the module of a struct, sum or word hands on."""
+    return ([optional_type(name)] if name != 'Ident' and 'Optional' in tree.held_as(name) else []) + [name]
+
+
 def lib_rt(tree, family):
     about = tree.families[family]
     names = sorted((entry.name for entry in printed_entries(tree, family)), key=module_of)
@@ -239,7 +297,7 @@ def lib_rt(tree, family):
     return ('//! %s\n//!\n//! Each struct and sum stands one level deep: its subtrees are `Tree`s and `Trees`.\n//! %s\n'
             '#![tactic(auto)]\n\n' % (about.doc, PRINTED)
             + ''.join('mod %s;\n' % module for module in modules) + '\n'
-            + ''.join('pub use %s::%s;\n' % (module_of(name), name) for name in names))
+            + ''.join('pub use %s::{%s};\n' % (module_of(name), ', '.join(exports(tree, name))) for name in names))
 
 
 def declared(family, entry, variants):

@@ -16,14 +16,13 @@ def spec_name(tree, name):
 
 
 class Form:
-    """A field's type, how it is opened and closed, its node as a term, and what these need.
+    """A field's type, its node as a term, and what these need.
 
-    `uses` are pairs of a crate and a name that the code needs, `types` those that the type needs, `specs` pairs of a
-    module of definitions and a name."""
+    `types` are pairs of a crate and a name that the type needs, `specs` pairs of a module of definitions and a name;
+    `place` is the type that holds what stands in the field, where that is not the field's own type."""
 
-    def __init__(self, type_, open_, close, term, uses=(), types=(), specs=()):
-        self.type, self.open, self.close, self.term = type_, open_, close, term
-        self.uses, self.types, self.specs = set(uses), set(types), set(specs)
+    def __init__(self, type_, term, types=(), specs=(), place=None):
+        self.type, self.term, self.types, self.specs, self.place = type_, term, set(types), set(specs), place
 
 
 HANDLES = HANDLE + '.specs.Handles'
@@ -31,66 +30,58 @@ HANDLES = HANDLE + '.specs.Handles'
 
 def leaf(field):
     """A span, a text or a flag."""
-    name = field.type.lower()
     rust = {'Span': 'Span', 'Text': 'Atom', 'Flag': 'bool'}[field.type]
     types = {(MARKS, rust)} - {(MARKS, 'bool')}
-    key = field.name
     if field.slot == 'Optional':
-        to, of = 'to_optional_' + name, 'from_optional_' + name
-        return Form('Option<%s>' % rust, '%s(%s)' % (to, key), '%s(%s)' % (of, key), 'optional_%s x.%s' % (name, key),
-                    {(HANDLE, to), (HANDLE, of)}, types, {(HANDLES, 'optional_' + name)})
-    to, of = 'to_' + name, 'from_' + name
-    return Form(rust, '%s(%s)' % (to, key), '%s(%s)' % (of, key), 'node.%s x.%s' % (field.type, key),
-                {(HANDLE, to), (HANDLE, of)}, types)
+        optional = 'optional_' + field.type.lower()
+        return Form('Option<%s>' % rust, '%s x.%s' % (optional, field.name), types, {(HANDLES, optional)})
+    return Form(rust, 'node.%s x.%s' % (field.type, field.name), types)
 
 
 def word(tree, field):
     """A word of a list of words."""
     if field.slot != 'One':
         raise SystemExit('no form for an optional word or a list of words: ' + field.key)
-    words = tree.words[field.type]
-    key, name = field.name, snake(field.type)
-    return Form(field.type, '%s::from_node(%s)' % (field.type, key), '%s.into_node()' % key,
-                'node.Word (%s_word x.%s)' % (name, key), (), {(words.family, field.type)},
+    words, name = tree.words[field.type], snake(field.type)
+    return Form(field.type, 'node.Word (%s_word x.%s)' % (name, field.name), {(words.family, field.type)},
                 {(words.family + '.specs.Nodes', name + '_word')})
+
+
+def optional_type(name):
+    """What a struct or nothing is in a field, as a type of the struct's own crate."""
+    return 'Optional' + name
 
 
 def by_value(tree, field):
     """A struct that holds no subtree."""
-    key = field.name
-    owner = owner_of(tree, field.type)
     spec = spec_name(tree, field.type)
-    types, specs = {(owner, field.type)}, {(spec_module(tree, field.type), spec)}
+    types, specs = {(owner_of(tree, field.type), field.type)}, {(spec_module(tree, field.type), spec)}
     if field.slot == 'Optional':
-        return Form('Option<%s>' % field.type, '%s::from_optional(%s)' % (field.type, key),
-                    '%s::into_optional(%s, alloc)?' % (field.type, key), 'optional_node (option_map %s x.%s)' % (spec, key),
-                    (), types, specs | {(HANDLES, 'optional_node')})
-    return Form(field.type, '%s::from_node(%s)' % (field.type, key), '%s.into_node(alloc)?' % key, '%s x.%s' % (spec, key),
-                (), types, specs)
+        place = optional_type(field.type) if field.type != 'Ident' else None
+        types |= {(owner_of(tree, field.type), place)} if place else set()
+        return Form('Option<%s>' % field.type, 'optional_node (option_map %s x.%s)' % (spec, field.name), types,
+                    specs | {(HANDLES, 'optional_node')}, place)
+    return Form(field.type, '%s x.%s' % (spec, field.name), types, specs)
 
 
 def subtree(field):
     """A subtree."""
-    key, of = field.name, 'class::' + field.type
-    types = {(HANDLE, 'Tree'), (HANDLE, 'class')}
+    type_, types = 'Tree<class::%s>' % field.type, {(HANDLE, 'Tree'), (HANDLE, 'class')}
     if field.slot == 'Optional':
-        return Form('Option<Tree<%s>>' % of, 'Tree::from_optional(%s)' % key, 'Tree::into_optional(%s)' % key,
-                    'optional_node x.%s' % key, {(HANDLE, 'Tree')}, types, {(HANDLES, 'optional_node')})
-    return Form('Tree<%s>' % of, 'Tree::from_node(%s)' % key, '%s.into_node()' % key, 'x.%s' % key, {(HANDLE, 'Tree')}, types)
+        return Form('Option<%s>' % type_, 'optional_node x.%s' % field.name, types, {(HANDLES, 'optional_node')})
+    return Form(type_, 'x.%s' % field.name, types)
 
 
 def several(field):
     """A list: of subtrees, of subtrees some of which are left out, or of pairs of texts."""
-    key = field.name
-    name, types = ('Holes' if field.slot == 'Holes' else 'Trees'), {(HANDLE, 'class')}
-    type_ = '%s<class::%s>' % (name, field.type)
     if field.slot == 'Pairs':
-        name, types, type_ = 'Pairs', set(), 'Pairs'
-    types.add((HANDLE, name))
+        type_, types = 'Pairs', {(HANDLE, 'Pairs')}
+    else:
+        name = 'Holes' if field.slot == 'Holes' else 'Trees'
+        type_, types = '%s<class::%s>' % (name, field.type), {(HANDLE, 'class'), (HANDLE, name)}
     if field.slot in ('OptionalList', 'Pairs'):
-        return Form('Option<%s>' % type_, '%s::from_optional(%s)' % (name, key), '%s::into_optional(%s)' % (name, key),
-                    'optional_list x.%s' % key, {(HANDLE, name)}, types, {(HANDLES, 'optional_list')})
-    return Form(type_, '%s::from_node(%s)' % (name, key), '%s.into_node()' % key, 'node.List x.%s' % key, {(HANDLE, name)}, types)
+        return Form('Option<%s>' % type_, 'optional_list x.%s' % field.name, types, {(HANDLES, 'optional_list')})
+    return Form(type_, 'node.List x.%s' % field.name, types)
 
 
 def form_of(tree, field):

@@ -152,6 +152,11 @@ class Tree:
         fields = self.structs[name].fields if name in self.structs else None
         return fields is not None and not any(f.type in self.structs or f.type in self.sums for f in fields)
 
+    def held_as(self, name):
+        """The forms of places, `One` or `Optional`, in which a struct that holds no subtree stands by value."""
+        fields = [field for struct in self.structs.values() for field in struct.fields]
+        return {field.slot for field in fields if field.type == name and field.is_single() and self.is_leaf(name)}
+
     def of_family(self, family, entries):
         return [e for e in entries.values() if e.family == family]
 

@@ -1,5 +1,5 @@
-//! The table: what each kind of node is called and holds, as data.
+//! The table: what each kind of node is called and holds, as data, and where its fields stand.
 pub use swc_tree_node::{
-    Class, Content, Field, Role, Scope, Slot, Word, WordClass, fields_of, is_identifier, kinds_of,
-    name_of, scope_of, spelling_of, words_of,
+    Class, Content, Field, Role, Slot, Word, WordClass, fields, fields_of, is_identifier, kinds_of,
+    name_of, spelling_of, words_of,
 };

@@ -7,9 +7,7 @@ ghost use Rattle.swc_tree_node.specs.Fits.{Fits};
 ghost use Rattle.swc_tree_functions.specs.Nodes.{arrow_expr_node};
 
 use std::alloc::{AllocError, Global};
-use swc_tree_handle::{
-    Opened, Tree, Trees, class, collect, from_flag, from_span, to_flag, to_span,
-};
+use swc_tree_handle::{Opened, Tree, Trees, class, close_four, open_four};
 use swc_tree_marks::Span;
 use swc_tree_node::{Kind, Node};
 
@@ -27,18 +25,19 @@ impl Opened<class::ArrowExpr> for ArrowExpr {
 
     ghost node = { arrow_expr_node };
 
-    #[tactic(auto, using(swc_tree_node::proofs::Fit::lengths))]
     fn from_node(closed: Node) -> ArrowExpr
         requires { Fits closed (One (Of class.ArrowExpr)) }
         ensures { arrow_expr_node result ≡ closed }
     {
-        let fields = Tree::<class::ArrowExpr>::from_node(closed).into_fields(Kind::ArrowExpr);
-        let [span, params, body, is_async] = fields.into_array::<4>();
+        let (span, params, body, is_async) = open_four::<class::ArrowExpr, _, _, _, _>(
+            closed,
+            Kind::ArrowExpr,
+        );
         ArrowExpr {
-            span: to_span(span),
-            params: Trees::from_node(params),
-            body: Tree::from_node(body),
-            is_async: to_flag(is_async),
+            span,
+            params,
+            body,
+            is_async,
         }
     }
 
@@ -51,15 +50,10 @@ impl Opened<class::ArrowExpr> for ArrowExpr {
             body,
             is_async,
         } = self;
-        let fields = collect(
+        close_four::<class::ArrowExpr, _, _, _, _>(
             alloc,
-            [
-                from_span(span),
-                params.into_node(),
-                body.into_node(),
-                from_flag(is_async),
-            ],
-        )?;
-        Ok(Tree::<class::ArrowExpr>::from_fields(Kind::ArrowExpr, fields).into_node())
+            Kind::ArrowExpr,
+            (span, params, body, is_async),
+        )
     }
 }

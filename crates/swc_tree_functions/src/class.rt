@@ -7,7 +7,7 @@ ghost use Rattle.swc_tree_node.specs.Fits.{Fits};
 ghost use Rattle.swc_tree_functions.specs.Nodes.{class_node};
 
 use std::alloc::{AllocError, Global};
-use swc_tree_handle::{Opened, Tree, Trees, class, collect, from_span, to_span};
+use swc_tree_handle::{Opened, Tree, Trees, class, close_three, open_three};
 use swc_tree_marks::Span;
 use swc_tree_node::{Kind, Node};
 
@@ -24,17 +24,15 @@ impl Opened<class::Class> for Class {
 
     ghost node = { class_node };
 
-    #[tactic(auto, using(swc_tree_node::proofs::Fit::lengths))]
     fn from_node(closed: Node) -> Class
         requires { Fits closed (One (Of class.Class)) }
         ensures { class_node result ≡ closed }
     {
-        let fields = Tree::<class::Class>::from_node(closed).into_fields(Kind::Class);
-        let [span, super_class, body] = fields.into_array::<3>();
+        let (span, super_class, body) = open_three::<class::Class, _, _, _>(closed, Kind::Class);
         Class {
-            span: to_span(span),
-            super_class: Tree::from_optional(super_class),
-            body: Trees::from_node(body),
+            span,
+            super_class,
+            body,
         }
     }
 
@@ -46,14 +44,6 @@ impl Opened<class::Class> for Class {
             super_class,
             body,
         } = self;
-        let fields = collect(
-            alloc,
-            [
-                from_span(span),
-                Tree::into_optional(super_class),
-                body.into_node(),
-            ],
-        )?;
-        Ok(Tree::<class::Class>::from_fields(Kind::Class, fields).into_node())
+        close_three::<class::Class, _, _, _>(alloc, Kind::Class, (span, super_class, body))
     }
 }

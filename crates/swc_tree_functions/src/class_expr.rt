@@ -7,7 +7,7 @@ ghost use Rattle.swc_tree_node.specs.Fits.{Fits};
 ghost use Rattle.swc_tree_functions.specs.Nodes.{class_expr_node};
 
 use std::alloc::{AllocError, Global};
-use swc_tree_handle::{Opened, Tree, class, collect};
+use swc_tree_handle::{Opened, Tree, class, close_two, open_two};
 use swc_tree_marks::Ident;
 use swc_tree_node::{Kind, Node};
 
@@ -23,27 +23,18 @@ impl Opened<class::ClassExpr> for ClassExpr {
 
     ghost node = { class_expr_node };
 
-    #[tactic(auto, using(swc_tree_node::proofs::Fit::lengths))]
     fn from_node(closed: Node) -> ClassExpr
         requires { Fits closed (One (Of class.ClassExpr)) }
         ensures { class_expr_node result ≡ closed }
     {
-        let fields = Tree::<class::ClassExpr>::from_node(closed).into_fields(Kind::ClassExpr);
-        let [ident, class_] = fields.into_array::<2>();
-        ClassExpr {
-            ident: Ident::from_optional(ident),
-            class_: Tree::from_node(class_),
-        }
+        let (ident, class_) = open_two::<class::ClassExpr, _, _>(closed, Kind::ClassExpr);
+        ClassExpr { ident, class_ }
     }
 
     fn into_node(self, alloc: Global) -> Result<Node, AllocError>
         ensures { IfOk result (λ closed. (closed ≡ class_expr_node self) × Fits closed (One (Of class.ClassExpr))) }
     {
         let ClassExpr { ident, class_ } = self;
-        let fields = collect(
-            alloc,
-            [Ident::into_optional(ident, alloc)?, class_.into_node()],
-        )?;
-        Ok(Tree::<class::ClassExpr>::from_fields(Kind::ClassExpr, fields).into_node())
+        close_two::<class::ClassExpr, _, _>(alloc, Kind::ClassExpr, (ident, class_))
     }
 }

@@ -8,7 +8,7 @@ ghost use Rattle.swc_tree_functions.specs.Nodes.{class_method_node};
 
 use crate::method_kind::MethodKind;
 use std::alloc::{AllocError, Global};
-use swc_tree_handle::{Opened, Tree, class, collect, from_flag, from_span, to_flag, to_span};
+use swc_tree_handle::{Opened, Tree, class, close_five, open_five};
 use swc_tree_marks::Span;
 use swc_tree_node::{Kind, Node};
 
@@ -27,19 +27,20 @@ impl Opened<class::ClassMethod> for ClassMethod {
 
     ghost node = { class_method_node };
 
-    #[tactic(auto, using(swc_tree_node::proofs::Fit::lengths))]
     fn from_node(closed: Node) -> ClassMethod
         requires { Fits closed (One (Of class.ClassMethod)) }
         ensures { class_method_node result ≡ closed }
     {
-        let fields = Tree::<class::ClassMethod>::from_node(closed).into_fields(Kind::ClassMethod);
-        let [span, key, function, kind, is_static] = fields.into_array::<5>();
+        let (span, key, function, kind, is_static) = open_five::<class::ClassMethod, _, _, _, _, _>(
+            closed,
+            Kind::ClassMethod,
+        );
         ClassMethod {
-            span: to_span(span),
-            key: Tree::from_node(key),
-            function: Tree::from_node(function),
-            kind: MethodKind::from_node(kind),
-            is_static: to_flag(is_static),
+            span,
+            key,
+            function,
+            kind,
+            is_static,
         }
     }
 
@@ -53,16 +54,10 @@ impl Opened<class::ClassMethod> for ClassMethod {
             kind,
             is_static,
         } = self;
-        let fields = collect(
+        close_five::<class::ClassMethod, _, _, _, _, _>(
             alloc,
-            [
-                from_span(span),
-                key.into_node(),
-                function.into_node(),
-                kind.into_node(),
-                from_flag(is_static),
-            ],
-        )?;
-        Ok(Tree::<class::ClassMethod>::from_fields(Kind::ClassMethod, fields).into_node())
+            Kind::ClassMethod,
+            (span, key, function, kind, is_static),
+        )
     }
 }

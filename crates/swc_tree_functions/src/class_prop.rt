@@ -7,7 +7,7 @@ ghost use Rattle.swc_tree_node.specs.Fits.{Fits};
 ghost use Rattle.swc_tree_functions.specs.Nodes.{class_prop_node};
 
 use std::alloc::{AllocError, Global};
-use swc_tree_handle::{Opened, Tree, class, collect, from_flag, from_span, to_flag, to_span};
+use swc_tree_handle::{Opened, Tree, class, close_four, open_four};
 use swc_tree_marks::Span;
 use swc_tree_node::{Kind, Node};
 
@@ -25,18 +25,19 @@ impl Opened<class::ClassProp> for ClassProp {
 
     ghost node = { class_prop_node };
 
-    #[tactic(auto, using(swc_tree_node::proofs::Fit::lengths))]
     fn from_node(closed: Node) -> ClassProp
         requires { Fits closed (One (Of class.ClassProp)) }
         ensures { class_prop_node result ≡ closed }
     {
-        let fields = Tree::<class::ClassProp>::from_node(closed).into_fields(Kind::ClassProp);
-        let [span, key, value, is_static] = fields.into_array::<4>();
+        let (span, key, value, is_static) = open_four::<class::ClassProp, _, _, _, _>(
+            closed,
+            Kind::ClassProp,
+        );
         ClassProp {
-            span: to_span(span),
-            key: Tree::from_node(key),
-            value: Tree::from_optional(value),
-            is_static: to_flag(is_static),
+            span,
+            key,
+            value,
+            is_static,
         }
     }
 
@@ -49,15 +50,10 @@ impl Opened<class::ClassProp> for ClassProp {
             value,
             is_static,
         } = self;
-        let fields = collect(
+        close_four::<class::ClassProp, _, _, _, _>(
             alloc,
-            [
-                from_span(span),
-                key.into_node(),
-                Tree::into_optional(value),
-                from_flag(is_static),
-            ],
-        )?;
-        Ok(Tree::<class::ClassProp>::from_fields(Kind::ClassProp, fields).into_node())
+            Kind::ClassProp,
+            (span, key, value, is_static),
+        )
     }
 }

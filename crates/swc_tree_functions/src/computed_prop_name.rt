@@ -7,7 +7,7 @@ ghost use Rattle.swc_tree_node.specs.Fits.{Fits};
 ghost use Rattle.swc_tree_functions.specs.Nodes.{computed_prop_name_node};
 
 use std::alloc::{AllocError, Global};
-use swc_tree_handle::{Opened, Tree, class, collect, from_span, to_span};
+use swc_tree_handle::{Opened, Tree, class, close_two, open_two};
 use swc_tree_marks::Span;
 use swc_tree_node::{Kind, Node};
 
@@ -23,26 +23,21 @@ impl Opened<class::ComputedPropName> for ComputedPropName {
 
     ghost node = { computed_prop_name_node };
 
-    #[tactic(auto, using(swc_tree_node::proofs::Fit::lengths))]
     fn from_node(closed: Node) -> ComputedPropName
         requires { Fits closed (One (Of class.ComputedPropName)) }
         ensures { computed_prop_name_node result ≡ closed }
     {
-        let fields = Tree::<class::ComputedPropName>::from_node(closed).into_fields(
+        let (span, expr) = open_two::<class::ComputedPropName, _, _>(
+            closed,
             Kind::ComputedPropName,
         );
-        let [span, expr] = fields.into_array::<2>();
-        ComputedPropName {
-            span: to_span(span),
-            expr: Tree::from_node(expr),
-        }
+        ComputedPropName { span, expr }
     }
 
     fn into_node(self, alloc: Global) -> Result<Node, AllocError>
         ensures { IfOk result (λ closed. (closed ≡ computed_prop_name_node self) × Fits closed (One (Of class.ComputedPropName))) }
     {
         let ComputedPropName { span, expr } = self;
-        let fields = collect(alloc, [from_span(span), expr.into_node()])?;
-        Ok(Tree::<class::ComputedPropName>::from_fields(Kind::ComputedPropName, fields).into_node())
+        close_two::<class::ComputedPropName, _, _>(alloc, Kind::ComputedPropName, (span, expr))
     }
 }

@@ -7,7 +7,7 @@ ghost use Rattle.swc_tree_node.specs.Fits.{Fits};
 ghost use Rattle.swc_tree_functions.specs.Nodes.{constructor_node};
 
 use std::alloc::{AllocError, Global};
-use swc_tree_handle::{Opened, Tree, Trees, class, collect, from_span, to_span};
+use swc_tree_handle::{Opened, Tree, Trees, class, close_four, open_four};
 use swc_tree_marks::Span;
 use swc_tree_node::{Kind, Node};
 
@@ -25,18 +25,19 @@ impl Opened<class::Constructor> for Constructor {
 
     ghost node = { constructor_node };
 
-    #[tactic(auto, using(swc_tree_node::proofs::Fit::lengths))]
     fn from_node(closed: Node) -> Constructor
         requires { Fits closed (One (Of class.Constructor)) }
         ensures { constructor_node result ≡ closed }
     {
-        let fields = Tree::<class::Constructor>::from_node(closed).into_fields(Kind::Constructor);
-        let [span, key, params, body] = fields.into_array::<4>();
+        let (span, key, params, body) = open_four::<class::Constructor, _, _, _, _>(
+            closed,
+            Kind::Constructor,
+        );
         Constructor {
-            span: to_span(span),
-            key: Tree::from_node(key),
-            params: Trees::from_node(params),
-            body: Tree::from_node(body),
+            span,
+            key,
+            params,
+            body,
         }
     }
 
@@ -49,15 +50,10 @@ impl Opened<class::Constructor> for Constructor {
             params,
             body,
         } = self;
-        let fields = collect(
+        close_four::<class::Constructor, _, _, _, _>(
             alloc,
-            [
-                from_span(span),
-                key.into_node(),
-                params.into_node(),
-                body.into_node(),
-            ],
-        )?;
-        Ok(Tree::<class::Constructor>::from_fields(Kind::Constructor, fields).into_node())
+            Kind::Constructor,
+            (span, key, params, body),
+        )
     }
 }

@@ -7,7 +7,7 @@ ghost use Rattle.swc_tree_node.specs.Fits.{Fits};
 ghost use Rattle.swc_tree_functions.specs.Nodes.{fn_expr_node};
 
 use std::alloc::{AllocError, Global};
-use swc_tree_handle::{Opened, Tree, class, collect};
+use swc_tree_handle::{Opened, Tree, class, close_two, open_two};
 use swc_tree_marks::Ident;
 use swc_tree_node::{Kind, Node};
 
@@ -23,27 +23,18 @@ impl Opened<class::FnExpr> for FnExpr {
 
     ghost node = { fn_expr_node };
 
-    #[tactic(auto, using(swc_tree_node::proofs::Fit::lengths))]
     fn from_node(closed: Node) -> FnExpr
         requires { Fits closed (One (Of class.FnExpr)) }
         ensures { fn_expr_node result ≡ closed }
     {
-        let fields = Tree::<class::FnExpr>::from_node(closed).into_fields(Kind::FnExpr);
-        let [ident, function] = fields.into_array::<2>();
-        FnExpr {
-            ident: Ident::from_optional(ident),
-            function: Tree::from_node(function),
-        }
+        let (ident, function) = open_two::<class::FnExpr, _, _>(closed, Kind::FnExpr);
+        FnExpr { ident, function }
     }
 
     fn into_node(self, alloc: Global) -> Result<Node, AllocError>
         ensures { IfOk result (λ closed. (closed ≡ fn_expr_node self) × Fits closed (One (Of class.FnExpr))) }
     {
         let FnExpr { ident, function } = self;
-        let fields = collect(
-            alloc,
-            [Ident::into_optional(ident, alloc)?, function.into_node()],
-        )?;
-        Ok(Tree::<class::FnExpr>::from_fields(Kind::FnExpr, fields).into_node())
+        close_two::<class::FnExpr, _, _>(alloc, Kind::FnExpr, (ident, function))
     }
 }

@@ -7,9 +7,7 @@ ghost use Rattle.swc_tree_node.specs.Fits.{Fits};
 ghost use Rattle.swc_tree_functions.specs.Nodes.{function_node};
 
 use std::alloc::{AllocError, Global};
-use swc_tree_handle::{
-    Opened, Tree, Trees, class, collect, from_flag, from_span, to_flag, to_span,
-};
+use swc_tree_handle::{Opened, Tree, Trees, class, close_five, open_five};
 use swc_tree_marks::Span;
 use swc_tree_node::{Kind, Node};
 
@@ -28,19 +26,24 @@ impl Opened<class::Function> for Function {
 
     ghost node = { function_node };
 
-    #[tactic(auto, using(swc_tree_node::proofs::Fit::lengths))]
     fn from_node(closed: Node) -> Function
         requires { Fits closed (One (Of class.Function)) }
         ensures { function_node result ≡ closed }
     {
-        let fields = Tree::<class::Function>::from_node(closed).into_fields(Kind::Function);
-        let [span, params, body, is_generator, is_async] = fields.into_array::<5>();
+        let (span, params, body, is_generator, is_async) = open_five::<
+            class::Function,
+            _,
+            _,
+            _,
+            _,
+            _,
+        >(closed, Kind::Function);
         Function {
-            span: to_span(span),
-            params: Trees::from_node(params),
-            body: Tree::from_node(body),
-            is_generator: to_flag(is_generator),
-            is_async: to_flag(is_async),
+            span,
+            params,
+            body,
+            is_generator,
+            is_async,
         }
     }
 
@@ -54,16 +57,10 @@ impl Opened<class::Function> for Function {
             is_generator,
             is_async,
         } = self;
-        let fields = collect(
+        close_five::<class::Function, _, _, _, _, _>(
             alloc,
-            [
-                from_span(span),
-                params.into_node(),
-                body.into_node(),
-                from_flag(is_generator),
-                from_flag(is_async),
-            ],
-        )?;
-        Ok(Tree::<class::Function>::from_fields(Kind::Function, fields).into_node())
+            Kind::Function,
+            (span, params, body, is_generator, is_async),
+        )
     }
 }

@@ -7,7 +7,7 @@ ghost use Rattle.swc_tree_node.specs.Fits.{Fits};
 ghost use Rattle.swc_tree_functions.specs.Nodes.{getter_prop_node};
 
 use std::alloc::{AllocError, Global};
-use swc_tree_handle::{Opened, Tree, class, collect, from_span, to_span};
+use swc_tree_handle::{Opened, Tree, class, close_three, open_three};
 use swc_tree_marks::Span;
 use swc_tree_node::{Kind, Node};
 
@@ -24,25 +24,18 @@ impl Opened<class::GetterProp> for GetterProp {
 
     ghost node = { getter_prop_node };
 
-    #[tactic(auto, using(swc_tree_node::proofs::Fit::lengths))]
     fn from_node(closed: Node) -> GetterProp
         requires { Fits closed (One (Of class.GetterProp)) }
         ensures { getter_prop_node result ≡ closed }
     {
-        let fields = Tree::<class::GetterProp>::from_node(closed).into_fields(Kind::GetterProp);
-        let [span, key, body] = fields.into_array::<3>();
-        GetterProp {
-            span: to_span(span),
-            key: Tree::from_node(key),
-            body: Tree::from_node(body),
-        }
+        let (span, key, body) = open_three::<class::GetterProp, _, _, _>(closed, Kind::GetterProp);
+        GetterProp { span, key, body }
     }
 
     fn into_node(self, alloc: Global) -> Result<Node, AllocError>
         ensures { IfOk result (λ closed. (closed ≡ getter_prop_node self) × Fits closed (One (Of class.GetterProp))) }
     {
         let GetterProp { span, key, body } = self;
-        let fields = collect(alloc, [from_span(span), key.into_node(), body.into_node()])?;
-        Ok(Tree::<class::GetterProp>::from_fields(Kind::GetterProp, fields).into_node())
+        close_three::<class::GetterProp, _, _, _>(alloc, Kind::GetterProp, (span, key, body))
     }
 }

@@ -7,7 +7,7 @@ ghost use Rattle.swc_tree_node.specs.Fits.{Fits};
 ghost use Rattle.swc_tree_functions.specs.Nodes.{method_prop_node};
 
 use std::alloc::{AllocError, Global};
-use swc_tree_handle::{Opened, Tree, class, collect};
+use swc_tree_handle::{Opened, Tree, class, close_two, open_two};
 use swc_tree_node::{Kind, Node};
 
 /// A method of an object (ECMA-262, MethodDefinition).
@@ -22,24 +22,18 @@ impl Opened<class::MethodProp> for MethodProp {
 
     ghost node = { method_prop_node };
 
-    #[tactic(auto, using(swc_tree_node::proofs::Fit::lengths))]
     fn from_node(closed: Node) -> MethodProp
         requires { Fits closed (One (Of class.MethodProp)) }
         ensures { method_prop_node result ≡ closed }
     {
-        let fields = Tree::<class::MethodProp>::from_node(closed).into_fields(Kind::MethodProp);
-        let [key, function] = fields.into_array::<2>();
-        MethodProp {
-            key: Tree::from_node(key),
-            function: Tree::from_node(function),
-        }
+        let (key, function) = open_two::<class::MethodProp, _, _>(closed, Kind::MethodProp);
+        MethodProp { key, function }
     }
 
     fn into_node(self, alloc: Global) -> Result<Node, AllocError>
         ensures { IfOk result (λ closed. (closed ≡ method_prop_node self) × Fits closed (One (Of class.MethodProp))) }
     {
         let MethodProp { key, function } = self;
-        let fields = collect(alloc, [key.into_node(), function.into_node()])?;
-        Ok(Tree::<class::MethodProp>::from_fields(Kind::MethodProp, fields).into_node())
+        close_two::<class::MethodProp, _, _>(alloc, Kind::MethodProp, (key, function))
     }
 }

@@ -7,7 +7,7 @@ ghost use Rattle.swc_tree_node.specs.Fits.{Fits};
 ghost use Rattle.swc_tree_functions.specs.Nodes.{param_node};
 
 use std::alloc::{AllocError, Global};
-use swc_tree_handle::{Opened, Tree, class, collect, from_span, to_span};
+use swc_tree_handle::{Opened, Tree, class, close_two, open_two};
 use swc_tree_marks::Span;
 use swc_tree_node::{Kind, Node};
 
@@ -23,24 +23,18 @@ impl Opened<class::Param> for Param {
 
     ghost node = { param_node };
 
-    #[tactic(auto, using(swc_tree_node::proofs::Fit::lengths))]
     fn from_node(closed: Node) -> Param
         requires { Fits closed (One (Of class.Param)) }
         ensures { param_node result ≡ closed }
     {
-        let fields = Tree::<class::Param>::from_node(closed).into_fields(Kind::Param);
-        let [span, pat] = fields.into_array::<2>();
-        Param {
-            span: to_span(span),
-            pat: Tree::from_node(pat),
-        }
+        let (span, pat) = open_two::<class::Param, _, _>(closed, Kind::Param);
+        Param { span, pat }
     }
 
     fn into_node(self, alloc: Global) -> Result<Node, AllocError>
         ensures { IfOk result (λ closed. (closed ≡ param_node self) × Fits closed (One (Of class.Param))) }
     {
         let Param { span, pat } = self;
-        let fields = collect(alloc, [from_span(span), pat.into_node()])?;
-        Ok(Tree::<class::Param>::from_fields(Kind::Param, fields).into_node())
+        close_two::<class::Param, _, _>(alloc, Kind::Param, (span, pat))
     }
 }

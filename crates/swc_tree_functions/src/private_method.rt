@@ -8,7 +8,7 @@ ghost use Rattle.swc_tree_functions.specs.Nodes.{private_method_node};
 
 use crate::method_kind::MethodKind;
 use std::alloc::{AllocError, Global};
-use swc_tree_handle::{Opened, Tree, class, collect, from_flag, from_span, to_flag, to_span};
+use swc_tree_handle::{Opened, Tree, class, close_five, open_five};
 use swc_tree_leaves::PrivateName;
 use swc_tree_marks::Span;
 use swc_tree_node::{Kind, Node};
@@ -28,21 +28,24 @@ impl Opened<class::PrivateMethod> for PrivateMethod {
 
     ghost node = { private_method_node };
 
-    #[tactic(auto, using(swc_tree_node::proofs::Fit::lengths))]
     fn from_node(closed: Node) -> PrivateMethod
         requires { Fits closed (One (Of class.PrivateMethod)) }
         ensures { private_method_node result ≡ closed }
     {
-        let fields = Tree::<class::PrivateMethod>::from_node(closed).into_fields(
-            Kind::PrivateMethod,
-        );
-        let [span, key, function, kind, is_static] = fields.into_array::<5>();
+        let (span, key, function, kind, is_static) = open_five::<
+            class::PrivateMethod,
+            _,
+            _,
+            _,
+            _,
+            _,
+        >(closed, Kind::PrivateMethod);
         PrivateMethod {
-            span: to_span(span),
-            key: PrivateName::from_node(key),
-            function: Tree::from_node(function),
-            kind: MethodKind::from_node(kind),
-            is_static: to_flag(is_static),
+            span,
+            key,
+            function,
+            kind,
+            is_static,
         }
     }
 
@@ -56,16 +59,10 @@ impl Opened<class::PrivateMethod> for PrivateMethod {
             kind,
             is_static,
         } = self;
-        let fields = collect(
+        close_five::<class::PrivateMethod, _, _, _, _, _>(
             alloc,
-            [
-                from_span(span),
-                key.into_node(alloc)?,
-                function.into_node(),
-                kind.into_node(),
-                from_flag(is_static),
-            ],
-        )?;
-        Ok(Tree::<class::PrivateMethod>::from_fields(Kind::PrivateMethod, fields).into_node())
+            Kind::PrivateMethod,
+            (span, key, function, kind, is_static),
+        )
     }
 }

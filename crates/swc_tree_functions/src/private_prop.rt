@@ -7,7 +7,7 @@ ghost use Rattle.swc_tree_node.specs.Fits.{Fits};
 ghost use Rattle.swc_tree_functions.specs.Nodes.{private_prop_node};
 
 use std::alloc::{AllocError, Global};
-use swc_tree_handle::{Opened, Tree, class, collect, from_flag, from_span, to_flag, to_span};
+use swc_tree_handle::{Opened, Tree, class, close_four, open_four};
 use swc_tree_leaves::PrivateName;
 use swc_tree_marks::Span;
 use swc_tree_node::{Kind, Node};
@@ -26,18 +26,19 @@ impl Opened<class::PrivateProp> for PrivateProp {
 
     ghost node = { private_prop_node };
 
-    #[tactic(auto, using(swc_tree_node::proofs::Fit::lengths))]
     fn from_node(closed: Node) -> PrivateProp
         requires { Fits closed (One (Of class.PrivateProp)) }
         ensures { private_prop_node result ≡ closed }
     {
-        let fields = Tree::<class::PrivateProp>::from_node(closed).into_fields(Kind::PrivateProp);
-        let [span, key, value, is_static] = fields.into_array::<4>();
+        let (span, key, value, is_static) = open_four::<class::PrivateProp, _, _, _, _>(
+            closed,
+            Kind::PrivateProp,
+        );
         PrivateProp {
-            span: to_span(span),
-            key: PrivateName::from_node(key),
-            value: Tree::from_optional(value),
-            is_static: to_flag(is_static),
+            span,
+            key,
+            value,
+            is_static,
         }
     }
 
@@ -50,15 +51,10 @@ impl Opened<class::PrivateProp> for PrivateProp {
             value,
             is_static,
         } = self;
-        let fields = collect(
+        close_four::<class::PrivateProp, _, _, _, _>(
             alloc,
-            [
-                from_span(span),
-                key.into_node(alloc)?,
-                Tree::into_optional(value),
-                from_flag(is_static),
-            ],
-        )?;
-        Ok(Tree::<class::PrivateProp>::from_fields(Kind::PrivateProp, fields).into_node())
+            Kind::PrivateProp,
+            (span, key, value, is_static),
+        )
     }
 }

@@ -7,7 +7,7 @@ ghost use Rattle.swc_tree_node.specs.Fits.{Fits};
 ghost use Rattle.swc_tree_functions.specs.Nodes.{setter_prop_node};
 
 use std::alloc::{AllocError, Global};
-use swc_tree_handle::{Opened, Tree, class, collect, from_span, to_span};
+use swc_tree_handle::{Opened, Tree, class, close_four, open_four};
 use swc_tree_marks::Span;
 use swc_tree_node::{Kind, Node};
 
@@ -25,18 +25,19 @@ impl Opened<class::SetterProp> for SetterProp {
 
     ghost node = { setter_prop_node };
 
-    #[tactic(auto, using(swc_tree_node::proofs::Fit::lengths))]
     fn from_node(closed: Node) -> SetterProp
         requires { Fits closed (One (Of class.SetterProp)) }
         ensures { setter_prop_node result ≡ closed }
     {
-        let fields = Tree::<class::SetterProp>::from_node(closed).into_fields(Kind::SetterProp);
-        let [span, key, param, body] = fields.into_array::<4>();
+        let (span, key, param, body) = open_four::<class::SetterProp, _, _, _, _>(
+            closed,
+            Kind::SetterProp,
+        );
         SetterProp {
-            span: to_span(span),
-            key: Tree::from_node(key),
-            param: Tree::from_node(param),
-            body: Tree::from_node(body),
+            span,
+            key,
+            param,
+            body,
         }
     }
 
@@ -49,15 +50,10 @@ impl Opened<class::SetterProp> for SetterProp {
             param,
             body,
         } = self;
-        let fields = collect(
+        close_four::<class::SetterProp, _, _, _, _>(
             alloc,
-            [
-                from_span(span),
-                key.into_node(),
-                param.into_node(),
-                body.into_node(),
-            ],
-        )?;
-        Ok(Tree::<class::SetterProp>::from_fields(Kind::SetterProp, fields).into_node())
+            Kind::SetterProp,
+            (span, key, param, body),
+        )
     }
 }

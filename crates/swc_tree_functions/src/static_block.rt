@@ -7,7 +7,7 @@ ghost use Rattle.swc_tree_node.specs.Fits.{Fits};
 ghost use Rattle.swc_tree_functions.specs.Nodes.{static_block_node};
 
 use std::alloc::{AllocError, Global};
-use swc_tree_handle::{Opened, Tree, class, collect, from_span, to_span};
+use swc_tree_handle::{Opened, Tree, class, close_two, open_two};
 use swc_tree_marks::Span;
 use swc_tree_node::{Kind, Node};
 
@@ -23,24 +23,18 @@ impl Opened<class::StaticBlock> for StaticBlock {
 
     ghost node = { static_block_node };
 
-    #[tactic(auto, using(swc_tree_node::proofs::Fit::lengths))]
     fn from_node(closed: Node) -> StaticBlock
         requires { Fits closed (One (Of class.StaticBlock)) }
         ensures { static_block_node result ≡ closed }
     {
-        let fields = Tree::<class::StaticBlock>::from_node(closed).into_fields(Kind::StaticBlock);
-        let [span, body] = fields.into_array::<2>();
-        StaticBlock {
-            span: to_span(span),
-            body: Tree::from_node(body),
-        }
+        let (span, body) = open_two::<class::StaticBlock, _, _>(closed, Kind::StaticBlock);
+        StaticBlock { span, body }
     }
 
     fn into_node(self, alloc: Global) -> Result<Node, AllocError>
         ensures { IfOk result (λ closed. (closed ≡ static_block_node self) × Fits closed (One (Of class.StaticBlock))) }
     {
         let StaticBlock { span, body } = self;
-        let fields = collect(alloc, [from_span(span), body.into_node()])?;
-        Ok(Tree::<class::StaticBlock>::from_fields(Kind::StaticBlock, fields).into_node())
+        close_two::<class::StaticBlock, _, _>(alloc, Kind::StaticBlock, (span, body))
     }
 }

@@ -1,2 +1,3 @@
 mod Numbers
 pub mod Handles
+pub mod Rows

@@ -11,6 +11,8 @@ mod identifier;
 mod leaves;
 mod opened;
 mod pairs;
+mod place;
+mod row;
 mod tree;
 mod trees;
 
@@ -21,5 +23,10 @@ pub use leaves::{
 };
 pub use opened::Opened;
 pub use pairs::Pairs;
+pub use place::Place;
+pub use row::{
+    close_five, close_four, close_one, close_three, close_two, open_five, open_four, open_one,
+    open_three, open_two,
+};
 pub use tree::{Tree, collect};
 pub use trees::Trees;

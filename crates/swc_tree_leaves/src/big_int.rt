@@ -7,7 +7,7 @@ ghost use Rattle.swc_tree_node.specs.Fits.{Fits};
 ghost use Rattle.swc_tree_leaves.specs.Nodes.{big_int_node};
 
 use std::alloc::{AllocError, Global};
-use swc_tree_handle::{Opened, Tree, class, collect, from_span, from_text, to_span, to_text};
+use swc_tree_handle::{Opened, class, close_two, open_two};
 use swc_tree_marks::{Atom, Span};
 use swc_tree_node::{Kind, Node};
 
@@ -23,24 +23,18 @@ impl Opened<class::BigInt> for BigInt {
 
     ghost node = { big_int_node };
 
-    #[tactic(auto, using(swc_tree_node::proofs::Fit::lengths))]
     fn from_node(closed: Node) -> BigInt
         requires { Fits closed (One (Of class.BigInt)) }
         ensures { big_int_node result ≡ closed }
     {
-        let fields = Tree::<class::BigInt>::from_node(closed).into_fields(Kind::BigInt);
-        let [span, text] = fields.into_array::<2>();
-        BigInt {
-            span: to_span(span),
-            text: to_text(text),
-        }
+        let (span, text) = open_two::<class::BigInt, _, _>(closed, Kind::BigInt);
+        BigInt { span, text }
     }
 
     fn into_node(self, alloc: Global) -> Result<Node, AllocError>
         ensures { IfOk result (λ closed. (closed ≡ big_int_node self) × Fits closed (One (Of class.BigInt))) }
     {
         let BigInt { span, text } = self;
-        let fields = collect(alloc, [from_span(span), from_text(text)])?;
-        Ok(Tree::<class::BigInt>::from_fields(Kind::BigInt, fields).into_node())
+        close_two::<class::BigInt, _, _>(alloc, Kind::BigInt, (span, text))
     }
 }

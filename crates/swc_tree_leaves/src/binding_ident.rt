@@ -7,7 +7,7 @@ ghost use Rattle.swc_tree_node.specs.Fits.{Fits};
 ghost use Rattle.swc_tree_leaves.specs.Nodes.{binding_ident_node};
 
 use std::alloc::{AllocError, Global};
-use swc_tree_handle::{Opened, Tree, class};
+use swc_tree_handle::{Opened, Place, Tree, class};
 use swc_tree_marks::Ident;
 use swc_tree_node::{Kind, Node};
 
@@ -40,5 +40,19 @@ impl Opened<class::BindingIdent> for BindingIdent {
             self.id,
         )?;
         Ok(tree.into_node())
+    }
+}
+
+impl Place for BindingIdent {
+    ghost slot = { One (Of class.BindingIdent) };
+
+    ghost node = { binding_ident_node };
+
+    fn taken(closed: Node) -> BindingIdent {
+        BindingIdent::from_node(closed)
+    }
+
+    fn given(self, alloc: Global) -> Result<Node, AllocError> {
+        self.into_node(alloc)
     }
 }

@@ -7,7 +7,7 @@ ghost use Rattle.swc_tree_node.specs.Fits.{Fits};
 ghost use Rattle.swc_tree_leaves.specs.Nodes.{bool_node};
 
 use std::alloc::{AllocError, Global};
-use swc_tree_handle::{Opened, Tree, class, collect, from_flag, from_span, to_flag, to_span};
+use swc_tree_handle::{Opened, class, close_two, open_two};
 use swc_tree_marks::Span;
 use swc_tree_node::{Kind, Node};
 
@@ -23,24 +23,18 @@ impl Opened<class::Bool> for Bool {
 
     ghost node = { bool_node };
 
-    #[tactic(auto, using(swc_tree_node::proofs::Fit::lengths))]
     fn from_node(closed: Node) -> Bool
         requires { Fits closed (One (Of class.Bool)) }
         ensures { bool_node result ≡ closed }
     {
-        let fields = Tree::<class::Bool>::from_node(closed).into_fields(Kind::Bool);
-        let [span, value] = fields.into_array::<2>();
-        Bool {
-            span: to_span(span),
-            value: to_flag(value),
-        }
+        let (span, value) = open_two::<class::Bool, _, _>(closed, Kind::Bool);
+        Bool { span, value }
     }
 
     fn into_node(self, alloc: Global) -> Result<Node, AllocError>
         ensures { IfOk result (λ closed. (closed ≡ bool_node self) × Fits closed (One (Of class.Bool))) }
     {
         let Bool { span, value } = self;
-        let fields = collect(alloc, [from_span(span), from_flag(value)])?;
-        Ok(Tree::<class::Bool>::from_fields(Kind::Bool, fields).into_node())
+        close_two::<class::Bool, _, _>(alloc, Kind::Bool, (span, value))
     }
 }

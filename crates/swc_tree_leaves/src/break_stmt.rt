@@ -7,7 +7,7 @@ ghost use Rattle.swc_tree_node.specs.Fits.{Fits};
 ghost use Rattle.swc_tree_leaves.specs.Nodes.{break_stmt_node};
 
 use std::alloc::{AllocError, Global};
-use swc_tree_handle::{Opened, Tree, class, collect, from_span, to_span};
+use swc_tree_handle::{Opened, class, close_two, open_two};
 use swc_tree_marks::{Ident, Span};
 use swc_tree_node::{Kind, Node};
 
@@ -23,27 +23,18 @@ impl Opened<class::BreakStmt> for BreakStmt {
 
     ghost node = { break_stmt_node };
 
-    #[tactic(auto, using(swc_tree_node::proofs::Fit::lengths))]
     fn from_node(closed: Node) -> BreakStmt
         requires { Fits closed (One (Of class.BreakStmt)) }
         ensures { break_stmt_node result ≡ closed }
     {
-        let fields = Tree::<class::BreakStmt>::from_node(closed).into_fields(Kind::BreakStmt);
-        let [span, label] = fields.into_array::<2>();
-        BreakStmt {
-            span: to_span(span),
-            label: Ident::from_optional(label),
-        }
+        let (span, label) = open_two::<class::BreakStmt, _, _>(closed, Kind::BreakStmt);
+        BreakStmt { span, label }
     }
 
     fn into_node(self, alloc: Global) -> Result<Node, AllocError>
         ensures { IfOk result (λ closed. (closed ≡ break_stmt_node self) × Fits closed (One (Of class.BreakStmt))) }
     {
         let BreakStmt { span, label } = self;
-        let fields = collect(
-            alloc,
-            [from_span(span), Ident::into_optional(label, alloc)?],
-        )?;
-        Ok(Tree::<class::BreakStmt>::from_fields(Kind::BreakStmt, fields).into_node())
+        close_two::<class::BreakStmt, _, _>(alloc, Kind::BreakStmt, (span, label))
     }
 }

@@ -7,7 +7,7 @@ ghost use Rattle.swc_tree_node.specs.Fits.{Fits};
 ghost use Rattle.swc_tree_leaves.specs.Nodes.{continue_stmt_node};
 
 use std::alloc::{AllocError, Global};
-use swc_tree_handle::{Opened, Tree, class, collect, from_span, to_span};
+use swc_tree_handle::{Opened, class, close_two, open_two};
 use swc_tree_marks::{Ident, Span};
 use swc_tree_node::{Kind, Node};
 
@@ -23,27 +23,18 @@ impl Opened<class::ContinueStmt> for ContinueStmt {
 
     ghost node = { continue_stmt_node };
 
-    #[tactic(auto, using(swc_tree_node::proofs::Fit::lengths))]
     fn from_node(closed: Node) -> ContinueStmt
         requires { Fits closed (One (Of class.ContinueStmt)) }
         ensures { continue_stmt_node result ≡ closed }
     {
-        let fields = Tree::<class::ContinueStmt>::from_node(closed).into_fields(Kind::ContinueStmt);
-        let [span, label] = fields.into_array::<2>();
-        ContinueStmt {
-            span: to_span(span),
-            label: Ident::from_optional(label),
-        }
+        let (span, label) = open_two::<class::ContinueStmt, _, _>(closed, Kind::ContinueStmt);
+        ContinueStmt { span, label }
     }
 
     fn into_node(self, alloc: Global) -> Result<Node, AllocError>
         ensures { IfOk result (λ closed. (closed ≡ continue_stmt_node self) × Fits closed (One (Of class.ContinueStmt))) }
     {
         let ContinueStmt { span, label } = self;
-        let fields = collect(
-            alloc,
-            [from_span(span), Ident::into_optional(label, alloc)?],
-        )?;
-        Ok(Tree::<class::ContinueStmt>::from_fields(Kind::ContinueStmt, fields).into_node())
+        close_two::<class::ContinueStmt, _, _>(alloc, Kind::ContinueStmt, (span, label))
     }
 }

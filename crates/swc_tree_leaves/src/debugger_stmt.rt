@@ -7,7 +7,7 @@ ghost use Rattle.swc_tree_node.specs.Fits.{Fits};
 ghost use Rattle.swc_tree_leaves.specs.Nodes.{debugger_stmt_node};
 
 use std::alloc::{AllocError, Global};
-use swc_tree_handle::{Opened, Tree, class, collect, from_span, to_span};
+use swc_tree_handle::{Opened, class, close_one, open_one};
 use swc_tree_marks::Span;
 use swc_tree_node::{Kind, Node};
 
@@ -22,23 +22,18 @@ impl Opened<class::DebuggerStmt> for DebuggerStmt {
 
     ghost node = { debugger_stmt_node };
 
-    #[tactic(auto, using(swc_tree_node::proofs::Fit::lengths))]
     fn from_node(closed: Node) -> DebuggerStmt
         requires { Fits closed (One (Of class.DebuggerStmt)) }
         ensures { debugger_stmt_node result ≡ closed }
     {
-        let fields = Tree::<class::DebuggerStmt>::from_node(closed).into_fields(Kind::DebuggerStmt);
-        let [span] = fields.into_array::<1>();
-        DebuggerStmt {
-            span: to_span(span),
-        }
+        let span = open_one::<class::DebuggerStmt, _>(closed, Kind::DebuggerStmt);
+        DebuggerStmt { span }
     }
 
     fn into_node(self, alloc: Global) -> Result<Node, AllocError>
         ensures { IfOk result (λ closed. (closed ≡ debugger_stmt_node self) × Fits closed (One (Of class.DebuggerStmt))) }
     {
         let DebuggerStmt { span } = self;
-        let fields = collect(alloc, [from_span(span)])?;
-        Ok(Tree::<class::DebuggerStmt>::from_fields(Kind::DebuggerStmt, fields).into_node())
+        close_one::<class::DebuggerStmt, _>(alloc, Kind::DebuggerStmt, span)
     }
 }

@@ -7,7 +7,7 @@ ghost use Rattle.swc_tree_node.specs.Fits.{Fits};
 ghost use Rattle.swc_tree_leaves.specs.Nodes.{empty_stmt_node};
 
 use std::alloc::{AllocError, Global};
-use swc_tree_handle::{Opened, Tree, class, collect, from_span, to_span};
+use swc_tree_handle::{Opened, class, close_one, open_one};
 use swc_tree_marks::Span;
 use swc_tree_node::{Kind, Node};
 
@@ -22,23 +22,18 @@ impl Opened<class::EmptyStmt> for EmptyStmt {
 
     ghost node = { empty_stmt_node };
 
-    #[tactic(auto, using(swc_tree_node::proofs::Fit::lengths))]
     fn from_node(closed: Node) -> EmptyStmt
         requires { Fits closed (One (Of class.EmptyStmt)) }
         ensures { empty_stmt_node result ≡ closed }
     {
-        let fields = Tree::<class::EmptyStmt>::from_node(closed).into_fields(Kind::EmptyStmt);
-        let [span] = fields.into_array::<1>();
-        EmptyStmt {
-            span: to_span(span),
-        }
+        let span = open_one::<class::EmptyStmt, _>(closed, Kind::EmptyStmt);
+        EmptyStmt { span }
     }
 
     fn into_node(self, alloc: Global) -> Result<Node, AllocError>
         ensures { IfOk result (λ closed. (closed ≡ empty_stmt_node self) × Fits closed (One (Of class.EmptyStmt))) }
     {
         let EmptyStmt { span } = self;
-        let fields = collect(alloc, [from_span(span)])?;
-        Ok(Tree::<class::EmptyStmt>::from_fields(Kind::EmptyStmt, fields).into_node())
+        close_one::<class::EmptyStmt, _>(alloc, Kind::EmptyStmt, span)
     }
 }

@@ -7,7 +7,7 @@ ghost use Rattle.swc_tree_node.specs.Fits.{Fits};
 ghost use Rattle.swc_tree_leaves.specs.Nodes.{import_node};
 
 use std::alloc::{AllocError, Global};
-use swc_tree_handle::{Opened, Tree, class, collect, from_span, to_span};
+use swc_tree_handle::{Opened, class, close_one, open_one};
 use swc_tree_marks::Span;
 use swc_tree_node::{Kind, Node};
 
@@ -22,23 +22,18 @@ impl Opened<class::Import> for Import {
 
     ghost node = { import_node };
 
-    #[tactic(auto, using(swc_tree_node::proofs::Fit::lengths))]
     fn from_node(closed: Node) -> Import
         requires { Fits closed (One (Of class.Import)) }
         ensures { import_node result ≡ closed }
     {
-        let fields = Tree::<class::Import>::from_node(closed).into_fields(Kind::Import);
-        let [span] = fields.into_array::<1>();
-        Import {
-            span: to_span(span),
-        }
+        let span = open_one::<class::Import, _>(closed, Kind::Import);
+        Import { span }
     }
 
     fn into_node(self, alloc: Global) -> Result<Node, AllocError>
         ensures { IfOk result (λ closed. (closed ≡ import_node self) × Fits closed (One (Of class.Import))) }
     {
         let Import { span } = self;
-        let fields = collect(alloc, [from_span(span)])?;
-        Ok(Tree::<class::Import>::from_fields(Kind::Import, fields).into_node())
+        close_one::<class::Import, _>(alloc, Kind::Import, span)
     }
 }

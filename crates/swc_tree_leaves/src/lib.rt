@@ -43,7 +43,7 @@ pub use null::Null;
 pub use number::Number;
 pub use private_name::PrivateName;
 pub use regex::Regex;
-pub use str::Str;
+pub use str::{OptionalStr, Str};
 pub use super_::Super;
 pub use this_expr::ThisExpr;
 pub use tpl_element::TplElement;

@@ -8,7 +8,7 @@ ghost use Rattle.swc_tree_leaves.specs.Nodes.{meta_prop_expr_node};
 
 use crate::meta_prop_kind::MetaPropKind;
 use std::alloc::{AllocError, Global};
-use swc_tree_handle::{Opened, Tree, class, collect, from_span, to_span};
+use swc_tree_handle::{Opened, class, close_two, open_two};
 use swc_tree_marks::Span;
 use swc_tree_node::{Kind, Node};
 
@@ -24,24 +24,18 @@ impl Opened<class::MetaPropExpr> for MetaPropExpr {
 
     ghost node = { meta_prop_expr_node };
 
-    #[tactic(auto, using(swc_tree_node::proofs::Fit::lengths))]
     fn from_node(closed: Node) -> MetaPropExpr
         requires { Fits closed (One (Of class.MetaPropExpr)) }
         ensures { meta_prop_expr_node result ≡ closed }
     {
-        let fields = Tree::<class::MetaPropExpr>::from_node(closed).into_fields(Kind::MetaPropExpr);
-        let [span, kind] = fields.into_array::<2>();
-        MetaPropExpr {
-            span: to_span(span),
-            kind: MetaPropKind::from_node(kind),
-        }
+        let (span, kind) = open_two::<class::MetaPropExpr, _, _>(closed, Kind::MetaPropExpr);
+        MetaPropExpr { span, kind }
     }
 
     fn into_node(self, alloc: Global) -> Result<Node, AllocError>
         ensures { IfOk result (λ closed. (closed ≡ meta_prop_expr_node self) × Fits closed (One (Of class.MetaPropExpr))) }
     {
         let MetaPropExpr { span, kind } = self;
-        let fields = collect(alloc, [from_span(span), kind.into_node()])?;
-        Ok(Tree::<class::MetaPropExpr>::from_fields(Kind::MetaPropExpr, fields).into_node())
+        close_two::<class::MetaPropExpr, _, _>(alloc, Kind::MetaPropExpr, (span, kind))
     }
 }

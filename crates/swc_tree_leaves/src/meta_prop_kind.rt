@@ -4,9 +4,11 @@ ghost use Rattle.swc_tree_node.specs.declared.kind.WordClass.TheVariants as word
 ghost use Rattle.swc_tree_node.specs.declared.node.Node.TheVariants as leaf;
 ghost use Rattle.swc_tree_node.specs.declared.slot.Slot.TheVariants.{One};
 ghost use Rattle.swc_tree_node.specs.declared.slot.Content.TheVariants.{Word as Of};
-ghost use Rattle.swc_tree_node.specs.Fits.{Fits, is_among};
+ghost use Rattle.swc_tree_node.specs.Fits.{is_among};
 ghost use Rattle.swc_tree_leaves.specs.Nodes.{meta_prop_kind_word};
 
+use std::alloc::{AllocError, Global};
+use swc_tree_handle::Place;
 use swc_tree_node::{Node, Word};
 
 /// What a meta property is.
@@ -39,25 +41,23 @@ impl MetaPropKind {
             _ => unreachable!(),
         }
     }
+}
 
-    /// The word that a node is.
+impl Place for MetaPropKind {
+    ghost slot = { One (Of word_class.MetaPropKind) };
+
+    ghost node = { λ held. leaf.Word (meta_prop_kind_word held) };
+
     #[tactic(auto, using(swc_tree_node::proofs::Fit::fitting))]
-    pub fn from_node(node: Node) -> MetaPropKind
-        requires { Fits node (One (Of word_class.MetaPropKind)) }
-        ensures { leaf.Word (meta_prop_kind_word result) ≡ node }
-    {
-        match node {
+    fn taken(closed: Node) -> MetaPropKind {
+        match closed {
             Node::Word(word) => MetaPropKind::from_word(word),
             _ => unreachable!(),
         }
     }
 
-    /// The word as a node.
     #[tactic(auto, using(swc_tree_node::proofs::Fit::fitting))]
-    pub fn into_node(self) -> Node
-        ensures is { result ≡ leaf.Word (meta_prop_kind_word self) }
-        ensures fits { Fits result (One (Of word_class.MetaPropKind)) }
-    {
-        Node::Word(self.word())
+    fn given(self, alloc: Global) -> Result<Node, AllocError> {
+        Ok(Node::Word(self.word()))
     }
 }

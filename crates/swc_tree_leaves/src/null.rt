@@ -7,7 +7,7 @@ ghost use Rattle.swc_tree_node.specs.Fits.{Fits};
 ghost use Rattle.swc_tree_leaves.specs.Nodes.{null_node};
 
 use std::alloc::{AllocError, Global};
-use swc_tree_handle::{Opened, Tree, class, collect, from_span, to_span};
+use swc_tree_handle::{Opened, class, close_one, open_one};
 use swc_tree_marks::Span;
 use swc_tree_node::{Kind, Node};
 
@@ -22,23 +22,18 @@ impl Opened<class::Null> for Null {
 
     ghost node = { null_node };
 
-    #[tactic(auto, using(swc_tree_node::proofs::Fit::lengths))]
     fn from_node(closed: Node) -> Null
         requires { Fits closed (One (Of class.Null)) }
         ensures { null_node result ≡ closed }
     {
-        let fields = Tree::<class::Null>::from_node(closed).into_fields(Kind::Null);
-        let [span] = fields.into_array::<1>();
-        Null {
-            span: to_span(span),
-        }
+        let span = open_one::<class::Null, _>(closed, Kind::Null);
+        Null { span }
     }
 
     fn into_node(self, alloc: Global) -> Result<Node, AllocError>
         ensures { IfOk result (λ closed. (closed ≡ null_node self) × Fits closed (One (Of class.Null))) }
     {
         let Null { span } = self;
-        let fields = collect(alloc, [from_span(span)])?;
-        Ok(Tree::<class::Null>::from_fields(Kind::Null, fields).into_node())
+        close_one::<class::Null, _>(alloc, Kind::Null, span)
     }
 }

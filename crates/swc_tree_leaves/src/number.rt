@@ -7,7 +7,7 @@ ghost use Rattle.swc_tree_node.specs.Fits.{Fits};
 ghost use Rattle.swc_tree_leaves.specs.Nodes.{number_node};
 
 use std::alloc::{AllocError, Global};
-use swc_tree_handle::{Opened, Tree, class, collect, from_span, from_text, to_span, to_text};
+use swc_tree_handle::{Opened, class, close_two, open_two};
 use swc_tree_marks::{Atom, Span};
 use swc_tree_node::{Kind, Node};
 
@@ -23,24 +23,18 @@ impl Opened<class::Number> for Number {
 
     ghost node = { number_node };
 
-    #[tactic(auto, using(swc_tree_node::proofs::Fit::lengths))]
     fn from_node(closed: Node) -> Number
         requires { Fits closed (One (Of class.Number)) }
         ensures { number_node result ≡ closed }
     {
-        let fields = Tree::<class::Number>::from_node(closed).into_fields(Kind::Number);
-        let [span, text] = fields.into_array::<2>();
-        Number {
-            span: to_span(span),
-            text: to_text(text),
-        }
+        let (span, text) = open_two::<class::Number, _, _>(closed, Kind::Number);
+        Number { span, text }
     }
 
     fn into_node(self, alloc: Global) -> Result<Node, AllocError>
         ensures { IfOk result (λ closed. (closed ≡ number_node self) × Fits closed (One (Of class.Number))) }
     {
         let Number { span, text } = self;
-        let fields = collect(alloc, [from_span(span), from_text(text)])?;
-        Ok(Tree::<class::Number>::from_fields(Kind::Number, fields).into_node())
+        close_two::<class::Number, _, _>(alloc, Kind::Number, (span, text))
     }
 }

@@ -7,7 +7,7 @@ ghost use Rattle.swc_tree_node.specs.Fits.{Fits};
 ghost use Rattle.swc_tree_leaves.specs.Nodes.{private_name_node};
 
 use std::alloc::{AllocError, Global};
-use swc_tree_handle::{Opened, Tree, class, collect, from_span, from_text, to_span, to_text};
+use swc_tree_handle::{Opened, Place, class, close_two, open_two};
 use swc_tree_marks::{Atom, Span};
 use swc_tree_node::{Kind, Node};
 
@@ -23,24 +23,32 @@ impl Opened<class::PrivateName> for PrivateName {
 
     ghost node = { private_name_node };
 
-    #[tactic(auto, using(swc_tree_node::proofs::Fit::lengths))]
     fn from_node(closed: Node) -> PrivateName
         requires { Fits closed (One (Of class.PrivateName)) }
         ensures { private_name_node result ≡ closed }
     {
-        let fields = Tree::<class::PrivateName>::from_node(closed).into_fields(Kind::PrivateName);
-        let [span, name] = fields.into_array::<2>();
-        PrivateName {
-            span: to_span(span),
-            name: to_text(name),
-        }
+        let (span, name) = open_two::<class::PrivateName, _, _>(closed, Kind::PrivateName);
+        PrivateName { span, name }
     }
 
     fn into_node(self, alloc: Global) -> Result<Node, AllocError>
         ensures { IfOk result (λ closed. (closed ≡ private_name_node self) × Fits closed (One (Of class.PrivateName))) }
     {
         let PrivateName { span, name } = self;
-        let fields = collect(alloc, [from_span(span), from_text(name)])?;
-        Ok(Tree::<class::PrivateName>::from_fields(Kind::PrivateName, fields).into_node())
+        close_two::<class::PrivateName, _, _>(alloc, Kind::PrivateName, (span, name))
+    }
+}
+
+impl Place for PrivateName {
+    ghost slot = { One (Of class.PrivateName) };
+
+    ghost node = { private_name_node };
+
+    fn taken(closed: Node) -> PrivateName {
+        PrivateName::from_node(closed)
+    }
+
+    fn given(self, alloc: Global) -> Result<Node, AllocError> {
+        self.into_node(alloc)
     }
 }

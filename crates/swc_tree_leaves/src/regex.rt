@@ -7,7 +7,7 @@ ghost use Rattle.swc_tree_node.specs.Fits.{Fits};
 ghost use Rattle.swc_tree_leaves.specs.Nodes.{regex_node};
 
 use std::alloc::{AllocError, Global};
-use swc_tree_handle::{Opened, Tree, class, collect, from_span, from_text, to_span, to_text};
+use swc_tree_handle::{Opened, class, close_three, open_three};
 use swc_tree_marks::{Atom, Span};
 use swc_tree_node::{Kind, Node};
 
@@ -24,25 +24,18 @@ impl Opened<class::Regex> for Regex {
 
     ghost node = { regex_node };
 
-    #[tactic(auto, using(swc_tree_node::proofs::Fit::lengths))]
     fn from_node(closed: Node) -> Regex
         requires { Fits closed (One (Of class.Regex)) }
         ensures { regex_node result ≡ closed }
     {
-        let fields = Tree::<class::Regex>::from_node(closed).into_fields(Kind::Regex);
-        let [span, exp, flags] = fields.into_array::<3>();
-        Regex {
-            span: to_span(span),
-            exp: to_text(exp),
-            flags: to_text(flags),
-        }
+        let (span, exp, flags) = open_three::<class::Regex, _, _, _>(closed, Kind::Regex);
+        Regex { span, exp, flags }
     }
 
     fn into_node(self, alloc: Global) -> Result<Node, AllocError>
         ensures { IfOk result (λ closed. (closed ≡ regex_node self) × Fits closed (One (Of class.Regex))) }
     {
         let Regex { span, exp, flags } = self;
-        let fields = collect(alloc, [from_span(span), from_text(exp), from_text(flags)])?;
-        Ok(Tree::<class::Regex>::from_fields(Kind::Regex, fields).into_node())
+        close_three::<class::Regex, _, _, _>(alloc, Kind::Regex, (span, exp, flags))
     }
 }

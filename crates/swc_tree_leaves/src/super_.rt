@@ -7,7 +7,7 @@ ghost use Rattle.swc_tree_node.specs.Fits.{Fits};
 ghost use Rattle.swc_tree_leaves.specs.Nodes.{super_node};
 
 use std::alloc::{AllocError, Global};
-use swc_tree_handle::{Opened, Tree, class, collect, from_span, to_span};
+use swc_tree_handle::{Opened, Place, class, close_one, open_one};
 use swc_tree_marks::Span;
 use swc_tree_node::{Kind, Node};
 
@@ -22,23 +22,32 @@ impl Opened<class::Super> for Super {
 
     ghost node = { super_node };
 
-    #[tactic(auto, using(swc_tree_node::proofs::Fit::lengths))]
     fn from_node(closed: Node) -> Super
         requires { Fits closed (One (Of class.Super)) }
         ensures { super_node result ≡ closed }
     {
-        let fields = Tree::<class::Super>::from_node(closed).into_fields(Kind::Super);
-        let [span] = fields.into_array::<1>();
-        Super {
-            span: to_span(span),
-        }
+        let span = open_one::<class::Super, _>(closed, Kind::Super);
+        Super { span }
     }
 
     fn into_node(self, alloc: Global) -> Result<Node, AllocError>
         ensures { IfOk result (λ closed. (closed ≡ super_node self) × Fits closed (One (Of class.Super))) }
     {
         let Super { span } = self;
-        let fields = collect(alloc, [from_span(span)])?;
-        Ok(Tree::<class::Super>::from_fields(Kind::Super, fields).into_node())
+        close_one::<class::Super, _>(alloc, Kind::Super, span)
+    }
+}
+
+impl Place for Super {
+    ghost slot = { One (Of class.Super) };
+
+    ghost node = { super_node };
+
+    fn taken(closed: Node) -> Super {
+        Super::from_node(closed)
+    }
+
+    fn given(self, alloc: Global) -> Result<Node, AllocError> {
+        self.into_node(alloc)
     }
 }

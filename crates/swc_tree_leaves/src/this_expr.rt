@@ -7,7 +7,7 @@ ghost use Rattle.swc_tree_node.specs.Fits.{Fits};
 ghost use Rattle.swc_tree_leaves.specs.Nodes.{this_expr_node};
 
 use std::alloc::{AllocError, Global};
-use swc_tree_handle::{Opened, Tree, class, collect, from_span, to_span};
+use swc_tree_handle::{Opened, class, close_one, open_one};
 use swc_tree_marks::Span;
 use swc_tree_node::{Kind, Node};
 
@@ -22,23 +22,18 @@ impl Opened<class::ThisExpr> for ThisExpr {
 
     ghost node = { this_expr_node };
 
-    #[tactic(auto, using(swc_tree_node::proofs::Fit::lengths))]
     fn from_node(closed: Node) -> ThisExpr
         requires { Fits closed (One (Of class.ThisExpr)) }
         ensures { this_expr_node result ≡ closed }
     {
-        let fields = Tree::<class::ThisExpr>::from_node(closed).into_fields(Kind::ThisExpr);
-        let [span] = fields.into_array::<1>();
-        ThisExpr {
-            span: to_span(span),
-        }
+        let span = open_one::<class::ThisExpr, _>(closed, Kind::ThisExpr);
+        ThisExpr { span }
     }
 
     fn into_node(self, alloc: Global) -> Result<Node, AllocError>
         ensures { IfOk result (λ closed. (closed ≡ this_expr_node self) × Fits closed (One (Of class.ThisExpr))) }
     {
         let ThisExpr { span } = self;
-        let fields = collect(alloc, [from_span(span)])?;
-        Ok(Tree::<class::ThisExpr>::from_fields(Kind::ThisExpr, fields).into_node())
+        close_one::<class::ThisExpr, _>(alloc, Kind::ThisExpr, span)
     }
 }

@@ -7,10 +7,7 @@ ghost use Rattle.swc_tree_node.specs.Fits.{Fits};
 ghost use Rattle.swc_tree_leaves.specs.Nodes.{tpl_element_node};
 
 use std::alloc::{AllocError, Global};
-use swc_tree_handle::{
-    Opened, Tree, class, collect, from_flag, from_optional_text, from_span, from_text, to_flag,
-    to_optional_text, to_span, to_text,
-};
+use swc_tree_handle::{Opened, class, close_four, open_four};
 use swc_tree_marks::{Atom, Span};
 use swc_tree_node::{Kind, Node};
 
@@ -28,18 +25,19 @@ impl Opened<class::TplElement> for TplElement {
 
     ghost node = { tpl_element_node };
 
-    #[tactic(auto, using(swc_tree_node::proofs::Fit::lengths))]
     fn from_node(closed: Node) -> TplElement
         requires { Fits closed (One (Of class.TplElement)) }
         ensures { tpl_element_node result ≡ closed }
     {
-        let fields = Tree::<class::TplElement>::from_node(closed).into_fields(Kind::TplElement);
-        let [span, tail, cooked, raw] = fields.into_array::<4>();
+        let (span, tail, cooked, raw) = open_four::<class::TplElement, _, _, _, _>(
+            closed,
+            Kind::TplElement,
+        );
         TplElement {
-            span: to_span(span),
-            tail: to_flag(tail),
-            cooked: to_optional_text(cooked),
-            raw: to_text(raw),
+            span,
+            tail,
+            cooked,
+            raw,
         }
     }
 
@@ -52,15 +50,10 @@ impl Opened<class::TplElement> for TplElement {
             cooked,
             raw,
         } = self;
-        let fields = collect(
+        close_four::<class::TplElement, _, _, _, _>(
             alloc,
-            [
-                from_span(span),
-                from_flag(tail),
-                from_optional_text(cooked),
-                from_text(raw),
-            ],
-        )?;
-        Ok(Tree::<class::TplElement>::from_fields(Kind::TplElement, fields).into_node())
+            Kind::TplElement,
+            (span, tail, cooked, raw),
+        )
     }
 }

@@ -7,7 +7,7 @@ ghost use Rattle.swc_tree_node.specs.Fits.{Fits};
 ghost use Rattle.swc_tree_modules.specs.Nodes.{export_all_node};
 
 use std::alloc::{AllocError, Global};
-use swc_tree_handle::{Opened, Pairs, Tree, class, collect, from_span, to_span};
+use swc_tree_handle::{Opened, Pairs, class, close_three, open_three};
 use swc_tree_leaves::Str;
 use swc_tree_marks::Span;
 use swc_tree_node::{Kind, Node};
@@ -25,32 +25,18 @@ impl Opened<class::ExportAll> for ExportAll {
 
     ghost node = { export_all_node };
 
-    #[tactic(auto, using(swc_tree_node::proofs::Fit::lengths))]
     fn from_node(closed: Node) -> ExportAll
         requires { Fits closed (One (Of class.ExportAll)) }
         ensures { export_all_node result ≡ closed }
     {
-        let fields = Tree::<class::ExportAll>::from_node(closed).into_fields(Kind::ExportAll);
-        let [span, src, with_] = fields.into_array::<3>();
-        ExportAll {
-            span: to_span(span),
-            src: Str::from_node(src),
-            with_: Pairs::from_optional(with_),
-        }
+        let (span, src, with_) = open_three::<class::ExportAll, _, _, _>(closed, Kind::ExportAll);
+        ExportAll { span, src, with_ }
     }
 
     fn into_node(self, alloc: Global) -> Result<Node, AllocError>
         ensures { IfOk result (λ closed. (closed ≡ export_all_node self) × Fits closed (One (Of class.ExportAll))) }
     {
         let ExportAll { span, src, with_ } = self;
-        let fields = collect(
-            alloc,
-            [
-                from_span(span),
-                src.into_node(alloc)?,
-                Pairs::into_optional(with_),
-            ],
-        )?;
-        Ok(Tree::<class::ExportAll>::from_fields(Kind::ExportAll, fields).into_node())
+        close_three::<class::ExportAll, _, _, _>(alloc, Kind::ExportAll, (span, src, with_))
     }
 }

@@ -7,7 +7,7 @@ ghost use Rattle.swc_tree_node.specs.Fits.{Fits};
 ghost use Rattle.swc_tree_modules.specs.Nodes.{export_decl_node};
 
 use std::alloc::{AllocError, Global};
-use swc_tree_handle::{Opened, Tree, class, collect, from_span, to_span};
+use swc_tree_handle::{Opened, Tree, class, close_two, open_two};
 use swc_tree_marks::Span;
 use swc_tree_node::{Kind, Node};
 
@@ -23,24 +23,18 @@ impl Opened<class::ExportDecl> for ExportDecl {
 
     ghost node = { export_decl_node };
 
-    #[tactic(auto, using(swc_tree_node::proofs::Fit::lengths))]
     fn from_node(closed: Node) -> ExportDecl
         requires { Fits closed (One (Of class.ExportDecl)) }
         ensures { export_decl_node result ≡ closed }
     {
-        let fields = Tree::<class::ExportDecl>::from_node(closed).into_fields(Kind::ExportDecl);
-        let [span, decl] = fields.into_array::<2>();
-        ExportDecl {
-            span: to_span(span),
-            decl: Tree::from_node(decl),
-        }
+        let (span, decl) = open_two::<class::ExportDecl, _, _>(closed, Kind::ExportDecl);
+        ExportDecl { span, decl }
     }
 
     fn into_node(self, alloc: Global) -> Result<Node, AllocError>
         ensures { IfOk result (λ closed. (closed ≡ export_decl_node self) × Fits closed (One (Of class.ExportDecl))) }
     {
         let ExportDecl { span, decl } = self;
-        let fields = collect(alloc, [from_span(span), decl.into_node()])?;
-        Ok(Tree::<class::ExportDecl>::from_fields(Kind::ExportDecl, fields).into_node())
+        close_two::<class::ExportDecl, _, _>(alloc, Kind::ExportDecl, (span, decl))
     }
 }

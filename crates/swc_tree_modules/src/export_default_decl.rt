@@ -7,7 +7,7 @@ ghost use Rattle.swc_tree_node.specs.Fits.{Fits};
 ghost use Rattle.swc_tree_modules.specs.Nodes.{export_default_decl_node};
 
 use std::alloc::{AllocError, Global};
-use swc_tree_handle::{Opened, Tree, class, collect, from_span, to_span};
+use swc_tree_handle::{Opened, Tree, class, close_two, open_two};
 use swc_tree_marks::Span;
 use swc_tree_node::{Kind, Node};
 
@@ -23,29 +23,21 @@ impl Opened<class::ExportDefaultDecl> for ExportDefaultDecl {
 
     ghost node = { export_default_decl_node };
 
-    #[tactic(auto, using(swc_tree_node::proofs::Fit::lengths))]
     fn from_node(closed: Node) -> ExportDefaultDecl
         requires { Fits closed (One (Of class.ExportDefaultDecl)) }
         ensures { export_default_decl_node result ≡ closed }
     {
-        let fields = Tree::<class::ExportDefaultDecl>::from_node(closed).into_fields(
+        let (span, decl) = open_two::<class::ExportDefaultDecl, _, _>(
+            closed,
             Kind::ExportDefaultDecl,
         );
-        let [span, decl] = fields.into_array::<2>();
-        ExportDefaultDecl {
-            span: to_span(span),
-            decl: Tree::from_node(decl),
-        }
+        ExportDefaultDecl { span, decl }
     }
 
     fn into_node(self, alloc: Global) -> Result<Node, AllocError>
         ensures { IfOk result (λ closed. (closed ≡ export_default_decl_node self) × Fits closed (One (Of class.ExportDefaultDecl))) }
     {
         let ExportDefaultDecl { span, decl } = self;
-        let fields = collect(alloc, [from_span(span), decl.into_node()])?;
-        Ok(Tree::<class::ExportDefaultDecl>::from_fields(
-            Kind::ExportDefaultDecl,
-            fields,
-        ).into_node())
+        close_two::<class::ExportDefaultDecl, _, _>(alloc, Kind::ExportDefaultDecl, (span, decl))
     }
 }

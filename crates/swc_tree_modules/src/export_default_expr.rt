@@ -7,7 +7,7 @@ ghost use Rattle.swc_tree_node.specs.Fits.{Fits};
 ghost use Rattle.swc_tree_modules.specs.Nodes.{export_default_expr_node};
 
 use std::alloc::{AllocError, Global};
-use swc_tree_handle::{Opened, Tree, class, collect, from_span, to_span};
+use swc_tree_handle::{Opened, Tree, class, close_two, open_two};
 use swc_tree_marks::Span;
 use swc_tree_node::{Kind, Node};
 
@@ -23,29 +23,21 @@ impl Opened<class::ExportDefaultExpr> for ExportDefaultExpr {
 
     ghost node = { export_default_expr_node };
 
-    #[tactic(auto, using(swc_tree_node::proofs::Fit::lengths))]
     fn from_node(closed: Node) -> ExportDefaultExpr
         requires { Fits closed (One (Of class.ExportDefaultExpr)) }
         ensures { export_default_expr_node result ≡ closed }
     {
-        let fields = Tree::<class::ExportDefaultExpr>::from_node(closed).into_fields(
+        let (span, expr) = open_two::<class::ExportDefaultExpr, _, _>(
+            closed,
             Kind::ExportDefaultExpr,
         );
-        let [span, expr] = fields.into_array::<2>();
-        ExportDefaultExpr {
-            span: to_span(span),
-            expr: Tree::from_node(expr),
-        }
+        ExportDefaultExpr { span, expr }
     }
 
     fn into_node(self, alloc: Global) -> Result<Node, AllocError>
         ensures { IfOk result (λ closed. (closed ≡ export_default_expr_node self) × Fits closed (One (Of class.ExportDefaultExpr))) }
     {
         let ExportDefaultExpr { span, expr } = self;
-        let fields = collect(alloc, [from_span(span), expr.into_node()])?;
-        Ok(Tree::<class::ExportDefaultExpr>::from_fields(
-            Kind::ExportDefaultExpr,
-            fields,
-        ).into_node())
+        close_two::<class::ExportDefaultExpr, _, _>(alloc, Kind::ExportDefaultExpr, (span, expr))
     }
 }

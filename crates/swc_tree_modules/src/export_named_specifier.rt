@@ -7,7 +7,7 @@ ghost use Rattle.swc_tree_node.specs.Fits.{Fits};
 ghost use Rattle.swc_tree_modules.specs.Nodes.{export_named_specifier_node};
 
 use std::alloc::{AllocError, Global};
-use swc_tree_handle::{Opened, Tree, class, collect, from_span, to_span};
+use swc_tree_handle::{Opened, Tree, class, close_three, open_three};
 use swc_tree_marks::Span;
 use swc_tree_node::{Kind, Node};
 
@@ -24,19 +24,18 @@ impl Opened<class::ExportNamedSpecifier> for ExportNamedSpecifier {
 
     ghost node = { export_named_specifier_node };
 
-    #[tactic(auto, using(swc_tree_node::proofs::Fit::lengths))]
     fn from_node(closed: Node) -> ExportNamedSpecifier
         requires { Fits closed (One (Of class.ExportNamedSpecifier)) }
         ensures { export_named_specifier_node result ≡ closed }
     {
-        let fields = Tree::<class::ExportNamedSpecifier>::from_node(closed).into_fields(
+        let (span, orig, exported) = open_three::<class::ExportNamedSpecifier, _, _, _>(
+            closed,
             Kind::ExportNamedSpecifier,
         );
-        let [span, orig, exported] = fields.into_array::<3>();
         ExportNamedSpecifier {
-            span: to_span(span),
-            orig: Tree::from_node(orig),
-            exported: Tree::from_optional(exported),
+            span,
+            orig,
+            exported,
         }
     }
 
@@ -48,17 +47,10 @@ impl Opened<class::ExportNamedSpecifier> for ExportNamedSpecifier {
             orig,
             exported,
         } = self;
-        let fields = collect(
+        close_three::<class::ExportNamedSpecifier, _, _, _>(
             alloc,
-            [
-                from_span(span),
-                orig.into_node(),
-                Tree::into_optional(exported),
-            ],
-        )?;
-        Ok(Tree::<class::ExportNamedSpecifier>::from_fields(
             Kind::ExportNamedSpecifier,
-            fields,
-        ).into_node())
+            (span, orig, exported),
+        )
     }
 }

@@ -7,7 +7,7 @@ ghost use Rattle.swc_tree_node.specs.Fits.{Fits};
 ghost use Rattle.swc_tree_modules.specs.Nodes.{export_namespace_specifier_node};
 
 use std::alloc::{AllocError, Global};
-use swc_tree_handle::{Opened, Tree, class, collect, from_span, to_span};
+use swc_tree_handle::{Opened, Tree, class, close_two, open_two};
 use swc_tree_marks::Span;
 use swc_tree_node::{Kind, Node};
 
@@ -23,29 +23,25 @@ impl Opened<class::ExportNamespaceSpecifier> for ExportNamespaceSpecifier {
 
     ghost node = { export_namespace_specifier_node };
 
-    #[tactic(auto, using(swc_tree_node::proofs::Fit::lengths))]
     fn from_node(closed: Node) -> ExportNamespaceSpecifier
         requires { Fits closed (One (Of class.ExportNamespaceSpecifier)) }
         ensures { export_namespace_specifier_node result ≡ closed }
     {
-        let fields = Tree::<class::ExportNamespaceSpecifier>::from_node(closed).into_fields(
+        let (span, name) = open_two::<class::ExportNamespaceSpecifier, _, _>(
+            closed,
             Kind::ExportNamespaceSpecifier,
         );
-        let [span, name] = fields.into_array::<2>();
-        ExportNamespaceSpecifier {
-            span: to_span(span),
-            name: Tree::from_node(name),
-        }
+        ExportNamespaceSpecifier { span, name }
     }
 
     fn into_node(self, alloc: Global) -> Result<Node, AllocError>
         ensures { IfOk result (λ closed. (closed ≡ export_namespace_specifier_node self) × Fits closed (One (Of class.ExportNamespaceSpecifier))) }
     {
         let ExportNamespaceSpecifier { span, name } = self;
-        let fields = collect(alloc, [from_span(span), name.into_node()])?;
-        Ok(Tree::<class::ExportNamespaceSpecifier>::from_fields(
+        close_two::<class::ExportNamespaceSpecifier, _, _>(
+            alloc,
             Kind::ExportNamespaceSpecifier,
-            fields,
-        ).into_node())
+            (span, name),
+        )
     }
 }

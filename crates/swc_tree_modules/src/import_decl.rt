@@ -7,7 +7,7 @@ ghost use Rattle.swc_tree_node.specs.Fits.{Fits};
 ghost use Rattle.swc_tree_modules.specs.Nodes.{import_decl_node};
 
 use std::alloc::{AllocError, Global};
-use swc_tree_handle::{Opened, Pairs, Tree, Trees, class, collect, from_span, to_span};
+use swc_tree_handle::{Opened, Pairs, Trees, class, close_four, open_four};
 use swc_tree_leaves::Str;
 use swc_tree_marks::Span;
 use swc_tree_node::{Kind, Node};
@@ -26,18 +26,19 @@ impl Opened<class::ImportDecl> for ImportDecl {
 
     ghost node = { import_decl_node };
 
-    #[tactic(auto, using(swc_tree_node::proofs::Fit::lengths))]
     fn from_node(closed: Node) -> ImportDecl
         requires { Fits closed (One (Of class.ImportDecl)) }
         ensures { import_decl_node result ≡ closed }
     {
-        let fields = Tree::<class::ImportDecl>::from_node(closed).into_fields(Kind::ImportDecl);
-        let [span, specifiers, src, with_] = fields.into_array::<4>();
+        let (span, specifiers, src, with_) = open_four::<class::ImportDecl, _, _, _, _>(
+            closed,
+            Kind::ImportDecl,
+        );
         ImportDecl {
-            span: to_span(span),
-            specifiers: Trees::from_node(specifiers),
-            src: Str::from_node(src),
-            with_: Pairs::from_optional(with_),
+            span,
+            specifiers,
+            src,
+            with_,
         }
     }
 
@@ -50,15 +51,10 @@ impl Opened<class::ImportDecl> for ImportDecl {
             src,
             with_,
         } = self;
-        let fields = collect(
+        close_four::<class::ImportDecl, _, _, _, _>(
             alloc,
-            [
-                from_span(span),
-                specifiers.into_node(),
-                src.into_node(alloc)?,
-                Pairs::into_optional(with_),
-            ],
-        )?;
-        Ok(Tree::<class::ImportDecl>::from_fields(Kind::ImportDecl, fields).into_node())
+            Kind::ImportDecl,
+            (span, specifiers, src, with_),
+        )
     }
 }

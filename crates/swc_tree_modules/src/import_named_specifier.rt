@@ -7,7 +7,7 @@ ghost use Rattle.swc_tree_node.specs.Fits.{Fits};
 ghost use Rattle.swc_tree_modules.specs.Nodes.{import_named_specifier_node};
 
 use std::alloc::{AllocError, Global};
-use swc_tree_handle::{Opened, Tree, class, collect, from_span, to_span};
+use swc_tree_handle::{Opened, Tree, class, close_three, open_three};
 use swc_tree_marks::{Ident, Span};
 use swc_tree_node::{Kind, Node};
 
@@ -24,19 +24,18 @@ impl Opened<class::ImportNamedSpecifier> for ImportNamedSpecifier {
 
     ghost node = { import_named_specifier_node };
 
-    #[tactic(auto, using(swc_tree_node::proofs::Fit::lengths))]
     fn from_node(closed: Node) -> ImportNamedSpecifier
         requires { Fits closed (One (Of class.ImportNamedSpecifier)) }
         ensures { import_named_specifier_node result ≡ closed }
     {
-        let fields = Tree::<class::ImportNamedSpecifier>::from_node(closed).into_fields(
+        let (span, local, imported) = open_three::<class::ImportNamedSpecifier, _, _, _>(
+            closed,
             Kind::ImportNamedSpecifier,
         );
-        let [span, local, imported] = fields.into_array::<3>();
         ImportNamedSpecifier {
-            span: to_span(span),
-            local: Ident::from_node(local),
-            imported: Tree::from_optional(imported),
+            span,
+            local,
+            imported,
         }
     }
 
@@ -48,17 +47,10 @@ impl Opened<class::ImportNamedSpecifier> for ImportNamedSpecifier {
             local,
             imported,
         } = self;
-        let fields = collect(
+        close_three::<class::ImportNamedSpecifier, _, _, _>(
             alloc,
-            [
-                from_span(span),
-                local.into_node(alloc)?,
-                Tree::into_optional(imported),
-            ],
-        )?;
-        Ok(Tree::<class::ImportNamedSpecifier>::from_fields(
             Kind::ImportNamedSpecifier,
-            fields,
-        ).into_node())
+            (span, local, imported),
+        )
     }
 }

@@ -7,7 +7,7 @@ ghost use Rattle.swc_tree_node.specs.Fits.{Fits};
 ghost use Rattle.swc_tree_modules.specs.Nodes.{import_star_as_specifier_node};
 
 use std::alloc::{AllocError, Global};
-use swc_tree_handle::{Opened, Tree, class, collect, from_span, to_span};
+use swc_tree_handle::{Opened, class, close_two, open_two};
 use swc_tree_marks::{Ident, Span};
 use swc_tree_node::{Kind, Node};
 
@@ -23,29 +23,25 @@ impl Opened<class::ImportStarAsSpecifier> for ImportStarAsSpecifier {
 
     ghost node = { import_star_as_specifier_node };
 
-    #[tactic(auto, using(swc_tree_node::proofs::Fit::lengths))]
     fn from_node(closed: Node) -> ImportStarAsSpecifier
         requires { Fits closed (One (Of class.ImportStarAsSpecifier)) }
         ensures { import_star_as_specifier_node result ≡ closed }
     {
-        let fields = Tree::<class::ImportStarAsSpecifier>::from_node(closed).into_fields(
+        let (span, local) = open_two::<class::ImportStarAsSpecifier, _, _>(
+            closed,
             Kind::ImportStarAsSpecifier,
         );
-        let [span, local] = fields.into_array::<2>();
-        ImportStarAsSpecifier {
-            span: to_span(span),
-            local: Ident::from_node(local),
-        }
+        ImportStarAsSpecifier { span, local }
     }
 
     fn into_node(self, alloc: Global) -> Result<Node, AllocError>
         ensures { IfOk result (λ closed. (closed ≡ import_star_as_specifier_node self) × Fits closed (One (Of class.ImportStarAsSpecifier))) }
     {
         let ImportStarAsSpecifier { span, local } = self;
-        let fields = collect(alloc, [from_span(span), local.into_node(alloc)?])?;
-        Ok(Tree::<class::ImportStarAsSpecifier>::from_fields(
+        close_two::<class::ImportStarAsSpecifier, _, _>(
+            alloc,
             Kind::ImportStarAsSpecifier,
-            fields,
-        ).into_node())
+            (span, local),
+        )
     }
 }

@@ -7,8 +7,8 @@ ghost use Rattle.swc_tree_node.specs.Fits.{Fits};
 ghost use Rattle.swc_tree_modules.specs.Nodes.{named_export_node};
 
 use std::alloc::{AllocError, Global};
-use swc_tree_handle::{Opened, Pairs, Tree, Trees, class, collect, from_span, to_span};
-use swc_tree_leaves::Str;
+use swc_tree_handle::{Opened, Pairs, Trees, class, close_four, open_four};
+use swc_tree_leaves::{OptionalStr, Str};
 use swc_tree_marks::Span;
 use swc_tree_node::{Kind, Node};
 
@@ -26,18 +26,19 @@ impl Opened<class::NamedExport> for NamedExport {
 
     ghost node = { named_export_node };
 
-    #[tactic(auto, using(swc_tree_node::proofs::Fit::lengths))]
     fn from_node(closed: Node) -> NamedExport
         requires { Fits closed (One (Of class.NamedExport)) }
         ensures { named_export_node result ≡ closed }
     {
-        let fields = Tree::<class::NamedExport>::from_node(closed).into_fields(Kind::NamedExport);
-        let [span, specifiers, src, with_] = fields.into_array::<4>();
+        let (span, specifiers, src, with_) = open_four::<class::NamedExport, _, _, OptionalStr, _>(
+            closed,
+            Kind::NamedExport,
+        );
         NamedExport {
-            span: to_span(span),
-            specifiers: Trees::from_node(specifiers),
-            src: Str::from_optional(src),
-            with_: Pairs::from_optional(with_),
+            span,
+            specifiers,
+            src: src.held,
+            with_,
         }
     }
 
@@ -50,15 +51,10 @@ impl Opened<class::NamedExport> for NamedExport {
             src,
             with_,
         } = self;
-        let fields = collect(
+        close_four::<class::NamedExport, _, _, OptionalStr, _>(
             alloc,
-            [
-                from_span(span),
-                specifiers.into_node(),
-                Str::into_optional(src, alloc)?,
-                Pairs::into_optional(with_),
-            ],
-        )?;
-        Ok(Tree::<class::NamedExport>::from_fields(Kind::NamedExport, fields).into_node())
+            Kind::NamedExport,
+            (span, specifiers, OptionalStr { held: src }, with_),
+        )
     }
 }

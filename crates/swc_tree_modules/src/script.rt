@@ -7,9 +7,7 @@ ghost use Rattle.swc_tree_node.specs.Fits.{Fits};
 ghost use Rattle.swc_tree_modules.specs.Nodes.{script_node};
 
 use std::alloc::{AllocError, Global};
-use swc_tree_handle::{
-    Opened, Tree, Trees, class, collect, from_optional_text, from_span, to_optional_text, to_span,
-};
+use swc_tree_handle::{Opened, Trees, class, close_three, open_three};
 use swc_tree_marks::{Atom, Span};
 use swc_tree_node::{Kind, Node};
 
@@ -26,17 +24,15 @@ impl Opened<class::Script> for Script {
 
     ghost node = { script_node };
 
-    #[tactic(auto, using(swc_tree_node::proofs::Fit::lengths))]
     fn from_node(closed: Node) -> Script
         requires { Fits closed (One (Of class.Script)) }
         ensures { script_node result ≡ closed }
     {
-        let fields = Tree::<class::Script>::from_node(closed).into_fields(Kind::Script);
-        let [span, body, shebang] = fields.into_array::<3>();
+        let (span, body, shebang) = open_three::<class::Script, _, _, _>(closed, Kind::Script);
         Script {
-            span: to_span(span),
-            body: Trees::from_node(body),
-            shebang: to_optional_text(shebang),
+            span,
+            body,
+            shebang,
         }
     }
 
@@ -48,14 +44,6 @@ impl Opened<class::Script> for Script {
             body,
             shebang,
         } = self;
-        let fields = collect(
-            alloc,
-            [
-                from_span(span),
-                body.into_node(),
-                from_optional_text(shebang),
-            ],
-        )?;
-        Ok(Tree::<class::Script>::from_fields(Kind::Script, fields).into_node())
+        close_three::<class::Script, _, _, _>(alloc, Kind::Script, (span, body, shebang))
     }
 }

@@ -7,7 +7,7 @@ ghost use Rattle.swc_tree_node.specs.Fits.{Fits};
 ghost use Rattle.swc_tree_operations.specs.Nodes.{array_lit_node};
 
 use std::alloc::{AllocError, Global};
-use swc_tree_handle::{Holes, Opened, Tree, class, collect, from_span, to_span};
+use swc_tree_handle::{Holes, Opened, class, close_two, open_two};
 use swc_tree_marks::Span;
 use swc_tree_node::{Kind, Node};
 
@@ -23,24 +23,18 @@ impl Opened<class::ArrayLit> for ArrayLit {
 
     ghost node = { array_lit_node };
 
-    #[tactic(auto, using(swc_tree_node::proofs::Fit::lengths))]
     fn from_node(closed: Node) -> ArrayLit
         requires { Fits closed (One (Of class.ArrayLit)) }
         ensures { array_lit_node result ≡ closed }
     {
-        let fields = Tree::<class::ArrayLit>::from_node(closed).into_fields(Kind::ArrayLit);
-        let [span, elems] = fields.into_array::<2>();
-        ArrayLit {
-            span: to_span(span),
-            elems: Holes::from_node(elems),
-        }
+        let (span, elems) = open_two::<class::ArrayLit, _, _>(closed, Kind::ArrayLit);
+        ArrayLit { span, elems }
     }
 
     fn into_node(self, alloc: Global) -> Result<Node, AllocError>
         ensures { IfOk result (λ closed. (closed ≡ array_lit_node self) × Fits closed (One (Of class.ArrayLit))) }
     {
         let ArrayLit { span, elems } = self;
-        let fields = collect(alloc, [from_span(span), elems.into_node()])?;
-        Ok(Tree::<class::ArrayLit>::from_fields(Kind::ArrayLit, fields).into_node())
+        close_two::<class::ArrayLit, _, _>(alloc, Kind::ArrayLit, (span, elems))
     }
 }

@@ -8,7 +8,7 @@ ghost use Rattle.swc_tree_operations.specs.Nodes.{assign_expr_node};
 
 use crate::assign_op::AssignOp;
 use std::alloc::{AllocError, Global};
-use swc_tree_handle::{Opened, Tree, class, collect, from_span, to_span};
+use swc_tree_handle::{Opened, Tree, class, close_four, open_four};
 use swc_tree_marks::Span;
 use swc_tree_node::{Kind, Node};
 
@@ -26,18 +26,19 @@ impl Opened<class::AssignExpr> for AssignExpr {
 
     ghost node = { assign_expr_node };
 
-    #[tactic(auto, using(swc_tree_node::proofs::Fit::lengths))]
     fn from_node(closed: Node) -> AssignExpr
         requires { Fits closed (One (Of class.AssignExpr)) }
         ensures { assign_expr_node result ≡ closed }
     {
-        let fields = Tree::<class::AssignExpr>::from_node(closed).into_fields(Kind::AssignExpr);
-        let [span, op, left, right] = fields.into_array::<4>();
+        let (span, op, left, right) = open_four::<class::AssignExpr, _, _, _, _>(
+            closed,
+            Kind::AssignExpr,
+        );
         AssignExpr {
-            span: to_span(span),
-            op: AssignOp::from_node(op),
-            left: Tree::from_node(left),
-            right: Tree::from_node(right),
+            span,
+            op,
+            left,
+            right,
         }
     }
 
@@ -50,15 +51,10 @@ impl Opened<class::AssignExpr> for AssignExpr {
             left,
             right,
         } = self;
-        let fields = collect(
+        close_four::<class::AssignExpr, _, _, _, _>(
             alloc,
-            [
-                from_span(span),
-                op.into_node(),
-                left.into_node(),
-                right.into_node(),
-            ],
-        )?;
-        Ok(Tree::<class::AssignExpr>::from_fields(Kind::AssignExpr, fields).into_node())
+            Kind::AssignExpr,
+            (span, op, left, right),
+        )
     }
 }

@@ -7,7 +7,7 @@ ghost use Rattle.swc_tree_node.specs.Fits.{Fits};
 ghost use Rattle.swc_tree_operations.specs.Nodes.{await_expr_node};
 
 use std::alloc::{AllocError, Global};
-use swc_tree_handle::{Opened, Tree, class, collect, from_span, to_span};
+use swc_tree_handle::{Opened, Tree, class, close_two, open_two};
 use swc_tree_marks::Span;
 use swc_tree_node::{Kind, Node};
 
@@ -23,24 +23,18 @@ impl Opened<class::AwaitExpr> for AwaitExpr {
 
     ghost node = { await_expr_node };
 
-    #[tactic(auto, using(swc_tree_node::proofs::Fit::lengths))]
     fn from_node(closed: Node) -> AwaitExpr
         requires { Fits closed (One (Of class.AwaitExpr)) }
         ensures { await_expr_node result ≡ closed }
     {
-        let fields = Tree::<class::AwaitExpr>::from_node(closed).into_fields(Kind::AwaitExpr);
-        let [span, arg] = fields.into_array::<2>();
-        AwaitExpr {
-            span: to_span(span),
-            arg: Tree::from_node(arg),
-        }
+        let (span, arg) = open_two::<class::AwaitExpr, _, _>(closed, Kind::AwaitExpr);
+        AwaitExpr { span, arg }
     }
 
     fn into_node(self, alloc: Global) -> Result<Node, AllocError>
         ensures { IfOk result (λ closed. (closed ≡ await_expr_node self) × Fits closed (One (Of class.AwaitExpr))) }
     {
         let AwaitExpr { span, arg } = self;
-        let fields = collect(alloc, [from_span(span), arg.into_node()])?;
-        Ok(Tree::<class::AwaitExpr>::from_fields(Kind::AwaitExpr, fields).into_node())
+        close_two::<class::AwaitExpr, _, _>(alloc, Kind::AwaitExpr, (span, arg))
     }
 }

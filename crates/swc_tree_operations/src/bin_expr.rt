@@ -8,7 +8,7 @@ ghost use Rattle.swc_tree_operations.specs.Nodes.{bin_expr_node};
 
 use crate::binary_op::BinaryOp;
 use std::alloc::{AllocError, Global};
-use swc_tree_handle::{Opened, Tree, class, collect, from_span, to_span};
+use swc_tree_handle::{Opened, Tree, class, close_four, open_four};
 use swc_tree_marks::Span;
 use swc_tree_node::{Kind, Node};
 
@@ -26,18 +26,19 @@ impl Opened<class::BinExpr> for BinExpr {
 
     ghost node = { bin_expr_node };
 
-    #[tactic(auto, using(swc_tree_node::proofs::Fit::lengths))]
     fn from_node(closed: Node) -> BinExpr
         requires { Fits closed (One (Of class.BinExpr)) }
         ensures { bin_expr_node result ≡ closed }
     {
-        let fields = Tree::<class::BinExpr>::from_node(closed).into_fields(Kind::BinExpr);
-        let [span, op, left, right] = fields.into_array::<4>();
+        let (span, op, left, right) = open_four::<class::BinExpr, _, _, _, _>(
+            closed,
+            Kind::BinExpr,
+        );
         BinExpr {
-            span: to_span(span),
-            op: BinaryOp::from_node(op),
-            left: Tree::from_node(left),
-            right: Tree::from_node(right),
+            span,
+            op,
+            left,
+            right,
         }
     }
 
@@ -50,15 +51,6 @@ impl Opened<class::BinExpr> for BinExpr {
             left,
             right,
         } = self;
-        let fields = collect(
-            alloc,
-            [
-                from_span(span),
-                op.into_node(),
-                left.into_node(),
-                right.into_node(),
-            ],
-        )?;
-        Ok(Tree::<class::BinExpr>::from_fields(Kind::BinExpr, fields).into_node())
+        close_four::<class::BinExpr, _, _, _, _>(alloc, Kind::BinExpr, (span, op, left, right))
     }
 }

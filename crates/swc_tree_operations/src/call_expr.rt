@@ -7,7 +7,7 @@ ghost use Rattle.swc_tree_node.specs.Fits.{Fits};
 ghost use Rattle.swc_tree_operations.specs.Nodes.{call_expr_node};
 
 use std::alloc::{AllocError, Global};
-use swc_tree_handle::{Opened, Tree, Trees, class, collect, from_span, to_span};
+use swc_tree_handle::{Opened, Tree, Trees, class, close_three, open_three};
 use swc_tree_marks::Span;
 use swc_tree_node::{Kind, Node};
 
@@ -24,28 +24,18 @@ impl Opened<class::CallExpr> for CallExpr {
 
     ghost node = { call_expr_node };
 
-    #[tactic(auto, using(swc_tree_node::proofs::Fit::lengths))]
     fn from_node(closed: Node) -> CallExpr
         requires { Fits closed (One (Of class.CallExpr)) }
         ensures { call_expr_node result ≡ closed }
     {
-        let fields = Tree::<class::CallExpr>::from_node(closed).into_fields(Kind::CallExpr);
-        let [span, callee, args] = fields.into_array::<3>();
-        CallExpr {
-            span: to_span(span),
-            callee: Tree::from_node(callee),
-            args: Trees::from_node(args),
-        }
+        let (span, callee, args) = open_three::<class::CallExpr, _, _, _>(closed, Kind::CallExpr);
+        CallExpr { span, callee, args }
     }
 
     fn into_node(self, alloc: Global) -> Result<Node, AllocError>
         ensures { IfOk result (λ closed. (closed ≡ call_expr_node self) × Fits closed (One (Of class.CallExpr))) }
     {
         let CallExpr { span, callee, args } = self;
-        let fields = collect(
-            alloc,
-            [from_span(span), callee.into_node(), args.into_node()],
-        )?;
-        Ok(Tree::<class::CallExpr>::from_fields(Kind::CallExpr, fields).into_node())
+        close_three::<class::CallExpr, _, _, _>(alloc, Kind::CallExpr, (span, callee, args))
     }
 }

@@ -7,7 +7,7 @@ ghost use Rattle.swc_tree_node.specs.Fits.{Fits};
 ghost use Rattle.swc_tree_operations.specs.Nodes.{cond_expr_node};
 
 use std::alloc::{AllocError, Global};
-use swc_tree_handle::{Opened, Tree, class, collect, from_span, to_span};
+use swc_tree_handle::{Opened, Tree, class, close_four, open_four};
 use swc_tree_marks::Span;
 use swc_tree_node::{Kind, Node};
 
@@ -25,18 +25,19 @@ impl Opened<class::CondExpr> for CondExpr {
 
     ghost node = { cond_expr_node };
 
-    #[tactic(auto, using(swc_tree_node::proofs::Fit::lengths))]
     fn from_node(closed: Node) -> CondExpr
         requires { Fits closed (One (Of class.CondExpr)) }
         ensures { cond_expr_node result ≡ closed }
     {
-        let fields = Tree::<class::CondExpr>::from_node(closed).into_fields(Kind::CondExpr);
-        let [span, test, cons, alt] = fields.into_array::<4>();
+        let (span, test, cons, alt) = open_four::<class::CondExpr, _, _, _, _>(
+            closed,
+            Kind::CondExpr,
+        );
         CondExpr {
-            span: to_span(span),
-            test: Tree::from_node(test),
-            cons: Tree::from_node(cons),
-            alt: Tree::from_node(alt),
+            span,
+            test,
+            cons,
+            alt,
         }
     }
 
@@ -49,15 +50,6 @@ impl Opened<class::CondExpr> for CondExpr {
             cons,
             alt,
         } = self;
-        let fields = collect(
-            alloc,
-            [
-                from_span(span),
-                test.into_node(),
-                cons.into_node(),
-                alt.into_node(),
-            ],
-        )?;
-        Ok(Tree::<class::CondExpr>::from_fields(Kind::CondExpr, fields).into_node())
+        close_four::<class::CondExpr, _, _, _, _>(alloc, Kind::CondExpr, (span, test, cons, alt))
     }
 }

@@ -7,7 +7,7 @@ ghost use Rattle.swc_tree_node.specs.Fits.{Fits};
 ghost use Rattle.swc_tree_operations.specs.Nodes.{expr_or_spread_node};
 
 use std::alloc::{AllocError, Global};
-use swc_tree_handle::{Opened, Tree, class, collect, from_optional_span, to_optional_span};
+use swc_tree_handle::{Opened, Tree, class, close_two, open_two};
 use swc_tree_marks::Span;
 use swc_tree_node::{Kind, Node};
 
@@ -23,24 +23,18 @@ impl Opened<class::ExprOrSpread> for ExprOrSpread {
 
     ghost node = { expr_or_spread_node };
 
-    #[tactic(auto, using(swc_tree_node::proofs::Fit::lengths))]
     fn from_node(closed: Node) -> ExprOrSpread
         requires { Fits closed (One (Of class.ExprOrSpread)) }
         ensures { expr_or_spread_node result ≡ closed }
     {
-        let fields = Tree::<class::ExprOrSpread>::from_node(closed).into_fields(Kind::ExprOrSpread);
-        let [spread, expr] = fields.into_array::<2>();
-        ExprOrSpread {
-            spread: to_optional_span(spread),
-            expr: Tree::from_node(expr),
-        }
+        let (spread, expr) = open_two::<class::ExprOrSpread, _, _>(closed, Kind::ExprOrSpread);
+        ExprOrSpread { spread, expr }
     }
 
     fn into_node(self, alloc: Global) -> Result<Node, AllocError>
         ensures { IfOk result (λ closed. (closed ≡ expr_or_spread_node self) × Fits closed (One (Of class.ExprOrSpread))) }
     {
         let ExprOrSpread { spread, expr } = self;
-        let fields = collect(alloc, [from_optional_span(spread), expr.into_node()])?;
-        Ok(Tree::<class::ExprOrSpread>::from_fields(Kind::ExprOrSpread, fields).into_node())
+        close_two::<class::ExprOrSpread, _, _>(alloc, Kind::ExprOrSpread, (spread, expr))
     }
 }

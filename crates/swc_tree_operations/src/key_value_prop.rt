@@ -7,7 +7,7 @@ ghost use Rattle.swc_tree_node.specs.Fits.{Fits};
 ghost use Rattle.swc_tree_operations.specs.Nodes.{key_value_prop_node};
 
 use std::alloc::{AllocError, Global};
-use swc_tree_handle::{Opened, Tree, class, collect};
+use swc_tree_handle::{Opened, Tree, class, close_two, open_two};
 use swc_tree_node::{Kind, Node};
 
 /// A key and its value (ECMA-262, PropertyDefinition).
@@ -22,24 +22,18 @@ impl Opened<class::KeyValueProp> for KeyValueProp {
 
     ghost node = { key_value_prop_node };
 
-    #[tactic(auto, using(swc_tree_node::proofs::Fit::lengths))]
     fn from_node(closed: Node) -> KeyValueProp
         requires { Fits closed (One (Of class.KeyValueProp)) }
         ensures { key_value_prop_node result ≡ closed }
     {
-        let fields = Tree::<class::KeyValueProp>::from_node(closed).into_fields(Kind::KeyValueProp);
-        let [key, value] = fields.into_array::<2>();
-        KeyValueProp {
-            key: Tree::from_node(key),
-            value: Tree::from_node(value),
-        }
+        let (key, value) = open_two::<class::KeyValueProp, _, _>(closed, Kind::KeyValueProp);
+        KeyValueProp { key, value }
     }
 
     fn into_node(self, alloc: Global) -> Result<Node, AllocError>
         ensures { IfOk result (λ closed. (closed ≡ key_value_prop_node self) × Fits closed (One (Of class.KeyValueProp))) }
     {
         let KeyValueProp { key, value } = self;
-        let fields = collect(alloc, [key.into_node(), value.into_node()])?;
-        Ok(Tree::<class::KeyValueProp>::from_fields(Kind::KeyValueProp, fields).into_node())
+        close_two::<class::KeyValueProp, _, _>(alloc, Kind::KeyValueProp, (key, value))
     }
 }

@@ -7,7 +7,7 @@ ghost use Rattle.swc_tree_node.specs.Fits.{Fits};
 ghost use Rattle.swc_tree_operations.specs.Nodes.{member_expr_node};
 
 use std::alloc::{AllocError, Global};
-use swc_tree_handle::{Opened, Tree, class, collect, from_span, to_span};
+use swc_tree_handle::{Opened, Tree, class, close_three, open_three};
 use swc_tree_marks::Span;
 use swc_tree_node::{Kind, Node};
 
@@ -24,25 +24,18 @@ impl Opened<class::MemberExpr> for MemberExpr {
 
     ghost node = { member_expr_node };
 
-    #[tactic(auto, using(swc_tree_node::proofs::Fit::lengths))]
     fn from_node(closed: Node) -> MemberExpr
         requires { Fits closed (One (Of class.MemberExpr)) }
         ensures { member_expr_node result ≡ closed }
     {
-        let fields = Tree::<class::MemberExpr>::from_node(closed).into_fields(Kind::MemberExpr);
-        let [span, obj, prop] = fields.into_array::<3>();
-        MemberExpr {
-            span: to_span(span),
-            obj: Tree::from_node(obj),
-            prop: Tree::from_node(prop),
-        }
+        let (span, obj, prop) = open_three::<class::MemberExpr, _, _, _>(closed, Kind::MemberExpr);
+        MemberExpr { span, obj, prop }
     }
 
     fn into_node(self, alloc: Global) -> Result<Node, AllocError>
         ensures { IfOk result (λ closed. (closed ≡ member_expr_node self) × Fits closed (One (Of class.MemberExpr))) }
     {
         let MemberExpr { span, obj, prop } = self;
-        let fields = collect(alloc, [from_span(span), obj.into_node(), prop.into_node()])?;
-        Ok(Tree::<class::MemberExpr>::from_fields(Kind::MemberExpr, fields).into_node())
+        close_three::<class::MemberExpr, _, _, _>(alloc, Kind::MemberExpr, (span, obj, prop))
     }
 }

@@ -7,7 +7,7 @@ ghost use Rattle.swc_tree_node.specs.Fits.{Fits};
 ghost use Rattle.swc_tree_operations.specs.Nodes.{new_expr_node};
 
 use std::alloc::{AllocError, Global};
-use swc_tree_handle::{Opened, Tree, Trees, class, collect, from_span, to_span};
+use swc_tree_handle::{Opened, Tree, Trees, class, close_three, open_three};
 use swc_tree_marks::Span;
 use swc_tree_node::{Kind, Node};
 
@@ -24,32 +24,18 @@ impl Opened<class::NewExpr> for NewExpr {
 
     ghost node = { new_expr_node };
 
-    #[tactic(auto, using(swc_tree_node::proofs::Fit::lengths))]
     fn from_node(closed: Node) -> NewExpr
         requires { Fits closed (One (Of class.NewExpr)) }
         ensures { new_expr_node result ≡ closed }
     {
-        let fields = Tree::<class::NewExpr>::from_node(closed).into_fields(Kind::NewExpr);
-        let [span, callee, args] = fields.into_array::<3>();
-        NewExpr {
-            span: to_span(span),
-            callee: Tree::from_node(callee),
-            args: Trees::from_optional(args),
-        }
+        let (span, callee, args) = open_three::<class::NewExpr, _, _, _>(closed, Kind::NewExpr);
+        NewExpr { span, callee, args }
     }
 
     fn into_node(self, alloc: Global) -> Result<Node, AllocError>
         ensures { IfOk result (λ closed. (closed ≡ new_expr_node self) × Fits closed (One (Of class.NewExpr))) }
     {
         let NewExpr { span, callee, args } = self;
-        let fields = collect(
-            alloc,
-            [
-                from_span(span),
-                callee.into_node(),
-                Trees::into_optional(args),
-            ],
-        )?;
-        Ok(Tree::<class::NewExpr>::from_fields(Kind::NewExpr, fields).into_node())
+        close_three::<class::NewExpr, _, _, _>(alloc, Kind::NewExpr, (span, callee, args))
     }
 }

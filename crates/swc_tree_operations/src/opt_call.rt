@@ -7,7 +7,7 @@ ghost use Rattle.swc_tree_node.specs.Fits.{Fits};
 ghost use Rattle.swc_tree_operations.specs.Nodes.{opt_call_node};
 
 use std::alloc::{AllocError, Global};
-use swc_tree_handle::{Opened, Tree, Trees, class, collect, from_span, to_span};
+use swc_tree_handle::{Opened, Tree, Trees, class, close_three, open_three};
 use swc_tree_marks::Span;
 use swc_tree_node::{Kind, Node};
 
@@ -24,28 +24,18 @@ impl Opened<class::OptCall> for OptCall {
 
     ghost node = { opt_call_node };
 
-    #[tactic(auto, using(swc_tree_node::proofs::Fit::lengths))]
     fn from_node(closed: Node) -> OptCall
         requires { Fits closed (One (Of class.OptCall)) }
         ensures { opt_call_node result ≡ closed }
     {
-        let fields = Tree::<class::OptCall>::from_node(closed).into_fields(Kind::OptCall);
-        let [span, callee, args] = fields.into_array::<3>();
-        OptCall {
-            span: to_span(span),
-            callee: Tree::from_node(callee),
-            args: Trees::from_node(args),
-        }
+        let (span, callee, args) = open_three::<class::OptCall, _, _, _>(closed, Kind::OptCall);
+        OptCall { span, callee, args }
     }
 
     fn into_node(self, alloc: Global) -> Result<Node, AllocError>
         ensures { IfOk result (λ closed. (closed ≡ opt_call_node self) × Fits closed (One (Of class.OptCall))) }
     {
         let OptCall { span, callee, args } = self;
-        let fields = collect(
-            alloc,
-            [from_span(span), callee.into_node(), args.into_node()],
-        )?;
-        Ok(Tree::<class::OptCall>::from_fields(Kind::OptCall, fields).into_node())
+        close_three::<class::OptCall, _, _, _>(alloc, Kind::OptCall, (span, callee, args))
     }
 }

@@ -7,7 +7,7 @@ ghost use Rattle.swc_tree_node.specs.Fits.{Fits};
 ghost use Rattle.swc_tree_operations.specs.Nodes.{opt_chain_expr_node};
 
 use std::alloc::{AllocError, Global};
-use swc_tree_handle::{Opened, Tree, class, collect, from_flag, from_span, to_flag, to_span};
+use swc_tree_handle::{Opened, Tree, class, close_three, open_three};
 use swc_tree_marks::Span;
 use swc_tree_node::{Kind, Node};
 
@@ -24,17 +24,18 @@ impl Opened<class::OptChainExpr> for OptChainExpr {
 
     ghost node = { opt_chain_expr_node };
 
-    #[tactic(auto, using(swc_tree_node::proofs::Fit::lengths))]
     fn from_node(closed: Node) -> OptChainExpr
         requires { Fits closed (One (Of class.OptChainExpr)) }
         ensures { opt_chain_expr_node result ≡ closed }
     {
-        let fields = Tree::<class::OptChainExpr>::from_node(closed).into_fields(Kind::OptChainExpr);
-        let [span, optional, base] = fields.into_array::<3>();
+        let (span, optional, base) = open_three::<class::OptChainExpr, _, _, _>(
+            closed,
+            Kind::OptChainExpr,
+        );
         OptChainExpr {
-            span: to_span(span),
-            optional: to_flag(optional),
-            base: Tree::from_node(base),
+            span,
+            optional,
+            base,
         }
     }
 
@@ -46,10 +47,10 @@ impl Opened<class::OptChainExpr> for OptChainExpr {
             optional,
             base,
         } = self;
-        let fields = collect(
+        close_three::<class::OptChainExpr, _, _, _>(
             alloc,
-            [from_span(span), from_flag(optional), base.into_node()],
-        )?;
-        Ok(Tree::<class::OptChainExpr>::from_fields(Kind::OptChainExpr, fields).into_node())
+            Kind::OptChainExpr,
+            (span, optional, base),
+        )
     }
 }

@@ -7,7 +7,7 @@ ghost use Rattle.swc_tree_node.specs.Fits.{Fits};
 ghost use Rattle.swc_tree_operations.specs.Nodes.{paren_expr_node};
 
 use std::alloc::{AllocError, Global};
-use swc_tree_handle::{Opened, Tree, class, collect, from_span, to_span};
+use swc_tree_handle::{Opened, Tree, class, close_two, open_two};
 use swc_tree_marks::Span;
 use swc_tree_node::{Kind, Node};
 
@@ -23,24 +23,18 @@ impl Opened<class::ParenExpr> for ParenExpr {
 
     ghost node = { paren_expr_node };
 
-    #[tactic(auto, using(swc_tree_node::proofs::Fit::lengths))]
     fn from_node(closed: Node) -> ParenExpr
         requires { Fits closed (One (Of class.ParenExpr)) }
         ensures { paren_expr_node result ≡ closed }
     {
-        let fields = Tree::<class::ParenExpr>::from_node(closed).into_fields(Kind::ParenExpr);
-        let [span, expr] = fields.into_array::<2>();
-        ParenExpr {
-            span: to_span(span),
-            expr: Tree::from_node(expr),
-        }
+        let (span, expr) = open_two::<class::ParenExpr, _, _>(closed, Kind::ParenExpr);
+        ParenExpr { span, expr }
     }
 
     fn into_node(self, alloc: Global) -> Result<Node, AllocError>
         ensures { IfOk result (λ closed. (closed ≡ paren_expr_node self) × Fits closed (One (Of class.ParenExpr))) }
     {
         let ParenExpr { span, expr } = self;
-        let fields = collect(alloc, [from_span(span), expr.into_node()])?;
-        Ok(Tree::<class::ParenExpr>::from_fields(Kind::ParenExpr, fields).into_node())
+        close_two::<class::ParenExpr, _, _>(alloc, Kind::ParenExpr, (span, expr))
     }
 }

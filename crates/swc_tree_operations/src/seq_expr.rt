@@ -7,7 +7,7 @@ ghost use Rattle.swc_tree_node.specs.Fits.{Fits};
 ghost use Rattle.swc_tree_operations.specs.Nodes.{seq_expr_node};
 
 use std::alloc::{AllocError, Global};
-use swc_tree_handle::{Opened, Tree, Trees, class, collect, from_span, to_span};
+use swc_tree_handle::{Opened, Trees, class, close_two, open_two};
 use swc_tree_marks::Span;
 use swc_tree_node::{Kind, Node};
 
@@ -23,24 +23,18 @@ impl Opened<class::SeqExpr> for SeqExpr {
 
     ghost node = { seq_expr_node };
 
-    #[tactic(auto, using(swc_tree_node::proofs::Fit::lengths))]
     fn from_node(closed: Node) -> SeqExpr
         requires { Fits closed (One (Of class.SeqExpr)) }
         ensures { seq_expr_node result ≡ closed }
     {
-        let fields = Tree::<class::SeqExpr>::from_node(closed).into_fields(Kind::SeqExpr);
-        let [span, exprs] = fields.into_array::<2>();
-        SeqExpr {
-            span: to_span(span),
-            exprs: Trees::from_node(exprs),
-        }
+        let (span, exprs) = open_two::<class::SeqExpr, _, _>(closed, Kind::SeqExpr);
+        SeqExpr { span, exprs }
     }
 
     fn into_node(self, alloc: Global) -> Result<Node, AllocError>
         ensures { IfOk result (λ closed. (closed ≡ seq_expr_node self) × Fits closed (One (Of class.SeqExpr))) }
     {
         let SeqExpr { span, exprs } = self;
-        let fields = collect(alloc, [from_span(span), exprs.into_node()])?;
-        Ok(Tree::<class::SeqExpr>::from_fields(Kind::SeqExpr, fields).into_node())
+        close_two::<class::SeqExpr, _, _>(alloc, Kind::SeqExpr, (span, exprs))
     }
 }

@@ -7,7 +7,7 @@ ghost use Rattle.swc_tree_node.specs.Fits.{Fits};
 ghost use Rattle.swc_tree_operations.specs.Nodes.{spread_element_node};
 
 use std::alloc::{AllocError, Global};
-use swc_tree_handle::{Opened, Tree, class, collect, from_span, to_span};
+use swc_tree_handle::{Opened, Tree, class, close_two, open_two};
 use swc_tree_marks::Span;
 use swc_tree_node::{Kind, Node};
 
@@ -23,26 +23,21 @@ impl Opened<class::SpreadElement> for SpreadElement {
 
     ghost node = { spread_element_node };
 
-    #[tactic(auto, using(swc_tree_node::proofs::Fit::lengths))]
     fn from_node(closed: Node) -> SpreadElement
         requires { Fits closed (One (Of class.SpreadElement)) }
         ensures { spread_element_node result ≡ closed }
     {
-        let fields = Tree::<class::SpreadElement>::from_node(closed).into_fields(
+        let (dot3_token, expr) = open_two::<class::SpreadElement, _, _>(
+            closed,
             Kind::SpreadElement,
         );
-        let [dot3_token, expr] = fields.into_array::<2>();
-        SpreadElement {
-            dot3_token: to_span(dot3_token),
-            expr: Tree::from_node(expr),
-        }
+        SpreadElement { dot3_token, expr }
     }
 
     fn into_node(self, alloc: Global) -> Result<Node, AllocError>
         ensures { IfOk result (λ closed. (closed ≡ spread_element_node self) × Fits closed (One (Of class.SpreadElement))) }
     {
         let SpreadElement { dot3_token, expr } = self;
-        let fields = collect(alloc, [from_span(dot3_token), expr.into_node()])?;
-        Ok(Tree::<class::SpreadElement>::from_fields(Kind::SpreadElement, fields).into_node())
+        close_two::<class::SpreadElement, _, _>(alloc, Kind::SpreadElement, (dot3_token, expr))
     }
 }

@@ -7,7 +7,7 @@ ghost use Rattle.swc_tree_node.specs.Fits.{Fits};
 ghost use Rattle.swc_tree_operations.specs.Nodes.{super_prop_expr_node};
 
 use std::alloc::{AllocError, Global};
-use swc_tree_handle::{Opened, Tree, class, collect, from_span, to_span};
+use swc_tree_handle::{Opened, Tree, class, close_three, open_three};
 use swc_tree_leaves::Super;
 use swc_tree_marks::Span;
 use swc_tree_node::{Kind, Node};
@@ -25,30 +25,21 @@ impl Opened<class::SuperPropExpr> for SuperPropExpr {
 
     ghost node = { super_prop_expr_node };
 
-    #[tactic(auto, using(swc_tree_node::proofs::Fit::lengths))]
     fn from_node(closed: Node) -> SuperPropExpr
         requires { Fits closed (One (Of class.SuperPropExpr)) }
         ensures { super_prop_expr_node result ≡ closed }
     {
-        let fields = Tree::<class::SuperPropExpr>::from_node(closed).into_fields(
+        let (span, obj, prop) = open_three::<class::SuperPropExpr, _, _, _>(
+            closed,
             Kind::SuperPropExpr,
         );
-        let [span, obj, prop] = fields.into_array::<3>();
-        SuperPropExpr {
-            span: to_span(span),
-            obj: Super::from_node(obj),
-            prop: Tree::from_node(prop),
-        }
+        SuperPropExpr { span, obj, prop }
     }
 
     fn into_node(self, alloc: Global) -> Result<Node, AllocError>
         ensures { IfOk result (λ closed. (closed ≡ super_prop_expr_node self) × Fits closed (One (Of class.SuperPropExpr))) }
     {
         let SuperPropExpr { span, obj, prop } = self;
-        let fields = collect(
-            alloc,
-            [from_span(span), obj.into_node(alloc)?, prop.into_node()],
-        )?;
-        Ok(Tree::<class::SuperPropExpr>::from_fields(Kind::SuperPropExpr, fields).into_node())
+        close_three::<class::SuperPropExpr, _, _, _>(alloc, Kind::SuperPropExpr, (span, obj, prop))
     }
 }

@@ -7,7 +7,7 @@ ghost use Rattle.swc_tree_node.specs.Fits.{Fits};
 ghost use Rattle.swc_tree_operations.specs.Nodes.{tagged_tpl_node};
 
 use std::alloc::{AllocError, Global};
-use swc_tree_handle::{Opened, Tree, class, collect, from_span, to_span};
+use swc_tree_handle::{Opened, Tree, class, close_three, open_three};
 use swc_tree_marks::Span;
 use swc_tree_node::{Kind, Node};
 
@@ -24,25 +24,18 @@ impl Opened<class::TaggedTpl> for TaggedTpl {
 
     ghost node = { tagged_tpl_node };
 
-    #[tactic(auto, using(swc_tree_node::proofs::Fit::lengths))]
     fn from_node(closed: Node) -> TaggedTpl
         requires { Fits closed (One (Of class.TaggedTpl)) }
         ensures { tagged_tpl_node result ≡ closed }
     {
-        let fields = Tree::<class::TaggedTpl>::from_node(closed).into_fields(Kind::TaggedTpl);
-        let [span, tag, tpl] = fields.into_array::<3>();
-        TaggedTpl {
-            span: to_span(span),
-            tag: Tree::from_node(tag),
-            tpl: Tree::from_node(tpl),
-        }
+        let (span, tag, tpl) = open_three::<class::TaggedTpl, _, _, _>(closed, Kind::TaggedTpl);
+        TaggedTpl { span, tag, tpl }
     }
 
     fn into_node(self, alloc: Global) -> Result<Node, AllocError>
         ensures { IfOk result (λ closed. (closed ≡ tagged_tpl_node self) × Fits closed (One (Of class.TaggedTpl))) }
     {
         let TaggedTpl { span, tag, tpl } = self;
-        let fields = collect(alloc, [from_span(span), tag.into_node(), tpl.into_node()])?;
-        Ok(Tree::<class::TaggedTpl>::from_fields(Kind::TaggedTpl, fields).into_node())
+        close_three::<class::TaggedTpl, _, _, _>(alloc, Kind::TaggedTpl, (span, tag, tpl))
     }
 }

@@ -7,7 +7,7 @@ ghost use Rattle.swc_tree_node.specs.Fits.{Fits};
 ghost use Rattle.swc_tree_operations.specs.Nodes.{tpl_node};
 
 use std::alloc::{AllocError, Global};
-use swc_tree_handle::{Opened, Tree, Trees, class, collect, from_span, to_span};
+use swc_tree_handle::{Opened, Trees, class, close_three, open_three};
 use swc_tree_marks::Span;
 use swc_tree_node::{Kind, Node};
 
@@ -24,17 +24,15 @@ impl Opened<class::Tpl> for Tpl {
 
     ghost node = { tpl_node };
 
-    #[tactic(auto, using(swc_tree_node::proofs::Fit::lengths))]
     fn from_node(closed: Node) -> Tpl
         requires { Fits closed (One (Of class.Tpl)) }
         ensures { tpl_node result ≡ closed }
     {
-        let fields = Tree::<class::Tpl>::from_node(closed).into_fields(Kind::Tpl);
-        let [span, exprs, quasis] = fields.into_array::<3>();
+        let (span, exprs, quasis) = open_three::<class::Tpl, _, _, _>(closed, Kind::Tpl);
         Tpl {
-            span: to_span(span),
-            exprs: Trees::from_node(exprs),
-            quasis: Trees::from_node(quasis),
+            span,
+            exprs,
+            quasis,
         }
     }
 
@@ -46,10 +44,6 @@ impl Opened<class::Tpl> for Tpl {
             exprs,
             quasis,
         } = self;
-        let fields = collect(
-            alloc,
-            [from_span(span), exprs.into_node(), quasis.into_node()],
-        )?;
-        Ok(Tree::<class::Tpl>::from_fields(Kind::Tpl, fields).into_node())
+        close_three::<class::Tpl, _, _, _>(alloc, Kind::Tpl, (span, exprs, quasis))
     }
 }

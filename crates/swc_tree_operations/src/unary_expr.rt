@@ -8,7 +8,7 @@ ghost use Rattle.swc_tree_operations.specs.Nodes.{unary_expr_node};
 
 use crate::unary_op::UnaryOp;
 use std::alloc::{AllocError, Global};
-use swc_tree_handle::{Opened, Tree, class, collect, from_span, to_span};
+use swc_tree_handle::{Opened, Tree, class, close_three, open_three};
 use swc_tree_marks::Span;
 use swc_tree_node::{Kind, Node};
 
@@ -25,25 +25,18 @@ impl Opened<class::UnaryExpr> for UnaryExpr {
 
     ghost node = { unary_expr_node };
 
-    #[tactic(auto, using(swc_tree_node::proofs::Fit::lengths))]
     fn from_node(closed: Node) -> UnaryExpr
         requires { Fits closed (One (Of class.UnaryExpr)) }
         ensures { unary_expr_node result ≡ closed }
     {
-        let fields = Tree::<class::UnaryExpr>::from_node(closed).into_fields(Kind::UnaryExpr);
-        let [span, op, arg] = fields.into_array::<3>();
-        UnaryExpr {
-            span: to_span(span),
-            op: UnaryOp::from_node(op),
-            arg: Tree::from_node(arg),
-        }
+        let (span, op, arg) = open_three::<class::UnaryExpr, _, _, _>(closed, Kind::UnaryExpr);
+        UnaryExpr { span, op, arg }
     }
 
     fn into_node(self, alloc: Global) -> Result<Node, AllocError>
         ensures { IfOk result (λ closed. (closed ≡ unary_expr_node self) × Fits closed (One (Of class.UnaryExpr))) }
     {
         let UnaryExpr { span, op, arg } = self;
-        let fields = collect(alloc, [from_span(span), op.into_node(), arg.into_node()])?;
-        Ok(Tree::<class::UnaryExpr>::from_fields(Kind::UnaryExpr, fields).into_node())
+        close_three::<class::UnaryExpr, _, _, _>(alloc, Kind::UnaryExpr, (span, op, arg))
     }
 }

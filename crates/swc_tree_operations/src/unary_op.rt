@@ -4,9 +4,11 @@ ghost use Rattle.swc_tree_node.specs.declared.kind.WordClass.TheVariants as word
 ghost use Rattle.swc_tree_node.specs.declared.node.Node.TheVariants as leaf;
 ghost use Rattle.swc_tree_node.specs.declared.slot.Slot.TheVariants.{One};
 ghost use Rattle.swc_tree_node.specs.declared.slot.Content.TheVariants.{Word as Of};
-ghost use Rattle.swc_tree_node.specs.Fits.{Fits, is_among};
+ghost use Rattle.swc_tree_node.specs.Fits.{is_among};
 ghost use Rattle.swc_tree_operations.specs.Nodes.{unary_op_word};
 
+use std::alloc::{AllocError, Global};
+use swc_tree_handle::Place;
 use swc_tree_node::{Node, Word};
 
 /// The operator of a unary expression.
@@ -54,25 +56,23 @@ impl UnaryOp {
             _ => unreachable!(),
         }
     }
+}
 
-    /// The word that a node is.
+impl Place for UnaryOp {
+    ghost slot = { One (Of word_class.UnaryOp) };
+
+    ghost node = { λ held. leaf.Word (unary_op_word held) };
+
     #[tactic(auto, using(swc_tree_node::proofs::Fit::fitting))]
-    pub fn from_node(node: Node) -> UnaryOp
-        requires { Fits node (One (Of word_class.UnaryOp)) }
-        ensures { leaf.Word (unary_op_word result) ≡ node }
-    {
-        match node {
+    fn taken(closed: Node) -> UnaryOp {
+        match closed {
             Node::Word(word) => UnaryOp::from_word(word),
             _ => unreachable!(),
         }
     }
 
-    /// The word as a node.
     #[tactic(auto, using(swc_tree_node::proofs::Fit::fitting))]
-    pub fn into_node(self) -> Node
-        ensures is { result ≡ leaf.Word (unary_op_word self) }
-        ensures fits { Fits result (One (Of word_class.UnaryOp)) }
-    {
-        Node::Word(self.word())
+    fn given(self, alloc: Global) -> Result<Node, AllocError> {
+        Ok(Node::Word(self.word()))
     }
 }

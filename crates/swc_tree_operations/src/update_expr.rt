@@ -8,7 +8,7 @@ ghost use Rattle.swc_tree_operations.specs.Nodes.{update_expr_node};
 
 use crate::update_op::UpdateOp;
 use std::alloc::{AllocError, Global};
-use swc_tree_handle::{Opened, Tree, class, collect, from_flag, from_span, to_flag, to_span};
+use swc_tree_handle::{Opened, Tree, class, close_four, open_four};
 use swc_tree_marks::Span;
 use swc_tree_node::{Kind, Node};
 
@@ -26,18 +26,19 @@ impl Opened<class::UpdateExpr> for UpdateExpr {
 
     ghost node = { update_expr_node };
 
-    #[tactic(auto, using(swc_tree_node::proofs::Fit::lengths))]
     fn from_node(closed: Node) -> UpdateExpr
         requires { Fits closed (One (Of class.UpdateExpr)) }
         ensures { update_expr_node result ≡ closed }
     {
-        let fields = Tree::<class::UpdateExpr>::from_node(closed).into_fields(Kind::UpdateExpr);
-        let [span, op, prefix, arg] = fields.into_array::<4>();
+        let (span, op, prefix, arg) = open_four::<class::UpdateExpr, _, _, _, _>(
+            closed,
+            Kind::UpdateExpr,
+        );
         UpdateExpr {
-            span: to_span(span),
-            op: UpdateOp::from_node(op),
-            prefix: to_flag(prefix),
-            arg: Tree::from_node(arg),
+            span,
+            op,
+            prefix,
+            arg,
         }
     }
 
@@ -50,15 +51,10 @@ impl Opened<class::UpdateExpr> for UpdateExpr {
             prefix,
             arg,
         } = self;
-        let fields = collect(
+        close_four::<class::UpdateExpr, _, _, _, _>(
             alloc,
-            [
-                from_span(span),
-                op.into_node(),
-                from_flag(prefix),
-                arg.into_node(),
-            ],
-        )?;
-        Ok(Tree::<class::UpdateExpr>::from_fields(Kind::UpdateExpr, fields).into_node())
+            Kind::UpdateExpr,
+            (span, op, prefix, arg),
+        )
     }
 }

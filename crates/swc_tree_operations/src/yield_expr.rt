@@ -7,7 +7,7 @@ ghost use Rattle.swc_tree_node.specs.Fits.{Fits};
 ghost use Rattle.swc_tree_operations.specs.Nodes.{yield_expr_node};
 
 use std::alloc::{AllocError, Global};
-use swc_tree_handle::{Opened, Tree, class, collect, from_flag, from_span, to_flag, to_span};
+use swc_tree_handle::{Opened, Tree, class, close_three, open_three};
 use swc_tree_marks::Span;
 use swc_tree_node::{Kind, Node};
 
@@ -24,17 +24,18 @@ impl Opened<class::YieldExpr> for YieldExpr {
 
     ghost node = { yield_expr_node };
 
-    #[tactic(auto, using(swc_tree_node::proofs::Fit::lengths))]
     fn from_node(closed: Node) -> YieldExpr
         requires { Fits closed (One (Of class.YieldExpr)) }
         ensures { yield_expr_node result ≡ closed }
     {
-        let fields = Tree::<class::YieldExpr>::from_node(closed).into_fields(Kind::YieldExpr);
-        let [span, arg, delegate] = fields.into_array::<3>();
+        let (span, arg, delegate) = open_three::<class::YieldExpr, _, _, _>(
+            closed,
+            Kind::YieldExpr,
+        );
         YieldExpr {
-            span: to_span(span),
-            arg: Tree::from_optional(arg),
-            delegate: to_flag(delegate),
+            span,
+            arg,
+            delegate,
         }
     }
 
@@ -46,14 +47,6 @@ impl Opened<class::YieldExpr> for YieldExpr {
             arg,
             delegate,
         } = self;
-        let fields = collect(
-            alloc,
-            [
-                from_span(span),
-                Tree::into_optional(arg),
-                from_flag(delegate),
-            ],
-        )?;
-        Ok(Tree::<class::YieldExpr>::from_fields(Kind::YieldExpr, fields).into_node())
+        close_three::<class::YieldExpr, _, _, _>(alloc, Kind::YieldExpr, (span, arg, delegate))
     }
 }

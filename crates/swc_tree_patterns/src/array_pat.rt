@@ -7,7 +7,7 @@ ghost use Rattle.swc_tree_node.specs.Fits.{Fits};
 ghost use Rattle.swc_tree_patterns.specs.Nodes.{array_pat_node};
 
 use std::alloc::{AllocError, Global};
-use swc_tree_handle::{Holes, Opened, Tree, class, collect, from_span, to_span};
+use swc_tree_handle::{Holes, Opened, class, close_two, open_two};
 use swc_tree_marks::Span;
 use swc_tree_node::{Kind, Node};
 
@@ -23,24 +23,18 @@ impl Opened<class::ArrayPat> for ArrayPat {
 
     ghost node = { array_pat_node };
 
-    #[tactic(auto, using(swc_tree_node::proofs::Fit::lengths))]
     fn from_node(closed: Node) -> ArrayPat
         requires { Fits closed (One (Of class.ArrayPat)) }
         ensures { array_pat_node result ≡ closed }
     {
-        let fields = Tree::<class::ArrayPat>::from_node(closed).into_fields(Kind::ArrayPat);
-        let [span, elems] = fields.into_array::<2>();
-        ArrayPat {
-            span: to_span(span),
-            elems: Holes::from_node(elems),
-        }
+        let (span, elems) = open_two::<class::ArrayPat, _, _>(closed, Kind::ArrayPat);
+        ArrayPat { span, elems }
     }
 
     fn into_node(self, alloc: Global) -> Result<Node, AllocError>
         ensures { IfOk result (λ closed. (closed ≡ array_pat_node self) × Fits closed (One (Of class.ArrayPat))) }
     {
         let ArrayPat { span, elems } = self;
-        let fields = collect(alloc, [from_span(span), elems.into_node()])?;
-        Ok(Tree::<class::ArrayPat>::from_fields(Kind::ArrayPat, fields).into_node())
+        close_two::<class::ArrayPat, _, _>(alloc, Kind::ArrayPat, (span, elems))
     }
 }

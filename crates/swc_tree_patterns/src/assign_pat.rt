@@ -7,7 +7,7 @@ ghost use Rattle.swc_tree_node.specs.Fits.{Fits};
 ghost use Rattle.swc_tree_patterns.specs.Nodes.{assign_pat_node};
 
 use std::alloc::{AllocError, Global};
-use swc_tree_handle::{Opened, Tree, class, collect, from_span, to_span};
+use swc_tree_handle::{Opened, Tree, class, close_three, open_three};
 use swc_tree_marks::Span;
 use swc_tree_node::{Kind, Node};
 
@@ -24,28 +24,18 @@ impl Opened<class::AssignPat> for AssignPat {
 
     ghost node = { assign_pat_node };
 
-    #[tactic(auto, using(swc_tree_node::proofs::Fit::lengths))]
     fn from_node(closed: Node) -> AssignPat
         requires { Fits closed (One (Of class.AssignPat)) }
         ensures { assign_pat_node result ≡ closed }
     {
-        let fields = Tree::<class::AssignPat>::from_node(closed).into_fields(Kind::AssignPat);
-        let [span, left, right] = fields.into_array::<3>();
-        AssignPat {
-            span: to_span(span),
-            left: Tree::from_node(left),
-            right: Tree::from_node(right),
-        }
+        let (span, left, right) = open_three::<class::AssignPat, _, _, _>(closed, Kind::AssignPat);
+        AssignPat { span, left, right }
     }
 
     fn into_node(self, alloc: Global) -> Result<Node, AllocError>
         ensures { IfOk result (λ closed. (closed ≡ assign_pat_node self) × Fits closed (One (Of class.AssignPat))) }
     {
         let AssignPat { span, left, right } = self;
-        let fields = collect(
-            alloc,
-            [from_span(span), left.into_node(), right.into_node()],
-        )?;
-        Ok(Tree::<class::AssignPat>::from_fields(Kind::AssignPat, fields).into_node())
+        close_three::<class::AssignPat, _, _, _>(alloc, Kind::AssignPat, (span, left, right))
     }
 }

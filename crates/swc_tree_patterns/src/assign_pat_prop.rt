@@ -7,7 +7,7 @@ ghost use Rattle.swc_tree_node.specs.Fits.{Fits};
 ghost use Rattle.swc_tree_patterns.specs.Nodes.{assign_pat_prop_node};
 
 use std::alloc::{AllocError, Global};
-use swc_tree_handle::{Opened, Tree, class, collect, from_span, to_span};
+use swc_tree_handle::{Opened, Tree, class, close_three, open_three};
 use swc_tree_leaves::BindingIdent;
 use swc_tree_marks::Span;
 use swc_tree_node::{Kind, Node};
@@ -25,34 +25,21 @@ impl Opened<class::AssignPatProp> for AssignPatProp {
 
     ghost node = { assign_pat_prop_node };
 
-    #[tactic(auto, using(swc_tree_node::proofs::Fit::lengths))]
     fn from_node(closed: Node) -> AssignPatProp
         requires { Fits closed (One (Of class.AssignPatProp)) }
         ensures { assign_pat_prop_node result ≡ closed }
     {
-        let fields = Tree::<class::AssignPatProp>::from_node(closed).into_fields(
+        let (span, key, value) = open_three::<class::AssignPatProp, _, _, _>(
+            closed,
             Kind::AssignPatProp,
         );
-        let [span, key, value] = fields.into_array::<3>();
-        AssignPatProp {
-            span: to_span(span),
-            key: BindingIdent::from_node(key),
-            value: Tree::from_optional(value),
-        }
+        AssignPatProp { span, key, value }
     }
 
     fn into_node(self, alloc: Global) -> Result<Node, AllocError>
         ensures { IfOk result (λ closed. (closed ≡ assign_pat_prop_node self) × Fits closed (One (Of class.AssignPatProp))) }
     {
         let AssignPatProp { span, key, value } = self;
-        let fields = collect(
-            alloc,
-            [
-                from_span(span),
-                key.into_node(alloc)?,
-                Tree::into_optional(value),
-            ],
-        )?;
-        Ok(Tree::<class::AssignPatProp>::from_fields(Kind::AssignPatProp, fields).into_node())
+        close_three::<class::AssignPatProp, _, _, _>(alloc, Kind::AssignPatProp, (span, key, value))
     }
 }

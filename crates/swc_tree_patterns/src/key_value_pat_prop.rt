@@ -7,7 +7,7 @@ ghost use Rattle.swc_tree_node.specs.Fits.{Fits};
 ghost use Rattle.swc_tree_patterns.specs.Nodes.{key_value_pat_prop_node};
 
 use std::alloc::{AllocError, Global};
-use swc_tree_handle::{Opened, Tree, class, collect};
+use swc_tree_handle::{Opened, Tree, class, close_two, open_two};
 use swc_tree_node::{Kind, Node};
 
 /// A key and a pattern for its value (ECMA-262, BindingProperty).
@@ -22,26 +22,18 @@ impl Opened<class::KeyValuePatProp> for KeyValuePatProp {
 
     ghost node = { key_value_pat_prop_node };
 
-    #[tactic(auto, using(swc_tree_node::proofs::Fit::lengths))]
     fn from_node(closed: Node) -> KeyValuePatProp
         requires { Fits closed (One (Of class.KeyValuePatProp)) }
         ensures { key_value_pat_prop_node result ≡ closed }
     {
-        let fields = Tree::<class::KeyValuePatProp>::from_node(closed).into_fields(
-            Kind::KeyValuePatProp,
-        );
-        let [key, value] = fields.into_array::<2>();
-        KeyValuePatProp {
-            key: Tree::from_node(key),
-            value: Tree::from_node(value),
-        }
+        let (key, value) = open_two::<class::KeyValuePatProp, _, _>(closed, Kind::KeyValuePatProp);
+        KeyValuePatProp { key, value }
     }
 
     fn into_node(self, alloc: Global) -> Result<Node, AllocError>
         ensures { IfOk result (λ closed. (closed ≡ key_value_pat_prop_node self) × Fits closed (One (Of class.KeyValuePatProp))) }
     {
         let KeyValuePatProp { key, value } = self;
-        let fields = collect(alloc, [key.into_node(), value.into_node()])?;
-        Ok(Tree::<class::KeyValuePatProp>::from_fields(Kind::KeyValuePatProp, fields).into_node())
+        close_two::<class::KeyValuePatProp, _, _>(alloc, Kind::KeyValuePatProp, (key, value))
     }
 }

@@ -7,7 +7,7 @@ ghost use Rattle.swc_tree_node.specs.Fits.{Fits};
 ghost use Rattle.swc_tree_patterns.specs.Nodes.{object_pat_node};
 
 use std::alloc::{AllocError, Global};
-use swc_tree_handle::{Opened, Tree, Trees, class, collect, from_span, to_span};
+use swc_tree_handle::{Opened, Trees, class, close_two, open_two};
 use swc_tree_marks::Span;
 use swc_tree_node::{Kind, Node};
 
@@ -23,24 +23,18 @@ impl Opened<class::ObjectPat> for ObjectPat {
 
     ghost node = { object_pat_node };
 
-    #[tactic(auto, using(swc_tree_node::proofs::Fit::lengths))]
     fn from_node(closed: Node) -> ObjectPat
         requires { Fits closed (One (Of class.ObjectPat)) }
         ensures { object_pat_node result ≡ closed }
     {
-        let fields = Tree::<class::ObjectPat>::from_node(closed).into_fields(Kind::ObjectPat);
-        let [span, props] = fields.into_array::<2>();
-        ObjectPat {
-            span: to_span(span),
-            props: Trees::from_node(props),
-        }
+        let (span, props) = open_two::<class::ObjectPat, _, _>(closed, Kind::ObjectPat);
+        ObjectPat { span, props }
     }
 
     fn into_node(self, alloc: Global) -> Result<Node, AllocError>
         ensures { IfOk result (λ closed. (closed ≡ object_pat_node self) × Fits closed (One (Of class.ObjectPat))) }
     {
         let ObjectPat { span, props } = self;
-        let fields = collect(alloc, [from_span(span), props.into_node()])?;
-        Ok(Tree::<class::ObjectPat>::from_fields(Kind::ObjectPat, fields).into_node())
+        close_two::<class::ObjectPat, _, _>(alloc, Kind::ObjectPat, (span, props))
     }
 }

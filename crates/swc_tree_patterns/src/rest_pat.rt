@@ -7,7 +7,7 @@ ghost use Rattle.swc_tree_node.specs.Fits.{Fits};
 ghost use Rattle.swc_tree_patterns.specs.Nodes.{rest_pat_node};
 
 use std::alloc::{AllocError, Global};
-use swc_tree_handle::{Opened, Tree, class, collect, from_span, to_span};
+use swc_tree_handle::{Opened, Tree, class, close_two, open_two};
 use swc_tree_marks::Span;
 use swc_tree_node::{Kind, Node};
 
@@ -23,24 +23,18 @@ impl Opened<class::RestPat> for RestPat {
 
     ghost node = { rest_pat_node };
 
-    #[tactic(auto, using(swc_tree_node::proofs::Fit::lengths))]
     fn from_node(closed: Node) -> RestPat
         requires { Fits closed (One (Of class.RestPat)) }
         ensures { rest_pat_node result ≡ closed }
     {
-        let fields = Tree::<class::RestPat>::from_node(closed).into_fields(Kind::RestPat);
-        let [span, arg] = fields.into_array::<2>();
-        RestPat {
-            span: to_span(span),
-            arg: Tree::from_node(arg),
-        }
+        let (span, arg) = open_two::<class::RestPat, _, _>(closed, Kind::RestPat);
+        RestPat { span, arg }
     }
 
     fn into_node(self, alloc: Global) -> Result<Node, AllocError>
         ensures { IfOk result (λ closed. (closed ≡ rest_pat_node self) × Fits closed (One (Of class.RestPat))) }
     {
         let RestPat { span, arg } = self;
-        let fields = collect(alloc, [from_span(span), arg.into_node()])?;
-        Ok(Tree::<class::RestPat>::from_fields(Kind::RestPat, fields).into_node())
+        close_two::<class::RestPat, _, _>(alloc, Kind::RestPat, (span, arg))
     }
 }

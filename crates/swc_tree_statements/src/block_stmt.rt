@@ -7,7 +7,7 @@ ghost use Rattle.swc_tree_node.specs.Fits.{Fits};
 ghost use Rattle.swc_tree_statements.specs.Nodes.{block_stmt_node};
 
 use std::alloc::{AllocError, Global};
-use swc_tree_handle::{Opened, Tree, Trees, class, collect, from_span, to_span};
+use swc_tree_handle::{Opened, Trees, class, close_two, open_two};
 use swc_tree_marks::Span;
 use swc_tree_node::{Kind, Node};
 
@@ -23,24 +23,18 @@ impl Opened<class::BlockStmt> for BlockStmt {
 
     ghost node = { block_stmt_node };
 
-    #[tactic(auto, using(swc_tree_node::proofs::Fit::lengths))]
     fn from_node(closed: Node) -> BlockStmt
         requires { Fits closed (One (Of class.BlockStmt)) }
         ensures { block_stmt_node result ≡ closed }
     {
-        let fields = Tree::<class::BlockStmt>::from_node(closed).into_fields(Kind::BlockStmt);
-        let [span, stmts] = fields.into_array::<2>();
-        BlockStmt {
-            span: to_span(span),
-            stmts: Trees::from_node(stmts),
-        }
+        let (span, stmts) = open_two::<class::BlockStmt, _, _>(closed, Kind::BlockStmt);
+        BlockStmt { span, stmts }
     }
 
     fn into_node(self, alloc: Global) -> Result<Node, AllocError>
         ensures { IfOk result (λ closed. (closed ≡ block_stmt_node self) × Fits closed (One (Of class.BlockStmt))) }
     {
         let BlockStmt { span, stmts } = self;
-        let fields = collect(alloc, [from_span(span), stmts.into_node()])?;
-        Ok(Tree::<class::BlockStmt>::from_fields(Kind::BlockStmt, fields).into_node())
+        close_two::<class::BlockStmt, _, _>(alloc, Kind::BlockStmt, (span, stmts))
     }
 }

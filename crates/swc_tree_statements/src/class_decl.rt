@@ -7,7 +7,7 @@ ghost use Rattle.swc_tree_node.specs.Fits.{Fits};
 ghost use Rattle.swc_tree_statements.specs.Nodes.{class_decl_node};
 
 use std::alloc::{AllocError, Global};
-use swc_tree_handle::{Opened, Tree, class, collect};
+use swc_tree_handle::{Opened, Tree, class, close_two, open_two};
 use swc_tree_marks::Ident;
 use swc_tree_node::{Kind, Node};
 
@@ -23,24 +23,18 @@ impl Opened<class::ClassDecl> for ClassDecl {
 
     ghost node = { class_decl_node };
 
-    #[tactic(auto, using(swc_tree_node::proofs::Fit::lengths))]
     fn from_node(closed: Node) -> ClassDecl
         requires { Fits closed (One (Of class.ClassDecl)) }
         ensures { class_decl_node result ≡ closed }
     {
-        let fields = Tree::<class::ClassDecl>::from_node(closed).into_fields(Kind::ClassDecl);
-        let [ident, class_] = fields.into_array::<2>();
-        ClassDecl {
-            ident: Ident::from_node(ident),
-            class_: Tree::from_node(class_),
-        }
+        let (ident, class_) = open_two::<class::ClassDecl, _, _>(closed, Kind::ClassDecl);
+        ClassDecl { ident, class_ }
     }
 
     fn into_node(self, alloc: Global) -> Result<Node, AllocError>
         ensures { IfOk result (λ closed. (closed ≡ class_decl_node self) × Fits closed (One (Of class.ClassDecl))) }
     {
         let ClassDecl { ident, class_ } = self;
-        let fields = collect(alloc, [ident.into_node(alloc)?, class_.into_node()])?;
-        Ok(Tree::<class::ClassDecl>::from_fields(Kind::ClassDecl, fields).into_node())
+        close_two::<class::ClassDecl, _, _>(alloc, Kind::ClassDecl, (ident, class_))
     }
 }

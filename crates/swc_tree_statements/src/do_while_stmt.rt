@@ -7,7 +7,7 @@ ghost use Rattle.swc_tree_node.specs.Fits.{Fits};
 ghost use Rattle.swc_tree_statements.specs.Nodes.{do_while_stmt_node};
 
 use std::alloc::{AllocError, Global};
-use swc_tree_handle::{Opened, Tree, class, collect, from_span, to_span};
+use swc_tree_handle::{Opened, Tree, class, close_three, open_three};
 use swc_tree_marks::Span;
 use swc_tree_node::{Kind, Node};
 
@@ -24,25 +24,21 @@ impl Opened<class::DoWhileStmt> for DoWhileStmt {
 
     ghost node = { do_while_stmt_node };
 
-    #[tactic(auto, using(swc_tree_node::proofs::Fit::lengths))]
     fn from_node(closed: Node) -> DoWhileStmt
         requires { Fits closed (One (Of class.DoWhileStmt)) }
         ensures { do_while_stmt_node result ≡ closed }
     {
-        let fields = Tree::<class::DoWhileStmt>::from_node(closed).into_fields(Kind::DoWhileStmt);
-        let [span, body, test] = fields.into_array::<3>();
-        DoWhileStmt {
-            span: to_span(span),
-            body: Tree::from_node(body),
-            test: Tree::from_node(test),
-        }
+        let (span, body, test) = open_three::<class::DoWhileStmt, _, _, _>(
+            closed,
+            Kind::DoWhileStmt,
+        );
+        DoWhileStmt { span, body, test }
     }
 
     fn into_node(self, alloc: Global) -> Result<Node, AllocError>
         ensures { IfOk result (λ closed. (closed ≡ do_while_stmt_node self) × Fits closed (One (Of class.DoWhileStmt))) }
     {
         let DoWhileStmt { span, body, test } = self;
-        let fields = collect(alloc, [from_span(span), body.into_node(), test.into_node()])?;
-        Ok(Tree::<class::DoWhileStmt>::from_fields(Kind::DoWhileStmt, fields).into_node())
+        close_three::<class::DoWhileStmt, _, _, _>(alloc, Kind::DoWhileStmt, (span, body, test))
     }
 }

@@ -7,7 +7,7 @@ ghost use Rattle.swc_tree_node.specs.Fits.{Fits};
 ghost use Rattle.swc_tree_statements.specs.Nodes.{expr_stmt_node};
 
 use std::alloc::{AllocError, Global};
-use swc_tree_handle::{Opened, Tree, class, collect, from_span, to_span};
+use swc_tree_handle::{Opened, Tree, class, close_two, open_two};
 use swc_tree_marks::Span;
 use swc_tree_node::{Kind, Node};
 
@@ -23,24 +23,18 @@ impl Opened<class::ExprStmt> for ExprStmt {
 
     ghost node = { expr_stmt_node };
 
-    #[tactic(auto, using(swc_tree_node::proofs::Fit::lengths))]
     fn from_node(closed: Node) -> ExprStmt
         requires { Fits closed (One (Of class.ExprStmt)) }
         ensures { expr_stmt_node result ≡ closed }
     {
-        let fields = Tree::<class::ExprStmt>::from_node(closed).into_fields(Kind::ExprStmt);
-        let [span, expr] = fields.into_array::<2>();
-        ExprStmt {
-            span: to_span(span),
-            expr: Tree::from_node(expr),
-        }
+        let (span, expr) = open_two::<class::ExprStmt, _, _>(closed, Kind::ExprStmt);
+        ExprStmt { span, expr }
     }
 
     fn into_node(self, alloc: Global) -> Result<Node, AllocError>
         ensures { IfOk result (λ closed. (closed ≡ expr_stmt_node self) × Fits closed (One (Of class.ExprStmt))) }
     {
         let ExprStmt { span, expr } = self;
-        let fields = collect(alloc, [from_span(span), expr.into_node()])?;
-        Ok(Tree::<class::ExprStmt>::from_fields(Kind::ExprStmt, fields).into_node())
+        close_two::<class::ExprStmt, _, _>(alloc, Kind::ExprStmt, (span, expr))
     }
 }

@@ -7,7 +7,7 @@ ghost use Rattle.swc_tree_node.specs.Fits.{Fits};
 ghost use Rattle.swc_tree_statements.specs.Nodes.{for_in_stmt_node};
 
 use std::alloc::{AllocError, Global};
-use swc_tree_handle::{Opened, Tree, class, collect, from_span, to_span};
+use swc_tree_handle::{Opened, Tree, class, close_four, open_four};
 use swc_tree_marks::Span;
 use swc_tree_node::{Kind, Node};
 
@@ -25,18 +25,19 @@ impl Opened<class::ForInStmt> for ForInStmt {
 
     ghost node = { for_in_stmt_node };
 
-    #[tactic(auto, using(swc_tree_node::proofs::Fit::lengths))]
     fn from_node(closed: Node) -> ForInStmt
         requires { Fits closed (One (Of class.ForInStmt)) }
         ensures { for_in_stmt_node result ≡ closed }
     {
-        let fields = Tree::<class::ForInStmt>::from_node(closed).into_fields(Kind::ForInStmt);
-        let [span, left, right, body] = fields.into_array::<4>();
+        let (span, left, right, body) = open_four::<class::ForInStmt, _, _, _, _>(
+            closed,
+            Kind::ForInStmt,
+        );
         ForInStmt {
-            span: to_span(span),
-            left: Tree::from_node(left),
-            right: Tree::from_node(right),
-            body: Tree::from_node(body),
+            span,
+            left,
+            right,
+            body,
         }
     }
 
@@ -49,15 +50,10 @@ impl Opened<class::ForInStmt> for ForInStmt {
             right,
             body,
         } = self;
-        let fields = collect(
+        close_four::<class::ForInStmt, _, _, _, _>(
             alloc,
-            [
-                from_span(span),
-                left.into_node(),
-                right.into_node(),
-                body.into_node(),
-            ],
-        )?;
-        Ok(Tree::<class::ForInStmt>::from_fields(Kind::ForInStmt, fields).into_node())
+            Kind::ForInStmt,
+            (span, left, right, body),
+        )
     }
 }

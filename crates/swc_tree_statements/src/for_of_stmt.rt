@@ -7,7 +7,7 @@ ghost use Rattle.swc_tree_node.specs.Fits.{Fits};
 ghost use Rattle.swc_tree_statements.specs.Nodes.{for_of_stmt_node};
 
 use std::alloc::{AllocError, Global};
-use swc_tree_handle::{Opened, Tree, class, collect, from_flag, from_span, to_flag, to_span};
+use swc_tree_handle::{Opened, Tree, class, close_five, open_five};
 use swc_tree_marks::Span;
 use swc_tree_node::{Kind, Node};
 
@@ -26,19 +26,20 @@ impl Opened<class::ForOfStmt> for ForOfStmt {
 
     ghost node = { for_of_stmt_node };
 
-    #[tactic(auto, using(swc_tree_node::proofs::Fit::lengths))]
     fn from_node(closed: Node) -> ForOfStmt
         requires { Fits closed (One (Of class.ForOfStmt)) }
         ensures { for_of_stmt_node result ≡ closed }
     {
-        let fields = Tree::<class::ForOfStmt>::from_node(closed).into_fields(Kind::ForOfStmt);
-        let [span, is_await, left, right, body] = fields.into_array::<5>();
+        let (span, is_await, left, right, body) = open_five::<class::ForOfStmt, _, _, _, _, _>(
+            closed,
+            Kind::ForOfStmt,
+        );
         ForOfStmt {
-            span: to_span(span),
-            is_await: to_flag(is_await),
-            left: Tree::from_node(left),
-            right: Tree::from_node(right),
-            body: Tree::from_node(body),
+            span,
+            is_await,
+            left,
+            right,
+            body,
         }
     }
 
@@ -52,16 +53,10 @@ impl Opened<class::ForOfStmt> for ForOfStmt {
             right,
             body,
         } = self;
-        let fields = collect(
+        close_five::<class::ForOfStmt, _, _, _, _, _>(
             alloc,
-            [
-                from_span(span),
-                from_flag(is_await),
-                left.into_node(),
-                right.into_node(),
-                body.into_node(),
-            ],
-        )?;
-        Ok(Tree::<class::ForOfStmt>::from_fields(Kind::ForOfStmt, fields).into_node())
+            Kind::ForOfStmt,
+            (span, is_await, left, right, body),
+        )
     }
 }

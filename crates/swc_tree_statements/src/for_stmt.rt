@@ -7,7 +7,7 @@ ghost use Rattle.swc_tree_node.specs.Fits.{Fits};
 ghost use Rattle.swc_tree_statements.specs.Nodes.{for_stmt_node};
 
 use std::alloc::{AllocError, Global};
-use swc_tree_handle::{Opened, Tree, class, collect, from_span, to_span};
+use swc_tree_handle::{Opened, Tree, class, close_five, open_five};
 use swc_tree_marks::Span;
 use swc_tree_node::{Kind, Node};
 
@@ -26,19 +26,20 @@ impl Opened<class::ForStmt> for ForStmt {
 
     ghost node = { for_stmt_node };
 
-    #[tactic(auto, using(swc_tree_node::proofs::Fit::lengths))]
     fn from_node(closed: Node) -> ForStmt
         requires { Fits closed (One (Of class.ForStmt)) }
         ensures { for_stmt_node result ≡ closed }
     {
-        let fields = Tree::<class::ForStmt>::from_node(closed).into_fields(Kind::ForStmt);
-        let [span, init, test, update, body] = fields.into_array::<5>();
+        let (span, init, test, update, body) = open_five::<class::ForStmt, _, _, _, _, _>(
+            closed,
+            Kind::ForStmt,
+        );
         ForStmt {
-            span: to_span(span),
-            init: Tree::from_optional(init),
-            test: Tree::from_optional(test),
-            update: Tree::from_optional(update),
-            body: Tree::from_node(body),
+            span,
+            init,
+            test,
+            update,
+            body,
         }
     }
 
@@ -52,16 +53,10 @@ impl Opened<class::ForStmt> for ForStmt {
             update,
             body,
         } = self;
-        let fields = collect(
+        close_five::<class::ForStmt, _, _, _, _, _>(
             alloc,
-            [
-                from_span(span),
-                Tree::into_optional(init),
-                Tree::into_optional(test),
-                Tree::into_optional(update),
-                body.into_node(),
-            ],
-        )?;
-        Ok(Tree::<class::ForStmt>::from_fields(Kind::ForStmt, fields).into_node())
+            Kind::ForStmt,
+            (span, init, test, update, body),
+        )
     }
 }

@@ -7,7 +7,7 @@ ghost use Rattle.swc_tree_node.specs.Fits.{Fits};
 ghost use Rattle.swc_tree_statements.specs.Nodes.{if_stmt_node};
 
 use std::alloc::{AllocError, Global};
-use swc_tree_handle::{Opened, Tree, class, collect, from_span, to_span};
+use swc_tree_handle::{Opened, Tree, class, close_four, open_four};
 use swc_tree_marks::Span;
 use swc_tree_node::{Kind, Node};
 
@@ -25,18 +25,16 @@ impl Opened<class::IfStmt> for IfStmt {
 
     ghost node = { if_stmt_node };
 
-    #[tactic(auto, using(swc_tree_node::proofs::Fit::lengths))]
     fn from_node(closed: Node) -> IfStmt
         requires { Fits closed (One (Of class.IfStmt)) }
         ensures { if_stmt_node result ≡ closed }
     {
-        let fields = Tree::<class::IfStmt>::from_node(closed).into_fields(Kind::IfStmt);
-        let [span, test, cons, alt] = fields.into_array::<4>();
+        let (span, test, cons, alt) = open_four::<class::IfStmt, _, _, _, _>(closed, Kind::IfStmt);
         IfStmt {
-            span: to_span(span),
-            test: Tree::from_node(test),
-            cons: Tree::from_node(cons),
-            alt: Tree::from_optional(alt),
+            span,
+            test,
+            cons,
+            alt,
         }
     }
 
@@ -49,15 +47,6 @@ impl Opened<class::IfStmt> for IfStmt {
             cons,
             alt,
         } = self;
-        let fields = collect(
-            alloc,
-            [
-                from_span(span),
-                test.into_node(),
-                cons.into_node(),
-                Tree::into_optional(alt),
-            ],
-        )?;
-        Ok(Tree::<class::IfStmt>::from_fields(Kind::IfStmt, fields).into_node())
+        close_four::<class::IfStmt, _, _, _, _>(alloc, Kind::IfStmt, (span, test, cons, alt))
     }
 }

@@ -7,7 +7,7 @@ ghost use Rattle.swc_tree_node.specs.Fits.{Fits};
 ghost use Rattle.swc_tree_statements.specs.Nodes.{labeled_stmt_node};
 
 use std::alloc::{AllocError, Global};
-use swc_tree_handle::{Opened, Tree, class, collect, from_span, to_span};
+use swc_tree_handle::{Opened, Tree, class, close_three, open_three};
 use swc_tree_marks::{Ident, Span};
 use swc_tree_node::{Kind, Node};
 
@@ -24,28 +24,21 @@ impl Opened<class::LabeledStmt> for LabeledStmt {
 
     ghost node = { labeled_stmt_node };
 
-    #[tactic(auto, using(swc_tree_node::proofs::Fit::lengths))]
     fn from_node(closed: Node) -> LabeledStmt
         requires { Fits closed (One (Of class.LabeledStmt)) }
         ensures { labeled_stmt_node result ≡ closed }
     {
-        let fields = Tree::<class::LabeledStmt>::from_node(closed).into_fields(Kind::LabeledStmt);
-        let [span, label, body] = fields.into_array::<3>();
-        LabeledStmt {
-            span: to_span(span),
-            label: Ident::from_node(label),
-            body: Tree::from_node(body),
-        }
+        let (span, label, body) = open_three::<class::LabeledStmt, _, _, _>(
+            closed,
+            Kind::LabeledStmt,
+        );
+        LabeledStmt { span, label, body }
     }
 
     fn into_node(self, alloc: Global) -> Result<Node, AllocError>
         ensures { IfOk result (λ closed. (closed ≡ labeled_stmt_node self) × Fits closed (One (Of class.LabeledStmt))) }
     {
         let LabeledStmt { span, label, body } = self;
-        let fields = collect(
-            alloc,
-            [from_span(span), label.into_node(alloc)?, body.into_node()],
-        )?;
-        Ok(Tree::<class::LabeledStmt>::from_fields(Kind::LabeledStmt, fields).into_node())
+        close_three::<class::LabeledStmt, _, _, _>(alloc, Kind::LabeledStmt, (span, label, body))
     }
 }

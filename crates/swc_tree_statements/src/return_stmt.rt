@@ -7,7 +7,7 @@ ghost use Rattle.swc_tree_node.specs.Fits.{Fits};
 ghost use Rattle.swc_tree_statements.specs.Nodes.{return_stmt_node};
 
 use std::alloc::{AllocError, Global};
-use swc_tree_handle::{Opened, Tree, class, collect, from_span, to_span};
+use swc_tree_handle::{Opened, Tree, class, close_two, open_two};
 use swc_tree_marks::Span;
 use swc_tree_node::{Kind, Node};
 
@@ -23,24 +23,18 @@ impl Opened<class::ReturnStmt> for ReturnStmt {
 
     ghost node = { return_stmt_node };
 
-    #[tactic(auto, using(swc_tree_node::proofs::Fit::lengths))]
     fn from_node(closed: Node) -> ReturnStmt
         requires { Fits closed (One (Of class.ReturnStmt)) }
         ensures { return_stmt_node result ≡ closed }
     {
-        let fields = Tree::<class::ReturnStmt>::from_node(closed).into_fields(Kind::ReturnStmt);
-        let [span, arg] = fields.into_array::<2>();
-        ReturnStmt {
-            span: to_span(span),
-            arg: Tree::from_optional(arg),
-        }
+        let (span, arg) = open_two::<class::ReturnStmt, _, _>(closed, Kind::ReturnStmt);
+        ReturnStmt { span, arg }
     }
 
     fn into_node(self, alloc: Global) -> Result<Node, AllocError>
         ensures { IfOk result (λ closed. (closed ≡ return_stmt_node self) × Fits closed (One (Of class.ReturnStmt))) }
     {
         let ReturnStmt { span, arg } = self;
-        let fields = collect(alloc, [from_span(span), Tree::into_optional(arg)])?;
-        Ok(Tree::<class::ReturnStmt>::from_fields(Kind::ReturnStmt, fields).into_node())
+        close_two::<class::ReturnStmt, _, _>(alloc, Kind::ReturnStmt, (span, arg))
     }
 }

@@ -7,7 +7,7 @@ ghost use Rattle.swc_tree_node.specs.Fits.{Fits};
 ghost use Rattle.swc_tree_statements.specs.Nodes.{switch_case_node};
 
 use std::alloc::{AllocError, Global};
-use swc_tree_handle::{Opened, Tree, Trees, class, collect, from_span, to_span};
+use swc_tree_handle::{Opened, Tree, Trees, class, close_three, open_three};
 use swc_tree_marks::Span;
 use swc_tree_node::{Kind, Node};
 
@@ -24,28 +24,18 @@ impl Opened<class::SwitchCase> for SwitchCase {
 
     ghost node = { switch_case_node };
 
-    #[tactic(auto, using(swc_tree_node::proofs::Fit::lengths))]
     fn from_node(closed: Node) -> SwitchCase
         requires { Fits closed (One (Of class.SwitchCase)) }
         ensures { switch_case_node result ≡ closed }
     {
-        let fields = Tree::<class::SwitchCase>::from_node(closed).into_fields(Kind::SwitchCase);
-        let [span, test, cons] = fields.into_array::<3>();
-        SwitchCase {
-            span: to_span(span),
-            test: Tree::from_optional(test),
-            cons: Trees::from_node(cons),
-        }
+        let (span, test, cons) = open_three::<class::SwitchCase, _, _, _>(closed, Kind::SwitchCase);
+        SwitchCase { span, test, cons }
     }
 
     fn into_node(self, alloc: Global) -> Result<Node, AllocError>
         ensures { IfOk result (λ closed. (closed ≡ switch_case_node self) × Fits closed (One (Of class.SwitchCase))) }
     {
         let SwitchCase { span, test, cons } = self;
-        let fields = collect(
-            alloc,
-            [from_span(span), Tree::into_optional(test), cons.into_node()],
-        )?;
-        Ok(Tree::<class::SwitchCase>::from_fields(Kind::SwitchCase, fields).into_node())
+        close_three::<class::SwitchCase, _, _, _>(alloc, Kind::SwitchCase, (span, test, cons))
     }
 }

@@ -7,7 +7,7 @@ ghost use Rattle.swc_tree_node.specs.Fits.{Fits};
 ghost use Rattle.swc_tree_statements.specs.Nodes.{switch_stmt_node};
 
 use std::alloc::{AllocError, Global};
-use swc_tree_handle::{Opened, Tree, Trees, class, collect, from_span, to_span};
+use swc_tree_handle::{Opened, Tree, Trees, class, close_three, open_three};
 use swc_tree_marks::Span;
 use swc_tree_node::{Kind, Node};
 
@@ -24,17 +24,18 @@ impl Opened<class::SwitchStmt> for SwitchStmt {
 
     ghost node = { switch_stmt_node };
 
-    #[tactic(auto, using(swc_tree_node::proofs::Fit::lengths))]
     fn from_node(closed: Node) -> SwitchStmt
         requires { Fits closed (One (Of class.SwitchStmt)) }
         ensures { switch_stmt_node result ≡ closed }
     {
-        let fields = Tree::<class::SwitchStmt>::from_node(closed).into_fields(Kind::SwitchStmt);
-        let [span, discriminant, cases] = fields.into_array::<3>();
+        let (span, discriminant, cases) = open_three::<class::SwitchStmt, _, _, _>(
+            closed,
+            Kind::SwitchStmt,
+        );
         SwitchStmt {
-            span: to_span(span),
-            discriminant: Tree::from_node(discriminant),
-            cases: Trees::from_node(cases),
+            span,
+            discriminant,
+            cases,
         }
     }
 
@@ -46,10 +47,10 @@ impl Opened<class::SwitchStmt> for SwitchStmt {
             discriminant,
             cases,
         } = self;
-        let fields = collect(
+        close_three::<class::SwitchStmt, _, _, _>(
             alloc,
-            [from_span(span), discriminant.into_node(), cases.into_node()],
-        )?;
-        Ok(Tree::<class::SwitchStmt>::from_fields(Kind::SwitchStmt, fields).into_node())
+            Kind::SwitchStmt,
+            (span, discriminant, cases),
+        )
     }
 }

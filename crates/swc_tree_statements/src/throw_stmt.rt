@@ -7,7 +7,7 @@ ghost use Rattle.swc_tree_node.specs.Fits.{Fits};
 ghost use Rattle.swc_tree_statements.specs.Nodes.{throw_stmt_node};
 
 use std::alloc::{AllocError, Global};
-use swc_tree_handle::{Opened, Tree, class, collect, from_span, to_span};
+use swc_tree_handle::{Opened, Tree, class, close_two, open_two};
 use swc_tree_marks::Span;
 use swc_tree_node::{Kind, Node};
 
@@ -23,24 +23,18 @@ impl Opened<class::ThrowStmt> for ThrowStmt {
 
     ghost node = { throw_stmt_node };
 
-    #[tactic(auto, using(swc_tree_node::proofs::Fit::lengths))]
     fn from_node(closed: Node) -> ThrowStmt
         requires { Fits closed (One (Of class.ThrowStmt)) }
         ensures { throw_stmt_node result ≡ closed }
     {
-        let fields = Tree::<class::ThrowStmt>::from_node(closed).into_fields(Kind::ThrowStmt);
-        let [span, arg] = fields.into_array::<2>();
-        ThrowStmt {
-            span: to_span(span),
-            arg: Tree::from_node(arg),
-        }
+        let (span, arg) = open_two::<class::ThrowStmt, _, _>(closed, Kind::ThrowStmt);
+        ThrowStmt { span, arg }
     }
 
     fn into_node(self, alloc: Global) -> Result<Node, AllocError>
         ensures { IfOk result (λ closed. (closed ≡ throw_stmt_node self) × Fits closed (One (Of class.ThrowStmt))) }
     {
         let ThrowStmt { span, arg } = self;
-        let fields = collect(alloc, [from_span(span), arg.into_node()])?;
-        Ok(Tree::<class::ThrowStmt>::from_fields(Kind::ThrowStmt, fields).into_node())
+        close_two::<class::ThrowStmt, _, _>(alloc, Kind::ThrowStmt, (span, arg))
     }
 }

@@ -7,7 +7,7 @@ ghost use Rattle.swc_tree_node.specs.Fits.{Fits};
 ghost use Rattle.swc_tree_statements.specs.Nodes.{try_stmt_node};
 
 use std::alloc::{AllocError, Global};
-use swc_tree_handle::{Opened, Tree, class, collect, from_span, to_span};
+use swc_tree_handle::{Opened, Tree, class, close_four, open_four};
 use swc_tree_marks::Span;
 use swc_tree_node::{Kind, Node};
 
@@ -25,18 +25,19 @@ impl Opened<class::TryStmt> for TryStmt {
 
     ghost node = { try_stmt_node };
 
-    #[tactic(auto, using(swc_tree_node::proofs::Fit::lengths))]
     fn from_node(closed: Node) -> TryStmt
         requires { Fits closed (One (Of class.TryStmt)) }
         ensures { try_stmt_node result ≡ closed }
     {
-        let fields = Tree::<class::TryStmt>::from_node(closed).into_fields(Kind::TryStmt);
-        let [span, block, handler, finalizer] = fields.into_array::<4>();
+        let (span, block, handler, finalizer) = open_four::<class::TryStmt, _, _, _, _>(
+            closed,
+            Kind::TryStmt,
+        );
         TryStmt {
-            span: to_span(span),
-            block: Tree::from_node(block),
-            handler: Tree::from_optional(handler),
-            finalizer: Tree::from_optional(finalizer),
+            span,
+            block,
+            handler,
+            finalizer,
         }
     }
 
@@ -49,15 +50,10 @@ impl Opened<class::TryStmt> for TryStmt {
             handler,
             finalizer,
         } = self;
-        let fields = collect(
+        close_four::<class::TryStmt, _, _, _, _>(
             alloc,
-            [
-                from_span(span),
-                block.into_node(),
-                Tree::into_optional(handler),
-                Tree::into_optional(finalizer),
-            ],
-        )?;
-        Ok(Tree::<class::TryStmt>::from_fields(Kind::TryStmt, fields).into_node())
+            Kind::TryStmt,
+            (span, block, handler, finalizer),
+        )
     }
 }

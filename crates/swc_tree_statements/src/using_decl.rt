@@ -7,9 +7,7 @@ ghost use Rattle.swc_tree_node.specs.Fits.{Fits};
 ghost use Rattle.swc_tree_statements.specs.Nodes.{using_decl_node};
 
 use std::alloc::{AllocError, Global};
-use swc_tree_handle::{
-    Opened, Tree, Trees, class, collect, from_flag, from_span, to_flag, to_span,
-};
+use swc_tree_handle::{Opened, Trees, class, close_three, open_three};
 use swc_tree_marks::Span;
 use swc_tree_node::{Kind, Node};
 
@@ -26,17 +24,18 @@ impl Opened<class::UsingDecl> for UsingDecl {
 
     ghost node = { using_decl_node };
 
-    #[tactic(auto, using(swc_tree_node::proofs::Fit::lengths))]
     fn from_node(closed: Node) -> UsingDecl
         requires { Fits closed (One (Of class.UsingDecl)) }
         ensures { using_decl_node result ≡ closed }
     {
-        let fields = Tree::<class::UsingDecl>::from_node(closed).into_fields(Kind::UsingDecl);
-        let [span, is_await, decls] = fields.into_array::<3>();
+        let (span, is_await, decls) = open_three::<class::UsingDecl, _, _, _>(
+            closed,
+            Kind::UsingDecl,
+        );
         UsingDecl {
-            span: to_span(span),
-            is_await: to_flag(is_await),
-            decls: Trees::from_node(decls),
+            span,
+            is_await,
+            decls,
         }
     }
 
@@ -48,10 +47,6 @@ impl Opened<class::UsingDecl> for UsingDecl {
             is_await,
             decls,
         } = self;
-        let fields = collect(
-            alloc,
-            [from_span(span), from_flag(is_await), decls.into_node()],
-        )?;
-        Ok(Tree::<class::UsingDecl>::from_fields(Kind::UsingDecl, fields).into_node())
+        close_three::<class::UsingDecl, _, _, _>(alloc, Kind::UsingDecl, (span, is_await, decls))
     }
 }

@@ -8,7 +8,7 @@ ghost use Rattle.swc_tree_statements.specs.Nodes.{var_decl_node};
 
 use crate::var_decl_kind::VarDeclKind;
 use std::alloc::{AllocError, Global};
-use swc_tree_handle::{Opened, Tree, Trees, class, collect, from_span, to_span};
+use swc_tree_handle::{Opened, Trees, class, close_three, open_three};
 use swc_tree_marks::Span;
 use swc_tree_node::{Kind, Node};
 
@@ -25,28 +25,18 @@ impl Opened<class::VarDecl> for VarDecl {
 
     ghost node = { var_decl_node };
 
-    #[tactic(auto, using(swc_tree_node::proofs::Fit::lengths))]
     fn from_node(closed: Node) -> VarDecl
         requires { Fits closed (One (Of class.VarDecl)) }
         ensures { var_decl_node result ≡ closed }
     {
-        let fields = Tree::<class::VarDecl>::from_node(closed).into_fields(Kind::VarDecl);
-        let [span, kind, decls] = fields.into_array::<3>();
-        VarDecl {
-            span: to_span(span),
-            kind: VarDeclKind::from_node(kind),
-            decls: Trees::from_node(decls),
-        }
+        let (span, kind, decls) = open_three::<class::VarDecl, _, _, _>(closed, Kind::VarDecl);
+        VarDecl { span, kind, decls }
     }
 
     fn into_node(self, alloc: Global) -> Result<Node, AllocError>
         ensures { IfOk result (λ closed. (closed ≡ var_decl_node self) × Fits closed (One (Of class.VarDecl))) }
     {
         let VarDecl { span, kind, decls } = self;
-        let fields = collect(
-            alloc,
-            [from_span(span), kind.into_node(), decls.into_node()],
-        )?;
-        Ok(Tree::<class::VarDecl>::from_fields(Kind::VarDecl, fields).into_node())
+        close_three::<class::VarDecl, _, _, _>(alloc, Kind::VarDecl, (span, kind, decls))
     }
 }

@@ -7,7 +7,7 @@ ghost use Rattle.swc_tree_node.specs.Fits.{Fits};
 ghost use Rattle.swc_tree_statements.specs.Nodes.{var_declarator_node};
 
 use std::alloc::{AllocError, Global};
-use swc_tree_handle::{Opened, Tree, class, collect, from_span, to_span};
+use swc_tree_handle::{Opened, Tree, class, close_three, open_three};
 use swc_tree_marks::Span;
 use swc_tree_node::{Kind, Node};
 
@@ -24,30 +24,21 @@ impl Opened<class::VarDeclarator> for VarDeclarator {
 
     ghost node = { var_declarator_node };
 
-    #[tactic(auto, using(swc_tree_node::proofs::Fit::lengths))]
     fn from_node(closed: Node) -> VarDeclarator
         requires { Fits closed (One (Of class.VarDeclarator)) }
         ensures { var_declarator_node result ≡ closed }
     {
-        let fields = Tree::<class::VarDeclarator>::from_node(closed).into_fields(
+        let (span, name, init) = open_three::<class::VarDeclarator, _, _, _>(
+            closed,
             Kind::VarDeclarator,
         );
-        let [span, name, init] = fields.into_array::<3>();
-        VarDeclarator {
-            span: to_span(span),
-            name: Tree::from_node(name),
-            init: Tree::from_optional(init),
-        }
+        VarDeclarator { span, name, init }
     }
 
     fn into_node(self, alloc: Global) -> Result<Node, AllocError>
         ensures { IfOk result (λ closed. (closed ≡ var_declarator_node self) × Fits closed (One (Of class.VarDeclarator))) }
     {
         let VarDeclarator { span, name, init } = self;
-        let fields = collect(
-            alloc,
-            [from_span(span), name.into_node(), Tree::into_optional(init)],
-        )?;
-        Ok(Tree::<class::VarDeclarator>::from_fields(Kind::VarDeclarator, fields).into_node())
+        close_three::<class::VarDeclarator, _, _, _>(alloc, Kind::VarDeclarator, (span, name, init))
     }
 }

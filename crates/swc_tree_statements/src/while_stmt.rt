@@ -7,7 +7,7 @@ ghost use Rattle.swc_tree_node.specs.Fits.{Fits};
 ghost use Rattle.swc_tree_statements.specs.Nodes.{while_stmt_node};
 
 use std::alloc::{AllocError, Global};
-use swc_tree_handle::{Opened, Tree, class, collect, from_span, to_span};
+use swc_tree_handle::{Opened, Tree, class, close_three, open_three};
 use swc_tree_marks::Span;
 use swc_tree_node::{Kind, Node};
 
@@ -24,25 +24,18 @@ impl Opened<class::WhileStmt> for WhileStmt {
 
     ghost node = { while_stmt_node };
 
-    #[tactic(auto, using(swc_tree_node::proofs::Fit::lengths))]
     fn from_node(closed: Node) -> WhileStmt
         requires { Fits closed (One (Of class.WhileStmt)) }
         ensures { while_stmt_node result ≡ closed }
     {
-        let fields = Tree::<class::WhileStmt>::from_node(closed).into_fields(Kind::WhileStmt);
-        let [span, test, body] = fields.into_array::<3>();
-        WhileStmt {
-            span: to_span(span),
-            test: Tree::from_node(test),
-            body: Tree::from_node(body),
-        }
+        let (span, test, body) = open_three::<class::WhileStmt, _, _, _>(closed, Kind::WhileStmt);
+        WhileStmt { span, test, body }
     }
 
     fn into_node(self, alloc: Global) -> Result<Node, AllocError>
         ensures { IfOk result (λ closed. (closed ≡ while_stmt_node self) × Fits closed (One (Of class.WhileStmt))) }
     {
         let WhileStmt { span, test, body } = self;
-        let fields = collect(alloc, [from_span(span), test.into_node(), body.into_node()])?;
-        Ok(Tree::<class::WhileStmt>::from_fields(Kind::WhileStmt, fields).into_node())
+        close_three::<class::WhileStmt, _, _, _>(alloc, Kind::WhileStmt, (span, test, body))
     }
 }
