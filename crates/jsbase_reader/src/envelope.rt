@@ -133,7 +133,7 @@ fn read_marks(
     Ok((unresolved, top))
 }
 
-/// Whether classes keep their names, and whether `eval` is taken for any other call.
+/// Whether classes keep their names, and whether `eval` is ignored.
 fn read_options(alloc: Global, members: &Map<String, Value>) -> Result<(bool, bool), ReadError>
     ensures { Gives result (options_in (members_view members.now.entries)) }
 {
