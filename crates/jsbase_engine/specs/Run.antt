@@ -1,6 +1,6 @@
 -- What the engine answers on an input.
 use Rattle.std.specs.Prelude.{◌≡◌, true, false, ℕ, ◌+◌, ◌-◌, ◌<◌, ◌⊎◌, List, Ok, Err, string_bytes}
-use Rattle.swc_tree_marks.specs.Globals.{Table, greatest}
+use Rattle.swc_tree_marks.specs.Globals.{Table, IsTable, greatest}
 use Rattle.swc_tree_marks.specs.declared.error.PassError.{PassError}
 use Rattle.swc_tree_marks.specs.declared.error.PassError.TheVariants as refusal
 use Rattle.swc_tree_node.specs.declared.kind.Class.{Class}
@@ -30,11 +30,12 @@ abbrev pub class_of : Kind → Class
 class_of kind.Module = class.Module
 class_of kind.Script = class.Script
 
--- the output is the envelope of the tree, resolved
+-- the output is the envelope of the tree, resolved, with the table of marks that resolving it leads to
 pub record IsResolved (envelope : Envelope) (output : List ℕ) : Type 0 where
   pub table : Table
   pub answer : Node
   pub resolved : Resolved envelope.unresolved envelope.top envelope.globals table envelope.tree answer
+  pub well_formed : IsTable table
   pub written : output ≡ envelope_text table envelope.top answer envelope.unresolved
 
 -- the output is the envelope of the tree without parentheses, whose parenthesised targets may be assigned to

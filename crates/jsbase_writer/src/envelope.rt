@@ -1,5 +1,6 @@
 //! Writing envelopes: a tree with its table of marks.
 ghost use Rattle.std.specs.Prelude.{◌≡◌, [], ◌∷◌, ◌++◌, IfOk, OnOk, IsTrue, Ok, string_bytes};
+ghost use Rattle.swc_tree_marks.specs.Globals.{IsTable};
 ghost use Rattle.jsbase_form.specs.Known.{NumbersShort, marks_short};
 ghost use Rattle.jsbase_form.specs.Tables.{table_at};
 ghost use Rattle.jsbase_writer.specs.Envelopes.{table_json, table_short, envelope_json, envelope_text, ReadsBack};
@@ -37,6 +38,7 @@ fn write_object(
     ensures written { OnOk result (out.new.tokens ≡ out.old.tokens ++ tokens_of (envelope_json globals.now top tree.now unresolved)) }
     ensures before { OnOk result (out.new.before ≡ out.old.before) }
     ensures rows { OnOk result (IsTrue (table_short globals.now)) }
+    ensures well_formed { OnOk result (IsTable globals.now) }
     ensures table { OnOk result (table_at (table_json globals.now) ≡ Ok globals.now) }
     ensures marks { OnOk result (IsTrue (marks_short (top ∷ unresolved ∷ []))) }
     ensures tree { OnOk result (NumbersShort tree.now) }
@@ -71,6 +73,7 @@ pub fn write_envelope(
     unresolved: Mark,
 ) -> Result<String, AllocError>
     ensures text { IfOk result (λ text. string_bytes text ≡ envelope_text globals.now top tree.now unresolved) }
+    ensures well_formed { OnOk result (IsTable globals.now) }
     ensures reads_back { IfOk result (λ text. ReadsBack (string_bytes text) globals.now top tree.now unresolved) }
 {
     let mut out = Writer::new(Vec::new(alloc));

@@ -1,16 +1,9 @@
--- What moves of comments lead to, behind a reference that a pass keeps.
-use Rattle.std.specs.Prelude.{List, Option, Some, None, Result}
-use Rattle.std.specs.Option.{option_map}
-use Rattle.std.specs.Borrow.{GName, MutBor}
-use Rattle.swc_tree_comments.specs.declared.moves.Move.{Move}
-use Rattle.swc_base_fixer_unparen.specs.Moves.{Moving, Moved}
+-- What becomes of comments behind a reference that a pass keeps.
+use Rattle.std.specs.Prelude.{◌≡◌, Option, Some, None}
+use Rattle.std.specs.Borrow.{MutBor}
 
--- of comments that are there, all moves were made where the call succeeded, and a beginning of them where it was refused
-abbrev pub MovedBehind : {C T E : Type 0} → Moving C → Option (MutBor C) → List Move → Option (MutBor C) → Result T E → Type 0
-MovedBehind R (Some before) ms (Some after) r = Moved R before.now ms after.now r
-MovedBehind R None ms None r = Unit {0}
-MovedBehind R _ ms _ r = ⊥
-
--- which reference is kept
-abbrev pub reference : {C : Type 0} → Option (MutBor C) → Option GName
-reference kept = option_map (λ r. r.ghost_name) kept
+-- the reference is the same, and what was behind it became what is behind it now
+abbrev pub Behind : {C : Type 0} → (C → C → Type 0) → Option (MutBor C) → Option (MutBor C) → Type 0
+Behind Became (Some before) (Some after) = (after.ghost_name ≡ before.ghost_name) × Became before.now after.now
+Behind Became None None = Unit {0}
+Behind Became _ _ = ⊥

@@ -1,5 +1,6 @@
--- What the pass that takes parentheses off makes of a program; the table of marks stays.
-use Rattle.std.specs.Prelude.{◌≡◌, ◌↔◌, false}
+-- What the pass that takes parentheses off makes of a program; of the pass it goes by the comments that it was lent.
+use Rattle.std.specs.Prelude.{◌≡◌, ◌↔◌, true, false, Option}
+use Rattle.std.specs.Borrow.{MutBor}
 use Rattle.swc_tree_marks.specs.declared.error.PassError.{PassError}
 use Rattle.swc_tree_marks.specs.declared.error.PassError.TheVariants as error
 use Rattle.swc_tree_marks.specs.Globals.{Table}
@@ -7,22 +8,37 @@ use Rattle.swc_tree_modules.specs.declared.module_.Module.{Module}
 use Rattle.swc_tree_modules.specs.declared.script.Script.{Script}
 use Rattle.swc_tree_modules.specs.Nodes.{module_node, script_node}
 use Rattle.swc_tree_node.specs.declared.node.Node.{Node}
+use Rattle.swc_tree_grammar.specs.Pairs.{moves}
 use Rattle.swc_tree_grammar.specs.Targets.{all_bare}
+use Rattle.swc_base_fixer_unparen.specs.Moves.{LeadTo, LeadPartlyTo, Moving}
+use Rattle.swc_base_fixer.specs.Lent.{Behind}
 use Rattle.swc_base_fixer.specs.Unparened.{IsRefusal, Unparened}
 
-abbrev pub Unparens : Table → Module → Table → Module → Type 0
-Unparens old before new after = (new ≡ old) × Unparened (module_node before) (module_node after)
+module _ {C : Type 0} (R : Moving C) where
+  -- no pair is left and each parenthesised target takes a value; the comments moved, and the table of marks is as it was
+  pub record UnparensNode (lent : Option (MutBor C)) (old : Table) (before : Node) (kept : Option (MutBor C)) (new : Table) (after : Node) : Type 0 where
+    pub unparened : Unparened before after
+    pub assignable : all_bare before ≡ true
+    pub comments : Behind (λ c d. LeadTo R c (moves before) d) lent kept
+    pub table : new ≡ old
 
-abbrev pub UnparensScript : Table → Script → Table → Script → Type 0
-UnparensScript old before new after = (new ≡ old) × Unparened (script_node before) (script_node after)
+  abbrev pub Unparens : Option (MutBor C) → Table → Module → Option (MutBor C) → Table → Module → Type 0
+  Unparens lent old before kept new after = UnparensNode lent old (module_node before) kept new (module_node after)
 
--- a program is refused for a target that takes no value, where it has one, and else for want of memory
-pub record RefusesNode (before : Node) (e : PassError) : Type 0 where
-  pub refusal : IsRefusal e
-  pub not_assignable : (e ≡ error.NotAssignable) ↔ (all_bare before ≡ false)
+  abbrev pub UnparensScript : Option (MutBor C) → Table → Script → Option (MutBor C) → Table → Script → Type 0
+  UnparensScript lent old before kept new after = UnparensNode lent old (script_node before) kept new (script_node after)
 
-abbrev pub Refuses : Module → PassError → Type 0
-Refuses before e = RefusesNode (module_node before) e
+  -- a program is refused for a target that takes no value, where it has one, and else for want of memory; a beginning
+  -- of the moves was made, and none where a target is to blame; the table of marks is as it was
+  pub record RefusesNode (lent : Option (MutBor C)) (old : Table) (before : Node) (kept : Option (MutBor C)) (new : Table) (e : PassError) : Type 0 where
+    pub refusal : IsRefusal e
+    pub not_assignable : (e ≡ error.NotAssignable) ↔ (all_bare before ≡ false)
+    pub comments : Behind (λ c d. LeadPartlyTo R c (moves before) d) lent kept
+    pub unmoved : e ≡ error.NotAssignable → Behind (λ c d. d ≡ c) lent kept
+    pub table : new ≡ old
 
-abbrev pub RefusesScript : Script → PassError → Type 0
-RefusesScript before e = RefusesNode (script_node before) e
+  abbrev pub Refuses : Option (MutBor C) → Table → Module → Option (MutBor C) → Table → PassError → Type 0
+  Refuses lent old before kept new e = RefusesNode lent old (module_node before) kept new e
+
+  abbrev pub RefusesScript : Option (MutBor C) → Table → Script → Option (MutBor C) → Table → PassError → Type 0
+  RefusesScript lent old before kept new e = RefusesNode lent old (script_node before) kept new e

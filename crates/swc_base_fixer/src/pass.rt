@@ -1,12 +1,6 @@
 //! Taking parentheses off, as a pass.
-ghost use Rattle.std.specs.Prelude.{◌≡◌, ◌↔◌, false, OnOk, OnErr, IfErr, IsErrAnd};
-ghost use Rattle.swc_tree_marks.specs.declared.error.PassError.TheVariants as pass;
+ghost use Rattle.std.specs.Prelude.{OnOk, OnErr, IfErr};
 ghost use Rattle.swc_tree.specs.Passes.{IsEmptied, IsEmptiedScript, IsExtended};
-ghost use Rattle.swc_tree_modules.specs.Nodes.{module_node, script_node};
-ghost use Rattle.swc_tree_grammar.specs.Pairs.{moves};
-ghost use Rattle.swc_tree_grammar.specs.Targets.{all_bare};
-ghost use Rattle.swc_base_fixer.specs.Lent.{MovedBehind, reference};
-ghost use Rattle.swc_base_fixer.specs.Unparened.{IsRefusal};
 ghost use Rattle.swc_base_fixer.specs.Visits.{Refuses, RefusesScript, Unparens, UnparensScript};
 
 use crate::remover::ParenRemover;
@@ -19,13 +13,13 @@ use swc_tree_marks::{Globals, PassError};
 use swc_tree_modules::{Module, Script};
 
 impl<'a, C: Comments> JsPass for ParenRemover<'a, C> {
-    ghost visits = { λ _ old before new after. Unparens old before new after };
+    ghost visits = { λ pass old before kept new after. Unparens C.moved pass.comments old before kept.comments new after };
 
-    ghost visits_script = { λ _ old before new after. UnparensScript old before new after };
+    ghost visits_script = { λ pass old before kept new after. UnparensScript C.moved pass.comments old before kept.comments new after };
 
-    ghost refuses = { λ _ _ before e. Refuses before e };
+    ghost refuses = { λ pass old before kept new e. Refuses C.moved pass.comments old before kept.comments new e };
 
-    ghost refuses_script = { λ _ _ before e. RefusesScript before e };
+    ghost refuses_script = { λ pass old before kept new e. RefusesScript C.moved pass.comments old before kept.comments new e };
 
     /// Takes every pair of parentheses off a program. Comments move once the program is done, from the last pair of
     /// the source to the first.
@@ -34,8 +28,8 @@ impl<'a, C: Comments> JsPass for ParenRemover<'a, C> {
     ///
     /// `NotAssignable` exactly where a parenthesised assignment target, pairs and sequences of one item taken off, is
     /// no identifier, member or property of `super`; it is looked for first and takes no memory. `NoMemory` where
-    /// memory or a move is refused; a beginning of the moves may then have been made. The program is then empty, with
-    /// its span and no `#!` line.
+    /// memory or a move is refused. The program is then empty, with its span and no `#!` line. A beginning of the moves
+    /// may have been made, but none where the error is `NotAssignable`.
     #[tactic(auto, using(crate::proofs::Open::items_open, crate::proofs::Programs::module_unparened, crate::proofs::Programs::module_pairless, crate::proofs::Programs::module_bare, crate::proofs::Programs::module_moves))]
     fn visit_mut_module(
         &mut self,
@@ -43,14 +37,10 @@ impl<'a, C: Comments> JsPass for ParenRemover<'a, C> {
         globals: &mut Globals,
         program: &mut Module,
     ) -> Result<(), PassError>
-        ensures done { OnOk result (Unparens globals.old program.old globals.new program.new) }
+        ensures done { OnOk result (Unparens C.moved self.old.comments globals.old program.old self.new.comments globals.new program.new) }
         ensures refused { OnErr result (IsEmptied program.old program.new) }
         ensures marks { IsExtended globals.old globals.new }
-        ensures table { globals.new ≡ globals.old }
-        ensures cause { IfErr result (Refuses program.old) }
-        ensures not_assignable { IsErrAnd result (λ e. e ≡ pass.NotAssignable) ↔ (all_bare (module_node program.old) ≡ false) }
-        ensures moved { MovedBehind C.moved self.old.comments (moves (module_node program.old)) self.new.comments result }
-        ensures same { reference self.new.comments ≡ reference self.old.comments }
+        ensures cause { IfErr result (Refuses C.moved self.old.comments globals.old program.old self.new.comments globals.new) }
     {
         let Module {
             span,
@@ -79,14 +69,10 @@ impl<'a, C: Comments> JsPass for ParenRemover<'a, C> {
         globals: &mut Globals,
         program: &mut Script,
     ) -> Result<(), PassError>
-        ensures done { OnOk result (UnparensScript globals.old program.old globals.new program.new) }
+        ensures done { OnOk result (UnparensScript C.moved self.old.comments globals.old program.old self.new.comments globals.new program.new) }
         ensures refused { OnErr result (IsEmptiedScript program.old program.new) }
         ensures marks { IsExtended globals.old globals.new }
-        ensures table { globals.new ≡ globals.old }
-        ensures cause { IfErr result (RefusesScript program.old) }
-        ensures not_assignable { IsErrAnd result (λ e. e ≡ pass.NotAssignable) ↔ (all_bare (script_node program.old) ≡ false) }
-        ensures moved { MovedBehind C.moved self.old.comments (moves (script_node program.old)) self.new.comments result }
-        ensures same { reference self.new.comments ≡ reference self.old.comments }
+        ensures cause { IfErr result (RefusesScript C.moved self.old.comments globals.old program.old self.new.comments globals.new) }
     {
         let Script {
             span,

@@ -1,5 +1,5 @@
 //! What takes parentheses off, and how it is made.
-ghost use Rattle.std.specs.Prelude.{◌≡◌, ◌↔◌, false, IfOk, IfErr, IsErrAnd, IsTrue};
+ghost use Rattle.std.specs.Prelude.{◌≡◌, ◌↔◌, false, IfOk, IfErr, OnOk, OnErr, IsErrAnd, IsTrue};
 ghost use Rattle.swc_tree_marks.specs.declared.error.PassError.TheVariants as pass;
 ghost use Rattle.swc_tree_node.specs.declared.slot.Slot.{Slot};
 ghost use Rattle.swc_tree_node.specs.Fits.{Fits};
@@ -8,7 +8,8 @@ ghost use Rattle.swc_tree_grammar.specs.Blocks.{with_blocks};
 ghost use Rattle.swc_tree_grammar.specs.Pairs.{moves};
 ghost use Rattle.swc_tree_grammar.specs.Stripped.{is_pairless, stripped};
 ghost use Rattle.swc_tree_grammar.specs.Targets.{all_bare};
-ghost use Rattle.swc_base_fixer.specs.Lent.{MovedBehind, reference};
+ghost use Rattle.swc_base_fixer_unparen.specs.Moves.{LeadTo, LeadPartlyTo};
+ghost use Rattle.swc_base_fixer.specs.Lent.{Behind};
 ghost use Rattle.swc_base_fixer.specs.Unparened.{IsRefusal};
 
 use std::alloc::Global;
@@ -31,6 +32,16 @@ pub fn paren_remover<'a, C: Comments>(comments: Option<&'a mut C>) -> ParenRemov
 }
 
 impl<'a, C: Comments> ParenRemover<'a, C> {
+    /// Gives back the comments that the pass was lent, if there are any. By it a caller's proof learns what became of
+    /// them: a reference in an `Option` is followed where it is taken out by name, as in
+    /// `match pass.into_comments() { Some(_kept) => result, None => result }`, and not where a pass is let go whole.
+    pub fn into_comments(self) -> Option<&'a mut C>
+        ensures { result ≡ self.entry.comments }
+    {
+        let ParenRemover { comments } = self;
+        comments
+    }
+
     // Takes parentheses off the items of a program, as `remove_parens` does.
     pub(crate) fn strip(&mut self, alloc: Global, node: Node) -> Result<Node, PassError>
         ensures answer { IfOk result (λ t. t ≡ with_blocks (stripped node)) }
@@ -38,8 +49,9 @@ impl<'a, C: Comments> ParenRemover<'a, C> {
         ensures fits { (s : Slot) → IsTrue (is_open s) → Fits node s → IfOk result (λ t. Fits t s) }
         ensures refusal { IfErr result IsRefusal }
         ensures not_assignable { IsErrAnd result (λ e. e ≡ pass.NotAssignable) ↔ (all_bare node ≡ false) }
-        ensures moved { MovedBehind C.moved self.old.comments (moves node) self.new.comments result }
-        ensures same { reference self.new.comments ≡ reference self.old.comments }
+        ensures moved { OnOk result (Behind (λ c d. LeadTo C.moved c (moves node) d) self.old.comments self.new.comments) }
+        ensures partly { OnErr result (Behind (λ c d. LeadPartlyTo C.moved c (moves node) d) self.old.comments self.new.comments) }
+        ensures unmoved { IsErrAnd result (λ e. e ≡ pass.NotAssignable) → Behind (λ c d. d ≡ c) self.old.comments self.new.comments }
     {
         match &mut self.comments {
             None => remove_parens(alloc, None::<&mut NoComments>, node),

@@ -31,3 +31,9 @@ abbrev pub MovedIn : {C T E : Type 0} → Moving C → Option (MutBor C) → Lis
 MovedIn R None ms d r = Unit {0}
 MovedIn R (Some c) ms (inr (inl d)) r = Moved R c.now ms d.0.now r
 MovedIn R (Some c) ms _ r = ⊥
+
+-- comments that are there are as they were
+abbrev pub UnmovedIn : {C : Type 0} → Option (MutBor C) → GivenBack C → Type 0
+UnmovedIn None d = Unit {0}
+UnmovedIn (Some c) (inr (inl d)) = d.0.now ≡ c.now
+UnmovedIn (Some c) _ = ⊥

@@ -7,7 +7,7 @@ ghost use Rattle.swc_tree_grammar.specs.Blocks.{with_blocks};
 ghost use Rattle.swc_tree_grammar.specs.Pairs.{moves};
 ghost use Rattle.swc_tree_grammar.specs.Stripped.{is_pairless, stripped};
 ghost use Rattle.swc_tree_grammar.specs.Targets.{all_bare as bare};
-ghost use Rattle.swc_base_fixer_unparen.specs.Moves.{Moved, MovedIn};
+ghost use Rattle.swc_base_fixer_unparen.specs.Moves.{Moved, MovedIn, UnmovedIn};
 
 use crate::blocks::add_blocks;
 use crate::comments::move_pairs;
@@ -66,6 +66,7 @@ pub fn remove_parens_with<C: Comments>(
     ensures not_assignable { IsErrAnd result (λ e. e ≡ pass.NotAssignable) ↔ (bare node ≡ false) }
     ensures no_memory { IfErr result (λ e. (e ≡ pass.NotAssignable) ⊎ (e ≡ pass.NoMemory)) }
     ensures moved { Moved C.moved comments.old (moves node) comments.new result }
+    ensures unmoved { IsErrAnd result (λ e. e ≡ pass.NotAssignable) → comments.new ≡ comments.old }
 {
     if !all_bare(&node) {
         return Err(PassError::NotAssignable);
@@ -83,8 +84,8 @@ pub fn remove_parens_with<C: Comments>(
 /// # Errors
 ///
 /// `NotAssignable` where a parenthesised assignment target, pairs and sequences of one item taken off, is
-/// no identifier, member or property of `super`; it is looked for first and takes no memory. `NoMemory`
-/// where memory or a move is refused; the first moves of the list may then have been made.
+/// no identifier, member or property of `super`; it is looked for first and takes no memory, and no comment has
+/// moved then. `NoMemory` where memory or a move is refused; the first moves of the list may then have been made.
 ///
 /// # Cost
 ///
@@ -101,6 +102,7 @@ pub fn remove_parens<C: Comments>(
     ensures not_assignable { IsErrAnd result (λ e. e ≡ pass.NotAssignable) ↔ (bare node ≡ false) }
     ensures no_memory { IfErr result (λ e. (e ≡ pass.NotAssignable) ⊎ (e ≡ pass.NoMemory)) }
     ensures moved { MovedIn C.moved comments.entry (moves node) comments.exit result }
+    ensures unmoved { IsErrAnd result (λ e. e ≡ pass.NotAssignable) → UnmovedIn comments.entry comments.exit }
 {
     match comments {
         None => remove_parens_alone(alloc, node),

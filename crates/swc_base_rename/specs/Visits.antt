@@ -11,20 +11,26 @@ use Rattle.swc_base_rename_substitution.specs.Names.{new_id}
 use Rattle.swc_base_rename_substitution.specs.Substituted.{Substituted}
 use Rattle.swc_base_rename.specs.declared.pass.RenameWith.{RenameWith}
 
--- the names are given anew as the pass's map says, and the table of marks stays
-pub record RenamesNode (pass : RenameWith) (old : Table) (before : Node) (new : Table) (after : Node) : Type 0 where
+-- the names are given anew as the pass's map says; the pass and the table of marks are as they were
+pub record RenamesNode (pass : RenameWith) (old : Table) (before : Node) (kept : RenameWith) (new : Table) (after : Node) : Type 0 where
   pub renamed : Substituted (new_id pass.names) pass.config.keep_class_names before after
+  pub same : kept ≡ pass
   pub marks : new ≡ old
 
-abbrev pub Renames : RenameWith → Table → Module → Table → Module → Type 0
-Renames pass old before new after = RenamesNode pass old (module_node before) new (module_node after)
+abbrev pub Renames : RenameWith → Table → Module → RenameWith → Table → Module → Type 0
+Renames pass old before kept new after = RenamesNode pass old (module_node before) kept new (module_node after)
 
-abbrev pub RenamesScript : RenameWith → Table → Script → Table → Script → Type 0
-RenamesScript pass old before new after = RenamesNode pass old (script_node before) new (script_node after)
+abbrev pub RenamesScript : RenameWith → Table → Script → RenameWith → Table → Script → Type 0
+RenamesScript pass old before kept new after = RenamesNode pass old (script_node before) kept new (script_node after)
 
--- a program is refused for want of memory alone
-abbrev pub Refuses : RenameWith → Table → Module → PassError → Type 0
-Refuses pass old before e = e ≡ error.NoMemory
+-- a program is refused for want of memory alone; the pass and the table of marks are as they were
+pub record RefusesNode (pass : RenameWith) (old : Table) (kept : RenameWith) (new : Table) (e : PassError) : Type 0 where
+  pub refusal : e ≡ error.NoMemory
+  pub same : kept ≡ pass
+  pub marks : new ≡ old
 
-abbrev pub RefusesScript : RenameWith → Table → Script → PassError → Type 0
-RefusesScript pass old before e = e ≡ error.NoMemory
+abbrev pub Refuses : RenameWith → Table → Module → RenameWith → Table → PassError → Type 0
+Refuses pass old before kept new e = RefusesNode pass old kept new e
+
+abbrev pub RefusesScript : RenameWith → Table → Script → RenameWith → Table → PassError → Type 0
+RefusesScript pass old before kept new e = RefusesNode pass old kept new e

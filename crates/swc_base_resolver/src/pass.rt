@@ -58,22 +58,23 @@ impl JsPass for Resolver {
 
     ghost refuses_script = { RefusesScript };
 
-    /// Resolves a program. Each run is by itself: nothing is kept from an earlier one.
+    /// Resolves a program. Each run is by itself: the resolver stays as it is.
     ///
     /// # Errors
     ///
     /// `MarksSpent` only where the table's greatest number plus the number of scopes in the program is above
-    /// 4294967295; `NoMemory`. The program is then empty, with its span and no `#!` line.
+    /// 4294967295; `NoMemory`. The program is then empty, with its span and no `#!` line; the table holds what it
+    /// held, and perhaps the first of the fresh marks.
     fn visit_mut_module(
         &mut self,
         alloc: Global,
         globals: &mut Globals,
         program: &mut Module,
     ) -> Result<(), PassError>
-        ensures done { OnOk result (Resolves self.old globals.old program.old globals.new program.new) }
+        ensures done { OnOk result (Resolves self.old globals.old program.old self.new globals.new program.new) }
         ensures refused { OnErr result (IsEmptied program.old program.new) }
         ensures marks { IsExtended globals.old globals.new }
-        ensures cause { IfErr result (Refuses self.old globals.old program.old) }
+        ensures cause { IfErr result (Refuses self.old globals.old program.old self.new globals.new) }
     {
         let module = mem::replace(program, empty_module(alloc, program.span));
         let node = module.into_node(alloc)?;
@@ -88,17 +89,18 @@ impl JsPass for Resolver {
     /// # Errors
     ///
     /// `MarksSpent` only where the table's greatest number plus the number of scopes in the program is above
-    /// 4294967295; `NoMemory`. The program is then empty, with its span and no `#!` line.
+    /// 4294967295; `NoMemory`. The program is then empty, with its span and no `#!` line; the table holds what it
+    /// held, and perhaps the first of the fresh marks.
     fn visit_mut_script(
         &mut self,
         alloc: Global,
         globals: &mut Globals,
         program: &mut Script,
     ) -> Result<(), PassError>
-        ensures done { OnOk result (ResolvesScript self.old globals.old program.old globals.new program.new) }
+        ensures done { OnOk result (ResolvesScript self.old globals.old program.old self.new globals.new program.new) }
         ensures refused { OnErr result (IsEmptiedScript program.old program.new) }
         ensures marks { IsExtended globals.old globals.new }
-        ensures cause { IfErr result (RefusesScript self.old globals.old program.old) }
+        ensures cause { IfErr result (RefusesScript self.old globals.old program.old self.new globals.new) }
     {
         let script = mem::replace(program, empty_script(alloc, program.span));
         let node = script.into_node(alloc)?;

@@ -279,6 +279,7 @@ module _ (a : Marking) (t : Node) where
         one_to_one = one_to_one;
         program = mark_is [] root_opens ∙ first_mark top first;
         fresh = fresh;
+        table = gains;
         gained = gained;
         contexts = written a [] 0 program_place t;
         only_contexts = e;

@@ -28,7 +28,7 @@ use swc_tree_scoping::Scope;
 /// # Errors
 ///
 /// `PassError::MarksSpent` where the table has no room for the fresh marks, and `PassError::NoMemory`. The table
-/// then holds what it held, and perhaps some of the fresh marks.
+/// then holds what it held, and perhaps the first of the fresh marks.
 pub fn resolve_program(
     alloc: Global,
     globals: &mut Globals,
@@ -40,6 +40,7 @@ pub fn resolve_program(
     ensures contexts { IfOk result (λ answer. OnlyContexts program answer) }
     ensures place { (s : Slot') → IfOk result (λ answer. fits answer s ≡ fits program s) }
     ensures table { (fresh : ℕ) × (fresh ≤ scope_count program_place program - 1) × (globals.new ≡ with_fresh_marks globals.old top fresh) }
+    ensures gained { IfOk result (λ _. globals.new ≡ with_fresh_marks globals.old top (scope_count program_place program - 1)) }
     ensures refusal { IfErr result IsRefusal }
     ensures spent { IsErrOf result PassError.MarksSpent → 4294967295 < greatest globals.old + (scope_count program_place program - 1) }
 {

@@ -11,13 +11,13 @@ use swc_tree_modules::{Module, Script};
 pub struct Noop;
 
 impl JsPass for Noop {
-    ghost visits = { λ pass table before held after. (held ≡ table) × (after ≡ before) };
+    ghost visits = { λ pass table before kept held after. (kept ≡ pass) × (held ≡ table) × (after ≡ before) };
 
-    ghost visits_script = { λ pass table before held after. (held ≡ table) × (after ≡ before) };
+    ghost visits_script = { λ pass table before kept held after. (kept ≡ pass) × (held ≡ table) × (after ≡ before) };
 
-    ghost refuses = { λ pass table before error. ⊥ };
+    ghost refuses = { λ pass table before kept held error. ⊥ };
 
-    ghost refuses_script = { λ pass table before error. ⊥ };
+    ghost refuses_script = { λ pass table before kept held error. ⊥ };
 
     fn visit_mut_module(
         &mut self,

@@ -13,34 +13,34 @@ pub trait JsPass {
     ghost use Rattle.swc_tree_modules.specs.declared.module_.Module.{Module};
     ghost use Rattle.swc_tree_modules.specs.declared.script.Script.{Script};
 
-    /// What the pass does: of the pass, the table of marks and the program before, and the table and
-    /// the program after.
-    ghost visits: { Self → Table → Module → Table → Module → Type 0 };
+    /// What the pass does: of the pass, the table of marks and the program before, and of the three after.
+    ghost visits: { Self → Table → Module → Self → Table → Module → Type 0 };
 
     /// What the pass does to a program of the goal Script.
-    ghost visits_script: { Self → Table → Script → Table → Script → Type 0 };
+    ghost visits_script: { Self → Table → Script → Self → Table → Script → Type 0 };
 
-    /// When the pass is refused, and why: of the pass, the table of marks and the program before, and the error.
-    ghost refuses: { Self → Table → Module → PassError → Type 0 };
+    /// When the pass is refused, why, and what it leaves: of the pass, the table of marks and the program before, of
+    /// the pass and the table after, and of the error.
+    ghost refuses: { Self → Table → Module → Self → Table → PassError → Type 0 };
 
-    /// When the pass is refused a program of the goal Script, and why.
-    ghost refuses_script: { Self → Table → Script → PassError → Type 0 };
+    /// When the pass is refused a program of the goal Script, why, and what it leaves.
+    ghost refuses_script: { Self → Table → Script → Self → Table → PassError → Type 0 };
 
     /// Runs the pass on a program.
     ///
     /// # Errors
     ///
-    /// As `refuses` says. Whatever the error, the program is then empty, with its span and no `#!` line.
-    /// The table of marks keeps what it has, and may have more.
+    /// As `refuses` says, which also says what the pass and the table are then. Whatever the error, the program is
+    /// then empty, with its span and no `#!` line. The table of marks keeps what it has, and may have more.
     fn visit_mut_module(
         &mut self,
         alloc: Global,
         globals: &mut Globals,
         program: &mut Module,
     ) -> Result<(), PassError>
-        ensures done { OnOk result (visits self.old globals.old program.old globals.new program.new) }
+        ensures done { OnOk result (visits self.old globals.old program.old self.new globals.new program.new) }
         ensures refused { OnErr result (IsEmptied program.old program.new) }
-        ensures cause { IfErr result (refuses self.old globals.old program.old) }
+        ensures cause { IfErr result (refuses self.old globals.old program.old self.new globals.new) }
         ensures marks { IsExtended globals.old globals.new };
 
     /// Runs the pass on a program of the goal Script.
@@ -54,9 +54,9 @@ pub trait JsPass {
         globals: &mut Globals,
         program: &mut Script,
     ) -> Result<(), PassError>
-        ensures done { OnOk result (visits_script self.old globals.old program.old globals.new program.new) }
+        ensures done { OnOk result (visits_script self.old globals.old program.old self.new globals.new program.new) }
         ensures refused { OnErr result (IsEmptiedScript program.old program.new) }
-        ensures cause { IfErr result (refuses_script self.old globals.old program.old) }
+        ensures cause { IfErr result (refuses_script self.old globals.old program.old self.new globals.new) }
         ensures marks { IsExtended globals.old globals.new };
 
     /// Runs the pass on a program by value.
@@ -71,8 +71,8 @@ pub trait JsPass {
         globals: &mut Globals,
         program: Module,
     ) -> Result<Module, PassError>
-        ensures done { IfOk result (λ folded. visits self.old globals.old program globals.new folded) }
-        ensures cause { IfErr result (refuses self.old globals.old program) }
+        ensures done { IfOk result (λ folded. visits self.old globals.old program self.new globals.new folded) }
+        ensures cause { IfErr result (refuses self.old globals.old program self.new globals.new) }
         ensures marks { IsExtended globals.old globals.new }
     {
         let mut program = program;
@@ -91,8 +91,8 @@ pub trait JsPass {
         globals: &mut Globals,
         program: Script,
     ) -> Result<Script, PassError>
-        ensures done { IfOk result (λ folded. visits_script self.old globals.old program globals.new folded) }
-        ensures cause { IfErr result (refuses_script self.old globals.old program) }
+        ensures done { IfOk result (λ folded. visits_script self.old globals.old program self.new globals.new folded) }
+        ensures cause { IfErr result (refuses_script self.old globals.old program self.new globals.new) }
         ensures marks { IsExtended globals.old globals.new }
     {
         let mut program = program;

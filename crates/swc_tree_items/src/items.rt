@@ -113,11 +113,12 @@ impl<T> Items<T> {
         mem::replace(&mut self.items[index], item)
     }
 
-    /// Moves the elements of `more` to the end.
+    /// Moves the elements of `more` to the end. Where memory is refused, the list stays and `more` is dropped.
     pub fn append(&mut self, more: Items<T>) -> Result<(), AllocError>
     where
         T: Drop,
-        ensures { OnOk result (self.new ≡ self.old ++ more) }
+        ensures ok { OnOk result (self.new ≡ self.old ++ more) }
+        ensures err { OnErr result (self.new ≡ self.old) }
     {
         let Items { mut items } = more;
         self.items.append(&mut items)

@@ -1,7 +1,8 @@
 -- What a resolver may answer: each identifier with the mark of its scope.
-use Rattle.std.specs.Prelude.{◌≡◌, ◌≢◌, ℕ, zero, suc, Bool, true, false, ◌&&◌, ◌||◌, ◌⊎◌, ◌↔◌, Option, Some, None, List, [], ◌∷◌, Contains, codes, if◌then◌else◌}
+use Rattle.std.specs.Prelude.{◌≡◌, ◌≢◌, ℕ, zero, suc, ◌-◌, Bool, true, false, ◌&&◌, ◌||◌, ◌⊎◌, ◌↔◌, Option, Some, None, List, [], ◌∷◌, Contains, codes, if◌then◌else◌}
 use Rattle.std.specs.Str.{bytes_eq}
 use Rattle.swc_tree_marks.specs.declared.ident.Ident.{Ident}
+use Rattle.swc_tree_marks.specs.Globals.{with_fresh_marks}
 use Rattle.swc_tree_node.specs.declared.kind.Kind.{Kind}
 use Rattle.swc_tree_node.specs.declared.kind.Kind.TheVariants as kind
 use Rattle.swc_tree_node.specs.declared.node.Node.{Node, Absent, Flag, Word, Text, Span, List as Many, Identifier, Tree, out-Node, fold-Node}
@@ -10,7 +11,7 @@ use Rattle.swc_tree_scoping.specs.declared.places.Standing.{Standing}
 use Rattle.swc_tree_scoping.specs.declared.places.Standing.TheVariants as standing
 use Rattle.swc_tree_scoping.specs.declared.places.Place.{Place}
 use Rattle.swc_tree_scoping.specs.Places.{Path, program_place, place_at}
-use Rattle.swc_tree_scoping.specs.Scopes.{IsScope, taker, variable_scope}
+use Rattle.swc_tree_scoping.specs.Scopes.{IsScope, scope_count, taker, variable_scope}
 use Rattle.swc_tree_scoping.specs.Declares.{Hoists, Means, Meets, DeclaresOtherwise}
 
 abbrev pub Contexts : Type 0
@@ -98,8 +99,10 @@ pub record Resolved (unresolved top : ℕ) (old new : List (ℕ × ℕ)) (tree a
   pub marks : Path → ℕ
   pub one_to_one : (s u : Path) → IsScope tree s → IsScope tree u → marks s ≡ marks u → s ≡ u
   pub program : marks [] ≡ top
-  -- the others have marks that the old table lacks, and whose parent is the top mark; the table gains just these
+  -- the others have marks that the old table lacks, and whose parent is the top mark; the table gains just these, one
+  -- for each of them, behind what it had
   pub fresh : (s : Path) → IsScope tree s → s ≢ [] → (parent : ℕ) → ¬ Contains old (marks s, parent)
+  pub table : new ≡ with_fresh_marks old top (scope_count program_place tree - 1)
   pub gained : (m parent : ℕ) → Contains new (m, parent) ↔ (Contains old (m, parent) ⊎ ((parent ≡ top) × ((s : Path) × IsScope tree s × (s ≢ []) × (marks s ≡ m))))
   -- only contexts change, and those that are not empty stay
   pub contexts : Contexts
