@@ -13,7 +13,7 @@ use Rattle.swc_tree_grammar.specs.Starts.{Start, start}
 use Rattle.swc_tree_grammar.specs.Starts.Start.{Let}
 use Rattle.swc_tree_grammar.specs.Forms.{holds}
 use Rattle.swc_tree_grammar.specs.Blocks.{span_of}
-use Rattle.swc_tree_grammar.specs.Grammar.{has_kind, is_chain, is_bare_new, is_nullish, is_block, is_async_name, may_begin_statement, may_begin_export, may_begin_body}
+use Rattle.swc_tree_grammar.specs.Grammar.{has_kind, is_chain, is_bare_new, is_nullish, is_block, is_paren, is_async_name, may_begin_statement, may_begin_export, may_begin_body}
 
 -- where the pair round an expression stands, by where the expression does
 abbrev pub Places : Type 0
@@ -293,7 +293,7 @@ first_in place t (Update span op prefix arg) = Tree kind.UpdateExpr (span.whole 
 first_in place t (Member span obj prop) = if is_let (start obj.whole) then pair place t else Tree kind.MemberExpr (span.whole ∷ obj.paired ∷ prop.whole ∷ [])
 first_in place t (TaggedTpl span tag tpl) = Tree kind.TaggedTpl (span.whole ∷ tag.paired ∷ tpl.whole ∷ [])
 first_in place t (Call span callee args) = Tree kind.CallExpr (span.whole ∷ callee.paired ∷ args.whole ∷ [])
-first_in place t (OptChain span optional base) = Tree kind.OptChainExpr (span.whole ∷ optional.whole ∷ base.paired ∷ [])
+first_in place t (OptChain span optional base) = if has_kind is_paren base.paired then pair place t else Tree kind.OptChainExpr (span.whole ∷ optional.whole ∷ base.paired ∷ [])
 first_in place t (OptCall span callee args) = Tree kind.OptCall (span.whole ∷ callee.paired ∷ args.whole ∷ [])
 first_in place t _ = pair place t
 

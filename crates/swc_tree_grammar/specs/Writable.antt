@@ -11,8 +11,8 @@ use Rattle.swc_tree_node.specs.declared.node.Node.{Node, out-Node, roll-Node, fo
 use Rattle.swc_tree_node.specs.declared.node.Node.TheOpen.{Node-F}
 use Rattle.swc_tree_grammar.specs.Shapes.{Seq, Assign, Bin, Update, Member, Tpl, OptChain, OptCall, Getter, Setter, Arrow, Function, Class, FnExpr, ClassExpr, FnDecl, Declarator, AssignPat, VarDecl, UsingDecl, Statement, Str, With, Labeled, If, Case, While, DoWhile, For, ForIn, ForOf, Module, Script, items_of}
 use Rattle.swc_tree_grammar.specs.Levels.{word_of, is_absent}
-use Rattle.swc_tree_grammar.specs.Forms.{form, is_body, is_branch, is_using, is_strict, are_named, holds, text_in, string_in}
-use Rattle.swc_tree_grammar.specs.Grammar.{has_kind, is_private_name, is_chain}
+use Rattle.swc_tree_grammar.specs.Forms.{form, is_body, is_branch, is_using, is_strict, is_strict_list, are_named, holds, text_in, string_in}
+use Rattle.swc_tree_grammar.specs.Grammar.{has_kind, is_private_name, is_chain, is_paren}
 use Rattle.swc_tree_grammar.specs.Targets.{is_target}
 use Rattle.swc_tree_grammar.specs.Stripped.{stripped}
 
@@ -122,10 +122,6 @@ is_pattern_target kind.ArrayPat = true
 is_pattern_target kind.ObjectPat = true
 is_pattern_target _ = false
 
-abbrev pub is_paren : Kind → Bool
-is_paren kind.ParenExpr = true
-is_paren _ = false
-
 abbrev pub is_plain_assignment : Option Word → Bool
 is_plain_assignment (Some word.Assign) = true
 is_plain_assignment _ = false
@@ -223,7 +219,7 @@ all_sound es r = list_all (λ e. no_private e && e.sound r) es
 abbrev pub sound_in : Node-F Asked → Sound
 sound_in (Node-F.Identifier kind.BindingIdent i) r = if r.assigned then is_identifier_text i.sym else is_bindable r.strict i.sym
 sound_in (Node-F.Identifier k i) r = is_identifier_text i.sym
-sound_in (Node-F.List es) r = list_all (λ e. e.sound r) es
+sound_in (Node-F.List es) r = all_sound es r
 sound_in (Seq span exprs) r = nat_le 2 (length (items_of exprs.whole)) && exprs.sound r
 sound_in (Assign span op left right) r = left_side (word_of op.whole) left.whole && (left.sound (assigning r) && all_sound (right ∷ []) (binding r))
 sound_in (Update span op prefix arg) r = is_target arg.whole && arg.sound (binding r)
@@ -240,9 +236,9 @@ sound_in (Node-F.Tree kind.AssignPatProp (span ∷ key ∷ value ∷ [])) r = ke
 sound_in (Arrow span params body is_async) r = elements (binding r) (items_of params.whole) && all_sound (params ∷ body ∷ []) (strictly (is_strict body.whole) r)
 sound_in (Function span params body is_generator is_async) r = elements (binding r) (items_of params.whole) && all_sound (params ∷ body ∷ []) (strictly (is_strict body.whole) r)
 sound_in (Node-F.Tree kind.Constructor (span ∷ key ∷ params ∷ body ∷ [])) r =
-    constructor_key_in (out-Node key.whole) && (elements (binding r) (items_of params.whole) && all_sound (params ∷ body ∷ []) (strictly true r))
-sound_in (Getter span key body) r = all_sound (key ∷ body ∷ []) (strictly (is_strict body.whole) r)
-sound_in (Setter span key param body) r = element param.whole (binding r) && all_sound (key ∷ param ∷ body ∷ []) (strictly (is_strict body.whole) r)
+    constructor_key_in (out-Node key.whole) && (elements (binding r) (items_of params.whole) && all_sound (params ∷ body ∷ []) (binding r))
+sound_in (Getter span key body) r = all_sound (key ∷ []) (binding r) && all_sound (body ∷ []) (strictly (is_strict body.whole) r)
+sound_in (Setter span key param body) r = element param.whole (binding r) && (all_sound (key ∷ []) (binding r) && all_sound (param ∷ body ∷ []) (strictly (is_strict body.whole) r))
 sound_in (Node-F.Tree kind.ClassMethod (span ∷ key ∷ function ∷ keyword ∷ is_static ∷ [])) r = accessor function.whole keyword.whole && (key.sound (binding r) && function.sound r)
 sound_in (Node-F.Tree kind.PrivateMethod (span ∷ key ∷ function ∷ keyword ∷ is_static ∷ [])) r = accessor function.whole keyword.whole && function.sound r
 sound_in (Node-F.Tree kind.PrivateProp (span ∷ key ∷ value ∷ is_static ∷ [])) r = all_sound (value ∷ []) (binding r)
@@ -274,7 +270,7 @@ sound_in (Node-F.Tree kind.ExportNamedSpecifier (span ∷ orig ∷ exported ∷ 
 sound_in (Node-F.Tree kind.ExportNamespaceSpecifier es) r = true
 sound_in (Node-F.Tree kind.ExportDecl (span ∷ decl ∷ [])) r = not (is_using decl.whole) && decl.sound r
 sound_in (Module span body shebang) r = body.sound (strictly true r)
-sound_in (Script span body shebang) r = no_using body && body.sound (strictly (is_strict body.whole) r)
+sound_in (Script span body shebang) r = no_using body && body.sound (strictly (is_strict_list (items_of body.whole)) r)
 sound_in (Node-F.Tree k es) r = all_sound es (binding r)
 sound_in _ r = true
 
