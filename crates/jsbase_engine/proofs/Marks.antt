@@ -17,7 +17,7 @@ use Rattle.jsbase_form.proofs.Members.{split}
 use Rattle.jsbase_reader.proofs.Marks.{same_number}
 use Rattle.std.proofs.lemmas.Map.Views.{Contains-from_any}
 use Rattle.jsbase_reader.specs.declared.envelope.Envelope.{Envelope}
-use Rattle.jsbase_reader.specs.Envelopes.{option_at, envelope_of, envelope_in, text_in, envelope_in_text}
+use Rattle.jsbase_reader.specs.Envelopes.{marks_in, options_in, envelope_of, envelope_in, text_in, envelope_in_text}
 
 marked_is : (table : Table) (mark : ℕ) → is_marked table mark ≡ true → IsMark table mark
 marked_is table mark h =
@@ -34,6 +34,16 @@ mark_ok table d mark h =
     let is = chosen (is_marked table number.0) number.0 mark number.2 in
     subst (IsMark table) is.1 (marked_is table number.0 is.0)
 
+marks_ok : (table : Table) (ms : Members) (marks : ℕ × ℕ) → marks_in table ms ≡ Ok marks → MarksOk table marks.0 marks.1
+marks_ok table ms marks h =
+    let unresolved = bound (at (key (codes "unresolved")) (mark_at table (value_of (codes "unresolved") ms))) _ marks h in
+    let top = bound (at (key (codes "top")) (mark_at table (value_of (codes "top") ms))) _ marks unresolved.2 in
+    let same = ok_same (unresolved.0, top.0) marks top.2 in
+    subst (λ m. MarksOk table m.0 m.1) same (
+      mark_ok table (value_of (codes "unresolved") ms) unresolved.0 (at_ok (key (codes "unresolved")) _ unresolved.0 unresolved.1),
+      mark_ok table (value_of (codes "top") ms) top.0 (at_ok (key (codes "top")) _ top.0 top.1),
+    )
+
 abbrev HasMarks : Envelope → Type 0
 HasMarks e = MarksOk e.globals e.unresolved e.top
 
@@ -41,16 +51,11 @@ members_marks : (class : Class) (ms : Members) (e : Envelope) → envelope_of cl
 unfolding envelope_of
 members_marks class ms e h =
     let table = bound (at (key (codes "marks")) (table_at (value_of (codes "marks") ms))) _ e h in
-    let unresolved = bound (at (key (codes "unresolved")) (mark_at table.0 (value_of (codes "unresolved") ms))) _ e table.2 in
-    let top = bound (at (key (codes "top")) (mark_at table.0 (value_of (codes "top") ms))) _ e unresolved.2 in
-    let keep = bound (at (key (codes "keepClassNames")) (option_at (value_of (codes "keepClassNames") ms))) _ e top.2 in
-    let ignore = bound (at (key (codes "ignoreEval")) (option_at (value_of (codes "ignoreEval") ms))) _ e keep.2 in
-    let tree = bound (at (key (codes "tree")) (seen table.0 (value_of (codes "tree") ms) (slot.One (content.Node class)))) _ e ignore.2 in
-    let same = ok_same (record { globals = table.0; unresolved = unresolved.0; top = top.0; keep_class_names = keep.0; ignore_eval = ignore.0; tree = tree.0 }) e tree.2 in
-    subst HasMarks same (
-      mark_ok table.0 (value_of (codes "unresolved") ms) unresolved.0 (at_ok (key (codes "unresolved")) _ unresolved.0 unresolved.1),
-      mark_ok table.0 (value_of (codes "top") ms) top.0 (at_ok (key (codes "top")) _ top.0 top.1),
-    )
+    let marks = bound (marks_in table.0 ms) _ e table.2 in
+    let options = bound (options_in ms) _ e marks.2 in
+    let tree = bound (at (key (codes "tree")) (seen table.0 (value_of (codes "tree") ms) (slot.One (content.Node class)))) _ e options.2 in
+    let same = ok_same (record { globals = table.0; unresolved = marks.0.0; top = marks.0.1; keep_class_names = options.0.0; ignore_eval = options.0.1; tree = tree.0 }) e tree.2 in
+    subst HasMarks same (marks_ok table.0 ms marks.0 marks.1)
 
 pub envelope_marks : (class : Class) (bytes : List ℕ) (e : Envelope) → envelope_in_text class bytes ≡ Ok e → MarksOk e.globals e.unresolved e.top
 envelope_marks class bytes e h =

@@ -1,5 +1,6 @@
 -- A tree of the class of a program is a program.
-use Rattle.std.proofs.Common.{◌≡◌, List, [], ◌∷◌, ℕ, Bool, true, false, not, IsTrue, Some, refl, ap, subst, sym, map, arith}
+use Rattle.std.proofs.Common.{◌≡◌, List, [], ◌∷◌, ℕ, Bool, true, false, not, ◌==◌, IsTrue, Some, refl, ap, subst, sym, map, arith}
+use Rattle.std.specs.List.{list_any}
 use Rattle.swc_tree_marks.specs.declared.ident.Ident.{Ident}
 use Rattle.swc_tree_marks.specs.declared.span.Span.{Span as Span'}
 use Rattle.swc_tree_node.specs.declared.kind.Class.{Class}
@@ -12,10 +13,10 @@ use Rattle.swc_tree_node.specs.declared.node.Node.TheOpen.{Node-F}
 use Rattle.swc_tree_node.specs.declared.node.Node.TheVariants.{outs-Tree, rolls-Absent, rolls-Flag, rolls-Word, rolls-Text, rolls-Span, rolls-List, rolls-Identifier, rolls-Tree}
 use Rattle.swc_tree_node.specs.declared.slot.Content.TheVariants as content
 use Rattle.swc_tree_node.specs.declared.slot.Slot.TheVariants as slot
-use Rattle.swc_tree_node.specs.Fits.{Fits}
-use Rattle.swc_tree_node.specs.Table.{kinds_of, is_identifier}
-use Rattle.swc_tree_node.proofs.Fit.{fits-Absent, fits-Flag, fits-Word, fits-Text, fits-Span, fits-List}
-use Rattle.swc_tree_handle.proofs.Handles.{sole_tree, sole_unnamed}
+use Rattle.swc_tree_node.specs.Fits.{Fits, belongs}
+use Rattle.swc_tree_node.specs.Table.{kinds_of, kind_number, is_identifier}
+use Rattle.swc_tree_node.proofs.Fit.{both, tree_opens, fits-Absent, fits-Flag, fits-Word, fits-Text, fits-Span, fits-List, fits-Identifier}
+use Rattle.jsbase_form.proofs.Numbers.{same_kind}
 use Rattle.swc_tree_scoping.specs.declared.places.Scope.TheVariants as scope
 use Rattle.swc_tree_scoping.specs.Places.{opened, program_place}
 use Rattle.jsbase_engine.specs.declared.arguments.Kind.{Kind as Goal}
@@ -42,6 +43,22 @@ by_form P absent flag word text span list identifier tree t = ind-Node P (λ x a
     layer (Node-F.Identifier k i) = subst P (sym (rolls-Identifier k i)) (identifier k i)
     layer (Node-F.Tree k es) = subst P (sym (rolls-Tree k (map (λ e. e.0) es))) (tree k (map (λ e. e.0) es))
 
+only : (k l : Kind) → IsTrue (list_any (λ x. kind_number k == kind_number x) (l ∷ [])) → k ≡ l
+only k l h = same_kind k l (grind arith)
+
+-- a class of one kind
+sole : (k l : Kind) (c : Class) → kinds_of c ≡ l ∷ [] → IsTrue (belongs k c) → k ≡ l
+sole k l c e h = only k l (subst (λ ks. IsTrue (list_any (λ x. kind_number k == kind_number x) ks)) e h)
+
+clash : (b : Bool) → IsTrue b → IsTrue (not b) → ⊥
+clash true h g = absurd (grind arith)
+clash false h g = absurd (grind arith)
+
+no_identifier : (k : Kind) (i : Ident) (c : Class) (l : Kind) → Fits (Identifier k i) (slot.One (content.Node c)) → kinds_of c ≡ l ∷ [] → IsTrue (not (is_identifier l)) → ⊥
+no_identifier k i c l h e n =
+    let parts = both (is_identifier k) (belongs k c) (rw (← fits-Identifier k i (slot.One (content.Node c))) h) in
+    clash (is_identifier l) (subst (λ x. IsTrue (is_identifier x)) (sole k l c e parts.1) parts.0) n
+
 -- a node whose class takes one kind, and that no identifier's, is of that kind
 sole_fields : (t : Node) (c : Class) (l : Kind) → Fits t (slot.One (content.Node c)) → kinds_of c ≡ l ∷ [] → IsTrue (not (is_identifier l)) → (ts : List Node) × (t ≡ Tree l ts)
 sole_fields t c l h e n = by_form P
@@ -51,8 +68,8 @@ sole_fields t c l h e n = by_form P
     (λ x g. no (rw (← fits-Text x (slot.One (content.Node c))) g))
     (λ x g. no (rw (← fits-Span x (slot.One (content.Node c))) g))
     (λ ts g. no (rw (← fits-List ts (slot.One (content.Node c))) g))
-    (λ k i g. nothing (sole_unnamed k i c l g e n))
-    (λ k ts g. (ts, ap (λ x. Tree x ts) (sole_tree k ts c l g e).0))
+    (λ k i g. nothing (no_identifier k i c l g e n))
+    (λ k ts g. (ts, ap (λ x. Tree x ts) (sole k l c e (tree_opens k ts c g).1)))
     t h
   where
     P : Node → Type 0

@@ -8,13 +8,12 @@ use Rattle.swc_tree_node.specs.declared.slot.Slot.TheVariants as slot
 use Rattle.swc_tree_node.specs.Fits.{Fits}
 use Rattle.jsbase_form.specs.Reads.{at, found, key}
 use Rattle.jsbase_form.specs.Known.{MarksKnown}
-use Rattle.jsbase_form.specs.Leaves.{mark_at}
 use Rattle.jsbase_form.specs.Tables.{table_at}
 use Rattle.jsbase_form.specs.Trees.{seen, value_of}
 use Rattle.jsbase_form.proofs.Successes.{bound, at_ok, ok_same}
 use Rattle.jsbase_form.proofs.Seen.{Sound, seen_sound}
 use Rattle.jsbase_reader.specs.declared.envelope.Envelope.{Envelope}
-use Rattle.jsbase_reader.specs.Envelopes.{option_at, envelope_of, envelope_in}
+use Rattle.jsbase_reader.specs.Envelopes.{marks_in, options_in, envelope_of, envelope_in}
 
 abbrev IsSound : Class → Envelope → Type 0
 IsSound class e = Sound e.globals (slot.One (content.Node class)) e.tree
@@ -23,12 +22,10 @@ members_sound : (class : Class) (ms : Members) (e : Envelope) → envelope_of cl
 unfolding envelope_of
 members_sound class ms e h =
     let table = bound (at (key (codes "marks")) (table_at (value_of (codes "marks") ms))) _ e h in
-    let unresolved = bound (at (key (codes "unresolved")) (mark_at table.0 (value_of (codes "unresolved") ms))) _ e table.2 in
-    let top = bound (at (key (codes "top")) (mark_at table.0 (value_of (codes "top") ms))) _ e unresolved.2 in
-    let keep = bound (at (key (codes "keepClassNames")) (option_at (value_of (codes "keepClassNames") ms))) _ e top.2 in
-    let ignore = bound (at (key (codes "ignoreEval")) (option_at (value_of (codes "ignoreEval") ms))) _ e keep.2 in
-    let tree = bound (at (key (codes "tree")) (seen table.0 (value_of (codes "tree") ms) (slot.One (content.Node class)))) _ e ignore.2 in
-    let same = ok_same (record { globals = table.0; unresolved = unresolved.0; top = top.0; keep_class_names = keep.0; ignore_eval = ignore.0; tree = tree.0 }) e tree.2 in
+    let marks = bound (marks_in table.0 ms) _ e table.2 in
+    let options = bound (options_in ms) _ e marks.2 in
+    let tree = bound (at (key (codes "tree")) (seen table.0 (value_of (codes "tree") ms) (slot.One (content.Node class)))) _ e options.2 in
+    let same = ok_same (record { globals = table.0; unresolved = marks.0.0; top = marks.0.1; keep_class_names = options.0.0; ignore_eval = options.0.1; tree = tree.0 }) e tree.2 in
     subst (IsSound class) same (seen_sound table.0 (value_of (codes "tree") ms) (slot.One (content.Node class)) tree.0 (at_ok (key (codes "tree")) _ tree.0 tree.1))
 
 envelope_sound : (class : Class) (d : Data) (e : Envelope) → envelope_in class d ≡ Ok e → IsSound class e

@@ -1,5 +1,5 @@
 -- What a reader's answer says.
-use Rattle.std.specs.Prelude.{◌≡◌, Result, Ok, Err, ⊤}
+use Rattle.std.specs.Prelude.{◌≡◌, List, [], ◌∷◌, ◌++◌, Result, Ok, Err, ⊤}
 use Rattle.serde_json.specs.Data.{Data}
 use Rattle.serde_json.specs.View.{view}
 use Rattle.serde_json.specs.declared.value.Value.{Value}
@@ -18,3 +18,9 @@ abbrev pub GivesView : Result Value ReadError → Read Data → Type 0
 GivesView (Ok value) read = read ≡ Ok (view value)
 GivesView (Err error.NoMemory) read = ⊤
 GivesView (Err (error.Fault path)) read = read ≡ Err path
+
+-- what was read of a part stands behind what was read before it, unless memory ran out
+abbrev pub GivesMore : {A T : Type 0} → Result T ReadError → List A → List A → Read A → Type 0
+GivesMore (Ok t) before after read = (x : _) × (read ≡ Ok x) × (after ≡ before ++ x ∷ [])
+GivesMore (Err error.NoMemory) before after read = ⊤
+GivesMore (Err (error.Fault path)) before after read = read ≡ Err path

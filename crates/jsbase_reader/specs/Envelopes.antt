@@ -7,6 +7,7 @@ use Rattle.serde_json.specs.Read as json
 use Rattle.swc_tree_node.specs.declared.kind.Class.{Class}
 use Rattle.swc_tree_node.specs.declared.slot.Content.TheVariants as content
 use Rattle.swc_tree_node.specs.declared.slot.Slot.TheVariants as slot
+use Rattle.swc_tree_marks.specs.Globals.{Table}
 use Rattle.jsbase_form.specs.Reads.{Read, ◌>>=◌, at, found, key}
 use Rattle.jsbase_form.specs.Leaves.{mark_at, flag_at}
 use Rattle.jsbase_form.specs.Tables.{table_at}
@@ -18,14 +19,24 @@ abbrev pub option_at : Data → Read Bool
 option_at null = Ok false
 option_at d = flag_at d
 
+-- the mark of names that no scope declares, and that of the outermost scope
+abbrev pub marks_in : Table → Members → Read (ℕ × ℕ)
+marks_in table ms = at (key (codes "unresolved")) (mark_at table (value_of (codes "unresolved") ms)) >>= (λ unresolved.
+    at (key (codes "top")) (mark_at table (value_of (codes "top") ms)) >>= (λ top.
+    Ok (unresolved, top)))
+
+-- whether classes keep their names, and whether `eval` is taken for any other call
+abbrev pub options_in : Members → Read (Bool × Bool)
+options_in ms = at (key (codes "keepClassNames")) (option_at (value_of (codes "keepClassNames") ms)) >>= (λ keep_class_names.
+    at (key (codes "ignoreEval")) (option_at (value_of (codes "ignoreEval") ms)) >>= (λ ignore_eval.
+    Ok (keep_class_names, ignore_eval)))
+
 unfoldable pub envelope_of : Class → Members → Read Envelope
 envelope_of class ms = at (key (codes "marks")) (table_at (value_of (codes "marks") ms)) >>= (λ table.
-    at (key (codes "unresolved")) (mark_at table (value_of (codes "unresolved") ms)) >>= (λ unresolved.
-    at (key (codes "top")) (mark_at table (value_of (codes "top") ms)) >>= (λ top.
-    at (key (codes "keepClassNames")) (option_at (value_of (codes "keepClassNames") ms)) >>= (λ keep_class_names.
-    at (key (codes "ignoreEval")) (option_at (value_of (codes "ignoreEval") ms)) >>= (λ ignore_eval.
+    marks_in table ms >>= (λ marks.
+    options_in ms >>= (λ options.
     at (key (codes "tree")) (seen table (value_of (codes "tree") ms) (slot.One (content.Node class))) >>= (λ tree.
-    Ok (record { globals = table; unresolved = unresolved; top = top; keep_class_names = keep_class_names; ignore_eval = ignore_eval; tree = tree })))))))
+    Ok (record { globals = table; unresolved = marks.0; top = marks.1; keep_class_names = options.0; ignore_eval = options.1; tree = tree })))))
 
 -- the envelope whose tree is of the class
 abbrev pub envelope_in : Class → Data → Read Envelope

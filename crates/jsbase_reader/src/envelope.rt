@@ -1,15 +1,18 @@
 //! Reading envelopes: a tree with its table of marks and its options.
-ghost use Rattle.std.specs.Prelude.{IfOk};
+ghost use Rattle.std.specs.Prelude.{IfOk, codes};
 ghost use Rattle.serde_json.specs.View.{view, items_view, members_view};
-ghost use Rattle.jsbase_form.specs.Tables.{pair_at, pairs_of, pairs_at, table_at};
+ghost use Rattle.jsbase_form.specs.Leaves.{mark_at};
+ghost use Rattle.jsbase_form.specs.Reads.{at, key};
+ghost use Rattle.jsbase_form.specs.Tables.{pairs_of, pairs_at, table_at};
+ghost use Rattle.jsbase_form.specs.Trees.{seen, value_of};
 ghost use Rattle.jsbase_form.specs.Known.{MarksKnown};
 ghost use Rattle.swc_tree_node.specs.Fits.{Fits};
 ghost use Rattle.jsbase_reader.specs.Answers.{Gives, GivesView};
-ghost use Rattle.jsbase_reader.specs.Envelopes.{option_at, envelope_of, envelope_in, text_in, envelope_in_text};
+ghost use Rattle.jsbase_reader.specs.Envelopes.{option_at, marks_in, options_in, envelope_of, envelope_in, text_in, envelope_in_text};
 
 use crate::error::{ReadError, fault, under};
-use crate::leaves::{read_flag, read_mark, read_number};
-use crate::nodes::{read, take_value};
+use crate::leaves::{read_flag, read_mark, read_pair};
+use crate::nodes::{member, read, take_value};
 use jsbase_form::Step;
 use serde_json::error::Category;
 use serde_json::{Map, Value};
@@ -29,23 +32,6 @@ pub struct Envelope {
     pub keep_class_names: bool,
     pub ignore_eval: bool,
     pub tree: Node,
-}
-
-#[tactic(auto, using(crate::proofs::Tables::no_pair), unfolding(jsbase_form::specs::Tables::pair_at))]
-fn read_pair(alloc: Global, value: &Value) -> Result<(u32, u32), ReadError>
-    ensures { Gives result (pair_at (view value.now)) }
-{
-    let Some(numbers) = value.as_array() else {
-        return fault(alloc);
-    };
-    match numbers.as_slice() {
-        [mark, parent] => {
-            let mark = under(Step::Index(0), read_number(alloc, mark))?;
-            let parent = under(Step::Index(1), read_number(alloc, parent))?;
-            Ok((mark, parent))
-        }
-        _ => fault(alloc),
-    }
 }
 
 fn read_rows(alloc: Global, values: &[Value]) -> Result<Items<(u32, u32)>, ReadError>
@@ -93,33 +79,95 @@ fn read_option(alloc: Global, value: &Value) -> Result<bool, ReadError>
     }
 }
 
+/// The table of marks of an envelope.
+#[tactic(auto, unfolding(jsbase_form::specs::Tables::table_at, jsbase_form::specs::Tables::pairs_at))]
+fn table_in(alloc: Global, members: &Map<String, Value>) -> Result<Globals, ReadError>
+    ensures { Gives result (at (key (codes "marks")) (table_at (value_of (codes "marks") (members_view members.now.entries)))) }
+{
+    match member(members, "marks") {
+        Some(value) => under(Step::Key("marks"), read_globals(alloc, value)),
+        None => under(Step::Key("marks"), fault(alloc)),
+    }
+}
+
+/// The mark that a key holds.
+#[tactic(auto, unfolding(jsbase_form::specs::Leaves::mark_at, jsbase_form::specs::Leaves::number_at))]
+fn mark_in(
+    alloc: Global,
+    globals: &Globals,
+    members: &Map<String, Value>,
+    name: &'static str,
+) -> Result<Mark, ReadError>
+    ensures { Gives result (at (key name.now) (mark_at globals.now (value_of name.now (members_view members.now.entries)))) }
+{
+    match member(members, name) {
+        Some(value) => under(Step::Key(name), read_mark(alloc, globals, value)),
+        None => under(Step::Key(name), fault(alloc)),
+    }
+}
+
+/// The option that a key holds; where it holds none it is false.
+fn option_in(
+    alloc: Global,
+    members: &Map<String, Value>,
+    name: &'static str,
+) -> Result<bool, ReadError>
+    ensures { Gives result (at (key name.now) (option_at (value_of name.now (members_view members.now.entries)))) }
+{
+    match member(members, name) {
+        Some(value) => under(Step::Key(name), read_option(alloc, value)),
+        None => Ok(false),
+    }
+}
+
+/// The mark of names that no scope declares, and that of the outermost scope.
+fn read_marks(
+    alloc: Global,
+    globals: &Globals,
+    members: &Map<String, Value>,
+) -> Result<(Mark, Mark), ReadError>
+    ensures { Gives result (marks_in globals.now (members_view members.now.entries)) }
+{
+    let unresolved = mark_in(alloc, globals, members, "unresolved")?;
+    let top = mark_in(alloc, globals, members, "top")?;
+    Ok((unresolved, top))
+}
+
+/// Whether classes keep their names, and whether `eval` is taken for any other call.
+fn read_options(alloc: Global, members: &Map<String, Value>) -> Result<(bool, bool), ReadError>
+    ensures { Gives result (options_in (members_view members.now.entries)) }
+{
+    let keep_class_names = option_in(alloc, members, "keepClassNames")?;
+    let ignore_eval = option_in(alloc, members, "ignoreEval")?;
+    Ok((keep_class_names, ignore_eval))
+}
+
+/// The tree of an envelope.
+fn read_tree(
+    alloc: Global,
+    globals: &Globals,
+    class: Class,
+    mut members: Map<String, Value>,
+) -> Result<Node, ReadError>
+    ensures { Gives result (at (key (codes "tree")) (seen globals.now (value_of (codes "tree") (members_view members.entries)) (Slot.One (Content.Node class)))) }
+{
+    let tree = take_value(&mut members, "tree");
+    let slot = Slot::One(Content::Node(class));
+    under(Step::Key("tree"), read(alloc, globals, tree, slot))
+}
+
 #[tactic(auto, unfolding(crate::specs::Envelopes::envelope_of))]
 fn read_members(
     alloc: Global,
     class: Class,
-    mut members: Map<String, Value>,
+    members: Map<String, Value>,
 ) -> Result<Envelope, ReadError>
     ensures { Gives result (envelope_of class (members_view members.entries)) }
 {
-    let marks = take_value(&mut members, "marks");
-    let globals = under(Step::Key("marks"), read_globals(alloc, &marks))?;
-    let unresolved = take_value(&mut members, "unresolved");
-    let unresolved = under(
-        Step::Key("unresolved"),
-        read_mark(alloc, &globals, &unresolved),
-    )?;
-    let top = take_value(&mut members, "top");
-    let top = under(Step::Key("top"), read_mark(alloc, &globals, &top))?;
-    let keep_class_names = take_value(&mut members, "keepClassNames");
-    let keep_class_names = under(
-        Step::Key("keepClassNames"),
-        read_option(alloc, &keep_class_names),
-    )?;
-    let ignore_eval = take_value(&mut members, "ignoreEval");
-    let ignore_eval = under(Step::Key("ignoreEval"), read_option(alloc, &ignore_eval))?;
-    let tree = take_value(&mut members, "tree");
-    let slot = Slot::One(Content::Node(class));
-    let tree = under(Step::Key("tree"), read(alloc, &globals, tree, slot))?;
+    let globals = table_in(alloc, &members)?;
+    let (unresolved, top) = read_marks(alloc, &globals, &members)?;
+    let (keep_class_names, ignore_eval) = read_options(alloc, &members)?;
+    let tree = read_tree(alloc, &globals, class, members)?;
     Ok(Envelope {
         globals,
         unresolved,

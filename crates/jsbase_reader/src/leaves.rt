@@ -2,6 +2,7 @@
 ghost use Rattle.std.specs.Prelude.{◌≡◌};
 ghost use Rattle.serde_json.specs.View.{view, items_view};
 ghost use Rattle.jsbase_form.specs.Leaves.{is_marked, number_at, span_at, mark_at, marks_of, context_at, text_at, flag_at, word_at, spelled};
+ghost use Rattle.jsbase_form.specs.Tables.{pair_at};
 ghost use Rattle.jsbase_reader.specs.Answers.{Gives};
 
 use crate::error::{ReadError, fault, under};
@@ -26,21 +27,30 @@ pub(crate) fn read_number(alloc: Global, value: &Value) -> Result<u32, ReadError
     }
 }
 
-#[tactic(auto, using(crate::proofs::Items::not_a_pair), unfolding(jsbase_form::specs::Leaves::span_at))]
-pub(crate) fn read_span(alloc: Global, value: &Value) -> Result<Span, ReadError>
-    ensures { Gives result (span_at (view value.now)) }
+/// Two numbers.
+#[tactic(auto, using(crate::proofs::Tables::no_pair), unfolding(jsbase_form::specs::Tables::pair_at))]
+pub(crate) fn read_pair(alloc: Global, value: &Value) -> Result<(u32, u32), ReadError>
+    ensures { Gives result (pair_at (view value.now)) }
 {
-    let Some(ends) = value.as_array() else {
+    let Some(numbers) = value.as_array() else {
         return fault(alloc);
     };
-    match ends.as_slice() {
-        [lo, hi] => {
-            let lo = under(Step::Index(0), read_number(alloc, lo))?;
-            let hi = under(Step::Index(1), read_number(alloc, hi))?;
-            Ok(Span { lo, hi })
+    match numbers.as_slice() {
+        [first, second] => {
+            let first = under(Step::Index(0), read_number(alloc, first))?;
+            let second = under(Step::Index(1), read_number(alloc, second))?;
+            Ok((first, second))
         }
         _ => fault(alloc),
     }
+}
+
+#[tactic(auto, using(crate::proofs::Items::span_of_pair))]
+pub(crate) fn read_span(alloc: Global, value: &Value) -> Result<Span, ReadError>
+    ensures { Gives result (span_at (view value.now)) }
+{
+    let (lo, hi) = read_pair(alloc, value)?;
+    Ok(Span { lo, hi })
 }
 
 /// Whether a number is that of a mark of the globals, and not the root's.

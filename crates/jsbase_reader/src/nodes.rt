@@ -1,24 +1,28 @@
 //! Reading nodes.
-ghost use Rattle.std.specs.Prelude.{◌≡◌, ◌≢◌, ◌≤◌, ℕ, List, map, IsTrue, IfOk, option_map, option_and_then};
+ghost use Rattle.std.specs.Prelude.{◌≡◌, ◌≢◌, ◌≤◌, ℕ, List, codes, option_map, option_and_then, IfOk};
 ghost use Rattle.serde_json.specs.Data.{depth, members_depth};
 ghost use Rattle.serde_json.specs.Find.{get_member, as_str};
 ghost use Rattle.serde_json.specs.View.{view, items_view, members_view};
-ghost use Rattle.jsbase_form.specs.Trees.{seen, items_seen, members_seen, fields_at, body_at, node_at, ident_at, kind_at, leaf_at, single_as, null_as, array_as, named, value_of};
+ghost use Rattle.jsbase_form.specs.Reads.{Read, at, key};
+ghost use Rattle.jsbase_form.specs.Steps.{part_of};
+ghost use Rattle.jsbase_form.specs.Leaves.{span_at, context_at, text_at};
+ghost use Rattle.jsbase_form.specs.Trees.{seen, items_seen, members_seen, fields_at, node_at, ident_at, kind_at, leaf_at, single_as, null_as, listed, named, value_of};
 ghost use Rattle.jsbase_form.specs.Known.{MarksKnown};
+ghost use Rattle.swc_tree_node.specs.declared.node.Node.{Node};
 ghost use Rattle.swc_tree_node.specs.Fits.{Fits};
-ghost use Rattle.jsbase_form.specs.Keys.{all_differ};
-ghost use Rattle.swc_tree_node.specs.Table.{kinds_of};
-ghost use Rattle.jsbase_reader.specs.Answers.{Gives};
+ghost use Rattle.swc_tree_node.specs.Table.{fields_of, kinds_of};
+ghost use Rattle.jsbase_reader.specs.Answers.{Gives, GivesMore};
+ghost use Rattle.jsbase_reader.specs.Parts.{class_in, identifier_of, item_slot, tree_of};
 
 use crate::error::{ReadError, fault, under};
 use crate::leaves::{read_context, read_flag, read_span, read_text, read_word};
 use jsbase_form::Step;
 use serde_json::{Map, Value};
 use std::alloc::Global;
-use swc_tree_items::{Boxed, Items};
-use swc_tree_marks::{Globals, Ident};
+use swc_tree_items::{Boxed, Items, Text};
+use swc_tree_marks::{Globals, Ident, Span, SyntaxContext};
 use swc_tree_node::{
-    Class, Content, Field, Kind, Node, Slot, fields_of, is_identifier, kinds_of, name_of,
+    Class, Content, Kind, Node, Slot, fields_of, is_identifier, kinds_of, name_of,
 };
 
 fn read_leaf(alloc: Global, content: Content, value: Value) -> Result<Node, ReadError>
@@ -69,7 +73,7 @@ pub(crate) fn take_value(members: &mut Map<String, Value>, key: &str) -> Value
 }
 
 /// The value of a key.
-fn member<'v>(members: &'v Map<String, Value>, key: &str) -> Option<&'v Value>
+pub(crate) fn member<'v>(members: &'v Map<String, Value>, key: &str) -> Option<&'v Value>
     ensures { option_map (λ v. view v.now) result
         ≡ get_member key.now (members_view members.now.entries) }
 {
@@ -106,21 +110,98 @@ fn read_kind(alloc: Global, class: Class, members: &Map<String, Value>) -> Resul
     }
 }
 
+#[tactic(auto, unfolding(jsbase_form::specs::Leaves::span_at, jsbase_form::specs::Leaves::number_at))]
+fn span_in(alloc: Global, members: &Map<String, Value>) -> Result<Span, ReadError>
+    ensures { Gives result (at (key (codes "span")) (span_at (value_of (codes "span") (members_view members.now.entries)))) }
+{
+    match member(members, "span") {
+        Some(value) => under(Step::Key("span"), read_span(alloc, value)),
+        None => under(Step::Key("span"), fault(alloc)),
+    }
+}
+
+#[tactic(auto, unfolding(jsbase_form::specs::Leaves::context_at))]
+fn context_in(
+    alloc: Global,
+    globals: &Globals,
+    members: &Map<String, Value>,
+) -> Result<SyntaxContext, ReadError>
+    ensures { Gives result (at (key (codes "ctxt")) (context_at globals.now (value_of (codes "ctxt") (members_view members.now.entries)))) }
+{
+    match member(members, "ctxt") {
+        Some(value) => under(Step::Key("ctxt"), read_context(alloc, globals, value)),
+        None => under(Step::Key("ctxt"), fault(alloc)),
+    }
+}
+
+/// Takes the text of an identifier out.
+fn take_sym(alloc: Global, mut members: Map<String, Value>) -> Result<Text, ReadError>
+    ensures { Gives result (at (key (codes "sym")) (text_at (value_of (codes "sym") (members_view members.entries)))) }
+{
+    let sym = take_value(&mut members, "sym");
+    under(Step::Key("sym"), read_text(alloc, sym))
+}
+
 #[tactic(auto, unfolding(jsbase_form::specs::Trees::ident_at))]
 fn read_ident(
     alloc: Global,
     globals: &Globals,
-    members: &mut Map<String, Value>,
+    members: Map<String, Value>,
 ) -> Result<Ident, ReadError>
-    ensures { Gives result (ident_at globals.now (members_view members.old.entries)) }
+    ensures { Gives result (ident_at globals.now (members_view members.entries)) }
 {
-    let span = take_value(members, "span");
-    let span = under(Step::Key("span"), read_span(alloc, &span))?;
-    let ctxt = take_value(members, "ctxt");
-    let ctxt = under(Step::Key("ctxt"), read_context(alloc, globals, &ctxt))?;
-    let sym = take_value(members, "sym");
-    let sym = under(Step::Key("sym"), read_text(alloc, sym))?;
+    let span = span_in(alloc, &members)?;
+    let ctxt = context_in(alloc, globals, &members)?;
+    let sym = take_sym(alloc, members)?;
     Ok(Ident { span, ctxt, sym })
+}
+
+fn read_identifier(
+    alloc: Global,
+    globals: &Globals,
+    members: Map<String, Value>,
+    kind: Kind,
+) -> Result<Node, ReadError>
+    ensures { Gives result (identifier_of kind (ident_at globals.now (members_view members.entries))) }
+{
+    let ident = read_ident(alloc, globals, members)?;
+    Ok(Node::Identifier(kind, Boxed::new(alloc, ident)?))
+}
+
+/// Puts what was read of a part behind the nodes that were read before it.
+fn push_read(
+    nodes: &mut Items<Node>,
+    step: Step,
+    read: Result<Node, ReadError>,
+) -> Result<(), ReadError>
+    ensures { (r : Read Node) → Gives read r → GivesMore result nodes.old nodes.new (at (part_of step) r) }
+{
+    let node = under(step, read)?;
+    nodes.push(node)?;
+    Ok(())
+}
+
+/// The place of each of so many items of a list, if the place takes a list of so many.
+fn item_slot(slot: Slot, count: usize) -> Option<Slot>
+    ensures { result ≡ item_slot slot count }
+{
+    match slot {
+        Slot::List(content) | Slot::OptionalList(content) => Some(Slot::One(content)),
+        Slot::Holes(content) => Some(Slot::Optional(content)),
+        Slot::Pairs => Some(Slot::Pair),
+        Slot::Pair if count == 2 => Some(Slot::One(Content::Text)),
+        Slot::Pair | Slot::One(_) | Slot::Optional(_) => None,
+    }
+}
+
+/// The class of the node that a place takes, if it takes one.
+fn class_of(slot: Slot) -> Option<Class>
+    ensures { result ≡ class_in slot }
+{
+    match slot {
+        Slot::One(Content::Node(class)) | Slot::Optional(Content::Node(class)) => Some(class),
+        _ => None,
+    }
 }
 
 /// The tree that a JSON value is in a place.
@@ -133,7 +214,6 @@ fn read_ident(
 ///
 /// `Fault` with the path to the first fault, in the order in which fields are read; `NoMemory` where
 /// memory is refused.
-#[tactic(auto, using(jsbase_form::proofs::Seen::seen_fits, jsbase_form::proofs::Seen::seen_known))]
 pub fn read(alloc: Global, globals: &Globals, value: Value, slot: Slot) -> Result<Node, ReadError>
     ensures tree { Gives result (seen globals.now (view value) slot) }
     ensures fits { IfOk result (λ tree. Fits tree slot) }
@@ -144,65 +224,39 @@ pub fn read(alloc: Global, globals: &Globals, value: Value, slot: Slot) -> Resul
 }
 
 #[cycle(read)]
+#[tactic(auto, using(crate::proofs::Items::node_there, crate::proofs::Items::no_node_there))]
 fn read_value(alloc: Global, globals: &Globals, value: Value, slot: Slot) -> Result<Node, ReadError>
     ensures { Gives result (seen globals.now (view value) slot) }
 {
     match value {
         Value::Null => read_null(alloc, slot),
         Value::Bool(_) | Value::Number(_) | Value::String(_) => read_single(alloc, slot, value),
-        Value::Array(values) => read_array(alloc, globals, values, slot),
-        Value::Object(members) => match slot {
-            Slot::One(Content::Node(class)) | Slot::Optional(Content::Node(class)) => {
-                read_node(alloc, globals, members, class)
-            }
-            _ => fault(alloc),
+        Value::Array(values) => match item_slot(slot, values.len()) {
+            Some(item) => read_list(alloc, globals, values, item),
+            None => read_single(alloc, slot, Value::Array(values)),
+        },
+        Value::Object(members) => match class_of(slot) {
+            Some(class) => read_node(alloc, globals, members, class),
+            None => fault(alloc),
         },
     }
 }
 
 #[cycle(read)]
-#[tactic(auto, using(crate::proofs::Items::two_are, crate::proofs::Items::not_two))]
-fn read_array(
+fn read_list(
     alloc: Global,
     globals: &Globals,
     values: Vec<Value>,
     slot: Slot,
 ) -> Result<Node, ReadError>
-    ensures { Gives result (array_as (items_view values.items) (items_seen globals.now 0 (items_view values.items)) slot) }
-{
-    let item = match slot {
-        Slot::One(content) | Slot::Optional(content) => {
-            return read_leaf(alloc, content, Value::Array(values));
-        }
-        Slot::List(content) | Slot::OptionalList(content) => Slot::One(content),
-        Slot::Holes(content) => Slot::Optional(content),
-        Slot::Pair => {
-            if values.len() != 2 {
-                return fault(alloc);
-            }
-            Slot::One(Content::Text)
-        }
-        Slot::Pairs => Slot::Pair,
-    };
-    let nodes = read_items(alloc, globals, values, item)?;
-    Ok(Node::List(nodes))
-}
-
-#[cycle(read)]
-fn read_items(
-    alloc: Global,
-    globals: &Globals,
-    values: Vec<Value>,
-    slot: Slot,
-) -> Result<Items<Node>, ReadError>
-    ensures { Gives result (items_seen globals.now 0 (items_view values.items) slot) }
+    ensures { Gives result (listed (items_seen globals.now 0 (items_view values.items) slot)) }
 {
     let mut nodes = Items::with_capacity(alloc, values.len())?;
     for (i, value) in values.into_iter().enumerate() {
-        let node = under(Step::Index(i), read_value(alloc, globals, value, slot))?;
-        nodes.push(node)?;
+        let read = read_value(alloc, globals, value, slot);
+        push_read(&mut nodes, Step::Index(i), read)?;
     }
-    Ok(nodes)
+    Ok(Node::List(nodes))
 }
 
 #[cycle(read)]
@@ -210,7 +264,7 @@ fn read_items(
 fn read_node(
     alloc: Global,
     globals: &Globals,
-    mut members: Map<String, Value>,
+    members: Map<String, Value>,
     class: Class,
 ) -> Result<Node, ReadError>
     ensures { Gives result (node_at globals.now (members_view members.entries)
@@ -218,33 +272,27 @@ fn read_node(
 {
     let kind = read_kind(alloc, class, &members)?;
     if is_identifier(kind) {
-        let ident = read_ident(alloc, globals, &mut members)?;
-        Ok(Node::Identifier(kind, Boxed::new(alloc, ident)?))
+        read_identifier(alloc, globals, members, kind)
     } else {
-        let fields = read_fields(alloc, globals, members, fields_of(kind))?;
-        Ok(Node::Tree(kind, fields))
+        read_tree(alloc, globals, members, kind)
     }
 }
 
 #[cycle(read)]
-fn read_fields(
+fn read_tree(
     alloc: Global,
     globals: &Globals,
     mut members: Map<String, Value>,
-    fields: &[Field],
-) -> Result<Items<Node>, ReadError>
-    requires { IsTrue (all_differ (map (λ f. f.key.now) fields.now)) }
-    ensures { Gives result (fields_at (members_seen globals.now (members_view members.entries))
-        (map (λ f. (f.key.now, f.slot, f.role)) fields.now)) }
+    kind: Kind,
+) -> Result<Node, ReadError>
+    ensures { Gives result (tree_of kind (fields_at (members_seen globals.now (members_view members.entries)) (fields_of kind))) }
 {
+    let fields = fields_of(kind);
     let mut nodes = Items::with_capacity(alloc, fields.len())?;
     for field in fields {
         let value = take_value(&mut members, field.key);
-        let node = under(
-            Step::Key(field.key),
-            read_value(alloc, globals, value, field.slot),
-        )?;
-        nodes.push(node)?;
+        let read = read_value(alloc, globals, value, field.slot);
+        push_read(&mut nodes, Step::Key(field.key), read)?;
     }
-    Ok(nodes)
+    Ok(Node::Tree(kind, nodes))
 }

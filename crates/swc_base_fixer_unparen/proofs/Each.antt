@@ -1,5 +1,6 @@
 -- Loops that take the elements of a list out in turn.
-use Rattle.std.proofs.Common.{◌≡◌, ℕ, zero, suc, ◌+◌, ◌<◌, List, [], ◌∷◌, ◌++◌, length, map, take, drop, Some, slice_set, refl, sym, ap, ◌∙◌, arith, add-one, append_assoc}
+use Rattle.std.proofs.Common.{◌≡◌, ℕ, zero, suc, ◌+◌, ◌<◌, List, [], ◌∷◌, ◌++◌, length, map, take, drop, Some, slice_set, Result, refl, sym, ap, ◌∙◌, subst, arith, add-one, append_assoc}
+use Rattle.std.specs.Prelude.{OnOk}
 use Rattle.std.specs.List.{slice_get, flat_map}
 use Rattle.std.proofs.lemmas.List.{append-nil}
 
@@ -40,3 +41,7 @@ put_back f xs ys zs ws i d x y h was here out back new = back ∙ rw (out, new, 
 -- what was added, with one piece more
 pub added : {X : Type 0} (now before all pieces piece more : List X) → now ≡ before ++ piece → before ≡ all ++ pieces → more ≡ pieces ++ piece → now ≡ all ++ more
 added now before all pieces piece more a b c = rw (a, b, c) (append_assoc all pieces piece)
+
+-- the same, where it comes from a call that may be refused and is said in other words
+pub added_as : {X T E : Type 0} (r : Result T E) (now all a b : List X) → a ≡ b → OnOk r (now ≡ all ++ a) → OnOk r (now ≡ all ++ b)
+added_as r now all a b e h = subst (λ ps. OnOk r (now ≡ all ++ ps)) e h

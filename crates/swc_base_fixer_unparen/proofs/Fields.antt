@@ -1,10 +1,10 @@
 -- A node with a field changed.
-use Rattle.std.proofs.Common.{◌≡◌, ℕ, List, [], ◌∷◌, ◌++◌, Option, Some, None, length, take, slice_set, Bool, true, false, not, get_or, ◌≢◌, ◌∙◌, refl, ap, arith}
+use Rattle.std.proofs.Common.{◌≡◌, ℕ, List, [], ◌∷◌, ◌++◌, Option, Some, None, length, take, slice_set, Bool, true, false, not, get_or, ◌≢◌, ◌∙◌, refl, sym, ap, arith}
 use Rattle.std.specs.List.{filter, flat_map, list_all, slice_get}
 use Rattle.swc_tree_node.specs.declared.kind.Kind.{Kind}
 use Rattle.swc_tree_node.specs.declared.kind.Kind.TheVariants as kind
 use Rattle.std.specs.Prelude.{if◌then◌else◌}
-use Rattle.swc_tree_grammar.proofs.Stripped.{effects_of_tree, effects_of_sequence, effects_of_void, effects_of_other}
+use Rattle.swc_tree_grammar.proofs.Stripped.{effects_of_list, effects_of_tree, effects_of_sequence, effects_of_void, effects_of_other}
 use Rattle.swc_tree_grammar.specs.Blocks.{span_of, no_span, takes_else, branch, block_step}
 use Rattle.swc_tree_grammar.specs.Targets.{is_simple, is_target}
 use Rattle.swc_tree_grammar.proofs.Walks.{span_of_tree, takes_else_of_tree, target_of_tree, target_of_list}
@@ -12,16 +12,21 @@ use Rattle.swc_base_fixer_unparen.specs.Fields.{field_left, last_statement, span
 use Rattle.swc_tree_node.specs.declared.node.Node.{Node, Absent, List as Many, Tree}
 use Rattle.swc_tree_node.specs.declared.node.Node.TheOpen.{Node-F}
 use Rattle.swc_tree_grammar.specs.Shapes.{items_of}
-use Rattle.swc_tree_grammar.specs.Stripped.{strip_step, target, is_member, is_idle, busy, is_void, effects, front, end, settled}
+use Rattle.swc_tree_grammar.specs.Stripped.{strip_step, target, is_member, is_idle, busy, is_void, effects, front, end, parts, sequence, settled}
 
-pub assigned : (fields : List Node) (left : Node) → length fields ≡ 4 → slice_get fields 2 ≡ Some left
+assigned_at : (fields : List Node) (left : Node) → length fields ≡ 4 → slice_get fields 2 ≡ Some left
     → Tree kind.AssignExpr (slice_set (slice_set fields 2 Absent) 2 (target left)) ≡ strip_step (Node-F.Tree kind.AssignExpr fields)
-assigned (a ∷ b ∷ c ∷ d ∷ []) left h g = cc
-assigned [] left h g = absurd (omega arith)
-assigned (a ∷ []) left h g = absurd (omega arith)
-assigned (a ∷ b ∷ []) left h g = absurd (omega arith)
-assigned (a ∷ b ∷ c ∷ []) left h g = absurd (omega arith)
-assigned (a ∷ b ∷ c ∷ d ∷ e ∷ fs) left h g = absurd (omega arith)
+assigned_at (a ∷ b ∷ c ∷ d ∷ []) left h g = cc
+assigned_at [] left h g = absurd (omega arith)
+assigned_at (a ∷ []) left h g = absurd (omega arith)
+assigned_at (a ∷ b ∷ []) left h g = absurd (omega arith)
+assigned_at (a ∷ b ∷ c ∷ []) left h g = absurd (omega arith)
+assigned_at (a ∷ b ∷ c ∷ d ∷ e ∷ fs) left h g = absurd (omega arith)
+
+-- an assignment whose target was taken out, and put back as a target
+pub assigned : (fields out back : List Node) (left new : Node) → length fields ≡ 4 → slice_get fields 2 ≡ Some left → out ≡ slice_set fields 2 Absent → new ≡ target left → back ≡ slice_set out 2 new
+    → Tree kind.AssignExpr back ≡ strip_step (Node-F.Tree kind.AssignExpr fields)
+assigned fields out back left new h g o n b = rw (b, n, o) (assigned_at fields left h g)
 
 pub class_of_members : (fields : List Node) (body : Node) → length fields ≡ 3 → slice_get fields 2 ≡ Some body
     → Tree kind.Class (slice_set (slice_set fields 2 Absent) 2 (Many (filter is_member (items_of body)))) ≡ strip_step (Node-F.Tree kind.Class fields)
@@ -73,6 +78,52 @@ effects_whole kind.SeqExpr (span ∷ exprs ∷ []) h = absurd (cc)
 effects_whole kind.UnaryExpr (span ∷ op ∷ arg ∷ []) h = kept (is_void op) op span arg refl h
 effects_whole k ts h = effects_of_tree k ts
 
+pub effects_in_field : (t : Node) (k : Kind) (ts us : List Node) (i : ℕ) (e : Node) → t ≡ Tree k ts → us ≡ ts → Some i ≡ field_left k us → slice_get ts i ≡ Some e → effects e ≡ effects t
+effects_in_field t k ts us i e is same there here = sym (effects_left k ts i e (ap (field_left k) (sym same) ∙ sym there) here) ∙ ap effects (sym is)
+
+pub effects_itself : (t : Node) (k : Kind) (ts us : List Node) → t ≡ Tree k ts → us ≡ ts → None ≡ field_left k us → Tree k ts ∷ [] ≡ effects t
+effects_itself t k ts us is same there = sym (effects_whole k ts (ap (field_left k) (sym same) ∙ sym there)) ∙ ap effects (sym is)
+
+pub effects_of_items : (t : Node) (ts : List Node) → t ≡ Many ts → flat_map effects ts ≡ effects t
+effects_of_items t ts is = sym (effects_of_list ts) ∙ ap effects (sym is)
+
+two_fields : (fields : List Node) (exprs : Node) → length fields ≡ 2 → slice_get fields 1 ≡ Some exprs → (span : Node) × (fields ≡ span ∷ exprs ∷ [])
+two_fields (a ∷ b ∷ []) exprs h g = let same : b ≡ exprs = cc in (a, ap (λ x. a ∷ x ∷ []) same)
+two_fields [] exprs h g = absurd (omega arith)
+two_fields (a ∷ []) exprs h g = absurd (omega arith)
+two_fields (a ∷ b ∷ c ∷ ts) exprs h g = absurd (omega arith)
+
+one_item : (span : Node) (items : List Node) (e : Node) → length items ≡ 1 → slice_get items 0 ≡ Some e → e ≡ sequence span items
+one_item span (x ∷ []) e h g = cc
+one_item span [] e h g = absurd (omega arith)
+one_item span (x ∷ y ∷ items) e h g = absurd (omega arith)
+
+more_items : (span : Node) (items : List Node) → length items ≢ 1 → Tree kind.SeqExpr (span ∷ Many items ∷ []) ≡ sequence span items
+more_items span [] h = refl
+more_items span (x ∷ []) h = absurd (h refl)
+more_items span (x ∷ y ∷ items) h = refl
+
+items_put : (fields : List Node) (span exprs : Node) (items : List Node) → fields ≡ span ∷ exprs ∷ [] → slice_set (slice_set fields 1 Absent) 1 (Many items) ≡ span ∷ Many items ∷ []
+items_put fields span exprs items is = rw is refl
+
+stripped_items : (fields : List Node) (span exprs : Node) (es joined items : List Node) → fields ≡ span ∷ exprs ∷ [] → es ≡ items_of exprs → joined ≡ flat_map parts es → items ≡ settled joined
+    → sequence span items ≡ strip_step (Node-F.Tree kind.SeqExpr fields)
+stripped_items fields span exprs es joined items is e j i = rw (is, i, j, e) refl
+
+-- a sequence that is left with one item
+pub sequence_of_one : (fields : List Node) (exprs : Node) (es joined items : List Node) (e : Node) → length fields ≡ 2 → slice_get fields 1 ≡ Some exprs → es ≡ items_of exprs → joined ≡ flat_map parts es → items ≡ settled joined
+    → length items ≡ 1 → slice_get items 0 ≡ Some e → e ≡ strip_step (Node-F.Tree kind.SeqExpr fields)
+sequence_of_one fields exprs es joined items e h g a b c one there =
+    let f = two_fields fields exprs h g in
+    one_item f.0 items e one there ∙ stripped_items fields f.0 exprs es joined items f.1 a b c
+
+-- a sequence that is left with more, or with none
+pub sequence_of_more : (fields out back : List Node) (exprs : Node) (es joined items : List Node) → length fields ≡ 2 → slice_get fields 1 ≡ Some exprs → es ≡ items_of exprs → joined ≡ flat_map parts es → items ≡ settled joined
+    → length items ≢ 1 → out ≡ slice_set fields 1 Absent → back ≡ slice_set out 1 (Many items) → Tree kind.SeqExpr back ≡ strip_step (Node-F.Tree kind.SeqExpr fields)
+sequence_of_more fields out back exprs es joined items h g a b c more o put =
+    let f = two_fields fields exprs h g in
+    ap (Tree kind.SeqExpr) (put ∙ ap (λ l. slice_set l 1 (Many items)) o ∙ items_put fields f.0 exprs items f.1) ∙ more_items f.0 items more ∙ stripped_items fields f.0 exprs es joined items f.1 a b c
+
 at_second : (a b : Node) (ts : List Node) (i : ℕ) (e : Node) → Some 1 ≡ Some i → e ≡ get_or (a ∷ b ∷ ts) i e → b ≡ e
 at_second a b ts i e h g = let here : 1 ≡ i = cc in let found = rw (← here) at g in cc
 
@@ -105,14 +156,19 @@ no_else kind.ForStmt (a ∷ b ∷ c ∷ d ∷ l ∷ []) h = absurd (cc)
 no_else kind.ForOfStmt (a ∷ b ∷ c ∷ d ∷ l ∷ []) h = absurd (cc)
 no_else k ts h = takes_else_of_tree k ts
 
-pub branched : (fields : List Node) (cons : Node) → length fields ≡ 4 → slice_get fields 2 ≡ Some cons
+branched_at : (fields : List Node) (cons : Node) → length fields ≡ 4 → slice_get fields 2 ≡ Some cons
     → Tree kind.IfStmt (slice_set (slice_set fields 2 Absent) 2 (branch cons)) ≡ block_step (Node-F.Tree kind.IfStmt fields)
-branched (a ∷ b ∷ c ∷ d ∷ []) cons h g = cc
-branched [] cons h g = absurd (omega arith)
-branched (a ∷ []) cons h g = absurd (omega arith)
-branched (a ∷ b ∷ []) cons h g = absurd (omega arith)
-branched (a ∷ b ∷ c ∷ []) cons h g = absurd (omega arith)
-branched (a ∷ b ∷ c ∷ d ∷ e ∷ fs) cons h g = absurd (omega arith)
+branched_at (a ∷ b ∷ c ∷ d ∷ []) cons h g = cc
+branched_at [] cons h g = absurd (omega arith)
+branched_at (a ∷ []) cons h g = absurd (omega arith)
+branched_at (a ∷ b ∷ []) cons h g = absurd (omega arith)
+branched_at (a ∷ b ∷ c ∷ []) cons h g = absurd (omega arith)
+branched_at (a ∷ b ∷ c ∷ d ∷ e ∷ fs) cons h g = absurd (omega arith)
+
+-- an `if` whose first branch was taken out, and put back with its block
+pub branched : (fields out back : List Node) (cons new : Node) → length fields ≡ 4 → slice_get fields 2 ≡ Some cons → out ≡ slice_set fields 2 Absent → new ≡ branch cons → back ≡ slice_set out 2 new
+    → Tree kind.IfStmt back ≡ block_step (Node-F.Tree kind.IfStmt fields)
+branched fields out back cons new h g o n b = rw (b, n, o) (branched_at fields cons h g)
 
 first_at : (a : Node) (ts : List Node) (i : ℕ) (e : Node) → Some 0 ≡ Some i → e ≡ get_or (a ∷ ts) i e → a ≡ e
 first_at a ts i e h g = let here : 0 ≡ i = cc in let found = rw (← here) at g in cc
@@ -150,3 +206,13 @@ pub no_target : (ts : List Node) → length ts ≢ 1 → is_target (Many ts) ≡
 no_target [] h = target_of_list []
 no_target (t ∷ []) h = absurd (h refl)
 no_target (t ∷ u ∷ ts) h = target_of_list (t ∷ u ∷ ts)
+
+-- what is said of a node is what is said of one of its fields
+pub by_field : {X : Type 0} (f : Node → X) (g : Kind → List Node → Option ℕ) → ((k : Kind) (ts : List Node) (i : ℕ) (e : Node) → g k ts ≡ Some i → e ≡ get_or ts i e → f (Tree k ts) ≡ f e)
+    → (t : Node) (k : Kind) (ts us : List Node) (i : ℕ) (e : Node) (x : X) → t ≡ Tree k ts → us ≡ ts → Some i ≡ g k us → e ≡ get_or us i e → x ≡ f e → x ≡ f t
+by_field f g law t k ts us i e x is same there here found = found ∙ sym (law k us i e (sym there) here) ∙ ap (λ l. f (Tree k l)) same ∙ ap f (sym is)
+
+-- what is said of a node of which no field says it
+pub by_none : {X : Type 0} (f : Node → X) (g : Kind → List Node → Option ℕ) (x : X) → ((k : Kind) (ts : List Node) → g k ts ≡ None → f (Tree k ts) ≡ x)
+    → (t : Node) (k : Kind) (ts us : List Node) → t ≡ Tree k ts → us ≡ ts → None ≡ g k us → x ≡ f t
+by_none f g x law t k ts us is same there = sym (law k us (sym there)) ∙ ap (λ l. f (Tree k l)) same ∙ ap f (sym is)

@@ -36,6 +36,11 @@ pub inside_assignment : (k : Kind) (ts : List Node) (l r : Node) → is_assignme
 inside_assignment kind.AssignExpr (a ∷ b ∷ c ∷ d ∷ []) l r h g f = rw (g, f) refl
 inside_assignment k ts l r h g f = absurd (cc)
 
+-- the two sides of an assignment, one behind the other
+pub inside_sides : (k : Kind) (ts : List Node) (l r : Node) (now mid all : List Pair) → is_assignment k ts ≡ true → l ≡ get_or ts 2 l → r ≡ get_or ts 3 r
+    → mid ≡ all ++ pairs_inside l → now ≡ mid ++ pairs r → now ≡ all ++ inside_of (Node-F.Tree k (map found ts))
+inside_sides k ts l r now mid all h g f m n = rw (n, m) (append_assoc all (pairs_inside l) (pairs r) ∙ ap (λ ps. all ++ ps) (sym (inside_assignment k ts l r h g f)))
+
 pub inside_other : (k : Kind) (ts : List Node) → is_assignment k ts ≡ false → inside_of (Node-F.Tree k (map found ts)) ≡ flat_map pairs ts
 inside_other kind.AssignExpr (a ∷ b ∷ c ∷ d ∷ []) h = absurd (cc)
 inside_other k ts h = pairs_each ts
@@ -44,3 +49,12 @@ pub own_and_inside : (node : Node) (k : Kind) (ts fs : List Node) (now before al
     → before ≡ all ++ own_of (Node-F.Tree k (map found fs)) → now ≡ before ++ inside_of (Node-F.Tree k (map found fs)) → now ≡ all ++ pairs node
 own_and_inside node k ts fs now before all n f b w =
     rw (w, b, n, f) (append_assoc all (own_of (Node-F.Tree k (map found ts))) (inside_of (Node-F.Tree k (map found ts))) ∙ ap (λ ps. all ++ ps) (sym (pairs_in_tree k ts)))
+
+pub items_inside : (node : Node) (ts us : List Node) → node ≡ Many ts → us ≡ ts → flat_map pairs us ≡ pairs_inside node
+items_inside node ts us is same = ap (flat_map pairs) same ∙ sym (below_list ts) ∙ ap pairs_inside (sym is)
+
+pub items_pairs : (node : Node) (ts us : List Node) → node ≡ Many ts → us ≡ ts → flat_map pairs us ≡ pairs node
+items_pairs node ts us is same = ap (flat_map pairs) same ∙ sym (pairs_in_list ts) ∙ ap pairs (sym is)
+
+pub fields_inside : (node : Node) (k : Kind) (ts us : List Node) → node ≡ Tree k ts → us ≡ ts → inside_of (Node-F.Tree k (map found us)) ≡ pairs_inside node
+fields_inside node k ts us is same = ap (λ l. inside_of (Node-F.Tree k (map found l))) same ∙ sym (below_tree k ts) ∙ ap pairs_inside (sym is)

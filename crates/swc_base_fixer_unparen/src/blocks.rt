@@ -7,6 +7,9 @@ ghost use Rattle.swc_base_fixer_unparen.specs.Fields.{last_statement as last_sta
 use crate::spans::span_of;
 use std::alloc::{AllocError, Global};
 use swc_tree_items::Items;
+use swc_tree_node::fields::{
+    for_in_stmt, for_of_stmt, for_stmt, if_stmt, labeled_stmt, while_stmt, with_stmt,
+};
 use swc_tree_node::{Kind, Node};
 
 /// The field with the statement that stands last in a statement, if it ends in one.
@@ -15,15 +18,18 @@ fn last_statement(kind: Kind, fields: &[Node]) -> Option<usize>
     ensures within { IfSome result (λ i. i < length fields.now) }
 {
     match kind {
-        Kind::LabeledStmt | Kind::WhileStmt | Kind::WithStmt if fields.len() == 3 => Some(2),
-        Kind::IfStmt | Kind::ForInStmt if fields.len() == 4 => Some(3),
-        Kind::ForStmt | Kind::ForOfStmt if fields.len() == 5 => Some(4),
+        Kind::LabeledStmt if fields.len() == 3 => Some(labeled_stmt::BODY),
+        Kind::WhileStmt if fields.len() == 3 => Some(while_stmt::BODY),
+        Kind::WithStmt if fields.len() == 3 => Some(with_stmt::BODY),
+        Kind::IfStmt if fields.len() == 4 => Some(if_stmt::ALT),
+        Kind::ForInStmt if fields.len() == 4 => Some(for_in_stmt::BODY),
+        Kind::ForStmt if fields.len() == 5 => Some(for_stmt::BODY),
+        Kind::ForOfStmt if fields.len() == 5 => Some(for_of_stmt::BODY),
         _ => None,
     }
 }
 
 /// Whether an `else` right behind the statement would go to an `if` in it.
-#[tactic(auto, using(crate::proofs::Fields::else_in_last, crate::proofs::Fields::no_else))]
 fn takes_else(statement: &Node) -> bool
     ensures { result ≡ takes_an_else statement.now }
 {
@@ -65,14 +71,13 @@ fn branch(alloc: Global, statement: Node) -> Result<Node, AllocError>
     }
 }
 
-#[tactic(auto, using(crate::proofs::Fields::branched))]
 fn choice(alloc: Global, mut fields: Items<Node>) -> Result<Node, AllocError>
     requires { length fields ≡ 4 }
     ensures { IfOk result (λ t. t ≡ block_step (Node-F.Tree kind.IfStmt fields)) }
 {
-    let statement = fields.replace(2, Node::Absent);
+    let statement = fields.replace(if_stmt::CONS, Node::Absent);
     let statement = branch(alloc, statement)?;
-    fields.set(2, statement);
+    fields.set(if_stmt::CONS, statement);
     Ok(Node::Tree(Kind::IfStmt, fields))
 }
 
@@ -103,12 +108,7 @@ pub fn add_blocks(alloc: Global, node: Node) -> Result<Node, AllocError>
             let tree = blocked(alloc, kind, fields)?;
             Ok(tree)
         }
-        Node::Absent => Ok(Node::Absent),
-        Node::Flag(flag) => Ok(Node::Flag(flag)),
-        Node::Word(word) => Ok(Node::Word(word)),
-        Node::Text(text) => Ok(Node::Text(text)),
-        Node::Span(span) => Ok(Node::Span(span)),
-        Node::Identifier(kind, ident) => Ok(Node::Identifier(kind, ident)),
+        leaf => Ok(leaf),
     }
 }
 

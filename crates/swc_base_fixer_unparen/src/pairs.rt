@@ -8,6 +8,7 @@ use crate::spans::span_of;
 use std::alloc::{AllocError, Global};
 use swc_tree_grammar::Pair;
 use swc_tree_items::Items;
+use swc_tree_node::fields::{assign_expr, paren_expr};
 use swc_tree_node::{Kind, Node};
 
 /// Whether the third field is the target of an assignment.
@@ -24,8 +25,8 @@ fn add_own(kind: Kind, fields: &[Node], out: &mut Items<Pair>) -> Result<(), All
 {
     match kind {
         Kind::ParenExpr if fields.len() == 2 => out.push(Pair {
-            content: span_of(&fields[1]),
-            whole: span_of(&fields[0]),
+            content: span_of(&fields[paren_expr::EXPR]),
+            whole: span_of(&fields[paren_expr::SPAN]),
         }),
         _ => Ok(()),
     }
@@ -33,7 +34,6 @@ fn add_own(kind: Kind, fields: &[Node], out: &mut Items<Pair>) -> Result<(), All
 
 /// Adds the pairs in a node, each before those in it.
 #[cycle(pairs)]
-#[tactic(auto, using(crate::proofs::Found::pairs_in_list, crate::proofs::Found::pairs_in_tree))]
 fn add_pairs(node: &Node, out: &mut Items<Pair>) -> Result<(), AllocError>
     ensures { OnOk result (out.new ≡ out.old ++ pairs node.now) }
 {
@@ -51,7 +51,6 @@ fn add_pairs(node: &Node, out: &mut Items<Pair>) -> Result<(), AllocError>
 
 /// Adds the pairs in a target, but for the one that the target is.
 #[cycle(pairs)]
-#[tactic(auto, using(crate::proofs::Found::below_list, crate::proofs::Found::below_tree))]
 fn add_below(node: &Node, out: &mut Items<Pair>) -> Result<(), AllocError>
     ensures { OnOk result (out.new ≡ out.old ++ pairs_inside node.now) }
 {
@@ -63,13 +62,12 @@ fn add_below(node: &Node, out: &mut Items<Pair>) -> Result<(), AllocError>
 }
 
 #[cycle(pairs)]
-#[tactic(auto, using(crate::proofs::Found::inside_assignment, crate::proofs::Found::inside_other))]
 fn add_inside(kind: Kind, fields: &[Node], out: &mut Items<Pair>) -> Result<(), AllocError>
     ensures { OnOk result (out.new ≡ out.old ++ inside_of (Node-F.Tree kind (map found fields.now))) }
 {
     if is_assignment(kind, fields) {
-        add_below(&fields[2], out)?;
-        add_pairs(&fields[3], out)?;
+        add_below(&fields[assign_expr::LEFT], out)?;
+        add_pairs(&fields[assign_expr::RIGHT], out)?;
         Ok(())
     } else {
         add_each(fields, out)

@@ -40,7 +40,6 @@ fn unparen_with<C: Comments>(alloc: Global, comments: &mut C, node: Node) -> Res
 }
 
 /// The pass on a tree without comments.
-#[tactic(auto, using(swc_tree_grammar::proofs::BlocksKept::unparened_fits, swc_tree_grammar::proofs::Pairless::unparened_pairless))]
 fn remove_parens_alone(alloc: Global, node: Node) -> Result<Node, PassError>
     ensures answer { IfOk result (λ t. t ≡ with_blocks (stripped node)) }
     ensures fits { (s : Slot) → IsTrue (is_open s) → Fits node s → IfOk result (λ t. Fits t s) }
@@ -56,7 +55,6 @@ fn remove_parens_alone(alloc: Global, node: Node) -> Result<Node, PassError>
 }
 
 /// The pass on a tree with comments.
-#[tactic(auto, using(swc_tree_grammar::proofs::BlocksKept::unparened_fits, swc_tree_grammar::proofs::Pairless::unparened_pairless))]
 pub fn remove_parens_with<C: Comments>(
     alloc: Global,
     comments: &mut C,

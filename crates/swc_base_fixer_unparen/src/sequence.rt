@@ -8,6 +8,7 @@ ghost use Rattle.swc_base_fixer_unparen.specs.Fields.{field_left as field_left_o
 
 use std::alloc::{AllocError, Global};
 use swc_tree_items::Items;
+use swc_tree_node::fields::{seq_expr, unary_expr};
 use swc_tree_node::{Kind, Node, Word};
 
 /// The items of a list; another node has none.
@@ -33,8 +34,10 @@ fn field_left(kind: Kind, fields: &[Node]) -> Option<usize>
     ensures within { IfSome result (λ i. i < length fields.now) }
 {
     match kind {
-        Kind::SeqExpr if fields.len() == 2 => Some(1),
-        Kind::UnaryExpr if fields.len() == 3 && is_void(&fields[1]) => Some(2),
+        Kind::SeqExpr if fields.len() == 2 => Some(seq_expr::EXPRS),
+        Kind::UnaryExpr if fields.len() == 3 && is_void(&fields[unary_expr::OP]) => {
+            Some(unary_expr::ARG)
+        }
         _ => None,
     }
 }
@@ -61,7 +64,6 @@ fn is_idle(expr: &Node) -> bool
 
 /// Adds what is left of an expression whose value is dropped.
 #[cycle(effects)]
-#[tactic(auto, using(swc_tree_grammar::proofs::Stripped::effects_of_list, crate::proofs::Fields::effects_left, crate::proofs::Fields::effects_whole))]
 fn add_effects(expr: Node, out: &mut Items<Node>) -> Result<(), AllocError>
     ensures { OnOk result (out.new ≡ out.old ++ effects expr) }
 {
@@ -93,7 +95,7 @@ fn add_parts(alloc: Global, expr: Node, out: &mut Items<Node>) -> Result<(), All
     match expr {
         Node::Tree(kind, mut fields) => match kind {
             Kind::SeqExpr if fields.len() == 2 => {
-                out.append(items_of(alloc, fields.replace(1, Node::Absent)))
+                out.append(items_of(alloc, fields.replace(seq_expr::EXPRS, Node::Absent)))
             }
             kind => out.push(Node::Tree(kind, fields)),
         },
@@ -154,12 +156,12 @@ pub fn sequence(alloc: Global, mut fields: Items<Node>) -> Result<Node, AllocErr
     requires { length fields ≡ 2 }
     ensures { IfOk result (λ t. t ≡ strip_step (Node-F.Tree kind.SeqExpr fields)) }
 {
-    let exprs = items_of(alloc, fields.replace(1, Node::Absent));
+    let exprs = items_of(alloc, fields.replace(seq_expr::EXPRS, Node::Absent));
     let flat = flat(alloc, exprs)?;
     let mut items = settled(alloc, flat)?;
     if items.len() == 1 {
         return Ok(items.replace(0, Node::Absent));
     }
-    fields.set(1, Node::List(items));
+    fields.set(seq_expr::EXPRS, Node::List(items));
     Ok(Node::Tree(Kind::SeqExpr, fields))
 }

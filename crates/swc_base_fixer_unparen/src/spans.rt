@@ -3,6 +3,7 @@ ghost use Rattle.swc_tree_grammar.specs.Blocks.{span_of as place_of};
 ghost use Rattle.swc_base_fixer_unparen.specs.Fields.{span_field as span_field_of};
 
 use swc_tree_marks::{DUMMY_SP, Span};
+use swc_tree_node::fields::{class_expr, fn_expr};
 use swc_tree_node::{Kind, Node};
 
 /// The field that says where a node stands, if it has fields.
@@ -11,14 +12,14 @@ fn span_field(kind: Kind, fields: &[Node]) -> Option<usize>
     ensures within { IfSome result (λ i. i < length fields.now) }
 {
     match kind {
-        Kind::FnExpr | Kind::ClassExpr if fields.len() == 2 => Some(1),
+        Kind::FnExpr if fields.len() == 2 => Some(fn_expr::FUNCTION),
+        Kind::ClassExpr if fields.len() == 2 => Some(class_expr::CLASS),
         _ if fields.is_empty() => None,
         _ => Some(0),
     }
 }
 
 /// Where a node stands in the source.
-#[tactic(auto, using(crate::proofs::Fields::span_in_field, crate::proofs::Fields::no_span_field))]
 pub fn span_of(node: &Node) -> Span
     ensures { result ≡ place_of node.now }
 {

@@ -6,6 +6,7 @@ ghost use Rattle.swc_tree_grammar.specs.Stripped.{is_member as defines, strip_st
 use crate::sequence::{items_of, sequence};
 use std::alloc::{AllocError, Global};
 use swc_tree_items::Items;
+use swc_tree_node::fields::{assign_expr, paren_expr};
 use swc_tree_node::{Kind, Node};
 
 /// The content of a parenthesised target, as a target.
@@ -22,8 +23,8 @@ fn assignment(mut fields: Items<Node>) -> Node
     requires { length fields ≡ 4 }
     ensures { result ≡ strip_step (Node-F.Tree kind.AssignExpr fields) }
 {
-    let left = fields.replace(2, Node::Absent);
-    fields.set(2, target(left));
+    let left = fields.replace(assign_expr::LEFT, Node::Absent);
+    fields.set(assign_expr::LEFT, target(left));
     Node::Tree(Kind::AssignExpr, fields)
 }
 
@@ -41,9 +42,16 @@ fn class(alloc: Global, mut fields: Items<Node>) -> Node
     requires { length fields ≡ 3 }
     ensures { result ≡ strip_step (Node-F.Tree kind.Class fields) }
 {
-    let mut members = items_of(alloc, fields.replace(2, Node::Absent)).into_vec();
+    let mut members = items_of(
+        alloc,
+        fields.replace(swc_tree_node::fields::class::BODY, Node::Absent),
+    )
+    .into_vec();
     members.retain(|member| is_member(member));
-    fields.set(2, Node::List(Items::from_vec(members)));
+    fields.set(
+        swc_tree_node::fields::class::BODY,
+        Node::List(Items::from_vec(members)),
+    );
     Node::Tree(Kind::Class, fields)
 }
 
@@ -52,7 +60,7 @@ fn settle(alloc: Global, kind: Kind, mut fields: Items<Node>) -> Result<Node, Al
     ensures { IfOk result (λ t. t ≡ strip_step (Node-F.Tree kind fields)) }
 {
     match kind {
-        Kind::ParenExpr if fields.len() == 2 => Ok(fields.replace(1, Node::Absent)),
+        Kind::ParenExpr if fields.len() == 2 => Ok(fields.replace(paren_expr::EXPR, Node::Absent)),
         Kind::SeqExpr if fields.len() == 2 => {
             let tree = sequence(alloc, fields)?;
             Ok(tree)
@@ -78,12 +86,7 @@ pub fn strip(alloc: Global, node: Node) -> Result<Node, AllocError>
             let tree = settle(alloc, kind, fields)?;
             Ok(tree)
         }
-        Node::Absent => Ok(Node::Absent),
-        Node::Flag(flag) => Ok(Node::Flag(flag)),
-        Node::Word(word) => Ok(Node::Word(word)),
-        Node::Text(text) => Ok(Node::Text(text)),
-        Node::Span(span) => Ok(Node::Span(span)),
-        Node::Identifier(kind, ident) => Ok(Node::Identifier(kind, ident)),
+        leaf => Ok(leaf),
     }
 }
 
