@@ -1,12 +1,12 @@
 -- Normal forms, sameness and needed pairs on small trees.
 use Rattle.std.proofs.Common.{◌≡◌, ℕ, List, [], ◌∷◌, true, false, codes, rules}
-use Rattle.std.specs.Prelude.{nat_eq}
-use Rattle.std.specs.Cmp.Lexicographic.{pointwise}
+use Rattle.swc_tree_marks.specs.declared.ident.Ident.{Ident}
 use Rattle.swc_tree_node.specs.declared.kind.Kind.TheVariants as kind
 use Rattle.swc_tree_node.specs.declared.kind.Word.TheVariants as word
 use Rattle.swc_tree_node.specs.declared.node.Node.{Node, Absent, Word, Text, List as Many, Tree, the_lemmas}
+use Rattle.swc_tree_grammar.specs.Blocks.{no_span}
 use Rattle.swc_tree_grammar.specs.Normal.{written_out}
-use Rattle.swc_tree_grammar.specs.Same.{Names, same_tree}
+use Rattle.swc_tree_grammar.specs.Same.{same_tree}
 use Rattle.swc_tree_grammar.specs.Needed.{without_pair}
 use Rattle.swc_tree_grammar.specs.Due.{Places, paired_by_level, callee_of_new, paired_in_heads, paired_at_starts}
 use Rattle.swc_tree_grammar.specs.Writable.{is_writable}
@@ -41,14 +41,14 @@ split : written_out (Tree kind.Module (at 0 0 ∷ Many (exported ∷ []) ∷ Abs
     ∷ Tree kind.NamedExport (at 0 0 ∷ Many (Tree kind.ExportNamedSpecifier (at 0 0 ∷ a ∷ a ∷ []) ∷ []) ∷ Absent ∷ Absent ∷ []) ∷ []) ∷ Absent ∷ [])
 split = search (rules, the_lemmas)
 
-abbrev only_a : Names
-only_a text context = pointwise nat_eq text (codes "a")
+abbrev only_a : List Ident
+only_a = record { span = no_span; ctxt = []; sym = codes "a" } ∷ []
 
 -- a declared name may change, a free one not, nor a label
-renamed : same_tree only_a (bin word.Plus a x) (bin word.Plus (name (codes "b")) x) ≡ true
+renamed : same_tree only_a (statement (bin word.Plus a x)) (statement (bin word.Plus (name (codes "b")) x)) ≡ true
 renamed = search (rules, the_lemmas)
 
-free : same_tree only_a (bin word.Plus a x) (bin word.Plus a (name (codes "b"))) ≡ false
+free : same_tree only_a (statement (bin word.Plus a x)) (statement (bin word.Plus a (name (codes "b")))) ≡ false
 free = search (rules, the_lemmas)
 
 abbrev labeled : List ℕ → Node

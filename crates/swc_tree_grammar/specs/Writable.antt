@@ -10,14 +10,12 @@ use Rattle.swc_tree_node.specs.declared.kind.Word.TheVariants as word
 use Rattle.swc_tree_node.specs.declared.node.Node.{Node, out-Node, roll-Node, fold-Node, map-Node}
 use Rattle.swc_tree_node.specs.declared.node.Node.TheOpen.{Node-F}
 use Rattle.swc_tree_grammar.specs.Shapes.{Seq, Assign, Bin, Update, Member, Tpl, OptChain, OptCall, Getter, Setter, Arrow, Function, Class, FnExpr, ClassExpr, FnDecl, Declarator, AssignPat, VarDecl, UsingDecl, Statement, Str, With, Labeled, If, Case, While, DoWhile, For, ForIn, ForOf, Module, Script, items_of}
-use Rattle.swc_tree_grammar.specs.Levels.{word_of, is_absent}
+use Rattle.swc_tree_grammar.specs.Levels.{word_of, is_in, is_absent}
 use Rattle.swc_tree_grammar.specs.Forms.{form, is_body, is_branch, is_using, is_strict, is_strict_list, are_named, holds, text_in, string_in}
 use Rattle.swc_tree_grammar.specs.Grammar.{has_kind, is_private_name, is_chain, is_paren}
 use Rattle.swc_tree_grammar.specs.Targets.{is_target}
 use Rattle.swc_tree_grammar.specs.Stripped.{stripped}
 
--- what is said of a tree goes by what stands round it: whether its code is strict, whether names in patterns are
--- assigned to and not bound, and whether they are names of the program at all
 abbrev pub is_letter : ℕ → Bool
 is_letter c = (nat_le 97 c && nat_le c 122) || ((nat_le 65 c && nat_le c 90) || (nat_eq c 36 || (nat_eq c 95 || nat_le 128 c)))
 
@@ -43,6 +41,7 @@ is_identifier_text text = begins_name text && not (list_any (pointwise nat_eq te
 abbrev pub is_bindable : Bool → List ℕ → Bool
 is_bindable strict text = is_identifier_text text && not (strict && (pointwise nat_eq text (codes "eval") || pointwise nat_eq text (codes "arguments")))
 
+-- what stands round a node: whether the code is strict, and whether the names in a pattern are assigned to and not bound
 pub record Round : Type 0 where
   pub strict : Bool
   pub assigned : Bool
@@ -130,16 +129,13 @@ is_plain_assignment _ = false
 abbrev pub left_side : Option Word → Node → Bool
 left_side op t = (not (has_kind is_pattern_target t) || is_plain_assignment op) && (not (has_kind is_paren t) || is_target t)
 
-abbrev pub is_in : Option Word → Bool
-is_in (Some word.In) = true
-is_in _ = false
-
 abbrev pub no_private : Asked → Bool
 no_private e = not (has_kind is_private_name e.whole)
 
+-- a part of a chain that goes on from a chain, pairs taken off
 abbrev pub base_goes_on_in : Node-F Node → Bool
-base_goes_on_in (Member span obj prop) = is_chain obj
-base_goes_on_in (OptCall span callee args) = is_chain callee
+base_goes_on_in (Member span obj prop) = is_chain (stripped obj)
+base_goes_on_in (OptCall span callee args) = is_chain (stripped callee)
 base_goes_on_in _ = false
 
 abbrev pub is_const : Option Word → Bool
@@ -168,14 +164,19 @@ abbrev pub is_setter : Option Word → Bool
 is_setter (Some word.Setter) = true
 is_setter _ = false
 
-abbrev pub parameters_in : Node-F Node → ℕ
-parameters_in (Function span params body is_generator is_async) = length (items_of params)
-parameters_in _ = 0
+abbrev pub parameters_in : Node-F Node → List Node
+parameters_in (Function span params body is_generator is_async) = items_of params
+parameters_in _ = []
 
--- a getter has no parameter, a setter one
+abbrev pub one_without_rest : List Node → Bool
+one_without_rest (t ∷ []) = not (has_kind is_rest_kind (pattern_of t))
+one_without_rest _ = false
+
+-- a getter has no parameter, a setter one, which is no rest
 abbrev pub accessor : Node → Node → Bool
 accessor function keyword =
-    (not (is_getter (word_of keyword)) || nat_eq (parameters_in (out-Node function)) 0) && (not (is_setter (word_of keyword)) || nat_eq (parameters_in (out-Node function)) 1)
+    (not (is_getter (word_of keyword)) || nat_eq (length (parameters_in (out-Node function))) 0)
+    && (not (is_setter (word_of keyword)) || one_without_rest (parameters_in (out-Node function)))
 
 abbrev pub constructor_key_in : Node-F Node → Bool
 constructor_key_in (Node-F.Tree kind.IdentName (span ∷ sym ∷ [])) = pointwise nat_eq (text_in (out-Node sym)) (codes "constructor")
