@@ -1,11 +1,11 @@
 #!/usr/bin/env python3
-"""real_files.py JS2TREE JSBASE JSON_ALONE FILE..: jsbase on the trees of real JavaScript, as a table in Markdown.
+"""real_files.py JS2TREE JSBASE GATE_REPLAY FILE..: jsbase on the trees of real JavaScript, as a table in Markdown.
 
 JS2TREE is a folder with estree2swc.mjs (JavaScript to an envelope) and swc2js.mjs (an envelope to JavaScript), run by
-node; JSBASE and JSON_ALONE are the built programs of those crates. Each file is converted, its tree resolved, and what
+node; JSBASE and GATE_REPLAY are the built programs of those crates. Each file is converted, its tree resolved, and what
 comes out printed and parsed again: it must be the tree that went in, but for contexts and spans. Parentheses are taken
 off too, and none may be left. A time is processor time, the least of some runs; beside it stands that of parsing and
-printing the same JSON alone."""
+printing the same JSON alone (`gate_replay json`)."""
 import json
 import os
 import re
@@ -67,7 +67,7 @@ def tree_of(path):
         return bare(json.load(file)['tree'])
 
 
-def row(js2tree, jsbase, json_alone, file, folder):
+def row(js2tree, jsbase, gate_replay, file, folder):
     source, answer, alone, printed, again = (os.path.join(folder, name) for name in ('in', 'out', 'alone', 'out.js', 'again'))
     kind = converted(js2tree, file, source)
     if not kind:
@@ -75,7 +75,7 @@ def row(js2tree, jsbase, json_alone, file, folder):
     status, seconds, size = measured([jsbase, 'resolve', kind], source, answer)
     bare_status, bare_seconds, bare_size = measured([jsbase, 'unparen', kind], source, alone)
     is_bare = bare_status == 0 and not has_pairs(alone)
-    _, alone_seconds, alone_size = measured([json_alone], source, alone)
+    _, alone_seconds, alone_size = measured([gate_replay, 'json'], source, alone)
     same = status == 0 and tree_of(source) == tree_of(answer)
     with open(printed, 'w', encoding='utf-8') as target:
         subprocess.run(['node', '--max-old-space-size=8000', os.path.join(js2tree, 'swc2js.mjs'), answer], stdout=target, check=False)
@@ -90,13 +90,13 @@ def word(good):
 
 
 def main():
-    js2tree, jsbase, json_alone, *files = sys.argv[1:]
+    js2tree, jsbase, gate_replay, *files = sys.argv[1:]
     resource.setrlimit(resource.RLIMIT_STACK, (1 << 30, resource.getrlimit(resource.RLIMIT_STACK)[1]))
     print('| file | kind | source, MB | envelope, MB | tree kept | parses back | no pair left | resolve, s, MB | unparen, s, MB | JSON alone, s, MB |')
     print('|---|---|---|---|---|---|---|---|---|---|')
     with tempfile.TemporaryDirectory() as folder:
         for file in files:
-            print(row(js2tree, jsbase, json_alone, file, folder), flush=True)
+            print(row(js2tree, jsbase, gate_replay, file, folder), flush=True)
 
 
 if __name__ == '__main__':

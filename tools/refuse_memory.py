@@ -1,9 +1,10 @@
 #!/usr/bin/env python3
-"""refuse_memory.py PROGRAM COMMAND [FILE [NUMBER]]: refuses each request for memory of a program's work in turn.
+"""refuse_memory.py WORK COMMAND [FILE [NUMBER]]: refuses each request for memory of a work in turn.
 
-PROGRAM is `jsbase_refusals`, which runs `jsbase` from bytes to bytes, or `pass_refusals`, which runs a pass. FILE, else
-`crates/jsbase_replay/stdin`, has cases of three lines: arguments, an input, and what comes of it with ample memory. The
-cases are those whose arguments begin with COMMAND; `pass_refusals` takes none without a tree.
+WORK is `jsbase`, which is run from bytes to bytes, or `pass`, which runs a pass: `gate_replay refuse` does both. FILE, else
+`crates/gate_replay/stdin`, has rows of three lines: arguments, an input, and what comes of it with ample memory. The
+cases are the rows whose arguments begin with COMMAND, for `pass` those that begin with `pass COMMAND` too, and there none
+without a tree. A pass that renames gives every name a new text.
 
 The toolchain's `rt try` refuses the request of one number (NUMBER, else 4000) in each of many runs of one build. A first
 build has the program say of each case how many requests are granted before its work and after it, up to the refused
@@ -21,19 +22,24 @@ import tempfile
 ROOT = os.path.dirname(os.path.dirname(os.path.abspath(__file__)))
 
 
-def cases_of(program, command, file):
-    """The cases of each arguments: the line of the file at which each begins, its input, and the ample answer."""
+def cases_of(work, command, file):
+    """The cases of each arguments: the line of the file at which each begins, its input, and the ample answer. Of a
+    refusal only its name is compared, since what it leaves is looked at in each case."""
     with open(file, encoding='utf-8') as text:
         lines = text.read().split('\n')
     cases = {}
     for at in range(0, len(lines) - 2, 3):
         words, given, ample = lines[at:at + 3]
-        if words.startswith(command) and not (program == 'pass_refusals' and ample.startswith(('not a tree: ', 'usage: '))):
-            cases.setdefault(words, {})[at + 1] = (given, ample)
+        if work == 'pass' and words.startswith('pass '):
+            words = words.removeprefix('pass ')
+        elif not words.startswith(('resolve ', 'unparen ')):
+            continue
+        if words.startswith(command) and not (work == 'pass' and ample.startswith(('not a tree: ', 'usage: '))):
+            cases.setdefault(words, {})[at + 1] = (given, ample.split(', {')[0] if ample.startswith('refused: ') else ample)
     return cases
 
 
-def answers(program, number, words, cases, asked):
+def answers(work, number, words, cases, asked):
     """What the program says on each case to each thing that it is asked of it, where the request of a number is refused."""
     with tempfile.TemporaryDirectory() as folder:
         for case in cases:
@@ -41,8 +47,8 @@ def answers(program, number, words, cases, asked):
                 with open(os.path.join(folder, '%d-%s' % (case, word)), 'w', encoding='utf-8') as run:
                     run.write('%s\n%s\n%s\n' % (word, *cases[case]))
         # The interpreter, the other of the two runners of `rt try`, does not know all that the programs call.
-        line = ['rt', 'try', '--steps', '1', '--fail-alloc', str(number), '--cases', folder, '--', *words.split()]
-        ran = subprocess.run(line, cwd=os.path.join(ROOT, 'crates', program), capture_output=True, text=True)
+        line = ['rt', 'try', '--steps', '1', '--fail-alloc', str(number), '--cases', folder, '--', 'refuse', work, *words.split()]
+        ran = subprocess.run(line, cwd=os.path.join(ROOT, 'crates', 'gate_replay'), capture_output=True, text=True)
     said = dict(re.findall(r'^== (\S+)[^\n]*\n(\w+)', ran.stdout, re.M))
     ended = re.findall(r'^case=(\S+) run=ended', ran.stderr, re.M)
     if len(ended) != sum(len(asked[case]) for case in cases):
@@ -55,17 +61,17 @@ def counts(case, granted):
     before, after = map(int, granted)
     if after == 0 or after > before:
         sys.exit('line %d: too many requests: give a greater number' % case)
-    return range(after, before)
+    return range(after + 1, before + 1)
 
 
 def main():
-    program, command = sys.argv[1:3]
-    file = sys.argv[3] if len(sys.argv) > 3 else os.path.join(ROOT, 'crates', 'jsbase_replay', 'stdin')
+    work, command = sys.argv[1:3]
+    file = sys.argv[3] if len(sys.argv) > 3 else os.path.join(ROOT, 'crates', 'gate_replay', 'stdin')
     number = int(sys.argv[4]) if len(sys.argv) > 4 else 4000
     failed = False
-    for words, cases in cases_of(program, command, file).items():
-        granted = answers(program, number, words, cases, {case: ('before', 'after') for case in cases})
-        said = answers(program, number, words, cases, {case: counts(case, granted[case]) for case in cases})
+    for words, cases in cases_of(work, command, file).items():
+        granted = answers(work, number, words, cases, {case: ('before', 'after') for case in cases})
+        said = answers(work, number, words, cases, {case: counts(case, granted[case]) for case in cases})
         for case in cases:
             others = [word for word in said[case] if word not in ('refused', 'ample')]
             if others:

@@ -52,9 +52,10 @@ def are_refused(root, crate):
     answers = dict(ANSWER.findall(ran.stdout))
     for name in names:
         print(f'{crate}/{name}: {answers.get(f"{crate}/{name}", "not tried")}', flush=True)
-    if len(answers) < len(names):
+    are = ran.returncode == 0 and len(answers) == len(names)
+    if not are:
         print(ran.stdout, end='', flush=True)
-    return ran.returncode == 0 and len(answers) == len(names)
+    return are
 
 
 def main():

@@ -12,7 +12,7 @@ use Rattle.swc_tree_node.specs.declared.slot.Content.TheVariants as content
 use Rattle.swc_tree_node.specs.declared.slot.Slot.{Slot}
 use Rattle.swc_tree_node.specs.declared.slot.Slot.TheVariants as slot
 use Rattle.swc_tree_node.specs.declared.node.Node.{Node}
-use Rattle.jsbase_form.specs.Reads.{Path, Read, ◌>>=◌, at, found, index}
+use Rattle.jsbase_form.specs.Reads.{Read, ◌>>=◌, at, found, index}
 use Rattle.jsbase_form.specs.Leaves.{number_at, span_of, span_at}
 use Rattle.jsbase_form.specs.Tables.{pair_of, pair_at}
 use Rattle.jsbase_form.specs.Trees.{Keys, seen, items_seen, are_two, array_as, listed, node_at, object_as, single_as}

@@ -25,7 +25,7 @@ marks_in table ms = at (key (codes "unresolved")) (mark_at table (value_of (code
     at (key (codes "top")) (mark_at table (value_of (codes "top") ms)) >>= (λ top.
     Ok (unresolved, top)))
 
--- whether classes keep their names, and whether `eval` is taken for any other call
+-- whether classes keep their names, and whether `eval` is ignored
 abbrev pub options_in : Members → Read (Bool × Bool)
 options_in ms = at (key (codes "keepClassNames")) (option_at (value_of (codes "keepClassNames") ms)) >>= (λ keep_class_names.
     at (key (codes "ignoreEval")) (option_at (value_of (codes "ignoreEval") ms)) >>= (λ ignore_eval.

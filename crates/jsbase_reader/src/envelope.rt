@@ -133,7 +133,7 @@ fn read_marks(
     Ok((unresolved, top))
 }
 
-/// Whether classes keep their names, and whether `eval` is taken for any other call.
+/// Whether classes keep their names, and whether `eval` is ignored.
 fn read_options(alloc: Global, members: &Map<String, Value>) -> Result<(bool, bool), ReadError>
     ensures { Gives result (options_in (members_view members.now.entries)) }
 {
@@ -197,7 +197,6 @@ fn read_object(alloc: Global, class: Class, value: Value) -> Result<Envelope, Re
 /// # Errors
 ///
 /// `Fault` with the path to the first fault; `NoMemory` where memory is refused.
-#[tactic(auto, using(crate::proofs::Sound::envelope_fits, crate::proofs::Sound::envelope_known))]
 pub fn read_envelope(alloc: Global, class: Class, value: Value) -> Result<Envelope, ReadError>
     ensures envelope { Gives result (envelope_in class (view value)) }
     ensures fits { IfOk result (λ e. Fits e.tree (Slot.One (Content.Node class))) }

@@ -7,9 +7,7 @@ ghost use Rattle.swc_base_fixer_unparen.specs.Fields.{last_statement as last_sta
 use crate::spans::span_of;
 use std::alloc::{AllocError, Global};
 use swc_tree_items::Items;
-use swc_tree_node::fields::{
-    for_in_stmt, for_of_stmt, for_stmt, if_stmt, labeled_stmt, while_stmt, with_stmt,
-};
+use swc_tree_node::fields::if_stmt;
 use swc_tree_node::{Kind, Node};
 
 /// The field with the statement that stands last in a statement, if it ends in one.
@@ -18,13 +16,9 @@ fn last_statement(kind: Kind, fields: &[Node]) -> Option<usize>
     ensures within { IfSome result (λ i. i < length fields.now) }
 {
     match kind {
-        Kind::LabeledStmt if fields.len() == 3 => Some(labeled_stmt::BODY),
-        Kind::WhileStmt if fields.len() == 3 => Some(while_stmt::BODY),
-        Kind::WithStmt if fields.len() == 3 => Some(with_stmt::BODY),
-        Kind::IfStmt if fields.len() == 4 => Some(if_stmt::ALT),
-        Kind::ForInStmt if fields.len() == 4 => Some(for_in_stmt::BODY),
-        Kind::ForStmt if fields.len() == 5 => Some(for_stmt::BODY),
-        Kind::ForOfStmt if fields.len() == 5 => Some(for_of_stmt::BODY),
+        Kind::LabeledStmt | Kind::WhileStmt | Kind::WithStmt if fields.len() == 3 => Some(2),
+        Kind::IfStmt | Kind::ForInStmt if fields.len() == 4 => Some(3),
+        Kind::ForStmt | Kind::ForOfStmt if fields.len() == 5 => Some(4),
         _ => None,
     }
 }

@@ -3,7 +3,6 @@ ghost use Rattle.swc_tree_grammar.specs.Blocks.{span_of as place_of};
 ghost use Rattle.swc_base_fixer_unparen.specs.Fields.{span_field as span_field_of};
 
 use swc_tree_marks::{DUMMY_SP, Span};
-use swc_tree_node::fields::{class_expr, fn_expr};
 use swc_tree_node::{Kind, Node};
 
 /// The field that says where a node stands, if it has fields.
@@ -12,8 +11,7 @@ fn span_field(kind: Kind, fields: &[Node]) -> Option<usize>
     ensures within { IfSome result (λ i. i < length fields.now) }
 {
     match kind {
-        Kind::FnExpr if fields.len() == 2 => Some(fn_expr::FUNCTION),
-        Kind::ClassExpr if fields.len() == 2 => Some(class_expr::CLASS),
+        Kind::FnExpr | Kind::ClassExpr if fields.len() == 2 => Some(1),
         _ if fields.is_empty() => None,
         _ => Some(0),
     }

@@ -4,7 +4,7 @@ ghost use Rattle.swc_tree_node.specs.declared.node.Node.TheOpen.{Node-F};
 ghost use Rattle.swc_tree_grammar.specs.Targets.{all_bare as bare, bare_in, is_simple as simple, is_target as target, seen};
 ghost use Rattle.swc_base_fixer_unparen.specs.Fields.{content_field as content_field_of};
 
-use swc_tree_node::fields::{assign_expr, paren_expr, seq_expr};
+use swc_tree_node::fields::assign_expr;
 use swc_tree_node::{Kind, Node};
 
 /// Whether a value can be assigned to an expression of that kind.
@@ -20,8 +20,7 @@ fn content_field(kind: Kind, fields: &[Node]) -> Option<usize>
     ensures within { IfSome result (λ i. i < length fields.now) }
 {
     match kind {
-        Kind::ParenExpr if fields.len() == 2 => Some(paren_expr::EXPR),
-        Kind::SeqExpr if fields.len() == 2 => Some(seq_expr::EXPRS),
+        Kind::ParenExpr | Kind::SeqExpr if fields.len() == 2 => Some(1),
         _ => None,
     }
 }

@@ -73,6 +73,6 @@ pub same_lengths : (m : Changes) (keeps : Bool) (p : Place) (ts rs us : List Nod
 same_lengths m keeps p ts rs us es r u e =
     ap length r ∙ each_length m keeps (λ i. p) ts ∙ sym (ap length e ∙ map_length (λ t. exports_of m (exported_ids t)) us ∙ ap length u)
 
-pub exports_done : (m : Changes) (keeps : Bool) (p : Place) (ts rs us : List Node) (es : List (Option Node)) (all : List Node) → rs ≡ each_substituted m keeps (λ i. p) ts → us ≡ ts
-    → es ≡ map (λ t. exports_of m (exported_ids t)) us → all ≡ each_with_exports rs es → all ≡ items_substituted m keeps p ts
-exports_done m keeps p ts rs us es all r u e a = a ∙ rw (r, e, u) (all_exports m keeps p ts)
+pub exports_done : (m : Changes) (keeps : Bool) (p : Place) (ts rs us : List Node) (es : List (Option Node)) → rs ≡ each_substituted m keeps (λ i. p) ts → us ≡ ts
+    → es ≡ map (λ t. exports_of m (exported_ids t)) us → (all : List Node) → all ≡ each_with_exports rs es → all ≡ items_substituted m keeps p ts
+exports_done m keeps p ts rs us es r u e all a = a ∙ rw (r, e, u) (all_exports m keeps p ts)

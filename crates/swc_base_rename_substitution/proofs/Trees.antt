@@ -36,9 +36,9 @@ other_tree m keeps p k ts rs h e =
     ∙ ap (λ us. tree_for m keeps p k ts us) (sym e)
     ∙ ap (λ b. if b then kept_class (identifier_at ts 0) rs else written_out_if k (if_changed m (places keeps p k ts 1) (identifier_at ts 1)) rs) h
 
-pub class_done : (m : Changes) (keeps : Bool) (p : Place) (k : Kind) (ts rs : List Node) (old : Option Ident) (t : Node) → keeps_name keeps p k ≡ true
-    → old ≡ identifier_at ts 0 → rs ≡ each_substituted m keeps (places keeps p k ts) ts → t ≡ kept_class old rs → t ≡ substituted m keeps p (Tree k ts)
-class_done m keeps p k ts rs old t h o e done =
+pub class_done : (m : Changes) (keeps : Bool) (p : Place) (k : Kind) (ts rs : List Node) (old : Option Ident) → keeps_name keeps p k ≡ true
+    → old ≡ identifier_at ts 0 → rs ≡ each_substituted m keeps (places keeps p k ts) ts → (t : Node) → t ≡ kept_class old rs → t ≡ substituted m keeps p (Tree k ts)
+class_done m keeps p k ts rs old h o e t done =
     done ∙ ap (λ i. kept_class i rs) o ∙ sym (substituted_tree m keeps p k ts
     ∙ ap (λ us. tree_for m keeps p k ts us) (sym e)
     ∙ ap (λ b. if b then kept_class (identifier_at ts 0) rs else written_out_if k (if_changed m (places keeps p k ts 1) (identifier_at ts 1)) rs) h)
@@ -129,9 +129,9 @@ named_of m keeps p k (a ∷ []) mid t w s e done = absurd (cc)
 named_of m keeps p k (a ∷ b ∷ cs) mid t w s e done =
     let is = identifier_is b (out-Node b) refl s in named_with m keeps p k a b cs mid t is.0 is.1 is.2 w e done
 
-pub named_done : (m : Changes) (keeps : Bool) (p : Place) (k : Kind) (ts mid : List Node) (t : Node) → writes_name k ts ≡ true
-    → mid ≡ each_substituted m keeps (place_in keeps (below.Others p (has_source k ts) k)) ts → IsRenamed m (places keeps p k ts 1) k mid t → t ≡ substituted m keeps p (Tree k ts)
-named_done m keeps p k ts mid t w e done = named_of m keeps p k ts mid t (both_left (writes_out k) (is_some (identifier_at ts 1)) w) (both_right (writes_out k) (is_some (identifier_at ts 1)) w) e done
+pub named_done : (m : Changes) (keeps : Bool) (p : Place) (k : Kind) (ts mid : List Node) → writes_name k ts ≡ true
+    → mid ≡ each_substituted m keeps (place_in keeps (below.Others p (has_source k ts) k)) ts → (t : Node) → IsRenamed m (places keeps p k ts 1) k mid t → t ≡ substituted m keeps p (Tree k ts)
+named_done m keeps p k ts mid w e t done = named_of m keeps p k ts mid t (both_left (writes_out k) (is_some (identifier_at ts 1)) w) (both_right (writes_out k) (is_some (identifier_at ts 1)) w) e done
 
 long_list : (m : Changes) (keeps : Bool) (ps : ℕ → Place) (ts rs : List Node) → is_some (identifier_at ts 1) ≡ true → rs ≡ each_substituted m keeps ps ts → 1 < length rs
 long_list m keeps ps [] rs s e = absurd (cc)
@@ -147,9 +147,9 @@ set_again (t ∷ ts) zero x y = refl
 set_again (t ∷ ts) (suc i) x y = ap (λ l. t ∷ l) (set_again ts i x y)
 
 -- the identifier that was taken out is put back renamed
-pub put_back : (m : Changes) (p : Place) (k : Kind) (ts rest us : List Node) (x : Node) (nk : Kind) (n j : Ident) (old : Option Ident) (t : Node) → slice_get ts 1 ≡ Some x → x ≡ Identifier nk n
-    → rest ≡ slice_set ts 1 Absent → j ≡ unwrap_or (changed m p n) n → old ≡ if_changed m p (Some n) → us ≡ slice_set rest 1 (Identifier nk j) → t ≡ written_out_if k old us → IsRenamed m p k ts t
-put_back m p k ts rest us x nk n j old t here is out new was put done = λ nk' i h.
+pub put_back : (m : Changes) (p : Place) (k : Kind) (ts rest us : List Node) (x : Node) (nk : Kind) (n j : Ident) (old : Option Ident) → slice_get ts 1 ≡ Some x → x ≡ Identifier nk n
+    → rest ≡ slice_set ts 1 Absent → j ≡ unwrap_or (changed m p n) n → old ≡ if_changed m p (Some n) → us ≡ slice_set rest 1 (Identifier nk j) → (t : Node) → t ≡ written_out_if k old us → IsRenamed m p k ts t
+put_back m p k ts rest us x nk n j old here is out new was put t done = λ nk' i h.
     let same : Identifier nk n ≡ Identifier nk' i = let s : x ≡ Identifier nk' i = cc in sym is ∙ s in
     let layer : ◌≡◌ {A = Node-F Node} (Node-F.Identifier nk n) (Node-F.Identifier nk' i) = sym (outs-Identifier nk n) ∙ ap out-Node same ∙ outs-Identifier nk' i in
     let kinds : nk ≡ nk' = cc in

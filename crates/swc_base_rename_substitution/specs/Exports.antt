@@ -1,6 +1,7 @@
 -- Exported declarations, whose names stay as they were for other modules.
-use Rattle.std.specs.Prelude.{ℕ, zero, suc, Bool, true, false, Option, Some, None, is_some, List, [], ◌∷◌, ◌++◌, map, if◌then◌else◌}
+use Rattle.std.specs.Prelude.{◌≡◌, ℕ, zero, suc, Bool, true, false, Option, Some, None, is_some, List, [], ◌∷◌, ◌++◌, map, if◌then◌else◌}
 use Rattle.std.specs.List.{flat_map, list_any}
+use Rattle.std.specs.HashSet.{HashSet, contains}
 use Rattle.swc_tree_marks.specs.declared.ident.Ident.{Ident}
 use Rattle.swc_tree_node.specs.declared.kind.Kind.TheVariants as kind
 use Rattle.swc_tree_node.specs.declared.slot.Role.{Role}
@@ -45,6 +46,10 @@ without x (y ∷ ys) = if same_id y x then without x ys else y ∷ without x ys
 abbrev pub distinct : List Id → List Id
 distinct [] = []
 distinct (x ∷ xs) = x ∷ without x (distinct xs)
+
+-- a set has just the ids of a list
+abbrev pub AreSeen : {S : Type 0} → List Id → HashSet Id S → Type 0
+AreSeen ids seen = (x : Id) → contains same_id seen x ≡ list_any (same_id x) ids
 
 -- the ids with one more, unless it is among them
 abbrev pub with_one_more : Id → List Id → List Id

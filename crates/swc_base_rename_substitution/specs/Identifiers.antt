@@ -33,13 +33,13 @@ changed m p i = option_map (with_id i) (m (id_of i))
 abbrev pub key_of : Ident → Node
 key_of i = Tree kind.IdentName (Span i.span ∷ Text i.sym ∷ [])
 
+abbrev pub computed_key : Ident → Node
+computed_key i = Tree kind.ComputedPropName (Span i.span ∷ Tree kind.Str (Span i.span ∷ Text i.sym ∷ Absent ∷ []) ∷ [])
+
 -- with the key `__proto__` a property sets the prototype (ECMA-262, PropertyDefinitionEvaluation), which its
 -- shorthand did not
 abbrev pub property_key : Ident → Node
-property_key i =
-    if pointwise nat_eq i.sym (codes "__proto__")
-    then Tree kind.ComputedPropName (Span i.span ∷ Tree kind.Str (Span i.span ∷ Text i.sym ∷ Absent ∷ []) ∷ [])
-    else key_of i
+property_key i = if pointwise nat_eq i.sym (codes "__proto__") then computed_key i else key_of i
 
 -- what stands in the place of an identifier, given the new one where its text changes; the shorthand `{ a }`
 -- becomes `{ a: a1 }`
@@ -72,13 +72,18 @@ kept_in i t y = t
 abbrev pub or_kept : Ident → Node → Node
 or_kept i t = kept_in i t (out-Node t)
 
+-- the fields of a specifier, whose name was `i` and changed
+abbrev pub with_other : Ident → List Node → List Node
+with_other i (s ∷ local ∷ other ∷ []) = s ∷ local ∷ or_kept i other ∷ []
+with_other i ts = ts
+
 -- a node of that kind and with these fields, whose name, in the second field, was `i` and changed.
 -- In a pattern `{ a }` becomes `{ a: a1 }` and `{ a = 1 }` becomes `{ a: a1 = 1 }`; `import { a }` becomes
 -- `import { a as a1 }`, and `export { a }` becomes `export { a1 as a }`
 abbrev pub written_out : Kind → Ident → List Node → Node
 written_out kind.AssignPatProp i (s ∷ target ∷ value ∷ []) = Tree kind.KeyValuePatProp (key_of i ∷ with_default i target value ∷ [])
-written_out kind.ImportNamedSpecifier i (s ∷ local ∷ imported ∷ []) = Tree kind.ImportNamedSpecifier (s ∷ local ∷ or_kept i imported ∷ [])
-written_out kind.ExportNamedSpecifier i (s ∷ orig ∷ exported ∷ []) = Tree kind.ExportNamedSpecifier (s ∷ orig ∷ or_kept i exported ∷ [])
+written_out kind.ImportNamedSpecifier i ts = Tree kind.ImportNamedSpecifier (with_other i ts)
+written_out kind.ExportNamedSpecifier i ts = Tree kind.ExportNamedSpecifier (with_other i ts)
 written_out k i ts = Tree k ts
 
 -- the kinds that write a changed name out

@@ -30,14 +30,8 @@ pub fn bound_ids(node: &Node, ids: &mut Items<Id>) -> Result<(), NoMemory>
             ids.push(ident.get().to_id()?)?;
             Ok(())
         }
-        Node::List(items) => {
-            bound_in_items(items.as_slice(), ids)?;
-            Ok(())
-        }
-        Node::Tree(kind, fields) => {
-            bound_in_fields(*kind, fields.as_slice(), ids)?;
-            Ok(())
-        }
+        Node::List(items) => { bound_in_items(items.as_slice(), ids) }
+        Node::Tree(kind, fields) => { bound_in_fields(*kind, fields.as_slice(), ids) }
         _ => Ok(()),
     }
 }
@@ -67,7 +61,7 @@ fn bound_in_field(role: Role, field: &Node, ids: &mut Items<Id>) -> Result<(), N
     ensures { OnOk result (ids.new ≡ ids.old ++ bound_in role (are_bound field.now)) }
 {
     if holds_bound(role) {
-        bound_ids(field, ids)?;
+        return bound_ids(field, ids);
     }
     Ok(())
 }

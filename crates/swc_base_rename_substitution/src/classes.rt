@@ -10,11 +10,11 @@ use swc_tree_marks::{Ident, NoMemory, Span};
 use swc_tree_node::{Kind, Node, Word};
 
 /// A copy of the identifier that stands in a field.
-pub fn identifier_at(fields: &Items<Node>, field: usize) -> Result<Option<Ident>, NoMemory>
+pub fn identifier_at(fields: &Items<Node>, field: usize) -> Result<Option<Boxed<Ident>>, NoMemory>
     ensures { IfOk result (λ ident. ident ≡ is_identifier_at fields.now field) }
 {
     match fields.get(field) {
-        Some(Node::Identifier(_, ident)) => Ok(Some(ident.get().clone()?)),
+        Some(Node::Identifier(_, ident)) => Ok(Some(ident.clone()?)),
         _ => Ok(None),
     }
 }
@@ -36,18 +36,14 @@ fn class_span(class: &Node) -> Option<Span>
 fn let_of_class(
     alloc: Global,
     span: Span,
-    old: Ident,
+    old: Boxed<Ident>,
     name: Boxed<Ident>,
     class: Node,
 ) -> Result<Node, NoMemory>
     ensures { IfOk result (λ node. node ≡ is_let_of_class span old name class) }
 {
-    let old = keep_name(alloc, Boxed::new(alloc, old)?);
-    let expression = tree(
-        alloc,
-        Kind::ClassExpr,
-        [Node::Identifier(Kind::Ident, old), class],
-    )?;
+    let old = Node::Identifier(Kind::Ident, keep_name(alloc, old));
+    let expression = tree(alloc, Kind::ClassExpr, [old, class])?;
     let name = Node::Identifier(Kind::BindingIdent, name);
     let declarator = tree(
         alloc,
@@ -60,30 +56,23 @@ fn let_of_class(
         Node::Word(Word::Let),
         Node::List(declarators),
     ];
-    let declaration = tree(alloc, Kind::VarDecl, fields)?;
-    Ok(declaration)
+    tree(alloc, Kind::VarDecl, fields)
 }
 
 // A class declaration, where it keeps the name that it had in a class expression.
-fn let_if(alloc: Global, old: Ident, name: Node, class: Node) -> Result<Node, NoMemory>
+fn let_if(alloc: Global, old: Boxed<Ident>, name: Node, class: Node) -> Result<Node, NoMemory>
     ensures { IfOk result (λ node. node ≡ is_kept_class (Some old) (name ∷ class ∷ [])) }
 {
     match (name, class_span(&class)) {
-        (Node::Identifier(_, name), Some(span)) => {
-            let declaration = let_of_class(alloc, span, old, name, class)?;
-            Ok(declaration)
-        }
-        (name, _) => {
-            let declaration = tree(alloc, Kind::ClassDecl, [name, class])?;
-            Ok(declaration)
-        }
+        (Node::Identifier(_, name), Some(span)) => { let_of_class(alloc, span, old, name, class) }
+        (name, _) => { tree(alloc, Kind::ClassDecl, [name, class]) }
     }
 }
 
 /// A class declaration of these fields, where it keeps the name that it had in a class expression.
 pub fn kept_class(
     alloc: Global,
-    old: Option<Ident>,
+    old: Option<Boxed<Ident>>,
     mut fields: Items<Node>,
 ) -> Result<Node, NoMemory>
     ensures { IfOk result (λ node. node ≡ is_kept_class old fields) }
@@ -92,8 +81,7 @@ pub fn kept_class(
         Some(old) if fields.len() == 2 => {
             let name = fields.replace(0, Node::Absent);
             let class = fields.replace(1, Node::Absent);
-            let declaration = let_if(alloc, old, name, class)?;
-            Ok(declaration)
+            let_if(alloc, old, name, class)
         }
         _ => Ok(Node::Tree(Kind::ClassDecl, fields)),
     }

@@ -15,8 +15,8 @@ use swc_tree_marks::{DUMMY_SP, Id, Ident, NoMemory, SyntaxContext};
 use swc_tree_node::{Kind, Node};
 
 // Whether the text of one of the ids changes.
-fn any_changes(names: &Names, ids: &[Id]) -> bool
-    ensures { result ≡ list_any (λ id. is_some (new_id names.now id)) ids.now }
+fn any_changes(names: Names, ids: &[Id]) -> bool
+    ensures { result ≡ list_any (λ id. is_some (new_id names.entry id)) ids.now }
 {
     for id in ids {
         if names.changes(id) {
@@ -27,53 +27,55 @@ fn any_changes(names: &Names, ids: &[Id]) -> bool
 }
 
 // An identifier that stands in no source text.
-fn made(alloc: Global, id: Id) -> Result<Node, NoMemory>
-    ensures { IfOk result (λ node. node ≡ Node.Identifier Kind.Ident (is_made id)) }
+fn made(alloc: Global, id: Id) -> Result<Boxed<Ident>, NoMemory>
+    ensures { IfOk result (λ ident. ident ≡ is_made id) }
 {
     let (sym, ctxt) = id;
     let span = DUMMY_SP;
-    let ident = Boxed::new(alloc, Ident { span, ctxt, sym })?;
-    Ok(Node::Identifier(Kind::Ident, ident))
+    Ok(Boxed::new(alloc, Ident { span, ctxt, sym })?)
 }
 
-// The specifier of an id, with its new id where the text changes.
-fn specifier_to(alloc: Global, id: Id, new: Option<Id>) -> Result<Node, NoMemory>
-    ensures { IfOk result (λ node. node ≡ is_specifier_to id new) }
+// The specifier of an id whose text stays.
+fn unchanged_specifier(alloc: Global, id: Id) -> Result<Node, NoMemory>
+    ensures { IfOk result (λ node. node ≡ is_specifier_to id None) }
 {
-    match new {
-        None => {
-            let local = made(alloc, id)?;
-            let fields = [Node::Span(DUMMY_SP), local, Node::Absent];
-            let specifier = tree(alloc, Kind::ExportNamedSpecifier, fields)?;
-            Ok(specifier)
-        }
-        Some(new) => {
-            let (sym, _) = id;
-            let exported = made(alloc, (sym, SyntaxContext::empty(alloc)))?;
-            let local = made(alloc, new)?;
-            let fields = [Node::Span(DUMMY_SP), local, exported];
-            let specifier = tree(alloc, Kind::ExportNamedSpecifier, fields)?;
-            Ok(specifier)
-        }
-    }
+    let local = Node::Identifier(Kind::Ident, made(alloc, id)?);
+    let fields = [Node::Span(DUMMY_SP), local, Node::Absent];
+    tree(alloc, Kind::ExportNamedSpecifier, fields)
+}
+
+// The specifier of an id whose new id has another text.
+fn changed_specifier(alloc: Global, id: Id, new: Id) -> Result<Node, NoMemory>
+    ensures { IfOk result (λ node. node ≡ is_specifier_to id (Some new)) }
+{
+    let (sym, _) = id;
+    let local = made(alloc, new)?;
+    let exported = made(alloc, (sym, SyntaxContext::empty(alloc)))?;
+    let fields = [
+        Node::Span(DUMMY_SP),
+        Node::Identifier(Kind::Ident, local),
+        Node::Identifier(Kind::Ident, exported),
+    ];
+    tree(alloc, Kind::ExportNamedSpecifier, fields)
 }
 
 // `a1 as a` where `a` becomes `a1`, and else `a`.
-fn specifier(alloc: Global, names: &Names, id: Id) -> Result<Node, NoMemory>
-    ensures { IfOk result (λ node. node ≡ is_specifier (new_id names.now) id) }
+fn specifier(alloc: Global, names: Names, id: Id) -> Result<Node, NoMemory>
+    ensures { IfOk result (λ node. node ≡ is_specifier (new_id names.entry) id) }
 {
-    let new = names.new_id(alloc, &id)?;
-    let specifier = specifier_to(alloc, id, new)?;
-    Ok(specifier)
+    match names.new_id(alloc, &id)? {
+        None => unchanged_specifier(alloc, id),
+        Some(new) => changed_specifier(alloc, id, new),
+    }
 }
 
 // `export { a1 as a, b };`
-fn export_list(alloc: Global, names: &Names, ids: Items<Id>) -> Result<Node, NoMemory>
-    ensures { IfOk result (λ node. node ≡ is_export_list (new_id names.now) ids) }
+fn export_list(alloc: Global, names: Names, ids: Items<Id>) -> Result<Node, NoMemory>
+    ensures { IfOk result (λ node. node ≡ is_export_list (new_id names.entry) ids) }
 {
     let mut specifiers = Items::new(alloc);
     for id in ids.into_vec() {
-        let specifier = specifier(alloc, &*names, id)?;
+        let specifier = specifier(alloc, names, id)?;
         specifiers.push(specifier)?;
     }
     let fields = [
@@ -82,8 +84,7 @@ fn export_list(alloc: Global, names: &Names, ids: Items<Id>) -> Result<Node, NoM
         Node::Absent,
         Node::Absent,
     ];
-    let list = tree(alloc, Kind::NamedExport, fields)?;
-    Ok(list)
+    tree(alloc, Kind::NamedExport, fields)
 }
 
 // The ids that an exported declaration binds, each once; of any other node none.
@@ -99,16 +100,15 @@ fn exported_ids(alloc: Global, item: &Node) -> Result<Items<Id>, NoMemory>
         }
         _ => {}
     }
-    let ids = distinct(alloc, ids)?;
-    Ok(ids)
+    distinct(alloc, ids)
 }
 
 // The export list of an item's names, where it is an exported declaration one of whose names changes.
-fn exports_of(alloc: Global, names: &Names, item: &Node) -> Result<Option<Node>, NoMemory>
-    ensures { IfOk result (λ exports. exports ≡ is_exports_of (new_id names.now) (are_exported item.now)) }
+fn exports_of(alloc: Global, names: Names, item: &Node) -> Result<Option<Node>, NoMemory>
+    ensures { IfOk result (λ exports. exports ≡ is_exports_of (new_id names.entry) (are_exported item.now)) }
 {
     let ids = exported_ids(alloc, item)?;
-    if !any_changes(&*names, ids.as_slice()) {
+    if !any_changes(names, ids.as_slice()) {
         return Ok(None);
     }
     let list = export_list(alloc, names, ids)?;
@@ -118,14 +118,14 @@ fn exports_of(alloc: Global, names: &Names, item: &Node) -> Result<Option<Node>,
 /// The same for each of the items.
 pub fn exports_of_all(
     alloc: Global,
-    names: &Names,
+    names: Names,
     items: &[Node],
 ) -> Result<Items<Option<Node>>, NoMemory>
-    ensures { IfOk result (λ exports. exports ≡ map (λ item. is_exports_of (new_id names.now) (are_exported item)) items.now) }
+    ensures { IfOk result (λ exports. exports ≡ map (λ item. is_exports_of (new_id names.entry) (are_exported item)) items.now) }
 {
     let mut all = Items::new(alloc);
     for item in items {
-        let exports = exports_of(alloc, &*names, item)?;
+        let exports = exports_of(alloc, names, item)?;
         all.push(exports)?;
     }
     Ok(all)
@@ -173,6 +173,7 @@ fn declaration_of(node: Node) -> Node
 
 // Adds an item and, where it has one, its export list.
 fn push_with_exports(
+    alloc: Global,
     items: &mut Items<Node>,
     item: Node,
     exports: Option<Node>,
@@ -182,8 +183,8 @@ fn push_with_exports(
     match exports {
         None => items.push(item)?,
         Some(exports) => {
-            items.push(declaration_of(item))?;
-            items.push(exports)?;
+            let both = Vec::from_array(alloc, [declaration_of(item), exports])?;
+            items.append(Items::from_vec(both))?;
         }
     }
     Ok(())
@@ -202,7 +203,7 @@ pub fn with_all_exports(
     for i in 0..items.len() {
         let item = items.replace(i, Node::Absent);
         let exports = exports.replace(i, None);
-        push_with_exports(&mut all, item, exports)?;
+        push_with_exports(alloc, &mut all, item, exports)?;
     }
     Ok(all)
 }

@@ -1,7 +1,7 @@
 //! Identifiers that get their new names, and the nodes that write a changed name out.
-ghost use Rattle.std.specs.Prelude.{◌≡◌, IfOk, unwrap_or};
+ghost use Rattle.std.specs.Prelude.{◌≡◌, IfOk, Some, unwrap_or};
 ghost use Rattle.swc_base_rename_substitution.specs.Names.{new_id};
-ghost use Rattle.swc_base_rename_substitution.specs.Identifiers.{changed, identifier_to, kept_name, key_of as is_key_of, property_key as is_property_key};
+ghost use Rattle.swc_base_rename_substitution.specs.Identifiers.{changed, id_of, identifier_to, kept_name, computed_key as is_computed_key, key_of as is_key_of, property_key as is_property_key, with_id};
 ghost use Rattle.swc_base_rename_substitution.specs.Substituted.{if_changed};
 
 use crate::names::Names;
@@ -9,51 +9,51 @@ use crate::place::Place;
 use std::alloc::Global;
 use std::mem;
 use swc_tree_items::{Boxed, Items, Text};
-use swc_tree_marks::{DUMMY_SP, Ident, NoMemory, SyntaxContext};
+use swc_tree_marks::{Id, Ident, NoMemory, SyntaxContext};
 use swc_tree_node::{Kind, Node};
 
-// An identifier of no text, which takes no memory.
-fn blank(alloc: Global) -> Ident {
-    Ident {
-        span: DUMMY_SP,
-        ctxt: SyntaxContext::empty(alloc),
-        sym: Text::from_string(String::new(alloc)),
-    }
+// The id of an identifier, which keeps its span alone. It takes no memory.
+fn take_id(alloc: Global, ident: &mut Ident) -> Id
+    ensures id { result ≡ id_of ident.old }
+    ensures span { ident.new.span ≡ ident.old.span }
+{
+    let sym = mem::replace(&mut ident.sym, Text::from_string(String::new(alloc)));
+    let ctxt = mem::replace(&mut ident.ctxt, SyntaxContext::empty(alloc));
+    (sym, ctxt)
+}
+
+// Gives an identifier an id.
+fn give_id(ident: &mut Ident, id: Id)
+    ensures { ident.new ≡ with_id ident.old id }
+{
+    let (sym, ctxt) = id;
+    ident.sym = sym;
+    ident.ctxt = ctxt;
 }
 
 /// The identifier with its new id, and beside it how it was where its text changed.
 pub fn rename(
     alloc: Global,
-    names: &Names,
+    names: Names,
     place: Place,
     mut ident: Boxed<Ident>,
 ) -> Result<(Boxed<Ident>, Option<Ident>), NoMemory>
-    ensures new { IfOk result (λ r. r.0 ≡ unwrap_or (changed (new_id names.now) place ident) ident) }
-    ensures old { IfOk result (λ r. r.1 ≡ if_changed (new_id names.now) place (Some ident)) }
+    ensures new { IfOk result (λ r. r.0 ≡ unwrap_or (changed (new_id names.entry) place ident) ident) }
+    ensures old { IfOk result (λ r. r.1 ≡ if_changed (new_id names.entry) place (Some ident)) }
 {
     if matches!(place, Place::ClassName | Place::Other) {
         return Ok((ident, None));
     }
-    let Ident { span, ctxt, sym } = mem::replace(ident.get_mut(), blank(alloc));
-    let id = (sym, ctxt);
-    let new = names.new_id(alloc, &id)?;
-    let (old_sym, old_ctxt) = id;
-    match new {
-        Some((sym, ctxt)) => {
-            *ident.get_mut() = Ident { span, ctxt, sym };
-            let old = Ident {
-                span,
-                ctxt: old_ctxt,
-                sym: old_sym,
-            };
-            Ok((ident, Some(old)))
+    let span = ident.get().span;
+    let id = take_id(alloc, ident.get_mut());
+    match names.new_id(alloc, &id)? {
+        Some(new) => {
+            give_id(ident.get_mut(), new);
+            let (sym, ctxt) = id;
+            Ok((ident, Some(Ident { span, ctxt, sym })))
         }
         None => {
-            *ident.get_mut() = Ident {
-                span,
-                ctxt: old_ctxt,
-                sym: old_sym,
-            };
+            give_id(ident.get_mut(), id);
             Ok((ident, None))
         }
     }
@@ -63,12 +63,7 @@ pub fn rename(
 pub fn keep_name(alloc: Global, mut ident: Boxed<Ident>) -> Boxed<Ident>
     ensures { result ≡ kept_name ident }
 {
-    let Ident { span, sym, .. } = mem::replace(ident.get_mut(), blank(alloc));
-    *ident.get_mut() = Ident {
-        span,
-        ctxt: SyntaxContext::empty(alloc),
-        sym,
-    };
+    ident.get_mut().ctxt = SyntaxContext::empty(alloc);
     ident
 }
 
@@ -84,12 +79,11 @@ pub fn tree<const N: usize>(alloc: Global, kind: Kind, fields: [Node; N]) -> Res
 pub fn key_of(alloc: Global, name: Ident) -> Result<Node, NoMemory>
     ensures { IfOk result (λ node. node ≡ is_key_of name) }
 {
-    let node = tree(
+    tree(
         alloc,
         Kind::IdentName,
         [Node::Span(name.span), Node::Text(name.sym)],
-    )?;
-    Ok(node)
+    )
 }
 
 // The key of the property that a shorthand made.
@@ -97,40 +91,46 @@ fn property_key(alloc: Global, name: Ident) -> Result<Node, NoMemory>
     ensures { IfOk result (λ node. node ≡ is_property_key name) }
 {
     if name.sym.as_str() != "__proto__" {
-        let key = key_of(alloc, name)?;
-        return Ok(key);
+        return key_of(alloc, name);
     }
-    let span = name.span;
-    let text = tree(
-        alloc,
-        Kind::Str,
-        [Node::Span(span), Node::Text(name.sym), Node::Absent],
-    )?;
-    let key = tree(alloc, Kind::ComputedPropName, [Node::Span(span), text])?;
-    Ok(key)
+    computed_key(alloc, name)
+}
+
+// A computed key, which sets no prototype.
+fn computed_key(alloc: Global, name: Ident) -> Result<Node, NoMemory>
+    ensures { IfOk result (λ node. node ≡ is_computed_key name) }
+{
+    let Ident { span, sym, .. } = name;
+    let fields = [Node::Span(span), Node::Text(sym), Node::Absent];
+    let text = tree(alloc, Kind::Str, fields)?;
+    tree(alloc, Kind::ComputedPropName, [Node::Span(span), text])
+}
+
+// The property that a shorthand becomes, whose identifier was `old` and changed.
+fn property(alloc: Global, old: Ident, kind: Kind, ident: Boxed<Ident>) -> Result<Node, NoMemory>
+    ensures { IfOk result (λ node. node ≡ identifier_to Place.Shorthand kind old (Some ident)) }
+{
+    let key = property_key(alloc, old)?;
+    let fields = [key, Node::Identifier(kind, ident)];
+    tree(alloc, Kind::KeyValueProp, fields)
 }
 
 /// What stands in the place of an identifier.
 pub fn substitute_identifier(
     alloc: Global,
-    names: &Names,
+    names: Names,
     place: Place,
     kind: Kind,
     ident: Boxed<Ident>,
 ) -> Result<Node, NoMemory>
-    ensures { IfOk result (λ node. node ≡ identifier_to place kind ident (changed (new_id names.now) place ident)) }
+    ensures { IfOk result (λ node. node ≡ identifier_to place kind ident (changed (new_id names.entry) place ident)) }
 {
     if place == Place::ClassName {
         return Ok(Node::Identifier(kind, keep_name(alloc, ident)));
     }
-    let (ident, old) = rename(alloc, &*names, place, ident)?;
-    let ident = Node::Identifier(kind, ident);
+    let (ident, old) = rename(alloc, names, place, ident)?;
     match old {
-        Some(old) if place == Place::Shorthand => {
-            let key = property_key(alloc, old)?;
-            let property = tree(alloc, Kind::KeyValueProp, [key, ident])?;
-            Ok(property)
-        }
-        _ => Ok(ident),
+        Some(old) if place == Place::Shorthand => property(alloc, old, kind, ident),
+        _ => Ok(Node::Identifier(kind, ident)),
     }
 }

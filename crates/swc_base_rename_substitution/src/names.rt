@@ -15,6 +15,13 @@ pub enum Names<'a> {
     Ids(&'a HashMap<Id, Id>),
 }
 
+/// A copy of an id.
+pub(crate) fn copy(id: &Id) -> Result<Id, NoMemory>
+    ensures { IfOk result (λ copy. copy ≡ id.now) }
+{
+    Ok((id.0.clone()?, id.1.clone()?))
+}
+
 impl Names<'_> {
     /// The new id, where the map has one of another text. Only then is memory asked for.
     ///
@@ -33,7 +40,7 @@ impl Names<'_> {
                 _ => Ok(None),
             },
             Names::Ids(map) => match map.get(id) {
-                Some(new) if new.0 != id.0 => Ok(Some((new.0.clone()?, new.1.clone()?))),
+                Some(new) if new.0 != id.0 => Ok(Some(copy(new)?)),
                 _ => Ok(None),
             },
         }

@@ -29,7 +29,6 @@ use swc_tree_node::Node;
 /// # Errors
 ///
 /// `NoMemory` where memory is refused. The tree is then dropped.
-#[tactic(auto, using(crate::proofs::KeptFits::substituted_fits))]
 pub fn substitute(
     alloc: Global,
     names: &Names,
@@ -39,6 +38,5 @@ pub fn substitute(
     ensures answer { IfOk result (Substituted (new_id names.now) config.now.keep_class_names node) }
     ensures fits { IfOk result (FitsAs node) }
 {
-    let answer = substitute_node(alloc, names, config.keep_class_names, Place::Other, node)?;
-    Ok(answer)
+    substitute_node(alloc, *names, config.keep_class_names, Place::Other, node)
 }

@@ -6,7 +6,7 @@ ghost use Rattle.swc_base_rename_substitution.specs.Walk.{place_in};
 use swc_tree_node::{Kind, Role, fields_of};
 
 /// What an identifier is at its place, as far as substitution goes by it.
-#[derive(Clone, Copy, Debug, PartialEq, Eq)]
+#[derive(Clone, Copy, PartialEq, Eq)]
 pub enum Place {
     /// A binding or a reference.
     Name,
@@ -61,7 +61,7 @@ fn place_below(keeps_classes: bool, place: Place, sourced: bool, kind: Kind, rol
 }
 
 /// What the places below a node go by.
-#[derive(Clone, Copy, Debug)]
+#[derive(Clone, Copy)]
 pub enum Below {
     /// The items of a list at a place.
     Items(Place),

@@ -55,25 +55,21 @@ fn writes_name(kind: Kind, fields: &Items<Node>) -> bool
 #[tactic(auto, using(crate::proofs::Equations::substituted_leaves, crate::proofs::Equations::substituted_identifier, crate::proofs::Equations::substituted_list))]
 pub fn substitute_node(
     alloc: Global,
-    names: &Names,
+    names: Names,
     keeps_classes: bool,
     place: Place,
     node: Node,
 ) -> Result<Node, NoMemory>
-    ensures { IfOk result (λ answer. answer ≡ substituted (new_id names.now) keeps_classes place node) }
+    ensures { IfOk result (λ answer. answer ≡ substituted (new_id names.entry) keeps_classes place node) }
 {
     match node {
         Node::List(items) => {
-            let items = substitute_items(alloc, &*names, keeps_classes, place, items)?;
+            let items = substitute_items(alloc, names, keeps_classes, place, items)?;
             Ok(Node::List(items))
         }
-        Node::Identifier(kind, ident) => {
-            let node = substitute_identifier(alloc, &*names, place, kind, ident)?;
-            Ok(node)
-        }
+        Node::Identifier(kind, ident) => { substitute_identifier(alloc, names, place, kind, ident) }
         Node::Tree(kind, fields) => {
-            let node = substitute_tree(alloc, &*names, keeps_classes, place, kind, fields)?;
-            Ok(node)
+            substitute_tree(alloc, names, keeps_classes, place, kind, fields)
         }
         Node::Absent => Ok(Node::Absent),
         Node::Flag(flag) => Ok(Node::Flag(flag)),
@@ -88,39 +84,37 @@ pub fn substitute_node(
 #[tactic(auto, using(crate::proofs::Lists::no_exports))]
 fn substitute_items(
     alloc: Global,
-    names: &Names,
+    names: Names,
     keeps_classes: bool,
     place: Place,
     items: Items<Node>,
 ) -> Result<Items<Node>, NoMemory>
-    ensures { IfOk result (λ answer. answer ≡ items_substituted (new_id names.now) keeps_classes place items) }
+    ensures { IfOk result (λ answer. answer ≡ items_substituted (new_id names.entry) keeps_classes place items) }
 {
     if !any_exported(items.as_slice()) {
-        let items = substitute_each(alloc, &*names, keeps_classes, Below::Items(place), items)?;
-        return Ok(items);
+        return substitute_each(alloc, names, keeps_classes, Below::Items(place), items);
     }
-    let exports = exports_of_all(alloc, &*names, items.as_slice())?;
-    let items = substitute_each(alloc, &*names, keeps_classes, Below::Items(place), items)?;
-    let items = with_all_exports(alloc, items, exports)?;
-    Ok(items)
+    let exports = exports_of_all(alloc, names, items.as_slice())?;
+    let items = substitute_each(alloc, names, keeps_classes, Below::Items(place), items)?;
+    with_all_exports(alloc, items, exports)
 }
 
 // The items of a list, or the fields of a node, each at its place.
 #[cycle(substitute)]
 fn substitute_each(
     alloc: Global,
-    names: &Names,
+    names: Names,
     keeps_classes: bool,
     below: Below,
     mut nodes: Items<Node>,
 ) -> Result<Items<Node>, NoMemory>
-    ensures { IfOk result (λ answer. answer ≡ each_substituted (new_id names.now) keeps_classes (place_in keeps_classes below) nodes) }
+    ensures { IfOk result (λ answer. answer ≡ each_substituted (new_id names.entry) keeps_classes (place_in keeps_classes below) nodes) }
 {
     for i in 0..nodes.len() {
         let node = nodes.replace(i, Node::Absent);
         let node = substitute_node(
             alloc,
-            &*names,
+            names,
             keeps_classes,
             below.place(keeps_classes, i),
             node,
@@ -134,26 +128,24 @@ fn substitute_each(
 #[cycle(substitute)]
 fn substitute_tree(
     alloc: Global,
-    names: &Names,
+    names: Names,
     keeps_classes: bool,
     place: Place,
     kind: Kind,
     fields: Items<Node>,
 ) -> Result<Node, NoMemory>
-    ensures { IfOk result (λ answer. answer ≡ substituted (new_id names.now) keeps_classes place (Node.Tree kind fields)) }
+    ensures { IfOk result (λ answer. answer ≡ substituted (new_id names.entry) keeps_classes place (Node.Tree kind fields)) }
 {
     let below = Below::Fields(place, has_source(kind, &fields), kind);
     if keeps_name(keeps_classes, place, kind) {
         let old = identifier_at(&fields, 0)?;
-        let fields = substitute_each(alloc, &*names, keeps_classes, below, fields)?;
-        let node = kept_class(alloc, old, fields)?;
-        return Ok(node);
+        let fields = substitute_each(alloc, names, keeps_classes, below, fields)?;
+        return kept_class(alloc, old, fields);
     }
     if writes_name(kind, &fields) {
-        let node = substitute_named(alloc, &*names, keeps_classes, place, kind, fields)?;
-        return Ok(node);
+        return substitute_named(alloc, names, keeps_classes, place, kind, fields);
     }
-    let fields = substitute_each(alloc, &*names, keeps_classes, below, fields)?;
+    let fields = substitute_each(alloc, names, keeps_classes, below, fields)?;
     Ok(Node::Tree(kind, fields))
 }
 
@@ -161,19 +153,18 @@ fn substitute_tree(
 #[cycle(substitute)]
 fn substitute_named(
     alloc: Global,
-    names: &Names,
+    names: Names,
     keeps_classes: bool,
     place: Place,
     kind: Kind,
     fields: Items<Node>,
 ) -> Result<Node, NoMemory>
     requires { is_writing_name kind fields ≡ true }
-    ensures { IfOk result (λ answer. answer ≡ substituted (new_id names.now) keeps_classes place (Node.Tree kind fields)) }
+    ensures { IfOk result (λ answer. answer ≡ substituted (new_id names.entry) keeps_classes place (Node.Tree kind fields)) }
 {
     let sourced = has_source(kind, &fields);
     let below = Below::Others(place, sourced, kind);
-    let fields = substitute_each(alloc, &*names, keeps_classes, below, fields)?;
+    let fields = substitute_each(alloc, names, keeps_classes, below, fields)?;
     let at = Below::Fields(place, sourced, kind).place(keeps_classes, 1);
-    let node = rename_named(alloc, &*names, at, kind, fields)?;
-    Ok(node)
+    rename_named(alloc, names, at, kind, fields)
 }

@@ -1,6 +1,6 @@
 //! Nodes that write a changed name out.
 ghost use Rattle.std.specs.Prelude.{◌≡◌, ◌<◌, IfOk, length};
-ghost use Rattle.swc_base_rename_substitution.specs.Identifiers.{or_kept as is_or_kept, with_default as is_with_default, written_out as is_written_out, written_out_if as is_written_out_if};
+ghost use Rattle.swc_base_rename_substitution.specs.Identifiers.{or_kept as is_or_kept, with_default as is_with_default, with_other, written_out as is_written_out, written_out_if as is_written_out_if};
 ghost use Rattle.swc_base_rename_substitution.specs.Names.{new_id};
 ghost use Rattle.swc_tree_node.specs.declared.kind.Kind.TheVariants as kind;
 ghost use Rattle.swc_base_rename_substitution.specs.Walk.{IsRenamed};
@@ -34,8 +34,7 @@ fn with_default(alloc: Global, old: &Ident, target: Node, value: Node) -> Result
         Node::Absent => Ok(target),
         value => {
             let span = Node::Span(old.span);
-            let pattern = tree(alloc, Kind::AssignPat, [span, target, value])?;
-            Ok(pattern)
+            tree(alloc, Kind::AssignPat, [span, target, value])
         }
     }
 }
@@ -47,10 +46,11 @@ fn pattern_property(alloc: Global, old: Ident, mut fields: Items<Node>) -> Resul
 {
     let target = fields.replace(1, Node::Absent);
     let value = fields.replace(2, Node::Absent);
-    let value = with_default(alloc, &old, target, value)?;
+    let target = with_default(alloc, &old, target, value)?;
+    fields.set(1, target);
     let key = key_of(alloc, old)?;
-    let property = tree(alloc, Kind::KeyValuePatProp, [key, value])?;
-    Ok(property)
+    let target = fields.replace(1, Node::Absent);
+    tree(alloc, Kind::KeyValuePatProp, [key, target])
 }
 
 // The fields of a specifier, whose name was `old` and changed.
@@ -60,8 +60,7 @@ fn specifier_fields(
     mut fields: Items<Node>,
 ) -> Result<Items<Node>, NoMemory>
     requires { length fields ≡ 3 }
-    ensures import { IfOk result (λ fields'. Node.Tree kind.ImportNamedSpecifier fields' ≡ is_written_out kind.ImportNamedSpecifier old fields) }
-    ensures export { IfOk result (λ fields'. Node.Tree kind.ExportNamedSpecifier fields' ≡ is_written_out kind.ExportNamedSpecifier old fields) }
+    ensures { IfOk result (λ fields'. fields' ≡ with_other old fields) }
 {
     let other = fields.replace(2, Node::Absent);
     let other = or_kept(alloc, old, other)?;
@@ -73,15 +72,9 @@ fn specifier_fields(
 fn written_out(alloc: Global, kind: Kind, old: Ident, fields: Items<Node>) -> Result<Node, NoMemory>
     ensures { IfOk result (λ node. node ≡ is_written_out kind old fields) }
 {
-    if fields.len() != 3 {
-        return Ok(Node::Tree(kind, fields));
-    }
     match kind {
-        Kind::AssignPatProp => {
-            let property = pattern_property(alloc, old, fields)?;
-            Ok(property)
-        }
-        Kind::ImportNamedSpecifier | Kind::ExportNamedSpecifier => {
+        Kind::AssignPatProp if fields.len() == 3 => pattern_property(alloc, old, fields),
+        Kind::ImportNamedSpecifier | Kind::ExportNamedSpecifier if fields.len() == 3 => {
             let fields = specifier_fields(alloc, old, fields)?;
             Ok(Node::Tree(kind, fields))
         }
@@ -100,30 +93,26 @@ fn written_out_if(
 {
     match old {
         None => Ok(Node::Tree(kind, fields)),
-        Some(old) => {
-            let node = written_out(alloc, kind, old, fields)?;
-            Ok(node)
-        }
+        Some(old) => written_out(alloc, kind, old, fields),
     }
 }
 
 /// A node of a kind and with these fields, where the identifier in the second is still to be renamed.
 pub fn rename_named(
     alloc: Global,
-    names: &Names,
+    names: Names,
     place: Place,
     kind: Kind,
     mut fields: Items<Node>,
 ) -> Result<Node, NoMemory>
     requires { 1 < length fields }
-    ensures { IfOk result (IsRenamed (new_id names.now) place kind fields) }
+    ensures { IfOk result (IsRenamed (new_id names.entry) place kind fields) }
 {
     match fields.replace(1, Node::Absent) {
         Node::Identifier(name_kind, name) => {
-            let (name, old) = rename(alloc, &*names, place, name)?;
+            let (name, old) = rename(alloc, names, place, name)?;
             fields.set(1, Node::Identifier(name_kind, name));
-            let node = written_out_if(alloc, kind, old, fields)?;
-            Ok(node)
+            written_out_if(alloc, kind, old, fields)
         }
         other => {
             fields.set(1, other);

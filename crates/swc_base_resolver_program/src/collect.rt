@@ -166,10 +166,7 @@ fn gather_identifier(
     }
     let name = ident.sym.as_str();
     match target(stage, standing, name, env) {
-        Some(number) => {
-            add(alloc, tables, number, name, standing)?;
-            Ok(())
-        }
+        Some(number) => { add(alloc, tables, number, name, standing) }
         None => Ok(()),
     }
 }
@@ -196,10 +193,7 @@ fn add(
     ensures tables { OnOk result (Gains tables.old.items tables.new.items (IsAdded number standing name.now)) }
 {
     match tables.get_mut(number) {
-        Some(names) => {
-            names.insert(alloc, name, standing)?;
-            Ok(())
-        }
+        Some(names) => { names.insert(alloc, name, standing) }
         None => Ok(()),
     }
 }

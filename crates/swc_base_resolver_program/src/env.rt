@@ -7,7 +7,7 @@ use crate::lookup::Names;
 use swc_tree_scoping::{Scope, Standing, View, takes};
 
 /// A scope that is open: its number from the front, and whether all its names are seen or only its parameters.
-#[derive(Clone, Copy, Debug)]
+#[derive(Clone, Copy)]
 pub struct Layer {
     pub scope: Scope,
     pub number: usize,

@@ -9,7 +9,7 @@ use std::collections::HashMap;
 use swc_tree_scoping::Standing;
 
 /// The ways in which a scope takes one name.
-#[derive(Clone, Copy, Debug)]
+#[derive(Clone, Copy)]
 pub struct Ways {
     variable: bool,
     lexical: bool,

@@ -34,8 +34,7 @@ pub fn write_contexts(program: Node, answers: &Answers) -> Result<Node, AllocErr
     ensures { IfOk result (λ answer. answer ≡ remarked (written (marking_in answers.now) [] 0 program_place program) program) }
 {
     let mut next = 0;
-    let answer = resolve(program, PROGRAM_PLACE, answers, &Env::Top, &mut next)?;
-    Ok(answer)
+    resolve(program, PROGRAM_PLACE, answers, &Env::Top, &mut next)
 }
 
 // The node with the context of each identifier that had none; `next` is how many scopes begin before it.

@@ -1,0 +1,194 @@
+//! A work that is refused memory: a run of `jsbase`, or of a pass over a program.
+//!
+//! The arguments are `refuse`, then `jsbase` or `pass`, then a command and a goal. Standard input is three lines: how many
+//! requests for memory are made before the work, an input, and what comes of it with ample memory. Whoever refuses the n-th
+//! request of the program, for one n and each number of requests before, so refuses each request of the work in turn
+//! (`tools/refuse_memory.py` does). Where the first line is `before` or `after`, the answer is how many requests are granted
+//! in place of the work or after it, before one is refused.
+use crate::engine::{line, run_words};
+use crate::programs::{Given, Pass, class_of, left, read};
+use anyhow::{Result, bail};
+use jsbase_engine::Fault;
+use std::alloc::{AllocError, Global};
+use std::fmt;
+use swc_tree_marks::{PassError, Span};
+
+// How many requests are made where all that are granted are counted: more than any number that is refused.
+const MOST: usize = 100_000;
+
+/// What is asked of a work.
+#[derive(Clone, Copy)]
+enum Asked {
+    /// How many requests are granted in its place.
+    Before,
+    /// How many are granted after it.
+    After,
+    /// Its answer after so many requests.
+    Answer(usize),
+}
+
+/// What is said of a work.
+#[derive(Clone, Copy)]
+enum Said {
+    Granted(usize),
+    /// It answered what it answers with ample memory.
+    Ample,
+    /// It answered that memory was refused.
+    Refused,
+    /// Neither.
+    Other,
+}
+
+/// The lines of standard input.
+#[derive(Drop)]
+struct Lines {
+    asked: String,
+    input: String,
+    wanted: String,
+}
+
+impl fmt::Display for Said {
+    fn fmt<W: fmt::Write>(&self, f: &mut fmt::Formatter<W>) -> fmt::Result {
+        match self {
+            Said::Granted(count) => write!(f, "{count}"),
+            Said::Ample => f.write_str("ample"),
+            Said::Refused => f.write_str("refused"),
+            Said::Other => f.write_str("other"),
+        }
+    }
+}
+
+// How many of so many requests are granted before one is refused. Nothing that was granted is kept.
+fn granted(alloc: Global, most: usize) -> usize {
+    for count in 0..most {
+        if Box::new(alloc, 0u8).is_err() {
+            return count;
+        }
+    }
+    most
+}
+
+fn asked_of(word: &str) -> Result<Asked> {
+    match word {
+        "before" => Ok(Asked::Before),
+        "after" => Ok(Asked::After),
+        count => Ok(Asked::Answer(count.parse()?)),
+    }
+}
+
+// What is said in place of the work, if anything is. The requests before it are made here.
+fn before(alloc: Global, asked: Asked) -> Option<Said> {
+    match asked {
+        Asked::Before => Some(Said::Granted(granted(alloc, MOST))),
+        Asked::Answer(count) if granted(alloc, count) < count => Some(Said::Other),
+        _ => None,
+    }
+}
+
+fn is_ample(written: &[u8], wanted: &str) -> Said {
+    if written.strip_suffix(b"\n") == Some(wanted.as_bytes()) {
+        Said::Ample
+    } else {
+        Said::Other
+    }
+}
+
+// What is said of a run of `jsbase` by a command and a goal.
+fn of_engine(alloc: Global, arguments: &[String], lines: &Lines) -> Result<Said> {
+    let asked = asked_of(lines.asked.as_str())?;
+    if let Some(said) = before(alloc, asked) {
+        return Ok(said);
+    }
+    let answer = run_words(alloc, arguments, lines.input.as_bytes());
+    if matches!(asked, Asked::After) {
+        return Ok(Said::Granted(granted(alloc, MOST)));
+    }
+    if matches!(&answer, Err(Fault::Refused(PassError::NoMemory))) {
+        return Ok(Said::Refused);
+    }
+    Ok(is_ample(line(alloc, answer).as_slice(), lines.wanted.as_str()))
+}
+
+// Whether a refused pass left the program empty, and the table with what it had.
+fn is_kept(given: &Given, span: Span, marks: &[(u32, u32)]) -> bool {
+    given.program.is_empty()
+        && given.program.span() == span
+        && given.globals.table().starts_with(marks)
+}
+
+// What is said of what is left of a program by a pass that was not refused memory.
+fn of_left(
+    alloc: Global,
+    answer: Result<(), PassError>,
+    given: Given,
+    wanted: &str,
+) -> Result<Said, AllocError> {
+    let text = match answer {
+        Ok(()) => left(alloc, answer, given)?,
+        Err(error) => format!(in alloc; "refused: {}\n", error.name())?,
+    };
+    Ok(is_ample(text.as_bytes(), wanted))
+}
+
+// What is said of a run of a pass over a program.
+fn of_pass(alloc: Global, word: &str, mut given: Given, lines: &Lines) -> Result<Said> {
+    let mut pass = Pass::of_word(alloc, word, &given)?;
+    let marks = Vec::from_slice(alloc, given.globals.table())?;
+    let span = given.program.span();
+    let asked = asked_of(lines.asked.as_str())?;
+    if let Some(said) = before(alloc, asked) {
+        return Ok(said);
+    }
+    let answer = pass.visit(alloc, &mut given);
+    if matches!(asked, Asked::After) {
+        return Ok(Said::Granted(granted(alloc, MOST)));
+    }
+    if answer.is_err() && !is_kept(&given, span, marks.as_slice()) {
+        return Ok(Said::Other);
+    }
+    if answer == Err(PassError::NoMemory) {
+        return Ok(Said::Refused);
+    }
+    Ok(of_left(alloc, answer, given, lines.wanted.as_str())?)
+}
+
+fn reply(alloc: Global, arguments: &[String], lines: &Lines) -> Result<Said> {
+    let (Some(work), Some(word), Some(class)) = (
+        arguments.get(1),
+        arguments.get(2),
+        arguments.get(3),
+    ) else {
+        bail!("usage: gate_replay refuse jsbase|pass WORD module|script");
+    };
+    match work.as_str() {
+        "jsbase" => of_engine(alloc, &arguments[2..], lines),
+        "pass" => {
+            let given = read(alloc, class_of(class.as_str())?, lines.input.as_str())?;
+            of_pass(alloc, word.as_str(), given, lines)
+        }
+        _ => bail!("the work is jsbase or pass"),
+    }
+}
+
+fn lines_of(rt: &HostRuntime) -> Result<Lines> {
+    let mut lines = rt.lines(rt.alloc());
+    let (Some(asked), Some(input), Some(wanted)) = (lines.next(), lines.next(), lines.next()) else {
+        bail!("three lines are needed");
+    };
+    Ok(Lines {
+        asked: asked?,
+        input: input?,
+        wanted: wanted?,
+    })
+}
+
+/// Says of the work of the arguments what the lines of standard input ask.
+pub fn serve(rt: &HostRuntime, arguments: &[String]) -> Result<()> {
+    let lines = lines_of(rt)?;
+    let said = reply(rt.alloc(), arguments, &lines)?;
+    println!(rt; "{said}")?;
+    if let Said::Other = said {
+        bail!("the answer is neither the ample one nor a refusal");
+    }
+    Ok(())
+}

@@ -1,4 +1,0 @@
-use Rattle.jsbase_kinds.proofs.samples.+least.Given as goal
-
-abbrev pub decreases-least : goal.decreases-least
-decreases-least l = l.depth
