@@ -37,40 +37,37 @@ by_parts t u names left right same = (λ i. same_tree (names i) (left i) (right 
 
 -- `let a; a` and `let b; b`
 renamed : is_same (declaring (codes "a") (reference (codes "a"))) (declaring (codes "b") (reference (codes "b"))) ≡ true
-renamed = search (rules, the_lemmas, names_out, same_out)
+renamed =
+    by_parts (declaring (codes "a") (reference (codes "a"))) (declaring (codes "b") (reference (codes "b")))
+    (search (rules, the_lemmas, names_out)) (search (rules, the_lemmas)) (search (rules, the_lemmas)) (search (rules, the_lemmas, same_out))
 
 -- `let a; c` and `let a; b`
 free : is_same (declaring (codes "a") (reference (codes "c"))) (declaring (codes "a") (reference (codes "b"))) ≡ false
-free = search (rules, the_lemmas, names_out, same_out)
+free =
+    by_parts (declaring (codes "a") (reference (codes "c"))) (declaring (codes "a") (reference (codes "b")))
+    (search (rules, the_lemmas, names_out)) (search (rules, the_lemmas)) (search (rules, the_lemmas)) (search (rules, the_lemmas, same_out))
 
 abbrev labeled : List ℕ → Node
 labeled label = Tree kind.LabeledStmt (at 0 0 ∷ name label ∷ Tree kind.EmptyStmt (at 0 0 ∷ []) ∷ [])
 
--- `let a; a: ;` and `let b; b: ;`
-label : is_same (declaring (codes "a") (labeled (codes "a"))) (declaring (codes "b") (labeled (codes "b"))) ≡ false
-label =
-    by_parts (declaring (codes "a") (labeled (codes "a"))) (declaring (codes "b") (labeled (codes "b")))
-    (search (rules, the_lemmas, names_out)) (search (rules, the_lemmas)) (search (rules, the_lemmas)) (search (rules, the_lemmas, same_out))
+-- where `a` is declared: `a: ;` and `b: ;`
+label : same_tree only_a (labeled (codes "a")) (labeled (codes "b")) ≡ false
+label = search (rules, the_lemmas, same_out)
 
 abbrev exporting : List ℕ → List ℕ → Node → Node
 exporting local exported source = Tree kind.NamedExport (at 0 0 ∷ Many (Tree kind.ExportNamedSpecifier (at 0 0 ∷ name local ∷ name exported ∷ []) ∷ []) ∷ source ∷ Absent ∷ [])
 
--- `let a; export { a as c }` and `let b; export { b as c }`, but not `let a; export { a as b }`
-exported : is_same (declaring (codes "a") (exporting (codes "a") (codes "c") Absent)) (declaring (codes "b") (exporting (codes "b") (codes "c") Absent)) ≡ true
-exported =
-    by_parts (declaring (codes "a") (exporting (codes "a") (codes "c") Absent)) (declaring (codes "b") (exporting (codes "b") (codes "c") Absent))
-    (search (rules, the_lemmas, names_out)) (search (rules, the_lemmas)) (search (rules, the_lemmas)) (search (rules, the_lemmas, same_out))
+-- `export { a as c }` and `export { b as c }`
+exported : same_tree only_a (exporting (codes "a") (codes "c") Absent) (exporting (codes "b") (codes "c") Absent) ≡ true
+exported = search (rules, the_lemmas, same_out)
 
-other_name : is_same (declaring (codes "a") (exporting (codes "a") (codes "a") Absent)) (declaring (codes "a") (exporting (codes "a") (codes "b") Absent)) ≡ false
-other_name =
-    by_parts (declaring (codes "a") (exporting (codes "a") (codes "a") Absent)) (declaring (codes "a") (exporting (codes "a") (codes "b") Absent))
-    (search (rules, the_lemmas, names_out)) (search (rules, the_lemmas)) (search (rules, the_lemmas)) (search (rules, the_lemmas, same_out))
+-- `export { a as a }` and `export { a as b }`
+other_name : same_tree only_a (exporting (codes "a") (codes "a") Absent) (exporting (codes "a") (codes "b") Absent) ≡ false
+other_name = search (rules, the_lemmas, same_out)
 
 abbrev source : Node
 source = Tree kind.Str (at 0 0 ∷ Text (codes "m") ∷ Absent ∷ [])
 
--- `let a; export { a as c } from "m"` and `let a; export { b as c } from "m"`
-from_elsewhere : is_same (declaring (codes "a") (exporting (codes "a") (codes "c") source)) (declaring (codes "a") (exporting (codes "b") (codes "c") source)) ≡ false
-from_elsewhere =
-    by_parts (declaring (codes "a") (exporting (codes "a") (codes "c") source)) (declaring (codes "a") (exporting (codes "b") (codes "c") source))
-    (search (rules, the_lemmas, names_out)) (search (rules, the_lemmas)) (search (rules, the_lemmas)) (search (rules, the_lemmas, same_out))
+-- `export { a as c } from "m"` and `export { b as c } from "m"`
+from_elsewhere : same_tree only_a (exporting (codes "a") (codes "c") source) (exporting (codes "b") (codes "c") source) ≡ false
+from_elsewhere = search (rules, the_lemmas, same_out)
