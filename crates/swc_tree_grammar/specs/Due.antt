@@ -279,6 +279,7 @@ pub record Leading : Type 0 where
   pub whole : Node
   pub first_paired : Node
 
+-- the base of a chain takes no pair, so the chain gets it
 abbrev pub first_in : Places → Node → Node-F Leading → Node
 first_in place t (Node-F.List (e ∷ es)) = Many (e.first_paired ∷ map (λ e. e.whole) es)
 first_in place t (Seq span exprs) = Tree kind.SeqExpr (span.whole ∷ exprs.first_paired ∷ [])

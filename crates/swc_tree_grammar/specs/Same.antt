@@ -24,9 +24,9 @@ declared_step place t below = bound_in place.standing (out-Node t) ++ flat_map (
 abbrev pub declared_names : Node → List Ident
 declared_names = fold_in_place declared_step program_place
 
--- where an identifier stands so, its text may be another, if the name is declared: where names are bound or referred to
-abbrev pub may_change : Standing → Bool
-may_change standing = is_binding standing || is_reference standing
+-- what stands so is a name that a scope may declare; a label, an imported and an exported name are none
+abbrev pub is_name : Standing → Bool
+is_name standing = is_binding standing || is_reference standing
 
 abbrev pub same_flag : Bool → Bool → Bool
 same_flag true b = b
@@ -46,7 +46,7 @@ same_in declared standing below (Node-F.Word v) (Node-F.Word w) = word_number v 
 same_in declared standing below (Node-F.Text x) (Node-F.Text y) = pointwise nat_eq x y
 same_in declared standing below (Node-F.Span s) (Node-F.Span r) = true
 same_in declared standing below (Node-F.Identifier k i) (Node-F.Identifier l j) =
-    (kind_number k == kind_number l) && (pointwise nat_eq i.sym j.sym || (may_change standing && list_any (same_id i) declared))
+    (kind_number k == kind_number l) && (pointwise nat_eq i.sym j.sym || (is_name standing && list_any (same_id i) declared))
 same_in declared standing below (Node-F.List ts) (Node-F.List us) = each_same below us
 same_in declared standing below (Node-F.Tree k ts) (Node-F.Tree l us) = (kind_number k == kind_number l) && each_same below us
 same_in declared standing below _ _ = false

@@ -40,7 +40,7 @@ pub record Begun : Type 0 where
   pub whole : Node
   pub start : Start
 
--- of a chain `?.` may stand behind `let`; behind a prefix operator the operand is not first
+-- in `let?.[x]` no bracket stands behind `let`; behind a prefix operator the operand is not first
 abbrev pub start_in : Node → Node-F Begun → Start
 start_in t (Node-F.List (e ∷ es)) = e.start
 start_in t (Node-F.Tree kind.ObjectLit es) = Brace
