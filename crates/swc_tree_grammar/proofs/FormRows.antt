@@ -1,5 +1,5 @@
 -- Normal forms, needed pairs and due pairs on small trees.
-use Rattle.std.proofs.Common.{◌≡◌, ℕ, List, [], ◌∷◌, true, false, codes, rules}
+use Rattle.std.proofs.Common.{◌≡◌, ℕ, List, [], ◌∷◌, Bool, true, false, codes, rules}
 use Rattle.swc_tree_node.specs.declared.kind.Kind.{Kind}
 use Rattle.swc_tree_node.specs.declared.kind.Kind.TheVariants as kind
 use Rattle.swc_tree_node.specs.declared.kind.Word.TheVariants as word
@@ -125,6 +125,12 @@ let_bracket = Tree kind.MemberExpr (at 0 0 ∷ name (codes "let") ∷ Tree kind.
 let_first : paired_at_starts same_place (statement let_bracket) ≡ statement (paren let_bracket)
 let_first = search (rules, the_lemmas)
 
-let_chain : paired_at_starts same_place (statement (Tree kind.OptChainExpr (at 0 0 ∷ Flag true ∷ let_bracket ∷ [])))
-    ≡ statement (Tree kind.OptChainExpr (at 0 0 ∷ Flag true ∷ let_bracket ∷ []))
+abbrev let_part : Bool → Node
+let_part optional = Tree kind.OptChainExpr (at 0 0 ∷ Flag optional ∷ let_bracket ∷ [])
+
+let_chain : paired_at_starts same_place (statement (let_part true)) ≡ statement (let_part true)
 let_chain = search (rules, the_lemmas)
+
+-- of a part of a chain that is not optional the whole gets the pair, and not its base
+let_in_chain : paired_at_starts same_place (statement (let_part false)) ≡ statement (paren (let_part false))
+let_in_chain = search (rules, the_lemmas)
