@@ -51,9 +51,16 @@ def kind_rt(tree):
 
 def rust_match(name, doc, argument, type_, result, ensures, arms):
     """A function that answers by one `match` of all variants."""
-    parameter = argument
     return '/// %s\npub fn %s(%s: %s) -> %s\n    ensures { %s }\n{\n    match %s {\n%s    }\n}\n' % (
-        doc, name, parameter, type_, result, ensures, argument, ''.join('        %s => %s,\n' % arm for arm in arms))
+        doc, name, argument, type_, result, ensures, argument, ''.join('        %s => %s,\n' % arm for arm in arms))
+
+
+def rust_lookup(name, doc, argument, type_, result, ensures, rows):
+    """A function that answers by a row for each variant, in the order of the variants. One `match` of so many arms is
+    dear to prove."""
+    table = name.upper()
+    return 'const %s: [%s; %d] = [%s];\n\n/// %s\npub fn %s(%s: %s) -> %s\n    ensures { %s }\n{\n    %s[%s as usize]\n}\n' % (
+        table, result.replace("&'static ", '&'), len(rows), ', '.join(rows), doc, name, argument, type_, result, ensures, table, argument)
 
 
 def module_of(family):
@@ -112,16 +119,16 @@ def table_rt(tree):
     return '\n'.join([
         '//! The table: what each kind of node is called and holds.\n//!\n//! %s\n' % PRINTED,
         imports,
-        rust_match('name_of', 'The name of the struct, as it stands in JSON.', 'kind', 'Kind', "&'static str",
-                   'result.now ≡ name_of kind', [('Kind::' + s, '"%s"' % s) for s in tree.structs]),
+        rust_lookup('name_of', 'The name of the struct, as it stands in JSON.', 'kind', 'Kind', "&'static str",
+                    'result.now ≡ name_of kind', ['"%s"' % s for s in tree.structs]),
         rust_match('fields_of', 'The fields of a kind, in the order in which they are read. An identifier has none here.',
                    'kind', 'Kind', "&'static [Field]",
                    'map (λ f. (f.key.now, f.slot, f.role)) result.now ≡ fields_of kind', fields),
-        rust_match('words_of', 'The words of a place.', 'words', 'WordClass', "&'static [Word]",
-                   'result.now ≡ words_of words',
-                   [('WordClass::' + n, '&[%s]' % ', '.join('Word::' + word for _, _, word in ws.words)) for n, ws in tree.words.items()]),
-        rust_match('spelling_of', 'A word as it is written.', 'word', 'Word', "&'static str",
-                   'result.now ≡ spelling_of word', [('Word::' + v, '"%s"' % s) for v, s in tree.spellings().items()]),
+        rust_lookup('words_of', 'The words of a place.', 'words', 'WordClass', "&'static [Word]",
+                    'result.now ≡ words_of words',
+                    ['&[%s]' % ', '.join('Word::' + word for _, _, word in ws.words) for ws in tree.words.values()]),
+        rust_lookup('spelling_of', 'A word as it is written.', 'word', 'Word', "&'static str",
+                    'result.now ≡ spelling_of word', ['"%s"' % s for s in tree.spellings().values()]),
         '/// Whether the kind is that of an identifier.\npub fn is_identifier(kind: Kind) -> bool\n'
         '    ensures { result ≡ is_identifier kind }\n{\n    matches!(kind, %s)\n}\n' % identifiers,
     ])
@@ -132,9 +139,9 @@ def classes_rt(tree):
         '//! The kinds that each class takes.\n//!\n//! %s\n' % PRINTED,
         'ghost use Rattle.std.specs.Prelude.{◌≡◌};\nghost use Rattle.swc_tree_node.specs.Table.{kinds_of};\n\n'
         'use crate::kind::{Class, Kind};\n',
-        rust_match('kinds_of', 'The kinds that may stand in a place of a class.', 'class', 'Class', "&'static [Kind]",
-                   'result.now ≡ kinds_of class',
-                   [('Class::' + c, '&[%s]' % ', '.join('Kind::' + k for k in tree.kinds_of(c))) for c in tree.classes()])])
+        rust_lookup('kinds_of', 'The kinds that may stand in a place of a class.', 'class', 'Class', "&'static [Kind]",
+                    'result.now ≡ kinds_of class',
+                    ['&[%s]' % ', '.join('Kind::' + k for k in tree.kinds_of(c)) for c in tree.classes()])])
 
 
 def spec_list(items):

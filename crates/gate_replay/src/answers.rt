@@ -1,5 +1,5 @@
 //! What is answered to a row.
-use crate::{engine, kinds, programs, units};
+use crate::{engine, kinds, programs};
 use anyhow::Result;
 use std::alloc::Global;
 
@@ -8,7 +8,6 @@ fn answer(alloc: Global, words: &str, input: &str) -> Result<Vec<u8>> {
     let (first, rest) = words.split_once(' ').unwrap_or((words, ""));
     let text = match first {
         "kinds" => kinds::answer(alloc)?,
-        "units" => units::answer(alloc, rest)?,
         "pass" | "rename" | "remap" | "unparen_comments" => programs::answer(alloc, words, input)?,
         _ => return engine::written(alloc, words, input),
     };

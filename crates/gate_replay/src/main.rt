@@ -13,7 +13,6 @@ mod programs;
 mod refuse;
 mod rows;
 mod texts;
-mod units;
 
 use anyhow::Result;
 use std::env;

@@ -4,8 +4,6 @@
 mod arguments;
 mod engine;
 mod fault;
-#[cfg(test)]
-mod tests;
 
 pub use arguments::{Command, Kind, words};
 pub use engine::run;

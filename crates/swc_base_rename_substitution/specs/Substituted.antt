@@ -6,6 +6,7 @@ use Rattle.std.specs.List.{flat_map}
 use Rattle.swc_tree_marks.specs.declared.ident.Ident.{Ident}
 use Rattle.swc_tree_node.specs.declared.kind.Kind.{Kind}
 use Rattle.swc_tree_node.specs.declared.kind.Kind.TheVariants as kind
+use Rattle.swc_tree_node.specs.declared.fields.statements.class_decl.TheConstants as class_decl
 use Rattle.swc_tree_node.specs.declared.node.Node.{Node, Absent, Flag, Word, Text, Span, List as Many, out-Node, roll-Node, map-Node, fold-Node}
 use Rattle.swc_tree_node.specs.declared.node.Node.TheOpen.{Node-F}
 use Rattle.swc_base_rename_substitution.specs.declared.place.Place.{Place}
@@ -45,7 +46,7 @@ keeps_name keeps p k = false
 abbrev pub tree_for : Changes → Bool → Place → Kind → List Node → List Node → Node
 tree_for m keeps whole k before ts =
     if keeps_name keeps whole k
-    then kept_class (identifier_at before 0) ts
+    then kept_class (identifier_at before class_decl.IDENT) ts
     else written_out_if k (if_changed m (places keeps whole k before 1) (identifier_at before 1)) ts
 
 -- a node as it was, and what it becomes at a place

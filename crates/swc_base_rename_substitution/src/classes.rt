@@ -7,6 +7,7 @@ use crate::identifiers::{keep_name, tree};
 use std::alloc::Global;
 use swc_tree_items::{Boxed, Items};
 use swc_tree_marks::{Ident, NoMemory, Span};
+use swc_tree_node::fields::{class, class_decl};
 use swc_tree_node::{Kind, Node, Word};
 
 /// A copy of the identifier that stands in a field.
@@ -24,7 +25,7 @@ fn class_span(class: &Node) -> Option<Span>
     ensures { result ≡ is_class_span class.now }
 {
     match class {
-        Node::Tree(Kind::Class, fields) => match fields.get(0) {
+        Node::Tree(Kind::Class, fields) => match fields.get(class::SPAN) {
             Some(Node::Span(span)) => Some(*span),
             _ => None,
         },
@@ -79,8 +80,8 @@ pub fn kept_class(
 {
     match old {
         Some(old) if fields.len() == 2 => {
-            let name = fields.replace(0, Node::Absent);
-            let class = fields.replace(1, Node::Absent);
+            let name = fields.replace(class_decl::IDENT, Node::Absent);
+            let class = fields.replace(class_decl::CLASS, Node::Absent);
             let_if(alloc, old, name, class)
         }
         _ => Ok(Node::Tree(Kind::ClassDecl, fields)),

@@ -12,6 +12,7 @@ use crate::unique::distinct;
 use std::alloc::Global;
 use swc_tree_items::{Boxed, Items};
 use swc_tree_marks::{DUMMY_SP, Id, Ident, NoMemory, SyntaxContext};
+use swc_tree_node::fields::export_decl;
 use swc_tree_node::{Kind, Node};
 
 // Whether the text of one of the ids changes.
@@ -95,7 +96,7 @@ fn exported_ids(alloc: Global, item: &Node) -> Result<Items<Id>, NoMemory>
     match item {
         Node::Tree(Kind::ExportDecl, fields) => {
             if fields.len() == 2 {
-                bound_ids(&fields.as_slice()[1], &mut ids)?;
+                bound_ids(&fields.as_slice()[export_decl::DECL], &mut ids)?;
             }
         }
         _ => {}
@@ -155,7 +156,7 @@ fn declaration_in(mut fields: Items<Node>) -> Node
     ensures { result ≡ is_declaration_of (Node.Tree Kind.ExportDecl fields) }
 {
     if fields.len() == 2 {
-        fields.replace(1, Node::Absent)
+        fields.replace(export_decl::DECL, Node::Absent)
     } else {
         Node::Tree(Kind::ExportDecl, fields)
     }
@@ -173,7 +174,6 @@ fn declaration_of(node: Node) -> Node
 
 // Adds an item and, where it has one, its export list.
 fn push_with_exports(
-    alloc: Global,
     items: &mut Items<Node>,
     item: Node,
     exports: Option<Node>,
@@ -183,8 +183,8 @@ fn push_with_exports(
     match exports {
         None => items.push(item)?,
         Some(exports) => {
-            let both = Vec::from_array(alloc, [declaration_of(item), exports])?;
-            items.append(Items::from_vec(both))?;
+            items.push(declaration_of(item))?;
+            items.push(exports)?;
         }
     }
     Ok(())
@@ -203,7 +203,7 @@ pub fn with_all_exports(
     for i in 0..items.len() {
         let item = items.replace(i, Node::Absent);
         let exports = exports.replace(i, None);
-        push_with_exports(alloc, &mut all, item, exports)?;
+        push_with_exports(&mut all, item, exports)?;
     }
     Ok(all)
 }

@@ -14,6 +14,7 @@ use crate::written_out::rename_named;
 use std::alloc::Global;
 use swc_tree_items::Items;
 use swc_tree_marks::NoMemory;
+use swc_tree_node::fields::{class_decl, named_export};
 use swc_tree_node::{Kind, Node};
 
 // Whether the kind writes a changed name out.
@@ -38,7 +39,7 @@ fn has_source(kind: Kind, fields: &Items<Node>) -> bool
     ensures { result ≡ has_source_in kind fields.now }
 {
     match kind {
-        Kind::NamedExport => !matches!(fields.get(2), None | Some(Node::Absent)),
+        Kind::NamedExport => !matches!(fields.get(named_export::SRC), None | Some(Node::Absent)),
         _ => false,
     }
 }
@@ -138,7 +139,7 @@ fn substitute_tree(
 {
     let below = Below::Fields(place, has_source(kind, &fields), kind);
     if keeps_name(keeps_classes, place, kind) {
-        let old = identifier_at(&fields, 0)?;
+        let old = identifier_at(&fields, class_decl::IDENT)?;
         let fields = substitute_each(alloc, names, keeps_classes, below, fields)?;
         return kept_class(alloc, old, fields);
     }

@@ -11,6 +11,7 @@ use crate::place::Place;
 use std::alloc::Global;
 use swc_tree_items::{Boxed, Items};
 use swc_tree_marks::{Ident, NoMemory};
+use swc_tree_node::fields::assign_pat_prop;
 use swc_tree_node::{Kind, Node};
 
 // The other name of a specifier, or the name that is kept where there is none.
@@ -44,12 +45,12 @@ fn pattern_property(alloc: Global, old: Ident, mut fields: Items<Node>) -> Resul
     requires { length fields ≡ 3 }
     ensures { IfOk result (λ node. node ≡ is_written_out kind.AssignPatProp old fields) }
 {
-    let target = fields.replace(1, Node::Absent);
-    let value = fields.replace(2, Node::Absent);
+    let target = fields.replace(assign_pat_prop::KEY, Node::Absent);
+    let value = fields.replace(assign_pat_prop::VALUE, Node::Absent);
     let target = with_default(alloc, &old, target, value)?;
-    fields.set(1, target);
+    fields.set(assign_pat_prop::KEY, target);
     let key = key_of(alloc, old)?;
-    let target = fields.replace(1, Node::Absent);
+    let target = fields.replace(assign_pat_prop::KEY, Node::Absent);
     tree(alloc, Kind::KeyValuePatProp, [key, target])
 }
 

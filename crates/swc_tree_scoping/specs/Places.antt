@@ -12,6 +12,15 @@ use Rattle.swc_tree_node.specs.declared.slot.Role.{Role}
 use Rattle.swc_tree_node.specs.declared.slot.Role.TheVariants as role
 use Rattle.swc_tree_node.specs.declared.node.Node.{Node, out-Node}
 use Rattle.swc_tree_node.specs.declared.node.Node.TheOpen.{Node-F}
+use Rattle.swc_tree_node.specs.declared.fields.functions.arrow_expr.TheConstants as arrow_expr
+use Rattle.swc_tree_node.specs.declared.fields.functions.constructor.TheConstants as constructor
+use Rattle.swc_tree_node.specs.declared.fields.functions.function.TheConstants as function
+use Rattle.swc_tree_node.specs.declared.fields.functions.getter_prop.TheConstants as getter_prop
+use Rattle.swc_tree_node.specs.declared.fields.functions.setter_prop.TheConstants as setter_prop
+use Rattle.swc_tree_node.specs.declared.fields.leaves.str.TheConstants as str
+use Rattle.swc_tree_node.specs.declared.fields.modules.script.TheConstants as script
+use Rattle.swc_tree_node.specs.declared.fields.statements.block_stmt.TheConstants as block_stmt
+use Rattle.swc_tree_node.specs.declared.fields.statements.expr_stmt.TheConstants as expr_stmt
 use Rattle.swc_tree_node.specs.Table.{fields_of}
 use Rattle.swc_tree_scoping.specs.declared.places.Standing.{Standing}
 use Rattle.swc_tree_scoping.specs.declared.places.Standing.TheVariants as standing
@@ -70,7 +79,7 @@ text_of None = None
 text_of (Some t) = text_in (out-Node t)
 
 abbrev pub literal_in : Node-F Node → Option (List ℕ)
-literal_in (Node-F.Tree kind.Str ts) = text_of (slice_get ts 1)
+literal_in (Node-F.Tree kind.Str ts) = text_of (slice_get ts str.VALUE)
 literal_in _ = None
 
 abbrev pub literal_of : Option Node → Option (List ℕ)
@@ -78,7 +87,7 @@ literal_of None = None
 literal_of (Some t) = literal_in (out-Node t)
 
 abbrev pub statement_in : Node-F Node → Option (List ℕ)
-statement_in (Node-F.Tree kind.ExprStmt ts) = literal_of (slice_get ts 1)
+statement_in (Node-F.Tree kind.ExprStmt ts) = literal_of (slice_get ts expr_stmt.EXPR)
 statement_in _ = None
 
 -- the string that a statement is, if it is one
@@ -110,7 +119,7 @@ items_of None = []
 items_of (Some t) = items_in (out-Node t)
 
 abbrev pub block_in : Node-F Node → List Node
-block_in (Node-F.Tree kind.BlockStmt ts) = items_of (slice_get ts 1)
+block_in (Node-F.Tree kind.BlockStmt ts) = items_of (slice_get ts block_stmt.STMTS)
 block_in _ = []
 
 -- the statements of a block
@@ -122,12 +131,12 @@ statements_of (Some t) = block_in (out-Node t)
 abbrev pub is_strict : Kind → List Node → Bool
 is_strict kind.Module ts = true
 is_strict kind.Class ts = true
-is_strict kind.Script ts = has_use_strict (items_of (slice_get ts 1))
-is_strict kind.Function ts = has_use_strict (statements_of (slice_get ts 2))
-is_strict kind.ArrowExpr ts = has_use_strict (statements_of (slice_get ts 2))
-is_strict kind.Constructor ts = has_use_strict (statements_of (slice_get ts 3))
-is_strict kind.GetterProp ts = has_use_strict (statements_of (slice_get ts 2))
-is_strict kind.SetterProp ts = has_use_strict (statements_of (slice_get ts 3))
+is_strict kind.Script ts = has_use_strict (items_of (slice_get ts script.BODY))
+is_strict kind.Function ts = has_use_strict (statements_of (slice_get ts function.BODY))
+is_strict kind.ArrowExpr ts = has_use_strict (statements_of (slice_get ts arrow_expr.BODY))
+is_strict kind.Constructor ts = has_use_strict (statements_of (slice_get ts constructor.BODY))
+is_strict kind.GetterProp ts = has_use_strict (statements_of (slice_get ts getter_prop.BODY))
+is_strict kind.SetterProp ts = has_use_strict (statements_of (slice_get ts setter_prop.BODY))
 is_strict _ ts = false
 
 abbrev pub is_branch : Standing → Bool
@@ -233,7 +242,7 @@ flag_of None = false
 flag_of (Some t) = flag_in (out-Node t)
 
 abbrev pub plain_in : Node-F Node → Bool
-plain_in (Node-F.Tree kind.Function ts) = not (flag_of (slice_get ts 3)) && not (flag_of (slice_get ts 4))
+plain_in (Node-F.Tree kind.Function ts) = not (flag_of (slice_get ts function.IS_GENERATOR)) && not (flag_of (slice_get ts function.IS_ASYNC))
 plain_in _ = false
 
 -- neither async nor a generator

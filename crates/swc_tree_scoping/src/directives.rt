@@ -2,6 +2,9 @@
 ghost use Rattle.std.specs.Prelude.{◌≡◌, option_map, slice_get};
 ghost use Rattle.swc_tree_scoping.specs.Places.{flag_of, has_use_strict as says_strict, is_plain_function as is_plain, is_strict as makes_strict, items_of, directive_of, literal_of, says, statements_of, text_of};
 
+use swc_tree_node::fields::{
+    arrow_expr, block_stmt, constructor, expr_stmt, function, getter_prop, script, setter_prop, str,
+};
 use swc_tree_node::{Kind, Node};
 
 /// Whether what is below a tree of that kind is strict code, whatever stands round it.
@@ -10,11 +13,12 @@ pub fn is_strict(kind: Kind, fields: &[Node]) -> bool
 {
     match kind {
         Kind::Module | Kind::Class => true,
-        Kind::Script => has_use_strict(items(fields, 1)),
-        Kind::Function | Kind::ArrowExpr | Kind::GetterProp => {
-            has_use_strict(statements(fields, 2))
-        }
-        Kind::Constructor | Kind::SetterProp => has_use_strict(statements(fields, 3)),
+        Kind::Script => has_use_strict(items(fields, script::BODY)),
+        Kind::Function => has_use_strict(statements(fields, function::BODY)),
+        Kind::ArrowExpr => has_use_strict(statements(fields, arrow_expr::BODY)),
+        Kind::Constructor => has_use_strict(statements(fields, constructor::BODY)),
+        Kind::GetterProp => has_use_strict(statements(fields, getter_prop::BODY)),
+        Kind::SetterProp => has_use_strict(statements(fields, setter_prop::BODY)),
         _ => false,
     }
 }
@@ -38,7 +42,7 @@ fn directive(statement: &Node) -> Option<bool>
     ensures { result ≡ directive_of statement.now }
 {
     match statement {
-        Node::Tree(Kind::ExprStmt, fields) => literal(fields.as_slice(), 1),
+        Node::Tree(Kind::ExprStmt, fields) => literal(fields.as_slice(), expr_stmt::EXPR),
         _ => None,
     }
 }
@@ -47,7 +51,7 @@ fn literal(fields: &[Node], index: usize) -> Option<bool>
     ensures { result ≡ option_map says (literal_of (slice_get fields.now index)) }
 {
     match fields.get(index) {
-        Some(Node::Tree(Kind::Str, fields)) => text(fields.as_slice(), 1),
+        Some(Node::Tree(Kind::Str, fields)) => text(fields.as_slice(), str::VALUE),
         _ => None,
     }
 }
@@ -76,7 +80,7 @@ fn statements(fields: &[Node], index: usize) -> &[Node]
     ensures { result.now ≡ statements_of (slice_get fields.now index) }
 {
     match fields.get(index) {
-        Some(Node::Tree(Kind::BlockStmt, fields)) => items(fields.as_slice(), 1),
+        Some(Node::Tree(Kind::BlockStmt, fields)) => items(fields.as_slice(), block_stmt::STMTS),
         _ => &[],
     }
 }
@@ -87,7 +91,8 @@ pub fn is_plain_function(fields: &[Node], index: usize) -> bool
 {
     match fields.get(index) {
         Some(Node::Tree(Kind::Function, fields)) => {
-            !flag(fields.as_slice(), 3) && !flag(fields.as_slice(), 4)
+            !flag(fields.as_slice(), function::IS_GENERATOR)
+                && !flag(fields.as_slice(), function::IS_ASYNC)
         }
         _ => false,
     }

@@ -14,6 +14,3 @@ mod taking;
 pub use below::{Fields, PROGRAM_PLACE, PlacesBelow, places_of_fields, places_of_items};
 pub use places::{Place, Scope, Standing, View};
 pub use taking::{is_binding, is_reference, is_variable_scope, takes};
-
-#[cfg(test)]
-mod tests;

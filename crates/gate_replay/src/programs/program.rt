@@ -31,23 +31,27 @@ pub fn read(alloc: Global, class: Class, line: &str) -> Result<Given> {
     let Ok(envelope) = read_bytes(alloc, class, line.as_bytes()) else {
         bail!("a line is no envelope of such a program, or memory was refused");
     };
+    let Some(program) = Program::open(class, envelope.tree) else {
+        bail!("a program is a module or a script");
+    };
     Ok(Given {
         globals: envelope.globals,
         top: envelope.top,
         unresolved: envelope.unresolved,
         keep_class_names: envelope.keep_class_names,
-        program: Program::open(class, envelope.tree),
+        program,
     })
 }
 
 impl Program {
-    // The program of a class that a tree is; a script, unless the class is that of modules.
-    fn open(class: Class, tree: Node) -> Program
+    // The program of a class that a tree is, if programs are of that class.
+    fn open(class: Class, tree: Node) -> Option<Program>
         requires { Fits tree (One (Of class)) }
     {
         match class {
-            Class::Module => Program::Module(Module::from_node(tree)),
-            _ => Program::Script(Script::from_node(tree)),
+            Class::Module => Some(Program::Module(Module::from_node(tree))),
+            Class::Script => Some(Program::Script(Script::from_node(tree))),
+            _ => None,
         }
     }
 

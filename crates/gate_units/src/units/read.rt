@@ -29,6 +29,23 @@ pub fn tree<C: Syntax>(alloc: Global, class: Class, text: &str) -> Option<Tree<C
 
 /// Whether a tree opens to what a look takes, and is what it was once it is closed again. So no proof here has to follow
 /// a wide sum.
+pub fn tree_opens<C: Syntax, T: Opened<C>, F: Fn(&T) -> bool>(
+    alloc: Global,
+    tree: Tree<C>,
+    look: F,
+) -> Option<bool>
+where
+    requires opened { T.class ≡ C.class }
+    requires look { F.IsAlwaysCallable look }
+{
+    let copy = tree.clone().ok()?;
+    let opened: T = tree.open();
+    let is_seen = look(&opened);
+    let closed = opened.close(alloc).ok()?;
+    Some(is_seen && closed == copy)
+}
+
+/// The same of the tree that a text is.
 pub fn opens<C: Syntax, T: Opened<C>, F: Fn(&T) -> bool>(
     alloc: Global,
     class: Class,
@@ -40,10 +57,5 @@ where
     requires opened { T.class ≡ C.class }
     requires look { F.IsAlwaysCallable look }
 {
-    let tree: Tree<C> = tree(alloc, class, text)?;
-    let copy = tree.clone().ok()?;
-    let opened: T = tree.open();
-    let is_seen = look(&opened);
-    let closed = opened.close(alloc).ok()?;
-    Some(is_seen && closed == copy)
+    tree_opens::<C, T, F>(alloc, tree(alloc, class, text)?, look)
 }

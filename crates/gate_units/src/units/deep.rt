@@ -1,20 +1,21 @@
 //! Trees 200 nodes deep.
 use crate::units::Unit;
-use crate::units::opened::{NAME, NAME_STATEMENT, USE_STRICT, binds};
+use crate::units::opened::{NAME, NAME_STATEMENT, USE_STRICT, binds, statement};
 use crate::units::programs::HasItems;
-use crate::units::read::tree;
+use crate::units::read::{tree, tree_opens};
 use std::alloc::Global;
 use swc_tree::{
     ArrayPat, BlockStmt, DUMMY_SP, Globals, Holes, JsPass, Module, Node, Opened, ParenExpr, Pat,
-    Tree, Trees, class, is_use_strict, noop, prepend_stmts, should_work,
+    Stmt, Tree, Trees, class, is_use_strict, noop, prepend_stmts, should_work,
 };
 use swc_tree_node::Class;
 
-pub fn units(alloc: Global) -> [Unit; 5] {
+pub fn units(alloc: Global) -> [Unit; 6] {
     [
         ("an expression is copied and compared", copies_expr(alloc)),
         ("a pattern binds", pattern_binds(alloc)),
         ("a statement goes after directives", prepends(alloc)),
+        ("a block is no directive", block_opens(alloc)),
         ("a module passes", module_passes(alloc)),
         ("a module is opened", module_opens(alloc)),
     ]
@@ -62,9 +63,14 @@ fn deep_pat(alloc: Global) -> Option<Tree<class::Pat>> {
     Some(pat)
 }
 
-fn block(alloc: Global, stmt: Tree<class::Stmt>) -> Option<Tree<class::Stmt>> {
+fn list(alloc: Global, stmt: Tree<class::Stmt>) -> Option<Trees<class::Stmt>> {
     let mut stmts = Trees::new(alloc);
     stmts.push(stmt).ok()?;
+    Some(stmts)
+}
+
+fn block(alloc: Global, stmt: Tree<class::Stmt>) -> Option<Tree<class::Stmt>> {
+    let stmts = list(alloc, stmt)?;
     let block = BlockStmt {
         span: DUMMY_SP,
         stmts,
@@ -112,19 +118,24 @@ fn copies_expr(alloc: Global) -> Option<bool> {
 }
 
 fn pattern_binds(alloc: Global) -> Option<bool> {
-    let pat: Pat = deep_pat(alloc)?.open();
-    Some(binds(alloc, &pat, &["a"]))
+    tree_opens::<class::Pat, Pat, _>(
+        alloc,
+        deep_pat(alloc)?,
+        |opened| binds(alloc, opened, &["a"]),
+    )
 }
 
 fn prepends(alloc: Global) -> Option<bool> {
-    let mut stmts: Trees<class::Stmt> = Trees::new(alloc);
-    stmts.push(tree(alloc, Class::Stmt, USE_STRICT)?).ok()?;
-    let mut more = Trees::new(alloc);
-    more.push(deep_stmt(alloc, USE_STRICT)?).ok()?;
+    let more = list(alloc, deep_stmt(alloc, NAME_STATEMENT)?)?;
+    let mut stmts = statement(alloc, USE_STRICT)?;
     prepend_stmts(&mut stmts, more).ok()?;
     let last = stmts.pop()?;
-    let is_strict = is_use_strict(&last.clone().ok()?.open());
-    Some(stmts.len() == 1 && last == deep_stmt(alloc, USE_STRICT)? && !is_strict)
+    Some(stmts.len() == 1 && last == deep_stmt(alloc, NAME_STATEMENT)?)
+}
+
+fn block_opens(alloc: Global) -> Option<bool> {
+    let block = deep_stmt(alloc, USE_STRICT)?;
+    tree_opens::<class::Stmt, Stmt, _>(alloc, block, |opened| !is_use_strict(opened))
 }
 
 fn module_passes(alloc: Global) -> Option<bool> {

@@ -27,10 +27,22 @@ fn names(alloc: Global) -> Option<Trees<class::Expr>> {
     Some(names)
 }
 
+// Puts a tree in the place of the first one of a list, if there is one.
+fn replace_first(
+    names: &mut Trees<class::Expr>,
+    other: Tree<class::Expr>,
+) -> Option<Tree<class::Expr>> {
+    if 0 < names.len() {
+        Some(names.replace(0, other))
+    } else {
+        None
+    }
+}
+
 fn replaces(alloc: Global) -> Option<bool> {
     let mut names = names(alloc)?;
-    let first = names.replace(0, name(alloc, "c")?);
-    Some(names.len() == 2 && first == name(alloc, "a")? && names.pop() == name(alloc, "b"))
+    let first = replace_first(&mut names, name(alloc, "c")?);
+    Some(first == name(alloc, "a") && names.len() == 2 && names.pop() == name(alloc, "b"))
 }
 
 fn goes_into_nodes(alloc: Global) -> Option<bool> {

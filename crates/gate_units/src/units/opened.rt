@@ -205,13 +205,31 @@ fn knows_names(alloc: Global) -> Option<bool> {
     Some(is_a && number.as_ident().is_none())
 }
 
-fn changes_callee(alloc: Global) -> Option<bool> {
-    let mut callee = Some(Callee::Expr(tree(alloc, Class::Expr, NAME)?));
-    *callee.as_expr_mut()? = tree(alloc, Class::Expr, NUMBER)?;
-    Some(callee.as_expr()?.kind() == Kind::Number)
+// Whether there was an expression that is called, which is then another.
+fn change_callee(callee: &mut Option<Callee>, expr: Tree<class::Expr>) -> bool {
+    match callee.as_expr_mut() {
+        Some(called) => {
+            *called = expr;
+            true
+        }
+        None => false,
+    }
 }
 
-fn statement(alloc: Global, text: &str) -> Option<Trees<class::Stmt>> {
+fn calls_number(callee: &Option<Callee>) -> bool {
+    callee
+        .as_expr()
+        .is_some_and(|called| called.kind() == Kind::Number)
+}
+
+fn changes_callee(alloc: Global) -> Option<bool> {
+    let number = tree(alloc, Class::Expr, NUMBER)?;
+    let mut callee = Some(Callee::Expr(tree(alloc, Class::Expr, NAME)?));
+    Some(change_callee(&mut callee, number) && calls_number(&callee))
+}
+
+/// The statement that a text is, in a list.
+pub fn statement(alloc: Global, text: &str) -> Option<Trees<class::Stmt>> {
     let mut stmts = Trees::new(alloc);
     stmts.push(tree(alloc, Class::Stmt, text)?).ok()?;
     Some(stmts)

@@ -26,7 +26,13 @@ fn first_failing(units: &[Unit]) -> &'static str {
     "ok"
 }
 
-fn failing(alloc: Global, word: &str) -> Result<&'static str> {
+/// The groups of units.
+pub const NAMES: [&str; 9] = [
+    "bytes", "deep", "items", "lists", "marks", "nodes", "opened", "places", "programs",
+];
+
+/// Says `ok`, or what the first unit shows that fails, of those that a word names.
+pub fn failing(alloc: Global, word: &str) -> Result<&'static str> {
     match word {
         "bytes" => Ok(first_failing(&bytes::units(alloc))),
         "deep" => Ok(first_failing(&deep::units(alloc))),
@@ -39,10 +45,4 @@ fn failing(alloc: Global, word: &str) -> Result<&'static str> {
         "programs" => Ok(first_failing(&programs::units(alloc))),
         _ => bail!("no units have that name"),
     }
-}
-
-/// Says `ok`, or what the first unit shows that fails, of those that a word names.
-pub fn answer(alloc: Global, word: &str) -> Result<String> {
-    let said = failing(alloc, word)?;
-    Ok(format!(in alloc; "{said}\n")?)
 }
