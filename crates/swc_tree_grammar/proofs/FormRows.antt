@@ -1,16 +1,13 @@
--- Normal forms, sameness and needed pairs on small trees.
-use Rattle.std.proofs.Common.{◌≡◌, ℕ, List, [], ◌∷◌, true, false, codes, rules}
-use Rattle.std.specs.Prelude.{nat_eq}
-use Rattle.std.specs.Cmp.Lexicographic.{pointwise}
+-- Normal forms, needed pairs and due pairs on small trees.
+use Rattle.std.proofs.Common.{◌≡◌, ℕ, List, [], ◌∷◌, Bool, true, false, codes, rules}
+use Rattle.swc_tree_node.specs.declared.kind.Kind.{Kind}
 use Rattle.swc_tree_node.specs.declared.kind.Kind.TheVariants as kind
 use Rattle.swc_tree_node.specs.declared.kind.Word.TheVariants as word
-use Rattle.swc_tree_node.specs.declared.node.Node.{Node, Absent, Word, Text, List as Many, Tree, the_lemmas}
+use Rattle.swc_tree_node.specs.declared.node.Node.{Node, Absent, Flag, Word, Text, List as Many, Identifier, Tree, the_lemmas}
+use Rattle.swc_tree_grammar.specs.Blocks.{no_span}
 use Rattle.swc_tree_grammar.specs.Normal.{written_out}
-use Rattle.swc_tree_grammar.specs.Same.{Names, same_tree}
 use Rattle.swc_tree_grammar.specs.Needed.{without_pair}
 use Rattle.swc_tree_grammar.specs.Due.{Places, paired_by_level, callee_of_new, paired_in_heads, paired_at_starts}
-use Rattle.swc_tree_grammar.specs.Writable.{is_writable}
-use Rattle.swc_tree_node.specs.declared.kind.Word.{Word as Word'}
 use Rattle.swc_tree_grammar.proofs.Rows.{at, a, x, seq, array, name, bound, paren, call, choice, statement}
 use Rattle.swc_tree_grammar.proofs.GrammarRows.{bin, member}
 
@@ -41,21 +38,53 @@ split : written_out (Tree kind.Module (at 0 0 ∷ Many (exported ∷ []) ∷ Abs
     ∷ Tree kind.NamedExport (at 0 0 ∷ Many (Tree kind.ExportNamedSpecifier (at 0 0 ∷ a ∷ a ∷ []) ∷ []) ∷ Absent ∷ Absent ∷ []) ∷ []) ∷ Absent ∷ [])
 split = search (rules, the_lemmas)
 
-abbrev only_a : Names
-only_a text context = pointwise nat_eq text (codes "a")
+abbrev marked : Kind → List ℕ → Node
+marked k context = Identifier k (record { span = no_span; ctxt = context; sym = codes "a" })
 
--- a declared name may change, a free one not, nor a label
-renamed : same_tree only_a (bin word.Plus a x) (bin word.Plus (name (codes "b")) x) ≡ true
-renamed = search (rules, the_lemmas)
+abbrev declarator : Node → Node
+declarator name = Tree kind.VarDeclarator (at 0 0 ∷ name ∷ Absent ∷ [])
 
-free : same_tree only_a (bin word.Plus a x) (bin word.Plus a (name (codes "b"))) ≡ false
-free = search (rules, the_lemmas)
+abbrev var : List Node → Node
+var declarators = Tree kind.VarDecl (at 0 0 ∷ Word word.Var ∷ Many declarators ∷ [])
 
-abbrev labeled : List ℕ → Node
-labeled label = Tree kind.LabeledStmt (at 0 0 ∷ name label ∷ statement x ∷ [])
+abbrev two_names : Node
+two_names = var (declarator (marked kind.BindingIdent (1 ∷ [])) ∷ declarator (marked kind.BindingIdent (2 ∷ [])) ∷ [])
 
-label : same_tree only_a (labeled (codes "a")) (labeled (codes "b")) ≡ false
-label = search (rules, the_lemmas)
+abbrev specifier : List ℕ → Node
+specifier context = Tree kind.ExportNamedSpecifier (at 0 0 ∷ marked kind.Ident context ∷ a ∷ [])
+
+-- `export var a#1, a#2` is `var a#1, a#2; export { a#1 as a, a#2 as a }`
+split_by_id : written_out (Tree kind.Module (at 0 0 ∷ Many (Tree kind.ExportDecl (at 0 0 ∷ two_names ∷ []) ∷ []) ∷ Absent ∷ []))
+    ≡ Tree kind.Module (at 0 0 ∷ Many (two_names ∷ Tree kind.NamedExport (at 0 0 ∷ Many (specifier (1 ∷ []) ∷ specifier (2 ∷ []) ∷ []) ∷ Absent ∷ Absent ∷ []) ∷ []) ∷ Absent ∷ [])
+split_by_id = search (rules, the_lemmas)
+
+-- an expression that is a name, as a declared name, a parameter and a catch parameter
+declared_pattern : written_out (var (declarator a ∷ [])) ≡ var (declarator (bound (codes "a")) ∷ [])
+declared_pattern = search (rules, the_lemmas)
+
+parameter_pattern : written_out (Tree kind.Param (at 0 0 ∷ a ∷ [])) ≡ Tree kind.Param (at 0 0 ∷ bound (codes "a") ∷ [])
+parameter_pattern = search (rules, the_lemmas)
+
+abbrev arrow : Node → Node
+arrow parameter = Tree kind.ArrowExpr (at 0 0 ∷ Many (parameter ∷ []) ∷ x ∷ Flag false ∷ [])
+
+arrow_pattern : written_out (arrow a) ≡ arrow (bound (codes "a"))
+arrow_pattern = search (rules, the_lemmas)
+
+abbrev empty : Node
+empty = Tree kind.BlockStmt (at 0 0 ∷ Many [] ∷ [])
+
+abbrev setter : Node → Node
+setter parameter = Tree kind.SetterProp (at 0 0 ∷ key (codes "b") ∷ parameter ∷ empty ∷ [])
+
+setter_pattern : written_out (setter a) ≡ setter (bound (codes "a"))
+setter_pattern = search (rules, the_lemmas)
+
+abbrev catch : Node → Node
+catch parameter = Tree kind.CatchClause (at 0 0 ∷ parameter ∷ empty ∷ [])
+
+catch_pattern : written_out (catch a) ≡ catch (bound (codes "a"))
+catch_pattern = search (rules, the_lemmas)
 
 -- the pair of `a * (b + c)` taken off
 taken_off : without_pair (bin word.Mul a (paren (bin word.Plus a x))) (3 ∷ []) ≡ bin word.Mul a (bin word.Plus a x)
@@ -89,21 +118,19 @@ in_head = search (rules, the_lemmas)
 object_first : paired_at_starts same_place (statement (bin word.Plus (object []) a)) ≡ statement (bin word.Plus (paren (object [])) a)
 object_first = search (rules, the_lemmas)
 
--- a label that is a reserved word, a sequence of one item, a pattern assigned to by `+=`
-reserved_label : is_writable (labeled (codes "if")) ≡ false
-reserved_label = search (rules, the_lemmas)
+abbrev let_bracket : Node
+let_bracket = Tree kind.MemberExpr (at 0 0 ∷ name (codes "let") ∷ Tree kind.ComputedPropName (at 0 0 ∷ x ∷ []) ∷ [])
 
-plain_label : is_writable (labeled (codes "a")) ≡ true
-plain_label = search (rules, the_lemmas)
+-- `(let[x])`, but `let?.[x]`
+let_first : paired_at_starts same_place (statement let_bracket) ≡ statement (paren let_bracket)
+let_first = search (rules, the_lemmas)
 
-short_sequence : is_writable (statement (seq (a ∷ []))) ≡ false
-short_sequence = search (rules, the_lemmas)
+abbrev let_part : Bool → Node
+let_part optional = Tree kind.OptChainExpr (at 0 0 ∷ Flag optional ∷ let_bracket ∷ [])
 
-abbrev destructured : Word' → Node
-destructured op = Tree kind.AssignExpr (at 0 0 ∷ Word op ∷ array ∷ x ∷ [])
+let_chain : paired_at_starts same_place (statement (let_part true)) ≡ statement (let_part true)
+let_chain = search (rules, the_lemmas)
 
-destructuring : is_writable (statement (destructured word.Assign)) ≡ true
-destructuring = search (rules, the_lemmas)
-
-no_destructuring : is_writable (statement (destructured word.AddAssign)) ≡ false
-no_destructuring = search (rules, the_lemmas)
+-- of a part of a chain that is not optional the whole gets the pair, and not its base
+let_in_chain : paired_at_starts same_place (statement (let_part false)) ≡ statement (paren (let_part false))
+let_in_chain = search (rules, the_lemmas)

@@ -1,12 +1,12 @@
 -- The grammar on small trees.
-use Rattle.std.proofs.Common.{◌≡◌, [], ◌∷◌, true, false, codes, rules}
+use Rattle.std.proofs.Common.{◌≡◌, List, [], ◌∷◌, true, false, codes, rules}
 use Rattle.swc_tree_node.specs.declared.kind.Kind.TheVariants as kind
 use Rattle.swc_tree_node.specs.declared.kind.Word.{Word as Word'}
 use Rattle.swc_tree_node.specs.declared.kind.Word.TheVariants as word
-use Rattle.swc_tree_node.specs.declared.node.Node.{Node, Absent, Word, Text, List as Many, Tree, the_lemmas}
+use Rattle.swc_tree_node.specs.declared.node.Node.{Node, Absent, Flag, Word, Text, List as Many, Tree, the_lemmas}
 use Rattle.swc_tree_grammar.specs.Levels.{level}
 use Rattle.swc_tree_grammar.specs.Grammar.{Context, derives}
-use Rattle.swc_tree_grammar.proofs.Rows.{at, a, x, number, paren, call, chain, statement, choice, while}
+use Rattle.swc_tree_grammar.proofs.Rows.{at, a, x, name, number, paren, call, chain, statement, choice, while}
 
 abbrev sloppy : Context
 sloppy = record { with_in = true; strict = false }
@@ -69,3 +69,60 @@ in_head = search (rules, the_lemmas)
 
 in_head_pair : derives (Tree kind.ForStmt (at 0 0 ∷ paren (bin word.In a x) ∷ Absent ∷ Absent ∷ Tree kind.EmptyStmt (at 0 0 ∷ []) ∷ [])) sloppy ≡ true
 in_head_pair = search (rules, the_lemmas)
+
+-- `for (f(a in x);;) ;`: `in` may stand in parentheses
+abbrev argument : Node → Node
+argument e = Tree kind.CallExpr (at 0 0 ∷ a ∷ Many (Tree kind.ExprOrSpread (Absent ∷ e ∷ []) ∷ []) ∷ [])
+
+in_argument : derives (Tree kind.ForStmt (at 0 0 ∷ argument (bin word.In a x) ∷ Absent ∷ Absent ∷ Tree kind.EmptyStmt (at 0 0 ∷ []) ∷ [])) sloppy ≡ true
+in_argument = search (rules, the_lemmas)
+
+abbrev property : Node → Node
+property e = Tree kind.ObjectLit (at 0 0 ∷ Many (Tree kind.KeyValueProp (Tree kind.IdentName (at 0 0 ∷ Text (codes "b") ∷ []) ∷ e ∷ []) ∷ []) ∷ [])
+
+-- `for ({ b: a in x };;) ;`: and in braces
+in_property : derives (Tree kind.ForStmt (at 0 0 ∷ property (bin word.In a x) ∷ Absent ∷ Absent ∷ Tree kind.EmptyStmt (at 0 0 ∷ []) ∷ [])) sloppy ≡ true
+in_property = search (rules, the_lemmas)
+
+abbrev chained_call : Node → Node
+chained_call callee = Tree kind.OptChainExpr (at 0 0 ∷ Flag true ∷ Tree kind.OptCall (at 0 0 ∷ callee ∷ Many [] ∷ []) ∷ [])
+
+abbrev new : Node
+new = Tree kind.NewExpr (at 0 0 ∷ a ∷ Absent ∷ [])
+
+-- `(new a)?.()` needs its pair, also as the call alone
+new_chained : derives (chained_call new) sloppy ≡ false
+new_chained = search (rules, the_lemmas)
+
+new_called : derives (Tree kind.OptCall (at 0 0 ∷ new ∷ Many [] ∷ [])) sloppy ≡ false
+new_called = search (rules, the_lemmas)
+
+new_chained_pair : derives (chained_call (paren new)) sloppy ≡ true
+new_chained_pair = search (rules, the_lemmas)
+
+abbrev block : List Node → Node
+block stmts = Tree kind.BlockStmt (at 0 0 ∷ Many stmts ∷ [])
+
+abbrev function : Node → Node
+function body = Tree kind.Function (at 0 0 ∷ Many [] ∷ body ∷ Flag false ∷ Flag false ∷ [])
+
+-- `if (a) function f() {}`, a plain function as a branch
+abbrev branch : Node
+branch = choice (Tree kind.FnDecl (name (codes "f") ∷ function (block []) ∷ [])) Absent
+
+abbrev script : List Node → Node
+script stmts = Tree kind.Script (at 0 0 ∷ Many stmts ∷ Absent ∷ [])
+
+sloppy_branch : derives (script (branch ∷ [])) sloppy ≡ true
+sloppy_branch = search (rules, the_lemmas)
+
+-- not below `use strict`, nor in what a class extends
+strict_branch : derives (script (statement (Tree kind.Str (at 0 0 ∷ Text (codes "use strict") ∷ Absent ∷ [])) ∷ branch ∷ [])) sloppy ≡ false
+strict_branch = search (rules, the_lemmas)
+
+heritage_branch : derives (Tree kind.Class (at 0 0 ∷ Tree kind.FnExpr (Absent ∷ function (block (branch ∷ [])) ∷ []) ∷ Many [] ∷ [])) sloppy ≡ false
+heritage_branch = search (rules, the_lemmas)
+
+-- no pair is asked for where nothing stands: `return`
+nothing_returned : derives (Tree kind.ReturnStmt (at 0 0 ∷ Absent ∷ [])) sloppy ≡ true
+nothing_returned = search (rules, the_lemmas)

@@ -11,3 +11,5 @@ pub mod Stripped
 pub mod Rows
 pub mod GrammarRows
 mod FormRows
+mod WritableRows
+mod SameRows

@@ -8,12 +8,11 @@ use Rattle.swc_tree_node.specs.declared.kind.Word.TheVariants as word
 use Rattle.swc_tree_node.specs.declared.node.Node.{Node, Span, List as Many, Identifier, Tree, out-Node, roll-Node, fold-Node, map-Node}
 use Rattle.swc_tree_node.specs.declared.node.Node.TheOpen.{Node-F}
 use Rattle.swc_tree_grammar.specs.Shapes.{SuperProp, Seq, Assign, Cond, Bin, Unary, Await, Update, Yield, Member, TaggedTpl, Call, New, OptChain, OptCall, Argument, Spread, KeyValue, Computed, ClassProp, PrivateProp, Arrow, Class, Declarator, AssignPat, AssignPatProp, VarDecl, Statement, ExportDefault, For, ForIn, ForOf, items_of}
-use Rattle.swc_tree_grammar.specs.Levels.{level, word_of, level_of_word, is_absent}
-use Rattle.swc_tree_grammar.specs.Starts.{Start, start}
-use Rattle.swc_tree_grammar.specs.Starts.Start.{Let}
+use Rattle.swc_tree_grammar.specs.Levels.{level, word_of, level_of_word, is_in, is_absent}
+use Rattle.swc_tree_grammar.specs.Starts.{Start, start, is_let_bracket}
 use Rattle.swc_tree_grammar.specs.Forms.{holds}
 use Rattle.swc_tree_grammar.specs.Blocks.{span_of}
-use Rattle.swc_tree_grammar.specs.Grammar.{has_kind, is_chain, is_bare_new, is_nullish, is_block, is_async_name, may_begin_statement, may_begin_export, may_begin_body}
+use Rattle.swc_tree_grammar.specs.Grammar.{has_kind, is_chain, is_bare_new, is_nullish, is_block, is_paren, is_async_name, may_begin_statement, may_begin_export, may_begin_body}
 
 -- where the pair round an expression stands, by where the expression does
 abbrev pub Places : Type 0
@@ -136,26 +135,26 @@ right_is_low op e = below (level_of_word op + 1) e
 abbrev pub operand : Bool → (Kind → Bool) → Places → Node → Node
 operand in_chain odd place e = pair_if (below 17 e || (is_bare_new e || ((not in_chain && is_chain e) || has_kind odd e))) place e
 
--- an expression, with the same after the outermost call on its left is set in parentheses
-pub record Spine : Type 0 where
+-- an expression, and the same with the pair round the outermost call of its objects and tags
+pub record Callee : Type 0 where
   pub whole : Node
-  pub paired : Node
+  pub call_paired : Node
 
-abbrev pub spine_in : Places → Node → Node-F Spine → Node
-spine_in place t (Member span obj prop) = Tree kind.MemberExpr (span.whole ∷ obj.paired ∷ prop.whole ∷ [])
-spine_in place t (TaggedTpl span tag tpl) = Tree kind.TaggedTpl (span.whole ∷ tag.paired ∷ tpl.whole ∷ [])
-spine_in place t _ = pair place t
+abbrev pub callee_in : Places → Node → Node-F Callee → Node
+callee_in place t (Member span obj prop) = Tree kind.MemberExpr (span.whole ∷ obj.call_paired ∷ prop.whole ∷ [])
+callee_in place t (TaggedTpl span tag tpl) = Tree kind.TaggedTpl (span.whole ∷ tag.call_paired ∷ tpl.whole ∷ [])
+callee_in place t _ = pair place t
 
-abbrev pub spine_step : Places → Node-F Spine → Spine
-spine_step place x = (
-    let whole = roll-Node (map-Node Spine Node (λ e. e.whole) x) in
-    record { whole = whole; paired = spine_in place whole x })
+abbrev pub callee_step : Places → Node-F Callee → Callee
+callee_step place x = (
+    let whole = roll-Node (map-Node Callee Node (λ e. e.whole) x) in
+    record { whole = whole; call_paired = callee_in place whole x })
 
 abbrev pub callee_of_new : Places → Bool → Node → Node
 callee_of_new place without_arguments e =
     if has_kind is_literal e then pair place e
     else if nat_le 18 (level e) || (without_arguments && is_bare_new e) then e
-    else (fold-Node Spine (spine_step place) e).paired
+    else (fold-Node Callee (callee_step place) e).call_paired
 
 -- the first step: by level, by what may be an operand, and for a reader. A node is told whether it is the base of
 -- an optional chain
@@ -232,13 +231,9 @@ paired_by_level place t = fold-Node Pairing (level_step place) t false
 
 -- the second step: in the first part of the head of a `for` the outermost bare `in`, and a bare `async` before `of`.
 -- A node is told whether `in` may stand bare there
-abbrev pub is_in_word : Option Word → Bool
-is_in_word (Some word.In) = true
-is_in_word _ = false
-
 abbrev pub in_binary : Places → Bool → Node → Pairing → Pairing → Node → Node
 in_binary place b span left right op =
-    if is_in_word (word_of op) && not b then pair place (Tree kind.BinExpr (span ∷ op ∷ left true ∷ right true ∷ []))
+    if is_in (word_of op) && not b then pair place (Tree kind.BinExpr (span ∷ op ∷ left true ∷ right true ∷ []))
     else Tree kind.BinExpr (span ∷ op ∷ left b ∷ right b ∷ [])
 
 abbrev pub free : Pairing → Node
@@ -279,31 +274,33 @@ abbrev pub paired_in_heads : Places → Node → Node
 paired_in_heads place t = fold-Node Pairing (in_step place) t true
 
 -- the third step: where an expression may not begin as it does, the innermost leading expression that begins so
-abbrev pub is_let : Start → Bool
-is_let Let = true
-is_let _ = false
+-- an expression, and the same with the pair round the innermost expression that it begins with
+pub record Leading : Type 0 where
+  pub whole : Node
+  pub first_paired : Node
 
-abbrev pub first_in : Places → Node → Node-F Spine → Node
-first_in place t (Node-F.List (e ∷ es)) = Many (e.paired ∷ map (λ e. e.whole) es)
-first_in place t (Seq span exprs) = Tree kind.SeqExpr (span.whole ∷ exprs.paired ∷ [])
-first_in place t (Assign span op left right) = if has_kind is_object_pattern left.whole then pair place t else Tree kind.AssignExpr (span.whole ∷ op.whole ∷ left.paired ∷ right.whole ∷ [])
-first_in place t (Cond span test cons alt) = Tree kind.CondExpr (span.whole ∷ test.paired ∷ cons.whole ∷ alt.whole ∷ [])
-first_in place t (Bin span op left right) = Tree kind.BinExpr (span.whole ∷ op.whole ∷ left.paired ∷ right.whole ∷ [])
-first_in place t (Update span op prefix arg) = Tree kind.UpdateExpr (span.whole ∷ op.whole ∷ prefix.whole ∷ arg.paired ∷ [])
-first_in place t (Member span obj prop) = if is_let (start obj.whole) then pair place t else Tree kind.MemberExpr (span.whole ∷ obj.paired ∷ prop.whole ∷ [])
-first_in place t (TaggedTpl span tag tpl) = Tree kind.TaggedTpl (span.whole ∷ tag.paired ∷ tpl.whole ∷ [])
-first_in place t (Call span callee args) = Tree kind.CallExpr (span.whole ∷ callee.paired ∷ args.whole ∷ [])
-first_in place t (OptChain span optional base) = Tree kind.OptChainExpr (span.whole ∷ optional.whole ∷ base.paired ∷ [])
-first_in place t (OptCall span callee args) = Tree kind.OptCall (span.whole ∷ callee.paired ∷ args.whole ∷ [])
+-- the base of a chain takes no pair, so the chain gets it
+abbrev pub first_in : Places → Node → Node-F Leading → Node
+first_in place t (Node-F.List (e ∷ es)) = Many (e.first_paired ∷ map (λ e. e.whole) es)
+first_in place t (Seq span exprs) = Tree kind.SeqExpr (span.whole ∷ exprs.first_paired ∷ [])
+first_in place t (Assign span op left right) = if has_kind is_object_pattern left.whole then pair place t else Tree kind.AssignExpr (span.whole ∷ op.whole ∷ left.first_paired ∷ right.whole ∷ [])
+first_in place t (Cond span test cons alt) = Tree kind.CondExpr (span.whole ∷ test.first_paired ∷ cons.whole ∷ alt.whole ∷ [])
+first_in place t (Bin span op left right) = Tree kind.BinExpr (span.whole ∷ op.whole ∷ left.first_paired ∷ right.whole ∷ [])
+first_in place t (Update span op prefix arg) = Tree kind.UpdateExpr (span.whole ∷ op.whole ∷ prefix.whole ∷ arg.first_paired ∷ [])
+first_in place t (Member span obj prop) = if is_let_bracket t then pair place t else Tree kind.MemberExpr (span.whole ∷ obj.first_paired ∷ prop.whole ∷ [])
+first_in place t (TaggedTpl span tag tpl) = Tree kind.TaggedTpl (span.whole ∷ tag.first_paired ∷ tpl.whole ∷ [])
+first_in place t (Call span callee args) = Tree kind.CallExpr (span.whole ∷ callee.first_paired ∷ args.whole ∷ [])
+first_in place t (OptChain span optional base) = if has_kind is_paren base.first_paired then pair place t else Tree kind.OptChainExpr (span.whole ∷ optional.whole ∷ base.first_paired ∷ [])
+first_in place t (OptCall span callee args) = Tree kind.OptCall (span.whole ∷ callee.first_paired ∷ args.whole ∷ [])
 first_in place t _ = pair place t
 
-abbrev pub first_step : Places → Node-F Spine → Spine
+abbrev pub first_step : Places → Node-F Leading → Leading
 first_step place x = (
-    let whole = roll-Node (map-Node Spine Node (λ e. e.whole) x) in
-    record { whole = whole; paired = first_in place whole x })
+    let whole = roll-Node (map-Node Leading Node (λ e. e.whole) x) in
+    record { whole = whole; first_paired = first_in place whole x })
 
 abbrev pub begun : Places → (Start → Bool) → Node → Node
-begun place may_begin e = if may_begin (start e) then e else (fold-Node Spine (first_step place) e).paired
+begun place may_begin e = if may_begin (start e) then e else (fold-Node Leading (first_step place) e).first_paired
 
 abbrev pub begin_step : Places → Node-F Node → Node
 begin_step place (Statement span expr) = Tree kind.ExprStmt (span ∷ begun place may_begin_statement expr ∷ [])

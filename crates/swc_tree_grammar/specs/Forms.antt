@@ -92,10 +92,9 @@ is_strict_list ts = begins_strict (map (λ t. directive_in (out-Node t)) ts)
 
 abbrev pub is_strict_in : Node-F Node → Bool
 is_strict_in (Block span stmts) = is_strict_list (items_of stmts)
-is_strict_in (Node-F.List ts) = is_strict_list ts
 is_strict_in _ = false
 
--- a body, or a list of statements, makes its code strict
+-- a body makes its code strict
 abbrev pub is_strict : Node → Bool
 is_strict t = is_strict_in (out-Node t)
 

@@ -1,7 +1,7 @@
 -- Which trees the grammar of ECMA-262 derives, with one case for each production that asks something of its parts.
 --
 -- Parentheses are nodes of their own, so a tree that the grammar derives can be written down as it stands.
-use Rattle.std.specs.Prelude.{ℕ, ◌+◌, Bool, true, false, not, ◌&&◌, ◌||◌, IsTrue, nat_le, nat_eq, codes, Option, Some, if◌then◌else◌}
+use Rattle.std.specs.Prelude.{ℕ, ◌+◌, [], ◌∷◌, Bool, true, false, not, ◌&&◌, ◌||◌, IsTrue, nat_le, nat_eq, codes, Option, Some, if◌then◌else◌}
 use Rattle.std.specs.List.{list_all}
 use Rattle.std.specs.Cmp.Lexicographic.{pointwise}
 use Rattle.swc_tree_node.specs.declared.kind.Kind.{Kind}
@@ -14,7 +14,7 @@ use Rattle.swc_tree_grammar.specs.Shapes.{Paren, Seq, Assign, Cond, Bin, Unary, 
 use Rattle.swc_tree_grammar.specs.Levels.{level, word_of, level_of_word, is_absent}
 use Rattle.swc_tree_grammar.specs.Starts.{Start, start}
 use Rattle.swc_tree_grammar.specs.Starts.Start.{Brace, FunctionWord, AsyncFunction, ClassWord, LetBracket}
-use Rattle.swc_tree_grammar.specs.Forms.{form, is_body, is_branch, is_using, is_strict, are_named, holds}
+use Rattle.swc_tree_grammar.specs.Forms.{form, is_body, is_branch, is_using, is_strict, is_strict_list, are_named, holds}
 use Rattle.swc_tree_grammar.specs.Blocks.{takes_else}
 
 -- the parameter In of the grammar, and whether the code is strict
@@ -51,6 +51,10 @@ is_private_name _ = false
 abbrev pub is_opt_chain : Kind → Bool
 is_opt_chain kind.OptChainExpr = true
 is_opt_chain _ = false
+
+abbrev pub is_paren : Kind → Bool
+is_paren kind.ParenExpr = true
+is_paren _ = false
 
 abbrev pub is_block : Kind → Bool
 is_block kind.BlockStmt = true
@@ -166,6 +170,16 @@ branch b c = is_branch c.strict (form b.whole) && b.derives (inside c)
 abbrev pub no_using : Judged → Bool
 no_using es = list_all (λ t. not (is_using t)) (items_of es.whole)
 
+-- what an import or export names: names and strings, of which nothing is asked here
+abbrev pub is_specifier : Kind → Bool
+is_specifier kind.ImportNamedSpecifier = true
+is_specifier kind.ImportDefaultSpecifier = true
+is_specifier kind.ImportStarAsSpecifier = true
+is_specifier kind.NamedExport = true
+is_specifier kind.ExportNamedSpecifier = true
+is_specifier kind.ExportNamespaceSpecifier = true
+is_specifier _ = false
+
 abbrev pub derives_in : Node-F Judged → Context → Bool
 derives_in (Paren span expr) c = at 1 expr (inside c)
 derives_in (Seq span exprs) c = each_at 2 exprs c
@@ -183,9 +197,10 @@ derives_in (Tpl span exprs quasis) c = each_at 1 exprs (inside c)
 derives_in (Call span callee args) c = operand callee c && args.derives (inside c)
 derives_in (New span callee args) c = (at 18 callee c || (is_absent args.whole && (is_bare_new callee.whole && callee.derives c))) && args.derives (inside c)
 derives_in (OptChain span optional base) c = base.in_chain c
-derives_in (Argument spread expr) c = at 2 expr c
-derives_in (Spread dot3_token expr) c = at 2 expr c
-derives_in (KeyValue key value) c = part c key && at 2 value c
+derives_in (OptCall span callee args) c = link callee c && args.derives (inside c)
+derives_in (Argument spread expr) c = at 2 expr (inside c)
+derives_in (Spread dot3_token expr) c = at 2 expr (inside c)
+derives_in (KeyValue key value) c = part c key && at 2 value (inside c)
 derives_in (Computed span expr) c = at 1 expr (inside c)
 derives_in (ClassProp span key value is_static) c = part c key && at 2 value (inside c)
 derives_in (PrivateProp span key value is_static) c = at 2 value (inside c)
@@ -193,12 +208,20 @@ derives_in (Getter span key body) c = part c key && body.derives (strictly (is_s
 derives_in (Setter span key param body) c = part c key && (param.derives (strictly (is_strict body.whole) c) && body.derives (strictly (is_strict body.whole) c))
 derives_in (Arrow span params body is_async) c = params.derives (strictly (is_strict body.whole) c) && arrow_body body c
 derives_in (Function span params body is_generator is_async) c = params.derives (strictly (is_strict body.whole) c) && body.derives (strictly (is_strict body.whole) c)
-derives_in (Class span super_class body) c = at 17 super_class (record c { strict = true }) && body.derives (strictly true c)
-derives_in (Declarator span name init) c = name.derives c && at 2 init c
-derives_in (AssignPat span left right) c = left.derives c && at 2 right (inside c)
+derives_in (Class span super_class body) c = at 17 super_class (strictly true c) && body.derives (strictly true c)
+derives_in (Declarator span name init) c = name.derives (inside c) && at 2 init c
+derives_in (AssignPat span left right) c = left.derives (inside c) && at 2 right (inside c)
 derives_in (AssignPatProp span key value) c = at 2 value (inside c)
+derives_in (Node-F.Tree kind.ArrayPat (span ∷ elems ∷ [])) c = elems.derives (inside c)
+derives_in (Node-F.Tree kind.ObjectPat (span ∷ props ∷ [])) c = props.derives (inside c)
+derives_in (Node-F.Tree kind.RestPat (span ∷ arg ∷ [])) c = arg.derives (inside c)
+derives_in (Node-F.Tree kind.Constructor (span ∷ key ∷ params ∷ body ∷ [])) c = params.derives (inside c) && body.derives (inside c)
+derives_in (Node-F.Tree kind.ClassMethod (span ∷ key ∷ function ∷ keyword ∷ is_static ∷ [])) c = part c key && function.derives (inside c)
+derives_in (Node-F.Tree kind.PrivateMethod (span ∷ key ∷ function ∷ keyword ∷ is_static ∷ [])) c = function.derives (inside c)
+derives_in (Node-F.Tree kind.CatchClause (span ∷ param ∷ body ∷ [])) c = param.derives (inside c) && body.derives (inside c)
+derives_in (Node-F.Tree kind.ExportDecl (span ∷ decl ∷ [])) c = decl.derives (inside c)
 derives_in (VarDecl span keyword decls) c = decls.derives c
-derives_in (UsingDecl span is_await decls) c = are_named true (items_of decls.whole) && decls.derives c
+derives_in (UsingDecl span is_await decls) c = are_named true (items_of decls.whole) && decls.derives (inside c)
 derives_in (Statement span expr) c = may_begin_statement (start expr.whole) && at 1 expr (inside c)
 derives_in (ExportDefault span expr) c = may_begin_export (start expr.whole) && at 2 expr (inside c)
 derives_in (Return span arg) c = at 1 arg (inside c)
@@ -214,8 +237,8 @@ derives_in (For span init test update body) c = at 1 init (outside c) && (at 1 t
 derives_in (ForIn span left right body) c = not (is_using left.whole) && (head left c && (at 1 right (inside c) && loop_body body c))
 derives_in (ForOf span is_await left right body) c = (holds is_await.whole || not (is_async_name left.whole)) && (head left c && (at 2 right (inside c) && loop_body body c))
 derives_in (Module span body shebang) c = body.derives (strictly true c)
-derives_in (Script span body shebang) c = no_using body && body.derives (strictly (is_strict body.whole) c)
-derives_in (Node-F.Tree k es) c = list_all (part c) es
+derives_in (Script span body shebang) c = no_using body && body.derives (strictly (is_strict_list (items_of body.whole)) c)
+derives_in (Node-F.Tree k es) c = is_specifier k || list_all (part c) es
 derives_in (Node-F.List es) c = list_all (λ e. e.derives c) es
 derives_in _ c = true
 

@@ -48,6 +48,10 @@ abbrev pub level_of_word : Option Word → ℕ
 level_of_word (Some w) = operator_level w
 level_of_word None = 19
 
+abbrev pub is_in : Option Word → Bool
+is_in (Some word.In) = true
+is_in _ = false
+
 -- the objects and tags on the left of a member or tagged template lead to a call
 abbrev pub called_step : Node-F Bool → Bool
 called_step (Node-F.Tree kind.CallExpr cs) = true
@@ -86,8 +90,10 @@ level_in (Member span obj prop) = if is_called obj then 17 else 18
 level_in (TaggedTpl span tag tpl) = if is_called tag then 17 else 18
 level_in (New span callee args) = if is_absent args then 17 else 18
 level_in (Node-F.Tree k ts) = kind_level k
+level_in (Node-F.Identifier k i) = 19
+level_in Node-F.Absent = 19
 level_in _ = 19
 
--- the level of an expression
+-- the level of an expression; a part that is absent, as the value of `return`, needs no parentheses in any place
 abbrev pub level : Node → ℕ
 level t = level_in (out-Node t)

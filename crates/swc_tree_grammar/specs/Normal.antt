@@ -1,13 +1,13 @@
 -- The normal form of a program: what is left of it when all is written out that may be written shorter, and
 -- taken off what may be left out.
-use Rattle.std.specs.Prelude.{List, [], ◌∷◌, map, Bool, not, codes, nat_eq, if◌then◌else◌}
+use Rattle.std.specs.Prelude.{List, [], ◌∷◌, map, Bool, not, ◌&&◌, codes, nat_eq, if◌then◌else◌}
 use Rattle.std.specs.List.{flat_map, filter}
 use Rattle.std.specs.Cmp.Lexicographic.{pointwise}
 use Rattle.swc_tree_marks.specs.declared.ident.Ident.{Ident}
 use Rattle.swc_tree_node.specs.declared.kind.Kind.TheVariants as kind
 use Rattle.swc_tree_node.specs.declared.node.Node.{Node, Absent, Text, Span, List as Many, Identifier, Tree, out-Node, roll-Node, fold-Node}
 use Rattle.swc_tree_node.specs.declared.node.Node.TheOpen.{Node-F}
-use Rattle.swc_tree_grammar.specs.Shapes.{If, Block, Declarator, VarDecl, FnDecl, AssignPat, AssignPatProp, ForIn, ForOf, Module, items_of}
+use Rattle.swc_tree_grammar.specs.Shapes.{If, Block, Arrow, Setter, Declarator, VarDecl, FnDecl, AssignPat, AssignPatProp, ForIn, ForOf, Module, items_of}
 use Rattle.swc_tree_grammar.specs.Levels.{is_absent}
 use Rattle.swc_tree_grammar.specs.Blocks.{takes_else, no_span}
 use Rattle.swc_tree_grammar.specs.Stripped.{stripped}
@@ -97,12 +97,13 @@ declared_in t (Node-F.Tree kind.ClassDecl (ident ∷ class ∷ [])) = name_in (o
 declared_in t (FnDecl ident function) = name_in (out-Node ident)
 declared_in t _ = bound_names t
 
-abbrev pub same_name : Ident → Ident → Bool
-same_name i j = pointwise nat_eq i.sym j.sym
+-- two identifiers have one text and one context
+abbrev pub same_id : Ident → Ident → Bool
+same_id i j = pointwise nat_eq i.sym j.sym && pointwise nat_eq i.ctxt j.ctxt
 
 abbrev pub each_once : List Ident → List Ident
 each_once [] = []
-each_once (i ∷ is) = i ∷ filter (λ j. not (same_name i j)) (each_once is)
+each_once (i ∷ is) = i ∷ filter (λ j. not (same_id i j)) (each_once is)
 
 abbrev pub exported_as_itself : Ident → Node
 exported_as_itself i = Tree kind.ExportNamedSpecifier (Span no_span ∷ Identifier kind.Ident i ∷ plain_name i ∷ [])
@@ -133,6 +134,11 @@ written_step (Node-F.Tree kind.ArrayPat (span ∷ elems ∷ [])) = Tree kind.Arr
 written_step (Node-F.Tree kind.RestPat (span ∷ arg ∷ [])) = Tree kind.RestPat (span ∷ as_pattern arg ∷ [])
 written_step (Node-F.Tree kind.KeyValuePatProp (key ∷ value ∷ [])) = Tree kind.KeyValuePatProp (key ∷ as_pattern value ∷ [])
 written_step (AssignPat span left right) = Tree kind.AssignPat (span ∷ as_pattern left ∷ right ∷ [])
+written_step (Node-F.Tree kind.Param (span ∷ pat ∷ [])) = Tree kind.Param (span ∷ as_pattern pat ∷ [])
+written_step (Arrow span params body is_async) = Tree kind.ArrowExpr (span ∷ Many (map as_pattern (items_of params)) ∷ body ∷ is_async ∷ [])
+written_step (Setter span key param body) = Tree kind.SetterProp (span ∷ key ∷ as_pattern param ∷ body ∷ [])
+written_step (Declarator span name init) = Tree kind.VarDeclarator (span ∷ as_pattern name ∷ init ∷ [])
+written_step (Node-F.Tree kind.CatchClause (span ∷ param ∷ body ∷ [])) = Tree kind.CatchClause (span ∷ as_pattern param ∷ body ∷ [])
 written_step (ForIn span left right body) = Tree kind.ForInStmt (span ∷ as_pattern left ∷ right ∷ body ∷ [])
 written_step (ForOf span is_await left right body) = Tree kind.ForOfStmt (span ∷ is_await ∷ as_pattern left ∷ right ∷ body ∷ [])
 written_step (Node-F.Tree kind.ImportNamedSpecifier (span ∷ local ∷ imported ∷ [])) = Tree kind.ImportNamedSpecifier (span ∷ local ∷ again local imported ∷ [])

@@ -10,14 +10,12 @@ use Rattle.swc_tree_node.specs.declared.kind.Word.TheVariants as word
 use Rattle.swc_tree_node.specs.declared.node.Node.{Node, out-Node, roll-Node, fold-Node, map-Node}
 use Rattle.swc_tree_node.specs.declared.node.Node.TheOpen.{Node-F}
 use Rattle.swc_tree_grammar.specs.Shapes.{Seq, Assign, Bin, Update, Member, Tpl, OptChain, OptCall, Getter, Setter, Arrow, Function, Class, FnExpr, ClassExpr, FnDecl, Declarator, AssignPat, VarDecl, UsingDecl, Statement, Str, With, Labeled, If, Case, While, DoWhile, For, ForIn, ForOf, Module, Script, items_of}
-use Rattle.swc_tree_grammar.specs.Levels.{word_of, is_absent}
-use Rattle.swc_tree_grammar.specs.Forms.{form, is_body, is_branch, is_using, is_strict, are_named, holds, text_in, string_in}
-use Rattle.swc_tree_grammar.specs.Grammar.{has_kind, is_private_name, is_chain}
+use Rattle.swc_tree_grammar.specs.Levels.{word_of, is_in, is_absent}
+use Rattle.swc_tree_grammar.specs.Forms.{form, is_body, is_branch, is_using, is_strict, is_strict_list, are_named, holds, text_in, string_in}
+use Rattle.swc_tree_grammar.specs.Grammar.{has_kind, is_private_name, is_chain, is_paren}
 use Rattle.swc_tree_grammar.specs.Targets.{is_target}
 use Rattle.swc_tree_grammar.specs.Stripped.{stripped}
 
--- what is said of a tree goes by what stands round it: whether its code is strict, whether names in patterns are
--- assigned to and not bound, and whether they are names of the program at all
 abbrev pub is_letter : ℕ → Bool
 is_letter c = (nat_le 97 c && nat_le c 122) || ((nat_le 65 c && nat_le c 90) || (nat_eq c 36 || (nat_eq c 95 || nat_le 128 c)))
 
@@ -43,6 +41,7 @@ is_identifier_text text = begins_name text && not (list_any (pointwise nat_eq te
 abbrev pub is_bindable : Bool → List ℕ → Bool
 is_bindable strict text = is_identifier_text text && not (strict && (pointwise nat_eq text (codes "eval") || pointwise nat_eq text (codes "arguments")))
 
+-- what stands round a node: whether the code is strict, and whether the names in a pattern are assigned to and not bound
 pub record Round : Type 0 where
   pub strict : Bool
   pub assigned : Bool
@@ -122,10 +121,6 @@ is_pattern_target kind.ArrayPat = true
 is_pattern_target kind.ObjectPat = true
 is_pattern_target _ = false
 
-abbrev pub is_paren : Kind → Bool
-is_paren kind.ParenExpr = true
-is_paren _ = false
-
 abbrev pub is_plain_assignment : Option Word → Bool
 is_plain_assignment (Some word.Assign) = true
 is_plain_assignment _ = false
@@ -134,16 +129,13 @@ is_plain_assignment _ = false
 abbrev pub left_side : Option Word → Node → Bool
 left_side op t = (not (has_kind is_pattern_target t) || is_plain_assignment op) && (not (has_kind is_paren t) || is_target t)
 
-abbrev pub is_in : Option Word → Bool
-is_in (Some word.In) = true
-is_in _ = false
-
 abbrev pub no_private : Asked → Bool
 no_private e = not (has_kind is_private_name e.whole)
 
+-- a part of a chain that goes on from a chain, pairs taken off
 abbrev pub base_goes_on_in : Node-F Node → Bool
-base_goes_on_in (Member span obj prop) = is_chain obj
-base_goes_on_in (OptCall span callee args) = is_chain callee
+base_goes_on_in (Member span obj prop) = is_chain (stripped obj)
+base_goes_on_in (OptCall span callee args) = is_chain (stripped callee)
 base_goes_on_in _ = false
 
 abbrev pub is_const : Option Word → Bool
@@ -172,14 +164,19 @@ abbrev pub is_setter : Option Word → Bool
 is_setter (Some word.Setter) = true
 is_setter _ = false
 
-abbrev pub parameters_in : Node-F Node → ℕ
-parameters_in (Function span params body is_generator is_async) = length (items_of params)
-parameters_in _ = 0
+abbrev pub parameters_in : Node-F Node → List Node
+parameters_in (Function span params body is_generator is_async) = items_of params
+parameters_in _ = []
 
--- a getter has no parameter, a setter one
+abbrev pub one_without_rest : List Node → Bool
+one_without_rest (t ∷ []) = not (has_kind is_rest_kind (pattern_of t))
+one_without_rest _ = false
+
+-- a getter has no parameter, a setter one, which is no rest
 abbrev pub accessor : Node → Node → Bool
 accessor function keyword =
-    (not (is_getter (word_of keyword)) || nat_eq (parameters_in (out-Node function)) 0) && (not (is_setter (word_of keyword)) || nat_eq (parameters_in (out-Node function)) 1)
+    (not (is_getter (word_of keyword)) || nat_eq (length (parameters_in (out-Node function))) 0)
+    && (not (is_setter (word_of keyword)) || one_without_rest (parameters_in (out-Node function)))
 
 abbrev pub constructor_key_in : Node-F Node → Bool
 constructor_key_in (Node-F.Tree kind.IdentName (span ∷ sym ∷ [])) = pointwise nat_eq (text_in (out-Node sym)) (codes "constructor")
@@ -223,7 +220,7 @@ all_sound es r = list_all (λ e. no_private e && e.sound r) es
 abbrev pub sound_in : Node-F Asked → Sound
 sound_in (Node-F.Identifier kind.BindingIdent i) r = if r.assigned then is_identifier_text i.sym else is_bindable r.strict i.sym
 sound_in (Node-F.Identifier k i) r = is_identifier_text i.sym
-sound_in (Node-F.List es) r = list_all (λ e. e.sound r) es
+sound_in (Node-F.List es) r = all_sound es r
 sound_in (Seq span exprs) r = nat_le 2 (length (items_of exprs.whole)) && exprs.sound r
 sound_in (Assign span op left right) r = left_side (word_of op.whole) left.whole && (left.sound (assigning r) && all_sound (right ∷ []) (binding r))
 sound_in (Update span op prefix arg) r = is_target arg.whole && arg.sound (binding r)
@@ -240,9 +237,9 @@ sound_in (Node-F.Tree kind.AssignPatProp (span ∷ key ∷ value ∷ [])) r = ke
 sound_in (Arrow span params body is_async) r = elements (binding r) (items_of params.whole) && all_sound (params ∷ body ∷ []) (strictly (is_strict body.whole) r)
 sound_in (Function span params body is_generator is_async) r = elements (binding r) (items_of params.whole) && all_sound (params ∷ body ∷ []) (strictly (is_strict body.whole) r)
 sound_in (Node-F.Tree kind.Constructor (span ∷ key ∷ params ∷ body ∷ [])) r =
-    constructor_key_in (out-Node key.whole) && (elements (binding r) (items_of params.whole) && all_sound (params ∷ body ∷ []) (strictly true r))
-sound_in (Getter span key body) r = all_sound (key ∷ body ∷ []) (strictly (is_strict body.whole) r)
-sound_in (Setter span key param body) r = element param.whole (binding r) && all_sound (key ∷ param ∷ body ∷ []) (strictly (is_strict body.whole) r)
+    constructor_key_in (out-Node key.whole) && (elements (binding r) (items_of params.whole) && all_sound (params ∷ body ∷ []) (binding r))
+sound_in (Getter span key body) r = all_sound (key ∷ []) (binding r) && all_sound (body ∷ []) (strictly (is_strict body.whole) r)
+sound_in (Setter span key param body) r = element param.whole (binding r) && (all_sound (key ∷ []) (binding r) && all_sound (param ∷ body ∷ []) (strictly (is_strict body.whole) r))
 sound_in (Node-F.Tree kind.ClassMethod (span ∷ key ∷ function ∷ keyword ∷ is_static ∷ [])) r = accessor function.whole keyword.whole && (key.sound (binding r) && function.sound r)
 sound_in (Node-F.Tree kind.PrivateMethod (span ∷ key ∷ function ∷ keyword ∷ is_static ∷ [])) r = accessor function.whole keyword.whole && function.sound r
 sound_in (Node-F.Tree kind.PrivateProp (span ∷ key ∷ value ∷ is_static ∷ [])) r = all_sound (value ∷ []) (binding r)
@@ -274,7 +271,7 @@ sound_in (Node-F.Tree kind.ExportNamedSpecifier (span ∷ orig ∷ exported ∷ 
 sound_in (Node-F.Tree kind.ExportNamespaceSpecifier es) r = true
 sound_in (Node-F.Tree kind.ExportDecl (span ∷ decl ∷ [])) r = not (is_using decl.whole) && decl.sound r
 sound_in (Module span body shebang) r = body.sound (strictly true r)
-sound_in (Script span body shebang) r = no_using body && body.sound (strictly (is_strict body.whole) r)
+sound_in (Script span body shebang) r = no_using body && body.sound (strictly (is_strict_list (items_of body.whole)) r)
 sound_in (Node-F.Tree k es) r = all_sound es (binding r)
 sound_in _ r = true
 
