@@ -56,10 +56,10 @@ def rust_match(name, doc, argument, type_, result, ensures, arms):
 
 
 def rust_lookup(name, doc, argument, type_, result, ensures, rows):
-    """A function that answers by a row for each variant, in the order of the variants. One `match` of so many arms is
-    dear to prove."""
+    """A function that answers by a row for each variant, in the order of the variants: one `match` of so many arms is
+    dear to prove. Of rows that are lists themselves the prover makes too much, and the toolchain's own compiler too."""
     table = name.upper()
-    return 'const %s: [%s; %d] = [%s];\n\n/// %s\npub fn %s(%s: %s) -> %s\n    ensures { %s }\n{\n    %s[%s as usize]\n}\n' % (
+    return 'static %s: [%s; %d] = [%s];\n\n/// %s\npub fn %s(%s: %s) -> %s\n    ensures { %s }\n{\n    %s[%s as usize]\n}\n' % (
         table, result.replace("&'static ", '&'), len(rows), ', '.join(rows), doc, name, argument, type_, result, ensures, table, argument)
 
 
@@ -139,9 +139,9 @@ def classes_rt(tree):
         '//! The kinds that each class takes.\n//!\n//! %s\n' % PRINTED,
         'ghost use Rattle.std.specs.Prelude.{◌≡◌};\nghost use Rattle.swc_tree_node.specs.Table.{kinds_of};\n\n'
         'use crate::kind::{Class, Kind};\n',
-        rust_lookup('kinds_of', 'The kinds that may stand in a place of a class.', 'class', 'Class', "&'static [Kind]",
-                    'result.now ≡ kinds_of class',
-                    ['&[%s]' % ', '.join('Kind::' + k for k in tree.kinds_of(c)) for c in tree.classes()])])
+        rust_match('kinds_of', 'The kinds that may stand in a place of a class.', 'class', 'Class', "&'static [Kind]",
+                   'result.now ≡ kinds_of class',
+                   [('Class::' + c, '&[%s]' % ', '.join('Kind::' + k for k in tree.kinds_of(c))) for c in tree.classes()])])
 
 
 def spec_list(items):

@@ -17,7 +17,7 @@ use crate::kind::{Kind, Word, WordClass};
 use crate::slot::Field;
 pub use classes::kinds_of;
 
-const NAME_OF: [&str; 97] = [
+static NAME_OF: [&str; 97] = [
     "Module",
     "Script",
     "ImportDecl",
@@ -228,7 +228,7 @@ pub fn fields_of(kind: Kind) -> &'static [Field]
     }
 }
 
-const WORDS_OF: [&[Word]; 7] = [
+static WORDS_OF: [&[Word]; 7] = [
     &[Word::Method, Word::Getter, Word::Setter],
     &[Word::Var, Word::Let, Word::Const],
     &[
@@ -296,7 +296,7 @@ pub fn words_of(words: WordClass) -> &'static [Word]
     WORDS_OF[words as usize]
 }
 
-const SPELLING_OF: [&str; 56] = [
+static SPELLING_OF: [&str; 56] = [
     "method",
     "getter",
     "setter",
