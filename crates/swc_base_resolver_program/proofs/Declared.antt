@@ -10,7 +10,7 @@ use Rattle.swc_tree_scoping.specs.declared.places.Place.{Place}
 use Rattle.swc_tree_scoping.specs.declared.places.Scope.TheVariants as scope
 use Rattle.swc_tree_scoping.specs.Places.{Path, opened, place_at, program_place}
 use Rattle.swc_tree_scoping.specs.Scopes.{Round, first_that, is_binding, is_taken, rounds, scope_at, taker, variable_scope}
-use Rattle.swc_tree_scoping.specs.Declares.{Bound, BoundAs, DeclaresFor, DeclaresOtherwise, Hoisted, Hoists, IsUncaught, Means, Meets, Passes, is_no_variable, is_parameter, is_settled, stops, stops_or_function}
+use Rattle.swc_tree_scoping.specs.Declares.{Bound, BoundAs, DeclaresFor, DeclaresOtherwise, Hoisted, Hoists, IsUncaught, Means, Meets, PassesNone, is_no_variable, is_parameter, is_settled, stops, stops_in_block}
 use Rattle.swc_tree_scoping.proofs.First.{Each, Nested, Opens, has_taker, round_opens, rounds_nested}
 use Rattle.swc_base_resolver_program.specs.declared.names.Ways.{Ways}
 use Rattle.swc_base_resolver_program.specs.declared.names.ScopeNames.{ScopeNames}
@@ -139,24 +139,30 @@ module _ (t : Node) (opens : opened program_place t ≡ Some scope.Program) wher
     )
 
     -- on the way out of blocks
-    passes_is : (x : List ℕ) (ss : List Round) → Each (λ s. IsOpen s.0) ss → IsTrue (passes_in (ways_in bound) x (map O ss ++ [])) ↔ Passes t x ss
-    passes_is x [] e = (λ h. tt, λ h. refl)
-    passes_is x (s ∷ ss) e =
-        let rest = passes_is x ss e.1 in
-        let here = any_is stops_or_function s.0 x e.0 in (
-          λ h.
-              let p = both (not (any_way stops_or_function (ways_in bound (nr s.0) x))) _ h in
-              (λ b. not_true _ p.0 (here.1 b), ⊎_elim inl (λ q. inr (rest.0 q)) (or_cases (is_taken standing.Variable (scope_at program_place t s.0)) _ p.1)),
-          λ h. and_both (not (any_way stops_or_function (ways_in bound (nr s.0) x))) _ (true_not _ (λ b. h.0 (here.0 b)))
-              (⊎_elim (λ a. or_left (is_taken standing.Variable (scope_at program_place t s.0)) _ a) (λ a. or_right (is_taken standing.Variable (scope_at program_place t s.0)) _ (rest.1 a)) h.1),
+    passes_is : (x : List ℕ) (ss : List Round) → Each (λ s. IsOpen s.0) ss
+        → IsTrue (passes_in (ways_in bound) x (map O ss ++ [])) ↔ (PassesNone stops t x ss × ((s : Path) → first_that (λ s. is_taken standing.Variable (scope_at program_place t s.0)) ss ≡ Some s → ¬ BoundAs stops t s x))
+    passes_is x [] e = (λ h. (tt, λ s g. absurd (cc)), λ h. refl)
+    passes_is x (s ∷ ss) e = next (any_is stops s.0 x e.0) (is_taken standing.Variable (scope_at program_place t s.0)) (passes_is x ss e.1)
+      where
+        next : IsTrue (any_way stops (ways_in bound (nr s.0) x)) ↔ BoundAs stops t s.0 x → (z : Bool)
+            → IsTrue (passes_in (ways_in bound) x (map O ss ++ [])) ↔ (PassesNone stops t x ss × ((s : Path) → first_that (λ s. is_taken standing.Variable (scope_at program_place t s.0)) ss ≡ Some s → ¬ BoundAs stops t s x))
+            → IsTrue (not (any_way stops (ways_in bound (nr s.0) x)) && (z || passes_in (ways_in bound) x (map O ss ++ [])))
+            ↔ ((IsTrue z ⊎ (¬ BoundAs stops t s.0 x × PassesNone stops t x ss)) × ((u : Path) → cond z (Some s.0) (first_that (λ s. is_taken standing.Variable (scope_at program_place t s.0)) ss) ≡ Some u → ¬ BoundAs stops t u x))
+        next here true rest = (
+          λ h. (inl refl, λ u g b. let same : s.0 ≡ u = cc in not_true _ (both (not (any_way stops (ways_in bound (nr s.0) x))) _ h).0 (here.1 (subst (λ u. BoundAs stops t u x) (sym same) b))),
+          λ h. and_both (not (any_way stops (ways_in bound (nr s.0) x))) _ (true_not _ (λ b. h.1 s.0 refl (here.0 b))) refl,
+        )
+        next here false rest = (
+          λ h. let p = both (not (any_way stops (ways_in bound (nr s.0) x))) _ h in (inr (λ b. not_true _ p.0 (here.1 b), (rest.0 p.1).0), (rest.0 p.1).1),
+          λ h. ⊎_elim (λ z. absurd (cc)) (λ q. and_both (not (any_way stops (ways_in bound (nr s.0) x))) _ (true_not _ (λ b. q.0 (here.0 b))) (rest.1 (q.1, h.1))) h.0,
         )
 
     pub hoists_from_is : (x : List ℕ) (s : Round) → IsOpen s.0 → IsTrue (hoists_from (ways_in bound) x (O s) (map O (rounds program_place t s.0) ++ [])) ↔ Hoists t s.0 x
     hoists_from_is x s o =
-        let here = any_is stops s.0 x o in
+        let here = any_is stops_in_block s.0 x o in
         let rest = passes_is x (rounds program_place t s.0) (round_opens s.0 program_place t) in (
-          λ h. let p = both (not (any_way stops (ways_in bound (nr s.0) x))) _ h in (λ b. not_true _ p.0 (here.1 b), rest.0 p.1),
-          λ h. and_both (not (any_way stops (ways_in bound (nr s.0) x))) _ (true_not _ (λ b. h.0 (here.0 b))) (rest.1 h.1),
+          λ h. let p = both (not (any_way stops_in_block (ways_in bound (nr s.0) x))) _ h in let r = rest.0 p.1 in (λ b. not_true _ p.0 (here.1 b), r.0, r.1),
+          λ h. and_both (not (any_way stops_in_block (ways_in bound (nr s.0) x))) _ (true_not _ (λ b. h.0 (here.0 b))) (rest.1 (h.1, h.2)),
         )
 
     hoists_among : (x : List ℕ) (b : Path) (ss : List Round) → Each (λ s. IsOpen s.0) ss → Nested program_place t ss → first_that (λ s. is_taken standing.SloppyFunction (scope_at program_place t s.0)) ss ≡ Some b

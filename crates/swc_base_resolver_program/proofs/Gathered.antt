@@ -15,6 +15,7 @@ use Rattle.swc_tree_scoping.specs.declared.places.Standing.{Standing}
 use Rattle.swc_tree_scoping.specs.declared.places.Standing.TheVariants as standing
 use Rattle.swc_tree_scoping.specs.declared.places.Place.{Place}
 use Rattle.swc_tree_scoping.specs.declared.places.Scope.{Scope}
+use Rattle.swc_tree_scoping.specs.declared.places.Scope.TheVariants as scope
 use Rattle.swc_tree_scoping.specs.declared.places.View.{View}
 use Rattle.swc_tree_scoping.specs.declared.places.View.TheVariants as view
 use Rattle.swc_tree_scoping.specs.Places.{Path, child, children_in, given, opened, opened_in, place_at, place_below}
@@ -399,11 +400,16 @@ way_self standing.DefaultExport h = absurd (cc)
 
 never_taken : (r : Standing) (o : Option Scope) → is_binding r ≡ false → is_taken r o ≡ false
 never_taken r None h = refl
-never_taken standing.Plain (Some s) h = refl
-never_taken standing.Reference (Some s) h = refl
-never_taken standing.Body (Some s) h = refl
-never_taken standing.Branch (Some s) h = refl
-never_taken standing.DefaultExport (Some s) h = refl
+never_taken standing.Plain (Some scope.Program) h = refl
+never_taken standing.Plain (Some _) h = refl
+never_taken standing.Reference (Some scope.Program) h = refl
+never_taken standing.Reference (Some _) h = refl
+never_taken standing.Body (Some scope.Program) h = refl
+never_taken standing.Body (Some _) h = refl
+never_taken standing.Branch (Some scope.Program) h = refl
+never_taken standing.Branch (Some _) h = refl
+never_taken standing.DefaultExport (Some scope.Program) h = refl
+never_taken standing.DefaultExport (Some _) h = refl
 never_taken standing.Variable (Some s) h = absurd (cc)
 never_taken standing.Lexical (Some s) h = absurd (cc)
 never_taken standing.Function (Some s) h = absurd (cc)

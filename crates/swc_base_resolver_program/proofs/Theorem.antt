@@ -18,9 +18,9 @@ use Rattle.swc_tree_scoping.specs.declared.places.Place.{Place}
 use Rattle.swc_tree_scoping.specs.declared.places.Scope.{Scope}
 use Rattle.swc_tree_scoping.specs.declared.places.Scope.TheVariants as scope
 use Rattle.swc_tree_scoping.specs.Places.{Path, opened, place_at, program_place}
-use Rattle.swc_tree_scoping.specs.Scopes.{Round, is_binding, one_if, rounds, scope_count, taker}
-use Rattle.swc_tree_scoping.specs.Declares.{DeclaresOtherwise, Hoists}
-use Rattle.swc_tree_scoping.specs.Resolved.{HasContext, HasFunctionMark, HasMeantMark, HasTakersMark, HasVariableMark, Resolved, is_global_value, is_script, mark_in, own_meaning, remarked}
+use Rattle.swc_tree_scoping.specs.Scopes.{Round, is_binding, is_reference, one_if, rounds, scope_count, taker}
+use Rattle.swc_tree_scoping.specs.Declares.{DeclaredBy, DeclaresOtherwise, Hoists, Meets}
+use Rattle.swc_tree_scoping.specs.Resolved.{HasContext, HasDeclarersMark, HasMeantMark, IsCaughtBy, Resolved, is_global_value, is_script, mark_in, own_meaning, remarked}
 use Rattle.swc_tree_scoping.proofs.First.{Opens}
 use Rattle.swc_base_resolver_program.specs.declared.names.ScopeNames.{ScopeNames}
 use Rattle.swc_base_resolver_program.specs.declared.collect.Stage.TheVariants as stage
@@ -147,58 +147,75 @@ module _ (a : Marking) (t : Node) where
     taken : (p : Path) (w : Place) (k : Kind) (i : Ident) (r : Standing) → place_at program_place t p ≡ Some (w, Identifier k i) → w.standing ≡ r → is_binding r ≡ true → (s : Path) × (taker r t p ≡ Some s)
     taken p w k i r h e b = below_root t opens bound binds names same_names reached reaches p w k i r h e b
 
-    takers : (p : Path) (r : Standing) → (s : Path) × (taker r t p ≡ Some s) → HasTakersMark mark t p r (mark_at a (taker_in r (round p)) ∷ [])
-    takers p r (s, e) = (s, e, ap (λ z. mark_at a z ∷ []) (taker_is t opens r p ∙ ap (option_map (nr t)) e))
+    -- but for variables it has the mark of the scope that declares it
+    declared : (p : Path) (r : Standing) (x c : List ℕ) → r ≢ standing.Variable → (s : Path) × DeclaredBy t p r x s × (c ≡ mark s ∷ []) → HasDeclarersMark mark t p r x c
+    declared p r x c other (s, d, e) = (s, d, inr (λ m caught. other caught.0, e))
 
-    variable : (p : Path) (x : List ℕ) → (s : Path) × (taker standing.Variable t p ≡ Some s) → HasVariableMark mark t p x (mark_at a (variable_owner_in a.tables x (round p)) ∷ [])
+    taken_by : (p : Path) (r : Standing) → (s : Path) × (taker r t p ≡ Some s) → (s : Path) × (taker r t p ≡ Some s) × (mark_at a (taker_in r (round p)) ∷ [] ≡ mark s ∷ [])
+    taken_by p r (s, e) = (s, e, ap (λ z. mark_at a z ∷ []) (taker_is t opens r p ∙ ap (option_map (nr t)) e))
+
+    variable : (p : Path) (x : List ℕ) → (s : Path) × (taker standing.Variable t p ≡ Some s) → HasDeclarersMark mark t p standing.Variable x (mark_at a (variable_owner_in a.tables x (round p)) ∷ [])
     variable p x (f, e) =
         let (m, q, there_too, met) = meets_some t opens bound binds x p f e in
         let o = otherwise_is t opens bound binds names same_names reached reaches x f (taker_open t opens standing.Variable p f e) in
         let owner : variable_owner_in a.tables x (round p) ≡ cond (otherwise_in T x (nr t f)) (meets_in T.bound x (round p)) (Some (nr t f))
         = ap (λ d. variable_owner_in d x (round p)) tables ∙ ap (λ z. owner_of_variable T x (round p) z) (taker_is t opens standing.Variable p ∙ ap (option_map (nr t)) e) in
-        (m, f, q, e, by_case m met o (otherwise_in T x (nr t f)) refl owner)
+        (f, e, by_case m q met o (otherwise_in T x (nr t f)) refl owner)
       where
-        by_case : (m : Path) → meets_in T.bound x (round p) ≡ Some (nr t m) → IsTrue (otherwise_in T x (nr t f)) ↔ DeclaresOtherwise t f x → (b : Bool) → otherwise_in T x (nr t f) ≡ b
+        by_case : (m : Path) → Meets t p x (Some m) → meets_in T.bound x (round p) ≡ Some (nr t m) → IsTrue (otherwise_in T x (nr t f)) ↔ DeclaresOtherwise t f x → (b : Bool) → otherwise_in T x (nr t f) ≡ b
             → variable_owner_in a.tables x (round p) ≡ cond (otherwise_in T x (nr t f)) (meets_in T.bound x (round p)) (Some (nr t f))
-            → (DeclaresOtherwise t f x × (mark_at a (variable_owner_in a.tables x (round p)) ∷ [] ≡ mark m ∷ [])) ⊎ (¬ DeclaresOtherwise t f x × (mark_at a (variable_owner_in a.tables x (round p)) ∷ [] ≡ mark f ∷ []))
-        by_case m met o true g owner = inl (o.0 (rw g refl), ap (λ z. mark_at a z ∷ []) (owner ∙ ap (λ b. cond b (meets_in T.bound x (round p)) (Some (nr t f))) g ∙ met))
-        by_case m met o false g owner = inr ((λ d. let z = o.1 d in let y : true ≡ false = sym z ∙ g in absurd (cc)), ap (λ z. mark_at a z ∷ []) (owner ∙ ap (λ b. cond b (meets_in T.bound x (round p)) (Some (nr t f))) g))
+            → ((m : Path) × IsCaughtBy t p standing.Variable x f m × (mark_at a (variable_owner_in a.tables x (round p)) ∷ [] ≡ mark m ∷ []))
+            ⊎ (((m : Path) → ¬ IsCaughtBy t p standing.Variable x f m) × (mark_at a (variable_owner_in a.tables x (round p)) ∷ [] ≡ mark f ∷ []))
+        by_case m q met o true g owner = inl (m, (refl, q, o.0 (rw g refl)), ap (λ z. mark_at a z ∷ []) (owner ∙ ap (λ b. cond b (meets_in T.bound x (round p)) (Some (nr t f))) g ∙ met))
+        by_case m q met o false g owner =
+            inr (λ u caught. let z = o.1 caught.2 in let y : true ≡ false = sym z ∙ g in absurd (cc), ap (λ z. mark_at a z ∷ []) (owner ∙ ap (λ b. cond b (meets_in T.bound x (round p)) (Some (nr t f))) g))
 
     function : (p : Path) (x : List ℕ) → (s : Path) × (taker standing.SloppyFunction t p ≡ Some s) → (s : Path) × (taker standing.Variable t p ≡ Some s)
-        → HasFunctionMark mark t p x (mark_at a (function_owner_in a.tables x (round p)) ∷ [])
+        → (s : Path) × DeclaredBy t p standing.SloppyFunction x s × (mark_at a (function_owner_in a.tables x (round p)) ∷ [] ≡ mark s ∷ [])
     function p x (b, e) (f, g) =
         let h = hoists_is t opens bound binds x p b e in
         let owner : function_owner_in a.tables x (round p) ≡ cond (hoists_in T.bound x (round p)) (Some (nr t f)) (Some (nr t b))
         = ap (λ d. function_owner_in d x (round p)) tables ∙ ap (λ z. cond (hoists_in T.bound x (round p)) z (taker_in standing.SloppyFunction (round p))) (taker_is t opens standing.Variable p ∙ ap (option_map (nr t)) g)
         ∙ ap (λ z. cond (hoists_in T.bound x (round p)) (Some (nr t f)) z) (taker_is t opens standing.SloppyFunction p ∙ ap (option_map (nr t)) e) in
-        (b, f, e, g, by_case h (hoists_in T.bound x (round p)) refl owner)
+        by_case h (hoists_in T.bound x (round p)) refl owner
       where
         by_case : IsTrue (hoists_in T.bound x (round p)) ↔ Hoists t b x → (z : Bool) → hoists_in T.bound x (round p) ≡ z
             → function_owner_in a.tables x (round p) ≡ cond (hoists_in T.bound x (round p)) (Some (nr t f)) (Some (nr t b))
-            → (Hoists t b x × (mark_at a (function_owner_in a.tables x (round p)) ∷ [] ≡ mark f ∷ [])) ⊎ (¬ Hoists t b x × (mark_at a (function_owner_in a.tables x (round p)) ∷ [] ≡ mark b ∷ []))
-        by_case h true z owner = inl (h.0 (rw z refl), ap (λ o. mark_at a o ∷ []) (owner ∙ ap (λ c. cond c (Some (nr t f)) (Some (nr t b))) z))
-        by_case h false z owner = inr ((λ d. let y = h.1 d in let v : true ≡ false = sym y ∙ z in absurd (cc)), ap (λ o. mark_at a o ∷ []) (owner ∙ ap (λ c. cond c (Some (nr t f)) (Some (nr t b))) z))
+            → (s : Path) × DeclaredBy t p standing.SloppyFunction x s × (mark_at a (function_owner_in a.tables x (round p)) ∷ [] ≡ mark s ∷ [])
+        by_case h true z owner = (f, (b, e, inl (h.0 (rw z refl), g)), ap (λ o. mark_at a o ∷ []) (owner ∙ ap (λ c. cond c (Some (nr t f)) (Some (nr t b))) z))
+        by_case h false z owner = (b, (b, e, inr (λ d. let y = h.1 d in let v : true ≡ false = sym y ∙ z in absurd (cc), refl)), ap (λ o. mark_at a o ∷ []) (owner ∙ ap (λ c. cond c (Some (nr t f)) (Some (nr t b))) z))
+
+    -- one of the three sorts
+    of_reference : (p : Path) (x : List ℕ) (r : Standing) (c : List ℕ) → is_reference r ≡ true → is_binding r ≡ false → HasMeantMark mark a.unresolved t p x c → HasContext mark a.unresolved t p x r c
+    of_reference p x r c b n h = record { reference = λ z. h; binding = λ z. let y : true ≡ false = sym z ∙ n in absurd (cc); other = λ z y. absurd (z b) }
+
+    of_binding : (p : Path) (x : List ℕ) (r : Standing) (c : List ℕ) → is_binding r ≡ true → is_reference r ≡ false → HasDeclarersMark mark t p r x c → HasContext mark a.unresolved t p x r c
+    of_binding p x r c b n h = record { reference = λ z. let y : true ≡ false = sym z ∙ n in absurd (cc); binding = λ z. h; other = λ z y. absurd (y b) }
+
+    of_neither : (p : Path) (x : List ℕ) (r : Standing) → is_reference r ≡ false → is_binding r ≡ false → HasContext mark a.unresolved t p x r []
+    of_neither p x r n m = record { reference = λ z. let y : true ≡ false = sym z ∙ n in absurd (cc); binding = λ z. let y : true ≡ false = sym z ∙ m in absurd (cc); other = λ z y. refl }
 
     module _ (p : Path) (w : Place) (k : Kind) (i : Ident) (h : place_at program_place t p ≡ Some (w, Identifier k i)) where
       has_context : (r : Standing) → w.standing ≡ r → HasContext mark a.unresolved t p i.sym r (fresh_context a r i.sym (round p))
-      has_context standing.Reference e = meant p i.sym
-      has_context standing.Body e = meant p i.sym
-      has_context standing.Variable e = variable p i.sym (taken p w k i standing.Variable h e refl)
-      has_context standing.SloppyFunction e = function p i.sym (taken p w k i standing.SloppyFunction h e refl) (variables_too e)
+      has_context standing.Reference e = of_reference p i.sym _ _ refl refl (meant p i.sym)
+      has_context standing.Body e = of_reference p i.sym _ _ refl refl (meant p i.sym)
+      has_context standing.Variable e = of_binding p i.sym _ _ refl refl (variable p i.sym (taken p w k i standing.Variable h e refl))
+      has_context standing.SloppyFunction e =
+          of_binding p i.sym _ _ refl refl (declared p standing.SloppyFunction i.sym _ (λ z. absurd (cc)) (function p i.sym (taken p w k i standing.SloppyFunction h e refl) (variables_too e)))
         where
           variables_too : w.standing ≡ standing.SloppyFunction → (s : Path) × (taker standing.Variable t p ≡ Some s)
           variables_too e = some_variable t opens bound binds names same_names reached reaches p w k i standing.SloppyFunction h e refl
-      has_context standing.Lexical e = takers p standing.Lexical (taken p w k i standing.Lexical h e refl)
-      has_context standing.Function e = takers p standing.Function (taken p w k i standing.Function h e refl)
-      has_context standing.BlockFunction e = takers p standing.BlockFunction (taken p w k i standing.BlockFunction h e refl)
-      has_context standing.Parameter e = takers p standing.Parameter (taken p w k i standing.Parameter h e refl)
-      has_context standing.CatchParameter e = takers p standing.CatchParameter (taken p w k i standing.CatchParameter h e refl)
-      has_context standing.Import e = takers p standing.Import (taken p w k i standing.Import h e refl)
-      has_context standing.FunctionName e = takers p standing.FunctionName (taken p w k i standing.FunctionName h e refl)
-      has_context standing.ClassName e = takers p standing.ClassName (taken p w k i standing.ClassName h e refl)
-      has_context standing.Plain e = refl
-      has_context standing.Branch e = refl
-      has_context standing.DefaultExport e = refl
+      has_context standing.Lexical e = of_binding p i.sym _ _ refl refl (declared p standing.Lexical i.sym _ (λ z. absurd (cc)) (taken_by p standing.Lexical (taken p w k i standing.Lexical h e refl)))
+      has_context standing.Function e = of_binding p i.sym _ _ refl refl (declared p standing.Function i.sym _ (λ z. absurd (cc)) (taken_by p standing.Function (taken p w k i standing.Function h e refl)))
+      has_context standing.BlockFunction e = of_binding p i.sym _ _ refl refl (declared p standing.BlockFunction i.sym _ (λ z. absurd (cc)) (taken_by p standing.BlockFunction (taken p w k i standing.BlockFunction h e refl)))
+      has_context standing.Parameter e = of_binding p i.sym _ _ refl refl (declared p standing.Parameter i.sym _ (λ z. absurd (cc)) (taken_by p standing.Parameter (taken p w k i standing.Parameter h e refl)))
+      has_context standing.CatchParameter e = of_binding p i.sym _ _ refl refl (declared p standing.CatchParameter i.sym _ (λ z. absurd (cc)) (taken_by p standing.CatchParameter (taken p w k i standing.CatchParameter h e refl)))
+      has_context standing.Import e = of_binding p i.sym _ _ refl refl (declared p standing.Import i.sym _ (λ z. absurd (cc)) (taken_by p standing.Import (taken p w k i standing.Import h e refl)))
+      has_context standing.FunctionName e = of_binding p i.sym _ _ refl refl (declared p standing.FunctionName i.sym _ (λ z. absurd (cc)) (taken_by p standing.FunctionName (taken p w k i standing.FunctionName h e refl)))
+      has_context standing.ClassName e = of_binding p i.sym _ _ refl refl (declared p standing.ClassName i.sym _ (λ z. absurd (cc)) (taken_by p standing.ClassName (taken p w k i standing.ClassName h e refl)))
+      has_context standing.Plain e = of_neither p i.sym _ refl refl
+      has_context standing.Branch e = of_neither p i.sym _ refl refl
+      has_context standing.DefaultExport e = of_neither p i.sym _ refl refl
 
     pub contexts_right : (p : Path) (w : Place) (k : Kind) (i : Ident) → place_at program_place t p ≡ Some (w, Identifier k i) → i.ctxt ≡ [] → HasContext mark a.unresolved t p i.sym w.standing (written a [] 0 program_place t p)
     contexts_right p w k i h none =

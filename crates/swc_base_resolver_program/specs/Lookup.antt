@@ -4,7 +4,7 @@ use Rattle.swc_tree_scoping.specs.declared.places.Standing.{Standing}
 use Rattle.swc_tree_scoping.specs.declared.places.Standing.TheVariants as standing
 use Rattle.swc_tree_scoping.specs.declared.places.Scope.{Scope}
 use Rattle.swc_tree_scoping.specs.Scopes.{is_taken}
-use Rattle.swc_tree_scoping.specs.Declares.{is_no_variable, is_parameter, is_settled, stops, stops_or_function}
+use Rattle.swc_tree_scoping.specs.Declares.{is_no_variable, is_parameter, is_settled, stops, stops_in_block}
 use Rattle.swc_base_resolver_program.specs.declared.env.Env.{Env, fold-Env}
 use Rattle.swc_base_resolver_program.specs.declared.env.Env.TheOpen.{Env-F}
 use Rattle.swc_base_resolver_program.specs.declared.env.Layer.{Layer}
@@ -39,10 +39,10 @@ taker_in r = found (λ o os. is_taken r o.scope)
 
 abbrev pub passes_in : Bindings → List ℕ → List Open → Bool
 passes_in b x [] = true
-passes_in b x (o ∷ os) = not (any_way stops_or_function (b o.number x)) && (is_taken standing.Variable o.scope || passes_in b x os)
+passes_in b x (o ∷ os) = not (any_way stops (b o.number x)) && (is_taken standing.Variable o.scope || passes_in b x os)
 
 abbrev pub hoists_from : Bindings → List ℕ → Open → List Open → Bool
-hoists_from b x o os = not (any_way stops (b o.number x)) && passes_in b x os
+hoists_from b x o os = not (any_way stops_in_block (b o.number x)) && passes_in b x os
 
 abbrev pub hoists_in : Bindings → List ℕ → List Open → Bool
 hoists_in b x [] = false

@@ -71,7 +71,7 @@ pub fn passes(env: &Env, bound: &Names, name: &str) -> bool
     match env {
         Env::Top => true,
         Env::In(layer, outer) => {
-            if bound.ways(layer.number, name).stops_or_function() {
+            if bound.ways(layer.number, name).stops() {
                 false
             } else if takes(Standing::Variable, layer.scope) {
                 true
@@ -86,7 +86,7 @@ pub fn passes(env: &Env, bound: &Names, name: &str) -> bool
 pub fn hoists_from(layer: Layer, outer: &Env, bound: &Names, name: &str) -> bool
     ensures { result ≡ hoists_from_in (names_in bound.now) name.now (open_of layer) (layers outer.now) }
 {
-    !bound.ways(layer.number, name).stops() && passes(outer, bound, name)
+    !bound.ways(layer.number, name).stops_in_block() && passes(outer, bound, name)
 }
 
 /// Whether the plain functions of the name in the innermost scope that takes them are declared outside of it

@@ -1,6 +1,6 @@
 //! The names that a scope takes, and how they are bound.
 ghost use Rattle.std.specs.Prelude.{◌≡◌, ℕ, List, OnOk};
-ghost use Rattle.swc_tree_scoping.specs.Declares.{is_no_variable as binds_otherwise, is_parameter as binds_parameter, is_settled as binds_settled, stops as binds_stop, stops_or_function as binds_stop_or_function};
+ghost use Rattle.swc_tree_scoping.specs.Declares.{is_no_variable as binds_otherwise, is_parameter as binds_parameter, is_settled as binds_settled, stops as binds_stop, stops_in_block as binds_stop_in_block};
 ghost use Rattle.swc_base_resolver_program.specs.Names.{any_way, has_way, no_ways, ways_of, with_way};
 ghost use Rattle.swc_base_resolver_program.specs.Inserted.{IsInserted};
 
@@ -68,18 +68,18 @@ impl Ways {
         self.parameter || self.catch_parameter
     }
 
-    /// Whether it stops a `var` of the name on its way out of blocks.
-    pub fn stops(&self) -> bool
-        ensures { result ≡ any_way binds_stop self.now }
+    /// Whether it stops a function of the name in its own block.
+    pub fn stops_in_block(&self) -> bool
+        ensures { result ≡ any_way binds_stop_in_block self.now }
     {
         self.lexical || self.import || self.parameter || self.catch_parameter
     }
 
-    /// Whether it stops a `var` of the name, or is a function's of a block.
-    pub fn stops_or_function(&self) -> bool
-        ensures { result ≡ any_way binds_stop_or_function self.now }
+    /// Whether it stops a function of the name on its way out of blocks.
+    pub fn stops(&self) -> bool
+        ensures { result ≡ any_way binds_stop self.now }
     {
-        self.stops() || self.block_function || self.sloppy_function
+        self.stops_in_block() || self.block_function || self.sloppy_function
     }
 
     /// Whether it is bound by something else than variables and plain functions of sloppy code in blocks.

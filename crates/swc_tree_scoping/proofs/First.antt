@@ -5,6 +5,7 @@ use Rattle.std.specs.Option.{is_some}
 use Rattle.swc_tree_node.specs.declared.node.Node.{Node, out-Node}
 use Rattle.swc_tree_node.specs.declared.node.Node.TheOpen.{Node-F}
 use Rattle.swc_tree_scoping.specs.declared.places.Standing.{Standing}
+use Rattle.swc_tree_scoping.specs.declared.places.Standing.TheVariants as standing
 use Rattle.swc_tree_scoping.specs.declared.places.Place.{Place}
 use Rattle.swc_tree_scoping.specs.declared.places.Scope.{Scope}
 use Rattle.swc_tree_scoping.specs.declared.places.Scope.TheVariants as scope
@@ -13,7 +14,7 @@ use Rattle.swc_tree_scoping.specs.declared.places.View.TheVariants as view
 use Rattle.swc_tree_node.specs.declared.kind.Kind.{Kind}
 use Rattle.swc_tree_node.specs.declared.kind.Kind.TheVariants as kind
 use Rattle.swc_tree_scoping.specs.Places.{Path, child, given, opened, opened_as, opened_in, place_below, program_place, view_from}
-use Rattle.swc_tree_scoping.specs.Scopes.{Round, is_binding, is_taken, rounds, scope_at, seen_as, view_in, first_that, taker}
+use Rattle.swc_tree_scoping.specs.Scopes.{Round, is_binding, is_taken, rounds, scope_at, seen_as, view_in, first_that, taker, takes}
 use Rattle.swc_tree_scoping.proofs.Under.{lower, no_rounds_under, rounds_under, scope_under}
 
 -- each of a list of rounds
@@ -105,9 +106,14 @@ program_whole (Node-F.Span x) i h = refl
 program_whole (Node-F.List x) i h = refl
 program_whole (Node-F.Identifier k x) i h = refl
 
+pub program_takes : (r : Standing) → takes r scope.Program ≡ is_binding r
+program_takes standing.Variable = refl
+program_takes standing.Function = refl
+program_takes _ = refl
+
 -- what stands nowhere but at the root of a program is taken by a scope, if it is bound
 pub has_taker : (t : Node) (p : Path) (i : ℕ) (r : Standing) → opened program_place t ≡ Some scope.Program → is_binding r ≡ true → (s : Path) × (taker r t (i ∷ p) ≡ Some s)
 has_taker t p i r opens b =
     let (front, e) = last_round t p i opens in
-    let (q, f) = found_last (λ s. is_taken r (scope_at program_place t s.0)) front ([], true) (ap (is_taken r) opens ∙ b) in
+    let (q, f) = found_last (λ s. is_taken r (scope_at program_place t s.0)) front ([], true) (ap (is_taken r) opens ∙ program_takes r ∙ b) in
     (q, ap (first_that (λ s. is_taken r (scope_at program_place t s.0))) (e ∙ ap (λ v. front ++ seen_as (Some scope.Program) v) (program_whole (out-Node t) i opens)) ∙ f)

@@ -70,7 +70,7 @@ eval_stands : place_at program_place (by_texts let_eval) (name_in 0) ≡ Some (l
 eval_stands = search (rules, the_lemmas)
 
 let_eval_is_refused : ¬ NoEarlyErrorOfNames let_eval
-let_eval_is_refused e = e.none_of_strict_code.0 (
+let_eval_is_refused e = e.no_eval_or_arguments.0 (
   name_in 0,
   standing.Lexical,
   record {

@@ -30,27 +30,36 @@ is_parameter standing.Parameter = true
 is_parameter standing.CatchParameter = true
 is_parameter _ = false
 
--- what a `var` of the name may not meet on its way out of blocks: a lexical declaration or a parameter
+-- let, const, using, class, import, catch parameter, function in a block, a catch body or a case list
+abbrev pub is_lexical : Standing → Bool
+is_lexical standing.Lexical = true
+is_lexical standing.Import = true
+is_lexical standing.CatchParameter = true
+is_lexical standing.BlockFunction = true
+is_lexical standing.SloppyFunction = true
+is_lexical _ = false
+
+-- what a function of the name may not meet on its way out of blocks
 abbrev pub stops : Standing → Bool
-stops standing.Lexical = true
-stops standing.Import = true
 stops standing.Parameter = true
-stops standing.CatchParameter = true
-stops _ = false
+stops r = is_lexical r
 
-abbrev pub stops_or_function : Standing → Bool
-stops_or_function standing.BlockFunction = true
-stops_or_function standing.SloppyFunction = true
-stops_or_function r = stops r
+-- what of it may not stand in its own block: all but other functions
+abbrev pub stops_in_block : Standing → Bool
+stops_in_block standing.BlockFunction = false
+stops_in_block standing.SloppyFunction = false
+stops_in_block r = stops r
 
--- going outwards, none of the scopes up to the nearest function, static block or program stops the name
-abbrev pub Passes : Node → List ℕ → List Round → Type 0
-Passes t name [] = Unit {0}
-Passes t name (s ∷ ss) = ¬ BoundAs stops_or_function t s.0 name × (IsTrue (is_taken standing.Variable (scope_at program_place t s.0)) ⊎ Passes t name ss)
+-- going outwards, none of the scopes before the nearest function, static block or program takes the name in such a way
+abbrev pub PassesNone : (Standing → Bool) → Node → List ℕ → List Round → Type 0
+PassesNone ways t name [] = Unit {0}
+PassesNone ways t name (s ∷ ss) = IsTrue (is_taken standing.Variable (scope_at program_place t s.0)) ⊎ (¬ BoundAs ways t s.0 name × PassesNone ways t name ss)
 
--- the plain functions of that name in a block, a case list or a catch body of sloppy code are declared outside of it
+-- the plain functions of that name in a block, a case list or a catch body of sloppy code are declared outside of it:
+-- nothing stops the name there, on the way out, or in the function, static block or program that it gets to
 abbrev pub Hoists : Node → Path → List ℕ → Type 0
-Hoists t b name = ¬ BoundAs stops t b name × Passes t name (rounds program_place t b)
+Hoists t b name = ¬ BoundAs stops_in_block t b name × PassesNone stops t name (rounds program_place t b)
+    × ((s : Path) → variable_scope t b ≡ Some s → ¬ BoundAs stops t s name)
 
 -- a function that stands in a block is declared by the nearest function, static block or program
 pub record Hoisted (t : Node) (s : Path) (name : List ℕ) : Type 0 where
@@ -66,6 +75,12 @@ is_settled r = true
 -- the scope declares the name
 abbrev pub Declares : Node → Path → List ℕ → Type 0
 Declares t s name = BoundAs is_settled t s name ⊎ ((Bound t s standing.SloppyFunction name × ¬ Hoists t s name) ⊎ Hoisted t s name)
+
+-- the scope that declares what is bound at a path
+abbrev pub DeclaredBy : Node → Path → Standing → List ℕ → Path → Type 0
+DeclaredBy t p standing.SloppyFunction name s = (b : Path) × (taker standing.SloppyFunction t p ≡ Some b)
+    × ((Hoists t b name × (variable_scope t p ≡ Some s)) ⊎ (¬ Hoists t b name × (b ≡ s)))
+DeclaredBy t p r name s = taker r t p ≡ Some s
 
 -- the scope declares the name for what stands there: in parameters, only if a parameter has the name
 abbrev pub DeclaresFor : Node → List ℕ → Round → Type 0

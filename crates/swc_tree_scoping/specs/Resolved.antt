@@ -1,5 +1,5 @@
 -- What a resolver may answer: each identifier with the mark of its scope.
-use Rattle.std.specs.Prelude.{◌≡◌, ◌≢◌, ℕ, zero, suc, ◌-◌, Bool, true, false, ◌&&◌, ◌||◌, ◌⊎◌, ◌↔◌, Option, Some, None, List, [], ◌∷◌, Contains, codes, if◌then◌else◌}
+use Rattle.std.specs.Prelude.{◌≡◌, ◌≢◌, ℕ, zero, suc, ◌-◌, Bool, true, false, ◌&&◌, ◌||◌, ◌⊎◌, ◌↔◌, IsTrue, Option, Some, None, List, [], ◌∷◌, Contains, codes, if◌then◌else◌}
 use Rattle.std.specs.Str.{bytes_eq}
 use Rattle.swc_tree_marks.specs.declared.ident.Ident.{Ident}
 use Rattle.swc_tree_marks.specs.Globals.{with_fresh_marks}
@@ -11,8 +11,8 @@ use Rattle.swc_tree_scoping.specs.declared.places.Standing.{Standing}
 use Rattle.swc_tree_scoping.specs.declared.places.Standing.TheVariants as standing
 use Rattle.swc_tree_scoping.specs.declared.places.Place.{Place}
 use Rattle.swc_tree_scoping.specs.Places.{Path, program_place, place_at}
-use Rattle.swc_tree_scoping.specs.Scopes.{IsScope, scope_count, taker, variable_scope}
-use Rattle.swc_tree_scoping.specs.Declares.{Hoists, Means, Meets, DeclaresOtherwise}
+use Rattle.swc_tree_scoping.specs.Scopes.{IsScope, is_binding, is_reference, scope_count}
+use Rattle.swc_tree_scoping.specs.Declares.{DeclaredBy, DeclaresOtherwise, Means, Meets}
 
 abbrev pub Contexts : Type 0
 Contexts = Path → List ℕ
@@ -61,37 +61,21 @@ own_meaning t name m = m
 abbrev pub HasMeantMark : (Path → ℕ) → ℕ → Node → Path → List ℕ → List ℕ → Type 0
 HasMeantMark marks unresolved t p name c = (m : Option Path) × Means t p name m × (c ≡ mark_in marks unresolved (own_meaning t name m) ∷ [])
 
--- a variable has the mark of the function, static block or program that declares it; but below a catch clause whose
--- parameter has its name the mark of that clause, where the name is declared outside by something else than such
--- variables
-abbrev pub HasVariableMark : (Path → ℕ) → Node → Path → List ℕ → List ℕ → Type 0
-HasVariableMark marks t p name c = (m f : Path) × Meets t p name (Some m) × (variable_scope t p ≡ Some f)
-    × ((DeclaresOtherwise t f name × (c ≡ marks m ∷ [])) ⊎ (¬ DeclaresOtherwise t f name × (c ≡ marks f ∷ [])))
+-- a variable below a catch clause whose parameter has its name keeps to that clause, where the scope that declares it
+-- does so by something else than such variables
+abbrev pub IsCaughtBy : Node → Path → Standing → List ℕ → Path → Path → Type 0
+IsCaughtBy t p r name s m = (r ≡ standing.Variable) × Meets t p name (Some m) × DeclaresOtherwise t s name
 
--- a plain function in a block of sloppy code has the mark of the scope that it is declared in
-abbrev pub HasFunctionMark : (Path → ℕ) → Node → Path → List ℕ → List ℕ → Type 0
-HasFunctionMark marks t p name c = (b f : Path) × (taker standing.SloppyFunction t p ≡ Some b) × (variable_scope t p ≡ Some f)
-    × ((Hoists t b name × (c ≡ marks f ∷ [])) ⊎ (¬ Hoists t b name × (c ≡ marks b ∷ [])))
+-- a binding has the mark of the scope that declares it; but a variable that is caught that of the catch clause
+abbrev pub HasDeclarersMark : (Path → ℕ) → Node → Path → Standing → List ℕ → List ℕ → Type 0
+HasDeclarersMark marks t p r name c = (s : Path) × DeclaredBy t p r name s
+    × (((m : Path) × IsCaughtBy t p r name s m × (c ≡ marks m ∷ [])) ⊎ (((m : Path) → ¬ IsCaughtBy t p r name s m) × (c ≡ marks s ∷ [])))
 
--- any other binding has the mark of the scope that takes it
-abbrev pub HasTakersMark : (Path → ℕ) → Node → Path → Standing → List ℕ → Type 0
-HasTakersMark marks t p r c = (s : Path) × (taker r t p ≡ Some s) × (c ≡ marks s ∷ [])
-
--- the context of an identifier that had none
-abbrev pub HasContext : (Path → ℕ) → ℕ → Node → Path → List ℕ → Standing → List ℕ → Type 0
-HasContext marks unresolved t p name standing.Reference c = HasMeantMark marks unresolved t p name c
-HasContext marks unresolved t p name standing.Body c = HasMeantMark marks unresolved t p name c
-HasContext marks unresolved t p name standing.Variable c = HasVariableMark marks t p name c
-HasContext marks unresolved t p name standing.SloppyFunction c = HasFunctionMark marks t p name c
-HasContext marks unresolved t p name standing.Lexical c = HasTakersMark marks t p standing.Lexical c
-HasContext marks unresolved t p name standing.Function c = HasTakersMark marks t p standing.Function c
-HasContext marks unresolved t p name standing.BlockFunction c = HasTakersMark marks t p standing.BlockFunction c
-HasContext marks unresolved t p name standing.Parameter c = HasTakersMark marks t p standing.Parameter c
-HasContext marks unresolved t p name standing.CatchParameter c = HasTakersMark marks t p standing.CatchParameter c
-HasContext marks unresolved t p name standing.Import c = HasTakersMark marks t p standing.Import c
-HasContext marks unresolved t p name standing.FunctionName c = HasTakersMark marks t p standing.FunctionName c
-HasContext marks unresolved t p name standing.ClassName c = HasTakersMark marks t p standing.ClassName c
-HasContext marks unresolved t p name _ c = c ≡ []
+-- the context of an identifier that had none: the marks of references and of bindings, and none elsewhere
+pub record HasContext (marks : Path → ℕ) (unresolved : ℕ) (t : Node) (p : Path) (name : List ℕ) (r : Standing) (c : List ℕ) : Type 0 where
+  pub reference : IsTrue (is_reference r) → HasMeantMark marks unresolved t p name c
+  pub binding : IsTrue (is_binding r) → HasDeclarersMark marks t p r name c
+  pub other : ¬ IsTrue (is_reference r) → ¬ IsTrue (is_binding r) → c ≡ []
 
 -- `answer` is `tree` with each identifier resolved; `old` and `new` are the table of marks before and after
 pub record Resolved (unresolved top : ℕ) (old new : List (ℕ × ℕ)) (tree answer : Node) : Type 0 where

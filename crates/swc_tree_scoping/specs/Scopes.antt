@@ -64,11 +64,27 @@ is_name_scope scope.FunctionName = true
 is_name_scope scope.ClassName = true
 is_name_scope _ = false
 
+-- an identifier that stands so binds its name
+abbrev pub is_binding : Standing → Bool
+is_binding standing.Variable = true
+is_binding standing.Lexical = true
+is_binding standing.Function = true
+is_binding standing.BlockFunction = true
+is_binding standing.SloppyFunction = true
+is_binding standing.Parameter = true
+is_binding standing.CatchParameter = true
+is_binding standing.Import = true
+is_binding standing.FunctionName = true
+is_binding standing.ClassName = true
+is_binding _ = false
+
 -- the scopes that take what is bound in them: variables go to the nearest function, static block or program,
--- lexical names to the nearest scope, functions in blocks to the nearest that is no `for` statement's
+-- lexical names to the nearest scope, functions in blocks to the nearest that is no `for` statement's; parameters and
+-- the names of expressions have their own. The program is round all else and so takes each binding that gets to it
 abbrev pub takes : Standing → Scope → Bool
 takes standing.Variable s = is_variable_scope s
 takes standing.Function s = is_variable_scope s
+takes r scope.Program = is_binding r
 takes standing.Lexical scope.FunctionName = false
 takes standing.Lexical scope.ClassName = false
 takes standing.Lexical _ = true
@@ -81,19 +97,10 @@ takes standing.SloppyFunction scope.ClassName = false
 takes standing.SloppyFunction scope.For = false
 takes standing.SloppyFunction _ = true
 takes standing.Parameter scope.Function = true
-takes standing.Parameter scope.Program = true
 takes standing.CatchParameter scope.Catch = true
-takes standing.CatchParameter scope.Program = true
-takes standing.Import scope.Program = true
 takes standing.FunctionName scope.FunctionName = true
-takes standing.FunctionName scope.Program = true
 takes standing.ClassName scope.ClassName = true
-takes standing.ClassName scope.Program = true
 takes _ s = false
-
--- an identifier that stands so binds its name; in a program there is a scope that takes it
-abbrev pub is_binding : Standing → Bool
-is_binding r = takes r scope.Program
 
 -- an identifier that stands so is a reference
 abbrev pub is_reference : Standing → Bool

@@ -12,8 +12,8 @@ use Rattle.swc_tree_scoping.specs.declared.places.Standing.{Standing}
 use Rattle.swc_tree_scoping.specs.declared.places.Standing.TheVariants as standing
 use Rattle.swc_tree_scoping.specs.declared.places.Place.{Place}
 use Rattle.swc_tree_scoping.specs.Places.{Path, field_role, program_place, place_at}
-use Rattle.swc_tree_scoping.specs.Scopes.{Round, rounds, scope_at, taker, variable_scope, is_binding, is_reference, is_taken}
-use Rattle.swc_tree_scoping.specs.Declares.{BoundAs, Declares, DeclaresFor, Hoists}
+use Rattle.swc_tree_scoping.specs.Scopes.{rounds, taker, is_binding, is_reference}
+use Rattle.swc_tree_scoping.specs.Declares.{DeclaredBy, Declares, DeclaresFor, PassesNone, is_lexical}
 use Rattle.swc_tree_scoping.specs.Readings.{id_name, by_ids, by_texts}
 
 -- at a path stands an identifier of the name, as a binding, a reference or else
@@ -32,12 +32,6 @@ pub record Binds (t : Node) (p : Path) (r : Standing) (name : List ℕ) : Type 0
 
 abbrev pub IsDeclared : Node → List ℕ → Type 0
 IsDeclared t name = (p : Path) × (r : Standing) × Binds t p r name
-
--- the scope that declares what is bound at a path
-abbrev pub DeclaredBy : Node → Path → Standing → List ℕ → Path → Type 0
-DeclaredBy t p standing.SloppyFunction name s = (b : Path) × (taker standing.SloppyFunction t p ≡ Some b)
-    × ((Hoists t b name × (variable_scope t p ≡ Some s)) ⊎ (¬ Hoists t b name × (b ≡ s)))
-DeclaredBy t p r name s = taker r t p ≡ Some s
 
 -- a scope's region for a name holds the path
 abbrev pub InRegion : Node → Path → List ℕ → Path → Type 0
@@ -61,15 +55,6 @@ InExportList t p = (q below : Path) × (i : ℕ) × (w : Place) × (k : Kind) ×
 abbrev pub ExportsDeclared : Node → Type 0
 ExportsDeclared t = (p : Path) (name : List ℕ) → InExportList t p → Stands t p standing.Reference name → Declares t [] name
 
--- let, const, using, class, import, catch parameter, function in a block, a catch body or a case list
-abbrev pub is_lexical : Standing → Bool
-is_lexical standing.Lexical = true
-is_lexical standing.Import = true
-is_lexical standing.CatchParameter = true
-is_lexical standing.BlockFunction = true
-is_lexical standing.SloppyFunction = true
-is_lexical _ = false
-
 abbrev module_in : Node-F Node → Bool
 module_in (Node-F.Tree kind.Module ts) = true
 module_in _ = false
@@ -90,11 +75,6 @@ AreFunctionsOfOneBlock t p r q u = (r ≡ standing.SloppyFunction) × (u ≡ sta
 abbrev pub NoneTwice : Node → Type 0
 NoneTwice t = (name : List ℕ) (s p q : Path) (r u : Standing) → Binds t p r name → Binds t q u name
     → DeclaredBy t p r name s → DeclaredBy t q u name s → IsLexical t p r → (p ≡ q) ⊎ AreFunctionsOfOneBlock t p r q u
-
--- going outwards, no scope up to the nearest function, static block or program declares the name in a way
-abbrev pub PassesNone : (Standing → Bool) → Node → List ℕ → List Round → Type 0
-PassesNone ways t name [] = Unit {0}
-PassesNone ways t name (s ∷ ss) = IsTrue (is_taken standing.Variable (scope_at program_place t s.0)) ⊎ (¬ BoundAs ways t s.0 name × PassesNone ways t name ss)
 
 -- no `var` passes a scope that declares its name lexically
 abbrev pub NoVariablePasses : (Standing → Bool) → Node → Type 0
@@ -141,8 +121,8 @@ abbrev pub NoCaughtVariable : Node → Type 0
 NoCaughtVariable t = NoVariablePasses is_catch_parameter t
 
 -- neither `eval` nor `arguments` is declared (13.1.1); of all identifiers, by their texts
-abbrev pub NoneOfStrictCode : Node → Type 0
-NoneOfStrictCode t = ¬ IsDeclared (by_texts t) (codes "eval") × ¬ IsDeclared (by_texts t) (codes "arguments")
+abbrev pub NoEvalOrArguments : Node → Type 0
+NoEvalOrArguments t = ¬ IsDeclared (by_texts t) (codes "eval") × ¬ IsDeclared (by_texts t) (codes "arguments")
 
 -- a reference to an id that nothing declares
 pub record IsFree (t : Node) (i : Ident) : Type 0 where
@@ -165,13 +145,13 @@ pub record WellScoped (t : Node) : Type 0 where
   pub exports_declared : ExportsDeclared (by_ids t)
   pub no_redeclaration : NoRedeclaration (by_ids t)
   pub no_caught_variable : NoCaughtVariable (by_ids t)
-  pub none_of_strict_code : NoneOfStrictCode t
+  pub no_eval_or_arguments : NoEvalOrArguments t
 
 -- what a parser asks of names
 pub record NoEarlyErrorOfNames (t : Node) : Type 0 where
   pub exports_declared : ExportsDeclared (by_texts t)
   pub no_redeclaration : NoRedeclaration (by_texts t)
-  pub none_of_strict_code : NoneOfStrictCode t
+  pub no_eval_or_arguments : NoEvalOrArguments t
 
 -- no identifier has a context: what comes from a parser
 abbrev pub IsClean : Node → Type 0

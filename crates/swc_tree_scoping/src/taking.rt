@@ -40,7 +40,19 @@ pub fn takes(standing: Standing, scope: Scope) -> bool
 pub fn is_binding(standing: Standing) -> bool
     ensures { result ≡ binds standing }
 {
-    takes(standing, Scope::Program)
+    matches!(
+        standing,
+        Standing::Variable
+            | Standing::Lexical
+            | Standing::Function
+            | Standing::BlockFunction
+            | Standing::SloppyFunction
+            | Standing::Parameter
+            | Standing::CatchParameter
+            | Standing::Import
+            | Standing::FunctionName
+            | Standing::ClassName
+    )
 }
 
 /// Whether an identifier that stands so is a reference.
