@@ -3,4 +3,3 @@ pub mod Children
 pub mod Remarked
 pub mod First
 pub mod Program
-pub mod NameRows
