@@ -199,6 +199,9 @@ module _ (a : Marking) (t : Node) where
       has_context standing.Plain e = refl
       has_context standing.Branch e = refl
       has_context standing.DefaultExport e = refl
+      has_context standing.Label e = refl
+      has_context standing.Imported e = refl
+      has_context standing.Exported e = refl
 
     pub contexts_right : (p : Path) (w : Place) (k : Kind) (i : Ident) → place_at program_place t p ≡ Some (w, Identifier k i) → i.ctxt ≡ [] → HasContext mark a.unresolved t p i.sym w.standing (written a [] 0 program_place t p)
     contexts_right p w k i h none =
