@@ -7,8 +7,8 @@ use Rattle.swc_tree_node.specs.declared.node.Node.{Node, Absent, Flag, Word, Tex
 use Rattle.swc_tree_grammar.specs.Blocks.{no_span}
 use Rattle.swc_tree_grammar.specs.Normal.{written_out}
 use Rattle.swc_tree_grammar.specs.Needed.{without_pair}
-use Rattle.swc_tree_grammar.specs.Due.{Places, paired_by_level, callee_of_new, paired_in_heads, paired_at_starts}
-use Rattle.swc_tree_grammar.proofs.Rows.{at, a, x, seq, array, name, bound, paren, call, choice, statement}
+use Rattle.swc_tree_grammar.specs.Due.{Places, paired_by_level, call_paired, paired_in_heads, paired_at_starts}
+use Rattle.swc_tree_grammar.proofs.Rows.{at, a, x, name, bound, paren, call, choice, statement}
 use Rattle.swc_tree_grammar.proofs.GrammarRows.{bin, member}
 
 abbrev object : List Node → Node
@@ -101,7 +101,7 @@ term : paired_by_level same_place (bin word.Plus (bin word.Mul a x) a) ≡ bin w
 term = search (rules, the_lemmas)
 
 -- of a callee of `new` the call on its left gets the pair
-new_spine : callee_of_new same_place false (member (call (codes "a"))) ≡ member (paren (call (codes "a")))
+new_spine : call_paired same_place (member (call (codes "a"))) ≡ member (paren (call (codes "a")))
 new_spine = search (rules, the_lemmas)
 
 -- `for (x = (a in x);;) ;`

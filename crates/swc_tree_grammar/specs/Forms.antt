@@ -1,26 +1,17 @@
 -- Forms of statements: which may stand where (ECMA-262, 14, and B.3.1, B.3.3), and what is strict (11.2.2).
-use Rattle.std.specs.Prelude.{ℕ, List, [], ◌∷◌, map, Bool, true, false, not, ◌&&◌, ◌||◌, Option, Some, None, codes, nat_eq, if◌then◌else◌}
+use Rattle.std.specs.Prelude.{List, Bool, true, false, not, ◌&&◌, Option, Some, if◌then◌else◌}
 use Rattle.std.specs.List.{list_all}
-use Rattle.std.specs.Cmp.Lexicographic.{pointwise}
 use Rattle.swc_tree_node.specs.declared.kind.Kind.TheVariants as kind
 use Rattle.swc_tree_node.specs.declared.kind.Word.{Word}
 use Rattle.swc_tree_node.specs.declared.kind.Word.TheVariants as word
 use Rattle.swc_tree_node.specs.declared.node.Node.{Node, out-Node}
 use Rattle.swc_tree_node.specs.declared.node.Node.TheOpen.{Node-F}
-use Rattle.swc_tree_grammar.specs.Shapes.{Statement, Str, VarDecl, FnDecl, Function, Declarator, Block, items_of}
+use Rattle.swc_tree_scoping.specs.Places.{has_use_strict, block_in, flag_in, is_plain_function}
+use Rattle.swc_tree_grammar.specs.Shapes.{VarDecl, FnDecl, Declarator}
 use Rattle.swc_tree_grammar.specs.Levels.{word_of, is_absent}
 
-abbrev pub is_flag_in : Node-F Node → Bool
-is_flag_in (Node-F.Flag b) = b
-is_flag_in _ = false
-
 abbrev pub holds : Node → Bool
-holds flag = is_flag_in (out-Node flag)
-
--- a function that is neither asynchronous nor a generator
-abbrev pub is_plain_in : Node-F Node → Bool
-is_plain_in (Function span params body is_generator is_async) = not (holds is_generator) && not (holds is_async)
-is_plain_in _ = false
+holds flag = flag_in (out-Node flag)
 
 -- what kind of statement a node is
 pub data Form : Type 0 where
@@ -39,7 +30,7 @@ form_of_function false = Declaring
 
 abbrev pub form_in : Node-F Node → Form
 form_in (VarDecl span keyword decls) = form_of_word (word_of keyword)
-form_in (FnDecl ident function) = form_of_function (is_plain_in (out-Node function))
+form_in (FnDecl ident function) = form_of_function (is_plain_function (Some function))
 form_in (Node-F.Tree kind.ClassDecl ts) = Declaring
 form_in (Node-F.Tree kind.UsingDecl ts) = Using
 form_in _ = Ordinary
@@ -65,38 +56,9 @@ is_using_form _ = false
 abbrev pub is_using : Node → Bool
 is_using t = is_using_form (form t)
 
--- the text of a statement that is a string
-abbrev pub text_in : {X : Type 0} → Node-F X → List ℕ
-text_in (Node-F.Text x) = x
-text_in _ = []
-
-abbrev pub string_in : Node-F Node → Option (List ℕ)
-string_in (Str span value raw) = Some (text_in (out-Node value))
-string_in _ = None
-
-abbrev pub directive_in : Node-F Node → Option (List ℕ)
-directive_in (Statement span expr) = string_in (out-Node expr)
-directive_in _ = None
-
-abbrev pub is_use_strict : List ℕ → Bool
-is_use_strict text = pointwise nat_eq text (codes "use strict")
-
--- one of the leading string statements is `use strict`
-abbrev pub begins_strict : List (Option (List ℕ)) → Bool
-begins_strict [] = false
-begins_strict (None ∷ ds) = false
-begins_strict (Some text ∷ ds) = is_use_strict text || begins_strict ds
-
-abbrev pub is_strict_list : List Node → Bool
-is_strict_list ts = begins_strict (map (λ t. directive_in (out-Node t)) ts)
-
-abbrev pub is_strict_in : Node-F Node → Bool
-is_strict_in (Block span stmts) = is_strict_list (items_of stmts)
-is_strict_in _ = false
-
 -- a body makes its code strict
 abbrev pub is_strict : Node → Bool
-is_strict t = is_strict_in (out-Node t)
+is_strict body = has_use_strict (block_in (out-Node body))
 
 -- a declarator that names one identifier, with an initialiser or without
 abbrev pub is_name_in : Node-F Node → Bool

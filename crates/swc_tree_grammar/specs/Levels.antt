@@ -90,10 +90,8 @@ level_in (Member span obj prop) = if is_called obj then 17 else 18
 level_in (TaggedTpl span tag tpl) = if is_called tag then 17 else 18
 level_in (New span callee args) = if is_absent args then 17 else 18
 level_in (Node-F.Tree k ts) = kind_level k
-level_in (Node-F.Identifier k i) = 19
-level_in Node-F.Absent = 19
 level_in _ = 19
 
--- the level of an expression; a part that is absent, as the value of `return`, needs no parentheses in any place
+-- the level of an expression; identifiers and all that is no operation have the highest
 abbrev pub level : Node → ℕ
 level t = level_in (out-Node t)

@@ -1,11 +1,14 @@
 pub mod Shapes
+pub mod Kinds
 pub mod Levels
+pub mod Demands
 pub mod Starts
 pub mod Forms
 pub mod Grammar
 pub mod Normal
 pub mod Same
 pub mod Needed
+pub mod Readers
 pub mod Due
 pub mod Writable
 pub mod Stripped
@@ -13,3 +16,5 @@ pub mod Blocks
 pub mod Targets
 pub mod Pairs
 pub mod Places
+pub mod Spanless
+pub mod Fixed

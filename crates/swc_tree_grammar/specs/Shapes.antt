@@ -95,6 +95,9 @@ module _ {X : Type 0} where
   pattern abbrev pub KeyValue : X → X → Node-F X
   KeyValue key value = Node-F.Tree kind.KeyValueProp (key ∷ value ∷ [])
 
+  pattern abbrev pub Method : X → X → Node-F X
+  Method key function = Node-F.Tree kind.MethodProp (key ∷ function ∷ [])
+
   pattern abbrev pub Computed : X → X → Node-F X
   Computed span expr = Node-F.Tree kind.ComputedPropName (span ∷ expr ∷ [])
 
@@ -140,6 +143,15 @@ module _ {X : Type 0} where
   pattern abbrev pub PrivateProp : X → X → X → X → Node-F X
   PrivateProp span key value is_static = Node-F.Tree kind.PrivateProp (span ∷ key ∷ value ∷ is_static ∷ [])
 
+  pattern abbrev pub ClassMethod : X → X → X → X → X → Node-F X
+  ClassMethod span key function keyword is_static = Node-F.Tree kind.ClassMethod (span ∷ key ∷ function ∷ keyword ∷ is_static ∷ [])
+
+  pattern abbrev pub PrivateMethod : X → X → X → X → X → Node-F X
+  PrivateMethod span key function keyword is_static = Node-F.Tree kind.PrivateMethod (span ∷ key ∷ function ∷ keyword ∷ is_static ∷ [])
+
+  pattern abbrev pub Constructor : X → X → X → X → Node-F X
+  Constructor span key params body = Node-F.Tree kind.Constructor (span ∷ key ∷ params ∷ body ∷ [])
+
   pattern abbrev pub Getter : X → X → X → Node-F X
   Getter span key body = Node-F.Tree kind.GetterProp (span ∷ key ∷ body ∷ [])
 
@@ -151,6 +163,24 @@ module _ {X : Type 0} where
 
   pattern abbrev pub AssignPatProp : X → X → X → Node-F X
   AssignPatProp span key value = Node-F.Tree kind.AssignPatProp (span ∷ key ∷ value ∷ [])
+
+  pattern abbrev pub KeyValuePat : X → X → Node-F X
+  KeyValuePat key value = Node-F.Tree kind.KeyValuePatProp (key ∷ value ∷ [])
+
+  pattern abbrev pub ArrayPat : X → X → Node-F X
+  ArrayPat span elems = Node-F.Tree kind.ArrayPat (span ∷ elems ∷ [])
+
+  pattern abbrev pub ObjectPat : X → X → Node-F X
+  ObjectPat span props = Node-F.Tree kind.ObjectPat (span ∷ props ∷ [])
+
+  pattern abbrev pub RestPat : X → X → Node-F X
+  RestPat span arg = Node-F.Tree kind.RestPat (span ∷ arg ∷ [])
+
+  pattern abbrev pub Catch : X → X → X → Node-F X
+  Catch span param body = Node-F.Tree kind.CatchClause (span ∷ param ∷ body ∷ [])
+
+  pattern abbrev pub ExportDecl : X → X → Node-F X
+  ExportDecl span decl = Node-F.Tree kind.ExportDecl (span ∷ decl ∷ [])
 
   pattern abbrev pub ExportDefault : X → X → Node-F X
   ExportDefault span expr = Node-F.Tree kind.ExportDefaultExpr (span ∷ expr ∷ [])

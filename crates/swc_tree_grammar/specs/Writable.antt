@@ -1,6 +1,6 @@
 -- Trees that can be written down once parentheses are set where they are due: what the grammar and its early
 -- errors ask besides levels, first tokens and bare `in`.
-use Rattle.std.specs.Prelude.{ℕ, suc, List, [], ◌∷◌, length, Bool, true, false, not, ◌&&◌, ◌||◌, IsTrue, nat_le, nat_eq, codes, Option, Some, is_some, if◌then◌else◌}
+use Rattle.std.specs.Prelude.{ℕ, suc, List, [], ◌∷◌, length, Bool, true, false, not, ◌&&◌, ◌||◌, IsTrue, nat_le, nat_eq, codes, Option, Some, is_some, unwrap_or, if◌then◌else◌}
 use Rattle.std.specs.List.{list_all, list_any}
 use Rattle.std.specs.Cmp.Lexicographic.{pointwise}
 use Rattle.swc_tree_node.specs.declared.kind.Kind.{Kind}
@@ -9,10 +9,11 @@ use Rattle.swc_tree_node.specs.declared.kind.Word.{Word}
 use Rattle.swc_tree_node.specs.declared.kind.Word.TheVariants as word
 use Rattle.swc_tree_node.specs.declared.node.Node.{Node, out-Node, roll-Node, fold-Node, map-Node}
 use Rattle.swc_tree_node.specs.declared.node.Node.TheOpen.{Node-F}
-use Rattle.swc_tree_grammar.specs.Shapes.{Seq, Assign, Bin, Update, Member, Tpl, OptChain, OptCall, Getter, Setter, Arrow, Function, Class, FnExpr, ClassExpr, FnDecl, Declarator, AssignPat, VarDecl, UsingDecl, Statement, Str, With, Labeled, If, Case, While, DoWhile, For, ForIn, ForOf, Module, Script, items_of}
+use Rattle.swc_tree_scoping.specs.Places.{has_use_strict, text_in, literal_in}
+use Rattle.swc_tree_grammar.specs.Shapes.{Seq, Assign, Bin, Update, Member, Tpl, OptChain, OptCall, ClassMethod, PrivateMethod, PrivateProp, Constructor, Getter, Setter, Arrow, Function, Class, FnExpr, ClassExpr, FnDecl, Declarator, AssignPat, AssignPatProp, ArrayPat, ObjectPat, RestPat, KeyValuePat, Catch, VarDecl, UsingDecl, Statement, ExportDecl, Str, With, Labeled, If, Case, While, DoWhile, For, ForIn, ForOf, Module, Script, items_of}
 use Rattle.swc_tree_grammar.specs.Levels.{word_of, is_in, is_absent}
-use Rattle.swc_tree_grammar.specs.Forms.{form, is_body, is_branch, is_using, is_strict, is_strict_list, are_named, holds, text_in, string_in}
-use Rattle.swc_tree_grammar.specs.Grammar.{has_kind, is_private_name, is_chain, is_paren}
+use Rattle.swc_tree_grammar.specs.Forms.{form, is_body, is_branch, is_using, is_strict, are_named, holds}
+use Rattle.swc_tree_grammar.specs.Kinds.{has_kind, is_private_name, is_chain, is_paren, is_rest}
 use Rattle.swc_tree_grammar.specs.Targets.{is_target}
 use Rattle.swc_tree_grammar.specs.Stripped.{stripped}
 
@@ -106,14 +107,10 @@ pattern_of t = pattern_of_param_in t (out-Node t)
 abbrev pub is_element : Round → Node → Bool
 is_element r t = is_absent t || (property_in (out-Node t) || element (pattern_of t) r)
 
-abbrev pub is_rest_kind : Kind → Bool
-is_rest_kind kind.RestPat = true
-is_rest_kind _ = false
-
 -- elements, of which only the last may be a rest
 abbrev pub elements : Round → List Node → Bool
 elements r [] = true
-elements r (t ∷ []) = has_kind is_rest_kind (pattern_of t) || is_element r t
+elements r (t ∷ []) = has_kind is_rest (pattern_of t) || is_element r t
 elements r (t ∷ u ∷ ts) = is_element r t && elements r (u ∷ ts)
 
 abbrev pub is_pattern_target : Kind → Bool
@@ -169,7 +166,7 @@ parameters_in (Function span params body is_generator is_async) = items_of param
 parameters_in _ = []
 
 abbrev pub one_without_rest : List Node → Bool
-one_without_rest (t ∷ []) = not (has_kind is_rest_kind (pattern_of t))
+one_without_rest (t ∷ []) = not (has_kind is_rest (pattern_of t))
 one_without_rest _ = false
 
 -- a getter has no parameter, a setter one, which is no rest
@@ -178,13 +175,16 @@ accessor function keyword =
     (not (is_getter (word_of keyword)) || nat_eq (length (parameters_in (out-Node function))) 0)
     && (not (is_setter (word_of keyword)) || one_without_rest (parameters_in (out-Node function)))
 
+abbrev pub is_text : List ℕ → Node → Bool
+is_text x t = pointwise nat_eq (unwrap_or (text_in (out-Node t)) []) x
+
 abbrev pub constructor_key_in : Node-F Node → Bool
-constructor_key_in (Node-F.Tree kind.IdentName (span ∷ sym ∷ [])) = pointwise nat_eq (text_in (out-Node sym)) (codes "constructor")
-constructor_key_in (Str span value raw) = pointwise nat_eq (text_in (out-Node value)) (codes "constructor")
+constructor_key_in (Node-F.Tree kind.IdentName (span ∷ sym ∷ [])) = is_text (codes "constructor") sym
+constructor_key_in (Str span value raw) = is_text (codes "constructor") value
 constructor_key_in _ = false
 
 abbrev pub is_string : Node → Bool
-is_string t = is_some (string_in (out-Node t))
+is_string t = is_some (literal_in (out-Node t))
 
 -- an export list without source holds names of the program
 abbrev pub local_specifier_in : Node-F Node → Bool
@@ -228,21 +228,21 @@ sound_in (Bin span op left right) r = (is_in (word_of op.whole) || no_private le
 sound_in (Member span obj prop) r = no_private obj && (obj.sound (binding r) && prop.sound (binding r))
 sound_in (Tpl span exprs quasis) r = nat_eq (length (items_of quasis.whole)) (suc (length (items_of exprs.whole))) && exprs.sound (binding r)
 sound_in (OptChain span optional base) r = (holds optional.whole || base_goes_on_in (out-Node base.whole)) && base.sound (binding r)
-sound_in (Node-F.Tree kind.ArrayPat (span ∷ elems ∷ [])) r = elements r (items_of elems.whole) && elems.sound r
-sound_in (Node-F.Tree kind.ObjectPat (span ∷ props ∷ [])) r = elements r (items_of props.whole) && props.sound r
-sound_in (Node-F.Tree kind.RestPat (span ∷ arg ∷ [])) r = pattern arg.whole r && arg.sound r
-sound_in (Node-F.Tree kind.KeyValuePatProp (key ∷ value ∷ [])) r = element value.whole r && (key.sound (binding r) && value.sound r)
+sound_in (ArrayPat span elems) r = elements r (items_of elems.whole) && elems.sound r
+sound_in (ObjectPat span props) r = elements r (items_of props.whole) && props.sound r
+sound_in (RestPat span arg) r = pattern arg.whole r && arg.sound r
+sound_in (KeyValuePat key value) r = element value.whole r && (key.sound (binding r) && value.sound r)
 sound_in (AssignPat span left right) r = pattern left.whole r && (left.sound r && all_sound (right ∷ []) (binding r))
-sound_in (Node-F.Tree kind.AssignPatProp (span ∷ key ∷ value ∷ [])) r = key.sound r && all_sound (value ∷ []) (binding r)
+sound_in (AssignPatProp span key value) r = key.sound r && all_sound (value ∷ []) (binding r)
 sound_in (Arrow span params body is_async) r = elements (binding r) (items_of params.whole) && all_sound (params ∷ body ∷ []) (strictly (is_strict body.whole) r)
 sound_in (Function span params body is_generator is_async) r = elements (binding r) (items_of params.whole) && all_sound (params ∷ body ∷ []) (strictly (is_strict body.whole) r)
-sound_in (Node-F.Tree kind.Constructor (span ∷ key ∷ params ∷ body ∷ [])) r =
+sound_in (Constructor span key params body) r =
     constructor_key_in (out-Node key.whole) && (elements (binding r) (items_of params.whole) && all_sound (params ∷ body ∷ []) (binding r))
 sound_in (Getter span key body) r = all_sound (key ∷ []) (binding r) && all_sound (body ∷ []) (strictly (is_strict body.whole) r)
 sound_in (Setter span key param body) r = element param.whole (binding r) && (all_sound (key ∷ []) (binding r) && all_sound (param ∷ body ∷ []) (strictly (is_strict body.whole) r))
-sound_in (Node-F.Tree kind.ClassMethod (span ∷ key ∷ function ∷ keyword ∷ is_static ∷ [])) r = accessor function.whole keyword.whole && (key.sound (binding r) && function.sound r)
-sound_in (Node-F.Tree kind.PrivateMethod (span ∷ key ∷ function ∷ keyword ∷ is_static ∷ [])) r = accessor function.whole keyword.whole && function.sound r
-sound_in (Node-F.Tree kind.PrivateProp (span ∷ key ∷ value ∷ is_static ∷ [])) r = all_sound (value ∷ []) (binding r)
+sound_in (ClassMethod span key function keyword is_static) r = accessor function.whole keyword.whole && (key.sound (binding r) && function.sound r)
+sound_in (PrivateMethod span key function keyword is_static) r = accessor function.whole keyword.whole && function.sound r
+sound_in (PrivateProp span key value is_static) r = all_sound (value ∷ []) (binding r)
 sound_in (Class span super_class body) r = all_sound (super_class ∷ body ∷ []) (strictly true r)
 sound_in (FnDecl ident function) r = bound ident r && function.sound r
 sound_in (FnExpr ident function) r = bound ident r && function.sound r
@@ -252,7 +252,7 @@ sound_in (Declarator span name init) r = pattern name.whole (binding r) && (name
 sound_in (VarDecl span keyword decls) r = list_all (λ d. initialised_in (is_const (word_of keyword.whole)) (out-Node d)) (items_of decls.whole) && decls.sound r
 sound_in (UsingDecl span is_await decls) r = are_named true (items_of decls.whole) && decls.sound r
 sound_in (Statement span expr) r = (not (is_string (stripped expr.whole)) || is_string expr.whole) && all_sound (expr ∷ []) (binding r)
-sound_in (Node-F.Tree kind.CatchClause (span ∷ param ∷ body ∷ [])) r = (is_absent param.whole || pattern param.whole (binding r)) && (param.sound (binding r) && body.sound r)
+sound_in (Catch span param body) r = (is_absent param.whole || pattern param.whole (binding r)) && (param.sound (binding r) && body.sound r)
 sound_in (With span obj body) r = all_sound (obj ∷ []) (binding r) && loop_body body r
 sound_in (Labeled span label body) r = label.sound r && branch body r
 sound_in (If span test cons alt) r = all_sound (test ∷ []) (binding r) && (branch cons r && (is_absent alt.whole || branch alt r))
@@ -269,9 +269,9 @@ sound_in (Node-F.Tree kind.NamedExport (span ∷ specifiers ∷ src ∷ attribut
     not (is_absent src.whole) || (list_all (λ t. local_specifier_in (out-Node t)) (items_of specifiers.whole) && specifiers.sound r)
 sound_in (Node-F.Tree kind.ExportNamedSpecifier (span ∷ orig ∷ exported ∷ [])) r = orig.sound r
 sound_in (Node-F.Tree kind.ExportNamespaceSpecifier es) r = true
-sound_in (Node-F.Tree kind.ExportDecl (span ∷ decl ∷ [])) r = not (is_using decl.whole) && decl.sound r
+sound_in (ExportDecl span decl) r = not (is_using decl.whole) && decl.sound r
 sound_in (Module span body shebang) r = body.sound (strictly true r)
-sound_in (Script span body shebang) r = no_using body && body.sound (strictly (is_strict_list (items_of body.whole)) r)
+sound_in (Script span body shebang) r = no_using body && body.sound (strictly (has_use_strict (items_of body.whole)) r)
 sound_in (Node-F.Tree k es) r = all_sound es (binding r)
 sound_in _ r = true
 
