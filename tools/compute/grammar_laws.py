@@ -122,16 +122,16 @@ def optional_let(random, size):
 
 def first_words(text):
     """what a text begins with, as the definitions name it"""
-    tokens = js.Parser(text)
-    first = tokens.v
-    if tokens.k == 'eof':
+    tokens = js.Tokens(text)
+    first = tokens.value
+    if tokens.kind == 'end':
         return 'Other'
     tokens.next()
     if first.startswith('{'):
         return 'Brace'
-    if first == 'async' and tokens.v == 'function':
+    if first == 'async' and tokens.value == 'function':
         return 'AsyncFunction'
-    if first == 'let' and tokens.v == '[':
+    if first == 'let' and tokens.value == '[':
         return 'LetBracket'
     return {'function': 'FunctionWord', 'class': 'ClassWord'}.get(first, 'Other')
 
@@ -143,7 +143,7 @@ def start_is_that_of_the_text(t):
     if not expressions:
         return None
     for expression in expressions:
-        text = js.show(js.node(expression))
+        text = js.plain(expression)
         if D.grammar.Starts.start(expression) != first_words(text):
             return Bad('`%s` begins with %s, says the definition' % (text, D.grammar.Starts.start(expression)))
     return True
@@ -152,7 +152,7 @@ def start_is_that_of_the_text(t):
 @law(optional_let)
 def optional_let_is_no_let_bracket(t):
     """where `let?.[` is the left end, an expression does not begin with `let [`"""
-    found = [node for _, node in paths(t) if kind(node) in js.CLASSES['Expr'] and js.show(js.node(node)).startswith('let?.[')]
+    found = [node for _, node in paths(t) if kind(node) in js.CLASSES['Expr'] and js.plain(node).startswith('let?.[')]
     if not found:
         return None
     return not any(D.grammar.Starts.start(node) == 'LetBracket' for node in found) or Bad('begins with `let [`:', t)
@@ -301,8 +301,8 @@ def normal_form_exports_each_id_once(t):
         if kind(item) == 'ExportDecl':
             i += 1
             wanted = D.substitution.Exports.exported_ids(item)
-            have = [identity(specifier[2][1][2]) for specifier in after[i][2][1][1]]
-            if kind(after[i]) != 'NamedExport' or sorted(have) != sorted(set(wanted)):
+            have = [identity(specifier[2][1][2]) for specifier in kids(kids(after[i])[1])]
+            if kind(after[i - 1]) != kind(item[2][1]) or kind(after[i]) != 'NamedExport' or sorted(have) != sorted(set(wanted)):
                 return Bad('normal form:', normal_form(t))
         i += 1
     if i != len(after):
@@ -363,23 +363,30 @@ def free_and_declared(random, size):
     return random.with_free_names(size, random.chance(0.6))
 
 
+def renamed_everywhere(t, old, new):
+    """the tree with another text for an id"""
+    return trees.with_identifiers(lambda i: (new, i.ctxt) if identity(i) == old else identity(i), t)
+
+
 @law(free_and_declared)
 def sameness_goes_by_the_first_tree(t):
-    """where a free reference becomes one to a declared id, the two trees are not the same, but the other way round
-    they are: the declared ids are those of the first tree"""
+    """of a tree in normal form a declared id may change everywhere; and where a free reference becomes one to a declared
+    id, the first tree is not the same as the second, but the second as the first"""
     if not is_writable(t):
         return None
     t = normal_form(t)
     program, declared = scoping.Program(D.all, t), declared_ids(t)
     free = [path for path, _, _ in scoping.References(program) if identity(program.identifier(path)) not in declared]
-    others = [i for i in declared if free and any(i[0] != program.name(path) for path in free)]
-    if not free or not others or not is_same(t, t):
+    pairs = [(path, new) for path in free for new in declared if new[0] != program.name(path)]
+    elsewhere = {identity(program.identifier(path)) for path in program.identifiers if not is_name(program.standing(path))}
+    if not pairs or not is_same(t, t):
         return None
-    for path in free:
-        for sym, ctxt in [i for i in others if i[0] != program.name(path)][:2]:
-            changed = with_text(t, path, sym, ctxt)
-            if declared_ids(changed) != declared:
-                return Bad('declares others:', changed)
-            if is_same(t, changed) or not is_same(changed, t):
-                return Bad('of', t, 'changed:', changed)
+    for old in declared[:3]:
+        changed = renamed_everywhere(t, old, FRESH)
+        if old not in elsewhere and not (is_same(t, changed) and is_same(changed, t)):
+            return Bad('of', t, 'renamed:', changed)
+    for path, new in pairs[:2]:
+        changed = with_text(t, path, *new)
+        if is_same(t, changed) or not is_same(changed, t):
+            return Bad('of', t, 'changed:', changed)
     return True

@@ -6,6 +6,7 @@ what went wrong. `@law(source)` says which random trees it is tried on.
 import antt2py
 import js
 import scoping
+import random_trees
 import trees
 from trees import at, paths
 
@@ -25,7 +26,7 @@ def load(checkout):
     D.all = antt2py.load(checkout, CRATES)
     D.node, D.grammar, D.scoping = D.all.swc_tree_node, D.all.swc_tree_grammar, D.all.swc_tree_scoping
     D.substitution, D.ext, D.marks = D.all.swc_base_rename_substitution, D.all.swc_tree_ext, D.all.swc_tree_marks
-    trees.setup(D.all)
+    random_trees.setup(D.all)
     return scoping.check_sources(checkout)
 
 

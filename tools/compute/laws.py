@@ -15,6 +15,7 @@ import sys
 import time
 
 import js
+import random_trees
 import scoping
 import trees
 from lawbook import LAWS, Bad, D, fits_grammar, fixed, is_writable, load, normal_form, stripped
@@ -29,7 +30,7 @@ WRITTEN = [
     '(async) => a; new (a()?.b).c();', 'for ((a in b) ? a in b : () => (a in b);;) ;', 'if (a) { if (b) c; } else d;',
     'x = (function() {})(), {}.a;', 'import { a as b } from "m"; export { b as c }; var { __proto__ } = b;',
     'export { a as b } from "m"; var a, b;', '({ set a(...b) {} });', 'a: for (;;) continue a; export { c as a }; var c;',
-    'try {} catch (a) { var a; }', '{ function f() {} } f;', 'switch (a) { case 0: let a; }', 'function f(a, b = a) { var a; }']
+    'var __proto__, a; ({ __proto__, a });', 'try {} catch (a) { var a; }', '{ function f() {} } f;', 'switch (a) { case 0: let a; }', 'function f(a, b = a) { var a; }']
 FEWEST, BIGGEST = 2, 40
 
 
@@ -67,7 +68,7 @@ def written_trees():
 
 def tried(tallies, options):
     """tries the laws of one source"""
-    random, end = trees.Random(options.seed), time.time() + options.seconds
+    random, end = random_trees.Random(options.seed), time.time() + options.seconds
     for t in written_trees():
         for tally in tallies:
             tally.try_on(t)
@@ -134,7 +135,7 @@ def show(text, read):
 def kinds(options):
     """for each source, the share of its trees that have a node of each kind"""
     for source in dict.fromkeys(source for source, _ in LAWS.values()):
-        random, counts, made, nodes = trees.Random(options.seed), {}, 0, 0
+        random, counts, made, nodes = random_trees.Random(options.seed), {}, 0, 0
         for number in range(options.trees):
             t = source(random, FEWEST + number * (options.biggest - FEWEST) // options.trees)
             if t is None:
