@@ -1,0 +1,181 @@
+"""What the laws share: the definitions of a checkout, sources of random trees, and words for trees.
+
+A law takes a tree and answers None where its premise does not hold, True where it holds, and else a `Bad`, which says
+what went wrong. `@law(source)` says which random trees it is tried on.
+"""
+import antt2py
+import js
+import scoping
+import random_trees
+import trees
+from trees import at, paths
+
+CRATES = ['swc_tree_node', 'swc_tree_grammar', 'swc_tree_scoping', 'swc_base_rename_substitution', 'swc_tree_ext', 'swc_tree_marks']
+
+
+class Definitions:
+    """the translated definitions, by crate; `load` fills it"""
+
+
+D = Definitions()
+LAWS = {}
+
+
+def load(checkout):
+    """reads the definitions of a checkout, which all laws then use"""
+    D.all = antt2py.load(checkout, CRATES)
+    D.node, D.grammar, D.scoping = D.all.swc_tree_node, D.all.swc_tree_grammar, D.all.swc_tree_scoping
+    D.substitution, D.ext, D.marks = D.all.swc_base_rename_substitution, D.all.swc_tree_ext, D.all.swc_tree_marks
+    random_trees.setup(D.all)
+    return scoping.check_sources(checkout)
+
+
+class Bad:
+    """what went wrong: words and trees"""
+    def __init__(self, *parts):
+        self.parts = parts
+
+    def __str__(self):
+        return ' '.join(part if isinstance(part, str) else js.text(part) for part in self.parts)
+
+
+def law(source):
+    """adds a law, to be tried on trees of the source"""
+    def add(function):
+        LAWS[function.__name__] = (source, function)
+        return function
+    return add
+
+
+# ---------------------------------------------------------------------------------------- sources of random trees
+def any_tree(random, size):
+    """trees that fit their places, most of them not writable"""
+    return random.wild(size, random.chance(0.6))
+
+
+def expressions_as_names(random, size):
+    """trees that fit their places, with many identifier expressions and pairs, where names are bound too"""
+    return random.wild_with(('Ident', 'ParenExpr', 'VarDecl', 'VarDecl', 'ExportDecl'), size)
+
+
+def writable_tree(random, size):
+    """mostly writable trees"""
+    return random.pick([random.writable, random.writable, random.writable, random.wild])(size, random.chance(0.6))
+
+
+def writable_module(random, size):
+    """mostly writable modules"""
+    return random.writable(size, True)
+
+
+def clean_module(random, size):
+    """modules of few names and many scopes, without contexts"""
+    return random.names(size, True)
+
+
+def clean_program(random, size):
+    """the same, scripts too"""
+    return random.names(size, random.chance(0.5))
+
+
+def well_scoped_module(random, size):
+    """resolved modules, some with other ids, some with one id exchanged"""
+    return random.well_scoped(size, True)
+
+
+# ------------------------------------------------------------------------------------------------ words for trees
+def is_module(t):
+    return t[1] == 'Module'
+
+
+def kind(t):
+    return t[1] if t[0] in ('Tree', 'Identifier') else None
+
+
+def word(t):
+    return t[1] if t[0] == 'Word' else None
+
+
+def kids(t):
+    return trees.kids(t)
+
+
+def of_kind(t, wanted):
+    """the paths of the nodes of a kind"""
+    return [path for path, node in paths(t) if kind(node) == wanted]
+
+
+def identifiers(t):
+    """(path, identifier) of each identifier"""
+    return [(path, node[2]) for path, node in paths(t) if node[0] == 'Identifier']
+
+
+def identity(identifier):
+    return (identifier.sym, identifier.ctxt)
+
+
+def fits_place(t):
+    return D.node.Fits.fits(t, ('One', ('Node', t[1])))
+
+
+def fits_grammar(t):
+    return D.grammar.Grammar.derives(t, antt2py.Rec(with_in=True, strict=False))
+
+
+def is_writable(t):
+    return fits_place(t) and D.grammar.Writable.is_writable(t)
+
+
+def stripped(t):
+    """the stripped tree with its blocks"""
+    return D.grammar.Blocks.with_blocks(D.grammar.Stripped.stripped(t))
+
+
+def fixed(t):
+    """the stripped tree with its blocks and due pairs"""
+    return D.grammar.Due.with_due_pairs(lambda span: span, stripped(t))
+
+
+def normal_form(t):
+    return D.grammar.Normal.normal_form(t)
+
+
+def spanless(t):
+    if t[0] == 'Span':
+        return ('Span',)
+    if t[0] == 'Identifier':
+        return ('Identifier', t[1], t[2].sym, t[2].ctxt)
+    return trees.with_kids(t, [spanless(c) for c in kids(t)]) if t[0] in ('List', 'Tree') else t
+
+
+def same(t, u):
+    """equal but for spans: random trees have a span for each node, but the passes copy spans"""
+    return spanless(t) == spanless(u)
+
+
+def is_name(standing):
+    """what stands so is a binding or a reference"""
+    return D.scoping.Scopes.is_binding(standing) or D.scoping.Scopes.is_reference(standing)
+
+
+def ids_of(t):
+    """the ids at binding and reference places, each once"""
+    program = scoping.Program(D.all, t)
+    return list(dict.fromkeys(identity(program.identifier(p)) for p, standing, _ in scoping.Stands(program) if is_name(standing)))
+
+
+def declared_ids(t):
+    """the ids at binding places, each once"""
+    program = scoping.Program(D.all, t)
+    return list(dict.fromkeys(identity(program.identifier(p)) for p, _, _ in scoping.Binds(program)))
+
+
+def with_text(t, path, sym, ctxt=None):
+    """the tree with another text, and perhaps another context, for the identifier at a path"""
+    _, its_kind, old = at(t, path)
+    return trees.put(t, path, ('Identifier', its_kind, js.REC(span=old.span, ctxt=old.ctxt if ctxt is None else ctxt, sym=sym)))
+
+
+def in_pair(t, path):
+    """the tree with a pair of parentheses round the node at a path"""
+    return trees.put(t, path, ('Tree', 'ParenExpr', (trees.SPAN, at(t, path))))
