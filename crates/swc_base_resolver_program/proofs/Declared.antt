@@ -80,6 +80,9 @@ any_back f w standing.Reference p q = absurd (grind arith)
 any_back f w standing.Body p q = absurd (grind arith)
 any_back f w standing.Branch p q = absurd (grind arith)
 any_back f w standing.DefaultExport p q = absurd (grind arith)
+any_back f w standing.Label p q = absurd (grind arith)
+any_back f w standing.Imported p q = absurd (grind arith)
+any_back f w standing.Exported p q = absurd (grind arith)
 
 some_is : (a b : ℕ) → Some a ≡ Some b → a ≡ b
 some_is a b h = cc

@@ -56,6 +56,9 @@ no_way standing.Reference = refl
 no_way standing.Body = refl
 no_way standing.Branch = refl
 no_way standing.DefaultExport = refl
+no_way standing.Label = refl
+no_way standing.Imported = refl
+no_way standing.Exported = refl
 
 -- gains, one after another
 pub gains_none : (old : List ScopeNames) (P : Gained) → ((k : ℕ) (r : Standing) (x : List ℕ) → P k r x → ⊥) → Gains old old P
@@ -397,6 +400,9 @@ way_self standing.Reference h = absurd (cc)
 way_self standing.Body h = absurd (cc)
 way_self standing.Branch h = absurd (cc)
 way_self standing.DefaultExport h = absurd (cc)
+way_self standing.Label h = absurd (cc)
+way_self standing.Imported h = absurd (cc)
+way_self standing.Exported h = absurd (cc)
 
 never_taken : (r : Standing) (o : Option Scope) → is_binding r ≡ false → is_taken r o ≡ false
 never_taken r None h = refl
@@ -410,6 +416,12 @@ never_taken standing.Branch (Some scope.Program) h = refl
 never_taken standing.Branch (Some _) h = refl
 never_taken standing.DefaultExport (Some scope.Program) h = refl
 never_taken standing.DefaultExport (Some _) h = refl
+never_taken standing.Label (Some scope.Program) h = refl
+never_taken standing.Label (Some _) h = refl
+never_taken standing.Imported (Some scope.Program) h = refl
+never_taken standing.Imported (Some _) h = refl
+never_taken standing.Exported (Some scope.Program) h = refl
+never_taken standing.Exported (Some _) h = refl
 never_taken standing.Variable (Some s) h = absurd (cc)
 never_taken standing.Lexical (Some s) h = absurd (cc)
 never_taken standing.Function (Some s) h = absurd (cc)

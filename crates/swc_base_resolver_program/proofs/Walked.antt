@@ -30,6 +30,9 @@ pub unmarked_stays : (a : Marking) (r : Standing) (env : List Open) (i : Ident) 
 unmarked_stays a standing.Plain env i h = ap (λ c. record i { ctxt = c }) (sym (kept_none i.ctxt))
 unmarked_stays a standing.Branch env i h = ap (λ c. record i { ctxt = c }) (sym (kept_none i.ctxt))
 unmarked_stays a standing.DefaultExport env i h = ap (λ c. record i { ctxt = c }) (sym (kept_none i.ctxt))
+unmarked_stays a standing.Label env i h = ap (λ c. record i { ctxt = c }) (sym (kept_none i.ctxt))
+unmarked_stays a standing.Imported env i h = ap (λ c. record i { ctxt = c }) (sym (kept_none i.ctxt))
+unmarked_stays a standing.Exported env i h = ap (λ c. record i { ctxt = c }) (sym (kept_none i.ctxt))
 unmarked_stays a _ env i h = absurd (cc)
 
 module _ (a : Marking) where

@@ -105,6 +105,9 @@ with_has w standing.Reference q = none_way w q
 with_has w standing.Body q = none_way w q
 with_has w standing.Branch q = none_way w q
 with_has w standing.DefaultExport q = none_way w q
+with_has w standing.Label q = none_way w q
+with_has w standing.Imported q = none_way w q
+with_has w standing.Exported q = none_way w q
 
 -- ways of one number are one
 way_of : ℕ → Standing
@@ -137,6 +140,9 @@ numbered standing.Reference = inl refl
 numbered standing.Body = inl refl
 numbered standing.Branch = inl refl
 numbered standing.DefaultExport = inl refl
+numbered standing.Label = inl refl
+numbered standing.Imported = inl refl
+numbered standing.Exported = inl refl
 
 pub one_way : (r q : Standing) → IsTrue (is_way r q) → r ≡ q
 one_way r q h =

@@ -141,6 +141,9 @@ abbrev pub is_marked : Standing → Bool
 is_marked standing.Plain = false
 is_marked standing.Branch = false
 is_marked standing.DefaultExport = false
+is_marked standing.Label = false
+is_marked standing.Imported = false
+is_marked standing.Exported = false
 is_marked _ = true
 
 -- the context of an identifier that had none
@@ -152,6 +155,9 @@ fresh_context a standing.SloppyFunction x env = mark_at a (function_owner_in a.t
 fresh_context a standing.Plain x env = []
 fresh_context a standing.Branch x env = []
 fresh_context a standing.DefaultExport x env = []
+fresh_context a standing.Label x env = []
+fresh_context a standing.Imported x env = []
+fresh_context a standing.Exported x env = []
 fresh_context a r x env = mark_at a (taker_in r env) ∷ []
 
 abbrev pub kept_or : List ℕ → List ℕ → List ℕ

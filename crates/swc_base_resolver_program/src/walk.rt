@@ -158,7 +158,12 @@ fn gets_mark(standing: Standing) -> bool
 {
     !matches!(
         standing,
-        Standing::Plain | Standing::Branch | Standing::DefaultExport
+        Standing::Plain
+            | Standing::Label
+            | Standing::Imported
+            | Standing::Exported
+            | Standing::Branch
+            | Standing::DefaultExport
     )
 }
 
@@ -179,7 +184,12 @@ fn mark_of(standing: Standing, name: &str, answers: &Answers, env: &Env) -> Opti
             answers,
             function_owner(env, &answers.declarations, name),
         )),
-        Standing::Plain | Standing::Branch | Standing::DefaultExport => None,
+        Standing::Plain
+        | Standing::Label
+        | Standing::Imported
+        | Standing::Exported
+        | Standing::Branch
+        | Standing::DefaultExport => None,
         _ => Some(mark_at(answers, taker(env, standing))),
     }
 }

@@ -4,6 +4,8 @@ use Rattle.swc_tree_node.specs.declared.kind.Kind.{Kind}
 use Rattle.swc_tree_node.specs.declared.slot.Role.{Role}
 use Rattle.swc_tree_node.specs.declared.slot.Role.TheVariants as role
 use Rattle.swc_tree_node.specs.declared.node.Node.{Node}
+use Rattle.swc_tree_node.specs.declared.fields.modules.named_export.TheConstants as named_export
+use Rattle.swc_tree_node.specs.declared.fields.statements.fn_decl.TheConstants as fn_decl
 use Rattle.swc_tree_scoping.specs.declared.places.Standing.{Standing}
 use Rattle.swc_tree_scoping.specs.declared.places.Standing.TheVariants as standing
 use Rattle.swc_tree_scoping.specs.declared.places.Place.{Place}
@@ -29,7 +31,9 @@ standing_by f i role.Import = standing.Import
 standing_by f i role.Lexical = standing.Lexical
 standing_by f i role.FunctionBody = standing.Body
 standing_by f i role.ExportLocal = f.exported
-standing_by f i _ = standing.Plain
+standing_by f i role.Label = standing.Label
+standing_by f i role.Imported = standing.Imported
+standing_by f i role.Exported = standing.Exported
 
 abbrev pub standing_beside : Fields → ℕ → Standing
 standing_beside f i = standing_by f i (field_role f.kind i)
@@ -61,6 +65,6 @@ fields_are w k ts = record {
   opened = opened_as w k (is_there (slice_get ts 0));
   strict = is_strict k ts;
   keyword = by_keyword ts;
-  function = function_standing w (is_plain_function (slice_get ts 1));
-  exported = if is_there (slice_get ts 2) then standing.Plain else standing.Reference;
+  function = function_standing w (is_plain_function (slice_get ts fn_decl.FUNCTION));
+  exported = if is_there (slice_get ts named_export.SRC) then standing.Imported else standing.Reference;
 }

@@ -18,9 +18,15 @@ use Rattle.swc_tree_node.specs.declared.fields.functions.function.TheConstants a
 use Rattle.swc_tree_node.specs.declared.fields.functions.getter_prop.TheConstants as getter_prop
 use Rattle.swc_tree_node.specs.declared.fields.functions.setter_prop.TheConstants as setter_prop
 use Rattle.swc_tree_node.specs.declared.fields.leaves.str.TheConstants as str
+use Rattle.swc_tree_node.specs.declared.fields.modules.export_default_decl.TheConstants as export_default_decl
+use Rattle.swc_tree_node.specs.declared.fields.modules.named_export.TheConstants as named_export
 use Rattle.swc_tree_node.specs.declared.fields.modules.script.TheConstants as script
 use Rattle.swc_tree_node.specs.declared.fields.statements.block_stmt.TheConstants as block_stmt
+use Rattle.swc_tree_node.specs.declared.fields.statements.catch_clause.TheConstants as catch_clause
 use Rattle.swc_tree_node.specs.declared.fields.statements.expr_stmt.TheConstants as expr_stmt
+use Rattle.swc_tree_node.specs.declared.fields.statements.fn_decl.TheConstants as fn_decl
+use Rattle.swc_tree_node.specs.declared.fields.statements.if_stmt.TheConstants as if_stmt
+use Rattle.swc_tree_node.specs.declared.fields.statements.switch_stmt.TheConstants as switch_stmt
 use Rattle.swc_tree_node.specs.Table.{fields_of}
 use Rattle.swc_tree_scoping.specs.declared.places.Standing.{Standing}
 use Rattle.swc_tree_scoping.specs.declared.places.Standing.TheVariants as standing
@@ -55,9 +61,9 @@ abbrev pub keyword_in : Node-F Node → Standing → Standing
 keyword_in (Node-F.Word w) rest = by_word w
 keyword_in _ rest = rest
 
--- what the keyword among a declaration's fields makes of its names
+-- what the keyword among a declaration's fields makes of its names; without one they are lexical
 abbrev pub by_keyword : List Node → Standing
-by_keyword [] = standing.Plain
+by_keyword [] = standing.Lexical
 by_keyword (t ∷ ts) = keyword_in (out-Node t) (by_keyword ts)
 
 abbrev pub absent_in : Node-F Node → Bool
@@ -190,19 +196,19 @@ opened w t = opened_in w (out-Node t)
 
 -- the field that stands outside of the scope that the node opens: a key, or the discriminant of a `switch`
 abbrev pub outer_field : Kind → Option ℕ
-outer_field kind.Constructor = Some 1
-outer_field kind.GetterProp = Some 1
-outer_field kind.SetterProp = Some 1
-outer_field kind.SwitchStmt = Some 1
+outer_field kind.Constructor = Some constructor.KEY
+outer_field kind.GetterProp = Some getter_prop.KEY
+outer_field kind.SetterProp = Some setter_prop.KEY
+outer_field kind.SwitchStmt = Some switch_stmt.DISCRIMINANT
 outer_field _ = None
 
 -- the parameters of a function or a catch clause
 abbrev pub parameter_field : Kind → Option ℕ
-parameter_field kind.Function = Some 1
-parameter_field kind.ArrowExpr = Some 1
-parameter_field kind.Constructor = Some 2
-parameter_field kind.SetterProp = Some 2
-parameter_field kind.CatchClause = Some 1
+parameter_field kind.Function = Some function.PARAMS
+parameter_field kind.ArrowExpr = Some arrow_expr.PARAMS
+parameter_field kind.Constructor = Some constructor.PARAMS
+parameter_field kind.SetterProp = Some setter_prop.PARAM
+parameter_field kind.CatchClause = Some catch_clause.PARAM
 parameter_field _ = None
 
 abbrev pub is_at : Option ℕ → ℕ → Bool
@@ -263,10 +269,10 @@ own_name standing.DefaultExport _ = standing.Lexical
 own_name _ kind.FnExpr = standing.FunctionName
 own_name _ _ = standing.ClassName
 
--- what stands in a field that holds no names of itself
+-- what stands in a field that holds no names
 abbrev pub plain_standing : Kind → ℕ → Standing
-plain_standing kind.IfStmt i = if i == 2 || i == 3 then standing.Branch else standing.Plain
-plain_standing kind.ExportDefaultDecl i = if i == 1 then standing.DefaultExport else standing.Plain
+plain_standing kind.IfStmt i = if i == if_stmt.CONS || i == if_stmt.ALT then standing.Branch else standing.Plain
+plain_standing kind.ExportDefaultDecl i = if i == export_default_decl.DECL then standing.DefaultExport else standing.Plain
 plain_standing _ i = standing.Plain
 
 abbrev pub field_role : Kind → ℕ → Role
@@ -278,7 +284,7 @@ standing_below w k ts i role.Plain = plain_standing k i
 standing_below w k ts i role.Inherited = w.standing
 standing_below w k ts i role.Reference = standing.Reference
 standing_below w k ts i role.Declared = by_keyword ts
-standing_below w k ts i role.Function = function_standing w (is_plain_function (slice_get ts 1))
+standing_below w k ts i role.Function = function_standing w (is_plain_function (slice_get ts fn_decl.FUNCTION))
 standing_below w k ts i role.Class = standing.Lexical
 standing_below w k ts i role.OwnName = own_name w.standing k
 standing_below w k ts i role.Parameter = standing.Parameter
@@ -286,8 +292,10 @@ standing_below w k ts i role.Catch = standing.CatchParameter
 standing_below w k ts i role.Import = standing.Import
 standing_below w k ts i role.Lexical = standing.Lexical
 standing_below w k ts i role.FunctionBody = standing.Body
-standing_below w k ts i role.ExportLocal = if is_there (slice_get ts 2) then standing.Plain else standing.Reference
-standing_below w k ts i _ = standing.Plain
+standing_below w k ts i role.ExportLocal = if is_there (slice_get ts named_export.SRC) then standing.Imported else standing.Reference
+standing_below w k ts i role.Label = standing.Label
+standing_below w k ts i role.Imported = standing.Imported
+standing_below w k ts i role.Exported = standing.Exported
 
 -- the place of a child of a node
 abbrev pub place_in : Place → Node-F Node → ℕ → Place

@@ -7,6 +7,7 @@ ghost use Rattle.swc_tree_scoping.specs.Places.{by_keyword, by_word, field_role,
 use crate::directives::{is_plain_function, is_strict};
 use crate::opened::{is_inside, is_there, nests, opened_by, own_block, view_from};
 use crate::places::{Place, Scope, Standing, View};
+use swc_tree_node::fields::{export_default_decl, fn_decl, if_stmt, named_export};
 use swc_tree_node::{Kind, Node, Role, Word, fields_of};
 
 /// The place of a whole program.
@@ -97,7 +98,9 @@ impl Fields {
             Role::Import => Standing::Import,
             Role::FunctionBody => Standing::Body,
             Role::ExportLocal => self.exported,
-            Role::Label | Role::Imported | Role::Exported => Standing::Plain,
+            Role::Label => Standing::Label,
+            Role::Imported => Standing::Imported,
+            Role::Exported => Standing::Exported,
         }
     }
 }
@@ -120,8 +123,8 @@ pub fn places_of_fields(place: Place, kind: Kind, fields: &[Node]) -> PlacesBelo
         opened: opened_by(place, kind, is_there(fields, 0)),
         strict: is_strict(kind, fields),
         keyword: keyword_standing(fields),
-        function: function_standing(place, is_plain_function(fields, 1)),
-        exported: exported_standing(is_there(fields, 2)),
+        function: function_standing(place, is_plain_function(fields, fn_decl::FUNCTION)),
+        exported: exported_standing(is_there(fields, named_export::SRC)),
     })
 }
 
@@ -139,8 +142,8 @@ fn plain_standing(kind: Kind, index: usize) -> Standing
     ensures { result ≡ stands_plain kind index }
 {
     match kind {
-        Kind::IfStmt if index == 2 || index == 3 => Standing::Branch,
-        Kind::ExportDefaultDecl if index == 1 => Standing::DefaultExport,
+        Kind::IfStmt if index == if_stmt::CONS || index == if_stmt::ALT => Standing::Branch,
+        Kind::ExportDefaultDecl if index == export_default_decl::DECL => Standing::DefaultExport,
         _ => Standing::Plain,
     }
 }
@@ -157,10 +160,10 @@ fn own_name(standing: Standing, kind: Kind) -> Standing
 }
 
 fn exported_standing(has_source: bool) -> Standing
-    ensures { result ≡ (if has_source then Standing.Plain else Standing.Reference) }
+    ensures { result ≡ (if has_source then Standing.Imported else Standing.Reference) }
 {
     if has_source {
-        Standing::Plain
+        Standing::Imported
     } else {
         Standing::Reference
     }
@@ -197,7 +200,7 @@ fn keyword_standing(fields: &[Node]) -> Standing
             return standing_of_word(*word);
         }
     }
-    Standing::Plain
+    Standing::Lexical
 }
 
 fn standing_of_word(word: Word) -> Standing

@@ -3,6 +3,9 @@ ghost use Rattle.std.specs.Prelude.{◌≡◌, slice_get};
 ghost use Rattle.swc_tree_scoping.specs.Places.{is_inside as is_in, is_there as stands_there, block_scope as of_block, name_scope as of_name, nests as makes_nested, opened_as, outer_field as outside, parameter_field as parameters, own_block as has_own_block, view_from as seen_from};
 
 use crate::places::{Place, Scope, Standing, View};
+use swc_tree_node::fields::{
+    arrow_expr, catch_clause, constructor, function, getter_prop, setter_prop, switch_stmt,
+};
 use swc_tree_node::{Kind, Node};
 
 /// Whether something stands in a field.
@@ -82,7 +85,10 @@ fn outer_field(kind: Kind) -> Option<usize>
     ensures { result ≡ outside kind }
 {
     match kind {
-        Kind::Constructor | Kind::GetterProp | Kind::SetterProp | Kind::SwitchStmt => Some(1),
+        Kind::Constructor => Some(constructor::KEY),
+        Kind::GetterProp => Some(getter_prop::KEY),
+        Kind::SetterProp => Some(setter_prop::KEY),
+        Kind::SwitchStmt => Some(switch_stmt::DISCRIMINANT),
         _ => None,
     }
 }
@@ -91,8 +97,11 @@ fn parameter_field(kind: Kind) -> Option<usize>
     ensures { result ≡ parameters kind }
 {
     match kind {
-        Kind::Function | Kind::ArrowExpr | Kind::CatchClause => Some(1),
-        Kind::Constructor | Kind::SetterProp => Some(2),
+        Kind::Function => Some(function::PARAMS),
+        Kind::ArrowExpr => Some(arrow_expr::PARAMS),
+        Kind::Constructor => Some(constructor::PARAMS),
+        Kind::SetterProp => Some(setter_prop::PARAM),
+        Kind::CatchClause => Some(catch_clause::PARAM),
         _ => None,
     }
 }

@@ -3,8 +3,14 @@
 /// As what a node stands: how an identifier there is bound, or that it is a reference.
 #[derive(Clone, Copy, Debug, PartialEq, Eq)]
 pub enum Standing {
-    /// As nothing that scopes ask for; an identifier is a label, a key or a name of another module.
+    /// As nothing that holds a name.
     Plain,
+    /// As a label.
+    Label,
+    /// As the name under which another module exports what is imported, or exported again.
+    Imported,
+    /// As the name under which something is exported.
+    Exported,
     /// As an expression or a target: an identifier is a reference.
     Reference,
     /// Names that `var` declares.
