@@ -162,7 +162,7 @@ plain_at : (ds : Drawings) (i : ℕ) → is_plain_function (slice_get (draws ds)
 plain_at ds i = ap is_plain_function (get_is ds i) ∙ plain_is (get ds i)
 
 abbrev keyword : Drawings → Standing
-keyword end = standing.Plain
+keyword end = standing.Lexical
 keyword (next d ds) = keyword_in (layer d) (keyword ds)
 
 keyword_is : (ds : Drawings) → by_keyword (draws ds) ≡ keyword ds
@@ -275,7 +275,7 @@ fields_drawn w k ds = record {
   strict = strict_kind k;
   keyword = keyword ds;
   function = function_standing w (plain (get ds 1));
-  exported = if there (get ds 2) then standing.Plain else standing.Reference;
+  exported = if there (get ds 2) then standing.Imported else standing.Reference;
 }
 
 fields_is : (w : Place) (k : Kind) (ds : Drawings) → fields_are w k (draws ds) ≡ fields_drawn w k ds
@@ -286,7 +286,7 @@ fields_is w k ds = λ j. record {
   strict = strict_is k ds j;
   keyword = keyword_is ds j;
   function = function_standing w (plain_at ds 1 j);
-  exported = if there_at ds 2 j then standing.Plain else standing.Reference;
+  exported = if there_at ds 2 j then standing.Imported else standing.Reference;
 }
 
 -- places and scopes

@@ -1,0 +1,16 @@
+//! What giving names anew keeps, said apart from how it is done.
+//!
+//! `specs/Laws.antt` states the laws. Each is the contract of a function that does nothing, so that it is proved.
+#![tactic(auto)]
+
+ghost use Rattle.swc_base_rename_laws.specs.Laws.{EmptyMapChangesNothing, KeptTextsChangeNothing};
+
+/// A map without names changes nothing.
+pub fn empty_map_changes_nothing()
+    ensures { EmptyMapChangesNothing }
+{}
+
+/// A map that gives each id its own text changes nothing.
+pub fn kept_texts_change_nothing()
+    ensures { KeptTextsChangeNothing }
+{}
