@@ -18,10 +18,13 @@ def changes_of(new_ids):
 
 def fresh_maps(t):
     """maps from ids to new ids with texts that the tree has not, one to one: of all ids, of the marked ones, of the
-    others"""
-    ids = ids_of(t)
-    for wanted in (lambda i: True, lambda i: i[1] != (), lambda i: i[1] == ()):
-        yield {i: (js.codes('n%d' % number), ()) for number, i in enumerate(ids) if wanted(i)}
+    others; each map once"""
+    new_ids = {i: (js.codes('n%d' % number), ()) for number, i in enumerate(ids_of(t))}
+    marked = {i: new for i, new in new_ids.items() if i[1] != ()}
+    yield new_ids
+    if 0 < len(marked) < len(new_ids):
+        yield marked
+        yield {i: new for i, new in new_ids.items() if i[1] == ()}
 
 
 @law(writable_tree)
