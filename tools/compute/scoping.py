@@ -28,6 +28,9 @@ IN_BLOCKS = {'BlockFunction', 'SloppyFunction'}
 
 
 def digest(path):
+    """the SHA-256 of a file; None where there is none"""
+    if not os.path.exists(path):
+        return None
     with open(path, 'rb') as file:
         return hashlib.sha256(file.read()).hexdigest()
 
@@ -35,7 +38,7 @@ def digest(path):
 def check_sources(checkout):
     """warns of each file that has changed since this was written; the names of those"""
     root = os.path.join(checkout, 'crates', 'swc_tree_scoping', 'specs')
-    changed = [name for name, known in SOURCES.items() if not os.path.exists(os.path.join(root, name)) or digest(os.path.join(root, name)) not in known]
+    changed = [name for name, known in SOURCES.items() if digest(os.path.join(root, name)) not in known]
     for name in changed:
         print('warning: crates/swc_tree_scoping/specs/%s has changed since scoping.py was written' % name, file=sys.stderr)
     return changed

@@ -4,7 +4,8 @@ import random as chance
 import js
 import scoping
 import trees
-from lawbook import (Bad, D, any_tree, bound_ids, clean_module, clean_program, expressions_as_names, identity, is_module, is_name, kind, law, same, well_scoped_module)
+from lawbook import (Bad, D, any_tree, bound_ids, clean_module, clean_program, expressions_as_names, identity, is_module, is_name, kind,
+                     law, same, well_scoped_module)
 from trees import at, paths
 
 

@@ -101,6 +101,12 @@ def renamed_fits_its_place(t):
     return True
 
 
+def places_below(keeps, place, t, i):
+    """the place of a node's field"""
+    places = definition('swc_base_rename_substitution.Places.places', 'swc_base_rename_substitution.Substituted.places')
+    return places(keeps, place, t[1], t[2], i)
+
+
 def substitution_places(t, keeps, place='Other', path=()):
     """(path, place) of each identifier, as the substitution sees it"""
     if t[0] == 'Identifier':
@@ -110,8 +116,7 @@ def substitution_places(t, keeps, place='Other', path=()):
             yield from substitution_places(child, keeps, place, path + (i,))
     elif t[0] == 'Tree':
         for i, child in enumerate(t[2]):
-            below = definition('swc_base_rename_substitution.Places.places', 'swc_base_rename_substitution.Substituted.places')(keeps, place, t[1], t[2], i)
-            yield from substitution_places(child, keeps, below, path + (i,))
+            yield from substitution_places(child, keeps, places_below(keeps, place, t, i), path + (i,))
 
 
 @law(expressions_as_names)
@@ -133,7 +138,9 @@ def names_are_those_of_scoping(t):
 def exported_expressions(random, size):
     """modules with exported declarations, in whose patterns identifier expressions stand too"""
     kinds = ('Ident', 'ParenExpr')
-    return random.favouring(kinds, lambda: random.exporting(size)) if random.chance(0.7) else random.wild_with(kinds + ('ExportDecl', 'VarDecl'), size)
+    if random.chance(0.7):
+        return random.favouring(kinds, lambda: random.exporting(size))
+    return random.wild_with(kinds + ('ExportDecl', 'VarDecl'), size)
 
 
 @law(exported_expressions)
@@ -157,7 +164,8 @@ def exports_bind_what_scoping_binds(t):
 def below_initialiser(t, above, path):
     """the way to the path goes through an expression or a body, where `var` may stand"""
     steps = [(at(t, path[:n]), path[n]) for n in range(len(above), len(path))]
-    return any(kind(node) in ('Function', 'Class') or kind(node) in ('VarDeclarator', 'AssignPat', 'AssignPatProp') and field == 2 for node, field in steps)
+    with_value = ('VarDeclarator', 'AssignPat', 'AssignPatProp')
+    return any(kind(node) in ('Function', 'Class') or kind(node) in with_value and field == 2 for node, field in steps)
 
 
 @law(exports)
