@@ -67,19 +67,31 @@ def answer(question, defs, t):
         return repr(error)
 
 
+def can_be_asked(question, *checkouts):
+    """each of the checkouts has the definitions that the question is about"""
+    try:
+        for defs in checkouts:
+            QUESTIONS[question](defs, js.module(''))
+    except AttributeError as error:
+        print('%-34s not asked: %s' % (question, error))
+        return False
+    return True
+
+
 def differs(question, one, other, t):
     return answer(question, one, t) != answer(question, other, t)
 
 
 def compared(one, other, options):
     random, found, made, end = random_trees.Random(options.seed), {}, 0, time.time() + options.seconds
+    questions = [question for question in QUESTIONS if can_be_asked(question, one, other)]
     while made < options.trees and time.time() < end:
         t = random.pick(SOURCES)(random, 2 + options.biggest * made // options.trees)
         made += 1
-        for question in QUESTIONS:
+        for question in questions:
             if differs(question, one, other, t):
                 found.setdefault(question, []).append(t)
-    for question in QUESTIONS:
+    for question in questions:
         bad = found.get(question, [])
         print('%-34s %6d trees, %s' % (question, made, 'DIFFERS for %d' % len(bad) if bad else 'one answer'), flush=True)
         if bad:
