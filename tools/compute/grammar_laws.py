@@ -3,7 +3,7 @@ import js
 import scoping
 import trees
 from lawbook import (Bad, D, any_tree, declared_ids, fits_grammar, fits_place, fixed, identifiers, identity, in_pair, is_module, is_name,
-                     is_writable, kids, kind, law, normal_form, of_kind, same, stripped, with_text, word, writable_module, writable_tree)
+                     is_writable, kids, kind, law, normal_form, of_kind, same, stripped, with_text, word, writable_tree)
 from trees import at, paths
 
 LITERALS = {'Str', 'Bool', 'Null', 'Number', 'BigInt', 'Regex'}
@@ -88,9 +88,24 @@ def is_for_readers(t, path):
         return inner == 'AwaitExpr'
     if place == 'ArrowExpr' and field == 2:
         return inner == 'AssignExpr' and kind(content[2][2]) == 'ArrayPat'
-    if above[0] == 'List' and len(path) > 3 and kind(at(t, path[:-2])) == 'SeqExpr' and kind(at(t, path[:-3])) == 'ExprStmt' and field < len(above[1]) - 1:
+    is_item = above[0] == 'List' and len(path) > 3 and kind(at(t, path[:-2])) == 'SeqExpr' and kind(at(t, path[:-3])) == 'ExprStmt'
+    if is_item and field < len(above[1]) - 1:
         return inner in ('ObjectLit', 'ClassExpr') or inner == 'AssignExpr' and kind(content[2][2]) == 'ObjectPat'
     return False
+
+
+@law(writable_tree)
+def readers_table_is_that_by_hand(t):
+    """the definition of pairs that stand for a reader names those that the table written by hand names (where the
+    checkout has one)"""
+    if not hasattr(D.grammar.Needed, 'is_for_reader') or not is_writable(t):
+        return None
+    answer = fixed(t)
+    found = [(tree, path) for tree in (t, answer) for path in of_kind(tree, 'ParenExpr')]
+    for tree, path in found:
+        if D.grammar.Needed.is_for_reader(tree, path) != is_for_readers(tree, path):
+            return Bad('by hand', str(is_for_readers(tree, path)), 'for', at(tree, path), 'in', tree)
+    return True if found else None
 
 
 @law(any_tree)

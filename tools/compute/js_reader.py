@@ -467,8 +467,9 @@ class Expressions(Names):
         key, marks = self.property_name(), self.last_context
         if accessor:
             parameters, body = self.parameters(), self.block()
-            span = self.span(start)
-            return made('GetterProp', span, key=key, body=body) if accessor == 'get' else made('SetterProp', span, key=key, param=parameters[0].pat, body=body)
+            if accessor == 'get':
+                return made('GetterProp', self.span(start), key=key, body=body)
+            return made('SetterProp', self.span(start), key=key, param=parameters[0].pat, body=body)
         if self.is_sign('('):
             return made('MethodProp', key=key, function=self.function(start, is_generator, is_async))
         if self.take_sign(':'):
@@ -505,7 +506,8 @@ class Expressions(Names):
                 return made('Constructor', self.span(start), key=key, params=parameters, body=body)
             function = self.function(start, is_generator, is_async)
             word = accessor + 'ter' if accessor else 'method'
-            return made('PrivateMethod' if is_private else 'ClassMethod', self.span(start), key=key, function=function, kind=word, is_static=is_static)
+            kind = 'PrivateMethod' if is_private else 'ClassMethod'
+            return made(kind, self.span(start), key=key, function=function, kind=word, is_static=is_static)
         value = self.assignment() if self.take_sign('=') else None
         self.take_sign(';')
         return made('PrivateProp' if is_private else 'ClassProp', self.span(start), key=key, value=value, is_static=is_static)

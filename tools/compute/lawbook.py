@@ -30,6 +30,27 @@ def load(checkout):
     return scoping.check_sources(checkout)
 
 
+def definition(*paths):
+    """the first of some definitions, CRATE.MODULE.NAME, that the checkout has"""
+    for path in paths:
+        found = D.all
+        for part in path.split('.'):
+            found = getattr(found, part, None)
+        if found is not None:
+            return found
+    raise AttributeError('none of the definitions %s' % ', '.join(paths))
+
+
+def bound_ids(pattern):
+    """the ids that a pattern binds, in order: what `find_pat_ids` answers"""
+    return list(definition('swc_tree_scoping.BoundNames.bound_ids', 'swc_tree_ext.BoundIds.bound_ids')(pattern))
+
+
+def declaration_ids(declaration):
+    """the ids that a declaration binds, in order, as exports have them"""
+    return list(definition('swc_tree_scoping.BoundNames.declared_ids', 'swc_base_rename_substitution.Exports.bound_ids')(declaration))
+
+
 class Bad:
     """what went wrong: words and trees"""
     def __init__(self, *parts):

@@ -30,7 +30,9 @@ WRITTEN = [
     '(async) => a; new (a()?.b).c();', 'for ((a in b) ? a in b : () => (a in b);;) ;', 'if (a) { if (b) c; } else d;',
     'x = (function() {})(), {}.a;', 'import { a as b } from "m"; export { b as c }; var { __proto__ } = b;',
     'export { a as b } from "m"; var a, b;', '({ set a(...b) {} });', 'a: for (;;) continue a; export { c as a }; var c;',
-    'var __proto__, a; ({ __proto__, a });', 'try {} catch (a) { var a; }', '{ function f() {} } f;', 'switch (a) { case 0: let a; }', 'function f(a, b = a) { var a; }']
+    'var __proto__, a; ({ __proto__, a });', 'try {} catch (a) { var a; }', '{ function f() {} } f;', 'switch (a) { case 0: let a; }',
+    'function f(a, b = a) { var a; }', 'function f(a = b) { var b; }', 'switch (b) { case 0: let b; }', 'class a extends a {} (class b extends b {});',
+    '{ let a; { function a() {} } } a;', 'if (a) function b() {} b;', 'try {} catch ({ a = b }) { let b; }']
 FEWEST, BIGGEST = 2, 40
 
 

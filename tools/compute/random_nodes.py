@@ -15,6 +15,8 @@ SCOPED_EXPRESSIONS = ['Ident', 'Ident', 'Ident', 'ArrowExpr', 'FnExpr', 'ClassEx
 OPERATORS = ['In', 'Exp', 'NullishCoalescing', 'LogicalOr', 'LogicalAnd', 'InstanceOf', 'EqEq']
 POOLS = [['a', 'b'], ['a', 'b', 'c'], ['a'], ['a', 'f', 'undefined'], ['a', 'b', 'async', 'of', '__proto__']]
 ODD = ['let', 'eval', 'arguments', 'async', 'of', 'using', '__proto__', 'static', 'get', 'await', 'yield']
+ASSIGNING = {'AssignExpr', 'ForInStmt', 'ForOfStmt'}
+PATTERNS = {'ArrayPat', 'ObjectPat', 'RestPat', 'KeyValuePatProp', 'AssignPat'}
 TEXTS = {'text': ['1'], 'exp': ['x'], 'flags': ['g'], 'value': ['a', 's', 'use strict']}
 
 # where a node is made: how many levels it may have, the kind of the node above and its field, and whether it is a part
@@ -228,7 +230,7 @@ class Nodes(Parts):
             return self.named_export()
         make = self.CAREFUL.get(kind) if is_careful else None
         given = make(self, where, parent) if make else {}
-        assigns = kind in ('AssignExpr', 'ForInStmt', 'ForOfStmt') or assigned and kind in ('ArrayPat', 'ObjectPat', 'RestPat', 'KeyValuePatProp', 'AssignPat')
+        assigns = kind in ASSIGNING or assigned and kind in PATTERNS
         return self.tree(kind, [
             given[name] if name in given else self.field(slot, Where(depth - 1, kind, name, assigns)) for name, slot, _ in js.FIELDS[kind]])
 

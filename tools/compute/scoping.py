@@ -4,28 +4,52 @@ Each function has the name of its definition and takes a `Program` where the def
 specs define as functions (places, what a scope takes, readings) is taken from the translation, not written again.
 A name is a tuple of numbers, a scope is the path of the node that opens it, None is `None`.
 """
-import hashlib, os, sys
+import hashlib
+import os
+import sys
 
-# the files that this was made from
+# the files that this was made from, by their SHA-256; two of a file say the same in other words
 SOURCES = {
-    'Places.antt': '0e4ec10ed9459289c3645730d9c14abba9524814561d7b1a21b17ddba0bb25c5',
-    'Scopes.antt': 'ec39eee61be8efcce1d48797459348961436a0b21179bdec21512f68230e011d',
-    'Readings.antt': 'e42782d078cabab8d29dae5f62e637a5a76060a93e6fd222b53dee65a055db4a',
-    'Declares.antt': 'de9fc5b5a724a1b7a83c72726034572c44a65f08c373f1964b7e08314f5054e8',
-    'Resolved.antt': 'd6e97cc359fdcffcea821bd0ca540e4eb28520cf78186116fc1b64dfdf206230',
-    'WellScoped.antt': '903daa5b600120c92a11847aebebc0649711e1f9a49b722647620aa5c0cd1c62',
+    'Places.antt': ['0e4ec10ed9459289c3645730d9c14abba9524814561d7b1a21b17ddba0bb25c5',
+                    'f1b0382aaacc2529b9d3752fa470acca897f49b02bc1c52e8cc9caf810368bcf'],
+    'Scopes.antt': ['ec39eee61be8efcce1d48797459348961436a0b21179bdec21512f68230e011d',
+                    'b09b8b1afbef40eb07af31c26473d39daa0f2c23b95dd907e9c30046151b1da4'],
+    'Readings.antt': ['e42782d078cabab8d29dae5f62e637a5a76060a93e6fd222b53dee65a055db4a'],
+    'Declares.antt': ['de9fc5b5a724a1b7a83c72726034572c44a65f08c373f1964b7e08314f5054e8',
+                      'e505400e9837f20e1adef85d651277ff0d1fc9aedce028cca5c1b4a8a57fcfda'],
+    'Resolved.antt': ['d6e97cc359fdcffcea821bd0ca540e4eb28520cf78186116fc1b64dfdf206230',
+                      '1f289ef12e1bdc045ded5c7c6b8babe5baab07e674deeef320e7b701dfa5c3f1'],
+    'WellScoped.antt': ['903daa5b600120c92a11847aebebc0649711e1f9a49b722647620aa5c0cd1c62',
+                        'c6a84fbcc03fa2f61f4b85f335a0b34abf71233f851102f2b31af46c7f497ffa'],
 }
+# what a function in a block may not meet on its way out of blocks, besides other functions in blocks
+STOPPING = {'Lexical', 'Import', 'Parameter', 'CatchParameter'}
+IN_BLOCKS = {'BlockFunction', 'SloppyFunction'}
+
+
+def digest(path):
+    """the SHA-256 of a file; None where there is none"""
+    if not os.path.exists(path):
+        return None
+    with open(path, 'rb') as file:
+        return hashlib.sha256(file.read()).hexdigest()
 
 
 def check_sources(checkout):
     """warns of each file that has changed since this was written; the names of those"""
-    changed = []
-    for name, digest in SOURCES.items():
-        path = os.path.join(checkout, 'crates', 'swc_tree_scoping', 'specs', name)
-        if not os.path.exists(path) or hashlib.sha256(open(path, 'rb').read()).hexdigest() != digest:
-            changed.append(name)
-            print('warning: crates/swc_tree_scoping/specs/%s has changed since scoping.py was written' % name, file=sys.stderr)
+    root = os.path.join(checkout, 'crates', 'swc_tree_scoping', 'specs')
+    changed = [name for name, known in SOURCES.items() if digest(os.path.join(root, name)) not in known]
+    for name in changed:
+        print('warning: crates/swc_tree_scoping/specs/%s has changed since scoping.py was written' % name, file=sys.stderr)
     return changed
+
+
+def defined(defs, name):
+    """a definition of the crate, in whichever of its files it stands"""
+    for module in defs.swc_tree_scoping.__dict__.values():
+        if name in getattr(module, '__dict__', {}):
+            return module.__dict__[name]
+    raise AttributeError('swc_tree_scoping has no translated definition `%s`' % name)
 
 
 class Program:
@@ -33,7 +57,6 @@ class Program:
     def __init__(self, defs, tree):
         self.defs, self.tree = defs, tree
         self.P, self.S = defs.swc_tree_scoping.Places, defs.swc_tree_scoping.Scopes
-        self.D, self.W = defs.swc_tree_scoping.Declares, defs.swc_tree_scoping.WellScoped
         self.at, self.rounds_at, self.scopes, self.identifiers, self.cache = {}, {}, {}, [], {}
         self.walk((), self.P.program_place, tree, ())
         self.bound = {}
@@ -53,6 +76,9 @@ class Program:
         for i, c in enumerate(self.P.children_in(t)):
             seen = tuple((path, whole) for _, whole in self.S.seen_as(opened, self.S.view_in(t, i)))
             self.walk(path + (i,), self.P.place_below(place, t, i), c, seen + round_it)
+
+    def defined(self, name):
+        return self.kept(('defined', name), lambda: defined(self.defs, name))
 
     def standing(self, p):
         return self.at[p][0].standing
@@ -104,17 +130,30 @@ def BoundAs(t, ways, s, name):
     return any(ways(r) for r, _ in t.bound.get((s, name), ()))
 
 
-def Passes(t, name, ss):
+def PassesNone(t, ways, name, ss):
     for s, _ in ss:
-        if BoundAs(t, t.D.stops_or_function, s, name):
-            return False
         if takes(t, 'Variable', s):
             return True
+        if BoundAs(t, ways, s, name):
+            return False
     return True
 
 
+def stops_in_block(r):
+    return r in STOPPING
+
+
+def stops(r):
+    return r in STOPPING or r in IN_BLOCKS
+
+
+def hoists(t, b, name):
+    s = variable_scope(t, b)
+    return not BoundAs(t, stops_in_block, b, name) and PassesNone(t, stops, name, rounds(t, b)) and (s is None or not BoundAs(t, stops, s, name))
+
+
 def Hoists(t, b, name):
-    return t.kept(('Hoists', b, name), lambda: not BoundAs(t, t.D.stops, b, name) and Passes(t, name, rounds(t, b)))
+    return t.kept(('Hoists', b, name), lambda: hoists(t, b, name))
 
 
 def Hoisted(t, s, name):
@@ -124,13 +163,21 @@ def Hoisted(t, s, name):
 
 
 def Declares(t, s, name):
-    return BoundAs(t, t.D.is_settled, s, name) \
+    return BoundAs(t, t.defined('is_settled'), s, name) \
         or (bool(Bound(t, s, 'SloppyFunction', name)) and not Hoists(t, s, name)) or Hoisted(t, s, name)
 
 
-def DeclaresFor(t, name, round):
-    s, whole = round
-    return Declares(t, s, name) if whole else BoundAs(t, t.D.is_parameter, s, name)
+def DeclaredBy(t, p, r, name):
+    """the scope that declares what is bound at the path"""
+    b = taker(t, r, p)
+    if r == 'SloppyFunction' and b is not None and Hoists(t, b, name):
+        return variable_scope(t, p)
+    return b
+
+
+def DeclaresFor(t, name, seen):
+    s, whole = seen
+    return Declares(t, s, name) if whole else BoundAs(t, t.defined('is_parameter'), s, name)
 
 
 def Means(t, p, name):
@@ -146,27 +193,22 @@ def IsUncaught(t, p, name):
 
 
 def DeclaresOtherwise(t, s, name):
-    return BoundAs(t, t.D.is_no_variable, s, name) or Hoisted(t, s, name) \
+    return BoundAs(t, t.defined('is_no_variable'), s, name) or Hoisted(t, s, name) \
         or any(IsUncaught(t, p, name) for p in Bound(t, s, 'Variable', name))
 
 
 # ---- Resolved
 def meaning_of_context(t, p, name, r):
     """`HasContext`: ('unresolved',), ('scope', s) or None for the empty context"""
-    R = t.defs.swc_tree_scoping.Resolved
-    if r in ('Reference', 'Body'):
-        m = Means(t, p, name)
-        m = R.own_meaning(t.tree, name, None if m is None else (m,))
-        return ('unresolved',) if m is None else ('scope', m[0])
-    if r == 'Variable':
-        f = variable_scope(t, p)
-        return ('scope', Meets(t, p, name) if DeclaresOtherwise(t, f, name) else f)
-    if r == 'SloppyFunction':
-        b = taker(t, r, p)
-        return ('scope', variable_scope(t, p) if Hoists(t, b, name) else b)
-    if r in ('Lexical', 'Function', 'BlockFunction', 'Parameter', 'CatchParameter', 'Import', 'FunctionName', 'ClassName'):
-        return ('scope', taker(t, r, p))
-    return None
+    if t.S.is_reference(r):
+        means = Means(t, p, name)
+        meant = t.defined('own_meaning')(t.tree, name, None if means is None else (means,))
+        return ('unresolved',) if meant is None else ('scope', meant[0])
+    if not t.S.is_binding(r):
+        return None
+    s = DeclaredBy(t, p, r, name)
+    caught = Meets(t, p, name) if r == 'Variable' and DeclaresOtherwise(t, s, name) else None
+    return ('scope', s if caught is None else caught)
 
 
 def remarked(contexts, tree, path=()):
@@ -223,14 +265,6 @@ def IsDeclared(t, name):
     return name in t.kept('IsDeclared', lambda: {n for _, _, n in Binds(t)})
 
 
-def DeclaredBy(t, p, r, name):
-    """the scope that declares what is bound at the path"""
-    b = taker(t, r, p)
-    if r == 'SloppyFunction' and b is not None and Hoists(t, b, name):
-        return variable_scope(t, p)
-    return b
-
-
 def InRegion(t, s, name, p):
     return any(q == s and DeclaresFor(t, name, (q, whole)) for q, whole in rounds(t, p))
 
@@ -256,7 +290,7 @@ def ExportsDeclared(t):
 
 
 def IsLexical(t, p, r):
-    return t.W.is_lexical(r) or r == 'Function' and t.W.is_module(t.tree) and taker(t, 'Function', p) == ()
+    return t.defined('is_lexical')(r) or r == 'Function' and t.defined('is_module')(t.tree) and taker(t, 'Function', p) == ()
 
 
 def AreFunctionsOfOneBlock(t, p, r, q, u):
@@ -273,15 +307,6 @@ def NoneTwice(t):
                for g in groups.values() for p, r in g if IsLexical(t, p, r) for q, u in g)
 
 
-def PassesNone(t, ways, name, ss):
-    for s, _ in ss:
-        if takes(t, 'Variable', s):
-            return True
-        if BoundAs(t, ways, s, name):
-            return False
-    return True
-
-
 def NoVariablePasses(t, ways):
     return all(PassesNone(t, ways, n, rounds(t, p)) for p, _, n in Stands(t, 'Variable'))
 
@@ -291,7 +316,7 @@ def IsAt(t, kinds, p):
 
 
 def IsArrowOrMethod(t, f):
-    return IsAt(t, t.W.has_unique_parameters, f) or f != () and IsAt(t, t.W.is_method, f[:-1])
+    return IsAt(t, t.defined('has_unique_parameters'), f) or f != () and IsAt(t, t.defined('is_method'), f[:-1])
 
 
 def NoParameterTwice(t):
@@ -305,11 +330,11 @@ def NoParameterTwice(t):
 
 
 def NoRedeclaration(t):
-    return NoneTwice(t) and NoVariablePasses(t, t.W.is_lexical) and NoParameterTwice(t)
+    return NoneTwice(t) and NoVariablePasses(t, t.defined('is_lexical')) and NoParameterTwice(t)
 
 
 def NoCaughtVariable(t):
-    return NoVariablePasses(t, t.W.is_catch_parameter)
+    return NoVariablePasses(t, t.defined('is_catch_parameter'))
 
 
 def by_ids(defs, tree):
@@ -320,7 +345,7 @@ def by_texts(defs, tree):
     return Program(defs, defs.swc_tree_scoping.Readings.by_texts(tree))
 
 
-def NoneOfStrictCode(defs, tree):
+def NoEvalOrArguments(defs, tree):
     t = by_texts(defs, tree)
     return not IsDeclared(t, tuple(b'eval')) and not IsDeclared(t, tuple(b'arguments'))
 
@@ -338,11 +363,11 @@ WELL_SCOPED = [
     ('exports_declared', lambda d, t: ExportsDeclared(by_ids(d, t))),
     ('no_redeclaration', lambda d, t: NoRedeclaration(by_ids(d, t))),
     ('no_caught_variable', lambda d, t: NoCaughtVariable(by_ids(d, t))),
-    ('none_of_strict_code', NoneOfStrictCode)]
+    ('no_eval_or_arguments', NoEvalOrArguments)]
 NO_EARLY_ERROR = [
     ('exports_declared', lambda d, t: ExportsDeclared(by_texts(d, t))),
     ('no_redeclaration', lambda d, t: NoRedeclaration(by_texts(d, t))),
-    ('none_of_strict_code', NoneOfStrictCode)]
+    ('no_eval_or_arguments', NoEvalOrArguments)]
 
 
 def faults(rules, defs, tree):

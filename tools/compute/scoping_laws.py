@@ -4,7 +4,8 @@ import random as chance
 import js
 import scoping
 import trees
-from lawbook import (Bad, D, any_tree, clean_module, clean_program, expressions_as_names, identity, is_module, is_name, kind, law, same, well_scoped_module)
+from lawbook import (Bad, D, any_tree, bound_ids, clean_module, clean_program, expressions_as_names, identity, is_module, is_name, kind,
+                     law, same, well_scoped_module)
 from trees import at, paths
 
 
@@ -168,8 +169,8 @@ def patterns_bind_what_find_pat_ids_finds(t):
     program = scoping.Program(D.all, t)
     for name_path in found:
         below = [p for p, _, _ in scoping.Binds(program) if p[:len(name_path)] == name_path and not passes_scope(program, name_path, p)]
-        bound = D.ext.BoundIds.bound_ids(at(t, name_path))
-        if [identity(program.identifier(p)) for p in below] != list(bound):
+        bound = bound_ids(at(t, name_path))
+        if [identity(program.identifier(p)) for p in below] != bound:
             return Bad('scoping says', ', '.join(js.text(at(t, p)) for p in below) or 'none', 'find_pat_ids says',
                        ', '.join(js.string(i[0]) for i in bound) or 'none', 'in', at(t, name_path))
     return True

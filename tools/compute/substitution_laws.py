@@ -1,8 +1,8 @@
 """Laws of the substitution of names."""
 import js
 import scoping
-from lawbook import (Bad, D, any_tree, declared_ids, expressions_as_names, fits_place, identifiers, ids_of, identity, is_name, is_writable, kind, law, normal_form,
-                     same, writable_tree)
+from lawbook import (Bad, D, any_tree, declaration_ids, declared_ids, definition, expressions_as_names, fits_place, identifiers, ids_of, identity,
+                     is_name, is_writable, kind, law, normal_form, writable_tree)
 from grammar_laws import exports, is_same
 from trees import at, paths
 
@@ -18,10 +18,13 @@ def changes_of(new_ids):
 
 def fresh_maps(t):
     """maps from ids to new ids with texts that the tree has not, one to one: of all ids, of the marked ones, of the
-    others"""
-    ids = ids_of(t)
-    for wanted in (lambda i: True, lambda i: i[1] != (), lambda i: i[1] == ()):
-        yield {i: (js.codes('n%d' % number), ()) for number, i in enumerate(ids) if wanted(i)}
+    others; each map once"""
+    new_ids = {i: (js.codes('n%d' % number), ()) for number, i in enumerate(ids_of(t))}
+    marked = {i: new for i, new in new_ids.items() if i[1] != ()}
+    yield new_ids
+    if 0 < len(marked) < len(new_ids):
+        yield marked
+        yield {i: new for i, new in new_ids.items() if i[1] == ()}
 
 
 @law(writable_tree)
@@ -98,6 +101,12 @@ def renamed_fits_its_place(t):
     return True
 
 
+def places_below(keeps, place, t, i):
+    """the place of a node's field"""
+    places = definition('swc_base_rename_substitution.Places.places', 'swc_base_rename_substitution.Substituted.places')
+    return places(keeps, place, t[1], t[2], i)
+
+
 def substitution_places(t, keeps, place='Other', path=()):
     """(path, place) of each identifier, as the substitution sees it"""
     if t[0] == 'Identifier':
@@ -107,8 +116,7 @@ def substitution_places(t, keeps, place='Other', path=()):
             yield from substitution_places(child, keeps, place, path + (i,))
     elif t[0] == 'Tree':
         for i, child in enumerate(t[2]):
-            below = D.substitution.Substituted.places(keeps, place, t[1], t[2], i)
-            yield from substitution_places(child, keeps, below, path + (i,))
+            yield from substitution_places(child, keeps, places_below(keeps, place, t, i), path + (i,))
 
 
 @law(expressions_as_names)
@@ -120,8 +128,9 @@ def names_are_those_of_scoping(t):
     program = scoping.Program(D.all, t)
     for keeps in (False, True):
         for path, place in substitution_places(t, keeps):
-            kept = place == 'ClassName' and keeps and kind(at(t, path[:-1])) == 'ClassExpr'
-            if (place != 'Other') != is_name(program.standing(path)) or place == 'ClassName' and not kept:
+            changes = D.substitution.Identifiers.changed(lambda i: (i,), place, at(t, path)[2]) is not None
+            is_kept_name = keeps and kind(at(t, path[:-1])) == 'ClassExpr'
+            if changes != (is_name(program.standing(path)) and not is_kept_name) or (place == 'ClassName') != is_kept_name:
                 return Bad('at', repr(path), at(t, path), 'stands as', program.standing(path), 'and has the place', place)
     return True
 
@@ -129,7 +138,9 @@ def names_are_those_of_scoping(t):
 def exported_expressions(random, size):
     """modules with exported declarations, in whose patterns identifier expressions stand too"""
     kinds = ('Ident', 'ParenExpr')
-    return random.favouring(kinds, lambda: random.exporting(size)) if random.chance(0.7) else random.wild_with(kinds + ('ExportDecl', 'VarDecl'), size)
+    if random.chance(0.7):
+        return random.favouring(kinds, lambda: random.exporting(size))
+    return random.wild_with(kinds + ('ExportDecl', 'VarDecl'), size)
 
 
 @law(exported_expressions)
@@ -144,16 +155,17 @@ def exports_bind_what_scoping_binds(t):
         declaration = at(t, path + (1,))
         bound = [identity(program.identifier(p)) for p, standing, _ in scoping.Binds(program)
                  if p[:len(path)] == path and scoping.taker(program, standing, p) == () and not below_initialiser(t, path, p)]
-        if bound != list(D.substitution.Exports.bound_ids(declaration)):
+        if bound != declaration_ids(declaration):
             return Bad('scoping says', ' '.join(js.string(i[0]) for i in bound) or 'none', 'the exports say',
-                       ' '.join(js.string(i[0]) for i in D.substitution.Exports.bound_ids(declaration)) or 'none', 'in', t)
+                       ' '.join(js.string(i[0]) for i in declaration_ids(declaration)) or 'none', 'in', t)
     return True
 
 
 def below_initialiser(t, above, path):
     """the way to the path goes through an expression or a body, where `var` may stand"""
     steps = [(at(t, path[:n]), path[n]) for n in range(len(above), len(path))]
-    return any(kind(node) in ('Function', 'Class') or kind(node) in ('VarDeclarator', 'AssignPat', 'AssignPatProp') and field == 2 for node, field in steps)
+    with_value = ('VarDeclarator', 'AssignPat', 'AssignPatProp')
+    return any(kind(node) in ('Function', 'Class') or kind(node) in with_value and field == 2 for node, field in steps)
 
 
 @law(exports)
@@ -171,7 +183,7 @@ def export_list_names_each_id_once(t):
         for answer in D.substitution.Exports.exports_of(changes, exported) or ():
             changed = True
             locals_ = [identity(specifier[2][1][2]) for specifier in answer[2][1][1]]
-            wanted = [new_ids.get(i, i) for i in dict.fromkeys(D.substitution.Exports.bound_ids(node[2][1]))]
+            wanted = [new_ids.get(i, i) for i in dict.fromkeys(declaration_ids(node[2][1]))]
             if locals_ != wanted:
                 return Bad('list:', answer, 'of', node)
     return True if changed else None
