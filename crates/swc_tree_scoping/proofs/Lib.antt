@@ -4,3 +4,5 @@ pub mod Remarked
 pub mod First
 pub mod Program
 pub mod NameRows
+pub mod BoundNames
+pub mod PlaceRows
