@@ -42,10 +42,7 @@ pub fn rename(
     ensures new { IfOk result (λ r. r.0 ≡ unwrap_or (changed (new_id names.entry) place ident) ident) }
     ensures old { IfOk result (λ r. r.1 ≡ if_changed (new_id names.entry) place (Some ident)) }
 {
-    if matches!(
-        place,
-        Place::ClassName | Place::Exported | Place::Other
-    ) {
+    if matches!(place, Place::ClassName | Place::Exported | Place::Other) {
         return Ok((ident, None));
     }
     let span = ident.get().span;

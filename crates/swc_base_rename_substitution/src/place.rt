@@ -86,13 +86,25 @@ impl Below {
         match self {
             Below::Items(place) => place,
             Below::Fields(whole, sourced, kind) => {
-                place_below(keeps_classes, whole, sourced, kind, role_of_field(kind, index))
+                place_below(
+                    keeps_classes,
+                    whole,
+                    sourced,
+                    kind,
+                    role_of_field(kind, index),
+                )
             }
             Below::Others(whole, sourced, kind) => {
                 if index == 1 {
                     Place::Other
                 } else {
-                    place_below(keeps_classes, whole, sourced, kind, role_of_field(kind, index))
+                    place_below(
+                        keeps_classes,
+                        whole,
+                        sourced,
+                        kind,
+                        role_of_field(kind, index),
+                    )
                 }
             }
         }

@@ -128,7 +128,14 @@ fn gather_children(
 {
     for i in 0..nodes.len() {
         let env = seen(places.view(i), &*outside, &*parameters, &*whole);
-        gather(alloc, stage, &nodes[i], places.at(i, &nodes[i]), env, tables)?;
+        gather(
+            alloc,
+            stage,
+            &nodes[i],
+            places.at(i, &nodes[i]),
+            env,
+            tables,
+        )?;
     }
     Ok(())
 }

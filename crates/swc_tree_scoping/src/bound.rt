@@ -110,7 +110,9 @@ pub fn add_declared_ids(node: &Node, ids: &mut Items<Id>) -> Result<(), NoMemory
     ensures { OnOk result (ids.new ≡ ids.old ++ declared_ids node.now) }
 {
     match node {
-        Node::Tree(Kind::FnDecl, fields) => { add_name(name(fields.as_slice(), fn_decl::IDENT), ids) }
+        Node::Tree(Kind::FnDecl, fields) => {
+            add_name(name(fields.as_slice(), fn_decl::IDENT), ids)
+        }
         Node::Tree(Kind::ClassDecl, fields) => {
             add_name(name(fields.as_slice(), class_decl::IDENT), ids)
         }
