@@ -8,3 +8,4 @@ mod FixerRows
 mod ReaderRows
 mod StepRows
 mod FixedRows
+pub mod Heads
