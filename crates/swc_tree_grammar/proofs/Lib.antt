@@ -8,8 +8,3 @@ pub mod Spans
 pub mod Walks
 pub mod Induction
 pub mod Stripped
-pub mod Rows
-pub mod GrammarRows
-mod FormRows
-mod WritableRows
-mod SameRows

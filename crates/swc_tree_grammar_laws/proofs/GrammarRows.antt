@@ -6,7 +6,7 @@ use Rattle.swc_tree_node.specs.declared.kind.Word.TheVariants as word
 use Rattle.swc_tree_node.specs.declared.node.Node.{Node, Absent, Flag, Word, Text, List as Many, Tree, the_lemmas}
 use Rattle.swc_tree_grammar.specs.Levels.{level}
 use Rattle.swc_tree_grammar.specs.Grammar.{Context, derives}
-use Rattle.swc_tree_grammar.proofs.Rows.{at, a, x, name, number, paren, call, chain, statement, choice, while}
+use Rattle.swc_tree_grammar_laws.proofs.Rows.{at, a, x, name, number, paren, call, chain, statement, choice, while}
 
 abbrev sloppy : Context
 sloppy = record { with_in = true; strict = false }

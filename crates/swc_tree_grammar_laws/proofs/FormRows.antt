@@ -8,8 +8,8 @@ use Rattle.swc_tree_grammar.specs.Blocks.{no_span}
 use Rattle.swc_tree_grammar.specs.Normal.{written_out}
 use Rattle.swc_tree_grammar.specs.Needed.{without_pair}
 use Rattle.swc_tree_grammar.specs.Due.{Places, paired_by_level, call_paired, paired_in_heads, paired_at_starts}
-use Rattle.swc_tree_grammar.proofs.Rows.{at, a, x, name, bound, paren, call, choice, statement}
-use Rattle.swc_tree_grammar.proofs.GrammarRows.{bin, member}
+use Rattle.swc_tree_grammar_laws.proofs.Rows.{at, a, x, name, bound, paren, call, choice, statement}
+use Rattle.swc_tree_grammar_laws.proofs.GrammarRows.{bin, member}
 
 abbrev object : List Node → Node
 object props = Tree kind.ObjectLit (at 0 0 ∷ Many props ∷ [])

@@ -11,7 +11,7 @@ use Rattle.swc_tree_scoping.specs.declared.places.Place.{Place}
 use Rattle.swc_tree_scoping.specs.Places.{children_in, place_below}
 use Rattle.swc_tree_scoping.specs.Folds.{each_in, fold_in_place}
 use Rattle.swc_tree_scoping.proofs.Under.{fold_in_place_out}
-use Rattle.swc_tree_grammar.proofs.Rows.{at, name, bound, statement}
+use Rattle.swc_tree_grammar_laws.proofs.Rows.{at, name, bound, statement}
 
 -- `let a; ..`
 abbrev declaring : List ℕ → Node → Node

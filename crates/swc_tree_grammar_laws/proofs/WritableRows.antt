@@ -5,8 +5,8 @@ use Rattle.swc_tree_node.specs.declared.kind.Word.{Word as Word'}
 use Rattle.swc_tree_node.specs.declared.kind.Word.TheVariants as word
 use Rattle.swc_tree_node.specs.declared.node.Node.{Node, Absent, Flag, Word, Text, List as Many, Tree, the_lemmas}
 use Rattle.swc_tree_grammar.specs.Writable.{is_writable}
-use Rattle.swc_tree_grammar.proofs.Rows.{at, a, x, seq, array, name, bound, paren, chain, statement}
-use Rattle.swc_tree_grammar.proofs.GrammarRows.{bin, member}
+use Rattle.swc_tree_grammar_laws.proofs.Rows.{at, a, x, seq, array, name, bound, paren, chain, statement}
+use Rattle.swc_tree_grammar_laws.proofs.GrammarRows.{bin, member}
 
 abbrev labeled : List ℕ → Node
 labeled label = Tree kind.LabeledStmt (at 0 0 ∷ name label ∷ statement x ∷ [])

@@ -1,0 +1,11 @@
+pub mod Rows
+mod GrammarRows
+mod WritableRows
+mod FormRows
+mod SameRows
+pub mod Trees
+mod FixerRows
+mod ReaderRows
+mod StepRows
+mod FixedRows
+pub mod Heads

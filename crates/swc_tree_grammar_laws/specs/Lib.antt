@@ -1,0 +1,3 @@
+pub mod Levelled
+pub mod Headed
+pub mod Started
