@@ -47,13 +47,14 @@ QUESTIONS = {
     'fits the grammar with due pairs': lambda defs, t: defs.swc_tree_grammar.Grammar.derives(fixed(defs, t), strict(True, False)),
     'stripped': lambda defs, t: defs.swc_tree_grammar.Stripped.stripped(t),
     'with due pairs': fixed,
-    'normal form': lambda defs, t: defs.swc_tree_grammar.Normal.normal_form(t),
+    'normal form, but for spans': lambda defs, t: lawbook.spanless(defs.swc_tree_grammar.Normal.normal_form(t)),
     'same as itself': lambda defs, t: defs.swc_tree_grammar.Same.is_same(t, t),
     'comment moves': lambda defs, t: defs.swc_tree_grammar.Pairs.moves(t),
     'bindings and references': standings,
     'resolved': lambda defs, t: scoping.resolved(defs, t),
     'rules of names': lambda defs, t: (scoping.faults(scoping.WELL_SCOPED, defs, t), scoping.faults(scoping.NO_EARLY_ERROR, defs, t)),
-    'substituted': lambda defs, t: [changed_names(defs, t, keeps) for keeps in (False, True)],
+    'substituted': lambda defs, t: changed_names(defs, t, False),
+    'substituted, class names kept': lambda defs, t: changed_names(defs, t, True),
 }
 SOURCES = [lawbook.any_tree, lawbook.writable_tree, lawbook.clean_program, lawbook.expressions_as_names]
 

@@ -162,10 +162,11 @@ def normal_form(t):
 
 
 def spanless(t):
+    """the tree with one span everywhere"""
     if t[0] == 'Span':
-        return ('Span',)
+        return trees.SPAN
     if t[0] == 'Identifier':
-        return ('Identifier', t[1], t[2].sym, t[2].ctxt)
+        return ('Identifier', t[1], js.REC(span=trees.SPAN[1], ctxt=t[2].ctxt, sym=t[2].sym))
     return trees.with_kids(t, [spanless(c) for c in kids(t)]) if t[0] in ('List', 'Tree') else t
 
 

@@ -4,43 +4,99 @@ Each function has the name of its definition and takes a `Program` where the def
 specs define as functions (places, what a scope takes, readings) is taken from the translation, not written again.
 A name is a tuple of numbers, a scope is the path of the node that opens it, None is `None`.
 """
+import glob
 import hashlib
 import os
+import re
 import sys
 
-# the files that this was made from, by their SHA-256; two of a file say the same in other words
+from antt_reader import Module, blocks
+
+CRATE = 'swc_tree_scoping'
+# the relations that this was made from, by digests of their texts; those of one name say the same in other words, and
+# a name with `-` may be absent
 SOURCES = {
-    'Places.antt': ['0e4ec10ed9459289c3645730d9c14abba9524814561d7b1a21b17ddba0bb25c5',
-                    'f1b0382aaacc2529b9d3752fa470acca897f49b02bc1c52e8cc9caf810368bcf'],
-    'Scopes.antt': ['ec39eee61be8efcce1d48797459348961436a0b21179bdec21512f68230e011d',
-                    'b09b8b1afbef40eb07af31c26473d39daa0f2c23b95dd907e9c30046151b1da4'],
-    'Readings.antt': ['e42782d078cabab8d29dae5f62e637a5a76060a93e6fd222b53dee65a055db4a'],
-    'Declares.antt': ['de9fc5b5a724a1b7a83c72726034572c44a65f08c373f1964b7e08314f5054e8',
-                      'e505400e9837f20e1adef85d651277ff0d1fc9aedce028cca5c1b4a8a57fcfda'],
-    'Resolved.antt': ['d6e97cc359fdcffcea821bd0ca540e4eb28520cf78186116fc1b64dfdf206230',
-                      '1f289ef12e1bdc045ded5c7c6b8babe5baab07e674deeef320e7b701dfa5c3f1'],
-    'WellScoped.antt': ['903daa5b600120c92a11847aebebc0649711e1f9a49b722647620aa5c0cd1c62',
-                        'c6a84fbcc03fa2f61f4b85f335a0b34abf71233f851102f2b31af46c7f497ffa'],
+    'AreFunctionsOfOneBlock': '039199cb4ea6',
+    'Binds': '912826bb6766',
+    'Bound': '9f8e91cfa97b',
+    'BoundAs': '1a5c85283929',
+    'DeclaredBy': '573139c329b2',
+    'Declares': '3f7166e91219',
+    'DeclaresFor': '3eda794a7383',
+    'DeclaresOtherwise': '899b2f326d92',
+    'EachInOneScope': '0c67d181969b',
+    'ExportsDeclared': 'b132134ae03c',
+    'First': '8a633bc69c28',
+    'FreeApart': '45e95f230a25',
+    'HasContext': '143059e09d5b 92d8f32b1980',
+    'HasDeclarersMark': '5b69e4e296cd -',
+    'HasFunctionMark': '805011c0c1b2 -',
+    'HasMeantMark': '5f32371bc64f',
+    'HasTakersMark': 'ae5f47c033db -',
+    'HasVariableMark': 'cd905dc1fd14 -',
+    'Hoisted': '054c84f687e5',
+    'Hoists': 'abb74312073d e2772f29d4e9',
+    'InExportList': '432d04ce24da',
+    'InPlace': 'b5349d5b719a',
+    'InRegion': '11791c77c450',
+    'IsArrowOrMethod': '149981dff67b',
+    'IsAt': '3689c2dd7931',
+    'IsCaughtBy': '8bb40f340519 -',
+    'IsClean': 'c0fb269e9246',
+    'IsDeclared': '1c97e84dba2b',
+    'IsFree': '3bf87619334a',
+    'IsLexical': '4fcbeecf2c38',
+    'IsScope': '4c962b66d888',
+    'IsUncaught': 'd7bc1e79f5c6',
+    'Means': 'fe28b407a260',
+    'Meets': 'b56720ea06b1',
+    'NoCaughtVariable': '5b598970e325',
+    'NoEarlyErrorOfNames': '22508500374e 68992c357dc7',
+    'NoEvalOrArguments': '5eddba45e8d0 -',
+    'NoParameterTwice': 'c03d6a149869',
+    'NoRedeclaration': '2f437b8f5f00',
+    'NoVariablePasses': '5d69e0f85ca9',
+    'NoneOfStrictCode': 'a11cf217380e -',
+    'NoneTwice': '47756087b472',
+    'OneScope': 'dcee2d2f5c3c',
+    'Passes': 'a2b5770d3ea5 -',
+    'PassesNone': 'd22a4e5ba346',
+    'Resolved': '7f3ffb29c85c',
+    'Stands': 'c25865be407a',
+    'WellScoped': 'af3f1acd65a2 3559cf9d3742',
+    'stops': '82dc6e2e17ba 4e0246d6d0e4',
+    'stops_in_block': 'dd3bea75f2ca -',
+    'stops_or_function': 'e3992b5b9d81 -',
 }
-# what a function in a block may not meet on its way out of blocks, besides other functions in blocks
+# functions that are written by hand too: what a function in a block may not meet on its way out of blocks, besides other
+# functions in blocks
+FUNCTIONS = ('stops', 'stops_in_block', 'stops_or_function')
 STOPPING = {'Lexical', 'Import', 'Parameter', 'CatchParameter'}
 IN_BLOCKS = {'BlockFunction', 'SloppyFunction'}
 
 
-def digest(path):
-    """the SHA-256 of a file; None where there is none"""
-    if not os.path.exists(path):
-        return None
-    with open(path, 'rb') as file:
-        return hashlib.sha256(file.read()).hexdigest()
+def digests(checkout):
+    """of each relation of the crate a digest of its text, without comments and white space"""
+    found = {}
+    root = os.path.join(checkout, 'crates', CRATE, 'specs')
+    for path in sorted(glob.glob(os.path.join(root, '*.antt'))):
+        module = Module(CRATE, os.path.basename(path)[:-5], path, path)
+        module.read()
+        with open(path, encoding='utf-8') as file:
+            items = [' '.join(text.split()) for _, text in blocks(file.read())]
+        relations = [name for name, why in module.skipped.items() if why == 'a relation']
+        for name in relations + [name for name in FUNCTIONS if name in module.definitions]:
+            text = '\n'.join(item for item in items if re.match(r'((pub|abbrev|record) )*%s\b' % re.escape(name), item))
+            found[name] = hashlib.sha256(text.encode()).hexdigest()[:12]
+    return found
 
 
 def check_sources(checkout):
-    """warns of each file that has changed since this was written; the names of those"""
-    root = os.path.join(checkout, 'crates', 'swc_tree_scoping', 'specs')
-    changed = [name for name, known in SOURCES.items() if digest(os.path.join(root, name)) not in known]
+    """warns of each relation that is another than those that this was made from; the names of those"""
+    found = digests(checkout)
+    changed = [name for name in sorted(set(found) | set(SOURCES)) if found.get(name, '-') not in SOURCES.get(name, '').split()]
     for name in changed:
-        print('warning: crates/swc_tree_scoping/specs/%s has changed since scoping.py was written' % name, file=sys.stderr)
+        print('warning: the relation %s of %s is not one that scoping.py was made from: %s' % (name, CRATE, found.get(name, 'there is none')), file=sys.stderr)
     return changed
 
 

@@ -41,7 +41,7 @@ def renamed_stays_writable(t):
 
 @law(writable_tree)
 def renamed_keeps_normal_form(t):
-    """... and it has the same normal form but for the names that changed"""
+    """a writable tree so renamed has the same normal form but for the names that changed"""
     if not is_writable(t):
         return None
     for new_ids in fresh_maps(t):
@@ -191,7 +191,7 @@ def export_list_names_each_id_once(t):
 
 @law(writable_tree)
 def other_names_stay(t):
-    """labels, keys, private names and what else is no binding or reference stay, in the order of the source"""
+    """labels, imported and exported names, and what other identifiers are no bindings or references, stay in their order"""
     if not is_writable(t):
         return None
 
