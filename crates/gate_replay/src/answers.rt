@@ -1,17 +1,31 @@
 //! What is answered to a row.
-use crate::{engine, kinds, programs};
+use crate::{engine, kinds, programs, trees, units};
 use anyhow::Result;
 use std::alloc::Global;
+
+// Ends a line that may be missing.
+fn line(alloc: Global, said: Option<String>) -> Result<Vec<u8>> {
+    let Some(mut text) = said else {
+        return Ok(Vec::new(alloc));
+    };
+    text.push_str("\n")?;
+    Ok(text.into_bytes())
+}
 
 // The answer to a row, with its line feed: by the first of its words, else what `jsbase` writes.
 fn answer(alloc: Global, words: &str, input: &str) -> Result<Vec<u8>> {
     let (first, rest) = words.split_once(' ').unwrap_or((words, ""));
-    let text = match first {
-        "kinds" => kinds::answer(alloc)?,
-        "pass" | "rename" | "remap" | "unparen_comments" => programs::answer(alloc, words, input)?,
-        _ => return engine::written(alloc, words, input),
-    };
-    Ok(text.into_bytes())
+    match first {
+        "kinds" => line(alloc, kinds::answer(alloc)),
+        "unit" => line(alloc, units::answer(alloc, rest)),
+        "tree" | "fields" | "callee" | "debug" => line(alloc, trees::answer(alloc, words, input)),
+        "status" => engine::status(alloc, rest, input),
+        "beginnings" => engine::beginnings(alloc, input),
+        "pass" | "twice" | "fold" | "items" | "rename" | "remap" | "unparen_comments" => {
+            Ok(programs::answer(alloc, words, input)?.into_bytes())
+        }
+        _ => engine::written(alloc, words, input),
+    }
 }
 
 /// Whether a row is answered as it wants. Says what is answered else.

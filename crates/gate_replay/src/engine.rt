@@ -1,12 +1,13 @@
 //! Rows of `jsbase`: what the program writes on an input.
 use anyhow::Result;
-use jsbase_engine::{Fault, report, run, words};
+use jsbase_engine::{Command, Fault, Kind, report, run, words};
 use std::alloc::{AllocError, Global};
+use std::fmt::Write;
 
 // The words of a line.
 fn split(alloc: Global, line: &str) -> Result<Vec<String>, AllocError> {
     let mut words = Vec::new(alloc);
-    for word in line.split(' ') {
+    for word in line.split_whitespace() {
         words.push(String::from_str(alloc, word)?)?;
     }
     Ok(words)
@@ -34,4 +35,35 @@ pub fn line(alloc: Global, answer: Result<Vec<u8>, Fault>) -> Vec<u8> {
 pub fn written(alloc: Global, arguments: &str, input: &str) -> Result<Vec<u8>> {
     let words = split(alloc, arguments)?;
     Ok(line(alloc, run_words(alloc, words.as_slice(), input.as_bytes())))
+}
+
+/// The status of the program on arguments in one line.
+pub fn status(alloc: Global, arguments: &str, input: &str) -> Result<Vec<u8>> {
+    let words = split(alloc, arguments)?;
+    let status = match run_words(alloc, words.as_slice(), input.as_bytes()) {
+        Ok(_) => 0,
+        Err(fault) => report(&fault, &mut Vec::new(alloc)),
+    };
+    Ok(format!(in alloc; "{status}\n")?.into_bytes())
+}
+
+// Whether bytes are refused as no tree at all.
+fn is_no_tree(alloc: Global, input: &[u8]) -> bool {
+    matches!(
+        &run(alloc, Command::Resolve, Kind::Module, input),
+        Err(Fault::NotATree(path)) if path.as_str() == "$"
+    )
+}
+
+/// How many proper beginnings of a text are no tree, and whether bytes are none that are no UTF-8.
+pub fn beginnings(alloc: Global, input: &str) -> Result<Vec<u8>> {
+    let text = input.as_bytes();
+    let mut count = 0u32;
+    for end in 0..text.len() {
+        if is_no_tree(alloc, &text[..end]) {
+            count = count.saturating_add(1);
+        }
+    }
+    let bytes = is_no_tree(alloc, &[0xff]);
+    Ok(format!(in alloc; "{count} {bytes}\n")?.into_bytes())
 }

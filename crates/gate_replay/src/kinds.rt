@@ -3,15 +3,15 @@
 mod faults;
 mod samples;
 
-use faults::{Fault, Part, parts_of, place, spoilt};
+use faults::{Fault, parts_of, place};
 use jsbase_reader::{ReadError, read};
 use jsbase_writer::write;
-use samples::{in_slot, of_kind};
-use serde_json::{Map, Value};
-use std::alloc::{AllocError, Global};
+use samples::add_node;
+use serde_json::Value;
+use std::alloc::Global;
 use std::fmt::Write;
 use swc_tree_marks::Globals;
-use swc_tree_node::{Class, Content, Kind, Slot, fields_of, kinds_of, name_of};
+use swc_tree_node::{Class, Content, Field, Kind, Slot, fields_of, kinds_of, name_of};
 
 // More than there are kinds.
 const MANY: usize = 200;
@@ -45,158 +45,150 @@ fn class_in(slot: Slot) -> Option<Class> {
     }
 }
 
-fn add_class(placed: &mut Vec<Placed>, class: Class) -> Result<(), AllocError> {
-    for kind in kinds_of(class) {
-        if !placed.iter().any(|known| known.kind == *kind) {
-            placed.push(Placed { kind: *kind, class })?;
+fn is_placed(placed: &[Placed], kind: Kind) -> bool {
+    for known in placed {
+        if known.kind == kind {
+            return true;
         }
     }
-    Ok(())
+    false
 }
 
-fn add_fields(placed: &mut Vec<Placed>, kind: Kind) -> Result<(), AllocError> {
+fn add_class(placed: &mut Vec<Placed>, class: Class) -> Option<()> {
+    for kind in kinds_of(class) {
+        if !is_placed(placed.as_slice(), *kind) {
+            placed.push(Placed { kind: *kind, class }).ok()?;
+        }
+    }
+    Some(())
+}
+
+fn add_fields(placed: &mut Vec<Placed>, kind: Kind) -> Option<()> {
     for field in fields_of(kind) {
         if let Some(class) = class_in(field.slot) {
             add_class(placed, class)?;
         }
     }
-    Ok(())
+    Some(())
 }
 
-// Every kind that a program may hold.
-fn all_kinds(alloc: Global) -> Result<Vec<Placed>, AllocError> {
-    let mut placed = Vec::new(alloc);
-    add_class(&mut placed, Class::Module)?;
-    add_class(&mut placed, Class::Script)?;
+// Adds every kind that a program may hold.
+fn add_all(placed: &mut Vec<Placed>) -> Option<()> {
+    add_class(placed, Class::Module)?;
+    add_class(placed, Class::Script)?;
     for i in 0..MANY {
         if let Some(next) = placed.get(i).copied() {
-            add_fields(&mut placed, next.kind)?;
+            add_fields(placed, next.kind)?;
         }
     }
-    Ok(placed)
+    Some(())
 }
 
-// The JSON that a value is written as once it was read as a node of the class, or the place of its first fault.
-fn read_and_written(alloc: Global, class: Class, value: Value) -> Result<String, AllocError> {
+// The JSON that a text is written as once it was read as a node of the class, or the place of its first fault.
+fn read_and_written(alloc: Global, class: Class, text: &str) -> Option<String> {
     let globals = Globals::new(alloc);
+    let value = Value::from_str(alloc, text).ok()?;
     match read(alloc, &globals, value, Slot::One(Content::Node(class))) {
-        Ok(node) => write(alloc, &node),
-        Err(ReadError::Fault(path)) => path.to_text(alloc),
-        Err(ReadError::NoMemory) => Err(AllocError),
+        Ok(node) => write(alloc, &node).ok(),
+        Err(ReadError::Fault(path)) => path.to_text(alloc).ok(),
+        Err(ReadError::NoMemory) => None,
     }
 }
 
-fn is_kept(alloc: Global, placed: Placed) -> Result<bool, AllocError> {
-    let value = Value::Object(of_kind(alloc, placed.kind)?);
-    let text = value.to_string(alloc)?;
-    let written = read_and_written(alloc, placed.class, value)?;
-    Ok(written.as_str() == text.as_str())
+fn is_kept(alloc: Global, placed: Placed) -> Option<bool> {
+    let mut text = String::new(alloc);
+    add_node(&mut text, placed.kind, "", None).ok()?;
+    let written = read_and_written(alloc, placed.class, text.as_str())?;
+    let sorted = Value::from_str(alloc, text.as_str())
+        .ok()?
+        .to_string(alloc)
+        .ok()?;
+    Some(written.as_str() == sorted.as_str())
 }
 
-// The value of a part, as it stands among the members or is made anew.
-fn value_of(
-    alloc: Global,
-    members: &mut Map<String, Value>,
-    part: Part,
-) -> Result<Value, AllocError> {
-    match members.remove(part.key) {
-        Some(value) => Ok(value),
-        None => in_slot(alloc, part.slot),
+fn is_at(found: &str, key: &str, inner: &str) -> bool {
+    match found.strip_prefix("$.") {
+        Some(rest) => rest.strip_prefix(key) == Some(inner),
+        None => false,
     }
 }
 
-// The members of a kind of which one has a fault.
-fn with_fault(
-    alloc: Global,
-    kind: Kind,
-    part: Part,
-    fault: Fault,
-) -> Result<Map<String, Value>, AllocError> {
-    let mut members = of_kind(alloc, kind)?;
-    let value = value_of(alloc, &mut members, part)?;
-    if let Some(value) = spoilt(alloc, value, fault)? {
-        members.insert(String::from_str(alloc, part.key)?, value)?;
-    }
-    Ok(members)
-}
-
-// Whether the fault is found where it lies; nothing, where it is none.
-fn is_found(
-    alloc: Global,
-    placed: Placed,
-    part: Part,
-    fault: Fault,
-) -> Result<Option<bool>, AllocError> {
-    let Some(expected) = place(alloc, part, fault)? else {
-        return Ok(None);
-    };
-    let members = with_fault(alloc, placed.kind, part, fault)?;
-    let found = read_and_written(alloc, placed.class, Value::Object(members))?;
-    Ok(Some(found.as_str() == expected.as_str()))
+// What is found where the part of a key has a fault.
+fn found(alloc: Global, placed: Placed, key: &str, fault: Fault) -> Option<String> {
+    let mut text = String::new(alloc);
+    add_node(&mut text, placed.kind, key, Some(fault)).ok()?;
+    read_and_written(alloc, placed.class, text.as_str())
 }
 
 impl Tally {
-    fn note(&mut self, kind: Kind, what: &str) -> Result<(), AllocError> {
+    fn note(&mut self, kind: Kind, what: &str) -> Option<()> {
         self.differ = self.differ.saturating_add(1);
-        self.differing.push_str(" ")?;
-        self.differing.push_str(name_of(kind))?;
-        self.differing.push_str(what)
+        self.differing.push_str(" ").ok()?;
+        self.differing.push_str(name_of(kind)).ok()?;
+        self.differing.push_str(what).ok()
     }
 
     fn add_fault(
         &mut self,
         alloc: Global,
         placed: Placed,
-        part: Part,
+        part: &Field,
         fault: Fault,
-    ) -> Result<(), AllocError> {
-        let Some(is_found) = is_found(alloc, placed, part, fault)? else {
-            return Ok(());
+    ) -> Option<()> {
+        let Some(inner) = place(part.slot, fault) else {
+            return Some(());
         };
         self.faults = self.faults.saturating_add(1);
-        if is_found {
-            return Ok(());
+        if is_at(
+            found(alloc, placed, part.key, fault)?.as_str(),
+            part.key,
+            inner,
+        ) {
+            return Some(());
         }
         self.note(placed.kind, part.key)
     }
 
-    fn add_part(&mut self, alloc: Global, placed: Placed, part: Part) -> Result<(), AllocError> {
+    fn add_part(&mut self, alloc: Global, placed: Placed, part: &Field) -> Option<()> {
         for fault in FAULTS {
             self.add_fault(alloc, placed, part, fault)?;
         }
-        Ok(())
+        Some(())
     }
 
-    fn add_kind(&mut self, alloc: Global, placed: Placed) -> Result<(), AllocError> {
+    fn add_kind(&mut self, alloc: Global, placed: Placed) -> Option<()> {
         self.kinds = self.kinds.saturating_add(1);
         if !is_kept(alloc, placed)? {
             self.note(placed.kind, "")?;
         }
-        for part in parts_of(alloc, placed.kind)? {
+        for part in parts_of(placed.kind) {
             self.add_part(alloc, placed, part)?;
         }
-        Ok(())
+        Some(())
+    }
+
+    fn add_kinds(&mut self, alloc: Global, placed: &[Placed]) -> Option<()> {
+        for each in placed {
+            self.add_kind(alloc, *each)?;
+        }
+        Some(())
     }
 }
 
 /// Says how many kinds and faults there are, and which differ.
-pub fn answer(alloc: Global) -> Result<String, AllocError> {
+pub fn answer(alloc: Global) -> Option<String> {
+    let mut placed = Vec::new(alloc);
+    add_all(&mut placed)?;
     let mut tally = Tally {
         kinds: 0,
         faults: 0,
         differ: 0,
         differing: String::new(alloc),
     };
-    for placed in all_kinds(alloc)? {
-        tally.add_kind(alloc, placed)?;
-    }
-    let Tally {
-        kinds,
-        faults,
-        differ,
-        differing,
-    } = tally;
+    tally.add_kinds(alloc, placed.as_slice())?;
+    let (kinds, faults, differ) = (tally.kinds, tally.faults, tally.differ);
+    let differing = tally.differing.as_str();
     format!(in alloc;
-        "{kinds} kinds written as they were read, {faults} faults found, {differ} differ{differing}\n"
-    )
+        "{kinds} kinds written as they were read, {faults} faults found, {differ} differ{differing}"
+    ).ok()
 }

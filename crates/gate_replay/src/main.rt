@@ -13,6 +13,8 @@ mod programs;
 mod refuse;
 mod rows;
 mod texts;
+mod trees;
+mod units;
 
 use anyhow::Result;
 use std::env;

@@ -2,82 +2,43 @@
 //!
 //! The input is an envelope. `rename` and `remap` find the ids that are given anew under its key `names`, and
 //! `unparen_comments` how many moves are granted under `room`. What is wanted is the envelope of what is left, behind the
-//! moves that were asked for and the name of a refusal.
+//! moves that were asked for and the name of a refusal. Behind `twice` the same pass is run on the program two times, and
+//! what is left the second time is wanted. `fold` hands the program by value to the pass that does nothing, and `items`
+//! asks a check whether there are items.
+mod check;
 mod names;
 mod notes;
 mod passes;
 mod program;
 
 use anyhow::{Result, bail};
-use jsbase_writer::write_envelope;
-use notes::Notes;
-use passes::config_of;
 pub use passes::{Pass, class_of};
-pub use program::{Given, read};
-use std::alloc::{AllocError, Global};
-use swc_base_fixer::paren_remover;
-use swc_base_rename::{remap, rename, rename_with_config};
-use swc_tree_marks::PassError;
+use program::folded;
+pub use program::{Given, left, read};
+use std::alloc::Global;
+use swc_tree_node::Class;
 
-/// What is left after a pass.
-pub fn left(
-    alloc: Global,
-    answer: Result<(), PassError>,
-    given: Given,
-) -> Result<String, AllocError> {
-    let Given {
-        globals,
-        top,
-        unresolved,
-        program,
-        ..
-    } = given;
-    let tree = program.into_node(alloc)?;
-    let envelope = write_envelope(alloc, &globals, top, &tree, unresolved)?;
-    match answer {
-        Ok(()) => Ok(envelope),
-        Err(error) => format!(in alloc; "refused: {}, {envelope}", error.name()),
+/// The program of a line, so many times.
+pub fn read_times(alloc: Global, class: Class, input: &str, times: u32) -> Result<Vec<Given>> {
+    let mut programs = Vec::new(alloc);
+    for _ in 0..times {
+        programs.push(read(alloc, class, input)?)?;
     }
+    Ok(programs)
 }
 
-// The configuration counts only where it says more than the default.
-fn rename_row(alloc: Global, mut given: Given, input: &str) -> Result<String> {
-    let Some(texts) = names::texts(alloc, input) else {
-        bail!("the names are not as they should be");
+// What is left of the last program, behind the moves of all.
+fn run(alloc: Global, word: &str, input: &str, programs: &mut Vec<Given>) -> Result<String> {
+    let Some(first) = programs.first() else {
+        bail!("there is no program");
     };
-    let mut pass = if given.keep_class_names {
-        rename_with_config(&texts, config_of(&given))
-    } else {
-        rename(&texts)
+    let mut pass = Pass::of_row(alloc, word, input, first)?;
+    let answer = pass.visit(alloc, programs.as_mut_slice());
+    let Some(last) = programs.pop() else {
+        bail!("there is no program");
     };
-    let answer = given.program.visit(&mut pass, alloc, &mut given.globals);
-    Ok(left(alloc, answer, given)?)
-}
-
-fn remap_row(alloc: Global, mut given: Given, input: &str) -> Result<String> {
-    let Some(ids) = names::ids(alloc, input) else {
-        bail!("the names are not as they should be");
-    };
-    let mut pass = remap(&ids, config_of(&given));
-    let answer = given.program.visit(&mut pass, alloc, &mut given.globals);
-    Ok(left(alloc, answer, given)?)
-}
-
-fn comments_row(alloc: Global, mut given: Given, input: &str) -> Result<String> {
-    let Some(room) = notes::room(alloc, input) else {
-        bail!("there is no room");
-    };
-    let mut notes = Notes::new(alloc, room);
-    let mut pass = paren_remover(Some(&mut notes));
-    let answer = given.program.visit(&mut pass, alloc, &mut given.globals);
-    let left = left(alloc, answer, given)?;
-    Ok(notes.before(alloc, left.as_str())?)
-}
-
-fn pass_row(alloc: Global, word: &str, mut given: Given) -> Result<String> {
-    let mut pass = Pass::of_word(alloc, word, &given)?;
-    let answer = pass.visit(alloc, &mut given);
-    Ok(left(alloc, answer, given)?)
+    let left = left(alloc, answer, last)?;
+    Ok(pass.before(alloc, left)?)
 }
 
 /// What is answered to a row.
@@ -85,11 +46,17 @@ pub fn answer(alloc: Global, words: &str, input: &str) -> Result<String> {
     let Some((command, class)) = words.rsplit_once(' ') else {
         bail!("a goal is needed");
     };
-    let given = read(alloc, class_of(class)?, input)?;
+    let class = class_of(class)?;
     match command {
-        "rename" => rename_row(alloc, given, input),
-        "remap" => remap_row(alloc, given, input),
-        "unparen_comments" => comments_row(alloc, given, input),
-        _ => pass_row(alloc, command.strip_prefix("pass ").unwrap_or(""), given),
+        "items" => check::answer(alloc, &read(alloc, class, input)?),
+        "fold" => folded(alloc, read(alloc, class, input)?),
+        _ => {
+            let (times, word) = match command.strip_prefix("twice ") {
+                Some(word) => (2, word),
+                None => (1, command),
+            };
+            let mut programs = read_times(alloc, class, input, times)?;
+            run(alloc, word, input, &mut programs)
+        }
     }
 }

@@ -6,7 +6,7 @@
 //! (`tools/refuse_memory.py` does). Where the first line is `before` or `after`, the answer is how many requests are granted
 //! in place of the work or after it, before one is refused.
 use crate::engine::{line, run_words};
-use crate::programs::{Given, Pass, class_of, left, read};
+use crate::programs::{Given, Pass, class_of, left, read_times};
 use anyhow::{Result, bail};
 use jsbase_engine::Fault;
 use std::alloc::{AllocError, Global};
@@ -130,26 +130,47 @@ fn of_left(
     Ok(is_ample(text.as_bytes(), wanted))
 }
 
-// What is said of a run of a pass over a program.
-fn of_pass(alloc: Global, word: &str, mut given: Given, lines: &Lines) -> Result<Said> {
-    let mut pass = Pass::of_word(alloc, word, &given)?;
+// What is said in place of what is left of the one program, or what a pass answered. The pass is run here.
+fn visited(
+    alloc: Global,
+    word: &str,
+    asked: Asked,
+    programs: &mut Vec<Given>,
+) -> Result<Result<Said, Result<(), PassError>>> {
+    let Some(given) = programs.first() else {
+        bail!("there is no program");
+    };
+    let mut pass = Pass::of_word(alloc, word, given)?;
     let marks = Vec::from_slice(alloc, given.globals.table())?;
     let span = given.program.span();
-    let asked = asked_of(lines.asked.as_str())?;
     if let Some(said) = before(alloc, asked) {
-        return Ok(said);
+        return Ok(Ok(said));
     }
-    let answer = pass.visit(alloc, &mut given);
+    let answer = pass.visit(alloc, programs.as_mut_slice());
     if matches!(asked, Asked::After) {
-        return Ok(Said::Granted(granted(alloc, MOST)));
+        return Ok(Ok(Said::Granted(granted(alloc, MOST))));
     }
-    if answer.is_err() && !is_kept(&given, span, marks.as_slice()) {
-        return Ok(Said::Other);
+    let is_kept = match programs.first() {
+        Some(given) => is_kept(given, span, marks.as_slice()),
+        None => false,
+    };
+    Ok(match answer {
+        Err(_) if !is_kept => Ok(Said::Other),
+        Err(PassError::NoMemory) => Ok(Said::Refused),
+        answer => Err(answer),
+    })
+}
+
+// What is said of a run of a pass over the one program.
+fn of_pass(alloc: Global, word: &str, programs: &mut Vec<Given>, lines: &Lines) -> Result<Said> {
+    let asked = asked_of(lines.asked.as_str())?;
+    match visited(alloc, word, asked, programs)? {
+        Ok(said) => Ok(said),
+        Err(answer) => match programs.pop() {
+            Some(given) => Ok(of_left(alloc, answer, given, lines.wanted.as_str())?),
+            None => bail!("there is no program"),
+        },
     }
-    if answer == Err(PassError::NoMemory) {
-        return Ok(Said::Refused);
-    }
-    Ok(of_left(alloc, answer, given, lines.wanted.as_str())?)
 }
 
 fn reply(alloc: Global, arguments: &[String], lines: &Lines) -> Result<Said> {
@@ -163,8 +184,9 @@ fn reply(alloc: Global, arguments: &[String], lines: &Lines) -> Result<Said> {
     match work.as_str() {
         "jsbase" => of_engine(alloc, &arguments[2..], lines),
         "pass" => {
-            let given = read(alloc, class_of(class.as_str())?, lines.input.as_str())?;
-            of_pass(alloc, word.as_str(), given, lines)
+            let class = class_of(class.as_str())?;
+            let mut programs = read_times(alloc, class, lines.input.as_str(), 1)?;
+            of_pass(alloc, word.as_str(), &mut programs, lines)
         }
         _ => bail!("the work is jsbase or pass"),
     }

@@ -2,28 +2,33 @@
 use crate::answers::is_answered;
 use anyhow::{Result, bail};
 
-/// Goes over the rows of standard input.
-pub fn replay(rt: &HostRuntime) -> Result<()> {
-    let alloc = rt.alloc();
-    let (mut words, mut input): (Option<String>, Option<String>) = (None, None);
-    let (mut passed, mut failed) = (0u32, 0u32);
-    for line in rt.lines(alloc) {
-        let line = line?;
-        let Some(asked) = words.take() else {
-            words = Some(line);
-            continue;
-        };
-        let Some(given) = input.take() else {
-            words = Some(asked);
-            input = Some(line);
-            continue;
-        };
-        if is_answered(rt, asked.as_str(), given.as_str(), line.as_str())? {
-            passed = passed.saturating_add(1);
-        } else {
+// The lines of standard input.
+fn lines(rt: &HostRuntime) -> Result<Vec<String>> {
+    let mut lines = Vec::new(rt.alloc());
+    for line in rt.lines(rt.alloc()) {
+        lines.push(line?)?;
+    }
+    Ok(lines)
+}
+
+// How many rows there are, and how many of them differ.
+fn count(rt: &HostRuntime, mut lines: &[String]) -> Result<(u32, u32)> {
+    let (mut rows, mut failed) = (0u32, 0u32);
+    while let [words, input, wanted, rest @ ..] = lines {
+        rows = rows.saturating_add(1);
+        if !is_answered(rt, words.as_str(), input.as_str(), wanted.as_str())? {
             failed = failed.saturating_add(1);
         }
+        lines = rest;
     }
+    Ok((rows, failed))
+}
+
+/// Goes over the rows of standard input.
+pub fn replay(rt: &HostRuntime) -> Result<()> {
+    let lines = lines(rt)?;
+    let (rows, failed) = count(rt, lines.as_slice())?;
+    let passed = rows.saturating_sub(failed);
     println!(rt; "{passed} passed, {failed} failed")?;
     if failed > 0 {
         bail!("{failed} rows differ");

@@ -1,64 +1,42 @@
 //! JSON of each kind of node, made by the table.
-use serde_json::{Map, Value};
-use std::alloc::{AllocError, Global};
-use swc_tree_node::{
-    Class, Content, Kind, Slot, fields_of, is_identifier, kinds_of, name_of, spelling_of, words_of,
-};
+use crate::kinds::faults::{Fault, parts_of};
+use std::alloc::AllocError;
+use swc_tree_node::{Class, Content, Field, Kind, Slot, kinds_of, name_of, spelling_of, words_of};
 
 // No kind leads through the first kinds of its fields to more nodes in one another than this.
 const DEPTH: u32 = 20;
 
-fn list<const N: usize>(alloc: Global, items: [Value; N]) -> Result<Value, AllocError> {
-    Ok(Value::Array(Vec::from_array(alloc, items)?))
-}
+const PAIR: &str = "[\"a\",\"b\"]";
 
-fn text(alloc: Global, text: &str) -> Result<Value, AllocError> {
-    Ok(Value::String(String::from_str(alloc, text)?))
-}
-
-fn put(
-    alloc: Global,
-    members: &mut Map<String, Value>,
-    key: &str,
-    value: Value,
-) -> Result<(), AllocError> {
-    members.insert(String::from_str(alloc, key)?, value)?;
+fn add(text: &mut String, pieces: &[&str]) -> Result<(), AllocError> {
+    for piece in pieces {
+        text.push_str(piece)?;
+    }
     Ok(())
 }
 
 // What stands in one place, but for a node.
-fn leaf(alloc: Global, content: Content) -> Result<Value, AllocError> {
+fn leaf(content: Content) -> &'static str {
     match content {
-        Content::Span => list(alloc, [Value::from(3u32), Value::from(5u32)]),
-        Content::Text => text(alloc, "a"),
-        Content::Flag => Ok(Value::Bool(true)),
-        Content::Word(words) => match words_of(words).first() {
-            Some(word) => text(alloc, spelling_of(*word)),
-            None => Ok(Value::Null),
-        },
-        Content::Node(_) => Ok(Value::Null),
+        Content::Span => "[3,5]",
+        Content::Text => "\"a\"",
+        Content::Flag => "true",
+        Content::Word(_) | Content::Node(_) => "null",
     }
 }
 
-fn identifier(alloc: Global, members: &mut Map<String, Value>) -> Result<(), AllocError> {
-    put(alloc, members, "span", leaf(alloc, Content::Span)?)?;
-    put(alloc, members, "ctxt", Value::Array(Vec::new(alloc)))?;
-    put(alloc, members, "sym", text(alloc, "a")?)
-}
-
-fn pair(alloc: Global) -> Result<Value, AllocError> {
-    let (key, value) = (text(alloc, "a")?, text(alloc, "b")?);
-    list(alloc, [key, value])
-}
-
-// The members that an object of the kind has beside its fields.
-fn head(alloc: Global, kind: Kind) -> Result<Map<String, Value>, AllocError> {
-    let mut members = Map::new(alloc);
-    put(alloc, &mut members, "type", text(alloc, name_of(kind))?)?;
-    if is_identifier(kind) {
-        identifier(alloc, &mut members)?;
+fn add_leaf(text: &mut String, content: Content) -> Result<(), AllocError> {
+    if let Content::Word(words) = content {
+        if let Some(word) = words_of(words).first() {
+            return add(text, &["\"", spelling_of(*word), "\""]);
+        }
     }
-    Ok(members)
+    add(text, &[leaf(content)])
+}
+
+// What a node begins with.
+fn add_head(text: &mut String, kind: Kind) -> Result<(), AllocError> {
+    add(text, &["{\"type\":\"", name_of(kind), "\""])
 }
 
 fn first_of(class: Class) -> Option<Kind> {
@@ -74,60 +52,98 @@ fn needed(slot: Slot) -> Option<Kind> {
 }
 
 // What stands in a slot in which nothing stands that may be left out, but for a node.
-fn least_leaf(alloc: Global, slot: Slot) -> Result<Value, AllocError> {
+fn add_least_leaf(text: &mut String, slot: Slot) -> Result<(), AllocError> {
     match slot {
-        Slot::One(content) => leaf(alloc, content),
-        Slot::List(_) | Slot::Holes(_) => Ok(Value::Array(Vec::new(alloc))),
-        Slot::Pair => pair(alloc),
-        Slot::Optional(_) | Slot::OptionalList(_) | Slot::Pairs => Ok(Value::Null),
+        Slot::One(content) => add_leaf(text, content),
+        Slot::List(_) | Slot::Holes(_) => add(text, &["[]"]),
+        Slot::Pair => add(text, &[PAIR]),
+        Slot::Optional(_) | Slot::OptionalList(_) | Slot::Pairs => add(text, &["null"]),
     }
 }
 
-// A value of the kind in which nothing stands that may be left out; nothing, where that is deeper than `depth`.
-fn least(alloc: Global, kind: Kind, depth: u32) -> Result<Value, AllocError> {
+// A node of the kind in which nothing stands that may be left out; nothing, where that is deeper than `depth`.
+fn least(text: &mut String, kind: Kind, depth: u32) -> Result<(), AllocError> {
     let Some(below) = depth.checked_sub(1) else {
-        return Ok(Value::Null);
+        return add(text, &["null"]);
     };
-    let mut members = head(alloc, kind)?;
-    for field in fields_of(kind) {
-        let value = match needed(field.slot) {
-            Some(first) => least(alloc, first, below)?,
-            None => least_leaf(alloc, field.slot)?,
-        };
-        put(alloc, &mut members, field.key, value)?;
-    }
-    Ok(Value::Object(members))
-}
-
-fn one(alloc: Global, content: Content) -> Result<Value, AllocError> {
-    match content {
-        Content::Node(class) => match first_of(class) {
-            Some(first) => least(alloc, first, DEPTH),
-            None => Ok(Value::Null),
-        },
-        content => leaf(alloc, content),
-    }
-}
-
-/// A value of a slot in which nothing is left out but one item of a list that may have gaps.
-pub fn in_slot(alloc: Global, slot: Slot) -> Result<Value, AllocError> {
-    match slot {
-        Slot::One(content) | Slot::Optional(content) => one(alloc, content),
-        Slot::List(content) | Slot::OptionalList(content) => {
-            let item = one(alloc, content)?;
-            list(alloc, [item, one(alloc, content)?])
+    add_head(text, kind)?;
+    for field in parts_of(kind) {
+        add(text, &[",\"", field.key, "\":"])?;
+        match needed(field.slot) {
+            Some(first) => least(text, first, below)?,
+            None => add_least_leaf(text, field.slot)?,
         }
-        Slot::Holes(content) => list(alloc, [Value::Null, one(alloc, content)?]),
-        Slot::Pair => pair(alloc),
-        Slot::Pairs => list(alloc, [pair(alloc)?]),
+    }
+    add(text, &["}"])
+}
+
+fn add_one(text: &mut String, content: Content) -> Result<(), AllocError> {
+    if let Content::Node(class) = content {
+        if let Some(first) = first_of(class) {
+            return least(text, first, DEPTH);
+        }
+    }
+    add_leaf(text, content)
+}
+
+fn add_two(text: &mut String, content: Content) -> Result<(), AllocError> {
+    add(text, &["["])?;
+    add_one(text, content)?;
+    add(text, &[","])?;
+    add_one(text, content)?;
+    add(text, &["]"])
+}
+
+// A value of a slot in which nothing is left out but one item of a list that may have gaps.
+fn add_slot(text: &mut String, slot: Slot) -> Result<(), AllocError> {
+    match slot {
+        Slot::One(content) | Slot::Optional(content) => add_one(text, content),
+        Slot::List(content) | Slot::OptionalList(content) => add_two(text, content),
+        Slot::Holes(content) => {
+            add(text, &["[null,"])?;
+            add_one(text, content)?;
+            add(text, &["]"])
+        }
+        Slot::Pair => add(text, &[PAIR]),
+        Slot::Pairs => add(text, &["[", PAIR, "]"]),
     }
 }
 
-/// The members of an object of the kind.
-pub fn of_kind(alloc: Global, kind: Kind) -> Result<Map<String, Value>, AllocError> {
-    let mut members = head(alloc, kind)?;
-    for field in fields_of(kind) {
-        put(alloc, &mut members, field.key, in_slot(alloc, field.slot)?)?;
+// The value of a part. No mark is known.
+fn add_value(text: &mut String, part: &Field) -> Result<(), AllocError> {
+    if part.key == "ctxt" {
+        return add(text, &["[]"]);
     }
-    Ok(members)
+    add_slot(text, part.slot)
+}
+
+fn add_part(text: &mut String, part: &Field, fault: Option<Fault>) -> Result<(), AllocError> {
+    match fault {
+        Some(Fault::Missing) => Ok(()),
+        Some(Fault::WrongType) => add(text, &[",\"", part.key, "\":0.5"]),
+        Some(Fault::ExtraLevel) => {
+            add(text, &[",\"", part.key, "\":["])?;
+            add_value(text, part)?;
+            add(text, &["]"])
+        }
+        None => {
+            add(text, &[",\"", part.key, "\":"])?;
+            add_value(text, part)
+        }
+    }
+}
+
+/// Adds a node of the kind, in which the part of a key has a fault.
+pub fn add_node(
+    text: &mut String,
+    kind: Kind,
+    key: &str,
+    fault: Option<Fault>,
+) -> Result<(), AllocError> {
+    add_head(text, kind)?;
+    for part in parts_of(kind) {
+        let fault = if part.key == key { fault } else { None };
+        add_part(text, part, fault)?;
+    }
+    add(text, &["}"])
 }

@@ -11,40 +11,63 @@ fn text(alloc: Global, name: &Value, at: usize) -> Option<JsWord> {
     Text::new(alloc, text).ok()
 }
 
-fn context(alloc: Global, name: &Value, at: usize) -> Option<SyntaxContext> {
-    let mut ctxt = SyntaxContext::empty(alloc);
-    for mark in name.get(at)?.as_array()? {
+fn add_marks(ctxt: &mut SyntaxContext, marks: &[Value]) -> Option<()> {
+    for mark in marks {
         let number = u32::try_from(mark.as_u64()?).ok()?;
         ctxt.apply_mark(Mark::from_u32(number)).ok()?;
     }
-    Some(ctxt)
+    Some(())
 }
 
 // The text at a place of a name, with the marks after it.
 fn id(alloc: Global, name: &Value, at: usize) -> Option<Id> {
-    let sym = text(alloc, name, at)?;
-    let ctxt = context(alloc, name, at.checked_add(1)?)?;
-    Some((sym, ctxt))
+    let marks = name.get(at.checked_add(1)?)?.as_array()?;
+    let mut ctxt = SyntaxContext::empty(alloc);
+    add_marks(&mut ctxt, marks)?;
+    Some((text(alloc, name, at)?, ctxt))
+}
+
+fn put<T: Drop>(map: &mut HashMap<Id, T>, id: Id, new: T) -> Option<()> {
+    map.insert(id, new).ok()?;
+    Some(())
+}
+
+fn put_text(alloc: Global, texts: &mut HashMap<Id, JsWord>, name: &Value) -> Option<()> {
+    let new = text(alloc, name, 2)?;
+    put(texts, id(alloc, name, 0)?, new)
+}
+
+fn put_id(alloc: Global, ids: &mut HashMap<Id, Id>, name: &Value) -> Option<()> {
+    let new = id(alloc, name, 2)?;
+    put(ids, id(alloc, name, 0)?, new)
+}
+
+fn put_texts(alloc: Global, input: &str, texts: &mut HashMap<Id, JsWord>) -> Option<()> {
+    let value = Value::from_str(alloc, input).ok()?;
+    for name in value.get("names")?.as_array()? {
+        put_text(alloc, texts, name)?;
+    }
+    Some(())
+}
+
+fn put_ids(alloc: Global, input: &str, ids: &mut HashMap<Id, Id>) -> Option<()> {
+    let value = Value::from_str(alloc, input).ok()?;
+    for name in value.get("names")?.as_array()? {
+        put_id(alloc, ids, name)?;
+    }
+    Some(())
 }
 
 /// The new texts of ids.
 pub fn texts(alloc: Global, input: &str) -> Option<HashMap<Id, JsWord>> {
-    let value = Value::from_str(alloc, input).ok()?;
     let mut texts = HashMap::new(alloc);
-    for name in value.get("names")?.as_array()? {
-        texts
-            .insert(id(alloc, name, 0)?, text(alloc, name, 2)?)
-            .ok()?;
-    }
+    put_texts(alloc, input, &mut texts)?;
     Some(texts)
 }
 
 /// The new ids of ids.
 pub fn ids(alloc: Global, input: &str) -> Option<HashMap<Id, Id>> {
-    let value = Value::from_str(alloc, input).ok()?;
     let mut ids = HashMap::new(alloc);
-    for name in value.get("names")?.as_array()? {
-        ids.insert(id(alloc, name, 0)?, id(alloc, name, 2)?).ok()?;
-    }
+    put_ids(alloc, input, &mut ids)?;
     Some(ids)
 }

@@ -1,13 +1,15 @@
 //! Passes by their names.
+use crate::programs::names;
+use crate::programs::notes::{Notes, room};
 use crate::programs::program::Given;
 use crate::texts::text_each;
 use anyhow::{Result, bail};
-use std::alloc::Global;
+use std::alloc::{AllocError, Global};
 use std::collections::HashMap;
 use swc_base_fixer::{NoComments, paren_remover};
-use swc_base_rename::{Config, rename_with_config};
+use swc_base_rename::{Config, remap, rename, rename_with_config};
 use swc_base_resolver::{Resolver, marks_ok, resolver};
-use swc_tree::{Id, JsWord, PassError};
+use swc_tree::{Id, JsPass, JsWord, PassError};
 use swc_tree_node::Class;
 
 /// The class of programs that a word names.
@@ -24,7 +26,9 @@ pub fn class_of(word: &str) -> Result<Class> {
 pub enum Pass {
     Resolve(Resolver),
     Unparen,
+    UnparenComments(Notes),
     Rename(HashMap<Id, JsWord>, Config),
+    Remap(HashMap<Id, Id>, Config),
 }
 
 // The resolver of a program's marks, where they are known and neither is the root.
@@ -36,11 +40,33 @@ fn resolver_of(given: &Given) -> Option<Resolver> {
     }
 }
 
-/// What the renaming passes go by.
-pub fn config_of(given: &Given) -> Config {
+// What the renaming passes go by.
+fn config_of(given: &Given) -> Config {
     Config {
         keep_class_names: given.keep_class_names,
         ..Config::default()
+    }
+}
+
+// Runs one pass on each of some programs, up to the first that is refused.
+fn visit_each<P: JsPass>(
+    pass: &mut P,
+    alloc: Global,
+    programs: &mut [Given],
+) -> Result<(), PassError> {
+    for given in programs {
+        given.program.visit(pass, alloc, &mut given.globals)?;
+    }
+    Ok(())
+}
+
+// The same with comments, of which the pass is asked afterwards.
+fn visit_with(notes: &mut Notes, alloc: Global, programs: &mut [Given]) -> Result<(), PassError> {
+    let mut pass = paren_remover(Some(notes));
+    let answer = visit_each(&mut pass, alloc, programs);
+    match pass.into_comments() {
+        Some(_kept) => answer,
+        None => answer,
     }
 }
 
@@ -61,21 +87,52 @@ impl Pass {
         }
     }
 
-    /// Runs the pass on a program.
-    pub fn visit(&mut self, alloc: Global, given: &mut Given) -> Result<(), PassError> {
-        let Given {
-            globals,
-            program,
-            ..
-        } = given;
+    // The pass of a row with names or comments, if it is one.
+    fn of_input(alloc: Global, word: &str, input: &str, given: &Given) -> Option<Pass> {
+        match word {
+            "rename" => Some(Pass::Rename(names::texts(alloc, input)?, config_of(given))),
+            "remap" => Some(Pass::Remap(names::ids(alloc, input)?, config_of(given))),
+            "unparen_comments" => Some(Pass::UnparenComments(Notes::new(
+                alloc,
+                room(alloc, input)?,
+            ))),
+            _ => None,
+        }
+    }
+
+    /// The pass of a row.
+    pub fn of_row(alloc: Global, words: &str, input: &str, given: &Given) -> Result<Pass> {
+        if let Some(word) = words.strip_prefix("pass ") {
+            return Pass::of_word(alloc, word, given);
+        }
+        match Pass::of_input(alloc, words, input, given) {
+            Some(pass) => Ok(pass),
+            None => bail!("no row has that word, or its input is not as it should be"),
+        }
+    }
+
+    /// Runs the pass on programs, one after the other. The configuration of a renaming pass counts only where it says more
+    /// than the default.
+    pub fn visit(&mut self, alloc: Global, programs: &mut [Given]) -> Result<(), PassError> {
         match self {
-            Pass::Resolve(resolver) => program.visit(resolver, alloc, globals),
+            Pass::Resolve(resolver) => visit_each(resolver, alloc, programs),
             Pass::Unparen => {
-                program.visit(&mut paren_remover(None::<&mut NoComments>), alloc, globals)
+                visit_each(&mut paren_remover(None::<&mut NoComments>), alloc, programs)
             }
-            Pass::Rename(texts, config) => {
-                program.visit(&mut rename_with_config(texts, *config), alloc, globals)
+            Pass::UnparenComments(notes) => visit_with(notes, alloc, programs),
+            Pass::Rename(texts, config) if config.keep_class_names => {
+                visit_each(&mut rename_with_config(texts, *config), alloc, programs)
             }
+            Pass::Rename(texts, _) => visit_each(&mut rename(texts), alloc, programs),
+            Pass::Remap(ids, config) => visit_each(&mut remap(ids, *config), alloc, programs),
+        }
+    }
+
+    /// What is left, behind the moves that the pass asked for.
+    pub fn before(&self, alloc: Global, left: String) -> Result<String, AllocError> {
+        match self {
+            Pass::UnparenComments(notes) => notes.before(alloc, left.as_str()),
+            _ => Ok(left),
         }
     }
 }

@@ -5,8 +5,10 @@ ghost use Rattle.swc_tree_node.specs.Fits.{Fits};
 
 use anyhow::{Result, bail};
 use jsbase_reader::read_bytes;
+use jsbase_writer::write_envelope;
 use std::alloc::{AllocError, Global};
-use swc_tree::{Globals, JsPass, Mark, Module, Opened, PassError, Script, Span};
+use std::fmt::Write;
+use swc_tree::{Globals, JsPass, Mark, Module, Opened, PassError, Script, Span, noop};
 use swc_tree_node::{Class, Node};
 
 /// A program, opened.
@@ -41,6 +43,53 @@ pub fn read(alloc: Global, class: Class, line: &str) -> Result<Given> {
         keep_class_names: envelope.keep_class_names,
         program,
     })
+}
+
+// The envelope of a program.
+fn envelope(
+    alloc: Global,
+    globals: &Globals,
+    marks: (Mark, Mark),
+    program: Program,
+) -> Result<String, AllocError> {
+    let tree = program.into_node(alloc)?;
+    let (top, unresolved) = marks;
+    write_envelope(alloc, globals, top, &tree, unresolved)
+}
+
+/// What is left after a pass.
+pub fn left(
+    alloc: Global,
+    answer: Result<(), PassError>,
+    given: Given,
+) -> Result<String, AllocError> {
+    let Given {
+        globals,
+        top,
+        unresolved,
+        program,
+        ..
+    } = given;
+    let envelope = envelope(alloc, &globals, (top, unresolved), program)?;
+    match answer {
+        Ok(()) => Ok(envelope),
+        Err(error) => format!(in alloc; "refused: {}, {envelope}", error.name()),
+    }
+}
+
+/// What is left of a program that is handed by value to the pass that does nothing.
+pub fn folded(alloc: Global, given: Given) -> Result<String> {
+    let Given {
+        mut globals,
+        top,
+        unresolved,
+        program,
+        ..
+    } = given;
+    match program.fold(&mut noop(), alloc, &mut globals) {
+        Ok(program) => Ok(envelope(alloc, &globals, (top, unresolved), program)?),
+        Err(error) => bail!("refused: {}", error.name()),
+    }
 }
 
 impl Program {
@@ -96,6 +145,23 @@ impl Program {
         match self {
             Program::Module(module) => pass.visit_mut_module(alloc, globals, module),
             Program::Script(script) => pass.visit_mut_script(alloc, globals, script),
+        }
+    }
+
+    // Hands the program to a pass by value.
+    fn fold<P: JsPass>(
+        self,
+        pass: &mut P,
+        alloc: Global,
+        globals: &mut Globals,
+    ) -> Result<Program, PassError> {
+        match self {
+            Program::Module(module) => {
+                Ok(Program::Module(pass.fold_module(alloc, globals, module)?))
+            }
+            Program::Script(script) => {
+                Ok(Program::Script(pass.fold_script(alloc, globals, script)?))
+            }
         }
     }
 }

@@ -1,0 +1,111 @@
+//! Calls that no program and no tree leads to, and whether they answer as they must.
+use std::alloc::Global;
+use std::fmt::Write;
+use swc_base_resolver::scope::{DeclKind, ScopeKind};
+use swc_tree::{EsVersion, Globals, Items, Mark, MarkError, NoMemory, PassError, VarDeclKind};
+
+// A list that was changed in each way is as it must be.
+fn changes(alloc: Global) -> Option<bool> {
+    let mut list = Items::from_slice(alloc, &[3, 1, 4, 1, 5]).ok()?;
+    let removed = list.remove(1);
+    list.set(0, 2);
+    list.reverse();
+    let is_changed = removed == 1 && list.as_slice() == [5, 1, 4, 2].as_slice();
+    list.clear();
+    Some(is_changed && list.is_empty() && list.get(0).is_none())
+}
+
+// Marks of known parents, of the root and of one that is not known.
+fn makes_marks(alloc: Global) -> Option<bool> {
+    let mut globals = Globals::new(alloc);
+    Mark::new(&mut globals).ok()?;
+    for parent in [1, 7] {
+        Mark::fresh(&mut globals, Mark::from_u32(parent)).ok()?;
+    }
+    Some(globals.table() == [(1, 0), (2, 1), (3, 0)].as_slice())
+}
+
+const ANCESTORS: [(u32, u32, bool); 13] = [
+    (5, 5, true),
+    (5, 2, true),
+    (5, 1, true),
+    (5, 0, true),
+    (5, 3, false),
+    (1, 2, false),
+    (3, 1, false),
+    (0, 0, true),
+    (0, 1, false),
+    (4, 4, true),
+    (4, 0, true),
+    (4, 1, false),
+    (5, 4, false),
+];
+
+fn finds_ancestors(alloc: Global) -> Option<bool> {
+    let globals = Globals::from_table(alloc, &[(1, 0), (2, 1), (3, 0), (5, 2)]).ok()?;
+    let mut are_found = true;
+    for (mark, ancestor, under) in ANCESTORS {
+        let (mark, ancestor) = (Mark::from_u32(mark), Mark::from_u32(ancestor));
+        are_found = are_found && mark.is_descendant_of(&globals, ancestor) == under;
+    }
+    Some(are_found)
+}
+
+const PASS_ERRORS: [PassError; 4] = [
+    PassError::NoMemory,
+    PassError::MarksSpent,
+    PassError::CounterSpent,
+    PassError::NotAssignable,
+];
+
+const MARK_ERRORS: [MarkError; 3] = [
+    MarkError::NoMemory,
+    MarkError::MarksSpent,
+    MarkError::BadTable(3),
+];
+
+// The texts of errors, and the names of those of passes.
+fn errors(alloc: Global) -> Option<String> {
+    let mut text = String::new(alloc);
+    for error in PASS_ERRORS {
+        write!(text, "{} {error}, ", error.name()).ok()?;
+    }
+    for error in MARK_ERRORS {
+        write!(text, "{error}, ").ok()?;
+    }
+    write!(text, "{NoMemory}").ok()?;
+    Some(text)
+}
+
+fn converts() -> bool {
+    PassError::from(NoMemory) == PassError::NoMemory
+        && MarkError::from(NoMemory) == MarkError::NoMemory
+        && DeclKind::from(VarDeclKind::Var) == DeclKind::Var
+        && DeclKind::from(VarDeclKind::Let) == DeclKind::Lexical
+        && DeclKind::from(VarDeclKind::Const) == DeclKind::Lexical
+        && ScopeKind::default() == ScopeKind::Fn
+}
+
+fn versions_rise() -> bool {
+    EsVersion::Es5 < EsVersion::Es2015 && EsVersion::Es2022 < EsVersion::EsNext
+}
+
+fn holds(alloc: Global, word: &str) -> Option<bool> {
+    match word {
+        "ancestors are found" => finds_ancestors(alloc),
+        "lists change" => changes(alloc),
+        "marks are made" => makes_marks(alloc),
+        "words become kinds" => Some(converts()),
+        "versions rise" => Some(versions_rise()),
+        _ => None,
+    }
+}
+
+/// What is answered to a row of no input.
+pub fn answer(alloc: Global, word: &str) -> Option<String> {
+    if word == "errors" {
+        return errors(alloc);
+    }
+    let holds = holds(alloc, word)?;
+    format!(in alloc; "{holds}").ok()
+}
