@@ -11,7 +11,8 @@ use Rattle.swc_tree_node.specs.declared.node.Node.TheOpen.{Node-F}
 use Rattle.swc_base_rename_substitution.specs.declared.place.Place.{Place}
 use Rattle.swc_base_rename_substitution.specs.Identifiers.{Changes, changed, identifier_to}
 use Rattle.swc_base_rename_substitution.specs.Exports.{items_for}
-use Rattle.swc_base_rename_substitution.specs.Substituted.{renewed, substituted, tree_for, each_at, all_before, places}
+use Rattle.swc_base_rename_substitution.specs.Substituted.{renewed, substituted, tree_for, each_at, all_before}
+use Rattle.swc_base_rename_substitution.specs.Places.{places}
 use Rattle.swc_base_rename_substitution.specs.Walk.{each_substituted, items_substituted}
 
 before-List : (m : Changes) (keeps : Bool) (ts : List Node) → (renewed m keeps (Many ts)).before ≡ Many (all_before (map (renewed m keeps) ts))

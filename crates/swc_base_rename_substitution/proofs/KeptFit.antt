@@ -21,10 +21,12 @@ use Rattle.swc_tree_node.proofs.Fit.{fits-Absent, fits-Flag, fits-Word, fits-Ide
 use Rattle.swc_base_rename_substitution.specs.declared.place.Place.{Place}
 use Rattle.swc_base_rename_substitution.specs.declared.place.Place.TheVariants as place
 use Rattle.swc_base_rename_substitution.specs.Names.{Id}
-use Rattle.swc_base_rename_substitution.specs.Identifiers.{Changes, identifier_at, identifier_in, identifier_to, kept_name, key_of, property_key, default_in, kept_in, written_out, written_out_if}
+use Rattle.swc_tree_scoping.specs.Shorthands.{key_of, shorthand_key}
+use Rattle.swc_base_rename_substitution.specs.Identifiers.{Changes, identifier_at, identifier_in, identifier_to, kept_name, default_in, kept_in, written_out, written_out_if}
 use Rattle.swc_base_rename_substitution.specs.Classes.{class_span, kept_class, let_if, let_of_class}
 use Rattle.swc_base_rename_substitution.specs.Exports.{export_list, specifier, specifier_to, made}
-use Rattle.swc_base_rename_substitution.specs.Substituted.{if_changed, keeps_name, places, tree_for}
+use Rattle.swc_base_rename_substitution.specs.Substituted.{if_changed, keeps_name, tree_for}
+use Rattle.swc_base_rename_substitution.specs.Places.{places}
 use Rattle.swc_base_rename_substitution.specs.Room.{implies, takes_written}
 use Rattle.swc_base_rename_substitution.proofs.Room.{yes, takes_keys, key_room, is_short, implied, left, right, tree_open, tree_close, identifier_open, identifier_close}
 
@@ -49,8 +51,8 @@ either : (b : Bool) (t u : Node) (s : Slot) → Fits t s → Fits u s → Fits (
 either true t u s h g = h
 either false t u s h g = g
 
-property_key_fits : (i : Ident) → Fits (property_key i) (slot.One (content.Node class.PropName))
-property_key_fits i = either _ _ (key_of i) (slot.One (content.Node class.PropName))
+shorthand_key_fits : (i : Ident) → Fits (shorthand_key i) (slot.One (content.Node class.PropName))
+shorthand_key_fits i = either _ _ (key_of i) (slot.One (content.Node class.PropName))
     (tree_close kind.ComputedPropName _ _ class.PropName refl yes yes (span_fits i.span, (text_key_fits i, tt))) (key_fits i)
 
 name_fits : (i : Ident) (s : Slot) (c : Class) → single s ≡ Some (content.Node c) → IsTrue (belongs kind.Ident c) → Fits (Identifier kind.Ident i) s
@@ -82,9 +84,9 @@ key_single slot.Pair h = refl
 key_single slot.Pairs h = refl
 
 shorthand_fits : (k : Kind) (i j : Ident) (s : Slot) (c : Class) → single s ≡ Some (content.Node c) → IsTrue (is_identifier k) → IsTrue (belongs k c) → takes_keys (Some (content.Node c)) ≡ true
-    → Fits (Tree kind.KeyValueProp (property_key i ∷ Identifier k j ∷ [])) s
+    → Fits (Tree kind.KeyValueProp (shorthand_key i ∷ Identifier k j ∷ [])) s
 shorthand_fits kind.Ident i j s c e a b r =
-    tree_close kind.KeyValueProp _ s c e yes (implied (belongs kind.Ident c) (belongs kind.KeyValueProp c) (left _ _ r) b) (property_key_fits i, (name_fits j _ class.Expr refl yes, tt))
+    tree_close kind.KeyValueProp _ s c e yes (implied (belongs kind.Ident c) (belongs kind.KeyValueProp c) (left _ _ r) b) (shorthand_key_fits i, (name_fits j _ class.Expr refl yes, tt))
 shorthand_fits kind.BindingIdent i j s c e a b r =
     let none : not (belongs kind.BindingIdent c) ≡ true = right (implies (belongs kind.Ident c) (belongs kind.KeyValueProp c)) _ r in
     let some : not (belongs kind.BindingIdent c) ≡ false = ap not b in

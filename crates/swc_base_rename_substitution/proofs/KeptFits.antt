@@ -19,10 +19,11 @@ use Rattle.swc_tree_node.proofs.Fit.{fits-List, all_open, all_close, fields_open
 use Rattle.swc_base_rename_substitution.specs.declared.place.Place.{Place}
 use Rattle.swc_base_rename_substitution.specs.declared.place.Place.TheVariants as place
 use Rattle.swc_base_rename_substitution.specs.Names.{Id}
-use Rattle.swc_base_rename_substitution.specs.Places.{field_role}
+use Rattle.swc_tree_scoping.specs.Places.{field_role}
 use Rattle.swc_base_rename_substitution.specs.Identifiers.{Changes, changed}
 use Rattle.swc_base_rename_substitution.specs.Exports.{exported_in, exports_of, export_list, declaration_in, declaration_of, with_exports, items_for}
-use Rattle.swc_base_rename_substitution.specs.Substituted.{Substituted, substituted, places, has_source}
+use Rattle.swc_base_rename_substitution.specs.Substituted.{Substituted, substituted}
+use Rattle.swc_base_rename_substitution.specs.Places.{has_source, places}
 use Rattle.swc_base_rename_substitution.specs.Room.{takes_written, takes_exports, has_room, FitsAs}
 use Rattle.swc_base_rename_substitution.proofs.Equations.{substituted-Absent, substituted-Flag, substituted-Word, substituted-Text, substituted-Span, substituted_identifier, substituted_list, substituted_tree}
 use Rattle.swc_base_rename_substitution.proofs.Room.{table_has_room, key_room, is_short, short_places, implied, left, right, tree_open}
@@ -152,7 +153,7 @@ tree_is_kept m keeps k es p s r q h =
     let o = tree_open k ts s h in
     rw (substituted_tree m keeps p k ts)
     (tree_kept m keeps p k ts (each_substituted m keeps (places keeps p k ts) ts) s o.0 o.1 o.2 o.3 (room_single s (content.Node o.0) r o.1)
-    (each_field m keeps (places keeps p k ts) (slots_of k) es (table_has_room k) (λ i z. short_places keeps p (has_source k ts) k (field_role k i) z) o.4))
+    (each_field m keeps (places keeps p k ts) (slots_of k) es (table_has_room k) (λ i z. short_places keeps p (has_source ts) k (field_role k i) z) o.4))
 
 same : (m : Changes) (keeps : Bool) (t : Node) → ((p : Place) → substituted m keeps p t ≡ t) → Keeps m keeps t
 same m keeps t e p s r q h = subst (λ u. Fits u s) (sym (e p)) h

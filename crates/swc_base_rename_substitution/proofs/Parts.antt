@@ -1,10 +1,11 @@
 -- Nodes that have as many fields as their kinds ask.
-use Rattle.std.proofs.Common.{◌≡◌, ℕ, Option, Some, List, [], ◌∷◌, length, refl, sym, ap, ◌∙◌, arith}
+use Rattle.std.proofs.Common.{◌≡◌, Option, Some, List, [], ◌∷◌, length, refl, sym, ap, ◌∙◌, arith}
 use Rattle.std.specs.List.{slice_get, slice_set}
 use Rattle.swc_tree_marks.specs.declared.ident.Ident.{Ident}
 use Rattle.swc_tree_node.specs.declared.kind.Kind.TheVariants as kind
 use Rattle.swc_tree_node.specs.declared.node.Node.{Node, Tree}
-use Rattle.swc_base_rename_substitution.specs.Identifiers.{key_of, or_kept, with_default, with_other, written_out}
+use Rattle.swc_tree_scoping.specs.Shorthands.{key_of}
+use Rattle.swc_base_rename_substitution.specs.Identifiers.{or_kept, with_default, with_other, written_out}
 use Rattle.swc_base_rename_substitution.specs.Classes.{kept_class}
 
 -- a class declaration has a name and a class

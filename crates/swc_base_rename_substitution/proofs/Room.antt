@@ -46,6 +46,7 @@ is_short p = false
 
 within_long : (p : Place) → is_short (within p) ≡ false
 within_long place.Other = refl
+within_long place.Exported = refl
 within_long p = refl
 
 role_long : (p : Place) (s : Bool) (r : Role) → is_short (by_role p s r) ≡ false
@@ -55,12 +56,17 @@ role_long p false role.ExportLocal = refl
 role_long p s r = refl
 
 class_long : (keeps : Bool) (q : Place) → is_short q ≡ false → is_short (in_kind keeps kind.ClassExpr q) ≡ false
-class_long true q h = refl
-class_long false q h = h
+class_long true place.Name h = refl
+class_long false place.Name h = refl
+class_long keeps q h = h
+
+export_long : (keeps : Bool) (q : Place) → is_short q ≡ false → is_short (in_kind keeps kind.ExportDecl q) ≡ false
+export_long keeps place.Other h = refl
+export_long keeps q h = h
 
 kind_long : (keeps : Bool) (k : Kind) (q : Place) → is_short q ≡ false → is_short (in_kind keeps k q) ≡ true → list_all key_room (slots_of k) ≡ true
 kind_long keeps kind.ObjectLit q h g = refl
-kind_long keeps kind.ExportDecl q h g = absurd (cc)
+kind_long keeps kind.ExportDecl q h g = let l = export_long keeps q h in absurd (cc)
 kind_long keeps kind.ClassExpr q h g = let l = class_long keeps q h in absurd (cc)
 kind_long keeps k q h g = absurd (cc)
 

@@ -98,6 +98,10 @@ export_row : Substituted (becomes a b) false (program (exported (declaration (pa
     (program (declaration (pattern_of (pair a (binding b []) ∷ short (binding c (1 ∷ [])) Absent ∷ [])) o ∷ exports (local (name b []) (name a []) ∷ local (name c (1 ∷ [])) Absent ∷ []) Absent ∷ []))
 export_row = search (rules, the_lemmas)
 
+-- export let «a»; an expression for the name declares nothing, so there is nothing to list
+expression_row : Substituted (becomes a b) false (program (exported (declaration (name a (1 ∷ [])) Absent) ∷ [])) (program (exported (declaration (name b []) Absent) ∷ []))
+expression_row = search (rules, the_lemmas)
+
 -- export let [a, a] = o;
 twice_row : Substituted (becomes a b) false (program (exported (declaration (Tree kind.ArrayPat (here ∷ Many (binding a (1 ∷ []) ∷ binding a (1 ∷ []) ∷ []) ∷ [])) o) ∷ []))
     (program (declaration (Tree kind.ArrayPat (here ∷ Many (binding b [] ∷ binding b [] ∷ []) ∷ [])) o ∷ exports (local (name b []) (name a []) ∷ []) Absent ∷ []))

@@ -12,10 +12,10 @@ use Rattle.swc_tree_node.specs.declared.node.Node.TheOpen.{Node-F}
 use Rattle.swc_base_rename_substitution.specs.declared.place.Place.{Place}
 use Rattle.swc_base_rename_substitution.specs.declared.place.Place.TheVariants as place
 use Rattle.swc_base_rename_substitution.specs.declared.place.Below.TheVariants as below
-use Rattle.swc_base_rename_substitution.specs.Places.{within}
+use Rattle.swc_base_rename_substitution.specs.Places.{has_source, places, within}
 use Rattle.swc_base_rename_substitution.specs.Identifiers.{Changes, changed, identifier_at, identifier_in, identifier_to, written_out, writes_out, writes_name, written_out_if}
 use Rattle.swc_base_rename_substitution.specs.Classes.{kept_class}
-use Rattle.swc_base_rename_substitution.specs.Substituted.{substituted, has_source, if_changed, keeps_name, places, tree_for}
+use Rattle.swc_base_rename_substitution.specs.Substituted.{substituted, if_changed, keeps_name, tree_for}
 use Rattle.swc_base_rename_substitution.proofs.Equations.{substituted_tree, substituted_identifier}
 use Rattle.swc_base_rename_substitution.specs.Walk.{place_in, each_substituted, IsRenamed}
 
@@ -95,7 +95,7 @@ identifier_is t (Node-F.Identifier k i) h s = (k, i, made_of t k i h)
 identifier_is t y h s = absurd (cc)
 
 named_with : (m : Changes) (keeps : Bool) (p : Place) (k : Kind) (a b : Node) (cs mid : List Node) (t : Node) (nk : Kind) (i : Ident) → b ≡ Identifier nk i → writes_out k ≡ true
-    → mid ≡ each_substituted m keeps (place_in keeps (below.Others p (has_source k (a ∷ b ∷ cs)) k)) (a ∷ b ∷ cs) → IsRenamed m (places keeps p k (a ∷ b ∷ cs) 1) k mid t
+    → mid ≡ each_substituted m keeps (place_in keeps (below.Others p (has_source (a ∷ b ∷ cs)) k)) (a ∷ b ∷ cs) → IsRenamed m (places keeps p k (a ∷ b ∷ cs) 1) k mid t
     → t ≡ substituted m keeps p (Tree k (a ∷ b ∷ cs))
 named_with m keeps p k a b cs mid t nk i is w e done =
     let ts : List Node = a ∷ b ∷ cs in
@@ -123,14 +123,14 @@ both_right true b h = h
 both_right false b h = absurd (cc)
 
 named_of : (m : Changes) (keeps : Bool) (p : Place) (k : Kind) (ts mid : List Node) (t : Node) → writes_out k ≡ true → is_some (identifier_at ts 1) ≡ true
-    → mid ≡ each_substituted m keeps (place_in keeps (below.Others p (has_source k ts) k)) ts → IsRenamed m (places keeps p k ts 1) k mid t → t ≡ substituted m keeps p (Tree k ts)
+    → mid ≡ each_substituted m keeps (place_in keeps (below.Others p (has_source ts) k)) ts → IsRenamed m (places keeps p k ts 1) k mid t → t ≡ substituted m keeps p (Tree k ts)
 named_of m keeps p k [] mid t w s e done = absurd (cc)
 named_of m keeps p k (a ∷ []) mid t w s e done = absurd (cc)
 named_of m keeps p k (a ∷ b ∷ cs) mid t w s e done =
     let is = identifier_is b (out-Node b) refl s in named_with m keeps p k a b cs mid t is.0 is.1 is.2 w e done
 
 pub named_done : (m : Changes) (keeps : Bool) (p : Place) (k : Kind) (ts mid : List Node) → writes_name k ts ≡ true
-    → mid ≡ each_substituted m keeps (place_in keeps (below.Others p (has_source k ts) k)) ts → (t : Node) → IsRenamed m (places keeps p k ts 1) k mid t → t ≡ substituted m keeps p (Tree k ts)
+    → mid ≡ each_substituted m keeps (place_in keeps (below.Others p (has_source ts) k)) ts → (t : Node) → IsRenamed m (places keeps p k ts 1) k mid t → t ≡ substituted m keeps p (Tree k ts)
 named_done m keeps p k ts mid w e t done = named_of m keeps p k ts mid t (both_left (writes_out k) (is_some (identifier_at ts 1)) w) (both_right (writes_out k) (is_some (identifier_at ts 1)) w) e done
 
 long_list : (m : Changes) (keeps : Bool) (ps : ℕ → Place) (ts rs : List Node) → is_some (identifier_at ts 1) ≡ true → rs ≡ each_substituted m keeps ps ts → 1 < length rs

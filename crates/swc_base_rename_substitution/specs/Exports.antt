@@ -1,42 +1,14 @@
 -- Exported declarations, whose names stay as they were for other modules.
-use Rattle.std.specs.Prelude.{◌≡◌, ℕ, zero, suc, Bool, true, false, Option, Some, None, is_some, List, [], ◌∷◌, ◌++◌, map, if◌then◌else◌}
-use Rattle.std.specs.List.{flat_map, list_any}
+use Rattle.std.specs.Prelude.{◌≡◌, Option, Some, None, is_some, List, [], ◌∷◌, ◌++◌, map, if◌then◌else◌}
+use Rattle.std.specs.List.{list_any}
 use Rattle.std.specs.HashSet.{HashSet, contains}
 use Rattle.swc_tree_marks.specs.declared.ident.Ident.{Ident}
 use Rattle.swc_tree_node.specs.declared.kind.Kind.TheVariants as kind
-use Rattle.swc_tree_node.specs.declared.slot.Role.{Role}
-use Rattle.swc_tree_node.specs.declared.slot.Role.TheVariants as role
-use Rattle.swc_tree_node.specs.declared.node.Node.{Node, Absent, Span, List as Many, Identifier, Tree, out-Node, fold-Node}
+use Rattle.swc_tree_node.specs.declared.node.Node.{Node, Absent, Span, List as Many, Identifier, Tree, out-Node}
 use Rattle.swc_tree_node.specs.declared.node.Node.TheOpen.{Node-F}
 use Rattle.swc_base_rename_substitution.specs.Names.{Id, same_id}
-use Rattle.swc_base_rename_substitution.specs.Places.{field_role}
-use Rattle.swc_base_rename_substitution.specs.Identifiers.{Changes, id_of}
-
--- a declaration binds the names that stand in fields of these roles (ECMA-262, BoundNames)
-abbrev pub holds_bound : Role → Bool
-holds_bound role.Declared = true
-holds_bound role.Lexical = true
-holds_bound role.Function = true
-holds_bound role.Class = true
-holds_bound role.Inherited = true
-holds_bound r = false
-
-abbrev pub bound_in : Role → List Id → List Id
-bound_in r xs = if holds_bound r then xs else []
-
-abbrev pub bound_below : (ℕ → Role) → List (List Id) → List Id
-bound_below roles [] = []
-bound_below roles (xs ∷ xss) = bound_in (roles zero) xs ++ bound_below (λ i. roles (suc i)) xss
-
-abbrev pub bound_step : Node-F (List Id) → List Id
-bound_step (Node-F.Identifier k i) = id_of i ∷ []
-bound_step (Node-F.List xss) = flat_map (λ xs. xs) xss
-bound_step (Node-F.Tree k xss) = bound_below (field_role k) xss
-bound_step y = []
-
--- the ids that a declaration binds, in order
-abbrev pub bound_ids : Node → List Id
-bound_ids = fold-Node (List Id) bound_step
+use Rattle.swc_tree_scoping.specs.BoundNames.{declared_ids}
+use Rattle.swc_base_rename_substitution.specs.Identifiers.{Changes}
 
 abbrev pub without : Id → List Id → List Id
 without x [] = []
@@ -56,7 +28,7 @@ abbrev pub with_one_more : Id → List Id → List Id
 with_one_more x xs = if list_any (same_id x) xs then xs else xs ++ x ∷ []
 
 abbrev pub exported_in : Node-F Node → List Id
-exported_in (Node-F.Tree kind.ExportDecl (span ∷ declaration ∷ [])) = distinct (bound_ids declaration)
+exported_in (Node-F.Tree kind.ExportDecl (span ∷ declaration ∷ [])) = distinct (declared_ids declaration)
 exported_in y = []
 
 -- the ids that an exported declaration binds, each once

@@ -1,11 +1,11 @@
 -- What stands in the place of an identifier whose text changes, and of a node that it names.
-use Rattle.std.specs.Prelude.{ℕ, nat_eq, codes, Bool, true, false, ◌&&◌, Option, Some, None, is_some, option_map, option_and_then, slice_get, List, [], ◌∷◌, if◌then◌else◌}
-use Rattle.std.specs.Cmp.Lexicographic.{pointwise}
+use Rattle.std.specs.Prelude.{ℕ, Bool, true, false, ◌&&◌, Option, Some, None, is_some, option_map, option_and_then, slice_get, List, [], ◌∷◌}
 use Rattle.swc_tree_marks.specs.declared.ident.Ident.{Ident}
 use Rattle.swc_tree_node.specs.declared.kind.Kind.{Kind}
 use Rattle.swc_tree_node.specs.declared.kind.Kind.TheVariants as kind
-use Rattle.swc_tree_node.specs.declared.node.Node.{Node, Absent, Text, Span, Identifier, Tree, out-Node}
+use Rattle.swc_tree_node.specs.declared.node.Node.{Node, Span, Identifier, Tree, out-Node}
 use Rattle.swc_tree_node.specs.declared.node.Node.TheOpen.{Node-F}
+use Rattle.swc_tree_scoping.specs.Shorthands.{key_of, shorthand_key}
 use Rattle.swc_base_rename_substitution.specs.declared.place.Place.{Place}
 use Rattle.swc_base_rename_substitution.specs.declared.place.Place.TheVariants as place
 use Rattle.swc_base_rename_substitution.specs.Names.{Id}
@@ -27,26 +27,16 @@ kept_name i = record i { ctxt = [] }
 -- the new identifier at a binding or reference place, where its text changes
 abbrev pub changed : Changes → Place → Ident → Option Ident
 changed m place.Other i = None
+changed m place.Exported i = None
 changed m place.ClassName i = None
 changed m p i = option_map (with_id i) (m (id_of i))
-
-abbrev pub key_of : Ident → Node
-key_of i = Tree kind.IdentName (Span i.span ∷ Text i.sym ∷ [])
-
-abbrev pub computed_key : Ident → Node
-computed_key i = Tree kind.ComputedPropName (Span i.span ∷ Tree kind.Str (Span i.span ∷ Text i.sym ∷ Absent ∷ []) ∷ [])
-
--- with the key `__proto__` a property sets the prototype (ECMA-262, PropertyDefinitionEvaluation), which its
--- shorthand did not
-abbrev pub property_key : Ident → Node
-property_key i = if pointwise nat_eq i.sym (codes "__proto__") then computed_key i else key_of i
 
 -- what stands in the place of an identifier, given the new one where its text changes; the shorthand `{ a }`
 -- becomes `{ a: a1 }`
 abbrev pub identifier_to : Place → Kind → Ident → Option Ident → Node
 identifier_to place.ClassName k i j = Identifier k (kept_name i)
 identifier_to p k i None = Identifier k i
-identifier_to place.Shorthand k i (Some j) = Tree kind.KeyValueProp (property_key i ∷ Identifier k j ∷ [])
+identifier_to place.Shorthand k i (Some j) = Tree kind.KeyValueProp (shorthand_key i ∷ Identifier k j ∷ [])
 identifier_to p k i (Some j) = Identifier k j
 
 abbrev pub identifier_in : Node-F Node → Option Ident

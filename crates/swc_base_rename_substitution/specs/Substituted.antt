@@ -7,27 +7,14 @@ use Rattle.swc_tree_marks.specs.declared.ident.Ident.{Ident}
 use Rattle.swc_tree_node.specs.declared.kind.Kind.{Kind}
 use Rattle.swc_tree_node.specs.declared.kind.Kind.TheVariants as kind
 use Rattle.swc_tree_node.specs.declared.fields.statements.class_decl.TheConstants as class_decl
-use Rattle.swc_tree_node.specs.declared.node.Node.{Node, Absent, Flag, Word, Text, Span, List as Many, out-Node, roll-Node, map-Node, fold-Node}
+use Rattle.swc_tree_node.specs.declared.node.Node.{Node, Absent, Flag, Word, Text, Span, List as Many, roll-Node, map-Node, fold-Node}
 use Rattle.swc_tree_node.specs.declared.node.Node.TheOpen.{Node-F}
 use Rattle.swc_base_rename_substitution.specs.declared.place.Place.{Place}
 use Rattle.swc_base_rename_substitution.specs.declared.place.Place.TheVariants as place
-use Rattle.swc_base_rename_substitution.specs.Places.{field_role, place_below}
+use Rattle.swc_base_rename_substitution.specs.Places.{places}
 use Rattle.swc_base_rename_substitution.specs.Identifiers.{Changes, changed, identifier_to, identifier_at, written_out_if}
 use Rattle.swc_base_rename_substitution.specs.Classes.{kept_class}
 use Rattle.swc_base_rename_substitution.specs.Exports.{items_for}
-
-abbrev pub stands_in : Node-F Node → Bool
-stands_in Node-F.Absent = false
-stands_in y = true
-
--- whether the node is an export list with a source
-abbrev pub has_source : Kind → List Node → Bool
-has_source kind.NamedExport (span ∷ specifiers ∷ source ∷ ts) = stands_in (out-Node source)
-has_source k ts = false
-
--- the places that the fields of a node are, which was that kind with these fields
-abbrev pub places : Bool → Place → Kind → List Node → ℕ → Place
-places keeps whole k ts i = place_below keeps whole (has_source k ts) k (field_role k i)
 
 -- the identifier in a field of that place, where its text changes
 abbrev pub if_changed : Changes → Place → Option Ident → Option Ident

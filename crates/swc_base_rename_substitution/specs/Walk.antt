@@ -10,7 +10,8 @@ use Rattle.swc_base_rename_substitution.specs.declared.place.Place.{Place}
 use Rattle.swc_base_rename_substitution.specs.declared.place.Place.TheVariants as place
 use Rattle.swc_base_rename_substitution.specs.declared.place.Below.{Below}
 use Rattle.swc_base_rename_substitution.specs.declared.place.Below.TheVariants as below
-use Rattle.swc_base_rename_substitution.specs.Places.{field_role, place_below}
+use Rattle.swc_base_rename_substitution.specs.Places.{place_below}
+use Rattle.swc_tree_scoping.specs.Places.{field_role}
 use Rattle.swc_base_rename_substitution.specs.Identifiers.{Changes, changed, written_out_if}
 use Rattle.swc_base_rename_substitution.specs.Exports.{items_for, with_exports}
 use Rattle.swc_base_rename_substitution.specs.Substituted.{if_changed, each_at, renewed, substituted}

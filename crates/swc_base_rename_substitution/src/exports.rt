@@ -5,7 +5,6 @@ ghost use Rattle.swc_base_rename_substitution.specs.Names.{new_id};
 ghost use Rattle.swc_base_rename_substitution.specs.Exports.{made as is_made, specifier_to as is_specifier_to, specifier as is_specifier, export_list as is_export_list, declaration_of as is_declaration_of, exported_ids as are_exported, exports_of as is_exports_of, with_exports};
 ghost use Rattle.swc_base_rename_substitution.specs.Walk.{each_with_exports, is_exported_declaration};
 
-use crate::bound::bound_ids;
 use crate::identifiers::tree;
 use crate::names::Names;
 use crate::unique::distinct;
@@ -14,6 +13,7 @@ use swc_tree_items::{Boxed, Items};
 use swc_tree_marks::{DUMMY_SP, Id, Ident, NoMemory, SyntaxContext};
 use swc_tree_node::fields::export_decl;
 use swc_tree_node::{Kind, Node};
+use swc_tree_scoping::add_declared_ids;
 
 // Whether the text of one of the ids changes.
 fn any_changes(names: Names, ids: &[Id]) -> bool
@@ -96,7 +96,7 @@ fn exported_ids(alloc: Global, item: &Node) -> Result<Items<Id>, NoMemory>
     match item {
         Node::Tree(Kind::ExportDecl, fields) => {
             if fields.len() == 2 {
-                bound_ids(&fields.as_slice()[export_decl::DECL], &mut ids)?;
+                add_declared_ids(&fields.as_slice()[export_decl::DECL], &mut ids)?;
             }
         }
         _ => {}

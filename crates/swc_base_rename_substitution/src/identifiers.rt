@@ -1,8 +1,9 @@
 //! Identifiers that get their new names, and the nodes that write a changed name out.
 ghost use Rattle.std.specs.Prelude.{◌≡◌, IfOk, Some, unwrap_or};
 ghost use Rattle.swc_base_rename_substitution.specs.Names.{new_id};
-ghost use Rattle.swc_base_rename_substitution.specs.Identifiers.{changed, id_of, identifier_to, kept_name, computed_key as is_computed_key, key_of as is_key_of, property_key as is_property_key, with_id};
+ghost use Rattle.swc_base_rename_substitution.specs.Identifiers.{changed, id_of, identifier_to, kept_name, with_id};
 ghost use Rattle.swc_base_rename_substitution.specs.Substituted.{if_changed};
+ghost use Rattle.swc_tree_scoping.specs.Shorthands.{computed_key as is_computed_key, key_of as is_key_of, shorthand_key as is_shorthand_key};
 
 use crate::names::Names;
 use crate::place::Place;
@@ -41,7 +42,7 @@ pub fn rename(
     ensures new { IfOk result (λ r. r.0 ≡ unwrap_or (changed (new_id names.entry) place ident) ident) }
     ensures old { IfOk result (λ r. r.1 ≡ if_changed (new_id names.entry) place (Some ident)) }
 {
-    if matches!(place, Place::ClassName | Place::Other) {
+    if matches!(place, Place::ClassName | Place::Exported | Place::Other) {
         return Ok((ident, None));
     }
     let span = ident.get().span;
@@ -87,8 +88,8 @@ pub fn key_of(alloc: Global, name: Ident) -> Result<Node, NoMemory>
 }
 
 // The key of the property that a shorthand made.
-fn property_key(alloc: Global, name: Ident) -> Result<Node, NoMemory>
-    ensures { IfOk result (λ node. node ≡ is_property_key name) }
+fn shorthand_key(alloc: Global, name: Ident) -> Result<Node, NoMemory>
+    ensures { IfOk result (λ node. node ≡ is_shorthand_key name) }
 {
     if name.sym.as_str() != "__proto__" {
         return key_of(alloc, name);
@@ -110,7 +111,7 @@ fn computed_key(alloc: Global, name: Ident) -> Result<Node, NoMemory>
 fn property(alloc: Global, old: Ident, kind: Kind, ident: Boxed<Ident>) -> Result<Node, NoMemory>
     ensures { IfOk result (λ node. node ≡ identifier_to Place.Shorthand kind old (Some ident)) }
 {
-    let key = property_key(alloc, old)?;
+    let key = shorthand_key(alloc, old)?;
     let fields = [key, Node::Identifier(kind, ident)];
     tree(alloc, Kind::KeyValueProp, fields)
 }

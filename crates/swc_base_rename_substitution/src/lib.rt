@@ -3,7 +3,6 @@
 //! `specs/Substituted.antt` says what a tree becomes; `substitute` answers that tree.
 #![tactic(auto)]
 
-mod bound;
 mod classes;
 mod config;
 mod exports;

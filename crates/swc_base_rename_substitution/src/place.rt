@@ -1,9 +1,10 @@
 //! Where an identifier stands.
 ghost use Rattle.std.specs.Prelude.{◌≡◌};
-ghost use Rattle.swc_base_rename_substitution.specs.Places.{place_below as is_below, within as is_within, field_role as role_in_table};
+ghost use Rattle.swc_base_rename_substitution.specs.Places.{by_role as is_by_role, is_name as is_binding_or_reference, place_below as is_below, within as is_within};
 ghost use Rattle.swc_base_rename_substitution.specs.Walk.{place_in};
 
-use swc_tree_node::{Kind, Role, fields_of};
+use swc_tree_node::{Kind, Role};
+use swc_tree_scoping::role_of_field;
 
 /// What an identifier is at its place, as far as substitution goes by it.
 #[derive(Clone, Copy, PartialEq, Eq)]
@@ -12,7 +13,7 @@ pub enum Place {
     Name,
     /// A shorthand property of an object literal: the key, and a reference.
     Shorthand,
-    /// A name right below `export`, as in `export class A {}`.
+    /// A declaration right below `export`, as in `export class A {}`.
     Exported,
     /// The name of a class expression, where classes keep their names.
     ClassName,
@@ -20,22 +21,32 @@ pub enum Place {
     Other,
 }
 
-/// The role of a field, as the table has it.
-pub fn field_role(kind: Kind, field: usize) -> Role
-    ensures { result ≡ role_in_table kind field }
+// Whether an identifier there is a binding or a reference.
+fn is_name(place: Place) -> bool
+    ensures { result ≡ is_binding_or_reference place }
 {
-    match fields_of(kind).get(field) {
-        Some(field) => field.role,
-        None => Role::Plain,
-    }
+    !matches!(place, Place::Other | Place::Exported)
 }
 
 // The place of a part of what stands at a place.
 fn within(place: Place) -> Place
     ensures { result ≡ is_within place }
 {
-    match place {
-        Place::Other => Place::Other,
+    if is_name(place) {
+        Place::Name
+    } else {
+        Place::Other
+    }
+}
+
+// The place of a field by its role; `sourced` says whether the node is an export list with a source.
+fn by_role(place: Place, sourced: bool, role: Role) -> Place
+    ensures { result ≡ is_by_role place sourced role }
+{
+    match role {
+        Role::Inherited => within(place),
+        Role::Plain | Role::Label | Role::Imported | Role::Exported => Place::Other,
+        Role::ExportLocal if sourced => Place::Other,
         _ => Place::Name,
     }
 }
@@ -47,16 +58,11 @@ fn within(place: Place) -> Place
 fn place_below(keeps_classes: bool, place: Place, sourced: bool, kind: Kind, role: Role) -> Place
     ensures { result ≡ is_below keeps_classes place sourced kind role }
 {
-    match kind {
-        Kind::ObjectLit => Place::Shorthand,
-        Kind::ExportDecl => Place::Exported,
-        Kind::ClassExpr if keeps_classes => Place::ClassName,
-        _ => match role {
-            Role::Inherited => within(place),
-            Role::Plain | Role::Label | Role::Imported | Role::Exported => Place::Other,
-            Role::ExportLocal if sourced => Place::Other,
-            _ => Place::Name,
-        },
+    match (kind, by_role(place, sourced, role)) {
+        (Kind::ObjectLit, Place::Name) => Place::Shorthand,
+        (Kind::ExportDecl, Place::Other) => Place::Exported,
+        (Kind::ClassExpr, Place::Name) if keeps_classes => Place::ClassName,
+        (_, place) => place,
     }
 }
 
@@ -65,7 +71,7 @@ fn place_below(keeps_classes: bool, place: Place, sourced: bool, kind: Kind, rol
 pub enum Below {
     /// The items of a list at a place.
     Items(Place),
-    /// The fields of a node at a place, whether it is an export list with a source, and its kind.
+    /// The fields of a node at a place, whether it has a source as an export list, and its kind.
     Fields(Place, bool, Kind),
     /// The same, but that a name in the second field stays.
     Others(Place, bool, Kind),
@@ -80,13 +86,25 @@ impl Below {
         match self {
             Below::Items(place) => place,
             Below::Fields(whole, sourced, kind) => {
-                place_below(keeps_classes, whole, sourced, kind, field_role(kind, index))
+                place_below(
+                    keeps_classes,
+                    whole,
+                    sourced,
+                    kind,
+                    role_of_field(kind, index),
+                )
             }
             Below::Others(whole, sourced, kind) => {
                 if index == 1 {
                     Place::Other
                 } else {
-                    place_below(keeps_classes, whole, sourced, kind, field_role(kind, index))
+                    place_below(
+                        keeps_classes,
+                        whole,
+                        sourced,
+                        kind,
+                        role_of_field(kind, index),
+                    )
                 }
             }
         }

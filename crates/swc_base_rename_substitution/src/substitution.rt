@@ -2,7 +2,8 @@
 ghost use Rattle.std.specs.Prelude.{◌≡◌, IfOk, true};
 ghost use Rattle.swc_base_rename_substitution.specs.Names.{new_id};
 ghost use Rattle.swc_base_rename_substitution.specs.Identifiers.{writes_out as is_writing_out, writes_name as is_writing_name};
-ghost use Rattle.swc_base_rename_substitution.specs.Substituted.{has_source as has_source_in, keeps_name as is_keeping, substituted};
+ghost use Rattle.swc_base_rename_substitution.specs.Places.{has_source as has_source_in};
+ghost use Rattle.swc_base_rename_substitution.specs.Substituted.{keeps_name as is_keeping, substituted};
 ghost use Rattle.swc_base_rename_substitution.specs.Walk.{place_in, each_substituted, items_substituted};
 
 use crate::classes::{identifier_at, kept_class};
@@ -34,14 +35,11 @@ fn keeps_name(keeps_classes: bool, place: Place, kind: Kind) -> bool
     kind == Kind::ClassDecl && keeps_classes && place != Place::Exported
 }
 
-// Whether a node of that kind and with these fields is an export list with a source.
-fn has_source(kind: Kind, fields: &Items<Node>) -> bool
-    ensures { result ≡ has_source_in kind fields.now }
+// Whether an export list of these fields has a source.
+fn has_source(fields: &Items<Node>) -> bool
+    ensures { result ≡ has_source_in fields.now }
 {
-    match kind {
-        Kind::NamedExport => !matches!(fields.get(named_export::SRC), None | Some(Node::Absent)),
-        _ => false,
-    }
+    !matches!(fields.get(named_export::SRC), None | Some(Node::Absent))
 }
 
 // Whether a node of that kind with these fields has a name to write out.
@@ -137,7 +135,7 @@ fn substitute_tree(
 ) -> Result<Node, NoMemory>
     ensures { IfOk result (λ answer. answer ≡ substituted (new_id names.entry) keeps_classes place (Node.Tree kind fields)) }
 {
-    let below = Below::Fields(place, has_source(kind, &fields), kind);
+    let below = Below::Fields(place, has_source(&fields), kind);
     if keeps_name(keeps_classes, place, kind) {
         let old = identifier_at(&fields, class_decl::IDENT)?;
         let fields = substitute_each(alloc, names, keeps_classes, below, fields)?;
@@ -163,7 +161,7 @@ fn substitute_named(
     requires { is_writing_name kind fields ≡ true }
     ensures { IfOk result (λ answer. answer ≡ substituted (new_id names.entry) keeps_classes place (Node.Tree kind fields)) }
 {
-    let sourced = has_source(kind, &fields);
+    let sourced = has_source(&fields);
     let below = Below::Others(place, sourced, kind);
     let fields = substitute_each(alloc, names, keeps_classes, below, fields)?;
     let at = Below::Fields(place, sourced, kind).place(keeps_classes, 1);

@@ -23,7 +23,7 @@ use Rattle.swc_tree_scoping.specs.Folds.{each_in}
 use Rattle.swc_tree_scoping.specs.Scopes.{is_binding, is_taken, one_if, scope_count, seen_as, total, view_in}
 use Rattle.swc_tree_scoping.specs.declared.below.PlacesBelow.{PlacesBelow}
 use Rattle.swc_tree_scoping.specs.declared.below.PlacesBelow.TheVariants as below
-use Rattle.swc_tree_scoping.specs.Below.{fields_are, place_of, scope_of_fields, view_of}
+use Rattle.swc_tree_scoping.specs.Below.{fields_are, places_of, scope_of_fields, view_of}
 use Rattle.swc_tree_scoping.proofs.Remarked.{identifier_is, list_is, tree_is}
 use Rattle.swc_tree_scoping.proofs.Under.{no_place_under, place_under}
 use Rattle.swc_tree_scoping.proofs.Children.{fields_below, fields_opened, items_below}
@@ -316,7 +316,7 @@ module _ (env : List Open) (n : ℕ) (w : Place) (t : Node) where
 module _ (w : Place) (t : Node) (ts : List Node) (pl : PlacesBelow) where
   pub record Known : Type 0 where
     pub children : ts ≡ children_in (out-Node t)
-    pub places : place_of pl ≡ place_below w t
+    pub places : places_of pl ts ≡ place_below w t
     pub views : view_of pl ≡ view_in (out-Node t)
     pub opens : scope_of_fields pl ≡ opened w t
     pub other : is_ident (out-Node t) ≡ false
@@ -324,7 +324,7 @@ module _ (w : Place) (t : Node) (ts : List Node) (pl : PlacesBelow) where
   pub known_list : t ≡ Many ts → pl ≡ below.Items w → Known
   known_list is p = record {
     children = sym (ap children_in (ap out-Node is ∙ outs-List ts));
-    places = ap place_of p ∙ items_below w ts ∙ ap (place_below w) (sym is);
+    places = ap (λ q. places_of q ts) p ∙ items_below w ts ∙ ap (place_below w) (sym is);
     views = ap view_of p ∙ sym (ap view_in (ap out-Node is ∙ outs-List ts));
     opens = ap scope_of_fields p ∙ sym (ap (opened_in w) (ap out-Node is ∙ outs-List ts));
     other = ap is_ident (ap out-Node is ∙ outs-List ts);
@@ -333,29 +333,29 @@ module _ (w : Place) (t : Node) (ts : List Node) (pl : PlacesBelow) where
   pub known_tree : (k : Kind) → t ≡ Tree k ts → pl ≡ below.Fields (fields_are w k ts) → Known
   known_tree k is p = record {
     children = sym (ap children_in (ap out-Node is ∙ outs-Tree k ts));
-    places = ap place_of p ∙ fields_below w k ts ∙ ap (place_below w) (sym is);
+    places = ap (λ q. places_of q ts) p ∙ fields_below w k ts ∙ ap (place_below w) (sym is);
     views = ap view_of p ∙ sym (ap view_in (ap out-Node is ∙ outs-Tree k ts));
     opens = ap scope_of_fields p ∙ fields_opened w k ts ∙ ap (opened w) (sym is);
     other = ap is_ident (ap out-Node is ∙ outs-Tree k ts);
   }
 
   module _ (known : Known) where
-    pub counted : scope_count w t ≡ one_if (is_some (scope_of_fields pl)) + total (each_in scope_count (place_of pl) ts)
+    pub counted : scope_count w t ≡ one_if (is_some (scope_of_fields pl)) + total (each_in scope_count (places_of pl ts) ts)
     counted = count_out w t ∙ ap (λ o. one_if (is_some o) + total (each_in scope_count (place_below w t) (children_in (out-Node t)))) (sym known.opens)
         ∙ ap (λ p. one_if (is_some (scope_of_fields pl)) + total (each_in scope_count p (children_in (out-Node t)))) (sym known.places)
-        ∙ ap (λ ts. one_if (is_some (scope_of_fields pl)) + total (each_in scope_count (place_of pl) ts)) (sym known.children)
+        ∙ ap (λ us. one_if (is_some (scope_of_fields pl)) + total (each_in scope_count (places_of pl ts) us)) (sym known.children)
 
     module _ (s : Stage) (env : List Open) (n : ℕ) (old new : List ScopeNames) where
       joined : (envs : ℕ → List Open) (m : ℕ) → envs ≡ entered env n w t → m ≡ n + one_if (is_some (opened w t))
-          → Gains old new (ReachesBelow s envs m (place_of pl) ts (length ts)) → Gains old new (Reaches s env n w t)
+          → Gains old new (ReachesBelow s envs m (places_of pl ts) ts (length ts)) → Gains old new (Reaches s env n w t)
       joined envs m e f g =
-          let is : ReachesBelow s envs m (place_of pl) ts (length ts) ≡ Below s env n w t
-          = ap (λ envs. ReachesBelow s envs m (place_of pl) ts (length ts)) e ∙ ap (λ m. ReachesBelow s (entered env n w t) m (place_of pl) ts (length ts)) f
+          let is : ReachesBelow s envs m (places_of pl ts) ts (length ts) ≡ Below s env n w t
+          = ap (λ envs. ReachesBelow s envs m (places_of pl ts) ts (length ts)) e ∙ ap (λ m. ReachesBelow s (entered env n w t) m (places_of pl ts) ts (length ts)) f
           ∙ ap (λ p. ReachesBelow s (entered env n w t) (n + one_if (is_some (opened w t))) p ts (length ts)) known.places
           ∙ ap (λ ts. ReachesBelow s (entered env n w t) (n + one_if (is_some (opened w t))) (place_below w t) ts (length ts)) known.children in
           gains_alike old new (Below s env n w t) (Reaches s env n w t) (subst (Gains old new) is g) (λ k r x. by_children s env n w t known.other k r x)
 
-      pub plain_gains : None ≡ scope_of_fields pl → Gains old new (ReachesBelow s (λ i. pick (view_of pl i) env env env) n (place_of pl) ts (length ts)) → Gains old new (Reaches s env n w t)
+      pub plain_gains : None ≡ scope_of_fields pl → Gains old new (ReachesBelow s (λ i. pick (view_of pl i) env env env) n (places_of pl ts) ts (length ts)) → Gains old new (Reaches s env n w t)
       plain_gains nothing g =
           let none : opened w t ≡ None = sym known.opens ∙ sym nothing in
           joined (λ i. pick (view_of pl i) env env env) n (plain_envs env n w t none (view_of pl))
@@ -363,7 +363,7 @@ module _ (w : Place) (t : Node) (ts : List Node) (pl : PlacesBelow) where
 
       pub opened_gains : (sc : Scope) (parameters whole : List Open) (m : ℕ) → Some sc ≡ scope_of_fields pl
           → parameters ≡ record { scope = Some sc; number = n; whole = false } ∷ env → whole ≡ record { scope = Some sc; number = n; whole = true } ∷ env → m ≡ n + 1
-          → Gains old new (ReachesBelow s (λ i. pick (view_of pl i) env parameters whole) m (place_of pl) ts (length ts)) → Gains old new (Reaches s env n w t)
+          → Gains old new (ReachesBelow s (λ i. pick (view_of pl i) env parameters whole) m (places_of pl ts) ts (length ts)) → Gains old new (Reaches s env n w t)
       opened_gains sc parameters whole m something p q e g =
           let some : opened w t ≡ Some sc = sym known.opens ∙ sym something in
           joined (λ i. pick (view_of pl i) env parameters whole) m

@@ -11,7 +11,7 @@ use Rattle.swc_tree_scoping.specs.declared.places.Standing.TheVariants as standi
 use Rattle.swc_tree_scoping.specs.declared.places.Place.{Place}
 use Rattle.swc_tree_scoping.specs.declared.places.Scope.{Scope}
 use Rattle.swc_tree_scoping.specs.declared.below.PlacesBelow.{PlacesBelow}
-use Rattle.swc_tree_scoping.specs.Below.{place_of, scope_of_fields, view_of}
+use Rattle.swc_tree_scoping.specs.Below.{places_of, scope_of_fields, view_of}
 use Rattle.swc_tree_scoping.specs.Places.{Path, children_in, child, given, opened, place_at, place_below}
 use Rattle.swc_tree_scoping.specs.Folds.{each_in}
 use Rattle.swc_tree_scoping.specs.Scopes.{one_if, total, scope_count}
@@ -57,29 +57,29 @@ module _ (a : Marking) where
       (λ i c h. (λ j p. written_under env n w t c i h p j) ∙ ap (λ z. written a (entered env n w t i) z (place_below w t i) c) (omega arith))
 
   module _ (w : Place) (t : Node) (ts : List Node) (pl : PlacesBelow) (known : Known w t ts pl) (env : List Open) (n : ℕ) where
-    joined : (envs : ℕ → List Open) (m : ℕ) (rs : List Node) → envs ≡ entered env n w t → m ≡ n + one_if (is_some (opened w t)) → rs ≡ walked a envs m (place_of pl) ts → rs ≡ each_remarked (λ i p. written a env n w t (i ∷ p)) ts
+    joined : (envs : ℕ → List Open) (m : ℕ) (rs : List Node) → envs ≡ entered env n w t → m ≡ n + one_if (is_some (opened w t)) → rs ≡ walked a envs m (places_of pl ts) ts → rs ≡ each_remarked (λ i p. written a env n w t (i ∷ p)) ts
     joined envs m rs e f h =
-        h ∙ ap (λ envs. walked a envs m (place_of pl) ts) e ∙ ap (λ m. walked a (entered env n w t) m (place_of pl) ts) f
+        h ∙ ap (λ envs. walked a envs m (places_of pl ts) ts) e ∙ ap (λ m. walked a (entered env n w t) m (places_of pl ts) ts) f
         ∙ ap (λ p. walked a (entered env n w t) (n + one_if (is_some (opened w t))) p ts) known.places
         ∙ ap (λ ts. walked a (entered env n w t) (n + one_if (is_some (opened w t))) (place_below w t) ts) known.children
         ∙ sym (children_walked env n w t) ∙ ap (each_remarked (λ i p. written a env n w t (i ∷ p))) (sym known.children)
 
-    plain : (rs : List Node) → None ≡ scope_of_fields pl → rs ≡ walked a (λ i. pick (view_of pl i) env env env) n (place_of pl) ts → rs ≡ each_remarked (λ i p. written a env n w t (i ∷ p)) ts
+    plain : (rs : List Node) → None ≡ scope_of_fields pl → rs ≡ walked a (λ i. pick (view_of pl i) env env env) n (places_of pl ts) ts → rs ≡ each_remarked (λ i p. written a env n w t (i ∷ p)) ts
     plain rs nothing h =
         let none : opened w t ≡ None = sym known.opens ∙ sym nothing in
         joined (λ i. pick (view_of pl i) env env env) n rs (plain_envs env n w t none (view_of pl)) (let z : one_if (is_some (opened w t)) ≡ 0 = ap (λ (o : Option Scope). one_if (is_some o)) none in omega (arith, z)) h
 
-    pub list_done : (rs : List Node) → t ≡ Many ts → None ≡ scope_of_fields pl → rs ≡ walked a (λ i. pick (view_of pl i) env env env) n (place_of pl) ts → Many rs ≡ remarked (written a env n w t) t
+    pub list_done : (rs : List Node) → t ≡ Many ts → None ≡ scope_of_fields pl → rs ≡ walked a (λ i. pick (view_of pl i) env env env) n (places_of pl ts) ts → Many rs ≡ remarked (written a env n w t) t
     list_done rs is nothing h = ap (λ l. Many l) (plain rs nothing h) ∙ sym (remarked-List (written a env n w t) ts) ∙ ap (remarked (written a env n w t)) (sym is)
 
     pub plain_done : (k : Kind) (rs : List Node) (outside whole : List Open) → t ≡ Tree k ts → None ≡ scope_of_fields pl → outside ≡ env → whole ≡ env
-        → rs ≡ walked a (λ i. pick (view_of pl i) outside env whole) n (place_of pl) ts → Tree k rs ≡ remarked (written a env n w t) t
+        → rs ≡ walked a (λ i. pick (view_of pl i) outside env whole) n (places_of pl ts) ts → Tree k rs ≡ remarked (written a env n w t) t
     plain_done k rs outside whole is nothing o e h =
-        ap (λ l. Tree k l) (plain rs nothing (h ∙ ap (λ x. walked a (λ i. pick (view_of pl i) x env whole) n (place_of pl) ts) o ∙ ap (λ y. walked a (λ i. pick (view_of pl i) env env y) n (place_of pl) ts) e)) ∙ sym (remarked-Tree (written a env n w t) k ts) ∙ ap (remarked (written a env n w t)) (sym is)
+        ap (λ l. Tree k l) (plain rs nothing (h ∙ ap (λ x. walked a (λ i. pick (view_of pl i) x env whole) n (places_of pl ts) ts) o ∙ ap (λ y. walked a (λ i. pick (view_of pl i) env env y) n (places_of pl ts) ts) e)) ∙ sym (remarked-Tree (written a env n w t) k ts) ∙ ap (remarked (written a env n w t)) (sym is)
 
     pub scope_done : (k : Kind) (rs : List Node) (sc : Scope) (parameters whole : List Open) (m : ℕ) → t ≡ Tree k ts → Some sc ≡ scope_of_fields pl
         → parameters ≡ record { scope = Some sc; number = n; whole = false } ∷ env → whole ≡ record { scope = Some sc; number = n; whole = true } ∷ env → m ≡ n + 1
-        → rs ≡ walked a (λ i. pick (view_of pl i) env parameters whole) m (place_of pl) ts → Tree k rs ≡ remarked (written a env n w t) t
+        → rs ≡ walked a (λ i. pick (view_of pl i) env parameters whole) m (places_of pl ts) ts → Tree k rs ≡ remarked (written a env n w t) t
     scope_done k rs sc parameters whole m is something p q e h =
         let some : opened w t ≡ Some sc = sym known.opens ∙ sym something in
         ap (λ l. Tree k l) (joined (λ i. pick (view_of pl i) env parameters whole) m rs

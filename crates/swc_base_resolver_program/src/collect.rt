@@ -1,7 +1,7 @@
 //! The first two walks: the names that each scope takes, and then those that reach it from blocks.
 ghost use Rattle.std.specs.Prelude.{◌≡◌, ◌+◌, ◌<◌, [], length, IfOk, OnOk};
 ghost use Rattle.swc_tree_scoping.specs.declared.places.View.{View};
-ghost use Rattle.swc_tree_scoping.specs.Below.{place_of, view_of};
+ghost use Rattle.swc_tree_scoping.specs.Below.{places_of, view_of};
 ghost use Rattle.swc_tree_scoping.specs.Folds.{each_in};
 ghost use Rattle.swc_tree_scoping.specs.Places.{program_place};
 ghost use Rattle.swc_tree_scoping.specs.Scopes.{scope_count, total};
@@ -123,12 +123,19 @@ fn gather_children(
     tables: &mut Vec<ScopeNames>,
 ) -> Result<(), AllocError>
     requires { (v : View) → AreBelow (length tables.old.items) (pick v (layers outside.now) (layers parameters.now) (layers whole.now)) }
-    ensures size { OnOk result (length tables.new.items ≡ length tables.old.items + total (each_in scope_count (place_of places) nodes.now)) }
-    ensures tables { OnOk result (Gains tables.old.items tables.new.items (ReachesBelow stage.entry (λ i. pick (view_of places i) (layers outside.now) (layers parameters.now) (layers whole.now)) (length tables.old.items) (place_of places) nodes.now (length nodes.now))) }
+    ensures size { OnOk result (length tables.new.items ≡ length tables.old.items + total (each_in scope_count (places_of places nodes.now) nodes.now)) }
+    ensures tables { OnOk result (Gains tables.old.items tables.new.items (ReachesBelow stage.entry (λ i. pick (view_of places i) (layers outside.now) (layers parameters.now) (layers whole.now)) (length tables.old.items) (places_of places nodes.now) nodes.now (length nodes.now))) }
 {
     for i in 0..nodes.len() {
         let env = seen(places.view(i), &*outside, &*parameters, &*whole);
-        gather(alloc, stage, &nodes[i], places.at(i), env, tables)?;
+        gather(
+            alloc,
+            stage,
+            &nodes[i],
+            places.at(i, &nodes[i]),
+            env,
+            tables,
+        )?;
     }
     Ok(())
 }

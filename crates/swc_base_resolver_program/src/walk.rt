@@ -1,6 +1,6 @@
 //! The last walk: writes the context of each identifier.
 ghost use Rattle.std.specs.Prelude.{◌≡◌, ◌+◌, ◌≤◌, [], ◌∷◌, length, IfOk, OnOk, MatchOption};
-ghost use Rattle.swc_tree_scoping.specs.Below.{place_of, view_of};
+ghost use Rattle.swc_tree_scoping.specs.Below.{places_of, view_of};
 ghost use Rattle.swc_tree_scoping.specs.Folds.{each_in};
 ghost use Rattle.swc_tree_scoping.specs.Places.{program_place};
 ghost use Rattle.swc_tree_scoping.specs.Scopes.{scope_count, total};
@@ -112,15 +112,15 @@ fn resolve_children(
     whole: &Env,
     next: &mut usize,
 ) -> Result<Items<Node>, AllocError>
-    requires { next.old + total (each_in scope_count (place_of places) nodes) ≤ length answers.now.marks.now }
-    ensures answer { IfOk result (λ answer. answer ≡ walked (marking_in answers.now) (λ i. pick (view_of places i) (layers outside.now) (layers parameters.now) (layers whole.now)) next.old (place_of places) nodes) }
-    ensures next { OnOk result (next.new ≡ next.old + total (each_in scope_count (place_of places) nodes)) }
+    requires { next.old + total (each_in scope_count (places_of places nodes) nodes) ≤ length answers.now.marks.now }
+    ensures answer { IfOk result (λ answer. answer ≡ walked (marking_in answers.now) (λ i. pick (view_of places i) (layers outside.now) (layers parameters.now) (layers whole.now)) next.old (places_of places nodes) nodes) }
+    ensures next { OnOk result (next.new ≡ next.old + total (each_in scope_count (places_of places nodes) nodes)) }
 {
     for i in 0..nodes.len() {
-        let place = places.at(i);
         let extent = places.view(i);
         let env = seen(extent, &*outside, &*parameters, &*whole);
         let node = nodes.replace(i, Node::Absent);
+        let place = places.at(i, &node);
         let done = resolve(node, place, &*answers, env, next)?;
         nodes.set(i, done);
     }

@@ -1,4 +1,3 @@
-pub mod BoundIds
 pub mod Directives
 pub mod Exprs
 pub mod Rows

@@ -2,11 +2,13 @@
 ghost use Rattle.std.specs.Prelude.{◌≡◌, ◌++◌, ◌↔◌, IsTrue, Some, OnOk, OnErr, codes, take, drop};
 ghost use Rattle.std.specs.List.{prefix_len};
 ghost use Rattle.std.specs.Option.{option_copied};
-ghost use Rattle.swc_tree_ext.specs.Directives.{is_string, literal_of, string_in, string_of, text_of};
+ghost use Rattle.swc_tree_scoping.specs.Places.{literal_of, string_of, text_of};
+ghost use Rattle.swc_tree_ext.specs.Directives.{is_string, string_in};
 
 use swc_tree_handle::Trees;
 use swc_tree_handle::class::{self, Syntax};
 use swc_tree_marks::NoMemory;
+use swc_tree_node::fields::{expr_stmt, str};
 use swc_tree_node::{Kind, Node};
 use swc_tree_statements::Stmt;
 
@@ -65,7 +67,7 @@ fn string(stmt: &Node) -> Option<&str>
     ensures { option_copied result ≡ string_of stmt.now }
 {
     match stmt {
-        Node::Tree(Kind::ExprStmt, fields) => match fields.get(1) {
+        Node::Tree(Kind::ExprStmt, fields) => match fields.get(expr_stmt::EXPR) {
             Some(expr) => literal(expr),
             None => None,
         },
@@ -78,7 +80,7 @@ fn literal(expr: &Node) -> Option<&str>
     ensures { option_copied result ≡ literal_of (Some expr.now) }
 {
     match expr {
-        Node::Tree(Kind::Str, fields) => text(fields.get(1)),
+        Node::Tree(Kind::Str, fields) => text(fields.get(str::VALUE)),
         _ => None,
     }
 }

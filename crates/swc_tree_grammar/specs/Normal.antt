@@ -1,13 +1,15 @@
 -- The normal form of a program: what is left of it when all is written out that may be written shorter, and
 -- taken off what may be left out.
-use Rattle.std.specs.Prelude.{List, [], ◌∷◌, map, Bool, not, ◌&&◌, codes, nat_eq, if◌then◌else◌}
+use Rattle.std.specs.Prelude.{List, [], ◌∷◌, map, Bool, not, ◌&&◌, nat_eq, if◌then◌else◌}
 use Rattle.std.specs.List.{flat_map, filter}
 use Rattle.std.specs.Cmp.Lexicographic.{pointwise}
 use Rattle.swc_tree_marks.specs.declared.ident.Ident.{Ident}
 use Rattle.swc_tree_node.specs.declared.kind.Kind.TheVariants as kind
-use Rattle.swc_tree_node.specs.declared.node.Node.{Node, Absent, Text, Span, List as Many, Identifier, Tree, out-Node, roll-Node, fold-Node}
+use Rattle.swc_tree_node.specs.declared.node.Node.{Node, Absent, Span, List as Many, Identifier, Tree, out-Node, roll-Node, fold-Node}
 use Rattle.swc_tree_node.specs.declared.node.Node.TheOpen.{Node-F}
-use Rattle.swc_tree_grammar.specs.Shapes.{If, Block, Arrow, Setter, Declarator, VarDecl, FnDecl, AssignPat, AssignPatProp, ForIn, ForOf, Module, items_of}
+use Rattle.swc_tree_scoping.specs.BoundNames.{Id, declared_ids}
+use Rattle.swc_tree_scoping.specs.Shorthands.{key_of, shorthand_key}
+use Rattle.swc_tree_grammar.specs.Shapes.{If, Block, Arrow, Setter, Declarator, AssignPat, AssignPatProp, ForIn, ForOf, Module, items_of}
 use Rattle.swc_tree_grammar.specs.Levels.{is_absent}
 use Rattle.swc_tree_grammar.specs.Blocks.{takes_else, no_span}
 use Rattle.swc_tree_grammar.specs.Stripped.{stripped}
@@ -24,20 +26,9 @@ opened_in t _ = t
 abbrev pub opened : Node → Node
 opened t = opened_in t (out-Node t)
 
--- the name that stands in the place of what was not written, and the key
+-- the name that stands in the place of what was not written
 abbrev pub plain_name : Ident → Node
 plain_name i = Identifier kind.Ident (record { span = i.span; ctxt = []; sym = i.sym })
-
-abbrev pub key_of : Ident → Node
-key_of i = Tree kind.IdentName (Span i.span ∷ Text i.sym ∷ [])
-
--- a shorthand `__proto__` defines a property of that name, but written out it would set the prototype
--- (ECMA-262, B.3.1), so its key is computed
-abbrev pub computed_key : Ident → Node
-computed_key i = Tree kind.ComputedPropName (Span i.span ∷ Tree kind.Str (Span i.span ∷ Text i.sym ∷ Absent ∷ []) ∷ [])
-
-abbrev pub shorthand_key : Ident → Node
-shorthand_key i = if pointwise nat_eq i.sym (codes "__proto__") then computed_key i else key_of i
 
 abbrev pub property_in : Node → Node-F Node → Node
 property_in t (Node-F.Identifier k i) = Tree kind.KeyValueProp (shorthand_key i ∷ t ∷ [])
@@ -70,33 +61,6 @@ again_in t _ = t
 abbrev pub again : Node → Node → Node
 again name other = if is_absent other then again_in name (out-Node name) else other
 
--- the names that a pattern binds, in the order of the source (ECMA-262, 8.2.1)
-abbrev pub bound_step : Node-F (List Ident) → List Ident
-bound_step (Node-F.Identifier kind.BindingIdent i) = i ∷ []
-bound_step (Node-F.List ns) = flat_map (λ n. n) ns
-bound_step (Declarator span name init) = name
-bound_step (AssignPat span left right) = left
-bound_step (AssignPatProp span key value) = key
-bound_step (Node-F.Tree kind.ArrayPat ns) = flat_map (λ n. n) ns
-bound_step (Node-F.Tree kind.ObjectPat ns) = flat_map (λ n. n) ns
-bound_step (Node-F.Tree kind.RestPat ns) = flat_map (λ n. n) ns
-bound_step (Node-F.Tree kind.KeyValuePatProp (key ∷ value ∷ [])) = value
-bound_step (VarDecl span keyword decls) = decls
-bound_step _ = []
-
-abbrev pub bound_names : Node → List Ident
-bound_names = fold-Node (List Ident) bound_step
-
-abbrev pub name_in : Node-F Node → List Ident
-name_in (Node-F.Identifier k i) = i ∷ []
-name_in _ = []
-
--- the names of a declaration
-abbrev pub declared_in : Node → Node-F Node → List Ident
-declared_in t (Node-F.Tree kind.ClassDecl (ident ∷ class ∷ [])) = name_in (out-Node ident)
-declared_in t (FnDecl ident function) = name_in (out-Node ident)
-declared_in t _ = bound_names t
-
 -- two identifiers have one text and one context
 abbrev pub same_id : Ident → Ident → Bool
 same_id i j = pointwise nat_eq i.sym j.sym && pointwise nat_eq i.ctxt j.ctxt
@@ -104,6 +68,9 @@ same_id i j = pointwise nat_eq i.sym j.sym && pointwise nat_eq i.ctxt j.ctxt
 abbrev pub each_once : List Ident → List Ident
 each_once [] = []
 each_once (i ∷ is) = i ∷ filter (λ j. not (same_id i j)) (each_once is)
+
+abbrev pub made : Id → Ident
+made x = record { span = no_span; ctxt = x.1; sym = x.0 }
 
 abbrev pub exported_as_itself : Ident → Node
 exported_as_itself i = Tree kind.ExportNamedSpecifier (Span no_span ∷ Identifier kind.Ident i ∷ plain_name i ∷ [])
@@ -113,7 +80,7 @@ export_list is = Tree kind.NamedExport (Span no_span ∷ Many (map exported_as_i
 
 -- an exported declaration as the declaration and, right behind it, its export list (ECMA-262, 16.2.3)
 abbrev pub split_in : Node → Node-F Node → List Node
-split_in t (Node-F.Tree kind.ExportDecl (span ∷ decl ∷ [])) = decl ∷ export_list (each_once (declared_in decl (out-Node decl))) ∷ []
+split_in t (Node-F.Tree kind.ExportDecl (span ∷ decl ∷ [])) = decl ∷ export_list (each_once (map made (declared_ids decl))) ∷ []
 split_in t _ = t ∷ []
 
 abbrev pub split : Node → List Node

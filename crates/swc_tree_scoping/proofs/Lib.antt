@@ -3,3 +3,5 @@ pub mod Children
 pub mod Remarked
 pub mod First
 pub mod Program
+pub mod BoundNames
+pub mod PlaceRows

@@ -15,39 +15,44 @@ use Rattle.swc_tree_scoping.specs.declared.places.View.TheVariants as view
 use Rattle.swc_tree_scoping.specs.declared.below.Fields.{Fields}
 use Rattle.swc_tree_scoping.specs.declared.below.PlacesBelow.{PlacesBelow}
 use Rattle.swc_tree_scoping.specs.declared.below.PlacesBelow.TheVariants as below
-use Rattle.swc_tree_scoping.specs.Places.{by_keyword, field_role, function_standing, is_inside, is_plain_function, is_strict, is_there, nested_below, opened_as, own_name, plain_standing, view_from}
+use Rattle.swc_tree_scoping.specs.Places.{by_keyword, field_role, function_standing, is_inside, is_plain_function, is_strict, is_there, nested_below, opened_as, own_name, part_standing, plain_standing, view_from}
 
-abbrev pub standing_by : Fields → ℕ → Role → Standing
-standing_by f i role.Plain = plain_standing f.kind i
-standing_by f i role.Inherited = f.whole.standing
-standing_by f i role.Reference = standing.Reference
-standing_by f i role.Declared = f.keyword
-standing_by f i role.Function = f.function
-standing_by f i role.Class = standing.Lexical
-standing_by f i role.OwnName = own_name f.whole.standing f.kind
-standing_by f i role.Parameter = standing.Parameter
-standing_by f i role.Catch = standing.CatchParameter
-standing_by f i role.Import = standing.Import
-standing_by f i role.Lexical = standing.Lexical
-standing_by f i role.FunctionBody = standing.Body
-standing_by f i role.ExportLocal = f.exported
-standing_by f i role.Label = standing.Label
-standing_by f i role.Imported = standing.Imported
-standing_by f i role.Exported = standing.Exported
+abbrev pub standing_by : Fields → ℕ → Option Node → Role → Standing
+standing_by f i t role.Plain = plain_standing f.kind i
+standing_by f i t role.Inherited = part_standing f.whole.standing t
+standing_by f i t role.Reference = standing.Reference
+standing_by f i t role.Declared = f.keyword
+standing_by f i t role.Function = f.function
+standing_by f i t role.Class = standing.Lexical
+standing_by f i t role.OwnName = own_name f.whole.standing f.kind
+standing_by f i t role.Parameter = part_standing standing.Parameter t
+standing_by f i t role.Catch = part_standing standing.CatchParameter t
+standing_by f i t role.Import = standing.Import
+standing_by f i t role.Lexical = standing.Lexical
+standing_by f i t role.FunctionBody = standing.Body
+standing_by f i t role.ExportLocal = f.exported
+standing_by f i t role.Label = standing.Label
+standing_by f i t role.Imported = standing.Imported
+standing_by f i t role.Exported = standing.Exported
 
-abbrev pub standing_beside : Fields → ℕ → Standing
-standing_beside f i = standing_by f i (field_role f.kind i)
+abbrev pub standing_beside : Fields → ℕ → Option Node → Standing
+standing_beside f i t = standing_by f i t (field_role f.kind i)
 
-abbrev pub field_place : Fields → ℕ → Place
-field_place f i = record {
-  standing = standing_beside f i;
+abbrev pub field_place : Fields → ℕ → Option Node → Place
+field_place f i t = record {
+  standing = standing_beside f i t;
   strict = f.whole.strict || (is_inside (view_from f.kind i) && f.strict);
   nested = nested_below f.whole.nested f.opened (view_from f.kind i);
 }
 
-abbrev pub place_of : PlacesBelow → ℕ → Place
-place_of (below.Items w) i = w
-place_of (below.Fields f) i = field_place f i
+-- the place of a child that is given
+abbrev pub place_of : PlacesBelow → ℕ → Option Node → Place
+place_of (below.Items w) i t = record w { standing = part_standing w.standing t }
+place_of (below.Fields f) i t = field_place f i t
+
+-- those of all
+abbrev pub places_of : PlacesBelow → List Node → ℕ → Place
+places_of p ts i = place_of p i (slice_get ts i)
 
 abbrev pub scope_of_fields : PlacesBelow → Option Scope
 scope_of_fields (below.Items w) = None

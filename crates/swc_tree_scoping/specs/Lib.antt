@@ -6,3 +6,5 @@ pub mod Resolved
 pub mod Readings
 pub mod WellScoped
 pub mod Below
+pub mod BoundNames
+pub mod Shorthands

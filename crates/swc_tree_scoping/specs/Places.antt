@@ -263,11 +263,38 @@ function_standing w plain =
     if not (w.nested || own_block w) then standing.Function else (if not w.strict && plain then standing.SloppyFunction else standing.BlockFunction)
 
 -- as what a function or class expression's name is bound: a default export's as a declaration's
+abbrev pub default_name : Kind → Standing
+default_name kind.FnExpr = standing.Function
+default_name _ = standing.Lexical
+
+abbrev pub expression_name : Kind → Standing
+expression_name kind.FnExpr = standing.FunctionName
+expression_name _ = standing.ClassName
+
 abbrev pub own_name : Standing → Kind → Standing
-own_name standing.DefaultExport kind.FnExpr = standing.Function
-own_name standing.DefaultExport _ = standing.Lexical
-own_name _ kind.FnExpr = standing.FunctionName
-own_name _ _ = standing.ClassName
+own_name standing.DefaultExport k = default_name k
+own_name _ k = expression_name k
+
+-- patterns stand so, which bind by identifiers of their own kind
+abbrev pub binds_patterns : Standing → Bool
+binds_patterns standing.Variable = true
+binds_patterns standing.Lexical = true
+binds_patterns standing.Parameter = true
+binds_patterns standing.CatchParameter = true
+binds_patterns _ = false
+
+abbrev pub is_expression_in : Node-F Node → Bool
+is_expression_in (Node-F.Identifier kind.Ident i) = true
+is_expression_in _ = false
+
+-- an identifier expression
+abbrev pub is_identifier_expression : Option Node → Bool
+is_identifier_expression None = false
+is_identifier_expression (Some t) = is_expression_in (out-Node t)
+
+-- as what a pattern or a part of one stands: an identifier expression is a reference wherever it stands
+abbrev pub part_standing : Standing → Option Node → Standing
+part_standing r t = if binds_patterns r && is_identifier_expression t then standing.Reference else r
 
 -- what stands in a field that holds no names
 abbrev pub plain_standing : Kind → ℕ → Standing
@@ -281,14 +308,14 @@ field_role k i = unwrap_or (option_map (λ f. f.2) (slice_get (fields_of k) i)) 
 -- as what a field stands, by its role in the table; some go by the whole node, or by the fields beside it
 abbrev pub standing_below : Place → Kind → List Node → ℕ → Role → Standing
 standing_below w k ts i role.Plain = plain_standing k i
-standing_below w k ts i role.Inherited = w.standing
+standing_below w k ts i role.Inherited = part_standing w.standing (slice_get ts i)
 standing_below w k ts i role.Reference = standing.Reference
 standing_below w k ts i role.Declared = by_keyword ts
 standing_below w k ts i role.Function = function_standing w (is_plain_function (slice_get ts fn_decl.FUNCTION))
 standing_below w k ts i role.Class = standing.Lexical
 standing_below w k ts i role.OwnName = own_name w.standing k
-standing_below w k ts i role.Parameter = standing.Parameter
-standing_below w k ts i role.Catch = standing.CatchParameter
+standing_below w k ts i role.Parameter = part_standing standing.Parameter (slice_get ts i)
+standing_below w k ts i role.Catch = part_standing standing.CatchParameter (slice_get ts i)
 standing_below w k ts i role.Import = standing.Import
 standing_below w k ts i role.Lexical = standing.Lexical
 standing_below w k ts i role.FunctionBody = standing.Body
@@ -299,7 +326,7 @@ standing_below w k ts i role.Exported = standing.Exported
 
 -- the place of a child of a node
 abbrev pub place_in : Place → Node-F Node → ℕ → Place
-place_in w (Node-F.List ts) i = w
+place_in w (Node-F.List ts) i = record w { standing = part_standing w.standing (slice_get ts i) }
 place_in w (Node-F.Tree k ts) i = record {
   standing = standing_below w k ts i (field_role k i);
   strict = w.strict || (is_inside (view_from k i) && is_strict k ts);

@@ -1,6 +1,6 @@
 -- Which scopes stand round a place, and in which of them an identifier is bound (ECMA-262, 8.2 BoundNames,
 -- LexicallyScopedDeclarations, VarScopedDeclarations; 9.1 Environment Records).
-use Rattle.std.specs.Prelude.{ℕ, ◌+◌, Bool, true, false, IsTrue, Option, Some, None, is_some, option_and_then, List, [], ◌∷◌, ◌++◌, map, if◌then◌else◌}
+use Rattle.std.specs.Prelude.{ℕ, ◌+◌, Bool, true, false, IsTrue, Option, Some, None, is_some, option_and_then, ◌||◌, List, [], ◌∷◌, ◌++◌, map, if◌then◌else◌}
 use Rattle.swc_tree_node.specs.declared.node.Node.{Node, out-Node}
 use Rattle.swc_tree_node.specs.declared.node.Node.TheOpen.{Node-F}
 use Rattle.swc_tree_scoping.specs.declared.places.Standing.{Standing}
@@ -107,6 +107,10 @@ abbrev pub is_reference : Standing → Bool
 is_reference standing.Reference = true
 is_reference standing.Body = true
 is_reference _ = false
+
+-- the name of what stands so is one that a scope may declare: a label, an imported and an exported name are none
+abbrev pub is_name : Standing → Bool
+is_name r = is_binding r || is_reference r
 
 abbrev pub first_that : (Round → Bool) → List Round → Option Path
 first_that f [] = None

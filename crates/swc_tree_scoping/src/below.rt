@@ -1,8 +1,8 @@
 //! The places of a node's children.
-ghost use Rattle.std.specs.Prelude.{◌≡◌, if◌then◌else◌, slice_get};
+ghost use Rattle.std.specs.Prelude.{◌≡◌, Some, if◌then◌else◌, slice_get};
 ghost use Rattle.swc_tree_node.specs.declared.node.Node.{List as Many, Tree};
 ghost use Rattle.swc_tree_scoping.specs.Below.{field_place, fields_are, place_of, scope_of_fields, standing_beside, view_of};
-ghost use Rattle.swc_tree_scoping.specs.Places.{by_keyword, by_word, field_role, function_standing as stands_as_function, is_plain_function as is_plain, is_there as stands_there, keyword_in, nested_below as is_nested_below, own_name as stands_as_name, place_below, plain_standing as stands_plain};
+ghost use Rattle.swc_tree_scoping.specs.Places.{binds_patterns as is_binding_patterns, by_keyword, by_word, default_name as stands_as_default, expression_name as stands_as_expression, field_role, function_standing as stands_as_function, is_plain_function as is_plain, is_there as stands_there, keyword_in, nested_below as is_nested_below, own_name as stands_as_name, part_standing as is_part_standing, place_below, plain_standing as stands_plain};
 
 use crate::directives::{is_plain_function, is_strict};
 use crate::opened::{is_inside, is_there, nests, opened_by, own_block, view_from};
@@ -40,12 +40,15 @@ pub enum PlacesBelow {
 
 impl PlacesBelow {
     /// The place of the child at an index.
-    pub fn at(&self, index: usize) -> Place
-        ensures { result ≡ place_of self.now index }
+    pub fn at(&self, index: usize, child: &Node) -> Place
+        ensures { result ≡ place_of self.now index (Some child.now) }
     {
         match self {
-            PlacesBelow::Items(place) => *place,
-            PlacesBelow::Fields(fields) => fields.at(index),
+            PlacesBelow::Items(place) => Place {
+                standing: part_standing(place.standing, child),
+                ..*place
+            },
+            PlacesBelow::Fields(fields) => fields.at(index, child),
         }
     }
 
@@ -71,30 +74,30 @@ impl PlacesBelow {
 }
 
 impl Fields {
-    fn at(&self, index: usize) -> Place
-        ensures { result ≡ field_place self.now index }
+    fn at(&self, index: usize, child: &Node) -> Place
+        ensures { result ≡ field_place self.now index (Some child.now) }
     {
         let view = view_from(self.kind, index);
         Place {
-            standing: self.standing(index),
+            standing: self.standing(index, child),
             strict: self.whole.strict || (is_inside(view) && self.strict),
             nested: nested_below(self.whole.nested, self.opened, view),
         }
     }
 
-    fn standing(&self, index: usize) -> Standing
-        ensures { result ≡ standing_beside self.now index }
+    fn standing(&self, index: usize, child: &Node) -> Standing
+        ensures { result ≡ standing_beside self.now index (Some child.now) }
     {
         match role_of_field(self.kind, index) {
             Role::Plain => plain_standing(self.kind, index),
-            Role::Inherited => self.whole.standing,
+            Role::Inherited => part_standing(self.whole.standing, child),
             Role::Reference => Standing::Reference,
             Role::Declared => self.keyword,
             Role::Function => self.function,
             Role::Class | Role::Lexical => Standing::Lexical,
             Role::OwnName => own_name(self.whole.standing, self.kind),
-            Role::Parameter => Standing::Parameter,
-            Role::Catch => Standing::CatchParameter,
+            Role::Parameter => part_standing(Standing::Parameter, child),
+            Role::Catch => part_standing(Standing::CatchParameter, child),
             Role::Import => Standing::Import,
             Role::FunctionBody => Standing::Body,
             Role::ExportLocal => self.exported,
@@ -128,8 +131,28 @@ pub fn places_of_fields(place: Place, kind: Kind, fields: &[Node]) -> PlacesBelo
     })
 }
 
-// The role of a field by the table.
-fn role_of_field(kind: Kind, index: usize) -> Role
+// As what a pattern or a part of one stands.
+fn part_standing(standing: Standing, part: &Node) -> Standing
+    ensures { result ≡ is_part_standing standing (Some part.now) }
+{
+    if binds_patterns(standing) && matches!(part, Node::Identifier(Kind::Ident, _)) {
+        Standing::Reference
+    } else {
+        standing
+    }
+}
+
+fn binds_patterns(standing: Standing) -> bool
+    ensures { result ≡ is_binding_patterns standing }
+{
+    matches!(
+        standing,
+        Standing::Variable | Standing::Lexical | Standing::Parameter | Standing::CatchParameter
+    )
+}
+
+/// The role of a field by the table.
+pub fn role_of_field(kind: Kind, index: usize) -> Role
     ensures { result ≡ field_role kind index }
 {
     match fields_of(kind).get(index) {
@@ -151,10 +174,26 @@ fn plain_standing(kind: Kind, index: usize) -> Standing
 fn own_name(standing: Standing, kind: Kind) -> Standing
     ensures { result ≡ stands_as_name standing kind }
 {
-    match (standing, kind) {
-        (Standing::DefaultExport, Kind::FnExpr) => Standing::Function,
-        (Standing::DefaultExport, _) => Standing::Lexical,
-        (_, Kind::FnExpr) => Standing::FunctionName,
+    match standing {
+        Standing::DefaultExport => default_name(kind),
+        _ => expression_name(kind),
+    }
+}
+
+fn default_name(kind: Kind) -> Standing
+    ensures { result ≡ stands_as_default kind }
+{
+    match kind {
+        Kind::FnExpr => Standing::Function,
+        _ => Standing::Lexical,
+    }
+}
+
+fn expression_name(kind: Kind) -> Standing
+    ensures { result ≡ stands_as_expression kind }
+{
+    match kind {
+        Kind::FnExpr => Standing::FunctionName,
         _ => Standing::ClassName,
     }
 }

@@ -75,16 +75,16 @@ fn catch_clauses_take() -> bool {
 
 fn goes_by(word: Word, standing: Standing) -> bool {
     let fields = [Node::Absent, Node::Word(word), Node::Absent];
-    let list = places_of_fields(PROGRAM_PLACE, Kind::VarDecl, &fields).at(2);
-    list.standing == standing && places_of_items(list).at(7).standing == standing
+    let list = places_of_fields(PROGRAM_PLACE, Kind::VarDecl, &fields).at(2, &fields[2]);
+    list.standing == standing && places_of_items(list).at(7, &Node::Absent).standing == standing
 }
 
 fn functions_stand() -> bool {
     let top = places_of_fields(PROGRAM_PLACE, Kind::FnDecl, &[]);
     let nested = places_of_fields(at(Standing::Plain, false, true), Kind::FnDecl, &[]);
-    top.at(0).standing == Standing::Function
+    top.at(0, &Node::Absent).standing == Standing::Function
         && top.opened().is_none()
-        && nested.at(0).standing == Standing::BlockFunction
+        && nested.at(0, &Node::Absent).standing == Standing::BlockFunction
 }
 
 fn branches_open() -> bool {

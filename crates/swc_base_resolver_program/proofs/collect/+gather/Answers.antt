@@ -2,7 +2,7 @@ use Rattle.std.proofs.Common.{◌≡◌, ℕ, ◌<◌, Bool, true, false, Some, 
 use Rattle.std.specs.Option.{is_some}
 use Rattle.std.proofs.lemmas.Option.{slice_get_read}
 use Rattle.swc_tree_node.specs.declared.node.Node.{Identifier, List as Many, Tree, the_lemmas}
-use Rattle.swc_tree_scoping.specs.Below.{place_of, scope_of_fields, view_of}
+use Rattle.swc_tree_scoping.specs.Below.{place_of, places_of, scope_of_fields, view_of}
 use Rattle.swc_tree_scoping.specs.Scopes.{one_if, scope_count}
 use Rattle.swc_base_resolver_program.specs.Lookup.{Open, layers}
 use Rattle.swc_base_resolver_program.specs.Walks.{AreBelow, Gains, Reaches, ReachesBelow, ReachesHere, pick}
@@ -92,18 +92,20 @@ gather_children-gather-requires t c =
 pub gather_children-loop-i-preserved : goal.gather_children-loop-i-preserved
 gather_children-loop-i-preserved t c =
     let here = slice_get_read c.args.nodes.now _ c.loop-i.i c.index-nodes-i.result refl (omega arith) c.index-nodes-i.is in
-    let next = total_next (place_of c.args.places) c.args.nodes.now c.loop-i.i c.index-nodes-i.result here in
-    let same = ap (λ w. scope_count w c.index-nodes-i.result) c.at.ensures in
+    let next = total_next (places_of c.args.places c.args.nodes.now) c.args.nodes.now c.loop-i.i c.index-nodes-i.result here in
+    let child = slice_get_read c.args.nodes.now _ c.loop-i.i c.index-nodes-i-in-loop-i.result refl (omega arith) c.index-nodes-i-in-loop-i.is in
+    let stood = c.at.ensures ∙ ap (place_of c.args.places c.loop-i.i) (sym child) in
+    let same = ap (λ w. scope_count w c.index-nodes-i.result) stood in
     let envs : ℕ → List Open = λ i. pick (view_of c.args.places i) (layers c.args.outside.now) (layers c.args.parameters.now) (layers c.args.whole.now) in
     let env_is = ap layers c.seen-env.ensures in
     record {
       size = omega (arith, next, same, c.loop-i.invariant.size, c.in_ok-gather.ensures.size);
-      tables = child_gains c.args.stage envs (length c.args.tables.now.items) (place_of c.args.places) c.args.nodes.now c.loop-i.i c.index-nodes-i.result here c.args.tables.now.items c.loop-i.tables.items _ c.loop-i.invariant.tables
-          (layers c.seen-env.result.now) (length c.loop-i.tables.items) c.at.result (env_is ∙ picked layers _ _ _ (view_of c.args.places c.loop-i.i) c.view.result c.view.ensures) c.loop-i.invariant.size c.at.ensures c.in_ok-gather.ensures.tables;
+      tables = child_gains c.args.stage envs (length c.args.tables.now.items) (places_of c.args.places c.args.nodes.now) c.args.nodes.now c.loop-i.i c.index-nodes-i.result here c.args.tables.now.items c.loop-i.tables.items _ c.loop-i.invariant.tables
+          (layers c.seen-env.result.now) (length c.loop-i.tables.items) c.at.result (env_is ∙ picked layers _ _ _ (view_of c.args.places c.loop-i.i) c.view.result c.view.ensures) c.loop-i.invariant.size stood c.in_ok-gather.ensures.tables;
     }
 
 pub gather_children-returns-clause-tables : goal.gather_children-returns-clause-tables
 gather_children-returns-clause-tables t c =
     let envs : ℕ → List Open = λ i. pick (view_of c.args.places i) (layers c.args.outside.now) (layers c.args.parameters.now) (layers c.args.whole.now) in
     let ended : c.loop-i.i ≡ length c.args.nodes.now = omega arith in
-    subst (λ m. Gains c.args.tables.now.items c.loop-i.tables.items (ReachesBelow c.args.stage envs (length c.args.tables.now.items) (place_of c.args.places) c.args.nodes.now m)) ended c.loop-i.invariant.tables
+    subst (λ m. Gains c.args.tables.now.items c.loop-i.tables.items (ReachesBelow c.args.stage envs (length c.args.tables.now.items) (places_of c.args.places c.args.nodes.now) c.args.nodes.now m)) ended c.loop-i.invariant.tables

@@ -3,7 +3,7 @@ use Rattle.std.specs.Option.{is_some}
 use Rattle.swc_tree_node.specs.declared.node.Node.{Node, Tree, the_lemmas}
 use Rattle.swc_tree_scoping.specs.declared.below.PlacesBelow.TheVariants.{Fields}
 use Rattle.swc_tree_scoping.specs.Folds.{each_in}
-use Rattle.swc_tree_scoping.specs.Below.{fields_are, place_of, scope_of_fields, view_of}
+use Rattle.swc_tree_scoping.specs.Below.{fields_are, place_of, places_of, scope_of_fields, view_of}
 use Rattle.swc_tree_scoping.specs.Scopes.{one_if, scope_count, total}
 use Rattle.swc_base_resolver_program.specs.Lookup.{Open, layers}
 use Rattle.swc_base_resolver_program.specs.Walks.{marking_in, pick}
@@ -26,7 +26,7 @@ resolve-resolve_children-requires-in-Some t c =
     let known = known_tree c.args.place c.args.node c.as_slice.result.now c.places_of_fields-places.result c.in-Tree.kind (c.in-Tree.is ∙ ap (λ ts. Tree c.in-Tree.kind ts) (sym same_fields)) c.places_of_fields-places.ensures in
     let all = counted c.args.place c.args.node c.as_slice.result.now c.places_of_fields-places.result known in
     let own = ap (λ o. one_if (is_some o)) c.in-Some.ensures in
-    let same = ap (λ ts. total (each_in scope_count (place_of c.places_of_fields-places.result) ts)) same_fields in
+    let same = ap (λ ts. total (each_in scope_count (places_of c.places_of_fields-places.result ts) ts)) same_fields in
     (search (rules, the_lemmas), omega (arith, all, own, same, c.requires))
 
 pub resolve-resolve_children-requires-in-None : goal.resolve-resolve_children-requires-in-None
@@ -34,7 +34,7 @@ resolve-resolve_children-requires-in-None t c =
     let same_fields = c.as_slice.ensures in
     let known = known_tree c.args.place c.args.node c.as_slice.result.now c.places_of_fields-places.result c.in-Tree.kind (c.in-Tree.is ∙ ap (λ ts. Tree c.in-Tree.kind ts) (sym same_fields)) c.places_of_fields-places.ensures in
     let all = counted c.args.place c.args.node c.as_slice.result.now c.places_of_fields-places.result known in
-    let same = ap (λ ts. total (each_in scope_count (place_of c.places_of_fields-places.result) ts)) same_fields in
+    let same = ap (λ ts. total (each_in scope_count (places_of c.places_of_fields-places.result ts) ts)) same_fields in
     (search (rules, the_lemmas), omega (arith, all, same, c.requires))
 
 pub resolve-prove-unreachable-requires : goal.resolve-prove-unreachable-requires
@@ -68,7 +68,7 @@ resolve-returns-in_ok-fields-in-None-clause-next t c =
     let known = known_tree c.args.place c.args.node c.as_slice.result.now c.places_of_fields-places.result c.in-Tree.kind (c.in-Tree.is ∙ ap (λ ts. Tree c.in-Tree.kind ts) (sym same_fields)) c.places_of_fields-places.ensures in
     let all = counted c.args.place c.args.node c.as_slice.result.now c.places_of_fields-places.result known in
     let none = ap (λ o. one_if (is_some o)) c.in-None.ensures in
-    let same = ap (λ ts. total (each_in scope_count (place_of c.places_of_fields-places.result) ts)) same_fields in
+    let same = ap (λ ts. total (each_in scope_count (places_of c.places_of_fields-places.result ts) ts)) same_fields in
     omega (arith, all, none, same, c.in_ok-fields-in-None.ensures.next)
 
 pub resolve-returns-in_ok-fields-in-Some-clause-answer : goal.resolve-returns-in_ok-fields-in-Some-clause-answer
@@ -82,28 +82,30 @@ resolve-returns-in_ok-fields-in-Some-clause-next t c =
     let known = known_tree c.args.place c.args.node c.as_slice.result.now c.places_of_fields-places.result c.in-Tree.kind (c.in-Tree.is ∙ ap (λ ts. Tree c.in-Tree.kind ts) (sym same_fields)) c.places_of_fields-places.ensures in
     let all = counted c.args.place c.args.node c.as_slice.result.now c.places_of_fields-places.result known in
     let own = ap (λ o. one_if (is_some o)) c.in-Some.ensures in
-    let same = ap (λ ts. total (each_in scope_count (place_of c.places_of_fields-places.result) ts)) same_fields in
+    let same = ap (λ ts. total (each_in scope_count (places_of c.places_of_fields-places.result ts) ts)) same_fields in
     omega (arith, all, own, same, c.in_ok-fields-in-Some.ensures.next)
 
 pub resolve_children-resolve-requires : goal.resolve_children-resolve-requires
 resolve_children-resolve-requires t c =
     let envs : ℕ → List Open = λ i. pick (view_of c.args.places i) (layers c.args.outside.now) (layers c.args.parameters.now) (layers c.args.whole.now) in
-    let here = child_is (marking_in c.args.answers.now) envs c.args.nodes c.loop-i.nodes (place_of c.args.places) c.args.next.now c.loop-i.i c.loop-i.next c.replace-node.result (omega arith) c.loop-i.invariant.done c.replace-node.ensures.taken in
-    let part = total_part (place_of c.args.places) c.args.nodes c.loop-i.i c.replace-node.result here in
-    let same = ap (λ w. scope_count w c.replace-node.result) c.at-place.ensures in
+    let here = child_is (marking_in c.args.answers.now) envs c.args.nodes c.loop-i.nodes (places_of c.args.places c.args.nodes) c.args.next.now c.loop-i.i c.loop-i.next c.replace-node.result (omega arith) c.loop-i.invariant.done c.replace-node.ensures.taken in
+    let part = total_part (places_of c.args.places c.args.nodes) c.args.nodes c.loop-i.i c.replace-node.result here in
+    let stood = c.at-place.ensures ∙ ap (place_of c.args.places c.loop-i.i) (sym here) in
+    let same = ap (λ w. scope_count w c.replace-node.result) stood in
     let smaller = λ (μ : Node → ℕ). got_at_most μ c.args.nodes c.loop-i.i c.replace-node.result here in
     (search (rules, the_lemmas, smaller), omega (arith, part, same, c.requires, c.loop-i.invariant.count))
 
 pub resolve_children-loop-i-preserved : goal.resolve_children-loop-i-preserved
 resolve_children-loop-i-preserved t c =
     let envs : ℕ → List Open = λ i. pick (view_of c.args.places i) (layers c.args.outside.now) (layers c.args.parameters.now) (layers c.args.whole.now) in
-    let here = child_is (marking_in c.args.answers.now) envs c.args.nodes c.loop-i.nodes (place_of c.args.places) c.args.next.now c.loop-i.i c.loop-i.next c.replace-node.result (omega arith) c.loop-i.invariant.done c.replace-node.ensures.taken in
-    let next = total_next (place_of c.args.places) c.args.nodes c.loop-i.i c.replace-node.result here in
-    let same = ap (λ w. scope_count w c.replace-node.result) c.at-place.ensures in
+    let here = child_is (marking_in c.args.answers.now) envs c.args.nodes c.loop-i.nodes (places_of c.args.places c.args.nodes) c.args.next.now c.loop-i.i c.loop-i.next c.replace-node.result (omega arith) c.loop-i.invariant.done c.replace-node.ensures.taken in
+    let next = total_next (places_of c.args.places c.args.nodes) c.args.nodes c.loop-i.i c.replace-node.result here in
+    let stood = c.at-place.ensures ∙ ap (place_of c.args.places c.loop-i.i) (sym here) in
+    let same = ap (λ w. scope_count w c.replace-node.result) stood in
     let env_is = ap layers c.seen-env.ensures ∙ picked layers _ _ _ (view_of c.args.places c.loop-i.i) c.view-extent.result c.view-extent.ensures in
     record {
       size = simp (c.set.ensures, c.replace-node.ensures.list, length-set) c.loop-i.invariant.size;
-      done = child_done (marking_in c.args.answers.now) envs c.args.nodes c.loop-i.nodes (place_of c.args.places) c.args.next.now c.loop-i.i c.loop-i.next c.replace-node.result (omega arith) c.loop-i.invariant.done c.replace-node.ensures.taken
-          c.loop-i.invariant.count (layers c.seen-env.result.now) c.at-place.result env_is c.at-place.ensures _ _ _ _ c.replace-node.ensures.list c.set.ensures c.in_ok-done.ensures.answer;
+      done = child_done (marking_in c.args.answers.now) envs c.args.nodes c.loop-i.nodes (places_of c.args.places c.args.nodes) c.args.next.now c.loop-i.i c.loop-i.next c.replace-node.result (omega arith) c.loop-i.invariant.done c.replace-node.ensures.taken
+          c.loop-i.invariant.count (layers c.seen-env.result.now) c.at-place.result env_is stood _ _ _ _ c.replace-node.ensures.list c.set.ensures c.in_ok-done.ensures.answer;
       count = omega (arith, next, same, c.loop-i.invariant.count, c.in_ok-done.ensures.next);
     }
