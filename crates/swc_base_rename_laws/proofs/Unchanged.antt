@@ -1,9 +1,9 @@
 -- Where no text changes the tree stays as it is.
 use Rattle.std.specs.Prelude.{if◌then◌else◌, is_some}
 use Rattle.std.specs.HashMap.{get}
-use Rattle.std.specs.List.{flat_map, list_any, slice_get}
+use Rattle.std.specs.List.{list_any, slice_get}
 use Rattle.std.proofs.lemmas.Cmp.{nat_list_eq_equiv}
-use Rattle.std.proofs.Common.{◌≡◌, ℕ, zero, suc, Bool, true, false, Option, Some, None, List, [], ◌∷◌, ◌++◌, map, refl, sym, ap, ◌∙◌, subst}
+use Rattle.std.proofs.Common.{◌≡◌, ℕ, zero, suc, Bool, true, false, Option, Some, None, List, [], ◌∷◌, ◌++◌, map, refl, sym, ap, ◌∙◌}
 use Rattle.swc_tree_marks.specs.declared.ident.Ident.{Ident}
 use Rattle.swc_tree_node.specs.declared.kind.Kind.{Kind}
 use Rattle.swc_tree_node.specs.declared.kind.Kind.TheVariants as kind
@@ -21,10 +21,10 @@ use Rattle.swc_base_rename_substitution.specs.declared.names.Names.TheVariants.{
 use Rattle.swc_base_rename_substitution.specs.Names.{Id, by_id, by_text, if_other_text, new_id, same_id, same_text}
 use Rattle.swc_base_rename_substitution.specs.Identifiers.{Changes, changed, identifier_at, identifier_to, written_out_if}
 use Rattle.swc_base_rename_substitution.specs.Classes.{kept_class}
-use Rattle.swc_base_rename_substitution.specs.Exports.{export_list, exported_ids, exports_of, items_for, with_exports}
-use Rattle.swc_base_rename_substitution.specs.Places.{by_role, in_kind, within}
-use Rattle.swc_base_rename_substitution.specs.Substituted.{Substituted, each_at, if_changed, keeps_name, places, renewed, substituted, tree_for}
-use Rattle.swc_base_rename_substitution.specs.Walk.{each_substituted, items_substituted}
+use Rattle.swc_base_rename_substitution.specs.Exports.{export_list, exported_ids, items_for, with_exports}
+use Rattle.swc_base_rename_substitution.specs.Places.{by_role, in_kind, places, within}
+use Rattle.swc_base_rename_substitution.specs.Substituted.{each_at, if_changed, keeps_name, renewed, substituted, tree_for}
+use Rattle.swc_base_rename_substitution.specs.Walk.{items_substituted}
 use Rattle.swc_base_rename_substitution.proofs.Equations.{substituted-Absent, substituted-Flag, substituted-Word, substituted-Text, substituted-Span, substituted_identifier, substituted_list, substituted_tree}
 use Rattle.swc_base_rename_laws.specs.Laws.{EmptyMapChangesNothing, IsEmpty, KeepsTexts, KeptTextsChangeNothing}
 
@@ -78,7 +78,7 @@ module _ (m : Changes) (none : (x : Id) → m x ≡ None) where
   unchanged_there : (p : Place) (i : Ident) → changed m p i ≡ None
   unchanged_there place.Name i = rw (none (i.sym, i.ctxt)) refl
   unchanged_there place.Shorthand i = rw (none (i.sym, i.ctxt)) refl
-  unchanged_there place.Exported i = rw (none (i.sym, i.ctxt)) refl
+  unchanged_there place.Exported i = refl
   unchanged_there place.ClassName i = refl
   unchanged_there place.Other i = refl
 

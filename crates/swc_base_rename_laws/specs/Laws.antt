@@ -1,5 +1,5 @@
 -- What giving names anew keeps.
-use Rattle.std.specs.Prelude.{◌≡◌, ℕ, Bool, false, Some, None, List}
+use Rattle.std.specs.Prelude.{◌≡◌, ℕ, false, Some, None, List}
 use Rattle.std.specs.HashMap.{get}
 use Rattle.swc_tree_node.specs.declared.node.Node.{Node}
 use Rattle.swc_base_rename_substitution.specs.declared.names.Names.{Names}

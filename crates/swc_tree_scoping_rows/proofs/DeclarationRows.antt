@@ -1,20 +1,17 @@
 -- Declarations against the rules and by them, exports, and the names of strict code.
 use Rattle.std.specs.Str.{bytes_eq}
-use Rattle.std.proofs.Common.{◌≡◌, ℕ, Bool, true, false, IsTrue, ◌⊎◌, inl, inr, ⊎_elim, Option, Some, None, List, [], ◌∷◌, codes, refl, sym, ap, ◌∙◌, subst}
+use Rattle.std.proofs.Common.{◌≡◌, ℕ, Bool, true, false, IsTrue, ◌⊎◌, inl, inr, ⊎_elim, Some, List, [], ◌∷◌, codes, refl, sym, ap, ◌∙◌, subst}
 use Rattle.swc_tree_marks.specs.declared.ident.Ident.{Ident}
 use Rattle.swc_tree_node.specs.declared.kind.Kind.TheVariants as kind
 use Rattle.swc_tree_node.specs.declared.kind.Word.TheVariants as word
-use Rattle.swc_tree_node.specs.declared.slot.Role.TheVariants as role
-use Rattle.swc_tree_node.specs.declared.node.Node.{Node}
 use Rattle.swc_tree_scoping.specs.declared.places.Standing.{Standing}
 use Rattle.swc_tree_scoping.specs.declared.places.Standing.TheVariants as standing
-use Rattle.swc_tree_scoping.specs.declared.places.Scope.{Scope}
-use Rattle.swc_tree_scoping.specs.Places.{Path, place_at, program_place}
-use Rattle.swc_tree_scoping.specs.Scopes.{Round, is_taken, rounds, scope_at}
-use Rattle.swc_tree_scoping.specs.Declares.{Bound, BoundAs, Declares, PassesNone, is_lexical, is_settled}
+use Rattle.swc_tree_scoping.specs.Places.{Path, program_place}
+use Rattle.swc_tree_scoping.specs.Scopes.{is_taken, rounds, scope_at}
+use Rattle.swc_tree_scoping.specs.Declares.{Bound, BoundAs, Declares, PassesNone, is_lexical}
 use Rattle.swc_tree_scoping.specs.Readings.{by_texts}
 use Rattle.swc_tree_scoping.specs.WellScoped.{Binds, ExportsDeclared, InExportList, IsDeclared, IsLexical, NoEvalOrArguments, NoParameterTwice, NoVariablePasses, NoneTwice, is_catch_parameter}
-use Rattle.swc_tree_scoping_rows.proofs.Drawn.{Drawing, Drawing.name, Drawing.tree, Drawings, Drawings.end, Drawings.next, as_drawn, draw, draws, inner, rounds_drawn, rounds_is, scope_drawn, scope_is, stands_drawn, stands_is, taker_drawn, taker_is}
+use Rattle.swc_tree_scoping_rows.proofs.Drawn.{Drawing, Drawings.next, draw, draws, inner, rounds_drawn, rounds_is, scope_drawn, scope_is, stands_is}
 use Rattle.swc_tree_scoping_rows.proofs.Sites.{apart_by, arrow, at, binds, block, declaration, each_binds, each_bound, each_stands, export_of, identifier, in_block, is_bound, module_of, one, stands, taken, texts, texts_are, try_catch, two}
 
 abbrev a : Ident

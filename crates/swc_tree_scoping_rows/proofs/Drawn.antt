@@ -1,6 +1,6 @@
 -- Small trees on which the definitions of places and scopes compute: a drawing is a tree without texts, and what stands
 -- where in the tree that it draws is found by plain recursion on the drawing.
-use Rattle.std.proofs.Common.{◌≡◌, ℕ, zero, suc, Bool, true, false, not, ◌&&◌, IsTrue, Option, Some, None, List, [], ◌∷◌, ◌++◌, map, refl, sym, ap, ◌∙◌, subst, cond}
+use Rattle.std.proofs.Common.{◌≡◌, ℕ, zero, suc, Bool, true, false, not, ◌&&◌, Option, Some, None, List, [], ◌∷◌, ◌++◌, map, refl, sym, ap, ◌∙◌}
 use Rattle.std.specs.Prelude.{if◌then◌else◌}
 use Rattle.std.specs.List.{slice_get}
 use Rattle.std.specs.Option.{option_and_then, option_map}
@@ -8,9 +8,11 @@ use Rattle.swc_tree_marks.specs.declared.ident.Ident.{Ident}
 use Rattle.swc_tree_node.specs.declared.kind.Kind.{Kind}
 use Rattle.swc_tree_node.specs.declared.kind.Kind.TheVariants as kind
 use Rattle.swc_tree_node.specs.declared.kind.Word.{Word as Word'}
-use Rattle.swc_tree_node.specs.declared.node.Node.{Node, Absent, Flag, Word, Span, List as Many, Identifier, Tree, out-Node, map-Node, fold-Node, fold_out-Node}
+use Rattle.swc_tree_node.specs.declared.slot.Role.{Role}
+use Rattle.swc_tree_node.specs.declared.slot.Role.TheVariants as role
+use Rattle.swc_tree_node.specs.declared.node.Node.{Node, Absent, Flag, Word, Span, List as Many, Identifier, Tree, out-Node, map-Node, fold_out-Node}
 use Rattle.swc_tree_node.specs.declared.node.Node.TheOpen.{Node-F}
-use Rattle.swc_tree_node.specs.declared.node.Node.TheVariants.{rolls-Absent, rolls-Flag, rolls-Word, rolls-Span, rolls-List, rolls-Identifier, rolls-Tree, outs-Absent, outs-Flag, outs-Word, outs-Span, outs-List, outs-Tree, outs-Identifier}
+use Rattle.swc_tree_node.specs.declared.node.Node.TheVariants.{rolls-Absent, rolls-Flag, rolls-Word, rolls-Span, rolls-List, rolls-Tree, outs-Absent, outs-Flag, outs-Word, outs-Span, outs-List, outs-Tree, outs-Identifier}
 use Rattle.swc_tree_node.specs.declared.fields.functions.arrow_expr.TheConstants as arrow_expr
 use Rattle.swc_tree_node.specs.declared.fields.functions.constructor.TheConstants as constructor
 use Rattle.swc_tree_node.specs.declared.fields.functions.function.TheConstants as function
@@ -25,8 +27,8 @@ use Rattle.swc_tree_scoping.specs.declared.places.Standing.TheVariants as standi
 use Rattle.swc_tree_scoping.specs.declared.places.Place.{Place}
 use Rattle.swc_tree_scoping.specs.declared.places.Scope.{Scope}
 use Rattle.swc_tree_scoping.specs.declared.below.Fields.{Fields}
-use Rattle.swc_tree_scoping.specs.Places.{Path, absent_in, block_in, by_keyword, child, children_in, directive_of, directive_or, flag_in, flag_of, function_standing, given, has_use_strict, is_plain_function, is_strict, is_there, items_in, items_of, keyword_in, literal_in, literal_of, opened, opened_as, opened_in, place_at, place_below, place_in, plain_in, program_place, says, statement_in, statements_of, string_of, text_in, text_of}
-use Rattle.swc_tree_scoping.specs.Below.{field_place, fields_are}
+use Rattle.swc_tree_scoping.specs.Places.{Path, absent_in, binds_patterns, block_in, by_keyword, child, children_in, directive_or, field_role, flag_in, flag_of, function_standing, given, has_use_strict, is_expression_in, is_identifier_expression, is_plain_function, is_strict, is_there, items_in, items_of, keyword_in, literal_in, literal_of, opened, opened_as, opened_in, part_standing, place_at, place_below, place_in, plain_in, program_place, says, statement_in, statements_of, text_in, text_of}
+use Rattle.swc_tree_scoping.specs.Below.{field_place, fields_are, standing_by}
 use Rattle.swc_tree_scoping.specs.Scopes.{Round, first_that, is_taken, rounds, scope_at, seen_as, taker, view_in}
 use Rattle.swc_tree_scoping.specs.Readings.{rename_step, with_identifiers}
 use Rattle.swc_tree_scoping.proofs.Children.{fields_below}
@@ -290,14 +292,50 @@ fields_is w k ds = λ j. record {
 }
 
 -- places and scopes
+abbrev is_expression : Option Drawing → Bool
+is_expression None = false
+is_expression (Some d) = is_expression_in (layer d)
+
+is_expression_is : (o : Option Drawing) → is_identifier_expression (option_map draw o) ≡ is_expression o
+is_expression_is None = refl
+is_expression_is (Some d) = ap is_expression_in (out_draw d)
+
+abbrev part_drawn : Standing → Option Drawing → Standing
+part_drawn r o = if binds_patterns r && is_expression o then standing.Reference else r
+
+part_is : (r : Standing) (o : Option Drawing) → part_standing r (option_map draw o) ≡ part_drawn r o
+part_is r o = ap (λ b. if binds_patterns r && b then standing.Reference else r) (is_expression_is o)
+
+abbrev standing_drawn : Fields → ℕ → Option Drawing → Role → Standing
+standing_drawn f i o role.Inherited = part_drawn f.whole.standing o
+standing_drawn f i o role.Parameter = part_drawn standing.Parameter o
+standing_drawn f i o role.Catch = part_drawn standing.CatchParameter o
+standing_drawn f i o r = standing_by f i None r
+
+standing_drawn_is : (f : Fields) (i : ℕ) (o : Option Drawing) (r : Role) → standing_by f i (option_map draw o) r ≡ standing_drawn f i o r
+standing_drawn_is f i o role.Inherited = part_is f.whole.standing o
+standing_drawn_is f i o role.Parameter = part_is standing.Parameter o
+standing_drawn_is f i o role.Catch = part_is standing.CatchParameter o
+standing_drawn_is f i o _ = refl
+
+abbrev field_drawn : Fields → Drawings → ℕ → Place
+field_drawn f ds i = record (field_place f i None) { standing = standing_drawn f i (get ds i) (field_role f.kind i) }
+
+field_is : (f : Fields) (ds : Drawings) (i : ℕ) → field_place f i (slice_get (draws ds) i) ≡ field_drawn f ds i
+field_is f ds i = λ j. record (field_place f i None) { standing = (ap (λ o. standing_by f i o (field_role f.kind i)) (get_is ds i) ∙ standing_drawn_is f i (get ds i) (field_role f.kind i)) j }
+
 abbrev pub place_drawn : Place → Drawing → ℕ → Place
-place_drawn w (many ds) i = w
-place_drawn w (tree k ds) i = field_place (fields_drawn w k ds) i
+place_drawn w (many ds) i = record w { standing = part_drawn w.standing (get ds i) }
+place_drawn w (tree k ds) i = field_drawn (fields_drawn w k ds) ds i
 place_drawn w _ i = program_place
 
 place_drawn_is : (w : Place) (d : Drawing) (i : ℕ) → place_in w (layer d) i ≡ place_drawn w d i
-place_drawn_is w (many ds) i = refl
-place_drawn_is w (tree k ds) i = ap (λ y. place_in w y i) (sym (outs-Tree k (draws ds))) ∙ sym (ap (λ f. f i) (fields_below w k (draws ds))) ∙ ap (λ f. field_place f i) (fields_is w k ds)
+place_drawn_is w (many ds) i = ap (λ r. record w { standing = r }) (ap (part_standing w.standing) (get_is ds i) ∙ part_is w.standing (get ds i))
+place_drawn_is w (tree k ds) i =
+    ap (λ y. place_in w y i) (sym (outs-Tree k (draws ds)))
+    ∙ sym (ap (λ f. f i) (fields_below w k (draws ds)))
+    ∙ ap (λ f. field_place f i (slice_get (draws ds) i)) (fields_is w k ds)
+    ∙ field_is (fields_drawn w k ds) ds i
 place_drawn_is w none i = refl
 place_drawn_is w (flag x) i = refl
 place_drawn_is w (word x) i = refl

@@ -26,7 +26,7 @@ abbrev mutual
   names_in w (flag x) = []
   names_in w (word x) = []
   names_in w span = []
-  names_in w (many ds) = names_of (λ i. w) (λ i. i) ds
+  names_in w (many ds) = names_of (place_drawn w (many ds)) (λ i. i) ds
   names_in w (name k i) = record { path = []; place = w; kind = k; identifier = i } ∷ []
   names_in w (tree k ds) = names_of (place_drawn w (tree k ds)) (λ i. i) ds
 
@@ -58,7 +58,7 @@ every_at P f n (next d ds) zero c g h =
 every_at P f n (next d ds) (suc i) c g h = every_at P (λ i. f (suc i)) (λ i. n (suc i)) ds i c g (every_right P (map (under (n zero)) (names_in (f zero) d)) _ h)
 
 every_child : (P : Named → Type 0) (w : Place) (d : Drawing) (i : ℕ) (c : Drawing) → get (inner d) i ≡ Some c → Every P (names_in w d) → Every (λ q. P (under i q)) (names_in (place_drawn w d i) c)
-every_child P w (many ds) i c g h = every_at P (λ i. w) (λ i. i) ds i c g h
+every_child P w (many ds) i c g h = every_at P (place_drawn w (many ds)) (λ i. i) ds i c g h
 every_child P w (tree k ds) i c g h = every_at P (place_drawn w (tree k ds)) (λ i. i) ds i c g h
 every_child P w none i c g h = absurd (cc)
 every_child P w (flag x) i c g h = absurd (cc)

@@ -1,20 +1,16 @@
 -- Ids and their scopes: trees that meet a clause of what is well-scoped, and trees that do not.
 use Rattle.std.specs.Str.{bytes_eq}
-use Rattle.std.proofs.Common.{◌≡◌, ℕ, Bool, true, false, IsTrue, ◌⊎◌, inl, inr, Option, Some, None, List, [], ◌∷◌, Contains, codes, refl, sym, ap, ◌∙◌, subst, arith}
+use Rattle.std.proofs.Common.{◌≡◌, ℕ, true, IsTrue, ◌⊎◌, inl, inr, Some, List, [], ◌∷◌, Contains, codes, refl, sym, ap, ◌∙◌, subst, arith}
 use Rattle.swc_tree_marks.specs.declared.ident.Ident.{Ident}
-use Rattle.swc_tree_node.specs.declared.kind.Kind.{Kind}
 use Rattle.swc_tree_node.specs.declared.kind.Kind.TheVariants as kind
 use Rattle.swc_tree_node.specs.declared.kind.Word.TheVariants as word
-use Rattle.swc_tree_node.specs.declared.node.Node.{Node, Identifier}
-use Rattle.swc_tree_scoping.specs.declared.places.Standing.{Standing}
 use Rattle.swc_tree_scoping.specs.declared.places.Standing.TheVariants as standing
-use Rattle.swc_tree_scoping.specs.declared.places.Place.{Place}
-use Rattle.swc_tree_scoping.specs.Places.{Path, place_at, program_place}
-use Rattle.swc_tree_scoping.specs.Scopes.{Round, is_binding, is_reference, rounds}
-use Rattle.swc_tree_scoping.specs.Declares.{Bound, DeclaredBy, Declares}
-use Rattle.swc_tree_scoping.specs.Readings.{by_ids, by_texts, id_name}
-use Rattle.swc_tree_scoping.specs.WellScoped.{Binds, EachInOneScope, FreeApart, InRegion, IsClean, IsDeclared, IsFree, OneScope}
-use Rattle.swc_tree_scoping_rows.proofs.Drawn.{Drawing, Drawing.name, Drawings, Drawings.end, Drawings.next, draw, rounds_is, stands_drawn, taker_drawn}
+use Rattle.swc_tree_scoping.specs.Places.{Path, program_place}
+use Rattle.swc_tree_scoping.specs.Scopes.{Round, is_reference}
+use Rattle.swc_tree_scoping.specs.Declares.{DeclaredBy, Declares}
+use Rattle.swc_tree_scoping.specs.Readings.{by_ids, id_name}
+use Rattle.swc_tree_scoping.specs.WellScoped.{EachInOneScope, FreeApart, InRegion, IsClean, IsDeclared, IsFree, OneScope}
+use Rattle.swc_tree_scoping_rows.proofs.Drawn.{Drawing, Drawing.name, draw, rounds_is, stands_drawn}
 use Rattle.swc_tree_scoping_rows.proofs.Names.{every_name, stands_there}
 use Rattle.swc_tree_scoping_rows.proofs.Sites.{apart_by, at, binds, block, declaration, each_binds, each_stands, identifier, ids, ids_are, in_block, is_bound, module_of, one, taken, two, use_of}
 

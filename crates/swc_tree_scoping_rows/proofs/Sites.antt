@@ -1,20 +1,19 @@
 -- What stands in a drawn tree, in the words of the definitions; and the trees of the rows.
-use Rattle.std.proofs.Common.{◌≡◌, ℕ, Bool, true, false, IsTrue, Option, Some, None, List, [], ◌∷◌, codes, refl, sym, ap, ◌∙◌, subst}
+use Rattle.std.proofs.Common.{◌≡◌, ℕ, Bool, true, false, IsTrue, Option, Some, List, [], refl, sym, ap, ◌∙◌, subst}
 use Rattle.swc_tree_marks.specs.declared.ident.Ident.{Ident}
 use Rattle.swc_tree_node.specs.declared.kind.Kind.{Kind}
 use Rattle.swc_tree_node.specs.declared.kind.Kind.TheVariants as kind
 use Rattle.swc_tree_node.specs.declared.kind.Word.{Word as Word'}
-use Rattle.swc_tree_node.specs.declared.node.Node.{Node, Identifier}
+use Rattle.swc_tree_node.specs.declared.node.Node.{Node}
 use Rattle.swc_tree_scoping.specs.declared.places.Standing.{Standing}
-use Rattle.swc_tree_scoping.specs.declared.places.Standing.TheVariants as standing
 use Rattle.swc_tree_scoping.specs.declared.places.Place.{Place}
-use Rattle.swc_tree_scoping.specs.Places.{Path, place_at, program_place}
+use Rattle.swc_tree_scoping.specs.Places.{Path, program_place}
 use Rattle.swc_tree_scoping.specs.Scopes.{is_binding, taker}
 use Rattle.swc_tree_scoping.specs.Declares.{Bound}
 use Rattle.swc_tree_scoping.specs.Readings.{by_ids, by_texts, id_name}
 use Rattle.swc_tree_scoping.specs.WellScoped.{Binds, Stands}
 use Rattle.swc_tree_scoping_rows.proofs.Drawn.{Drawing, Drawing.none, Drawing.flag, Drawing.word, Drawing.span, Drawing.many, Drawing.name, Drawing.tree, Drawings, Drawings.end, Drawings.next, changed, changed_is, draw, stands_drawn, taker_drawn, taker_is}
-use Rattle.swc_tree_scoping_rows.proofs.Names.{Every, Named, every_name, names_in, stands_there}
+use Rattle.swc_tree_scoping_rows.proofs.Names.{Every, every_name, names_in, stands_there}
 
 -- two values that a test tells apart
 pub apart_by : {X : Type 0} {x y : X} (f : X → Bool) → x ≡ y → f x ≡ true → f y ≡ false → ⊥

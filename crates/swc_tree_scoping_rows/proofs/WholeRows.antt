@@ -1,21 +1,20 @@
 -- Whole trees: `let a#1; a#1;` is well-scoped, `let a; a;` has no early error of names.
 use Rattle.std.specs.Str.{bytes_eq}
-use Rattle.std.proofs.Common.{◌≡◌, ℕ, Bool, true, false, IsTrue, inl, inr, Option, Some, None, List, [], ◌∷◌, codes, refl, sym, ap, ◌∙◌, subst}
+use Rattle.std.proofs.Common.{◌≡◌, ℕ, Bool, false, IsTrue, inl, List, [], codes, refl, sym, ◌∙◌, subst}
 use Rattle.swc_tree_marks.specs.declared.ident.Ident.{Ident}
 use Rattle.swc_tree_node.specs.declared.kind.Kind.TheVariants as kind
 use Rattle.swc_tree_node.specs.declared.kind.Word.TheVariants as word
-use Rattle.swc_tree_node.specs.declared.node.Node.{Node, Identifier}
+use Rattle.swc_tree_node.specs.declared.node.Node.{Node}
 use Rattle.swc_tree_scoping.specs.declared.places.Standing.{Standing}
 use Rattle.swc_tree_scoping.specs.declared.places.Standing.TheVariants as standing
-use Rattle.swc_tree_scoping.specs.declared.places.Place.{Place}
-use Rattle.swc_tree_scoping.specs.Places.{Path, program_place}
-use Rattle.swc_tree_scoping.specs.Scopes.{is_reference, rounds}
-use Rattle.swc_tree_scoping.specs.Declares.{Declares, PassesNone}
+use Rattle.swc_tree_scoping.specs.Places.{Path}
+use Rattle.swc_tree_scoping.specs.Scopes.{is_reference}
+use Rattle.swc_tree_scoping.specs.Declares.{Declares}
 use Rattle.swc_tree_scoping.specs.Readings.{by_ids, by_texts, id_name}
-use Rattle.swc_tree_scoping.specs.WellScoped.{Binds, ExportsDeclared, IsDeclared, IsFree, NoEarlyErrorOfNames, NoEvalOrArguments, NoParameterTwice, NoRedeclaration, NoVariablePasses, NoneTwice, Stands, WellScoped}
-use Rattle.swc_tree_scoping_rows.proofs.Drawn.{Drawing, Drawings, draw}
+use Rattle.swc_tree_scoping.specs.WellScoped.{Binds, ExportsDeclared, IsDeclared, IsFree, NoEarlyErrorOfNames, NoEvalOrArguments, NoRedeclaration, NoVariablePasses, NoneTwice, Stands, WellScoped}
+use Rattle.swc_tree_scoping_rows.proofs.Drawn.{Drawing, draw}
 use Rattle.swc_tree_scoping_rows.proofs.Names.{every_name}
-use Rattle.swc_tree_scoping_rows.proofs.Sites.{apart_by, at, binds, declaration, each_binds, each_stands, identifier, ids_are, is_bound, module_of, one, texts_are, two, use_of}
+use Rattle.swc_tree_scoping_rows.proofs.Sites.{apart_by, at, binds, declaration, each_binds, each_stands, identifier, ids_are, is_bound, module_of, texts_are, two, use_of}
 use Rattle.swc_tree_scoping_rows.proofs.ScopeRows.{a1, declared_and_used, declared_there, has_one_scope}
 use Rattle.swc_tree_scoping_rows.proofs.DeclarationRows.{eval_declared, one_let, twice, declared_twice, eval}
 
