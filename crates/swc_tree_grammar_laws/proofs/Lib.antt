@@ -9,3 +9,4 @@ mod ReaderRows
 mod StepRows
 mod FixedRows
 pub mod Heads
+pub mod Begins
