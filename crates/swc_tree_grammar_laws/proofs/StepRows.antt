@@ -16,41 +16,41 @@ bare_in : NeedsAfter paired_in_heads (loop (bin word.In a b)) (loop (paren (bin 
 bare_in = (search (rules, the_lemmas), search (rules, the_lemmas), search (rules, the_lemmas))
 
 -- `for (() => (a in b);;) ;`
-in_arrow : NeedsAfter paired_in_heads (loop (arrow (bin word.In a b))) (loop (arrow (paren (bin word.In a b)))) (1 ∷ 2 ∷ [])
-in_arrow = (search (rules, the_lemmas), search (rules, the_lemmas), search (rules, the_lemmas))
+in_arrow : NeedsPair (loop (arrow (paren (bin word.In a b)))) (1 ∷ 2 ∷ [])
+in_arrow = (search (rules, the_lemmas), search (rules, the_lemmas))
 
 -- `for ((async) of x) ;`
 async_of : NeedsAfter paired_in_heads (loop_of false (bound (codes "async")) x) (loop_of false (paren (name (codes "async"))) x) (2 ∷ [])
 async_of = (search (rules, the_lemmas), search (rules, the_lemmas), search (rules, the_lemmas))
 
 -- `({}) + a + b;`
-object_first : NeedsAfter paired_at_starts (statement (bin word.Plus (bin word.Plus (object []) a) b)) (statement (bin word.Plus (bin word.Plus (paren (object [])) a) b)) (1 ∷ 2 ∷ 2 ∷ [])
-object_first = (search (rules, the_lemmas), search (rules, the_lemmas), search (rules, the_lemmas))
+object_first : NeedsPair (statement (bin word.Plus (bin word.Plus (paren (object [])) a) b)) (1 ∷ 2 ∷ 2 ∷ [])
+object_first = (search (rules, the_lemmas), search (rules, the_lemmas))
 
 -- `(function() {})();`
 function_first : NeedsAfter paired_at_starts (statement (call function [])) (statement (call (paren function) [])) (1 ∷ 1 ∷ [])
 function_first = (search (rules, the_lemmas), search (rules, the_lemmas), search (rules, the_lemmas))
 
 -- `(async function() {})();`
-async_function_first : NeedsAfter paired_at_starts (statement (call (Tree kind.FnExpr (Absent ∷ Tree kind.Function (at 0 0 ∷ Many [] ∷ block [] ∷ Flag false ∷ Flag true ∷ []) ∷ [])) [])) (statement (call (paren (Tree kind.FnExpr (Absent ∷ Tree kind.Function (at 0 0 ∷ Many [] ∷ block [] ∷ Flag false ∷ Flag true ∷ []) ∷ []))) [])) (1 ∷ 1 ∷ [])
-async_function_first = (search (rules, the_lemmas), search (rules, the_lemmas), search (rules, the_lemmas))
+async_function_first : NeedsPair (statement (call (paren (Tree kind.FnExpr (Absent ∷ Tree kind.Function (at 0 0 ∷ Many [] ∷ block [] ∷ Flag false ∷ Flag true ∷ []) ∷ []))) [])) (1 ∷ 1 ∷ [])
+async_function_first = (search (rules, the_lemmas), search (rules, the_lemmas))
 
 -- `({ a } = b);`
 pattern_first : NeedsAfter paired_at_starts (statement (assign (Tree kind.ObjectPat (at 0 0 ∷ Many (Tree kind.AssignPatProp (at 0 0 ∷ bound (codes "a") ∷ Absent ∷ []) ∷ []) ∷ [])) b)) (statement (paren (assign (Tree kind.ObjectPat (at 0 0 ∷ Many (Tree kind.AssignPatProp (at 0 0 ∷ bound (codes "a") ∷ Absent ∷ []) ∷ []) ∷ [])) b))) (1 ∷ [])
 pattern_first = (search (rules, the_lemmas), search (rules, the_lemmas), search (rules, the_lemmas))
 
 -- `(let[x]).b;`
-let_bracket : NeedsAfter paired_at_starts (statement (member (element (name (codes "let")) x))) (statement (member (paren (element (name (codes "let")) x)))) (1 ∷ 1 ∷ [])
-let_bracket = (search (rules, the_lemmas), search (rules, the_lemmas), search (rules, the_lemmas))
+let_bracket : NeedsPair (statement (member (paren (element (name (codes "let")) x)))) (1 ∷ 1 ∷ [])
+let_bracket = (search (rules, the_lemmas), search (rules, the_lemmas))
 
 -- `() => ({})`
 arrow_object : NeedsAfter paired_at_starts (arrow (object [])) (arrow (paren (object []))) (2 ∷ [])
 arrow_object = (search (rules, the_lemmas), search (rules, the_lemmas), search (rules, the_lemmas))
 
 -- `() => ({}).b`
-arrow_object_member : NeedsAfter paired_at_starts (arrow (member (object []))) (arrow (member (paren (object [])))) (2 ∷ 1 ∷ [])
-arrow_object_member = (search (rules, the_lemmas), search (rules, the_lemmas), search (rules, the_lemmas))
+arrow_object_member : NeedsPair (arrow (member (paren (object [])))) (2 ∷ 1 ∷ [])
+arrow_object_member = (search (rules, the_lemmas), search (rules, the_lemmas))
 
 -- `export default (function() {})();`
-default_function : NeedsAfter paired_at_starts (default (call function [])) (default (call (paren function) [])) (1 ∷ 1 ∷ [])
-default_function = (search (rules, the_lemmas), search (rules, the_lemmas), search (rules, the_lemmas))
+default_function : NeedsPair (default (call (paren function) [])) (1 ∷ 1 ∷ [])
+default_function = (search (rules, the_lemmas), search (rules, the_lemmas))
