@@ -14,7 +14,10 @@ fn lines(rt: &HostRuntime) -> Result<Vec<String>> {
 // How many rows there are, and how many of them differ.
 fn count(rt: &HostRuntime, mut lines: &[String]) -> Result<(u32, u32)> {
     let (mut rows, mut failed) = (0u32, 0u32);
-    while let [words, input, wanted, rest @ ..] = lines {
+    for _ in 0..lines.len() {
+        let [words, input, wanted, rest @ ..] = lines else {
+            break;
+        };
         rows = rows.saturating_add(1);
         if !is_answered(rt, words.as_str(), input.as_str(), wanted.as_str())? {
             failed = failed.saturating_add(1);
