@@ -64,6 +64,24 @@ def opened_head(family, tree, entry, uses):
 COUNTS = {1: 'one', 2: 'two', 3: 'three', 4: 'four', 5: 'five'}
 
 
+# The copy of a struct by one call for its fields: derived, each field would be a call that drops the copies before it.
+CLONE = '''
+impl Clone for %(name)s {
+    ghost is_clone = { λ it copy. copy ≡ it };
+
+    fn clone(&self) -> Result<%(name)s, AllocError> {
+        let (%(keys)s) = clone_%(count)s(%(fields)s)?;
+        Ok(%(name)s { %(keys)s })
+    }
+}
+'''
+
+
+def takes_memory(tree, forms):
+    """Whether each copy of the fields asks for memory, whatever they hold; a derived `Clone` also says where none does."""
+    return any(form.type not in tree.words and not form.type.startswith(('Option<', 'Span', 'bool')) for form in forms)
+
+
 def struct_rt(tree, struct):
     forms = [form_of(tree, field) for field in struct.fields]
     names = [field.name for field in struct.fields]
@@ -73,16 +91,20 @@ def struct_rt(tree, struct):
     opened = ', '.join('%s: %s.held' % (f.name, f.name) if form.place else f.name for f, form in zip(struct.fields, forms))
     closed = ', '.join('%s { held: %s }' % (form.place, f.name) if form.place else f.name for f, form in zip(struct.fields, forms))
     uses = set().union(*(form.types for form in forms)) | {(HANDLE, 'open_' + count), (HANDLE, 'close_' + count)}
-    declared = '/// %s\n#[derive(Clone, Debug, Drop, PartialEq, Eq)]\npub struct %s {\n%s}\n' % (
-        struct.doc, name, ''.join('    pub %s: %s,\n' % (f.name, form.type) for f, form in zip(struct.fields, forms)))
+    clones = len(names) > 1 and takes_memory(tree, forms)
+    uses |= {(HANDLE, 'clone_' + count)} if clones else set()
+    declared = '/// %s\n#[derive(%sDebug, Drop, PartialEq, Eq)]\npub struct %s {\n%s}\n' % (
+        struct.doc, '' if clones else 'Clone, ', name,
+        ''.join('    pub %s: %s,\n' % (f.name, form.type) for f, form in zip(struct.fields, forms)))
+    copied = CLONE % {'name': name, 'keys': keys, 'count': count, 'fields': ', '.join('&self.' + key for key in names)}
     from_node = '''        let %s = open_%s::<class::%s, %s>(closed, Kind::%s);
         %s { %s }
 ''' % (row, count, name, places, name, name, opened)
     into_node = '''        let %s { %s } = self;
         close_%s::<class::%s, %s>(alloc, Kind::%s, %s)
 ''' % (name, keys, count, name, places, name, '(%s)' % closed if len(names) > 1 else closed)
-    return (opened_head(struct.family, tree, struct, uses) + declared + opened_impl(struct, tree, '', from_node, into_node)
-            + place_impls(tree, struct))
+    return (opened_head(struct.family, tree, struct, uses) + declared + (copied if clones else '')
+            + opened_impl(struct, tree, '', from_node, into_node) + place_impls(tree, struct))
 
 
 PLACE = '''
@@ -195,11 +217,10 @@ def sum_rt(tree, sum_):
         match tree.kind() {
 %s        }
 ''' % (name, arms)
-    into_node = '''        let tree: Tree<class::%s> = match self {
-%s        };
-        Ok(tree.into_node())
-''' % (name, ''.join('            %s::%s(%s,\n' % (name, v.name, 'tree) => tree.widen()' if v.is_subtree else 'opened) => opened.close(alloc)?.widen()')
-                     for v in sum_.variants))
+    into_node = '''        match self {
+%s        }
+''' % ''.join('            %s::%s(%s,\n' % (name, v.name, ('tree) => Ok(tree.widen::<class::%s>().into_node())' if v.is_subtree else 'opened) => opened.close_within::<class::%s>(alloc)') % name)
+              for v in sum_.variants)
     uses = {(owner_of(tree, v.member), v.member) for v in sum_.variants if not v.is_subtree} | {(HANDLE, 'Tree')}
     return opened_head(sum_.family, tree, sum_, uses) + declared + opened_impl(sum_, tree, '', from_node, into_node)
 

@@ -42,10 +42,9 @@ impl Opened<class::AssignTarget> for AssignTarget {
     fn into_node(self, alloc: Global) -> Result<Node, AllocError>
         ensures { IfOk result (λ closed. (closed ≡ of_assign_target self) × Fits closed (One (Of class.AssignTarget))) }
     {
-        let tree: Tree<class::AssignTarget> = match self {
-            AssignTarget::Simple(opened) => opened.close(alloc)?.widen(),
-            AssignTarget::Pat(opened) => opened.close(alloc)?.widen(),
-        };
-        Ok(tree.into_node())
+        match self {
+            AssignTarget::Simple(opened) => opened.close_within::<class::AssignTarget>(alloc),
+            AssignTarget::Pat(opened) => opened.close_within::<class::AssignTarget>(alloc),
+        }
     }
 }

@@ -38,10 +38,9 @@ impl Opened<class::AssignTargetPat> for AssignTargetPat {
     fn into_node(self, alloc: Global) -> Result<Node, AllocError>
         ensures { IfOk result (λ closed. (closed ≡ of_assign_target_pat self) × Fits closed (One (Of class.AssignTargetPat))) }
     {
-        let tree: Tree<class::AssignTargetPat> = match self {
-            AssignTargetPat::Array(opened) => opened.close(alloc)?.widen(),
-            AssignTargetPat::Object(opened) => opened.close(alloc)?.widen(),
-        };
-        Ok(tree.into_node())
+        match self {
+            AssignTargetPat::Array(opened) => opened.close_within::<class::AssignTargetPat>(alloc),
+            AssignTargetPat::Object(opened) => opened.close_within::<class::AssignTargetPat>(alloc),
+        }
     }
 }

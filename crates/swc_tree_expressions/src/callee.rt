@@ -39,11 +39,10 @@ impl Opened<class::Callee> for Callee {
     fn into_node(self, alloc: Global) -> Result<Node, AllocError>
         ensures { IfOk result (λ closed. (closed ≡ of_callee self) × Fits closed (One (Of class.Callee))) }
     {
-        let tree: Tree<class::Callee> = match self {
-            Callee::Super(opened) => opened.close(alloc)?.widen(),
-            Callee::Import(opened) => opened.close(alloc)?.widen(),
-            Callee::Expr(tree) => tree.widen(),
-        };
-        Ok(tree.into_node())
+        match self {
+            Callee::Super(opened) => opened.close_within::<class::Callee>(alloc),
+            Callee::Import(opened) => opened.close_within::<class::Callee>(alloc),
+            Callee::Expr(tree) => Ok(tree.widen::<class::Callee>().into_node()),
+        }
     }
 }

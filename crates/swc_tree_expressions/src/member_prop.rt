@@ -45,11 +45,10 @@ impl Opened<class::MemberProp> for MemberProp {
     fn into_node(self, alloc: Global) -> Result<Node, AllocError>
         ensures { IfOk result (λ closed. (closed ≡ of_member_prop self) × Fits closed (One (Of class.MemberProp))) }
     {
-        let tree: Tree<class::MemberProp> = match self {
-            MemberProp::Ident(opened) => opened.close(alloc)?.widen(),
-            MemberProp::PrivateName(opened) => opened.close(alloc)?.widen(),
-            MemberProp::Computed(opened) => opened.close(alloc)?.widen(),
-        };
-        Ok(tree.into_node())
+        match self {
+            MemberProp::Ident(opened) => opened.close_within::<class::MemberProp>(alloc),
+            MemberProp::PrivateName(opened) => opened.close_within::<class::MemberProp>(alloc),
+            MemberProp::Computed(opened) => opened.close_within::<class::MemberProp>(alloc),
+        }
     }
 }

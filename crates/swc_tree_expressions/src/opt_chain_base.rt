@@ -38,10 +38,9 @@ impl Opened<class::OptChainBase> for OptChainBase {
     fn into_node(self, alloc: Global) -> Result<Node, AllocError>
         ensures { IfOk result (λ closed. (closed ≡ of_opt_chain_base self) × Fits closed (One (Of class.OptChainBase))) }
     {
-        let tree: Tree<class::OptChainBase> = match self {
-            OptChainBase::Member(opened) => opened.close(alloc)?.widen(),
-            OptChainBase::Call(opened) => opened.close(alloc)?.widen(),
-        };
-        Ok(tree.into_node())
+        match self {
+            OptChainBase::Member(opened) => opened.close_within::<class::OptChainBase>(alloc),
+            OptChainBase::Call(opened) => opened.close_within::<class::OptChainBase>(alloc),
+        }
     }
 }

@@ -46,13 +46,12 @@ impl Opened<class::Prop> for Prop {
     fn into_node(self, alloc: Global) -> Result<Node, AllocError>
         ensures { IfOk result (λ closed. (closed ≡ of_prop self) × Fits closed (One (Of class.Prop))) }
     {
-        let tree: Tree<class::Prop> = match self {
-            Prop::Shorthand(opened) => opened.close(alloc)?.widen(),
-            Prop::KeyValue(opened) => opened.close(alloc)?.widen(),
-            Prop::Getter(opened) => opened.close(alloc)?.widen(),
-            Prop::Setter(opened) => opened.close(alloc)?.widen(),
-            Prop::Method(opened) => opened.close(alloc)?.widen(),
-        };
-        Ok(tree.into_node())
+        match self {
+            Prop::Shorthand(opened) => opened.close_within::<class::Prop>(alloc),
+            Prop::KeyValue(opened) => opened.close_within::<class::Prop>(alloc),
+            Prop::Getter(opened) => opened.close_within::<class::Prop>(alloc),
+            Prop::Setter(opened) => opened.close_within::<class::Prop>(alloc),
+            Prop::Method(opened) => opened.close_within::<class::Prop>(alloc),
+        }
     }
 }

@@ -45,10 +45,9 @@ impl Opened<class::PropOrSpread> for PropOrSpread {
     fn into_node(self, alloc: Global) -> Result<Node, AllocError>
         ensures { IfOk result (λ closed. (closed ≡ of_prop_or_spread self) × Fits closed (One (Of class.PropOrSpread))) }
     {
-        let tree: Tree<class::PropOrSpread> = match self {
-            PropOrSpread::Spread(opened) => opened.close(alloc)?.widen(),
-            PropOrSpread::Prop(opened) => opened.close(alloc)?.widen(),
-        };
-        Ok(tree.into_node())
+        match self {
+            PropOrSpread::Spread(opened) => opened.close_within::<class::PropOrSpread>(alloc),
+            PropOrSpread::Prop(opened) => opened.close_within::<class::PropOrSpread>(alloc),
+        }
     }
 }

@@ -49,12 +49,19 @@ impl Opened<class::SimpleAssignTarget> for SimpleAssignTarget {
     fn into_node(self, alloc: Global) -> Result<Node, AllocError>
         ensures { IfOk result (λ closed. (closed ≡ of_simple_assign_target self) × Fits closed (One (Of class.SimpleAssignTarget))) }
     {
-        let tree: Tree<class::SimpleAssignTarget> = match self {
-            SimpleAssignTarget::Ident(opened) => opened.close(alloc)?.widen(),
-            SimpleAssignTarget::Member(opened) => opened.close(alloc)?.widen(),
-            SimpleAssignTarget::SuperProp(opened) => opened.close(alloc)?.widen(),
-            SimpleAssignTarget::Paren(opened) => opened.close(alloc)?.widen(),
-        };
-        Ok(tree.into_node())
+        match self {
+            SimpleAssignTarget::Ident(opened) => opened.close_within::<class::SimpleAssignTarget>(
+                alloc,
+            ),
+            SimpleAssignTarget::Member(opened) => opened.close_within::<class::SimpleAssignTarget>(
+                alloc,
+            ),
+            SimpleAssignTarget::SuperProp(opened) => opened.close_within::<
+                class::SimpleAssignTarget,
+            >(alloc),
+            SimpleAssignTarget::Paren(opened) => opened.close_within::<class::SimpleAssignTarget>(
+                alloc,
+            ),
+        }
     }
 }

@@ -41,10 +41,9 @@ impl Opened<class::SuperProp> for SuperProp {
     fn into_node(self, alloc: Global) -> Result<Node, AllocError>
         ensures { IfOk result (λ closed. (closed ≡ of_super_prop self) × Fits closed (One (Of class.SuperProp))) }
     {
-        let tree: Tree<class::SuperProp> = match self {
-            SuperProp::Ident(opened) => opened.close(alloc)?.widen(),
-            SuperProp::Computed(opened) => opened.close(alloc)?.widen(),
-        };
-        Ok(tree.into_node())
+        match self {
+            SuperProp::Ident(opened) => opened.close_within::<class::SuperProp>(alloc),
+            SuperProp::Computed(opened) => opened.close_within::<class::SuperProp>(alloc),
+        }
     }
 }

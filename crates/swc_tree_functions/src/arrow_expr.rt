@@ -7,17 +7,36 @@ ghost use Rattle.swc_tree_node.specs.Fits.{Fits};
 ghost use Rattle.swc_tree_functions.specs.Nodes.{arrow_expr_node};
 
 use std::alloc::{AllocError, Global};
-use swc_tree_handle::{Opened, Tree, Trees, class, close_four, open_four};
+use swc_tree_handle::{Opened, Tree, Trees, class, clone_four, close_four, open_four};
 use swc_tree_marks::Span;
 use swc_tree_node::{Kind, Node};
 
 /// An arrow function (ECMA-262, ArrowFunction).
-#[derive(Clone, Debug, Drop, PartialEq, Eq)]
+#[derive(Debug, Drop, PartialEq, Eq)]
 pub struct ArrowExpr {
     pub span: Span,
     pub params: Trees<class::Pat>,
     pub body: Tree<class::BlockStmtOrExpr>,
     pub is_async: bool,
+}
+
+impl Clone for ArrowExpr {
+    ghost is_clone = { λ it copy. copy ≡ it };
+
+    fn clone(&self) -> Result<ArrowExpr, AllocError> {
+        let (span, params, body, is_async) = clone_four(
+            &self.span,
+            &self.params,
+            &self.body,
+            &self.is_async,
+        )?;
+        Ok(ArrowExpr {
+            span,
+            params,
+            body,
+            is_async,
+        })
+    }
 }
 
 impl Opened<class::ArrowExpr> for ArrowExpr {

@@ -7,16 +7,29 @@ ghost use Rattle.swc_tree_node.specs.Fits.{Fits};
 ghost use Rattle.swc_tree_functions.specs.Nodes.{class_node};
 
 use std::alloc::{AllocError, Global};
-use swc_tree_handle::{Opened, Tree, Trees, class, close_three, open_three};
+use swc_tree_handle::{Opened, Tree, Trees, class, clone_three, close_three, open_three};
 use swc_tree_marks::Span;
 use swc_tree_node::{Kind, Node};
 
 /// The heritage and the members of a class (ECMA-262, ClassTail).
-#[derive(Clone, Debug, Drop, PartialEq, Eq)]
+#[derive(Debug, Drop, PartialEq, Eq)]
 pub struct Class {
     pub span: Span,
     pub super_class: Option<Tree<class::Expr>>,
     pub body: Trees<class::ClassMember>,
+}
+
+impl Clone for Class {
+    ghost is_clone = { λ it copy. copy ≡ it };
+
+    fn clone(&self) -> Result<Class, AllocError> {
+        let (span, super_class, body) = clone_three(&self.span, &self.super_class, &self.body)?;
+        Ok(Class {
+            span,
+            super_class,
+            body,
+        })
+    }
 }
 
 impl Opened<class::Class> for Class {

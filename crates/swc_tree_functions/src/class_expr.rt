@@ -7,15 +7,24 @@ ghost use Rattle.swc_tree_node.specs.Fits.{Fits};
 ghost use Rattle.swc_tree_functions.specs.Nodes.{class_expr_node};
 
 use std::alloc::{AllocError, Global};
-use swc_tree_handle::{Opened, Tree, class, close_two, open_two};
+use swc_tree_handle::{Opened, Tree, class, clone_two, close_two, open_two};
 use swc_tree_marks::Ident;
 use swc_tree_node::{Kind, Node};
 
 /// A class expression (ECMA-262, ClassExpression).
-#[derive(Clone, Debug, Drop, PartialEq, Eq)]
+#[derive(Debug, Drop, PartialEq, Eq)]
 pub struct ClassExpr {
     pub ident: Option<Ident>,
     pub class_: Tree<class::Class>,
+}
+
+impl Clone for ClassExpr {
+    ghost is_clone = { λ it copy. copy ≡ it };
+
+    fn clone(&self) -> Result<ClassExpr, AllocError> {
+        let (ident, class_) = clone_two(&self.ident, &self.class_)?;
+        Ok(ClassExpr { ident, class_ })
+    }
 }
 
 impl Opened<class::ClassExpr> for ClassExpr {

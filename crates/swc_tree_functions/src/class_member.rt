@@ -62,15 +62,14 @@ impl Opened<class::ClassMember> for ClassMember {
     fn into_node(self, alloc: Global) -> Result<Node, AllocError>
         ensures { IfOk result (λ closed. (closed ≡ of_class_member self) × Fits closed (One (Of class.ClassMember))) }
     {
-        let tree: Tree<class::ClassMember> = match self {
-            ClassMember::Constructor(opened) => opened.close(alloc)?.widen(),
-            ClassMember::Method(opened) => opened.close(alloc)?.widen(),
-            ClassMember::PrivateMethod(opened) => opened.close(alloc)?.widen(),
-            ClassMember::ClassProp(opened) => opened.close(alloc)?.widen(),
-            ClassMember::PrivateProp(opened) => opened.close(alloc)?.widen(),
-            ClassMember::Empty(opened) => opened.close(alloc)?.widen(),
-            ClassMember::StaticBlock(opened) => opened.close(alloc)?.widen(),
-        };
-        Ok(tree.into_node())
+        match self {
+            ClassMember::Constructor(opened) => opened.close_within::<class::ClassMember>(alloc),
+            ClassMember::Method(opened) => opened.close_within::<class::ClassMember>(alloc),
+            ClassMember::PrivateMethod(opened) => opened.close_within::<class::ClassMember>(alloc),
+            ClassMember::ClassProp(opened) => opened.close_within::<class::ClassMember>(alloc),
+            ClassMember::PrivateProp(opened) => opened.close_within::<class::ClassMember>(alloc),
+            ClassMember::Empty(opened) => opened.close_within::<class::ClassMember>(alloc),
+            ClassMember::StaticBlock(opened) => opened.close_within::<class::ClassMember>(alloc),
+        }
     }
 }

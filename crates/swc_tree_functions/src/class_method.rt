@@ -8,18 +8,39 @@ ghost use Rattle.swc_tree_functions.specs.Nodes.{class_method_node};
 
 use crate::method_kind::MethodKind;
 use std::alloc::{AllocError, Global};
-use swc_tree_handle::{Opened, Tree, class, close_five, open_five};
+use swc_tree_handle::{Opened, Tree, class, clone_five, close_five, open_five};
 use swc_tree_marks::Span;
 use swc_tree_node::{Kind, Node};
 
 /// A method of a class (ECMA-262, MethodDefinition).
-#[derive(Clone, Debug, Drop, PartialEq, Eq)]
+#[derive(Debug, Drop, PartialEq, Eq)]
 pub struct ClassMethod {
     pub span: Span,
     pub key: Tree<class::PropName>,
     pub function: Tree<class::Function>,
     pub kind: MethodKind,
     pub is_static: bool,
+}
+
+impl Clone for ClassMethod {
+    ghost is_clone = { λ it copy. copy ≡ it };
+
+    fn clone(&self) -> Result<ClassMethod, AllocError> {
+        let (span, key, function, kind, is_static) = clone_five(
+            &self.span,
+            &self.key,
+            &self.function,
+            &self.kind,
+            &self.is_static,
+        )?;
+        Ok(ClassMethod {
+            span,
+            key,
+            function,
+            kind,
+            is_static,
+        })
+    }
 }
 
 impl Opened<class::ClassMethod> for ClassMethod {

@@ -7,15 +7,24 @@ ghost use Rattle.swc_tree_node.specs.Fits.{Fits};
 ghost use Rattle.swc_tree_functions.specs.Nodes.{computed_prop_name_node};
 
 use std::alloc::{AllocError, Global};
-use swc_tree_handle::{Opened, Tree, class, close_two, open_two};
+use swc_tree_handle::{Opened, Tree, class, clone_two, close_two, open_two};
 use swc_tree_marks::Span;
 use swc_tree_node::{Kind, Node};
 
 /// A computed key (ECMA-262, ComputedPropertyName).
-#[derive(Clone, Debug, Drop, PartialEq, Eq)]
+#[derive(Debug, Drop, PartialEq, Eq)]
 pub struct ComputedPropName {
     pub span: Span,
     pub expr: Tree<class::Expr>,
+}
+
+impl Clone for ComputedPropName {
+    ghost is_clone = { λ it copy. copy ≡ it };
+
+    fn clone(&self) -> Result<ComputedPropName, AllocError> {
+        let (span, expr) = clone_two(&self.span, &self.expr)?;
+        Ok(ComputedPropName { span, expr })
+    }
 }
 
 impl Opened<class::ComputedPropName> for ComputedPropName {

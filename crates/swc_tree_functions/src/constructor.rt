@@ -7,17 +7,36 @@ ghost use Rattle.swc_tree_node.specs.Fits.{Fits};
 ghost use Rattle.swc_tree_functions.specs.Nodes.{constructor_node};
 
 use std::alloc::{AllocError, Global};
-use swc_tree_handle::{Opened, Tree, Trees, class, close_four, open_four};
+use swc_tree_handle::{Opened, Tree, Trees, class, clone_four, close_four, open_four};
 use swc_tree_marks::Span;
 use swc_tree_node::{Kind, Node};
 
 /// The constructor of a class (ECMA-262, MethodDefinition).
-#[derive(Clone, Debug, Drop, PartialEq, Eq)]
+#[derive(Debug, Drop, PartialEq, Eq)]
 pub struct Constructor {
     pub span: Span,
     pub key: Tree<class::PropName>,
     pub params: Trees<class::Param>,
     pub body: Tree<class::BlockStmt>,
+}
+
+impl Clone for Constructor {
+    ghost is_clone = { λ it copy. copy ≡ it };
+
+    fn clone(&self) -> Result<Constructor, AllocError> {
+        let (span, key, params, body) = clone_four(
+            &self.span,
+            &self.key,
+            &self.params,
+            &self.body,
+        )?;
+        Ok(Constructor {
+            span,
+            key,
+            params,
+            body,
+        })
+    }
 }
 
 impl Opened<class::Constructor> for Constructor {

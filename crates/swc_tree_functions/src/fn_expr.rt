@@ -7,15 +7,24 @@ ghost use Rattle.swc_tree_node.specs.Fits.{Fits};
 ghost use Rattle.swc_tree_functions.specs.Nodes.{fn_expr_node};
 
 use std::alloc::{AllocError, Global};
-use swc_tree_handle::{Opened, Tree, class, close_two, open_two};
+use swc_tree_handle::{Opened, Tree, class, clone_two, close_two, open_two};
 use swc_tree_marks::Ident;
 use swc_tree_node::{Kind, Node};
 
 /// A function expression (ECMA-262, FunctionExpression).
-#[derive(Clone, Debug, Drop, PartialEq, Eq)]
+#[derive(Debug, Drop, PartialEq, Eq)]
 pub struct FnExpr {
     pub ident: Option<Ident>,
     pub function: Tree<class::Function>,
+}
+
+impl Clone for FnExpr {
+    ghost is_clone = { λ it copy. copy ≡ it };
+
+    fn clone(&self) -> Result<FnExpr, AllocError> {
+        let (ident, function) = clone_two(&self.ident, &self.function)?;
+        Ok(FnExpr { ident, function })
+    }
 }
 
 impl Opened<class::FnExpr> for FnExpr {

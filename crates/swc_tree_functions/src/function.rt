@@ -7,18 +7,39 @@ ghost use Rattle.swc_tree_node.specs.Fits.{Fits};
 ghost use Rattle.swc_tree_functions.specs.Nodes.{function_node};
 
 use std::alloc::{AllocError, Global};
-use swc_tree_handle::{Opened, Tree, Trees, class, close_five, open_five};
+use swc_tree_handle::{Opened, Tree, Trees, class, clone_five, close_five, open_five};
 use swc_tree_marks::Span;
 use swc_tree_node::{Kind, Node};
 
 /// The parameters and the body of a function (ECMA-262, 15.2).
-#[derive(Clone, Debug, Drop, PartialEq, Eq)]
+#[derive(Debug, Drop, PartialEq, Eq)]
 pub struct Function {
     pub span: Span,
     pub params: Trees<class::Param>,
     pub body: Tree<class::BlockStmt>,
     pub is_generator: bool,
     pub is_async: bool,
+}
+
+impl Clone for Function {
+    ghost is_clone = { λ it copy. copy ≡ it };
+
+    fn clone(&self) -> Result<Function, AllocError> {
+        let (span, params, body, is_generator, is_async) = clone_five(
+            &self.span,
+            &self.params,
+            &self.body,
+            &self.is_generator,
+            &self.is_async,
+        )?;
+        Ok(Function {
+            span,
+            params,
+            body,
+            is_generator,
+            is_async,
+        })
+    }
 }
 
 impl Opened<class::Function> for Function {

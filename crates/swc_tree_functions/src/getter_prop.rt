@@ -7,16 +7,25 @@ ghost use Rattle.swc_tree_node.specs.Fits.{Fits};
 ghost use Rattle.swc_tree_functions.specs.Nodes.{getter_prop_node};
 
 use std::alloc::{AllocError, Global};
-use swc_tree_handle::{Opened, Tree, class, close_three, open_three};
+use swc_tree_handle::{Opened, Tree, class, clone_three, close_three, open_three};
 use swc_tree_marks::Span;
 use swc_tree_node::{Kind, Node};
 
 /// A getter of an object (ECMA-262, MethodDefinition).
-#[derive(Clone, Debug, Drop, PartialEq, Eq)]
+#[derive(Debug, Drop, PartialEq, Eq)]
 pub struct GetterProp {
     pub span: Span,
     pub key: Tree<class::PropName>,
     pub body: Tree<class::BlockStmt>,
+}
+
+impl Clone for GetterProp {
+    ghost is_clone = { λ it copy. copy ≡ it };
+
+    fn clone(&self) -> Result<GetterProp, AllocError> {
+        let (span, key, body) = clone_three(&self.span, &self.key, &self.body)?;
+        Ok(GetterProp { span, key, body })
+    }
 }
 
 impl Opened<class::GetterProp> for GetterProp {

@@ -7,14 +7,23 @@ ghost use Rattle.swc_tree_node.specs.Fits.{Fits};
 ghost use Rattle.swc_tree_functions.specs.Nodes.{method_prop_node};
 
 use std::alloc::{AllocError, Global};
-use swc_tree_handle::{Opened, Tree, class, close_two, open_two};
+use swc_tree_handle::{Opened, Tree, class, clone_two, close_two, open_two};
 use swc_tree_node::{Kind, Node};
 
 /// A method of an object (ECMA-262, MethodDefinition).
-#[derive(Clone, Debug, Drop, PartialEq, Eq)]
+#[derive(Debug, Drop, PartialEq, Eq)]
 pub struct MethodProp {
     pub key: Tree<class::PropName>,
     pub function: Tree<class::Function>,
+}
+
+impl Clone for MethodProp {
+    ghost is_clone = { λ it copy. copy ≡ it };
+
+    fn clone(&self) -> Result<MethodProp, AllocError> {
+        let (key, function) = clone_two(&self.key, &self.function)?;
+        Ok(MethodProp { key, function })
+    }
 }
 
 impl Opened<class::MethodProp> for MethodProp {

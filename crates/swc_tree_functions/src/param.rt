@@ -7,15 +7,24 @@ ghost use Rattle.swc_tree_node.specs.Fits.{Fits};
 ghost use Rattle.swc_tree_functions.specs.Nodes.{param_node};
 
 use std::alloc::{AllocError, Global};
-use swc_tree_handle::{Opened, Tree, class, close_two, open_two};
+use swc_tree_handle::{Opened, Tree, class, clone_two, close_two, open_two};
 use swc_tree_marks::Span;
 use swc_tree_node::{Kind, Node};
 
 /// A parameter of a function (ECMA-262, FormalParameter).
-#[derive(Clone, Debug, Drop, PartialEq, Eq)]
+#[derive(Debug, Drop, PartialEq, Eq)]
 pub struct Param {
     pub span: Span,
     pub pat: Tree<class::Pat>,
+}
+
+impl Clone for Param {
+    ghost is_clone = { λ it copy. copy ≡ it };
+
+    fn clone(&self) -> Result<Param, AllocError> {
+        let (span, pat) = clone_two(&self.span, &self.pat)?;
+        Ok(Param { span, pat })
+    }
 }
 
 impl Opened<class::Param> for Param {

@@ -8,19 +8,40 @@ ghost use Rattle.swc_tree_functions.specs.Nodes.{private_method_node};
 
 use crate::method_kind::MethodKind;
 use std::alloc::{AllocError, Global};
-use swc_tree_handle::{Opened, Tree, class, close_five, open_five};
+use swc_tree_handle::{Opened, Tree, class, clone_five, close_five, open_five};
 use swc_tree_leaves::PrivateName;
 use swc_tree_marks::Span;
 use swc_tree_node::{Kind, Node};
 
 /// A private method of a class (ECMA-262, MethodDefinition).
-#[derive(Clone, Debug, Drop, PartialEq, Eq)]
+#[derive(Debug, Drop, PartialEq, Eq)]
 pub struct PrivateMethod {
     pub span: Span,
     pub key: PrivateName,
     pub function: Tree<class::Function>,
     pub kind: MethodKind,
     pub is_static: bool,
+}
+
+impl Clone for PrivateMethod {
+    ghost is_clone = { λ it copy. copy ≡ it };
+
+    fn clone(&self) -> Result<PrivateMethod, AllocError> {
+        let (span, key, function, kind, is_static) = clone_five(
+            &self.span,
+            &self.key,
+            &self.function,
+            &self.kind,
+            &self.is_static,
+        )?;
+        Ok(PrivateMethod {
+            span,
+            key,
+            function,
+            kind,
+            is_static,
+        })
+    }
 }
 
 impl Opened<class::PrivateMethod> for PrivateMethod {

@@ -7,18 +7,37 @@ ghost use Rattle.swc_tree_node.specs.Fits.{Fits};
 ghost use Rattle.swc_tree_functions.specs.Nodes.{private_prop_node};
 
 use std::alloc::{AllocError, Global};
-use swc_tree_handle::{Opened, Tree, class, close_four, open_four};
+use swc_tree_handle::{Opened, Tree, class, clone_four, close_four, open_four};
 use swc_tree_leaves::PrivateName;
 use swc_tree_marks::Span;
 use swc_tree_node::{Kind, Node};
 
 /// A private field of a class (ECMA-262, FieldDefinition).
-#[derive(Clone, Debug, Drop, PartialEq, Eq)]
+#[derive(Debug, Drop, PartialEq, Eq)]
 pub struct PrivateProp {
     pub span: Span,
     pub key: PrivateName,
     pub value: Option<Tree<class::Expr>>,
     pub is_static: bool,
+}
+
+impl Clone for PrivateProp {
+    ghost is_clone = { λ it copy. copy ≡ it };
+
+    fn clone(&self) -> Result<PrivateProp, AllocError> {
+        let (span, key, value, is_static) = clone_four(
+            &self.span,
+            &self.key,
+            &self.value,
+            &self.is_static,
+        )?;
+        Ok(PrivateProp {
+            span,
+            key,
+            value,
+            is_static,
+        })
+    }
 }
 
 impl Opened<class::PrivateProp> for PrivateProp {

@@ -47,13 +47,12 @@ impl Opened<class::PropName> for PropName {
     fn into_node(self, alloc: Global) -> Result<Node, AllocError>
         ensures { IfOk result (λ closed. (closed ≡ of_prop_name self) × Fits closed (One (Of class.PropName))) }
     {
-        let tree: Tree<class::PropName> = match self {
-            PropName::Ident(opened) => opened.close(alloc)?.widen(),
-            PropName::Str(opened) => opened.close(alloc)?.widen(),
-            PropName::Num(opened) => opened.close(alloc)?.widen(),
-            PropName::Computed(opened) => opened.close(alloc)?.widen(),
-            PropName::BigInt(opened) => opened.close(alloc)?.widen(),
-        };
-        Ok(tree.into_node())
+        match self {
+            PropName::Ident(opened) => opened.close_within::<class::PropName>(alloc),
+            PropName::Str(opened) => opened.close_within::<class::PropName>(alloc),
+            PropName::Num(opened) => opened.close_within::<class::PropName>(alloc),
+            PropName::Computed(opened) => opened.close_within::<class::PropName>(alloc),
+            PropName::BigInt(opened) => opened.close_within::<class::PropName>(alloc),
+        }
     }
 }

@@ -7,17 +7,31 @@ ghost use Rattle.swc_tree_node.specs.Fits.{Fits};
 ghost use Rattle.swc_tree_functions.specs.Nodes.{setter_prop_node};
 
 use std::alloc::{AllocError, Global};
-use swc_tree_handle::{Opened, Tree, class, close_four, open_four};
+use swc_tree_handle::{Opened, Tree, class, clone_four, close_four, open_four};
 use swc_tree_marks::Span;
 use swc_tree_node::{Kind, Node};
 
 /// A setter of an object (ECMA-262, MethodDefinition).
-#[derive(Clone, Debug, Drop, PartialEq, Eq)]
+#[derive(Debug, Drop, PartialEq, Eq)]
 pub struct SetterProp {
     pub span: Span,
     pub key: Tree<class::PropName>,
     pub param: Tree<class::Pat>,
     pub body: Tree<class::BlockStmt>,
+}
+
+impl Clone for SetterProp {
+    ghost is_clone = { λ it copy. copy ≡ it };
+
+    fn clone(&self) -> Result<SetterProp, AllocError> {
+        let (span, key, param, body) = clone_four(&self.span, &self.key, &self.param, &self.body)?;
+        Ok(SetterProp {
+            span,
+            key,
+            param,
+            body,
+        })
+    }
 }
 
 impl Opened<class::SetterProp> for SetterProp {

@@ -7,15 +7,24 @@ ghost use Rattle.swc_tree_node.specs.Fits.{Fits};
 ghost use Rattle.swc_tree_functions.specs.Nodes.{static_block_node};
 
 use std::alloc::{AllocError, Global};
-use swc_tree_handle::{Opened, Tree, class, close_two, open_two};
+use swc_tree_handle::{Opened, Tree, class, clone_two, close_two, open_two};
 use swc_tree_marks::Span;
 use swc_tree_node::{Kind, Node};
 
 /// A static block of a class (ECMA-262, ClassStaticBlock).
-#[derive(Clone, Debug, Drop, PartialEq, Eq)]
+#[derive(Debug, Drop, PartialEq, Eq)]
 pub struct StaticBlock {
     pub span: Span,
     pub body: Tree<class::BlockStmt>,
+}
+
+impl Clone for StaticBlock {
+    ghost is_clone = { λ it copy. copy ≡ it };
+
+    fn clone(&self) -> Result<StaticBlock, AllocError> {
+        let (span, body) = clone_two(&self.span, &self.body)?;
+        Ok(StaticBlock { span, body })
+    }
 }
 
 impl Opened<class::StaticBlock> for StaticBlock {

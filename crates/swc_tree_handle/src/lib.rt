@@ -6,6 +6,7 @@
 #![tactic(auto)]
 
 pub mod class;
+mod copies;
 mod holes;
 mod identifier;
 mod leaves;
@@ -16,6 +17,7 @@ mod row;
 mod tree;
 mod trees;
 
+pub use copies::{clone_five, clone_four, clone_three, clone_two};
 pub use holes::Holes;
 pub use leaves::{
     from_flag, from_optional_span, from_optional_text, from_span, from_text, to_flag,

@@ -1,10 +1,10 @@
 //! What a node is, opened one level deep.
-ghost use Rattle.std.specs.Prelude.{◌≡◌, IfOk};
+ghost use Rattle.std.specs.Prelude.{◌≡◌, IfOk, IsTrue};
 ghost use Rattle.std.specs.Option.{option_map};
 ghost use Rattle.swc_tree_node.specs.declared.slot.Slot.TheVariants.{One, Optional};
 ghost use Rattle.swc_tree_node.specs.declared.slot.Content.TheVariants.{Node as Of};
 ghost use Rattle.swc_tree_node.specs.Fits.{Fits};
-ghost use Rattle.swc_tree_handle.specs.Handles.{optional_node};
+ghost use Rattle.swc_tree_handle.specs.Handles.{is_within, optional_node};
 
 use crate::class::Syntax;
 use crate::tree::Tree;
@@ -66,6 +66,18 @@ pub trait Opened<C>: Sized {
         ensures { IfOk result (λ tree. tree ≡ node self) }
     {
         Ok(Tree::from_node(self.into_node(alloc)?))
+    }
+
+    /// Puts the node together as one of a wider class. Where memory is refused, the value is dropped.
+    final fn close_within<D: Syntax>(self, alloc: Global) -> Result<Node, AllocError>
+    where
+        C: Syntax,
+        requires class { class ≡ C.class }
+        requires within { IsTrue (is_within C.class D.class) }
+        ensures { IfOk result (λ closed. (closed ≡ node self) × Fits closed (One (Of D.class))) }
+    {
+        let tree = self.close(alloc)?;
+        Ok(tree.widen::<D>().into_node())
     }
 }
 

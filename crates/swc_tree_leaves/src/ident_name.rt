@@ -7,15 +7,24 @@ ghost use Rattle.swc_tree_node.specs.Fits.{Fits};
 ghost use Rattle.swc_tree_leaves.specs.Nodes.{ident_name_node};
 
 use std::alloc::{AllocError, Global};
-use swc_tree_handle::{Opened, class, close_two, open_two};
+use swc_tree_handle::{Opened, class, clone_two, close_two, open_two};
 use swc_tree_marks::{Atom, Span};
 use swc_tree_node::{Kind, Node};
 
 /// A name that is no identifier, as a key (ECMA-262, IdentifierName).
-#[derive(Clone, Debug, Drop, PartialEq, Eq)]
+#[derive(Debug, Drop, PartialEq, Eq)]
 pub struct IdentName {
     pub span: Span,
     pub sym: Atom,
+}
+
+impl Clone for IdentName {
+    ghost is_clone = { λ it copy. copy ≡ it };
+
+    fn clone(&self) -> Result<IdentName, AllocError> {
+        let (span, sym) = clone_two(&self.span, &self.sym)?;
+        Ok(IdentName { span, sym })
+    }
 }
 
 impl Opened<class::IdentName> for IdentName {

@@ -51,14 +51,13 @@ impl Opened<class::Lit> for Lit {
     fn into_node(self, alloc: Global) -> Result<Node, AllocError>
         ensures { IfOk result (λ closed. (closed ≡ of_lit self) × Fits closed (One (Of class.Lit))) }
     {
-        let tree: Tree<class::Lit> = match self {
-            Lit::Str(opened) => opened.close(alloc)?.widen(),
-            Lit::Bool(opened) => opened.close(alloc)?.widen(),
-            Lit::Null(opened) => opened.close(alloc)?.widen(),
-            Lit::Num(opened) => opened.close(alloc)?.widen(),
-            Lit::BigInt(opened) => opened.close(alloc)?.widen(),
-            Lit::Regex(opened) => opened.close(alloc)?.widen(),
-        };
-        Ok(tree.into_node())
+        match self {
+            Lit::Str(opened) => opened.close_within::<class::Lit>(alloc),
+            Lit::Bool(opened) => opened.close_within::<class::Lit>(alloc),
+            Lit::Null(opened) => opened.close_within::<class::Lit>(alloc),
+            Lit::Num(opened) => opened.close_within::<class::Lit>(alloc),
+            Lit::BigInt(opened) => opened.close_within::<class::Lit>(alloc),
+            Lit::Regex(opened) => opened.close_within::<class::Lit>(alloc),
+        }
     }
 }

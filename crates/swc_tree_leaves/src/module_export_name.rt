@@ -39,10 +39,11 @@ impl Opened<class::ModuleExportName> for ModuleExportName {
     fn into_node(self, alloc: Global) -> Result<Node, AllocError>
         ensures { IfOk result (λ closed. (closed ≡ of_module_export_name self) × Fits closed (One (Of class.ModuleExportName))) }
     {
-        let tree: Tree<class::ModuleExportName> = match self {
-            ModuleExportName::Ident(opened) => opened.close(alloc)?.widen(),
-            ModuleExportName::Str(opened) => opened.close(alloc)?.widen(),
-        };
-        Ok(tree.into_node())
+        match self {
+            ModuleExportName::Ident(opened) => opened.close_within::<class::ModuleExportName>(
+                alloc,
+            ),
+            ModuleExportName::Str(opened) => opened.close_within::<class::ModuleExportName>(alloc),
+        }
     }
 }

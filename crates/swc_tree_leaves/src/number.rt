@@ -7,15 +7,24 @@ ghost use Rattle.swc_tree_node.specs.Fits.{Fits};
 ghost use Rattle.swc_tree_leaves.specs.Nodes.{number_node};
 
 use std::alloc::{AllocError, Global};
-use swc_tree_handle::{Opened, class, close_two, open_two};
+use swc_tree_handle::{Opened, class, clone_two, close_two, open_two};
 use swc_tree_marks::{Atom, Span};
 use swc_tree_node::{Kind, Node};
 
 /// A number literal, as it is written (ECMA-262, NumericLiteral).
-#[derive(Clone, Debug, Drop, PartialEq, Eq)]
+#[derive(Debug, Drop, PartialEq, Eq)]
 pub struct Number {
     pub span: Span,
     pub text: Atom,
+}
+
+impl Clone for Number {
+    ghost is_clone = { λ it copy. copy ≡ it };
+
+    fn clone(&self) -> Result<Number, AllocError> {
+        let (span, text) = clone_two(&self.span, &self.text)?;
+        Ok(Number { span, text })
+    }
 }
 
 impl Opened<class::Number> for Number {

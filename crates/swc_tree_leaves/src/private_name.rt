@@ -7,15 +7,24 @@ ghost use Rattle.swc_tree_node.specs.Fits.{Fits};
 ghost use Rattle.swc_tree_leaves.specs.Nodes.{private_name_node};
 
 use std::alloc::{AllocError, Global};
-use swc_tree_handle::{Opened, Place, class, close_two, open_two};
+use swc_tree_handle::{Opened, Place, class, clone_two, close_two, open_two};
 use swc_tree_marks::{Atom, Span};
 use swc_tree_node::{Kind, Node};
 
 /// A private name, without its `#` (ECMA-262, PrivateIdentifier).
-#[derive(Clone, Debug, Drop, PartialEq, Eq)]
+#[derive(Debug, Drop, PartialEq, Eq)]
 pub struct PrivateName {
     pub span: Span,
     pub name: Atom,
+}
+
+impl Clone for PrivateName {
+    ghost is_clone = { λ it copy. copy ≡ it };
+
+    fn clone(&self) -> Result<PrivateName, AllocError> {
+        let (span, name) = clone_two(&self.span, &self.name)?;
+        Ok(PrivateName { span, name })
+    }
 }
 
 impl Opened<class::PrivateName> for PrivateName {

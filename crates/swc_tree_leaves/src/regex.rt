@@ -7,16 +7,25 @@ ghost use Rattle.swc_tree_node.specs.Fits.{Fits};
 ghost use Rattle.swc_tree_leaves.specs.Nodes.{regex_node};
 
 use std::alloc::{AllocError, Global};
-use swc_tree_handle::{Opened, class, close_three, open_three};
+use swc_tree_handle::{Opened, class, clone_three, close_three, open_three};
 use swc_tree_marks::{Atom, Span};
 use swc_tree_node::{Kind, Node};
 
 /// A regular expression: its pattern and its flags (ECMA-262, RegularExpressionLiteral).
-#[derive(Clone, Debug, Drop, PartialEq, Eq)]
+#[derive(Debug, Drop, PartialEq, Eq)]
 pub struct Regex {
     pub span: Span,
     pub exp: Atom,
     pub flags: Atom,
+}
+
+impl Clone for Regex {
+    ghost is_clone = { λ it copy. copy ≡ it };
+
+    fn clone(&self) -> Result<Regex, AllocError> {
+        let (span, exp, flags) = clone_three(&self.span, &self.exp, &self.flags)?;
+        Ok(Regex { span, exp, flags })
+    }
 }
 
 impl Opened<class::Regex> for Regex {

@@ -9,16 +9,25 @@ ghost use Rattle.swc_tree_handle.specs.Handles.{optional_node};
 ghost use Rattle.swc_tree_leaves.specs.Nodes.{str_node};
 
 use std::alloc::{AllocError, Global};
-use swc_tree_handle::{Opened, Place, class, close_three, open_three};
+use swc_tree_handle::{Opened, Place, class, clone_three, close_three, open_three};
 use swc_tree_marks::{Atom, Span};
 use swc_tree_node::{Kind, Node};
 
 /// A string literal: its value, and how it is written where that is known (ECMA-262, StringLiteral).
-#[derive(Clone, Debug, Drop, PartialEq, Eq)]
+#[derive(Debug, Drop, PartialEq, Eq)]
 pub struct Str {
     pub span: Span,
     pub value: Atom,
     pub raw: Option<Atom>,
+}
+
+impl Clone for Str {
+    ghost is_clone = { λ it copy. copy ≡ it };
+
+    fn clone(&self) -> Result<Str, AllocError> {
+        let (span, value, raw) = clone_three(&self.span, &self.value, &self.raw)?;
+        Ok(Str { span, value, raw })
+    }
 }
 
 impl Opened<class::Str> for Str {

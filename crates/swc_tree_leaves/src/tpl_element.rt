@@ -7,17 +7,36 @@ ghost use Rattle.swc_tree_node.specs.Fits.{Fits};
 ghost use Rattle.swc_tree_leaves.specs.Nodes.{tpl_element_node};
 
 use std::alloc::{AllocError, Global};
-use swc_tree_handle::{Opened, class, close_four, open_four};
+use swc_tree_handle::{Opened, class, clone_four, close_four, open_four};
 use swc_tree_marks::{Atom, Span};
 use swc_tree_node::{Kind, Node};
 
 /// A text of a template: its value where it has one, and how it is written (ECMA-262, TemplateCharacters).
-#[derive(Clone, Debug, Drop, PartialEq, Eq)]
+#[derive(Debug, Drop, PartialEq, Eq)]
 pub struct TplElement {
     pub span: Span,
     pub tail: bool,
     pub cooked: Option<Atom>,
     pub raw: Atom,
+}
+
+impl Clone for TplElement {
+    ghost is_clone = { λ it copy. copy ≡ it };
+
+    fn clone(&self) -> Result<TplElement, AllocError> {
+        let (span, tail, cooked, raw) = clone_four(
+            &self.span,
+            &self.tail,
+            &self.cooked,
+            &self.raw,
+        )?;
+        Ok(TplElement {
+            span,
+            tail,
+            cooked,
+            raw,
+        })
+    }
 }
 
 impl Opened<class::TplElement> for TplElement {

@@ -38,10 +38,9 @@ impl Opened<class::DefaultDecl> for DefaultDecl {
     fn into_node(self, alloc: Global) -> Result<Node, AllocError>
         ensures { IfOk result (λ closed. (closed ≡ of_default_decl self) × Fits closed (One (Of class.DefaultDecl))) }
     {
-        let tree: Tree<class::DefaultDecl> = match self {
-            DefaultDecl::Class(opened) => opened.close(alloc)?.widen(),
-            DefaultDecl::Fn(opened) => opened.close(alloc)?.widen(),
-        };
-        Ok(tree.into_node())
+        match self {
+            DefaultDecl::Class(opened) => opened.close_within::<class::DefaultDecl>(alloc),
+            DefaultDecl::Fn(opened) => opened.close_within::<class::DefaultDecl>(alloc),
+        }
     }
 }

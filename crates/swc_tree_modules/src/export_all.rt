@@ -7,17 +7,26 @@ ghost use Rattle.swc_tree_node.specs.Fits.{Fits};
 ghost use Rattle.swc_tree_modules.specs.Nodes.{export_all_node};
 
 use std::alloc::{AllocError, Global};
-use swc_tree_handle::{Opened, Pairs, class, close_three, open_three};
+use swc_tree_handle::{Opened, Pairs, class, clone_three, close_three, open_three};
 use swc_tree_leaves::Str;
 use swc_tree_marks::Span;
 use swc_tree_node::{Kind, Node};
 
 /// All that another module exports (ECMA-262, ExportFromClause).
-#[derive(Clone, Debug, Drop, PartialEq, Eq)]
+#[derive(Debug, Drop, PartialEq, Eq)]
 pub struct ExportAll {
     pub span: Span,
     pub src: Str,
     pub with_: Option<Pairs>,
+}
+
+impl Clone for ExportAll {
+    ghost is_clone = { λ it copy. copy ≡ it };
+
+    fn clone(&self) -> Result<ExportAll, AllocError> {
+        let (span, src, with_) = clone_three(&self.span, &self.src, &self.with_)?;
+        Ok(ExportAll { span, src, with_ })
+    }
 }
 
 impl Opened<class::ExportAll> for ExportAll {

@@ -7,15 +7,24 @@ ghost use Rattle.swc_tree_node.specs.Fits.{Fits};
 ghost use Rattle.swc_tree_modules.specs.Nodes.{export_decl_node};
 
 use std::alloc::{AllocError, Global};
-use swc_tree_handle::{Opened, Tree, class, close_two, open_two};
+use swc_tree_handle::{Opened, Tree, class, clone_two, close_two, open_two};
 use swc_tree_marks::Span;
 use swc_tree_node::{Kind, Node};
 
 /// A declaration that is exported (ECMA-262, ExportDeclaration).
-#[derive(Clone, Debug, Drop, PartialEq, Eq)]
+#[derive(Debug, Drop, PartialEq, Eq)]
 pub struct ExportDecl {
     pub span: Span,
     pub decl: Tree<class::Decl>,
+}
+
+impl Clone for ExportDecl {
+    ghost is_clone = { λ it copy. copy ≡ it };
+
+    fn clone(&self) -> Result<ExportDecl, AllocError> {
+        let (span, decl) = clone_two(&self.span, &self.decl)?;
+        Ok(ExportDecl { span, decl })
+    }
 }
 
 impl Opened<class::ExportDecl> for ExportDecl {

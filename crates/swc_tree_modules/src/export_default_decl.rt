@@ -7,15 +7,24 @@ ghost use Rattle.swc_tree_node.specs.Fits.{Fits};
 ghost use Rattle.swc_tree_modules.specs.Nodes.{export_default_decl_node};
 
 use std::alloc::{AllocError, Global};
-use swc_tree_handle::{Opened, Tree, class, close_two, open_two};
+use swc_tree_handle::{Opened, Tree, class, clone_two, close_two, open_two};
 use swc_tree_marks::Span;
 use swc_tree_node::{Kind, Node};
 
 /// A declaration as the default export (ECMA-262, ExportDeclaration).
-#[derive(Clone, Debug, Drop, PartialEq, Eq)]
+#[derive(Debug, Drop, PartialEq, Eq)]
 pub struct ExportDefaultDecl {
     pub span: Span,
     pub decl: Tree<class::DefaultDecl>,
+}
+
+impl Clone for ExportDefaultDecl {
+    ghost is_clone = { λ it copy. copy ≡ it };
+
+    fn clone(&self) -> Result<ExportDefaultDecl, AllocError> {
+        let (span, decl) = clone_two(&self.span, &self.decl)?;
+        Ok(ExportDefaultDecl { span, decl })
+    }
 }
 
 impl Opened<class::ExportDefaultDecl> for ExportDefaultDecl {

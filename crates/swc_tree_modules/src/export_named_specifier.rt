@@ -7,16 +7,29 @@ ghost use Rattle.swc_tree_node.specs.Fits.{Fits};
 ghost use Rattle.swc_tree_modules.specs.Nodes.{export_named_specifier_node};
 
 use std::alloc::{AllocError, Global};
-use swc_tree_handle::{Opened, Tree, class, close_three, open_three};
+use swc_tree_handle::{Opened, Tree, class, clone_three, close_three, open_three};
 use swc_tree_marks::Span;
 use swc_tree_node::{Kind, Node};
 
 /// One name that is exported (ECMA-262, ExportSpecifier).
-#[derive(Clone, Debug, Drop, PartialEq, Eq)]
+#[derive(Debug, Drop, PartialEq, Eq)]
 pub struct ExportNamedSpecifier {
     pub span: Span,
     pub orig: Tree<class::ModuleExportName>,
     pub exported: Option<Tree<class::ModuleExportName>>,
+}
+
+impl Clone for ExportNamedSpecifier {
+    ghost is_clone = { λ it copy. copy ≡ it };
+
+    fn clone(&self) -> Result<ExportNamedSpecifier, AllocError> {
+        let (span, orig, exported) = clone_three(&self.span, &self.orig, &self.exported)?;
+        Ok(ExportNamedSpecifier {
+            span,
+            orig,
+            exported,
+        })
+    }
 }
 
 impl Opened<class::ExportNamedSpecifier> for ExportNamedSpecifier {

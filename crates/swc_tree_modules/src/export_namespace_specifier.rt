@@ -7,15 +7,24 @@ ghost use Rattle.swc_tree_node.specs.Fits.{Fits};
 ghost use Rattle.swc_tree_modules.specs.Nodes.{export_namespace_specifier_node};
 
 use std::alloc::{AllocError, Global};
-use swc_tree_handle::{Opened, Tree, class, close_two, open_two};
+use swc_tree_handle::{Opened, Tree, class, clone_two, close_two, open_two};
 use swc_tree_marks::Span;
 use swc_tree_node::{Kind, Node};
 
 /// The whole of a module, exported under a name (ECMA-262, ExportFromClause).
-#[derive(Clone, Debug, Drop, PartialEq, Eq)]
+#[derive(Debug, Drop, PartialEq, Eq)]
 pub struct ExportNamespaceSpecifier {
     pub span: Span,
     pub name: Tree<class::ModuleExportName>,
+}
+
+impl Clone for ExportNamespaceSpecifier {
+    ghost is_clone = { λ it copy. copy ≡ it };
+
+    fn clone(&self) -> Result<ExportNamespaceSpecifier, AllocError> {
+        let (span, name) = clone_two(&self.span, &self.name)?;
+        Ok(ExportNamespaceSpecifier { span, name })
+    }
 }
 
 impl Opened<class::ExportNamespaceSpecifier> for ExportNamespaceSpecifier {

@@ -43,10 +43,11 @@ impl Opened<class::ExportSpecifier> for ExportSpecifier {
     fn into_node(self, alloc: Global) -> Result<Node, AllocError>
         ensures { IfOk result (λ closed. (closed ≡ of_export_specifier self) × Fits closed (One (Of class.ExportSpecifier))) }
     {
-        let tree: Tree<class::ExportSpecifier> = match self {
-            ExportSpecifier::Namespace(opened) => opened.close(alloc)?.widen(),
-            ExportSpecifier::Named(opened) => opened.close(alloc)?.widen(),
-        };
-        Ok(tree.into_node())
+        match self {
+            ExportSpecifier::Namespace(opened) => opened.close_within::<class::ExportSpecifier>(
+                alloc,
+            ),
+            ExportSpecifier::Named(opened) => opened.close_within::<class::ExportSpecifier>(alloc),
+        }
     }
 }

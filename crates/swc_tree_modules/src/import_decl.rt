@@ -7,18 +7,37 @@ ghost use Rattle.swc_tree_node.specs.Fits.{Fits};
 ghost use Rattle.swc_tree_modules.specs.Nodes.{import_decl_node};
 
 use std::alloc::{AllocError, Global};
-use swc_tree_handle::{Opened, Pairs, Trees, class, close_four, open_four};
+use swc_tree_handle::{Opened, Pairs, Trees, class, clone_four, close_four, open_four};
 use swc_tree_leaves::Str;
 use swc_tree_marks::Span;
 use swc_tree_node::{Kind, Node};
 
 /// An import (ECMA-262, ImportDeclaration).
-#[derive(Clone, Debug, Drop, PartialEq, Eq)]
+#[derive(Debug, Drop, PartialEq, Eq)]
 pub struct ImportDecl {
     pub span: Span,
     pub specifiers: Trees<class::ImportSpecifier>,
     pub src: Str,
     pub with_: Option<Pairs>,
+}
+
+impl Clone for ImportDecl {
+    ghost is_clone = { λ it copy. copy ≡ it };
+
+    fn clone(&self) -> Result<ImportDecl, AllocError> {
+        let (span, specifiers, src, with_) = clone_four(
+            &self.span,
+            &self.specifiers,
+            &self.src,
+            &self.with_,
+        )?;
+        Ok(ImportDecl {
+            span,
+            specifiers,
+            src,
+            with_,
+        })
+    }
 }
 
 impl Opened<class::ImportDecl> for ImportDecl {

@@ -7,15 +7,24 @@ ghost use Rattle.swc_tree_node.specs.Fits.{Fits};
 ghost use Rattle.swc_tree_modules.specs.Nodes.{import_default_specifier_node};
 
 use std::alloc::{AllocError, Global};
-use swc_tree_handle::{Opened, class, close_two, open_two};
+use swc_tree_handle::{Opened, class, clone_two, close_two, open_two};
 use swc_tree_marks::{Ident, Span};
 use swc_tree_node::{Kind, Node};
 
 /// The default import (ECMA-262, ImportedDefaultBinding).
-#[derive(Clone, Debug, Drop, PartialEq, Eq)]
+#[derive(Debug, Drop, PartialEq, Eq)]
 pub struct ImportDefaultSpecifier {
     pub span: Span,
     pub local: Ident,
+}
+
+impl Clone for ImportDefaultSpecifier {
+    ghost is_clone = { λ it copy. copy ≡ it };
+
+    fn clone(&self) -> Result<ImportDefaultSpecifier, AllocError> {
+        let (span, local) = clone_two(&self.span, &self.local)?;
+        Ok(ImportDefaultSpecifier { span, local })
+    }
 }
 
 impl Opened<class::ImportDefaultSpecifier> for ImportDefaultSpecifier {

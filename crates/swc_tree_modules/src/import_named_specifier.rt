@@ -7,16 +7,29 @@ ghost use Rattle.swc_tree_node.specs.Fits.{Fits};
 ghost use Rattle.swc_tree_modules.specs.Nodes.{import_named_specifier_node};
 
 use std::alloc::{AllocError, Global};
-use swc_tree_handle::{Opened, Tree, class, close_three, open_three};
+use swc_tree_handle::{Opened, Tree, class, clone_three, close_three, open_three};
 use swc_tree_marks::{Ident, Span};
 use swc_tree_node::{Kind, Node};
 
 /// One name of an import list (ECMA-262, ImportSpecifier).
-#[derive(Clone, Debug, Drop, PartialEq, Eq)]
+#[derive(Debug, Drop, PartialEq, Eq)]
 pub struct ImportNamedSpecifier {
     pub span: Span,
     pub local: Ident,
     pub imported: Option<Tree<class::ModuleExportName>>,
+}
+
+impl Clone for ImportNamedSpecifier {
+    ghost is_clone = { λ it copy. copy ≡ it };
+
+    fn clone(&self) -> Result<ImportNamedSpecifier, AllocError> {
+        let (span, local, imported) = clone_three(&self.span, &self.local, &self.imported)?;
+        Ok(ImportNamedSpecifier {
+            span,
+            local,
+            imported,
+        })
+    }
 }
 
 impl Opened<class::ImportNamedSpecifier> for ImportNamedSpecifier {

@@ -48,11 +48,14 @@ impl Opened<class::ImportSpecifier> for ImportSpecifier {
     fn into_node(self, alloc: Global) -> Result<Node, AllocError>
         ensures { IfOk result (λ closed. (closed ≡ of_import_specifier self) × Fits closed (One (Of class.ImportSpecifier))) }
     {
-        let tree: Tree<class::ImportSpecifier> = match self {
-            ImportSpecifier::Named(opened) => opened.close(alloc)?.widen(),
-            ImportSpecifier::Default(opened) => opened.close(alloc)?.widen(),
-            ImportSpecifier::Namespace(opened) => opened.close(alloc)?.widen(),
-        };
-        Ok(tree.into_node())
+        match self {
+            ImportSpecifier::Named(opened) => opened.close_within::<class::ImportSpecifier>(alloc),
+            ImportSpecifier::Default(opened) => opened.close_within::<class::ImportSpecifier>(
+                alloc,
+            ),
+            ImportSpecifier::Namespace(opened) => opened.close_within::<class::ImportSpecifier>(
+                alloc,
+            ),
+        }
     }
 }

@@ -7,15 +7,24 @@ ghost use Rattle.swc_tree_node.specs.Fits.{Fits};
 ghost use Rattle.swc_tree_modules.specs.Nodes.{import_star_as_specifier_node};
 
 use std::alloc::{AllocError, Global};
-use swc_tree_handle::{Opened, class, close_two, open_two};
+use swc_tree_handle::{Opened, class, clone_two, close_two, open_two};
 use swc_tree_marks::{Ident, Span};
 use swc_tree_node::{Kind, Node};
 
 /// The whole of a module under a name (ECMA-262, NameSpaceImport).
-#[derive(Clone, Debug, Drop, PartialEq, Eq)]
+#[derive(Debug, Drop, PartialEq, Eq)]
 pub struct ImportStarAsSpecifier {
     pub span: Span,
     pub local: Ident,
+}
+
+impl Clone for ImportStarAsSpecifier {
+    ghost is_clone = { λ it copy. copy ≡ it };
+
+    fn clone(&self) -> Result<ImportStarAsSpecifier, AllocError> {
+        let (span, local) = clone_two(&self.span, &self.local)?;
+        Ok(ImportStarAsSpecifier { span, local })
+    }
 }
 
 impl Opened<class::ImportStarAsSpecifier> for ImportStarAsSpecifier {

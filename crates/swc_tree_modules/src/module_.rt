@@ -7,16 +7,29 @@ ghost use Rattle.swc_tree_node.specs.Fits.{Fits};
 ghost use Rattle.swc_tree_modules.specs.Nodes.{module_node};
 
 use std::alloc::{AllocError, Global};
-use swc_tree_handle::{Opened, Trees, class, close_three, open_three};
+use swc_tree_handle::{Opened, Trees, class, clone_three, close_three, open_three};
 use swc_tree_marks::{Atom, Span};
 use swc_tree_node::{Kind, Node};
 
 /// A program of the goal Module (ECMA-262, Module).
-#[derive(Clone, Debug, Drop, PartialEq, Eq)]
+#[derive(Debug, Drop, PartialEq, Eq)]
 pub struct Module {
     pub span: Span,
     pub body: Trees<class::ModuleItem>,
     pub shebang: Option<Atom>,
+}
+
+impl Clone for Module {
+    ghost is_clone = { λ it copy. copy ≡ it };
+
+    fn clone(&self) -> Result<Module, AllocError> {
+        let (span, body, shebang) = clone_three(&self.span, &self.body, &self.shebang)?;
+        Ok(Module {
+            span,
+            body,
+            shebang,
+        })
+    }
 }
 
 impl Opened<class::Module> for Module {

@@ -57,14 +57,17 @@ impl Opened<class::ModuleDecl> for ModuleDecl {
     fn into_node(self, alloc: Global) -> Result<Node, AllocError>
         ensures { IfOk result (λ closed. (closed ≡ of_module_decl self) × Fits closed (One (Of class.ModuleDecl))) }
     {
-        let tree: Tree<class::ModuleDecl> = match self {
-            ModuleDecl::Import(opened) => opened.close(alloc)?.widen(),
-            ModuleDecl::ExportDecl(opened) => opened.close(alloc)?.widen(),
-            ModuleDecl::ExportNamed(opened) => opened.close(alloc)?.widen(),
-            ModuleDecl::ExportDefaultDecl(opened) => opened.close(alloc)?.widen(),
-            ModuleDecl::ExportDefaultExpr(opened) => opened.close(alloc)?.widen(),
-            ModuleDecl::ExportAll(opened) => opened.close(alloc)?.widen(),
-        };
-        Ok(tree.into_node())
+        match self {
+            ModuleDecl::Import(opened) => opened.close_within::<class::ModuleDecl>(alloc),
+            ModuleDecl::ExportDecl(opened) => opened.close_within::<class::ModuleDecl>(alloc),
+            ModuleDecl::ExportNamed(opened) => opened.close_within::<class::ModuleDecl>(alloc),
+            ModuleDecl::ExportDefaultDecl(opened) => opened.close_within::<class::ModuleDecl>(
+                alloc,
+            ),
+            ModuleDecl::ExportDefaultExpr(opened) => opened.close_within::<class::ModuleDecl>(
+                alloc,
+            ),
+            ModuleDecl::ExportAll(opened) => opened.close_within::<class::ModuleDecl>(alloc),
+        }
     }
 }

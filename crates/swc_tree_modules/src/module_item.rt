@@ -43,10 +43,9 @@ impl Opened<class::ModuleItem> for ModuleItem {
     fn into_node(self, alloc: Global) -> Result<Node, AllocError>
         ensures { IfOk result (λ closed. (closed ≡ of_module_item self) × Fits closed (One (Of class.ModuleItem))) }
     {
-        let tree: Tree<class::ModuleItem> = match self {
-            ModuleItem::ModuleDecl(opened) => opened.close(alloc)?.widen(),
-            ModuleItem::Stmt(opened) => opened.close(alloc)?.widen(),
-        };
-        Ok(tree.into_node())
+        match self {
+            ModuleItem::ModuleDecl(opened) => opened.close_within::<class::ModuleItem>(alloc),
+            ModuleItem::Stmt(opened) => opened.close_within::<class::ModuleItem>(alloc),
+        }
     }
 }

@@ -7,18 +7,37 @@ ghost use Rattle.swc_tree_node.specs.Fits.{Fits};
 ghost use Rattle.swc_tree_modules.specs.Nodes.{named_export_node};
 
 use std::alloc::{AllocError, Global};
-use swc_tree_handle::{Opened, Pairs, Trees, class, close_four, open_four};
+use swc_tree_handle::{Opened, Pairs, Trees, class, clone_four, close_four, open_four};
 use swc_tree_leaves::{OptionalStr, Str};
 use swc_tree_marks::Span;
 use swc_tree_node::{Kind, Node};
 
 /// An export list, of this module or of another (ECMA-262, NamedExports and ExportFromClause).
-#[derive(Clone, Debug, Drop, PartialEq, Eq)]
+#[derive(Debug, Drop, PartialEq, Eq)]
 pub struct NamedExport {
     pub span: Span,
     pub specifiers: Trees<class::ExportSpecifier>,
     pub src: Option<Str>,
     pub with_: Option<Pairs>,
+}
+
+impl Clone for NamedExport {
+    ghost is_clone = { λ it copy. copy ≡ it };
+
+    fn clone(&self) -> Result<NamedExport, AllocError> {
+        let (span, specifiers, src, with_) = clone_four(
+            &self.span,
+            &self.specifiers,
+            &self.src,
+            &self.with_,
+        )?;
+        Ok(NamedExport {
+            span,
+            specifiers,
+            src,
+            with_,
+        })
+    }
 }
 
 impl Opened<class::NamedExport> for NamedExport {

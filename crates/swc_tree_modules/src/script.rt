@@ -7,16 +7,29 @@ ghost use Rattle.swc_tree_node.specs.Fits.{Fits};
 ghost use Rattle.swc_tree_modules.specs.Nodes.{script_node};
 
 use std::alloc::{AllocError, Global};
-use swc_tree_handle::{Opened, Trees, class, close_three, open_three};
+use swc_tree_handle::{Opened, Trees, class, clone_three, close_three, open_three};
 use swc_tree_marks::{Atom, Span};
 use swc_tree_node::{Kind, Node};
 
 /// A program of the goal Script (ECMA-262, Script).
-#[derive(Clone, Debug, Drop, PartialEq, Eq)]
+#[derive(Debug, Drop, PartialEq, Eq)]
 pub struct Script {
     pub span: Span,
     pub body: Trees<class::Stmt>,
     pub shebang: Option<Atom>,
+}
+
+impl Clone for Script {
+    ghost is_clone = { λ it copy. copy ≡ it };
+
+    fn clone(&self) -> Result<Script, AllocError> {
+        let (span, body, shebang) = clone_three(&self.span, &self.body, &self.shebang)?;
+        Ok(Script {
+            span,
+            body,
+            shebang,
+        })
+    }
 }
 
 impl Opened<class::Script> for Script {

@@ -7,15 +7,24 @@ ghost use Rattle.swc_tree_node.specs.Fits.{Fits};
 ghost use Rattle.swc_tree_operations.specs.Nodes.{array_lit_node};
 
 use std::alloc::{AllocError, Global};
-use swc_tree_handle::{Holes, Opened, class, close_two, open_two};
+use swc_tree_handle::{Holes, Opened, class, clone_two, close_two, open_two};
 use swc_tree_marks::Span;
 use swc_tree_node::{Kind, Node};
 
 /// An array literal, with elements left out where there is none (ECMA-262, ArrayLiteral).
-#[derive(Clone, Debug, Drop, PartialEq, Eq)]
+#[derive(Debug, Drop, PartialEq, Eq)]
 pub struct ArrayLit {
     pub span: Span,
     pub elems: Holes<class::ExprOrSpread>,
+}
+
+impl Clone for ArrayLit {
+    ghost is_clone = { λ it copy. copy ≡ it };
+
+    fn clone(&self) -> Result<ArrayLit, AllocError> {
+        let (span, elems) = clone_two(&self.span, &self.elems)?;
+        Ok(ArrayLit { span, elems })
+    }
 }
 
 impl Opened<class::ArrayLit> for ArrayLit {

@@ -8,17 +8,31 @@ ghost use Rattle.swc_tree_operations.specs.Nodes.{assign_expr_node};
 
 use crate::assign_op::AssignOp;
 use std::alloc::{AllocError, Global};
-use swc_tree_handle::{Opened, Tree, class, close_four, open_four};
+use swc_tree_handle::{Opened, Tree, class, clone_four, close_four, open_four};
 use swc_tree_marks::Span;
 use swc_tree_node::{Kind, Node};
 
 /// An assignment (ECMA-262, AssignmentExpression).
-#[derive(Clone, Debug, Drop, PartialEq, Eq)]
+#[derive(Debug, Drop, PartialEq, Eq)]
 pub struct AssignExpr {
     pub span: Span,
     pub op: AssignOp,
     pub left: Tree<class::AssignTarget>,
     pub right: Tree<class::Expr>,
+}
+
+impl Clone for AssignExpr {
+    ghost is_clone = { λ it copy. copy ≡ it };
+
+    fn clone(&self) -> Result<AssignExpr, AllocError> {
+        let (span, op, left, right) = clone_four(&self.span, &self.op, &self.left, &self.right)?;
+        Ok(AssignExpr {
+            span,
+            op,
+            left,
+            right,
+        })
+    }
 }
 
 impl Opened<class::AssignExpr> for AssignExpr {

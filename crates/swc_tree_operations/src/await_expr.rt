@@ -7,15 +7,24 @@ ghost use Rattle.swc_tree_node.specs.Fits.{Fits};
 ghost use Rattle.swc_tree_operations.specs.Nodes.{await_expr_node};
 
 use std::alloc::{AllocError, Global};
-use swc_tree_handle::{Opened, Tree, class, close_two, open_two};
+use swc_tree_handle::{Opened, Tree, class, clone_two, close_two, open_two};
 use swc_tree_marks::Span;
 use swc_tree_node::{Kind, Node};
 
 /// `await` (ECMA-262, AwaitExpression).
-#[derive(Clone, Debug, Drop, PartialEq, Eq)]
+#[derive(Debug, Drop, PartialEq, Eq)]
 pub struct AwaitExpr {
     pub span: Span,
     pub arg: Tree<class::Expr>,
+}
+
+impl Clone for AwaitExpr {
+    ghost is_clone = { λ it copy. copy ≡ it };
+
+    fn clone(&self) -> Result<AwaitExpr, AllocError> {
+        let (span, arg) = clone_two(&self.span, &self.arg)?;
+        Ok(AwaitExpr { span, arg })
+    }
 }
 
 impl Opened<class::AwaitExpr> for AwaitExpr {

@@ -8,17 +8,31 @@ ghost use Rattle.swc_tree_operations.specs.Nodes.{bin_expr_node};
 
 use crate::binary_op::BinaryOp;
 use std::alloc::{AllocError, Global};
-use swc_tree_handle::{Opened, Tree, class, close_four, open_four};
+use swc_tree_handle::{Opened, Tree, class, clone_four, close_four, open_four};
 use swc_tree_marks::Span;
 use swc_tree_node::{Kind, Node};
 
 /// Two operands and the operator between them (ECMA-262, 13.6 to 13.13).
-#[derive(Clone, Debug, Drop, PartialEq, Eq)]
+#[derive(Debug, Drop, PartialEq, Eq)]
 pub struct BinExpr {
     pub span: Span,
     pub op: BinaryOp,
     pub left: Tree<class::Expr>,
     pub right: Tree<class::Expr>,
+}
+
+impl Clone for BinExpr {
+    ghost is_clone = { λ it copy. copy ≡ it };
+
+    fn clone(&self) -> Result<BinExpr, AllocError> {
+        let (span, op, left, right) = clone_four(&self.span, &self.op, &self.left, &self.right)?;
+        Ok(BinExpr {
+            span,
+            op,
+            left,
+            right,
+        })
+    }
 }
 
 impl Opened<class::BinExpr> for BinExpr {

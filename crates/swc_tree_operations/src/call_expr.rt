@@ -7,16 +7,25 @@ ghost use Rattle.swc_tree_node.specs.Fits.{Fits};
 ghost use Rattle.swc_tree_operations.specs.Nodes.{call_expr_node};
 
 use std::alloc::{AllocError, Global};
-use swc_tree_handle::{Opened, Tree, Trees, class, close_three, open_three};
+use swc_tree_handle::{Opened, Tree, Trees, class, clone_three, close_three, open_three};
 use swc_tree_marks::Span;
 use swc_tree_node::{Kind, Node};
 
 /// A call (ECMA-262, CallExpression).
-#[derive(Clone, Debug, Drop, PartialEq, Eq)]
+#[derive(Debug, Drop, PartialEq, Eq)]
 pub struct CallExpr {
     pub span: Span,
     pub callee: Tree<class::Callee>,
     pub args: Trees<class::ExprOrSpread>,
+}
+
+impl Clone for CallExpr {
+    ghost is_clone = { λ it copy. copy ≡ it };
+
+    fn clone(&self) -> Result<CallExpr, AllocError> {
+        let (span, callee, args) = clone_three(&self.span, &self.callee, &self.args)?;
+        Ok(CallExpr { span, callee, args })
+    }
 }
 
 impl Opened<class::CallExpr> for CallExpr {

@@ -7,17 +7,31 @@ ghost use Rattle.swc_tree_node.specs.Fits.{Fits};
 ghost use Rattle.swc_tree_operations.specs.Nodes.{cond_expr_node};
 
 use std::alloc::{AllocError, Global};
-use swc_tree_handle::{Opened, Tree, class, close_four, open_four};
+use swc_tree_handle::{Opened, Tree, class, clone_four, close_four, open_four};
 use swc_tree_marks::Span;
 use swc_tree_node::{Kind, Node};
 
 /// A choice by a test (ECMA-262, ConditionalExpression).
-#[derive(Clone, Debug, Drop, PartialEq, Eq)]
+#[derive(Debug, Drop, PartialEq, Eq)]
 pub struct CondExpr {
     pub span: Span,
     pub test: Tree<class::Expr>,
     pub cons: Tree<class::Expr>,
     pub alt: Tree<class::Expr>,
+}
+
+impl Clone for CondExpr {
+    ghost is_clone = { λ it copy. copy ≡ it };
+
+    fn clone(&self) -> Result<CondExpr, AllocError> {
+        let (span, test, cons, alt) = clone_four(&self.span, &self.test, &self.cons, &self.alt)?;
+        Ok(CondExpr {
+            span,
+            test,
+            cons,
+            alt,
+        })
+    }
 }
 
 impl Opened<class::CondExpr> for CondExpr {

@@ -7,15 +7,24 @@ ghost use Rattle.swc_tree_node.specs.Fits.{Fits};
 ghost use Rattle.swc_tree_operations.specs.Nodes.{expr_or_spread_node};
 
 use std::alloc::{AllocError, Global};
-use swc_tree_handle::{Opened, Tree, class, close_two, open_two};
+use swc_tree_handle::{Opened, Tree, class, clone_two, close_two, open_two};
 use swc_tree_marks::Span;
 use swc_tree_node::{Kind, Node};
 
 /// An argument or element, after `...` where it stands for its elements (ECMA-262, ArgumentList).
-#[derive(Clone, Debug, Drop, PartialEq, Eq)]
+#[derive(Debug, Drop, PartialEq, Eq)]
 pub struct ExprOrSpread {
     pub spread: Option<Span>,
     pub expr: Tree<class::Expr>,
+}
+
+impl Clone for ExprOrSpread {
+    ghost is_clone = { λ it copy. copy ≡ it };
+
+    fn clone(&self) -> Result<ExprOrSpread, AllocError> {
+        let (spread, expr) = clone_two(&self.spread, &self.expr)?;
+        Ok(ExprOrSpread { spread, expr })
+    }
 }
 
 impl Opened<class::ExprOrSpread> for ExprOrSpread {

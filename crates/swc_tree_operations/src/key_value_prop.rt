@@ -7,14 +7,23 @@ ghost use Rattle.swc_tree_node.specs.Fits.{Fits};
 ghost use Rattle.swc_tree_operations.specs.Nodes.{key_value_prop_node};
 
 use std::alloc::{AllocError, Global};
-use swc_tree_handle::{Opened, Tree, class, close_two, open_two};
+use swc_tree_handle::{Opened, Tree, class, clone_two, close_two, open_two};
 use swc_tree_node::{Kind, Node};
 
 /// A key and its value (ECMA-262, PropertyDefinition).
-#[derive(Clone, Debug, Drop, PartialEq, Eq)]
+#[derive(Debug, Drop, PartialEq, Eq)]
 pub struct KeyValueProp {
     pub key: Tree<class::PropName>,
     pub value: Tree<class::Expr>,
+}
+
+impl Clone for KeyValueProp {
+    ghost is_clone = { λ it copy. copy ≡ it };
+
+    fn clone(&self) -> Result<KeyValueProp, AllocError> {
+        let (key, value) = clone_two(&self.key, &self.value)?;
+        Ok(KeyValueProp { key, value })
+    }
 }
 
 impl Opened<class::KeyValueProp> for KeyValueProp {

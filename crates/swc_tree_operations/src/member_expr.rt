@@ -7,16 +7,25 @@ ghost use Rattle.swc_tree_node.specs.Fits.{Fits};
 ghost use Rattle.swc_tree_operations.specs.Nodes.{member_expr_node};
 
 use std::alloc::{AllocError, Global};
-use swc_tree_handle::{Opened, Tree, class, close_three, open_three};
+use swc_tree_handle::{Opened, Tree, class, clone_three, close_three, open_three};
 use swc_tree_marks::Span;
 use swc_tree_node::{Kind, Node};
 
 /// A property of an object (ECMA-262, MemberExpression).
-#[derive(Clone, Debug, Drop, PartialEq, Eq)]
+#[derive(Debug, Drop, PartialEq, Eq)]
 pub struct MemberExpr {
     pub span: Span,
     pub obj: Tree<class::Expr>,
     pub prop: Tree<class::MemberProp>,
+}
+
+impl Clone for MemberExpr {
+    ghost is_clone = { λ it copy. copy ≡ it };
+
+    fn clone(&self) -> Result<MemberExpr, AllocError> {
+        let (span, obj, prop) = clone_three(&self.span, &self.obj, &self.prop)?;
+        Ok(MemberExpr { span, obj, prop })
+    }
 }
 
 impl Opened<class::MemberExpr> for MemberExpr {

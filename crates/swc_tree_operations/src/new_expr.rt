@@ -7,16 +7,25 @@ ghost use Rattle.swc_tree_node.specs.Fits.{Fits};
 ghost use Rattle.swc_tree_operations.specs.Nodes.{new_expr_node};
 
 use std::alloc::{AllocError, Global};
-use swc_tree_handle::{Opened, Tree, Trees, class, close_three, open_three};
+use swc_tree_handle::{Opened, Tree, Trees, class, clone_three, close_three, open_three};
 use swc_tree_marks::Span;
 use swc_tree_node::{Kind, Node};
 
 /// `new`, with arguments or without (ECMA-262, NewExpression).
-#[derive(Clone, Debug, Drop, PartialEq, Eq)]
+#[derive(Debug, Drop, PartialEq, Eq)]
 pub struct NewExpr {
     pub span: Span,
     pub callee: Tree<class::Expr>,
     pub args: Option<Trees<class::ExprOrSpread>>,
+}
+
+impl Clone for NewExpr {
+    ghost is_clone = { λ it copy. copy ≡ it };
+
+    fn clone(&self) -> Result<NewExpr, AllocError> {
+        let (span, callee, args) = clone_three(&self.span, &self.callee, &self.args)?;
+        Ok(NewExpr { span, callee, args })
+    }
 }
 
 impl Opened<class::NewExpr> for NewExpr {

@@ -7,15 +7,24 @@ ghost use Rattle.swc_tree_node.specs.Fits.{Fits};
 ghost use Rattle.swc_tree_operations.specs.Nodes.{object_lit_node};
 
 use std::alloc::{AllocError, Global};
-use swc_tree_handle::{Opened, Trees, class, close_two, open_two};
+use swc_tree_handle::{Opened, Trees, class, clone_two, close_two, open_two};
 use swc_tree_marks::Span;
 use swc_tree_node::{Kind, Node};
 
 /// An object literal (ECMA-262, ObjectLiteral).
-#[derive(Clone, Debug, Drop, PartialEq, Eq)]
+#[derive(Debug, Drop, PartialEq, Eq)]
 pub struct ObjectLit {
     pub span: Span,
     pub props: Trees<class::PropOrSpread>,
+}
+
+impl Clone for ObjectLit {
+    ghost is_clone = { λ it copy. copy ≡ it };
+
+    fn clone(&self) -> Result<ObjectLit, AllocError> {
+        let (span, props) = clone_two(&self.span, &self.props)?;
+        Ok(ObjectLit { span, props })
+    }
 }
 
 impl Opened<class::ObjectLit> for ObjectLit {

@@ -7,16 +7,25 @@ ghost use Rattle.swc_tree_node.specs.Fits.{Fits};
 ghost use Rattle.swc_tree_operations.specs.Nodes.{opt_call_node};
 
 use std::alloc::{AllocError, Global};
-use swc_tree_handle::{Opened, Tree, Trees, class, close_three, open_three};
+use swc_tree_handle::{Opened, Tree, Trees, class, clone_three, close_three, open_three};
 use swc_tree_marks::Span;
 use swc_tree_node::{Kind, Node};
 
 /// A call in an optional chain (ECMA-262, OptionalChain).
-#[derive(Clone, Debug, Drop, PartialEq, Eq)]
+#[derive(Debug, Drop, PartialEq, Eq)]
 pub struct OptCall {
     pub span: Span,
     pub callee: Tree<class::Expr>,
     pub args: Trees<class::ExprOrSpread>,
+}
+
+impl Clone for OptCall {
+    ghost is_clone = { λ it copy. copy ≡ it };
+
+    fn clone(&self) -> Result<OptCall, AllocError> {
+        let (span, callee, args) = clone_three(&self.span, &self.callee, &self.args)?;
+        Ok(OptCall { span, callee, args })
+    }
 }
 
 impl Opened<class::OptCall> for OptCall {

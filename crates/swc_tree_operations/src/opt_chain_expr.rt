@@ -7,16 +7,29 @@ ghost use Rattle.swc_tree_node.specs.Fits.{Fits};
 ghost use Rattle.swc_tree_operations.specs.Nodes.{opt_chain_expr_node};
 
 use std::alloc::{AllocError, Global};
-use swc_tree_handle::{Opened, Tree, class, close_three, open_three};
+use swc_tree_handle::{Opened, Tree, class, clone_three, close_three, open_three};
 use swc_tree_marks::Span;
 use swc_tree_node::{Kind, Node};
 
 /// A part of an optional chain; whether it begins with `?.` (ECMA-262, OptionalExpression).
-#[derive(Clone, Debug, Drop, PartialEq, Eq)]
+#[derive(Debug, Drop, PartialEq, Eq)]
 pub struct OptChainExpr {
     pub span: Span,
     pub optional: bool,
     pub base: Tree<class::OptChainBase>,
+}
+
+impl Clone for OptChainExpr {
+    ghost is_clone = { λ it copy. copy ≡ it };
+
+    fn clone(&self) -> Result<OptChainExpr, AllocError> {
+        let (span, optional, base) = clone_three(&self.span, &self.optional, &self.base)?;
+        Ok(OptChainExpr {
+            span,
+            optional,
+            base,
+        })
+    }
 }
 
 impl Opened<class::OptChainExpr> for OptChainExpr {

@@ -7,15 +7,24 @@ ghost use Rattle.swc_tree_node.specs.Fits.{Fits};
 ghost use Rattle.swc_tree_operations.specs.Nodes.{paren_expr_node};
 
 use std::alloc::{AllocError, Global};
-use swc_tree_handle::{Opened, Tree, class, close_two, open_two};
+use swc_tree_handle::{Opened, Tree, class, clone_two, close_two, open_two};
 use swc_tree_marks::Span;
 use swc_tree_node::{Kind, Node};
 
 /// An expression in parentheses (ECMA-262, ParenthesizedExpression).
-#[derive(Clone, Debug, Drop, PartialEq, Eq)]
+#[derive(Debug, Drop, PartialEq, Eq)]
 pub struct ParenExpr {
     pub span: Span,
     pub expr: Tree<class::Expr>,
+}
+
+impl Clone for ParenExpr {
+    ghost is_clone = { λ it copy. copy ≡ it };
+
+    fn clone(&self) -> Result<ParenExpr, AllocError> {
+        let (span, expr) = clone_two(&self.span, &self.expr)?;
+        Ok(ParenExpr { span, expr })
+    }
 }
 
 impl Opened<class::ParenExpr> for ParenExpr {

@@ -7,15 +7,24 @@ ghost use Rattle.swc_tree_node.specs.Fits.{Fits};
 ghost use Rattle.swc_tree_operations.specs.Nodes.{seq_expr_node};
 
 use std::alloc::{AllocError, Global};
-use swc_tree_handle::{Opened, Trees, class, close_two, open_two};
+use swc_tree_handle::{Opened, Trees, class, clone_two, close_two, open_two};
 use swc_tree_marks::Span;
 use swc_tree_node::{Kind, Node};
 
 /// Expressions one after another (ECMA-262, Expression).
-#[derive(Clone, Debug, Drop, PartialEq, Eq)]
+#[derive(Debug, Drop, PartialEq, Eq)]
 pub struct SeqExpr {
     pub span: Span,
     pub exprs: Trees<class::Expr>,
+}
+
+impl Clone for SeqExpr {
+    ghost is_clone = { λ it copy. copy ≡ it };
+
+    fn clone(&self) -> Result<SeqExpr, AllocError> {
+        let (span, exprs) = clone_two(&self.span, &self.exprs)?;
+        Ok(SeqExpr { span, exprs })
+    }
 }
 
 impl Opened<class::SeqExpr> for SeqExpr {

@@ -7,15 +7,24 @@ ghost use Rattle.swc_tree_node.specs.Fits.{Fits};
 ghost use Rattle.swc_tree_operations.specs.Nodes.{spread_element_node};
 
 use std::alloc::{AllocError, Global};
-use swc_tree_handle::{Opened, Tree, class, close_two, open_two};
+use swc_tree_handle::{Opened, Tree, class, clone_two, close_two, open_two};
 use swc_tree_marks::Span;
 use swc_tree_node::{Kind, Node};
 
 /// The properties of another object (ECMA-262, PropertyDefinition).
-#[derive(Clone, Debug, Drop, PartialEq, Eq)]
+#[derive(Debug, Drop, PartialEq, Eq)]
 pub struct SpreadElement {
     pub dot3_token: Span,
     pub expr: Tree<class::Expr>,
+}
+
+impl Clone for SpreadElement {
+    ghost is_clone = { λ it copy. copy ≡ it };
+
+    fn clone(&self) -> Result<SpreadElement, AllocError> {
+        let (dot3_token, expr) = clone_two(&self.dot3_token, &self.expr)?;
+        Ok(SpreadElement { dot3_token, expr })
+    }
 }
 
 impl Opened<class::SpreadElement> for SpreadElement {

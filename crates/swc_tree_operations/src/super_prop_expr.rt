@@ -7,17 +7,26 @@ ghost use Rattle.swc_tree_node.specs.Fits.{Fits};
 ghost use Rattle.swc_tree_operations.specs.Nodes.{super_prop_expr_node};
 
 use std::alloc::{AllocError, Global};
-use swc_tree_handle::{Opened, Tree, class, close_three, open_three};
+use swc_tree_handle::{Opened, Tree, class, clone_three, close_three, open_three};
 use swc_tree_leaves::Super;
 use swc_tree_marks::Span;
 use swc_tree_node::{Kind, Node};
 
 /// A property of `super` (ECMA-262, SuperProperty).
-#[derive(Clone, Debug, Drop, PartialEq, Eq)]
+#[derive(Debug, Drop, PartialEq, Eq)]
 pub struct SuperPropExpr {
     pub span: Span,
     pub obj: Super,
     pub prop: Tree<class::SuperProp>,
+}
+
+impl Clone for SuperPropExpr {
+    ghost is_clone = { λ it copy. copy ≡ it };
+
+    fn clone(&self) -> Result<SuperPropExpr, AllocError> {
+        let (span, obj, prop) = clone_three(&self.span, &self.obj, &self.prop)?;
+        Ok(SuperPropExpr { span, obj, prop })
+    }
 }
 
 impl Opened<class::SuperPropExpr> for SuperPropExpr {

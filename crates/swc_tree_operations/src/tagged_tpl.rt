@@ -7,16 +7,25 @@ ghost use Rattle.swc_tree_node.specs.Fits.{Fits};
 ghost use Rattle.swc_tree_operations.specs.Nodes.{tagged_tpl_node};
 
 use std::alloc::{AllocError, Global};
-use swc_tree_handle::{Opened, Tree, class, close_three, open_three};
+use swc_tree_handle::{Opened, Tree, class, clone_three, close_three, open_three};
 use swc_tree_marks::Span;
 use swc_tree_node::{Kind, Node};
 
 /// A template with a tag (ECMA-262, MemberExpression).
-#[derive(Clone, Debug, Drop, PartialEq, Eq)]
+#[derive(Debug, Drop, PartialEq, Eq)]
 pub struct TaggedTpl {
     pub span: Span,
     pub tag: Tree<class::Expr>,
     pub tpl: Tree<class::Tpl>,
+}
+
+impl Clone for TaggedTpl {
+    ghost is_clone = { λ it copy. copy ≡ it };
+
+    fn clone(&self) -> Result<TaggedTpl, AllocError> {
+        let (span, tag, tpl) = clone_three(&self.span, &self.tag, &self.tpl)?;
+        Ok(TaggedTpl { span, tag, tpl })
+    }
 }
 
 impl Opened<class::TaggedTpl> for TaggedTpl {

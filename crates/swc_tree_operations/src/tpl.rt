@@ -7,16 +7,29 @@ ghost use Rattle.swc_tree_node.specs.Fits.{Fits};
 ghost use Rattle.swc_tree_operations.specs.Nodes.{tpl_node};
 
 use std::alloc::{AllocError, Global};
-use swc_tree_handle::{Opened, Trees, class, close_three, open_three};
+use swc_tree_handle::{Opened, Trees, class, clone_three, close_three, open_three};
 use swc_tree_marks::Span;
 use swc_tree_node::{Kind, Node};
 
 /// A template: its expressions, and the texts round them (ECMA-262, TemplateLiteral).
-#[derive(Clone, Debug, Drop, PartialEq, Eq)]
+#[derive(Debug, Drop, PartialEq, Eq)]
 pub struct Tpl {
     pub span: Span,
     pub exprs: Trees<class::Expr>,
     pub quasis: Trees<class::TplElement>,
+}
+
+impl Clone for Tpl {
+    ghost is_clone = { λ it copy. copy ≡ it };
+
+    fn clone(&self) -> Result<Tpl, AllocError> {
+        let (span, exprs, quasis) = clone_three(&self.span, &self.exprs, &self.quasis)?;
+        Ok(Tpl {
+            span,
+            exprs,
+            quasis,
+        })
+    }
 }
 
 impl Opened<class::Tpl> for Tpl {

@@ -8,16 +8,25 @@ ghost use Rattle.swc_tree_operations.specs.Nodes.{unary_expr_node};
 
 use crate::unary_op::UnaryOp;
 use std::alloc::{AllocError, Global};
-use swc_tree_handle::{Opened, Tree, class, close_three, open_three};
+use swc_tree_handle::{Opened, Tree, class, clone_three, close_three, open_three};
 use swc_tree_marks::Span;
 use swc_tree_node::{Kind, Node};
 
 /// An operator before its operand (ECMA-262, UnaryExpression).
-#[derive(Clone, Debug, Drop, PartialEq, Eq)]
+#[derive(Debug, Drop, PartialEq, Eq)]
 pub struct UnaryExpr {
     pub span: Span,
     pub op: UnaryOp,
     pub arg: Tree<class::Expr>,
+}
+
+impl Clone for UnaryExpr {
+    ghost is_clone = { λ it copy. copy ≡ it };
+
+    fn clone(&self) -> Result<UnaryExpr, AllocError> {
+        let (span, op, arg) = clone_three(&self.span, &self.op, &self.arg)?;
+        Ok(UnaryExpr { span, op, arg })
+    }
 }
 
 impl Opened<class::UnaryExpr> for UnaryExpr {

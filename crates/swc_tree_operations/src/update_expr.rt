@@ -8,17 +8,31 @@ ghost use Rattle.swc_tree_operations.specs.Nodes.{update_expr_node};
 
 use crate::update_op::UpdateOp;
 use std::alloc::{AllocError, Global};
-use swc_tree_handle::{Opened, Tree, class, close_four, open_four};
+use swc_tree_handle::{Opened, Tree, class, clone_four, close_four, open_four};
 use swc_tree_marks::Span;
 use swc_tree_node::{Kind, Node};
 
 /// An increment or decrement, before its operand or after it (ECMA-262, UpdateExpression).
-#[derive(Clone, Debug, Drop, PartialEq, Eq)]
+#[derive(Debug, Drop, PartialEq, Eq)]
 pub struct UpdateExpr {
     pub span: Span,
     pub op: UpdateOp,
     pub prefix: bool,
     pub arg: Tree<class::Expr>,
+}
+
+impl Clone for UpdateExpr {
+    ghost is_clone = { λ it copy. copy ≡ it };
+
+    fn clone(&self) -> Result<UpdateExpr, AllocError> {
+        let (span, op, prefix, arg) = clone_four(&self.span, &self.op, &self.prefix, &self.arg)?;
+        Ok(UpdateExpr {
+            span,
+            op,
+            prefix,
+            arg,
+        })
+    }
 }
 
 impl Opened<class::UpdateExpr> for UpdateExpr {

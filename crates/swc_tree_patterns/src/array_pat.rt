@@ -7,15 +7,24 @@ ghost use Rattle.swc_tree_node.specs.Fits.{Fits};
 ghost use Rattle.swc_tree_patterns.specs.Nodes.{array_pat_node};
 
 use std::alloc::{AllocError, Global};
-use swc_tree_handle::{Holes, Opened, class, close_two, open_two};
+use swc_tree_handle::{Holes, Opened, class, clone_two, close_two, open_two};
 use swc_tree_marks::Span;
 use swc_tree_node::{Kind, Node};
 
 /// A pattern of elements, some left out (ECMA-262, ArrayBindingPattern).
-#[derive(Clone, Debug, Drop, PartialEq, Eq)]
+#[derive(Debug, Drop, PartialEq, Eq)]
 pub struct ArrayPat {
     pub span: Span,
     pub elems: Holes<class::Pat>,
+}
+
+impl Clone for ArrayPat {
+    ghost is_clone = { λ it copy. copy ≡ it };
+
+    fn clone(&self) -> Result<ArrayPat, AllocError> {
+        let (span, elems) = clone_two(&self.span, &self.elems)?;
+        Ok(ArrayPat { span, elems })
+    }
 }
 
 impl Opened<class::ArrayPat> for ArrayPat {

@@ -7,16 +7,25 @@ ghost use Rattle.swc_tree_node.specs.Fits.{Fits};
 ghost use Rattle.swc_tree_patterns.specs.Nodes.{assign_pat_node};
 
 use std::alloc::{AllocError, Global};
-use swc_tree_handle::{Opened, Tree, class, close_three, open_three};
+use swc_tree_handle::{Opened, Tree, class, clone_three, close_three, open_three};
 use swc_tree_marks::Span;
 use swc_tree_node::{Kind, Node};
 
 /// A pattern with a default (ECMA-262, BindingElement).
-#[derive(Clone, Debug, Drop, PartialEq, Eq)]
+#[derive(Debug, Drop, PartialEq, Eq)]
 pub struct AssignPat {
     pub span: Span,
     pub left: Tree<class::Pat>,
     pub right: Tree<class::Expr>,
+}
+
+impl Clone for AssignPat {
+    ghost is_clone = { λ it copy. copy ≡ it };
+
+    fn clone(&self) -> Result<AssignPat, AllocError> {
+        let (span, left, right) = clone_three(&self.span, &self.left, &self.right)?;
+        Ok(AssignPat { span, left, right })
+    }
 }
 
 impl Opened<class::AssignPat> for AssignPat {

@@ -7,17 +7,26 @@ ghost use Rattle.swc_tree_node.specs.Fits.{Fits};
 ghost use Rattle.swc_tree_patterns.specs.Nodes.{assign_pat_prop_node};
 
 use std::alloc::{AllocError, Global};
-use swc_tree_handle::{Opened, Tree, class, close_three, open_three};
+use swc_tree_handle::{Opened, Tree, class, clone_three, close_three, open_three};
 use swc_tree_leaves::BindingIdent;
 use swc_tree_marks::Span;
 use swc_tree_node::{Kind, Node};
 
 /// A name that is both key and target, with its default (ECMA-262, SingleNameBinding).
-#[derive(Clone, Debug, Drop, PartialEq, Eq)]
+#[derive(Debug, Drop, PartialEq, Eq)]
 pub struct AssignPatProp {
     pub span: Span,
     pub key: BindingIdent,
     pub value: Option<Tree<class::Expr>>,
+}
+
+impl Clone for AssignPatProp {
+    ghost is_clone = { λ it copy. copy ≡ it };
+
+    fn clone(&self) -> Result<AssignPatProp, AllocError> {
+        let (span, key, value) = clone_three(&self.span, &self.key, &self.value)?;
+        Ok(AssignPatProp { span, key, value })
+    }
 }
 
 impl Opened<class::AssignPatProp> for AssignPatProp {

@@ -7,14 +7,23 @@ ghost use Rattle.swc_tree_node.specs.Fits.{Fits};
 ghost use Rattle.swc_tree_patterns.specs.Nodes.{key_value_pat_prop_node};
 
 use std::alloc::{AllocError, Global};
-use swc_tree_handle::{Opened, Tree, class, close_two, open_two};
+use swc_tree_handle::{Opened, Tree, class, clone_two, close_two, open_two};
 use swc_tree_node::{Kind, Node};
 
 /// A key and a pattern for its value (ECMA-262, BindingProperty).
-#[derive(Clone, Debug, Drop, PartialEq, Eq)]
+#[derive(Debug, Drop, PartialEq, Eq)]
 pub struct KeyValuePatProp {
     pub key: Tree<class::PropName>,
     pub value: Tree<class::Pat>,
+}
+
+impl Clone for KeyValuePatProp {
+    ghost is_clone = { λ it copy. copy ≡ it };
+
+    fn clone(&self) -> Result<KeyValuePatProp, AllocError> {
+        let (key, value) = clone_two(&self.key, &self.value)?;
+        Ok(KeyValuePatProp { key, value })
+    }
 }
 
 impl Opened<class::KeyValuePatProp> for KeyValuePatProp {

@@ -7,15 +7,24 @@ ghost use Rattle.swc_tree_node.specs.Fits.{Fits};
 ghost use Rattle.swc_tree_patterns.specs.Nodes.{object_pat_node};
 
 use std::alloc::{AllocError, Global};
-use swc_tree_handle::{Opened, Trees, class, close_two, open_two};
+use swc_tree_handle::{Opened, Trees, class, clone_two, close_two, open_two};
 use swc_tree_marks::Span;
 use swc_tree_node::{Kind, Node};
 
 /// A pattern of properties (ECMA-262, ObjectBindingPattern).
-#[derive(Clone, Debug, Drop, PartialEq, Eq)]
+#[derive(Debug, Drop, PartialEq, Eq)]
 pub struct ObjectPat {
     pub span: Span,
     pub props: Trees<class::ObjectPatProp>,
+}
+
+impl Clone for ObjectPat {
+    ghost is_clone = { λ it copy. copy ≡ it };
+
+    fn clone(&self) -> Result<ObjectPat, AllocError> {
+        let (span, props) = clone_two(&self.span, &self.props)?;
+        Ok(ObjectPat { span, props })
+    }
 }
 
 impl Opened<class::ObjectPat> for ObjectPat {

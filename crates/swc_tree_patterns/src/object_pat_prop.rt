@@ -46,11 +46,10 @@ impl Opened<class::ObjectPatProp> for ObjectPatProp {
     fn into_node(self, alloc: Global) -> Result<Node, AllocError>
         ensures { IfOk result (λ closed. (closed ≡ of_object_pat_prop self) × Fits closed (One (Of class.ObjectPatProp))) }
     {
-        let tree: Tree<class::ObjectPatProp> = match self {
-            ObjectPatProp::KeyValue(opened) => opened.close(alloc)?.widen(),
-            ObjectPatProp::Assign(opened) => opened.close(alloc)?.widen(),
-            ObjectPatProp::Rest(opened) => opened.close(alloc)?.widen(),
-        };
-        Ok(tree.into_node())
+        match self {
+            ObjectPatProp::KeyValue(opened) => opened.close_within::<class::ObjectPatProp>(alloc),
+            ObjectPatProp::Assign(opened) => opened.close_within::<class::ObjectPatProp>(alloc),
+            ObjectPatProp::Rest(opened) => opened.close_within::<class::ObjectPatProp>(alloc),
+        }
     }
 }

@@ -49,14 +49,13 @@ impl Opened<class::Pat> for Pat {
     fn into_node(self, alloc: Global) -> Result<Node, AllocError>
         ensures { IfOk result (λ closed. (closed ≡ of_pat self) × Fits closed (One (Of class.Pat))) }
     {
-        let tree: Tree<class::Pat> = match self {
-            Pat::Ident(opened) => opened.close(alloc)?.widen(),
-            Pat::Array(opened) => opened.close(alloc)?.widen(),
-            Pat::Rest(opened) => opened.close(alloc)?.widen(),
-            Pat::Object(opened) => opened.close(alloc)?.widen(),
-            Pat::Assign(opened) => opened.close(alloc)?.widen(),
-            Pat::Expr(tree) => tree.widen(),
-        };
-        Ok(tree.into_node())
+        match self {
+            Pat::Ident(opened) => opened.close_within::<class::Pat>(alloc),
+            Pat::Array(opened) => opened.close_within::<class::Pat>(alloc),
+            Pat::Rest(opened) => opened.close_within::<class::Pat>(alloc),
+            Pat::Object(opened) => opened.close_within::<class::Pat>(alloc),
+            Pat::Assign(opened) => opened.close_within::<class::Pat>(alloc),
+            Pat::Expr(tree) => Ok(tree.widen::<class::Pat>().into_node()),
+        }
     }
 }

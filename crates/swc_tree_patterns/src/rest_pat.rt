@@ -7,15 +7,24 @@ ghost use Rattle.swc_tree_node.specs.Fits.{Fits};
 ghost use Rattle.swc_tree_patterns.specs.Nodes.{rest_pat_node};
 
 use std::alloc::{AllocError, Global};
-use swc_tree_handle::{Opened, Tree, class, close_two, open_two};
+use swc_tree_handle::{Opened, Tree, class, clone_two, close_two, open_two};
 use swc_tree_marks::Span;
 use swc_tree_node::{Kind, Node};
 
 /// What takes the rest (ECMA-262, BindingRestElement).
-#[derive(Clone, Debug, Drop, PartialEq, Eq)]
+#[derive(Debug, Drop, PartialEq, Eq)]
 pub struct RestPat {
     pub span: Span,
     pub arg: Tree<class::Pat>,
+}
+
+impl Clone for RestPat {
+    ghost is_clone = { λ it copy. copy ≡ it };
+
+    fn clone(&self) -> Result<RestPat, AllocError> {
+        let (span, arg) = clone_two(&self.span, &self.arg)?;
+        Ok(RestPat { span, arg })
+    }
 }
 
 impl Opened<class::RestPat> for RestPat {

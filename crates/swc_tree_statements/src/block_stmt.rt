@@ -7,15 +7,24 @@ ghost use Rattle.swc_tree_node.specs.Fits.{Fits};
 ghost use Rattle.swc_tree_statements.specs.Nodes.{block_stmt_node};
 
 use std::alloc::{AllocError, Global};
-use swc_tree_handle::{Opened, Trees, class, close_two, open_two};
+use swc_tree_handle::{Opened, Trees, class, clone_two, close_two, open_two};
 use swc_tree_marks::Span;
 use swc_tree_node::{Kind, Node};
 
 /// A block, or the body of a function (ECMA-262, Block and FunctionBody).
-#[derive(Clone, Debug, Drop, PartialEq, Eq)]
+#[derive(Debug, Drop, PartialEq, Eq)]
 pub struct BlockStmt {
     pub span: Span,
     pub stmts: Trees<class::Stmt>,
+}
+
+impl Clone for BlockStmt {
+    ghost is_clone = { λ it copy. copy ≡ it };
+
+    fn clone(&self) -> Result<BlockStmt, AllocError> {
+        let (span, stmts) = clone_two(&self.span, &self.stmts)?;
+        Ok(BlockStmt { span, stmts })
+    }
 }
 
 impl Opened<class::BlockStmt> for BlockStmt {

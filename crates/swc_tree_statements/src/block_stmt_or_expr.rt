@@ -37,10 +37,11 @@ impl Opened<class::BlockStmtOrExpr> for BlockStmtOrExpr {
     fn into_node(self, alloc: Global) -> Result<Node, AllocError>
         ensures { IfOk result (λ closed. (closed ≡ of_block_stmt_or_expr self) × Fits closed (One (Of class.BlockStmtOrExpr))) }
     {
-        let tree: Tree<class::BlockStmtOrExpr> = match self {
-            BlockStmtOrExpr::BlockStmt(opened) => opened.close(alloc)?.widen(),
-            BlockStmtOrExpr::Expr(tree) => tree.widen(),
-        };
-        Ok(tree.into_node())
+        match self {
+            BlockStmtOrExpr::BlockStmt(opened) => opened.close_within::<class::BlockStmtOrExpr>(
+                alloc,
+            ),
+            BlockStmtOrExpr::Expr(tree) => Ok(tree.widen::<class::BlockStmtOrExpr>().into_node()),
+        }
     }
 }

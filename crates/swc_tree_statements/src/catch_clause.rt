@@ -7,16 +7,25 @@ ghost use Rattle.swc_tree_node.specs.Fits.{Fits};
 ghost use Rattle.swc_tree_statements.specs.Nodes.{catch_clause_node};
 
 use std::alloc::{AllocError, Global};
-use swc_tree_handle::{Opened, Tree, class, close_three, open_three};
+use swc_tree_handle::{Opened, Tree, class, clone_three, close_three, open_three};
 use swc_tree_marks::Span;
 use swc_tree_node::{Kind, Node};
 
 /// What catches an exception (ECMA-262, Catch).
-#[derive(Clone, Debug, Drop, PartialEq, Eq)]
+#[derive(Debug, Drop, PartialEq, Eq)]
 pub struct CatchClause {
     pub span: Span,
     pub param: Option<Tree<class::Pat>>,
     pub body: Tree<class::BlockStmt>,
+}
+
+impl Clone for CatchClause {
+    ghost is_clone = { λ it copy. copy ≡ it };
+
+    fn clone(&self) -> Result<CatchClause, AllocError> {
+        let (span, param, body) = clone_three(&self.span, &self.param, &self.body)?;
+        Ok(CatchClause { span, param, body })
+    }
 }
 
 impl Opened<class::CatchClause> for CatchClause {

@@ -7,15 +7,24 @@ ghost use Rattle.swc_tree_node.specs.Fits.{Fits};
 ghost use Rattle.swc_tree_statements.specs.Nodes.{class_decl_node};
 
 use std::alloc::{AllocError, Global};
-use swc_tree_handle::{Opened, Tree, class, close_two, open_two};
+use swc_tree_handle::{Opened, Tree, class, clone_two, close_two, open_two};
 use swc_tree_marks::Ident;
 use swc_tree_node::{Kind, Node};
 
 /// A declaration of a class (ECMA-262, ClassDeclaration).
-#[derive(Clone, Debug, Drop, PartialEq, Eq)]
+#[derive(Debug, Drop, PartialEq, Eq)]
 pub struct ClassDecl {
     pub ident: Ident,
     pub class_: Tree<class::Class>,
+}
+
+impl Clone for ClassDecl {
+    ghost is_clone = { λ it copy. copy ≡ it };
+
+    fn clone(&self) -> Result<ClassDecl, AllocError> {
+        let (ident, class_) = clone_two(&self.ident, &self.class_)?;
+        Ok(ClassDecl { ident, class_ })
+    }
 }
 
 impl Opened<class::ClassDecl> for ClassDecl {

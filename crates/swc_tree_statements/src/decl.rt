@@ -45,12 +45,11 @@ impl Opened<class::Decl> for Decl {
     fn into_node(self, alloc: Global) -> Result<Node, AllocError>
         ensures { IfOk result (λ closed. (closed ≡ of_decl self) × Fits closed (One (Of class.Decl))) }
     {
-        let tree: Tree<class::Decl> = match self {
-            Decl::Class(opened) => opened.close(alloc)?.widen(),
-            Decl::Fn(opened) => opened.close(alloc)?.widen(),
-            Decl::Var(opened) => opened.close(alloc)?.widen(),
-            Decl::Using(opened) => opened.close(alloc)?.widen(),
-        };
-        Ok(tree.into_node())
+        match self {
+            Decl::Class(opened) => opened.close_within::<class::Decl>(alloc),
+            Decl::Fn(opened) => opened.close_within::<class::Decl>(alloc),
+            Decl::Var(opened) => opened.close_within::<class::Decl>(alloc),
+            Decl::Using(opened) => opened.close_within::<class::Decl>(alloc),
+        }
     }
 }

@@ -7,16 +7,25 @@ ghost use Rattle.swc_tree_node.specs.Fits.{Fits};
 ghost use Rattle.swc_tree_statements.specs.Nodes.{do_while_stmt_node};
 
 use std::alloc::{AllocError, Global};
-use swc_tree_handle::{Opened, Tree, class, close_three, open_three};
+use swc_tree_handle::{Opened, Tree, class, clone_three, close_three, open_three};
 use swc_tree_marks::Span;
 use swc_tree_node::{Kind, Node};
 
 /// A `do` statement (ECMA-262, DoWhileStatement).
-#[derive(Clone, Debug, Drop, PartialEq, Eq)]
+#[derive(Debug, Drop, PartialEq, Eq)]
 pub struct DoWhileStmt {
     pub span: Span,
     pub body: Tree<class::Stmt>,
     pub test: Tree<class::Expr>,
+}
+
+impl Clone for DoWhileStmt {
+    ghost is_clone = { λ it copy. copy ≡ it };
+
+    fn clone(&self) -> Result<DoWhileStmt, AllocError> {
+        let (span, body, test) = clone_three(&self.span, &self.body, &self.test)?;
+        Ok(DoWhileStmt { span, body, test })
+    }
 }
 
 impl Opened<class::DoWhileStmt> for DoWhileStmt {

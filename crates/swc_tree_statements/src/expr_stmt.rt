@@ -7,15 +7,24 @@ ghost use Rattle.swc_tree_node.specs.Fits.{Fits};
 ghost use Rattle.swc_tree_statements.specs.Nodes.{expr_stmt_node};
 
 use std::alloc::{AllocError, Global};
-use swc_tree_handle::{Opened, Tree, class, close_two, open_two};
+use swc_tree_handle::{Opened, Tree, class, clone_two, close_two, open_two};
 use swc_tree_marks::Span;
 use swc_tree_node::{Kind, Node};
 
 /// An expression as a statement (ECMA-262, ExpressionStatement).
-#[derive(Clone, Debug, Drop, PartialEq, Eq)]
+#[derive(Debug, Drop, PartialEq, Eq)]
 pub struct ExprStmt {
     pub span: Span,
     pub expr: Tree<class::Expr>,
+}
+
+impl Clone for ExprStmt {
+    ghost is_clone = { λ it copy. copy ≡ it };
+
+    fn clone(&self) -> Result<ExprStmt, AllocError> {
+        let (span, expr) = clone_two(&self.span, &self.expr)?;
+        Ok(ExprStmt { span, expr })
+    }
 }
 
 impl Opened<class::ExprStmt> for ExprStmt {

@@ -7,15 +7,24 @@ ghost use Rattle.swc_tree_node.specs.Fits.{Fits};
 ghost use Rattle.swc_tree_statements.specs.Nodes.{fn_decl_node};
 
 use std::alloc::{AllocError, Global};
-use swc_tree_handle::{Opened, Tree, class, close_two, open_two};
+use swc_tree_handle::{Opened, Tree, class, clone_two, close_two, open_two};
 use swc_tree_marks::Ident;
 use swc_tree_node::{Kind, Node};
 
 /// A declaration of a function (ECMA-262, FunctionDeclaration).
-#[derive(Clone, Debug, Drop, PartialEq, Eq)]
+#[derive(Debug, Drop, PartialEq, Eq)]
 pub struct FnDecl {
     pub ident: Ident,
     pub function: Tree<class::Function>,
+}
+
+impl Clone for FnDecl {
+    ghost is_clone = { λ it copy. copy ≡ it };
+
+    fn clone(&self) -> Result<FnDecl, AllocError> {
+        let (ident, function) = clone_two(&self.ident, &self.function)?;
+        Ok(FnDecl { ident, function })
+    }
 }
 
 impl Opened<class::FnDecl> for FnDecl {

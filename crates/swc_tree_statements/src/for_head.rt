@@ -41,11 +41,10 @@ impl Opened<class::ForHead> for ForHead {
     fn into_node(self, alloc: Global) -> Result<Node, AllocError>
         ensures { IfOk result (λ closed. (closed ≡ of_for_head self) × Fits closed (One (Of class.ForHead))) }
     {
-        let tree: Tree<class::ForHead> = match self {
-            ForHead::VarDecl(opened) => opened.close(alloc)?.widen(),
-            ForHead::UsingDecl(opened) => opened.close(alloc)?.widen(),
-            ForHead::Pat(opened) => opened.close(alloc)?.widen(),
-        };
-        Ok(tree.into_node())
+        match self {
+            ForHead::VarDecl(opened) => opened.close_within::<class::ForHead>(alloc),
+            ForHead::UsingDecl(opened) => opened.close_within::<class::ForHead>(alloc),
+            ForHead::Pat(opened) => opened.close_within::<class::ForHead>(alloc),
+        }
     }
 }

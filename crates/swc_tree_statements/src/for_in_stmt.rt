@@ -7,17 +7,36 @@ ghost use Rattle.swc_tree_node.specs.Fits.{Fits};
 ghost use Rattle.swc_tree_statements.specs.Nodes.{for_in_stmt_node};
 
 use std::alloc::{AllocError, Global};
-use swc_tree_handle::{Opened, Tree, class, close_four, open_four};
+use swc_tree_handle::{Opened, Tree, class, clone_four, close_four, open_four};
 use swc_tree_marks::Span;
 use swc_tree_node::{Kind, Node};
 
 /// A `for` statement over keys (ECMA-262, ForInOfStatement).
-#[derive(Clone, Debug, Drop, PartialEq, Eq)]
+#[derive(Debug, Drop, PartialEq, Eq)]
 pub struct ForInStmt {
     pub span: Span,
     pub left: Tree<class::ForHead>,
     pub right: Tree<class::Expr>,
     pub body: Tree<class::Stmt>,
+}
+
+impl Clone for ForInStmt {
+    ghost is_clone = { λ it copy. copy ≡ it };
+
+    fn clone(&self) -> Result<ForInStmt, AllocError> {
+        let (span, left, right, body) = clone_four(
+            &self.span,
+            &self.left,
+            &self.right,
+            &self.body,
+        )?;
+        Ok(ForInStmt {
+            span,
+            left,
+            right,
+            body,
+        })
+    }
 }
 
 impl Opened<class::ForInStmt> for ForInStmt {

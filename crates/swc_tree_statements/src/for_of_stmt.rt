@@ -7,18 +7,39 @@ ghost use Rattle.swc_tree_node.specs.Fits.{Fits};
 ghost use Rattle.swc_tree_statements.specs.Nodes.{for_of_stmt_node};
 
 use std::alloc::{AllocError, Global};
-use swc_tree_handle::{Opened, Tree, class, close_five, open_five};
+use swc_tree_handle::{Opened, Tree, class, clone_five, close_five, open_five};
 use swc_tree_marks::Span;
 use swc_tree_node::{Kind, Node};
 
 /// A `for` statement over values (ECMA-262, ForInOfStatement).
-#[derive(Clone, Debug, Drop, PartialEq, Eq)]
+#[derive(Debug, Drop, PartialEq, Eq)]
 pub struct ForOfStmt {
     pub span: Span,
     pub is_await: bool,
     pub left: Tree<class::ForHead>,
     pub right: Tree<class::Expr>,
     pub body: Tree<class::Stmt>,
+}
+
+impl Clone for ForOfStmt {
+    ghost is_clone = { λ it copy. copy ≡ it };
+
+    fn clone(&self) -> Result<ForOfStmt, AllocError> {
+        let (span, is_await, left, right, body) = clone_five(
+            &self.span,
+            &self.is_await,
+            &self.left,
+            &self.right,
+            &self.body,
+        )?;
+        Ok(ForOfStmt {
+            span,
+            is_await,
+            left,
+            right,
+            body,
+        })
+    }
 }
 
 impl Opened<class::ForOfStmt> for ForOfStmt {

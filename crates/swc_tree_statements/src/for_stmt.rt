@@ -7,18 +7,39 @@ ghost use Rattle.swc_tree_node.specs.Fits.{Fits};
 ghost use Rattle.swc_tree_statements.specs.Nodes.{for_stmt_node};
 
 use std::alloc::{AllocError, Global};
-use swc_tree_handle::{Opened, Tree, class, close_five, open_five};
+use swc_tree_handle::{Opened, Tree, class, clone_five, close_five, open_five};
 use swc_tree_marks::Span;
 use swc_tree_node::{Kind, Node};
 
 /// A `for` statement (ECMA-262, ForStatement).
-#[derive(Clone, Debug, Drop, PartialEq, Eq)]
+#[derive(Debug, Drop, PartialEq, Eq)]
 pub struct ForStmt {
     pub span: Span,
     pub init: Option<Tree<class::VarDeclOrExpr>>,
     pub test: Option<Tree<class::Expr>>,
     pub update: Option<Tree<class::Expr>>,
     pub body: Tree<class::Stmt>,
+}
+
+impl Clone for ForStmt {
+    ghost is_clone = { λ it copy. copy ≡ it };
+
+    fn clone(&self) -> Result<ForStmt, AllocError> {
+        let (span, init, test, update, body) = clone_five(
+            &self.span,
+            &self.init,
+            &self.test,
+            &self.update,
+            &self.body,
+        )?;
+        Ok(ForStmt {
+            span,
+            init,
+            test,
+            update,
+            body,
+        })
+    }
 }
 
 impl Opened<class::ForStmt> for ForStmt {

@@ -7,17 +7,31 @@ ghost use Rattle.swc_tree_node.specs.Fits.{Fits};
 ghost use Rattle.swc_tree_statements.specs.Nodes.{if_stmt_node};
 
 use std::alloc::{AllocError, Global};
-use swc_tree_handle::{Opened, Tree, class, close_four, open_four};
+use swc_tree_handle::{Opened, Tree, class, clone_four, close_four, open_four};
 use swc_tree_marks::Span;
 use swc_tree_node::{Kind, Node};
 
 /// An `if` statement (ECMA-262, IfStatement).
-#[derive(Clone, Debug, Drop, PartialEq, Eq)]
+#[derive(Debug, Drop, PartialEq, Eq)]
 pub struct IfStmt {
     pub span: Span,
     pub test: Tree<class::Expr>,
     pub cons: Tree<class::Stmt>,
     pub alt: Option<Tree<class::Stmt>>,
+}
+
+impl Clone for IfStmt {
+    ghost is_clone = { λ it copy. copy ≡ it };
+
+    fn clone(&self) -> Result<IfStmt, AllocError> {
+        let (span, test, cons, alt) = clone_four(&self.span, &self.test, &self.cons, &self.alt)?;
+        Ok(IfStmt {
+            span,
+            test,
+            cons,
+            alt,
+        })
+    }
 }
 
 impl Opened<class::IfStmt> for IfStmt {

@@ -7,16 +7,25 @@ ghost use Rattle.swc_tree_node.specs.Fits.{Fits};
 ghost use Rattle.swc_tree_statements.specs.Nodes.{labeled_stmt_node};
 
 use std::alloc::{AllocError, Global};
-use swc_tree_handle::{Opened, Tree, class, close_three, open_three};
+use swc_tree_handle::{Opened, Tree, class, clone_three, close_three, open_three};
 use swc_tree_marks::{Ident, Span};
 use swc_tree_node::{Kind, Node};
 
 /// A statement with a label (ECMA-262, LabelledStatement).
-#[derive(Clone, Debug, Drop, PartialEq, Eq)]
+#[derive(Debug, Drop, PartialEq, Eq)]
 pub struct LabeledStmt {
     pub span: Span,
     pub label: Ident,
     pub body: Tree<class::Stmt>,
+}
+
+impl Clone for LabeledStmt {
+    ghost is_clone = { λ it copy. copy ≡ it };
+
+    fn clone(&self) -> Result<LabeledStmt, AllocError> {
+        let (span, label, body) = clone_three(&self.span, &self.label, &self.body)?;
+        Ok(LabeledStmt { span, label, body })
+    }
 }
 
 impl Opened<class::LabeledStmt> for LabeledStmt {

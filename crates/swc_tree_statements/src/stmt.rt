@@ -89,27 +89,26 @@ impl Opened<class::Stmt> for Stmt {
     fn into_node(self, alloc: Global) -> Result<Node, AllocError>
         ensures { IfOk result (λ closed. (closed ≡ of_stmt self) × Fits closed (One (Of class.Stmt))) }
     {
-        let tree: Tree<class::Stmt> = match self {
-            Stmt::Block(opened) => opened.close(alloc)?.widen(),
-            Stmt::Empty(opened) => opened.close(alloc)?.widen(),
-            Stmt::Debugger(opened) => opened.close(alloc)?.widen(),
-            Stmt::With(opened) => opened.close(alloc)?.widen(),
-            Stmt::Return(opened) => opened.close(alloc)?.widen(),
-            Stmt::Labeled(opened) => opened.close(alloc)?.widen(),
-            Stmt::Break(opened) => opened.close(alloc)?.widen(),
-            Stmt::Continue(opened) => opened.close(alloc)?.widen(),
-            Stmt::If(opened) => opened.close(alloc)?.widen(),
-            Stmt::Switch(opened) => opened.close(alloc)?.widen(),
-            Stmt::Throw(opened) => opened.close(alloc)?.widen(),
-            Stmt::Try(opened) => opened.close(alloc)?.widen(),
-            Stmt::While(opened) => opened.close(alloc)?.widen(),
-            Stmt::DoWhile(opened) => opened.close(alloc)?.widen(),
-            Stmt::For(opened) => opened.close(alloc)?.widen(),
-            Stmt::ForIn(opened) => opened.close(alloc)?.widen(),
-            Stmt::ForOf(opened) => opened.close(alloc)?.widen(),
-            Stmt::Decl(opened) => opened.close(alloc)?.widen(),
-            Stmt::Expr(opened) => opened.close(alloc)?.widen(),
-        };
-        Ok(tree.into_node())
+        match self {
+            Stmt::Block(opened) => opened.close_within::<class::Stmt>(alloc),
+            Stmt::Empty(opened) => opened.close_within::<class::Stmt>(alloc),
+            Stmt::Debugger(opened) => opened.close_within::<class::Stmt>(alloc),
+            Stmt::With(opened) => opened.close_within::<class::Stmt>(alloc),
+            Stmt::Return(opened) => opened.close_within::<class::Stmt>(alloc),
+            Stmt::Labeled(opened) => opened.close_within::<class::Stmt>(alloc),
+            Stmt::Break(opened) => opened.close_within::<class::Stmt>(alloc),
+            Stmt::Continue(opened) => opened.close_within::<class::Stmt>(alloc),
+            Stmt::If(opened) => opened.close_within::<class::Stmt>(alloc),
+            Stmt::Switch(opened) => opened.close_within::<class::Stmt>(alloc),
+            Stmt::Throw(opened) => opened.close_within::<class::Stmt>(alloc),
+            Stmt::Try(opened) => opened.close_within::<class::Stmt>(alloc),
+            Stmt::While(opened) => opened.close_within::<class::Stmt>(alloc),
+            Stmt::DoWhile(opened) => opened.close_within::<class::Stmt>(alloc),
+            Stmt::For(opened) => opened.close_within::<class::Stmt>(alloc),
+            Stmt::ForIn(opened) => opened.close_within::<class::Stmt>(alloc),
+            Stmt::ForOf(opened) => opened.close_within::<class::Stmt>(alloc),
+            Stmt::Decl(opened) => opened.close_within::<class::Stmt>(alloc),
+            Stmt::Expr(opened) => opened.close_within::<class::Stmt>(alloc),
+        }
     }
 }

@@ -7,16 +7,25 @@ ghost use Rattle.swc_tree_node.specs.Fits.{Fits};
 ghost use Rattle.swc_tree_statements.specs.Nodes.{switch_case_node};
 
 use std::alloc::{AllocError, Global};
-use swc_tree_handle::{Opened, Tree, Trees, class, close_three, open_three};
+use swc_tree_handle::{Opened, Tree, Trees, class, clone_three, close_three, open_three};
 use swc_tree_marks::Span;
 use swc_tree_node::{Kind, Node};
 
 /// A case of a `switch`; the default has no test (ECMA-262, CaseClause and DefaultClause).
-#[derive(Clone, Debug, Drop, PartialEq, Eq)]
+#[derive(Debug, Drop, PartialEq, Eq)]
 pub struct SwitchCase {
     pub span: Span,
     pub test: Option<Tree<class::Expr>>,
     pub cons: Trees<class::Stmt>,
+}
+
+impl Clone for SwitchCase {
+    ghost is_clone = { λ it copy. copy ≡ it };
+
+    fn clone(&self) -> Result<SwitchCase, AllocError> {
+        let (span, test, cons) = clone_three(&self.span, &self.test, &self.cons)?;
+        Ok(SwitchCase { span, test, cons })
+    }
 }
 
 impl Opened<class::SwitchCase> for SwitchCase {

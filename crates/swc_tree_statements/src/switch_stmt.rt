@@ -7,16 +7,29 @@ ghost use Rattle.swc_tree_node.specs.Fits.{Fits};
 ghost use Rattle.swc_tree_statements.specs.Nodes.{switch_stmt_node};
 
 use std::alloc::{AllocError, Global};
-use swc_tree_handle::{Opened, Tree, Trees, class, close_three, open_three};
+use swc_tree_handle::{Opened, Tree, Trees, class, clone_three, close_three, open_three};
 use swc_tree_marks::Span;
 use swc_tree_node::{Kind, Node};
 
 /// A `switch` statement (ECMA-262, SwitchStatement).
-#[derive(Clone, Debug, Drop, PartialEq, Eq)]
+#[derive(Debug, Drop, PartialEq, Eq)]
 pub struct SwitchStmt {
     pub span: Span,
     pub discriminant: Tree<class::Expr>,
     pub cases: Trees<class::SwitchCase>,
+}
+
+impl Clone for SwitchStmt {
+    ghost is_clone = { λ it copy. copy ≡ it };
+
+    fn clone(&self) -> Result<SwitchStmt, AllocError> {
+        let (span, discriminant, cases) = clone_three(&self.span, &self.discriminant, &self.cases)?;
+        Ok(SwitchStmt {
+            span,
+            discriminant,
+            cases,
+        })
+    }
 }
 
 impl Opened<class::SwitchStmt> for SwitchStmt {

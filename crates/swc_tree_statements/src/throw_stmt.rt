@@ -7,15 +7,24 @@ ghost use Rattle.swc_tree_node.specs.Fits.{Fits};
 ghost use Rattle.swc_tree_statements.specs.Nodes.{throw_stmt_node};
 
 use std::alloc::{AllocError, Global};
-use swc_tree_handle::{Opened, Tree, class, close_two, open_two};
+use swc_tree_handle::{Opened, Tree, class, clone_two, close_two, open_two};
 use swc_tree_marks::Span;
 use swc_tree_node::{Kind, Node};
 
 /// A throw statement (ECMA-262, ThrowStatement).
-#[derive(Clone, Debug, Drop, PartialEq, Eq)]
+#[derive(Debug, Drop, PartialEq, Eq)]
 pub struct ThrowStmt {
     pub span: Span,
     pub arg: Tree<class::Expr>,
+}
+
+impl Clone for ThrowStmt {
+    ghost is_clone = { λ it copy. copy ≡ it };
+
+    fn clone(&self) -> Result<ThrowStmt, AllocError> {
+        let (span, arg) = clone_two(&self.span, &self.arg)?;
+        Ok(ThrowStmt { span, arg })
+    }
 }
 
 impl Opened<class::ThrowStmt> for ThrowStmt {

@@ -7,17 +7,36 @@ ghost use Rattle.swc_tree_node.specs.Fits.{Fits};
 ghost use Rattle.swc_tree_statements.specs.Nodes.{try_stmt_node};
 
 use std::alloc::{AllocError, Global};
-use swc_tree_handle::{Opened, Tree, class, close_four, open_four};
+use swc_tree_handle::{Opened, Tree, class, clone_four, close_four, open_four};
 use swc_tree_marks::Span;
 use swc_tree_node::{Kind, Node};
 
 /// A `try` statement (ECMA-262, TryStatement).
-#[derive(Clone, Debug, Drop, PartialEq, Eq)]
+#[derive(Debug, Drop, PartialEq, Eq)]
 pub struct TryStmt {
     pub span: Span,
     pub block: Tree<class::BlockStmt>,
     pub handler: Option<Tree<class::CatchClause>>,
     pub finalizer: Option<Tree<class::BlockStmt>>,
+}
+
+impl Clone for TryStmt {
+    ghost is_clone = { λ it copy. copy ≡ it };
+
+    fn clone(&self) -> Result<TryStmt, AllocError> {
+        let (span, block, handler, finalizer) = clone_four(
+            &self.span,
+            &self.block,
+            &self.handler,
+            &self.finalizer,
+        )?;
+        Ok(TryStmt {
+            span,
+            block,
+            handler,
+            finalizer,
+        })
+    }
 }
 
 impl Opened<class::TryStmt> for TryStmt {

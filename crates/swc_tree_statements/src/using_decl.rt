@@ -7,16 +7,29 @@ ghost use Rattle.swc_tree_node.specs.Fits.{Fits};
 ghost use Rattle.swc_tree_statements.specs.Nodes.{using_decl_node};
 
 use std::alloc::{AllocError, Global};
-use swc_tree_handle::{Opened, Trees, class, close_three, open_three};
+use swc_tree_handle::{Opened, Trees, class, clone_three, close_three, open_three};
 use swc_tree_marks::Span;
 use swc_tree_node::{Kind, Node};
 
 /// Variables that are disposed of at the end of their scope.
-#[derive(Clone, Debug, Drop, PartialEq, Eq)]
+#[derive(Debug, Drop, PartialEq, Eq)]
 pub struct UsingDecl {
     pub span: Span,
     pub is_await: bool,
     pub decls: Trees<class::VarDeclarator>,
+}
+
+impl Clone for UsingDecl {
+    ghost is_clone = { λ it copy. copy ≡ it };
+
+    fn clone(&self) -> Result<UsingDecl, AllocError> {
+        let (span, is_await, decls) = clone_three(&self.span, &self.is_await, &self.decls)?;
+        Ok(UsingDecl {
+            span,
+            is_await,
+            decls,
+        })
+    }
 }
 
 impl Opened<class::UsingDecl> for UsingDecl {

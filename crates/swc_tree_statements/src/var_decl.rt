@@ -8,16 +8,25 @@ ghost use Rattle.swc_tree_statements.specs.Nodes.{var_decl_node};
 
 use crate::var_decl_kind::VarDeclKind;
 use std::alloc::{AllocError, Global};
-use swc_tree_handle::{Opened, Trees, class, close_three, open_three};
+use swc_tree_handle::{Opened, Trees, class, clone_three, close_three, open_three};
 use swc_tree_marks::Span;
 use swc_tree_node::{Kind, Node};
 
 /// Variables that one keyword declares (ECMA-262, VariableStatement and LexicalDeclaration).
-#[derive(Clone, Debug, Drop, PartialEq, Eq)]
+#[derive(Debug, Drop, PartialEq, Eq)]
 pub struct VarDecl {
     pub span: Span,
     pub kind: VarDeclKind,
     pub decls: Trees<class::VarDeclarator>,
+}
+
+impl Clone for VarDecl {
+    ghost is_clone = { λ it copy. copy ≡ it };
+
+    fn clone(&self) -> Result<VarDecl, AllocError> {
+        let (span, kind, decls) = clone_three(&self.span, &self.kind, &self.decls)?;
+        Ok(VarDecl { span, kind, decls })
+    }
 }
 
 impl Opened<class::VarDecl> for VarDecl {

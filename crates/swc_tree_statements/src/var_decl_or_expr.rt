@@ -37,10 +37,9 @@ impl Opened<class::VarDeclOrExpr> for VarDeclOrExpr {
     fn into_node(self, alloc: Global) -> Result<Node, AllocError>
         ensures { IfOk result (λ closed. (closed ≡ of_var_decl_or_expr self) × Fits closed (One (Of class.VarDeclOrExpr))) }
     {
-        let tree: Tree<class::VarDeclOrExpr> = match self {
-            VarDeclOrExpr::VarDecl(opened) => opened.close(alloc)?.widen(),
-            VarDeclOrExpr::Expr(tree) => tree.widen(),
-        };
-        Ok(tree.into_node())
+        match self {
+            VarDeclOrExpr::VarDecl(opened) => opened.close_within::<class::VarDeclOrExpr>(alloc),
+            VarDeclOrExpr::Expr(tree) => Ok(tree.widen::<class::VarDeclOrExpr>().into_node()),
+        }
     }
 }

@@ -7,16 +7,25 @@ ghost use Rattle.swc_tree_node.specs.Fits.{Fits};
 ghost use Rattle.swc_tree_statements.specs.Nodes.{var_declarator_node};
 
 use std::alloc::{AllocError, Global};
-use swc_tree_handle::{Opened, Tree, class, close_three, open_three};
+use swc_tree_handle::{Opened, Tree, class, clone_three, close_three, open_three};
 use swc_tree_marks::Span;
 use swc_tree_node::{Kind, Node};
 
 /// One declared variable or pattern, with its initializer (ECMA-262, VariableDeclaration and LexicalBinding).
-#[derive(Clone, Debug, Drop, PartialEq, Eq)]
+#[derive(Debug, Drop, PartialEq, Eq)]
 pub struct VarDeclarator {
     pub span: Span,
     pub name: Tree<class::Pat>,
     pub init: Option<Tree<class::Expr>>,
+}
+
+impl Clone for VarDeclarator {
+    ghost is_clone = { λ it copy. copy ≡ it };
+
+    fn clone(&self) -> Result<VarDeclarator, AllocError> {
+        let (span, name, init) = clone_three(&self.span, &self.name, &self.init)?;
+        Ok(VarDeclarator { span, name, init })
+    }
 }
 
 impl Opened<class::VarDeclarator> for VarDeclarator {

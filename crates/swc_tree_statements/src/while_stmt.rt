@@ -7,16 +7,25 @@ ghost use Rattle.swc_tree_node.specs.Fits.{Fits};
 ghost use Rattle.swc_tree_statements.specs.Nodes.{while_stmt_node};
 
 use std::alloc::{AllocError, Global};
-use swc_tree_handle::{Opened, Tree, class, close_three, open_three};
+use swc_tree_handle::{Opened, Tree, class, clone_three, close_three, open_three};
 use swc_tree_marks::Span;
 use swc_tree_node::{Kind, Node};
 
 /// A `while` statement (ECMA-262, WhileStatement).
-#[derive(Clone, Debug, Drop, PartialEq, Eq)]
+#[derive(Debug, Drop, PartialEq, Eq)]
 pub struct WhileStmt {
     pub span: Span,
     pub test: Tree<class::Expr>,
     pub body: Tree<class::Stmt>,
+}
+
+impl Clone for WhileStmt {
+    ghost is_clone = { λ it copy. copy ≡ it };
+
+    fn clone(&self) -> Result<WhileStmt, AllocError> {
+        let (span, test, body) = clone_three(&self.span, &self.test, &self.body)?;
+        Ok(WhileStmt { span, test, body })
+    }
 }
 
 impl Opened<class::WhileStmt> for WhileStmt {

@@ -7,16 +7,25 @@ ghost use Rattle.swc_tree_node.specs.Fits.{Fits};
 ghost use Rattle.swc_tree_statements.specs.Nodes.{with_stmt_node};
 
 use std::alloc::{AllocError, Global};
-use swc_tree_handle::{Opened, Tree, class, close_three, open_three};
+use swc_tree_handle::{Opened, Tree, class, clone_three, close_three, open_three};
 use swc_tree_marks::Span;
 use swc_tree_node::{Kind, Node};
 
 /// A `with` statement (ECMA-262, WithStatement).
-#[derive(Clone, Debug, Drop, PartialEq, Eq)]
+#[derive(Debug, Drop, PartialEq, Eq)]
 pub struct WithStmt {
     pub span: Span,
     pub obj: Tree<class::Expr>,
     pub body: Tree<class::Stmt>,
+}
+
+impl Clone for WithStmt {
+    ghost is_clone = { λ it copy. copy ≡ it };
+
+    fn clone(&self) -> Result<WithStmt, AllocError> {
+        let (span, obj, body) = clone_three(&self.span, &self.obj, &self.body)?;
+        Ok(WithStmt { span, obj, body })
+    }
 }
 
 impl Opened<class::WithStmt> for WithStmt {
