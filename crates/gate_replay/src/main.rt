@@ -13,7 +13,6 @@ mod programs;
 mod refuse;
 mod rows;
 mod texts;
-mod trees;
 mod units;
 
 use anyhow::Result;
