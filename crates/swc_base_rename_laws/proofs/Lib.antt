@@ -1,1 +1,3 @@
 pub mod Unchanged
+pub mod OuterTexts
+pub mod OuterTextsForms
