@@ -1,3 +1,4 @@
 pub mod Unchanged
 pub mod OuterTexts
 pub mod OuterTextsForms
+pub mod OuterTextsNames

@@ -165,6 +165,17 @@ either_tree false t u h g = g
 pub is_tree : (m : Changes) (keeps : Bool) (p : Place) (k : Kind) (ts us : List Node) → IsSomeTree (tree_for m keeps p k ts us)
 is_tree m keeps p k ts us = either_tree (keeps_name keeps p k) _ _ (class_tree _ us) (written_if_tree k _ us)
 
+-- ---- what names become
+
+abbrev pub named : Node → Option Ident
+named t = identifier_in (out-Node t)
+
+-- places at which an unchanged identifier is left as it is, and a changed one stays an identifier
+abbrev pub is_plain : Place → Bool
+is_plain place.ClassName = false
+is_plain place.Shorthand = false
+is_plain p = true
+
 module _ (m : Changes) (keeps : Bool) where
   abbrev StaysThere : Node → Type 0
   StaysThere t = (p : Place) → is_there (Some (substituted m keeps p t)) ≡ is_there (Some t)
@@ -202,15 +213,6 @@ module _ (m : Changes) (keeps : Bool) where
   there_at ps (t ∷ ts) (suc i) = there_at (λ i. ps (suc i)) ts i
 
   -- ---- names that do not change
-
-  abbrev pub named : Node → Option Ident
-  named t = identifier_in (out-Node t)
-
-  -- places at which an unchanged identifier is left as it is, and a changed one stays an identifier
-  abbrev pub is_plain : Place → Bool
-  is_plain place.ClassName = false
-  is_plain place.Shorthand = false
-  is_plain p = true
 
   abbrev KeepsName : Node → Type 0
   KeepsName t = (p : Place) → is_plain p ≡ true → if_changed m p (named t) ≡ None → named (substituted m keeps p t) ≡ named t
