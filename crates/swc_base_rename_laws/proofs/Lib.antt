@@ -2,3 +2,4 @@ pub mod Unchanged
 pub mod OuterTexts
 pub mod OuterTextsForms
 pub mod OuterTextsNames
+pub mod OuterTextsWritten
