@@ -3,3 +3,4 @@ pub mod OuterTexts
 pub mod OuterTextsForms
 pub mod OuterTextsNames
 pub mod OuterTextsWritten
+pub mod OuterTextsStay
