@@ -150,6 +150,11 @@ written_if_tree : (k : Kind) (i : Option Ident) (ts : List Node) → IsSomeTree 
 written_if_tree k None ts = (_, _, refl)
 written_if_tree k (Some i) ts = written_tree k i ts
 
+-- kinds that write nothing out
+pub same_kind : (k : Kind) (i : Option Ident) (ts : List Node) → ((i : Ident) → written_out_if k (Some i) ts ≡ Tree k ts) → written_out_if k i ts ≡ Tree k ts
+same_kind k None ts h = refl
+same_kind k (Some i) ts h = h i
+
 let_tree : (j : Option Ident) (s : Option Span') (i : Ident) (name class : Node) → IsSomeTree (let_if j s i name class)
 let_tree (Some j) (Some s) i name class = (_, _, refl)
 let_tree j s i name class = (_, _, refl)

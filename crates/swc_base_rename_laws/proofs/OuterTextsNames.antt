@@ -34,7 +34,7 @@ use Rattle.swc_base_rename_substitution.specs.Substituted.{each_at, if_changed, 
 use Rattle.swc_base_rename_substitution.specs.Walk.{each_substituted, is_exported_declaration, items_substituted}
 use Rattle.swc_base_rename_substitution.proofs.Equations.{substituted-Absent, substituted-Flag, substituted-Word, substituted-Text, substituted-Span, substituted_identifier, substituted_list, substituted_tree}
 use Rattle.swc_base_rename_substitution.proofs.Room.{identifier_open, left, right, tree_open}
-use Rattle.swc_base_rename_laws.proofs.OuterTextsForms.{identifier_here, is_plain, item_slot, items_open, never, not_exported, one_item, same_identifier, takes_none, tree_here}
+use Rattle.swc_base_rename_laws.proofs.OuterTextsForms.{identifier_here, is_plain, item_slot, items_open, never, not_exported, one_item, same_identifier, same_kind, takes_none, tree_here}
 
 -- ---- lists of ids
 
@@ -251,13 +251,6 @@ module _ (m : Changes) (keeps : Bool) where
       (ap (list_any (λ x. is_some (m x))) (sym (bound-Tree k ts)) ∙ u)
       ∙ sym (bound-Tree k ts)
 
-  written_none : (k : Kind) (o : Option Ident) (us : List Node) → o ≡ None → written_out_if k o us ≡ Tree k us
-  written_none k o us e = ap (λ o. written_out_if k o us) e
-
-  same_kind : (k : Kind) (o : Option Ident) (us : List Node) → ((i : Ident) → written_out_if k (Some i) us ≡ Tree k us) → written_out_if k o us ≡ Tree k us
-  same_kind k None us h = refl
-  same_kind k (Some i) us h = h i
-
   -- the name in a shorthand of a pattern is bound
   short_same : (p : Place) (ts : List Node) → FieldsFit (slots_of kind.AssignPatProp) ts → Unchanged (bound_ids (Tree kind.AssignPatProp ts)) → (us : List Node) → tree_for m keeps p kind.AssignPatProp ts us ≡ Tree kind.AssignPatProp us
   short_same p (a ∷ t ∷ value ∷ []) h u us =
@@ -265,7 +258,7 @@ module _ (m : Changes) (keeps : Bool) where
       let bound : bound_ids t ≡ id_of i ∷ [] = ap bound_ids e ∙ bound-Identifier kind.BindingIdent i in
       let bare : Unchanged (bound_ids t ++ []) = ap (list_any (λ x. is_some (m x))) (sym (bound-Tree kind.AssignPatProp (a ∷ t ∷ value ∷ []))) ∙ u in
       let some : Unchanged (id_of i ∷ []) = ap (list_any (λ x. is_some (m x))) (sym bound) ∙ any_left _ (bound_ids t) [] bare in
-      written_none kind.AssignPatProp _ us
+      ap (λ i. written_out_if kind.AssignPatProp i us)
       (ap (if_changed m (places keeps p kind.AssignPatProp (a ∷ t ∷ value ∷ []) 1)) (ap (λ t. identifier_in (out-Node t)) e ∙ ap identifier_in (outs-Identifier kind.BindingIdent i)) ∙ unchanged_if _ i some)
   short_same p [] h u us = absurd h
   short_same p (a ∷ []) h u us = absurd h.1

@@ -31,11 +31,12 @@ use Rattle.swc_base_rename_substitution.specs.Substituted.{each_at, if_changed, 
 use Rattle.swc_base_rename_substitution.specs.Walk.{each_substituted, is_exported_declaration, is_exported_in, items_substituted}
 use Rattle.swc_base_rename_substitution.proofs.Equations.{substituted-Absent, substituted-Flag, substituted-Word, substituted-Text, substituted-Span, substituted_identifier, substituted_list, substituted_tree}
 use Rattle.swc_base_rename_substitution.proofs.Room.{is_short, left, right, tree_open}
+use Rattle.swc_base_rename_laws.specs.Laws.{OuterTextsStay}
 use Rattle.swc_base_rename_laws.specs.Texts.{is_object, key_text, other_texts, outer_texts, text_of}
 use Rattle.swc_base_rename_laws.proofs.OuterTexts.{all_append, all_texts, outer_role, texts, texts-Span, texts_identifier, texts_list, texts_tree}
-use Rattle.swc_base_rename_laws.proofs.OuterTextsForms.{is_plain, item_slot, items_open, keeps_name_of, named, not_exported, one_item, span_here, stays_there, takes_none, there_at}
+use Rattle.swc_base_rename_laws.proofs.OuterTextsForms.{is_plain, item_slot, items_open, keeps_name_of, named, not_exported, one_item, same_kind, span_here, stays_there, takes_none, there_at}
 use Rattle.swc_base_rename_laws.proofs.OuterTextsNames.{declaration_here, exported_stay, role_plain, same_declaration}
-use Rattle.swc_base_rename_laws.proofs.OuterTextsWritten.{default_texts, export_texts, exports_texts, import_texts, kept_class_texts, kept_other, key_texts, name_quiet, other_side, quiet, shorthand_texts}
+use Rattle.swc_base_rename_laws.proofs.OuterTextsWritten.{default_texts, either, export_texts, exports_texts, import_texts, kept_class_texts, kept_other, key_texts, name_quiet, other_side, quiet, shorthand_texts}
 
 -- ---- places
 
@@ -125,10 +126,6 @@ import_written (Some i) a l t = refl
 export_written : (c : Option Ident) (a l t : Node) → written_out_if kind.ExportNamedSpecifier c (a ∷ l ∷ t ∷ []) ≡ Tree kind.ExportNamedSpecifier (a ∷ l ∷ other_for c t ∷ [])
 export_written None a l t = refl
 export_written (Some i) a l t = refl
-
-same_kind : (k : Kind) (o : Option Ident) (us : List Node) → ((i : Ident) → written_out_if k (Some i) us ≡ Tree k us) → written_out_if k o us ≡ Tree k us
-same_kind k None us h = refl
-same_kind k (Some i) us h = h i
 
 module _ (m : Changes) (keeps : Bool) where
   -- what stands for a node, as an item of a list, has its texts
@@ -301,15 +298,11 @@ module _ (m : Changes) (keeps : Bool) where
 
   -- ---- classes
 
-  either : (b : Bool) (o short : Bool) (t u : Node) (x : List (List ℕ)) → texts o short t ≡ x → texts o short u ≡ x → texts o short (if b then t else u) ≡ x
-  either true o short t u x h g = h
-  either false o short t u x h g = g
-
   class_kept : (p : Place) (o short : Bool) (ts : List Node) → Agrees p o short → FieldsFit (slots_of kind.ClassDecl) ts → Each Keeps ts
       → texts o short (tree_for m keeps p kind.ClassDecl ts (now p kind.ClassDecl ts)) ≡ texts o short (Tree kind.ClassDecl ts)
   class_kept p o short ts h f below =
       let same = same_texts p o short kind.ClassDecl ts h f below refl refl in
-      either (keeps_name keeps p kind.ClassDecl) o short (kept_class (identifier_at ts 0) (now p kind.ClassDecl ts)) (written_out_if kind.ClassDecl (if_changed m (places keeps p kind.ClassDecl ts 1) (identifier_at ts 1)) (now p kind.ClassDecl ts)) _
+      either o short (keeps_name keeps p kind.ClassDecl) (kept_class (identifier_at ts 0) (now p kind.ClassDecl ts)) (written_out_if kind.ClassDecl (if_changed m (places keeps p kind.ClassDecl ts 1) (identifier_at ts 1)) (now p kind.ClassDecl ts)) _
       (kept_class_texts o short (identifier_at ts 0) (now p kind.ClassDecl ts) ∙ same) (ap (texts o short) (same_kind kind.ClassDecl _ (now p kind.ClassDecl ts) (λ i. refl)) ∙ same)
 
   -- ---- exported declarations
@@ -413,6 +406,9 @@ module _ (m : Changes) (keeps : Bool) where
       list_kept
       (λ k ts below p o short s h f. tree_kept k ts below (tree_open k ts s f).4 p o short h)
 
-  -- ... of a whole program
-  pub program_kept : (t : Node) (s : Slot) → takes_none (single s) ≡ true → Fits t s → outer_texts (substituted m keeps place.Other t) ≡ outer_texts t
+  program_kept : (t : Node) (s : Slot) → takes_none (single s) ≡ true → Fits t s → outer_texts (substituted m keeps place.Other t) ≡ outer_texts t
   program_kept t s none f = single_kept t place.Other false false s (texts_kept t) none (λ h. absurd (cc)) f
+
+pub outer_texts_stay : OuterTextsStay
+outer_texts_stay m keeps t answer (inl f) s = ap outer_texts s ∙ program_kept m keeps t (slot.One (content.Node class.Module)) refl f
+outer_texts_stay m keeps t answer (inr f) s = ap outer_texts s ∙ program_kept m keeps t (slot.One (content.Node class.Script)) refl f

@@ -42,7 +42,7 @@ computed_texts o short i =
     ∙ ap (λ l. (l ++ (texts false false string ++ [])) ++ []) (texts-Span false false i.span)
     ∙ ap (λ l. (l ++ []) ++ []) (string_texts false false i.span i.sym)
 
-either : (o short b : Bool) (t u : Node) (x : List (List ℕ)) → texts o short t ≡ x → texts o short u ≡ x → texts o short (if b then t else u) ≡ x
+pub either : (o short b : Bool) (t u : Node) (x : List (List ℕ)) → texts o short t ≡ x → texts o short u ≡ x → texts o short (if b then t else u) ≡ x
 either o short true t u x h g = h
 either o short false t u x h g = g
 
