@@ -1,5 +1,5 @@
 -- The texts of a program at each form of a node: of a place only whether it is that of an outer name makes a difference.
-use Rattle.std.proofs.Common.{◌≡◌, ℕ, zero, suc, Bool, true, false, ◌||◌, Option, Some, None, List, [], ◌∷◌, ◌++◌, append_assoc, append-nil, refl, sym, ap, ◌∙◌, cond}
+use Rattle.std.proofs.Common.{◌≡◌, ℕ, zero, suc, Bool, true, false, ◌||◌, Option, Some, List, [], ◌∷◌, ◌++◌, append_assoc, refl, sym, ap, ◌∙◌, cond}
 use Rattle.std.specs.Prelude.{if◌then◌else◌}
 use Rattle.std.specs.List.{flat_map, slice_get}
 use Rattle.swc_tree_marks.specs.declared.span.Span.{Span as Span'}
@@ -16,7 +16,7 @@ use Rattle.swc_tree_node.specs.declared.node.Node.TheVariants.{outs-Absent, outs
 use Rattle.swc_tree_scoping.specs.declared.places.Standing.{Standing}
 use Rattle.swc_tree_scoping.specs.declared.places.Standing.TheVariants as standing
 use Rattle.swc_tree_scoping.specs.declared.places.Place.{Place}
-use Rattle.swc_tree_scoping.specs.Places.{by_keyword, child, children_in, default_name, expression_name, field_role, function_standing, keyword_in, own_name, part_standing, place_in, place_below, plain_standing, standing_below, is_identifier_expression}
+use Rattle.swc_tree_scoping.specs.Places.{by_keyword, children_in, default_name, expression_name, field_role, function_standing, keyword_in, own_name, part_standing, place_in, plain_standing, standing_below, is_identifier_expression}
 use Rattle.swc_tree_scoping.specs.Folds.{each_in, fold_in_place}
 use Rattle.swc_tree_scoping.proofs.Under.{by_children, fold_in_place_out}
 use Rattle.swc_base_rename_substitution.specs.Places.{has_source}

@@ -1,5 +1,5 @@
 -- Which forms what fits a place may have, and that nodes keep theirs when names are given anew.
-use Rattle.std.proofs.Common.{◌≡◌, ℕ, zero, suc, Bool, true, false, not, ◌&&◌, IsTrue, Option, Some, None, List, [], ◌∷◌, ◌++◌, map, refl, sym, ap, ◌∙◌}
+use Rattle.std.proofs.Common.{◌≡◌, ℕ, zero, suc, Bool, true, false, not, IsTrue, Option, Some, None, List, [], ◌∷◌, map, refl, sym, ap, ◌∙◌}
 use Rattle.std.specs.Prelude.{if◌then◌else◌, is_some}
 use Rattle.std.specs.List.{slice_get}
 use Rattle.swc_tree_marks.specs.declared.span.Span.{Span as Span'}
@@ -7,7 +7,6 @@ use Rattle.swc_tree_marks.specs.declared.ident.Ident.{Ident}
 use Rattle.swc_tree_node.specs.declared.kind.Kind.{Kind}
 use Rattle.swc_tree_node.specs.declared.kind.Kind.TheVariants as kind
 use Rattle.swc_tree_node.specs.declared.kind.Class.{Class}
-use Rattle.swc_tree_node.specs.declared.kind.Class.TheVariants as class
 use Rattle.swc_tree_node.specs.declared.slot.Content.{Content}
 use Rattle.swc_tree_node.specs.declared.slot.Content.TheVariants as content
 use Rattle.swc_tree_node.specs.declared.slot.Slot.{Slot}
@@ -22,10 +21,9 @@ use Rattle.swc_tree_scoping.specs.Places.{is_there, absent_in}
 use Rattle.swc_tree_grammar.proofs.Induction.{by_children}
 use Rattle.swc_base_rename_substitution.specs.declared.place.Place.{Place}
 use Rattle.swc_base_rename_substitution.specs.declared.place.Place.TheVariants as place
-use Rattle.swc_base_rename_substitution.specs.Identifiers.{Changes, changed, identifier_at, identifier_in, identifier_to, written_out, written_out_if}
-use Rattle.swc_base_rename_substitution.specs.Classes.{class_span, kept_class, let_if, let_of_class}
+use Rattle.swc_base_rename_substitution.specs.Identifiers.{Changes, changed, identifier_in, identifier_to, written_out, written_out_if}
+use Rattle.swc_base_rename_substitution.specs.Classes.{kept_class, let_if}
 use Rattle.swc_base_rename_substitution.specs.Exports.{exported_in, exported_ids, exports_of, items_for, with_exports}
-use Rattle.swc_base_rename_substitution.specs.Places.{places}
 use Rattle.swc_base_rename_substitution.specs.Substituted.{if_changed, keeps_name, substituted, tree_for}
 use Rattle.swc_base_rename_substitution.specs.Walk.{each_substituted, is_exported_in, is_exported_declaration}
 use Rattle.swc_base_rename_substitution.proofs.Equations.{substituted-Absent, substituted-Flag, substituted-Word, substituted-Text, substituted-Span, substituted_identifier, substituted_list, substituted_tree}
@@ -67,9 +65,14 @@ abbrev IsSpan : Node → Type 0
 IsSpan t = Fits t (slot.One content.Span) → (x : Span') × (t ≡ Span x)
 
 pub span_here : (t : Node) → IsSpan t
-span_here = by_children IsSpan
-    (λ h. never _ _ (fits-Absent _) refl h, λ x h. never _ _ (fits-Flag x _) refl h, λ w h. never _ _ (fits-Word w _) refl h, λ x h. never _ _ (fits-Text x _) refl h, λ x h. (x, refl),
-    λ k i h. never _ _ (fits-Identifier k i _) refl h)
+span_here = by_children IsSpan (
+  λ h. never _ _ (fits-Absent _) refl h,
+  λ x h. never _ _ (fits-Flag x _) refl h,
+  λ w h. never _ _ (fits-Word w _) refl h,
+  λ x h. never _ _ (fits-Text x _) refl h,
+  λ x h. (x, refl),
+  λ k i h. never _ _ (fits-Identifier k i _) refl h,
+)
     (λ ts below h. never _ _ (fits-List ts _) refl h)
     (λ k ts below h. never _ _ (fits-Tree k ts _) refl h)
 
@@ -78,31 +81,41 @@ IsIdentifier c t = Fits t (slot.One (content.Node c)) → (k : Kind) × (i : Ide
 
 -- what stands where only identifiers may
 pub identifier_here : (c : Class) → ((k : Kind) → IsTrue (belongs k c) → IsTrue (is_identifier k)) → (t : Node) → IsIdentifier c t
-identifier_here c only = by_children (IsIdentifier c)
-    (λ h. never _ _ (fits-Absent _) refl h, λ x h. never _ _ (fits-Flag x _) refl h, λ w h. never _ _ (fits-Word w _) refl h, λ x h. never _ _ (fits-Text x _) refl h, λ x h. never _ _ (fits-Span x _) refl h,
-    λ k i h. let o = identifier_open k i (slot.One (content.Node c)) h in let same : o.0 ≡ c = let q = o.1 in cc in (k, i, refl, ap (belongs k) (sym same) ∙ o.3))
+identifier_here c only = by_children (IsIdentifier c) (
+  λ h. never _ _ (fits-Absent _) refl h,
+  λ x h. never _ _ (fits-Flag x _) refl h,
+  λ w h. never _ _ (fits-Word w _) refl h,
+  λ x h. never _ _ (fits-Text x _) refl h,
+  λ x h. never _ _ (fits-Span x _) refl h,
+  λ k i h. let o = identifier_open k i (slot.One (content.Node c)) h in let same : o.0 ≡ c = let q = o.1 in cc in (k, i, refl, ap (belongs k) (sym same) ∙ o.3),
+)
     (λ ts below h. never _ _ (fits-List ts _) refl h)
     (λ k ts below h.
-        let o = tree_open k ts (slot.One (content.Node c)) h in
-        let same : o.0 ≡ c = let q = o.1 in cc in
-        never _ _ refl (ap not (only k (ap (belongs k) (sym same) ∙ o.3))) o.2)
+    let o = tree_open k ts (slot.One (content.Node c)) h in
+    let same : o.0 ≡ c = let q = o.1 in cc in
+    never _ _ refl (ap not (only k (ap (belongs k) (sym same) ∙ o.3))) o.2)
 
 abbrev IsTree : Class → Node → Type 0
 IsTree c t = Fits t (slot.One (content.Node c)) → (k : Kind) × (ts : List Node) × (t ≡ Tree k ts) × IsTrue (belongs k c) × FieldsFit (slots_of k) ts
 
 -- what stands where no identifiers may
 pub tree_here : (c : Class) → ((k : Kind) → IsTrue (belongs k c) → is_identifier k ≡ false) → (t : Node) → IsTree c t
-tree_here c none = by_children (IsTree c)
-    (λ h. never _ _ (fits-Absent _) refl h, λ x h. never _ _ (fits-Flag x _) refl h, λ w h. never _ _ (fits-Word w _) refl h, λ x h. never _ _ (fits-Text x _) refl h, λ x h. never _ _ (fits-Span x _) refl h,
-    λ k i h.
-        let o = identifier_open k i (slot.One (content.Node c)) h in
-        let same : o.0 ≡ c = let q = o.1 in cc in
-        never _ _ refl (none k (ap (belongs k) (sym same) ∙ o.3)) o.2)
+tree_here c none = by_children (IsTree c) (
+  λ h. never _ _ (fits-Absent _) refl h,
+  λ x h. never _ _ (fits-Flag x _) refl h,
+  λ w h. never _ _ (fits-Word w _) refl h,
+  λ x h. never _ _ (fits-Text x _) refl h,
+  λ x h. never _ _ (fits-Span x _) refl h,
+  λ k i h.
+      let o = identifier_open k i (slot.One (content.Node c)) h in
+      let same : o.0 ≡ c = let q = o.1 in cc in
+      never _ _ refl (none k (ap (belongs k) (sym same) ∙ o.3)) o.2,
+)
     (λ ts below h. never _ _ (fits-List ts _) refl h)
     (λ k ts below h.
-        let o = tree_open k ts (slot.One (content.Node c)) h in
-        let same : o.0 ≡ c = let q = o.1 in cc in
-        (k, ts, refl, ap (belongs k) (sym same) ∙ o.3, o.4))
+    let o = tree_open k ts (slot.One (content.Node c)) h in
+    let same : o.0 ≡ c = let q = o.1 in cc in
+    (k, ts, refl, ap (belongs k) (sym same) ∙ o.3, o.4))
 
 -- an exported declaration stands only where one may
 abbrev IsNone : Slot → Node → Type 0
@@ -117,9 +130,14 @@ exported_tree kind.ExportDecl ts c b h = never _ _ refl (ap not b) h
 exported_tree k ts c b h = ap is_exported_in (outs-Tree k ts)
 
 pub not_exported : (s : Slot) → takes_none (single s) ≡ true → (t : Node) → IsNone s t
-not_exported s none = by_children (IsNone s)
-    (λ h. ap is_exported_in outs-Absent, λ x h. ap is_exported_in (outs-Flag x), λ w h. ap is_exported_in (outs-Word w), λ x h. ap is_exported_in (outs-Text x), λ x h. ap is_exported_in (outs-Span x),
-    λ k i h. ap is_exported_in (outs-Identifier k i))
+not_exported s none = by_children (IsNone s) (
+  λ h. ap is_exported_in outs-Absent,
+  λ x h. ap is_exported_in (outs-Flag x),
+  λ w h. ap is_exported_in (outs-Word w),
+  λ x h. ap is_exported_in (outs-Text x),
+  λ x h. ap is_exported_in (outs-Span x),
+  λ k i h. ap is_exported_in (outs-Identifier k i),
+)
     (λ ts below h. ap is_exported_in (outs-List ts))
     (λ k ts below h. let o = tree_open k ts s h in exported_tree k ts o.0 o.3 (ap takes_none (sym o.1) ∙ none))
 
@@ -204,10 +222,14 @@ module _ (m : Changes) (keeps : Bool) where
 
   -- what is left out stays so, and nothing else does
   pub stays_there : (t : Node) → StaysThere t
-  stays_there = by_children StaysThere
-      (same_there Absent (substituted-Absent m keeps), λ x. same_there (Flag x) (λ p. substituted-Flag m keeps p x), λ w. same_there (Word w) (λ p. substituted-Word m keeps p w),
-      λ x. same_there (Text x) (λ p. substituted-Text m keeps p x), λ x. same_there (Span x) (λ p. substituted-Span m keeps p x),
-      λ k i p. ap (λ t. is_there (Some t)) (substituted_identifier m keeps p k i) ∙ identifier_there p k i _ ∙ sym (ap (λ y. not (absent_in y)) (outs-Identifier k i)))
+  stays_there = by_children StaysThere (
+    same_there Absent (substituted-Absent m keeps),
+    λ x. same_there (Flag x) (λ p. substituted-Flag m keeps p x),
+    λ w. same_there (Word w) (λ p. substituted-Word m keeps p w),
+    λ x. same_there (Text x) (λ p. substituted-Text m keeps p x),
+    λ x. same_there (Span x) (λ p. substituted-Span m keeps p x),
+    λ k i p. ap (λ t. is_there (Some t)) (substituted_identifier m keeps p k i) ∙ identifier_there p k i _ ∙ sym (ap (λ y. not (absent_in y)) (outs-Identifier k i)),
+  )
       (λ ts below p. ap (λ t. is_there (Some t)) (substituted_list m keeps p ts) ∙ ap (λ y. not (absent_in y)) (outs-List _) ∙ sym (ap (λ y. not (absent_in y)) (outs-List ts)))
       (λ k ts below p. ap (λ t. is_there (Some t)) (substituted_tree m keeps p k ts) ∙ tree_there _ (is_tree m keeps p k ts _) ∙ sym (ap (λ y. not (absent_in y)) (outs-Tree k ts)))
 
@@ -240,9 +262,13 @@ module _ (m : Changes) (keeps : Bool) where
   tree_name t (k, ts, e) = ap named e ∙ ap identifier_in (outs-Tree k ts)
 
   pub keeps_name_of : (t : Node) → KeepsName t
-  keeps_name_of = by_children KeepsName
-      (same_name Absent (substituted-Absent m keeps), λ x. same_name (Flag x) (λ p. substituted-Flag m keeps p x), λ w. same_name (Word w) (λ p. substituted-Word m keeps p w),
-      λ x. same_name (Text x) (λ p. substituted-Text m keeps p x), λ x. same_name (Span x) (λ p. substituted-Span m keeps p x),
-      λ k i p h g. ap named (same_identifier p k i h (ap (if_changed m p) (sym (ap identifier_in (outs-Identifier k i))) ∙ g)))
+  keeps_name_of = by_children KeepsName (
+    same_name Absent (substituted-Absent m keeps),
+    λ x. same_name (Flag x) (λ p. substituted-Flag m keeps p x),
+    λ w. same_name (Word w) (λ p. substituted-Word m keeps p w),
+    λ x. same_name (Text x) (λ p. substituted-Text m keeps p x),
+    λ x. same_name (Span x) (λ p. substituted-Span m keeps p x),
+    λ k i p h g. ap named (same_identifier p k i h (ap (if_changed m p) (sym (ap identifier_in (outs-Identifier k i))) ∙ g)),
+  )
       (λ ts below p h g. ap named (substituted_list m keeps p ts) ∙ ap identifier_in (outs-List _) ∙ sym (ap identifier_in (outs-List ts)))
       (λ k ts below p h g. ap named (substituted_tree m keeps p k ts) ∙ tree_name _ (is_tree m keeps p k ts _) ∙ sym (ap identifier_in (outs-Tree k ts)))

@@ -28,12 +28,12 @@ use Rattle.swc_base_rename_substitution.specs.declared.place.Place.TheVariants a
 use Rattle.swc_base_rename_substitution.specs.Names.{Id, same_id}
 use Rattle.swc_base_rename_substitution.specs.Identifiers.{Changes, changed, id_of, identifier_at, identifier_in, identifier_to, with_id, written_out_if}
 use Rattle.swc_base_rename_substitution.specs.Classes.{kept_class}
-use Rattle.swc_base_rename_substitution.specs.Exports.{distinct, items_for, without}
+use Rattle.swc_base_rename_substitution.specs.Exports.{distinct, without}
 use Rattle.swc_base_rename_substitution.specs.Places.{by_role, has_source, in_kind, places, within}
-use Rattle.swc_base_rename_substitution.specs.Substituted.{each_at, if_changed, keeps_name, renewed, substituted, tree_for}
-use Rattle.swc_base_rename_substitution.specs.Walk.{each_substituted, is_exported_declaration, items_substituted}
+use Rattle.swc_base_rename_substitution.specs.Substituted.{if_changed, substituted, tree_for}
+use Rattle.swc_base_rename_substitution.specs.Walk.{each_substituted, items_substituted}
 use Rattle.swc_base_rename_substitution.proofs.Equations.{substituted-Absent, substituted-Flag, substituted-Word, substituted-Text, substituted-Span, substituted_identifier, substituted_list, substituted_tree}
-use Rattle.swc_base_rename_substitution.proofs.Room.{identifier_open, left, right, tree_open}
+use Rattle.swc_base_rename_substitution.proofs.Room.{left, right, tree_open}
 use Rattle.swc_base_rename_laws.proofs.OuterTextsForms.{identifier_here, is_plain, item_slot, items_open, never, not_exported, one_item, same_identifier, same_kind, takes_none, tree_here}
 
 -- ---- lists of ids
@@ -296,9 +296,14 @@ module _ (m : Changes) (keeps : Bool) where
   tree_stays k ts below p s n r h u = let o = tree_open k ts s h in tree_by_kind k ts p o.0 below (room_single s (content.Node o.0) r o.1) o.3 o.4 u
 
   bound_stay : (t : Node) → Stays t
-  bound_stay = by_children Stays
-      (same Absent (substituted-Absent m keeps), λ x. same (Flag x) (λ p. substituted-Flag m keeps p x), λ w. same (Word w) (λ p. substituted-Word m keeps p w),
-      λ x. same (Text x) (λ p. substituted-Text m keeps p x), λ x. same (Span x) (λ p. substituted-Span m keeps p x), identifier_stays)
+  bound_stay = by_children Stays (
+    same Absent (substituted-Absent m keeps),
+    λ x. same (Flag x) (λ p. substituted-Flag m keeps p x),
+    λ w. same (Word w) (λ p. substituted-Word m keeps p w),
+    λ x. same (Text x) (λ p. substituted-Text m keeps p x),
+    λ x. same (Span x) (λ p. substituted-Span m keeps p x),
+    identifier_stays,
+  )
       list_stays tree_stays
 
   every_stays : (ts : List Node) → Each Stays ts

@@ -1,7 +1,7 @@
 -- Giving names anew keeps the texts that names give way to.
-use Rattle.std.proofs.Common.{◌≡◌, ◌⊎◌, ℕ, zero, suc, Bool, true, false, not, ◌&&◌, IsTrue, Option, Some, None, List, [], ◌∷◌, ◌++◌, map, append_assoc, append-nil, refl, sym, ap, ◌∙◌, inl, inr}
-use Rattle.std.specs.Prelude.{if◌then◌else◌, is_some, option_map}
-use Rattle.std.specs.List.{list_all, list_any, slice_get}
+use Rattle.std.proofs.Common.{◌≡◌, ℕ, zero, suc, Bool, true, false, IsTrue, Option, Some, None, List, [], ◌∷◌, ◌++◌, map, append_assoc, append-nil, refl, sym, ap, ◌∙◌, inl, inr}
+use Rattle.std.specs.Prelude.{if◌then◌else◌, is_some}
+use Rattle.std.specs.List.{list_all, list_any}
 use Rattle.swc_tree_marks.specs.declared.ident.Ident.{Ident}
 use Rattle.swc_tree_node.specs.declared.kind.Kind.{Kind}
 use Rattle.swc_tree_node.specs.declared.kind.Kind.TheVariants as kind
@@ -12,7 +12,7 @@ use Rattle.swc_tree_node.specs.declared.slot.Role.TheVariants as role
 use Rattle.swc_tree_node.specs.declared.slot.Slot.{Slot}
 use Rattle.swc_tree_node.specs.declared.slot.Slot.TheVariants as slot
 use Rattle.swc_tree_node.specs.declared.fields.modules.named_export.TheConstants as named_export
-use Rattle.swc_tree_node.specs.declared.node.Node.{Node, Absent, Flag, Word, Text, Span, List as Many, Identifier, Tree, out-Node}
+use Rattle.swc_tree_node.specs.declared.node.Node.{Node, Absent, Flag, Word, Text, Span, List as Many, Identifier, Tree}
 use Rattle.swc_tree_node.specs.declared.node.Node.TheVariants.{outs-Absent, outs-Flag, outs-Word, outs-Text, outs-Span, outs-List, outs-Identifier, outs-Tree}
 use Rattle.swc_tree_node.specs.Table.{slots_of}
 use Rattle.swc_tree_node.specs.Fits.{Fits, FieldsFit, AllFit, belongs, single}
@@ -23,11 +23,11 @@ use Rattle.swc_tree_grammar.proofs.Induction.{Each, by_children}
 use Rattle.swc_base_rename_substitution.specs.declared.place.Place.{Place}
 use Rattle.swc_base_rename_substitution.specs.declared.place.Place.TheVariants as place
 use Rattle.swc_base_rename_substitution.specs.Names.{Id}
-use Rattle.swc_base_rename_substitution.specs.Identifiers.{Changes, changed, identifier_at, identifier_in, identifier_to, kept_name, or_kept, with_default, with_id, written_out_if, id_of}
+use Rattle.swc_base_rename_substitution.specs.Identifiers.{Changes, changed, identifier_at, identifier_to, kept_name, or_kept, with_default, written_out_if}
 use Rattle.swc_base_rename_substitution.specs.Classes.{kept_class}
-use Rattle.swc_base_rename_substitution.specs.Exports.{declaration_in, declaration_of, distinct, export_list, exported_ids, exported_in, exports_of, items_for, with_exports}
+use Rattle.swc_base_rename_substitution.specs.Exports.{declaration_in, distinct, export_list, exported_ids, exported_in, exports_of, items_for, with_exports}
 use Rattle.swc_base_rename_substitution.specs.Places.{by_role, has_source, in_kind, is_name, place_below, places, within}
-use Rattle.swc_base_rename_substitution.specs.Substituted.{each_at, if_changed, keeps_name, renewed, substituted, tree_for}
+use Rattle.swc_base_rename_substitution.specs.Substituted.{if_changed, keeps_name, substituted, tree_for}
 use Rattle.swc_base_rename_substitution.specs.Walk.{each_substituted, is_exported_declaration, is_exported_in, items_substituted}
 use Rattle.swc_base_rename_substitution.proofs.Equations.{substituted-Absent, substituted-Flag, substituted-Word, substituted-Text, substituted-Span, substituted_identifier, substituted_list, substituted_tree}
 use Rattle.swc_base_rename_substitution.proofs.Room.{is_short, left, right, tree_open}
@@ -36,7 +36,7 @@ use Rattle.swc_base_rename_laws.specs.Texts.{is_object, key_text, other_texts, o
 use Rattle.swc_base_rename_laws.proofs.OuterTexts.{all_append, all_texts, outer_role, texts, texts-Span, texts_identifier, texts_list, texts_tree}
 use Rattle.swc_base_rename_laws.proofs.OuterTextsForms.{is_plain, item_slot, items_open, keeps_name_of, named, not_exported, one_item, same_kind, span_here, stays_there, takes_none, there_at}
 use Rattle.swc_base_rename_laws.proofs.OuterTextsNames.{declaration_here, exported_stay, role_plain, same_declaration}
-use Rattle.swc_base_rename_laws.proofs.OuterTextsWritten.{default_texts, either, export_texts, exports_texts, import_texts, kept_class_texts, kept_other, key_texts, name_quiet, other_side, quiet, shorthand_texts}
+use Rattle.swc_base_rename_laws.proofs.OuterTextsWritten.{default_texts, either, export_texts, exports_texts, import_texts, kept_class_texts, kept_other, key_texts, other_side, quiet, shorthand_texts}
 
 -- ---- places
 
@@ -399,10 +399,14 @@ module _ (m : Changes) (keeps : Bool) where
       (ap (texts o short) (substituted_tree m keeps p k ts ∙ same_kind k _ (now p k ts) (λ i. refl)) ∙ same_texts p o short k ts h f below refl refl)
 
   pub texts_kept : (t : Node) → Keeps t
-  texts_kept = by_children Keeps
-      (leaf Absent (ap is_exported_in outs-Absent) (substituted-Absent m keeps), λ x. leaf (Flag x) (ap is_exported_in (outs-Flag x)) (λ p. substituted-Flag m keeps p x),
-      λ w. leaf (Word w) (ap is_exported_in (outs-Word w)) (λ p. substituted-Word m keeps p w), λ x. leaf (Text x) (ap is_exported_in (outs-Text x)) (λ p. substituted-Text m keeps p x),
-      λ x. leaf (Span x) (ap is_exported_in (outs-Span x)) (λ p. substituted-Span m keeps p x), identifier_kept)
+  texts_kept = by_children Keeps (
+    leaf Absent (ap is_exported_in outs-Absent) (substituted-Absent m keeps),
+    λ x. leaf (Flag x) (ap is_exported_in (outs-Flag x)) (λ p. substituted-Flag m keeps p x),
+    λ w. leaf (Word w) (ap is_exported_in (outs-Word w)) (λ p. substituted-Word m keeps p w),
+    λ x. leaf (Text x) (ap is_exported_in (outs-Text x)) (λ p. substituted-Text m keeps p x),
+    λ x. leaf (Span x) (ap is_exported_in (outs-Span x)) (λ p. substituted-Span m keeps p x),
+    identifier_kept,
+  )
       list_kept
       (λ k ts below p o short s h f. tree_kept k ts below (tree_open k ts s f).4 p o short h)
 

@@ -1,12 +1,12 @@
 -- The texts of what is written out.
 use Rattle.std.proofs.Common.{◌≡◌, ℕ, Bool, true, false, not, ◌||◌, Option, Some, None, List, [], ◌∷◌, ◌++◌, map, append_assoc, append-nil, refl, sym, ap, ◌∙◌}
-use Rattle.std.specs.Prelude.{if◌then◌else◌, is_some}
+use Rattle.std.specs.Prelude.{if◌then◌else◌}
 use Rattle.swc_tree_marks.specs.declared.span.Span.{Span as Span'}
 use Rattle.swc_tree_marks.specs.declared.ident.Ident.{Ident}
 use Rattle.swc_tree_node.specs.declared.kind.Kind.{Kind}
 use Rattle.swc_tree_node.specs.declared.kind.Kind.TheVariants as kind
 use Rattle.swc_tree_node.specs.declared.kind.Word.TheVariants as word
-use Rattle.swc_tree_node.specs.declared.node.Node.{Node, Absent, Flag, Word, Text, Span, List as Many, Identifier, Tree, out-Node, roll-Node, roll-out-Node}
+use Rattle.swc_tree_node.specs.declared.node.Node.{Node, Absent, Word, Text, Span, List as Many, Identifier, Tree, out-Node, roll-Node, roll-out-Node}
 use Rattle.swc_tree_node.specs.declared.node.Node.TheOpen.{Node-F}
 use Rattle.swc_tree_node.specs.declared.node.Node.TheVariants.{outs-Absent, outs-Flag, outs-Word, outs-Text, outs-Span, outs-List, outs-Identifier, outs-Tree, rolls-Absent}
 use Rattle.swc_tree_scoping.specs.Places.{absent_in, is_there}
@@ -17,7 +17,7 @@ use Rattle.swc_base_rename_substitution.specs.Identifiers.{Changes, default_in, 
 use Rattle.swc_base_rename_substitution.specs.Classes.{class_span, kept_class, let_if, let_of_class}
 use Rattle.swc_base_rename_substitution.specs.Exports.{export_list, made, nowhere, specifier, specifier_to}
 use Rattle.swc_base_rename_laws.specs.Texts.{text_of}
-use Rattle.swc_base_rename_laws.proofs.OuterTexts.{all_texts, texts, texts-Absent, texts-Flag, texts-Span, texts-Text, texts-Word, texts_identifier, texts_list, texts_tree}
+use Rattle.swc_base_rename_laws.proofs.OuterTexts.{all_texts, texts, texts-Absent, texts-Span, texts-Text, texts-Word, texts_identifier, texts_list, texts_tree}
 use Rattle.swc_base_rename_laws.proofs.OuterTextsForms.{named}
 
 -- ---- keys
@@ -69,9 +69,14 @@ none_named o j e h = absurd (cc)
 
 -- a name that is no outer one has no text
 pub name_quiet : (t : Node) → NameIsQuiet t
-name_quiet = by_children NameIsQuiet
-    (λ j h. none_named _ j (ap identifier_in outs-Absent) h, λ x j h. none_named _ j (ap identifier_in (outs-Flag x)) h, λ w j h. none_named _ j (ap identifier_in (outs-Word w)) h,
-    λ x j h. none_named _ j (ap identifier_in (outs-Text x)) h, λ x j h. none_named _ j (ap identifier_in (outs-Span x)) h, λ k i j h. quiet false false k i refl refl)
+name_quiet = by_children NameIsQuiet (
+  λ j h. none_named _ j (ap identifier_in outs-Absent) h,
+  λ x j h. none_named _ j (ap identifier_in (outs-Flag x)) h,
+  λ w j h. none_named _ j (ap identifier_in (outs-Word w)) h,
+  λ x j h. none_named _ j (ap identifier_in (outs-Text x)) h,
+  λ x j h. none_named _ j (ap identifier_in (outs-Span x)) h,
+  λ k i j h. quiet false false k i refl refl,
+)
     (λ ts below j h. none_named _ j (ap identifier_in (outs-List ts)) h)
     (λ k ts below j h. none_named _ j (ap identifier_in (outs-Tree k ts)) h)
 
