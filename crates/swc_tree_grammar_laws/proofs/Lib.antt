@@ -10,3 +10,7 @@ mod StepRows
 mod FixedRows
 pub mod Heads
 pub mod Begins
+pub mod Levelled
+pub mod Callees
+pub mod Settled
+pub mod Levels

@@ -1,3 +1,4 @@
 pub mod Levelled
 pub mod Headed
 pub mod Started
+pub mod Laws
