@@ -11,33 +11,17 @@ use Rattle.swc_tree_grammar.specs.Demands.{meets, is_bare_new}
 use Rattle.swc_tree_grammar.specs.Demands.Demand.{Operand}
 use Rattle.swc_tree_grammar.specs.Due.{Places, Callee, callee_step, callee_in, call_paired, pair}
 use Rattle.swc_tree_grammar.proofs.Induction.{Each, by_children}
+use Rattle.swc_tree_grammar_laws.proofs.Wholes.{carried, all_carried}
 use Rattle.swc_tree_grammar_laws.proofs.Levelled.{levelled_tree, Fine, fine_pair, half}
 
 abbrev pub callee : Places → Node → Callee
 callee p = fold-Node Callee (callee_step p)
 
-abbrev Whole : Places → Node → Type 0
-Whole p t = (callee p t).whole ≡ t
-
-wholes : (p : Places) (ts : List Node) → Each (Whole p) ts → map (λ e. e.whole) (map (callee p) ts) ≡ ts
-wholes p [] h = refl
-wholes p (t ∷ ts) h = rw (h.0, wholes p ts h.1) refl
-
-whole_many : (p : Places) (ts : List Node) → (callee p (Many ts)).whole ≡ Many (map (λ e. e.whole) (map (callee p) ts))
-whole_many p ts = search (rules, the_lemmas)
-
-whole_tree : (p : Places) (k : Kind) (ts : List Node) → (callee p (Tree k ts)).whole ≡ Tree k (map (λ e. e.whole) (map (callee p) ts))
-whole_tree p k ts = search (rules, the_lemmas)
-
-pub whole : (p : Places) (t : Node) → Whole p t
-whole p t = by_children (Whole p)
-    (search (rules, the_lemmas), λ x. search (rules, the_lemmas), λ w. search (rules, the_lemmas), λ x. search (rules, the_lemmas), λ s. search (rules, the_lemmas), λ k i. search (rules, the_lemmas))
-    (λ ts h. whole_many p ts ∙ ap Many (wholes p ts h))
-    (λ k ts h. whole_tree p k ts ∙ ap (Tree k) (wholes p ts h)) t
+whole : (p : Places) (t : Node) → (callee p t).whole ≡ t
+whole p t = carried Callee (callee_step p) (λ e. e.whole) (λ x. refl) t
 
 all_whole : (p : Places) (ts : List Node) → map (λ e. e.whole) (map (callee p) ts) ≡ ts
-all_whole p [] = refl
-all_whole p (t ∷ ts) = rw (whole p t, all_whole p ts) refl
+all_whole p ts = all_carried Callee (callee_step p) (λ e. e.whole) (λ x. refl) ts
 
 paired_tree : (p : Places) (k : Kind) (ts : List Node) → call_paired p (Tree k ts) ≡ callee_in p (Tree k (map (λ e. e.whole) (map (callee p) ts))) (Node-F.Tree k (map (callee p) ts))
 paired_tree p k ts = search (rules, the_lemmas)

@@ -11,34 +11,15 @@ use Rattle.swc_tree_grammar.specs.Blocks.{span_of}
 use Rattle.swc_tree_grammar.specs.Demands.{demands, meets}
 use Rattle.swc_tree_grammar.specs.Demands.Demand.{Operand, Link}
 use Rattle.swc_tree_grammar.specs.Due.{Places, pair, pair_if}
-use Rattle.swc_tree_grammar.proofs.Induction.{Each, by_children}
+use Rattle.swc_tree_grammar.proofs.Induction.{by_children}
 use Rattle.swc_tree_grammar_laws.specs.Levelled.{Levelled, levelled_step, levelled, each_meets}
+use Rattle.swc_tree_grammar_laws.proofs.Wholes.{all_carried}
 
 abbrev judged : Node → Levelled
 judged = fold-Node Levelled levelled_step
 
-abbrev Whole : Node → Type 0
-Whole t = (judged t).whole ≡ t
-
-wholes : (ts : List Node) → Each Whole ts → map (λ e. e.whole) (map judged ts) ≡ ts
-wholes [] h = refl
-wholes (t ∷ ts) h = rw (h.0, wholes ts h.1) refl
-
-whole_many : (ts : List Node) → (judged (Many ts)).whole ≡ Many (map (λ e. e.whole) (map judged ts))
-whole_many ts = search (rules, the_lemmas)
-
-whole_tree : (k : Kind) (ts : List Node) → (judged (Tree k ts)).whole ≡ Tree k (map (λ e. e.whole) (map judged ts))
-whole_tree k ts = search (rules, the_lemmas)
-
-whole : (t : Node) → Whole t
-whole t = by_children Whole
-    (search (rules, the_lemmas), λ x. search (rules, the_lemmas), λ w. search (rules, the_lemmas), λ x. search (rules, the_lemmas), λ s. search (rules, the_lemmas), λ k i. search (rules, the_lemmas))
-    (λ ts h. whole_many ts ∙ ap Many (wholes ts h))
-    (λ k ts h. whole_tree k ts ∙ ap (Tree k) (wholes ts h)) t
-
 all_whole : (ts : List Node) → map (λ e. e.whole) (map judged ts) ≡ ts
-all_whole [] = refl
-all_whole (t ∷ ts) = rw (whole t, all_whole ts) refl
+all_whole ts = all_carried Levelled levelled_step (λ e. e.whole) (λ x. refl) ts
 
 each_holds : (c : Bool) (ts : List Node) → list_all (λ e. e.holds c) (map judged ts) ≡ list_all (λ t. levelled t c) ts
 each_holds c [] = refl
@@ -76,7 +57,7 @@ both false b h = absurd (cc)
 pub half : {a b : Bool} → (a && b) ≡ true → (a ≡ true) × (b ≡ true)
 half {a = a} {b = b} h = both a b h
 
-also_both : (a b : Bool) → a ≡ true → b ≡ true → (a && b) ≡ true
+pub also_both : (a b : Bool) → a ≡ true → b ≡ true → (a && b) ≡ true
 also_both a b h g = rw h g
 
 pub also : {a b : Bool} → a ≡ true → b ≡ true → (a && b) ≡ true

@@ -10,7 +10,12 @@ mod StepRows
 mod FixedRows
 pub mod Heads
 pub mod Begins
+pub mod Wholes
 pub mod Levelled
 pub mod Callees
 pub mod Settled
 pub mod Levels
+pub mod Every
+pub mod Derived
+pub mod DerivedRows
+pub mod Adds

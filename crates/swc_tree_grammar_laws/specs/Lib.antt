@@ -2,3 +2,5 @@ pub mod Levelled
 pub mod Headed
 pub mod Started
 pub mod Laws
+pub mod Every
+pub mod Plain
