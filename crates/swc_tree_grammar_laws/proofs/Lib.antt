@@ -19,3 +19,4 @@ pub mod Every
 pub mod Derived
 pub mod DerivedRows
 pub mod Adds
+pub mod Blocked

@@ -1,6 +1,9 @@
 -- Laws of the due pairs.
 use Rattle.std.specs.Prelude.{true, false, IsTrue}
 use Rattle.swc_tree_node.specs.declared.node.Node.{Node}
+use Rattle.swc_tree_node.specs.declared.slot.Slot.{Slot}
+use Rattle.swc_tree_node.specs.Fits.{Fits}
+use Rattle.swc_tree_grammar.specs.Blocks.{with_blocks}
 use Rattle.swc_tree_grammar.specs.Due.{Places, paired_by_level, paired_in_heads, paired_at_starts}
 use Rattle.swc_tree_grammar.specs.Grammar.{FitsGrammar}
 use Rattle.swc_tree_grammar.specs.Writable.{Writable}
@@ -19,6 +22,10 @@ HeadsAreSettled = (place : Places) (t : Node) → IsTrue (headed (paired_in_head
 abbrev pub StartsAreSettled : Type 0
 StartsAreSettled = (place : Places) (t : Node) → IsTrue (started (paired_at_starts place t))
 
--- what is writable and passes the tests of the three steps, the grammar derives
+-- what fits the table is plain once its branches have their blocks
+abbrev pub BlockedIsPlain : Type 0
+BlockedIsPlain = (t : Node) (s : Slot) → Fits t s → IsTrue (plain (with_blocks t))
+
+-- what is plain, writable and passes the tests of the three steps, the grammar derives
 abbrev pub TestsAddUp : Type 0
 TestsAddUp = (t : Node) → IsTrue (plain t) → Writable t → IsTrue (levelled t false) → IsTrue (headed t true) → IsTrue (started t) → FitsGrammar t

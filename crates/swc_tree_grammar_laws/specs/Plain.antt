@@ -1,4 +1,4 @@
--- Trees whose chains are chains, and whose branches hold their own `else`.
+-- Trees in which each `if` keeps its `else`, and each optional chain is one.
 use Rattle.std.specs.Prelude.{Bool, true, false, not, ◌||◌}
 use Rattle.swc_tree_node.specs.declared.kind.Kind.TheVariants as kind
 use Rattle.swc_tree_node.specs.declared.node.Node.{Node, out-Node}
@@ -17,13 +17,19 @@ is_link_in _ = false
 abbrev pub is_link : Node → Bool
 is_link t = is_link_in (out-Node t)
 
--- a chain has its fields and is made of a member or a call, as in every tree of the table; and no first branch of an
--- `if` takes its `else`, as where each such branch has a block
+-- the first branch of an `if` does not take its `else`
+abbrev pub keeps_else_in : Node-F Node → Bool
+keeps_else_in (If span test cons alt) = is_absent alt || not (takes_else cons)
+keeps_else_in _ = true
+
+abbrev pub keeps_elses : Node → Bool
+keeps_elses = every keeps_else_in
+
+-- besides a chain has its fields and is made of a member or a call, as it is in what fits the table
 abbrev pub plain_in : Node-F Node → Bool
 plain_in (OptChain span optional base) = is_link base
 plain_in (Node-F.Tree kind.OptChainExpr ts) = false
-plain_in (If span test cons alt) = is_absent alt || not (takes_else cons)
-plain_in _ = true
+plain_in t = keeps_else_in t
 
 abbrev pub plain : Node → Bool
 plain = every plain_in

@@ -6,7 +6,7 @@
 //! is the contract of a function that does nothing, so that it is proved.
 #![tactic(auto)]
 
-ghost use Rattle.swc_tree_grammar_laws.specs.Laws.{HeadsAreSettled, LevelsAreSettled, StartsAreSettled, TestsAddUp};
+ghost use Rattle.swc_tree_grammar_laws.specs.Laws.{BlockedIsPlain, HeadsAreSettled, LevelsAreSettled, StartsAreSettled, TestsAddUp};
 
 /// After the first step each expression is what its place asks.
 pub fn levels_are_settled()
@@ -23,7 +23,12 @@ pub fn starts_are_settled()
     ensures { StartsAreSettled }
 {}
 
-/// The grammar derives a writable tree that passes the tests of the three steps.
+/// What fits the table is plain once its branches have their blocks.
+pub fn blocked_is_plain()
+    ensures { BlockedIsPlain }
+{}
+
+/// The grammar derives a plain and writable tree that passes the tests of the three steps.
 pub fn tests_add_up()
     ensures { TestsAddUp }
 {}
