@@ -135,7 +135,8 @@ good (t ∷ ts) l b p f =
     let b' = both (started t) (list_all started ts) b in let p' = both (plain t) (list_all plain ts) p in let f' = both (fine t) (list_all fine ts) f in
     ((λ c r e s h. (l.0 c r e s h b'.0 p'.0).0 f'.0), good ts l.1 b'.1 p'.1 f'.1)
 
--- what is known at a node, where its fields are good
+-- What is known at a node, where its fields are good. The rows name it so: context `c` and round `r` of one strictness
+-- (`e`); that the node is sound (`m`), headed (`i`), levelled (`w`), started (`y`) and plain (`q`); its good fields (`g`)
 abbrev Known : Bool → Kind → List Node → Context → Type 0 → Type 0
 Known b k ts c answer = (r : Round) → r.strict ≡ c.strict → sound_in (Node-F.Tree k (map asked ts)) r ≡ true → heads_in (Node-F.Tree k (map headed_judged ts)) c.with_in ≡ true
     → Met (demands b (Node-F.Tree k ts)) ts → starts_in (Node-F.Tree k ts) ≡ true → plain_in (Node-F.Tree k ts) ≡ true → Each Good ts → answer

@@ -8,9 +8,9 @@ mod FixerRows
 mod ReaderRows
 mod StepRows
 mod FixedRows
+pub mod Wholes
 pub mod Heads
 pub mod Begins
-pub mod Wholes
 pub mod Levelled
 pub mod Callees
 pub mod Settled
