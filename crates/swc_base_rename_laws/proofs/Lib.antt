@@ -1,1 +1,4 @@
 pub mod Unchanged
+mod WritableStaysSound
+mod WritableStaysShape
+mod WritableStaysForms
