@@ -2,3 +2,4 @@ pub mod Unchanged
 mod WritableStaysSound
 mod WritableStaysShape
 mod WritableStaysForms
+mod WritableStaysNames
