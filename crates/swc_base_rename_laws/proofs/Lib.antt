@@ -3,3 +3,5 @@ mod WritableStaysSound
 mod WritableStaysShape
 mod WritableStaysForms
 mod WritableStaysNames
+mod WritableStaysExports
+mod WritableStaysLists

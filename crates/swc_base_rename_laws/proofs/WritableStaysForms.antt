@@ -23,7 +23,11 @@ use Rattle.swc_base_rename_substitution.specs.Substituted.{substituted}
 use Rattle.swc_base_rename_substitution.proofs.Equations.{substituted_identifier}
 use Rattle.swc_base_rename_substitution.proofs.Room.{is_short}
 use Rattle.swc_base_rename_laws.specs.Wanted.{GivesNames}
-use Rattle.swc_base_rename_laws.proofs.WritableStaysShape.{Even, even_at, even_by, fields, long}
+use Rattle.swc_base_rename_laws.proofs.WritableStaysShape.{Even, even_at, even_anywhere, fields, long}
+
+abbrev pub is_list_in : Node-F Node → Bool
+is_list_in (Node-F.List ts) = true
+is_list_in _ = false
 
 module _ (m : Changes) (g : GivesNames m) where
   -- ---- leaves
@@ -64,20 +68,8 @@ module _ (m : Changes) (g : GivesNames m) where
       → has_kind_in P (out-Node (substituted m false p t)) ≡ has_kind_in P (out-Node t)
   kind_same P e = even_at m (has_kind_in P) (kinds P e) g
 
-  no_private_name : (p : Place) (k : Kind) (i : Ident) (j : Option Ident) → has_kind_in is_private_name (out-Node (identifier_to p k i j)) ≡ false
-  no_private_name place.ClassName k i j = ap (has_kind_in is_private_name) (outs-Identifier k _)
-  no_private_name place.Name k i None = ap (has_kind_in is_private_name) (outs-Identifier k _)
-  no_private_name place.Shorthand k i None = ap (has_kind_in is_private_name) (outs-Identifier k _)
-  no_private_name place.Exported k i None = ap (has_kind_in is_private_name) (outs-Identifier k _)
-  no_private_name place.Other k i None = ap (has_kind_in is_private_name) (outs-Identifier k _)
-  no_private_name place.Name k i (Some j) = ap (has_kind_in is_private_name) (outs-Identifier k _)
-  no_private_name place.Shorthand k i (Some j) = ap (has_kind_in is_private_name) (outs-Tree kind.KeyValueProp (shorthand_key i ∷ Identifier k j ∷ []))
-  no_private_name place.Exported k i (Some j) = ap (has_kind_in is_private_name) (outs-Identifier k _)
-  no_private_name place.Other k i (Some j) = ap (has_kind_in is_private_name) (outs-Identifier k _)
-
   pub private_same : (p : Place) (t : Node) → has_kind_in is_private_name (out-Node (substituted m false p t)) ≡ has_kind_in is_private_name (out-Node t)
-  private_same p = even_by m (has_kind_in is_private_name) (kinds is_private_name refl) p
-      (λ k i. ap (λ u. has_kind_in is_private_name (out-Node u)) (substituted_identifier m false p k i) ∙ no_private_name p k i (changed m p i) ∙ sym (ap (has_kind_in is_private_name) (outs-Identifier k i)))
+  private_same = even_anywhere m (has_kind_in is_private_name) (kinds is_private_name refl) false (λ k i. refl) (λ us. refl)
 
   -- ---- patterns
 
@@ -244,8 +236,8 @@ module _ (m : Changes) (g : GivesNames m) where
   statements : Even m statement_in
   statements = record { trees = statement_trees; properties = λ us vs. refl; imports = λ i us. refl; exports = λ i us. refl; names = λ k i j. refl; lists = λ p ts. refl }
 
-  pub statement_same : (p : Place) → is_short p ≡ false → (t : Node) → statement_in (out-Node (substituted m false p t)) ≡ statement_in (out-Node t)
-  statement_same = even_at m statement_in statements g
+  pub statement_same : (p : Place) (t : Node) → statement_in (out-Node (substituted m false p t)) ≡ statement_in (out-Node t)
+  statement_same = even_anywhere m statement_in statements None (λ k i. refl) (λ us. refl)
 
   key_trees : (p : Place) (k : Kind) (ts : List Node) → constructor_key_in (Node-F.Tree k (fields m p k ts)) ≡ constructor_key_in (Node-F.Tree k ts)
   key_trees p kind.IdentName [] = refl
@@ -287,3 +279,11 @@ module _ (m : Changes) (g : GivesNames m) where
 
   pub specifier_same : (p : Place) → is_short p ≡ false → (t : Node) → local_specifier_in (out-Node (substituted m false p t)) ≡ local_specifier_in (out-Node t)
   specifier_same = even_at m local_specifier_in specifiers g
+
+  -- ---- lists
+
+  listed : Even m is_list_in
+  listed = record { trees = λ p k ts. refl; properties = λ us vs. refl; imports = λ i us. refl; exports = λ i us. refl; names = λ k i j. refl; lists = λ p ts. refl }
+
+  pub list_same : (p : Place) (t : Node) → is_list_in (out-Node (substituted m false p t)) ≡ is_list_in (out-Node t)
+  list_same = even_anywhere m is_list_in listed false (λ k i. refl) (λ us. refl)

@@ -133,10 +133,10 @@ row kind.KeyValuePatProp ts r l h = parts_named (field_role kind.KeyValuePatProp
 row kind.ExportNamedSpecifier ts r l h = parts_named (field_role kind.ExportNamedSpecifier) ts (binding r) l h
 row k ts r l h = ap all_texts (sym (bound-Tree k ts) ∙ unbound k ts refl)
 
-bindable_text : (b : Bool) (x : List ℕ) → is_bindable b x ≡ true → is_identifier_text x ≡ true
+pub bindable_text : (b : Bool) (x : List ℕ) → is_bindable b x ≡ true → is_identifier_text x ≡ true
 bindable_text b x h = left _ _ h
 
-by_round : (a b : Bool) (x : List ℕ) → (if a then is_identifier_text x else is_bindable b x) ≡ true → is_identifier_text x ≡ true
+pub by_round : (a b : Bool) (x : List ℕ) → (if a then is_identifier_text x else is_bindable b x) ≡ true → is_identifier_text x ≡ true
 by_round true b x h = h
 by_round false b x h = bindable_text b x h
 

@@ -168,3 +168,21 @@ module _ {A : Type 0} (m : Changes) (F : Node-F Node → A) (even : Even m F) wh
 
   pub even_at : GivesNames m → (p : Place) → is_short p ≡ false → (t : Node) → F (out-Node (substituted m false p t)) ≡ F (out-Node t)
   even_at g p n t = even_by p (λ k i. name_even g p k i n) t
+
+  -- ... and at each place, where a name is seen as a property with its key is
+  name_anywhere : (c : A) → ((k : Kind) (i : Ident) → F (Node-F.Identifier k i) ≡ c) → ((us : List Node) → F (Node-F.Tree kind.KeyValueProp us) ≡ c) → (p : Place) (k : Kind) (i : Ident) (j : Option Ident)
+      → F (out-Node (identifier_to p k i j)) ≡ c
+  name_anywhere c n v place.ClassName k i j = ap F (outs-Identifier k _) ∙ n k _
+  name_anywhere c n v place.Name k i None = ap F (outs-Identifier k _) ∙ n k _
+  name_anywhere c n v place.Shorthand k i None = ap F (outs-Identifier k _) ∙ n k _
+  name_anywhere c n v place.Exported k i None = ap F (outs-Identifier k _) ∙ n k _
+  name_anywhere c n v place.Other k i None = ap F (outs-Identifier k _) ∙ n k _
+  name_anywhere c n v place.Name k i (Some j) = ap F (outs-Identifier k _) ∙ n k _
+  name_anywhere c n v place.Exported k i (Some j) = ap F (outs-Identifier k _) ∙ n k _
+  name_anywhere c n v place.Other k i (Some j) = ap F (outs-Identifier k _) ∙ n k _
+  name_anywhere c n v place.Shorthand k i (Some j) = ap F (outs-Tree kind.KeyValueProp (shorthand_key i ∷ Identifier k j ∷ [])) ∙ v _
+
+  pub even_anywhere : (c : A) → ((k : Kind) (i : Ident) → F (Node-F.Identifier k i) ≡ c) → ((us : List Node) → F (Node-F.Tree kind.KeyValueProp us) ≡ c) → (p : Place) (t : Node)
+      → F (out-Node (substituted m false p t)) ≡ F (out-Node t)
+  even_anywhere c n v p = even_by p
+      (λ k i. ap (λ u. F (out-Node u)) (substituted_identifier m false p k i) ∙ name_anywhere c n v p k i (changed m p i) ∙ sym (ap F (outs-Identifier k i) ∙ n k i))
