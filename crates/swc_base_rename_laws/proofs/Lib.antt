@@ -5,3 +5,4 @@ mod WritableStaysForms
 mod WritableStaysNames
 mod WritableStaysExports
 mod WritableStaysLists
+mod WritableStaysPatterns

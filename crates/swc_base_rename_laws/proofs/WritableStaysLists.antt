@@ -75,7 +75,7 @@ module _ (m : Changes) (g : GivesNames m) where
   split_declaration p t s = ap declaration_of s.becomes ∙ ap (declaration_in _) (outs-Tree kind.ExportDecl _)
 
   -- what stands for an item is it alone, or a declaration and an export list
-  items_by : (P : List Node → Type 0) (p : Place) (t : Node) → P (substituted m false p t ∷ [])
+  pub items_by : (P : List Node → Type 0) (p : Place) (t : Node) → P (substituted m false p t ∷ [])
       → ((s : Split p t) → P (substituted m false s.at s.decl ∷ export_list m (exported_ids t) ∷ [])) → P (items_for m t (substituted m false p t))
   items_by P p t f h = chosen (changes m (exported_ids t)) refl
     where
