@@ -6,3 +6,4 @@ mod WritableStaysNames
 mod WritableStaysExports
 mod WritableStaysLists
 mod WritableStaysPatterns
+mod WritableStaysStripped
