@@ -7,3 +7,4 @@ mod WritableStaysExports
 mod WritableStaysLists
 mod WritableStaysPatterns
 mod WritableStaysStripped
+mod WritableStaysHeads

@@ -166,7 +166,7 @@ long_sequence span (e ∷ d ∷ es) h = refl
 abbrev Full : Node → Type 0
 Full t = (nonempty (parts (stripped t)) ≡ true) × (all_rich (parts (stripped t)) ≡ true) × (rich (stripped t) ≡ true)
 
-abbrev items : Node → List Node
+abbrev pub items : Node → List Node
 items t = flat_map parts (items_of (stripped t))
 
 abbrev Fills : Node → Type 0
