@@ -8,3 +8,4 @@ mod WritableStaysLists
 mod WritableStaysPatterns
 mod WritableStaysStripped
 mod WritableStaysHeads
+mod WritableStaysParts

@@ -29,7 +29,7 @@ use Rattle.swc_base_rename_laws.specs.Wanted.{GivesNames}
 
 -- ---- places
 
-within_long : (p : Place) → is_short (within p) ≡ false
+pub within_long : (p : Place) → is_short (within p) ≡ false
 within_long place.Other = refl
 within_long place.Exported = refl
 within_long p = refl
