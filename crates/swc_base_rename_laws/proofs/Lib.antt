@@ -9,3 +9,4 @@ mod WritableStaysPatterns
 mod WritableStaysStripped
 mod WritableStaysHeads
 mod WritableStaysParts
+mod WritableStaysMembers
