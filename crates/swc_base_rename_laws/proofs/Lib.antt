@@ -10,3 +10,4 @@ mod WritableStaysStripped
 mod WritableStaysHeads
 mod WritableStaysParts
 mod WritableStaysMembers
+mod WritableStaysRows
