@@ -11,3 +11,5 @@ mod WritableStaysHeads
 mod WritableStaysParts
 mod WritableStaysMembers
 mod WritableStaysRows
+mod WritableStaysStatements
+pub mod WritableStays

@@ -23,7 +23,7 @@ use Rattle.swc_base_rename_substitution.specs.Identifiers.{Changes}
 use Rattle.swc_base_rename_substitution.specs.Exports.{declaration_of, distinct, export_list, exported_ids, exported_in, exports_of, items_for, made, nowhere, specifier, specifier_to, with_exports, without}
 use Rattle.swc_base_rename_substitution.specs.Substituted.{substituted}
 use Rattle.swc_base_rename_substitution.proofs.Room.{is_short, left, right}
-use Rattle.swc_base_rename_laws.specs.Wanted.{GivesNames}
+use Rattle.swc_base_rename_laws.specs.Laws.{GivesNames}
 use Rattle.swc_base_rename_laws.proofs.WritableStaysSound.{of, sound, sound_list, sound_name, sound_tree}
 use Rattle.swc_base_rename_laws.proofs.WritableStaysShape.{fields, long, plain_tree}
 use Rattle.swc_base_rename_laws.proofs.WritableStaysForms.{private_same, statement_same}

@@ -22,7 +22,7 @@ use Rattle.swc_base_rename_substitution.specs.Identifiers.{Changes, changed, ide
 use Rattle.swc_base_rename_substitution.specs.Substituted.{substituted}
 use Rattle.swc_base_rename_substitution.proofs.Equations.{substituted_identifier}
 use Rattle.swc_base_rename_substitution.proofs.Room.{is_short}
-use Rattle.swc_base_rename_laws.specs.Wanted.{GivesNames}
+use Rattle.swc_base_rename_laws.specs.Laws.{GivesNames}
 use Rattle.swc_base_rename_laws.proofs.WritableStaysShape.{Even, even_at, even_anywhere, fields, long}
 
 abbrev pub is_list_in : Node-F Node → Bool

@@ -28,7 +28,7 @@ use Rattle.swc_base_rename_substitution.specs.Substituted.{substituted}
 use Rattle.swc_base_rename_substitution.proofs.Equations.{substituted-Absent, substituted-Flag, substituted-Word, substituted-Text, substituted-Span, substituted_identifier}
 use Rattle.swc_base_rename_substitution.proofs.KeptFits.{keeps_fit}
 use Rattle.swc_base_rename_substitution.proofs.Room.{is_short, left, right}
-use Rattle.swc_base_rename_laws.specs.Wanted.{GivesNames}
+use Rattle.swc_base_rename_laws.specs.Laws.{GivesNames}
 use Rattle.swc_base_rename_laws.proofs.WritableStaysSound.{of, sound, sound_tree}
 use Rattle.swc_base_rename_laws.proofs.WritableStaysShape.{fields, plain_tree, renamed}
 use Rattle.swc_base_rename_laws.proofs.WritableStaysForms.{text_same}

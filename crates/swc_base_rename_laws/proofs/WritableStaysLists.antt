@@ -30,7 +30,7 @@ use Rattle.swc_base_rename_substitution.specs.Walk.{each_substituted, is_exporte
 use Rattle.swc_base_rename_substitution.proofs.Equations.{substituted_list}
 use Rattle.swc_base_rename_substitution.proofs.Lists.{no_exports}
 use Rattle.swc_base_rename_substitution.proofs.Room.{is_short, left, right}
-use Rattle.swc_base_rename_laws.specs.Wanted.{GivesNames}
+use Rattle.swc_base_rename_laws.specs.Laws.{GivesNames}
 use Rattle.swc_base_rename_laws.proofs.WritableStaysSound.{of, sound, sound_list, sound_tree}
 use Rattle.swc_base_rename_laws.proofs.WritableStaysShape.{fields, long, plain_tree}
 use Rattle.swc_base_rename_laws.proofs.WritableStaysForms.{form_same, is_list_in, list_same, private_same, statement_same}

@@ -21,7 +21,7 @@ use Rattle.swc_base_rename_substitution.specs.Substituted.{substituted}
 use Rattle.swc_base_rename_substitution.specs.Walk.{each_substituted}
 use Rattle.swc_base_rename_substitution.proofs.Lists.{each_length}
 use Rattle.swc_base_rename_substitution.proofs.Room.{is_short, left, right}
-use Rattle.swc_base_rename_laws.specs.Wanted.{GivesNames}
+use Rattle.swc_base_rename_laws.specs.Laws.{GivesNames}
 use Rattle.swc_base_rename_laws.proofs.WritableStaysSound.{of, sound, sound_tree}
 use Rattle.swc_base_rename_laws.proofs.WritableStaysShape.{Even, even_at, fields, plain_tree}
 use Rattle.swc_base_rename_laws.proofs.WritableStaysForms.{word_same}

@@ -29,7 +29,7 @@ use Rattle.swc_base_rename_substitution.specs.Walk.{each_substituted, is_exporte
 use Rattle.swc_base_rename_substitution.proofs.Equations.{substituted-Absent, substituted-Flag, substituted-Word, substituted-Text, substituted-Span, substituted_identifier, substituted_list}
 use Rattle.swc_base_rename_substitution.proofs.Lists.{each_length}
 use Rattle.swc_base_rename_substitution.proofs.Room.{is_short, left, right, tree_open}
-use Rattle.swc_base_rename_laws.specs.Wanted.{GivesNames}
+use Rattle.swc_base_rename_laws.specs.Laws.{GivesNames}
 use Rattle.swc_base_rename_laws.proofs.WritableStaysSound.{of, in_head, sound, sound_list, sound_name, sound_tree}
 use Rattle.swc_base_rename_laws.proofs.WritableStaysShape.{Even, IsNew, even_at, fields, long, plain_tree, renamed}
 use Rattle.swc_base_rename_laws.proofs.WritableStaysForms.{declares_same, form_same, is_list_in, list_same, word_same}

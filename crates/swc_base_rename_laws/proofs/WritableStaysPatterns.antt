@@ -21,7 +21,7 @@ use Rattle.swc_base_rename_substitution.specs.Substituted.{substituted}
 use Rattle.swc_base_rename_substitution.specs.Walk.{each_substituted, items_substituted}
 use Rattle.swc_base_rename_substitution.proofs.Equations.{substituted-Absent, substituted-Flag, substituted-Word, substituted-Text, substituted-Span, substituted_identifier, substituted_list, substituted_tree}
 use Rattle.swc_base_rename_substitution.proofs.Room.{is_short, left, right}
-use Rattle.swc_base_rename_laws.specs.Wanted.{GivesNames}
+use Rattle.swc_base_rename_laws.specs.Laws.{GivesNames}
 use Rattle.swc_base_rename_laws.proofs.WritableStaysShape.{Even, even_at, fields, long, plain_tree, renamed}
 use Rattle.swc_base_rename_laws.proofs.WritableStaysForms.{absent_same, default_same, initialised_same, kind_same, plain_same, property_same}
 use Rattle.swc_base_rename_laws.proofs.WritableStaysLists.{Le, items_by}

@@ -20,7 +20,7 @@ use Rattle.swc_base_rename_substitution.specs.Places.{places, within}
 use Rattle.swc_base_rename_substitution.specs.Substituted.{substituted}
 use Rattle.swc_base_rename_substitution.specs.Walk.{each_substituted}
 use Rattle.swc_base_rename_substitution.proofs.Room.{is_short, left, right}
-use Rattle.swc_base_rename_laws.specs.Wanted.{GivesNames}
+use Rattle.swc_base_rename_laws.specs.Laws.{GivesNames}
 use Rattle.swc_base_rename_laws.proofs.WritableStaysSound.{in_head, of, sound}
 use Rattle.swc_base_rename_laws.proofs.WritableStaysShape.{fields, long, within_long}
 use Rattle.swc_base_rename_laws.proofs.WritableStaysForms.{absent_same, flag_same, key_same, kind_same, literal_same, private_same, word_same}

@@ -25,7 +25,7 @@ use Rattle.swc_base_rename_substitution.specs.Substituted.{if_changed, keeps_nam
 use Rattle.swc_base_rename_substitution.specs.Walk.{each_substituted, items_substituted}
 use Rattle.swc_base_rename_substitution.proofs.Equations.{substituted-Absent, substituted-Flag, substituted-Word, substituted-Text, substituted-Span, substituted_identifier, substituted_list, substituted_tree}
 use Rattle.swc_base_rename_substitution.proofs.Room.{is_short}
-use Rattle.swc_base_rename_laws.specs.Wanted.{GivesNames}
+use Rattle.swc_base_rename_laws.specs.Laws.{GivesNames}
 
 -- ---- places
 
@@ -94,14 +94,14 @@ IsNew i j = (j.sym ≡ i.sym) ⊎ IsTrue (is_bindable true j.sym)
 abbrev Renamed : Place → Kind → Ident → Option Ident → Type 0
 Renamed p k i o = (j : Ident) × (identifier_to p k i o ≡ Identifier k j) × IsNew i j
 
-given : (m : Changes) → GivesNames m → (i : Ident) (o : Option Id) → m (id_of i) ≡ o → (j : Ident) → option_map (with_id i) o ≡ Some j → IsNew i j
+given : (m : Changes) → GivesNames m → (i : Ident) (o : Option Id) → m (id_of i) ≡ o → (j : Ident) → option_map (with_id i) o ≡ Some j → is_bindable true j.sym ≡ true
 given m g i None e j h = absurd (cc)
-given m g i (Some y) e j h = let same : with_id i y ≡ j = cc in inr (let b : IsTrue (is_bindable true (with_id i y).sym) = g i y.0 y.1 e in rw (← same) b)
+given m g i (Some y) e j h = let same : with_id i y ≡ j = cc in let b : is_bindable true (with_id i y).sym ≡ true = g i y.0 y.1 e in rw (← same) b
 
-new_name : (m : Changes) → GivesNames m → (i : Ident) (j : Ident) → option_map (with_id i) (m (id_of i)) ≡ Some j → IsNew i j
+new_name : (m : Changes) → GivesNames m → (i : Ident) (j : Ident) → option_map (with_id i) (m (id_of i)) ≡ Some j → is_bindable true j.sym ≡ true
 new_name m g i j h = given m g i (m (id_of i)) refl j h
 
-pub changed_new : (m : Changes) → GivesNames m → (p : Place) (i j : Ident) → changed m p i ≡ Some j → IsNew i j
+pub changed_new : (m : Changes) → GivesNames m → (p : Place) (i j : Ident) → changed m p i ≡ Some j → is_bindable true j.sym ≡ true
 changed_new m g place.Name i j h = new_name m g i j h
 changed_new m g place.Shorthand i j h = new_name m g i j h
 changed_new m g place.Other i j h = absurd (cc)
@@ -114,9 +114,9 @@ renamed m g place.Shorthand k i o n e = absurd (cc)
 renamed m g place.Name k i None n e = (i, refl, inl refl)
 renamed m g place.Exported k i None n e = (i, refl, inl refl)
 renamed m g place.Other k i None n e = (i, refl, inl refl)
-renamed m g place.Name k i (Some j) n e = (j, refl, changed_new m g place.Name i j e)
-renamed m g place.Exported k i (Some j) n e = (j, refl, changed_new m g place.Exported i j e)
-renamed m g place.Other k i (Some j) n e = (j, refl, changed_new m g place.Other i j e)
+renamed m g place.Name k i (Some j) n e = (j, refl, inr (changed_new m g place.Name i j e))
+renamed m g place.Exported k i (Some j) n e = (j, refl, inr (changed_new m g place.Exported i j e))
+renamed m g place.Other k i (Some j) n e = (j, refl, inr (changed_new m g place.Other i j e))
 
 -- ---- what is seen of a node's form
 

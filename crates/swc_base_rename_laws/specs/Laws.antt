@@ -1,10 +1,15 @@
 -- What giving names anew keeps.
-use Rattle.std.specs.Prelude.{◌≡◌, ℕ, false, Some, None, List}
+use Rattle.std.specs.Prelude.{◌≡◌, ℕ, true, false, IsTrue, Some, None, List}
 use Rattle.std.specs.HashMap.{get}
+use Rattle.swc_tree_marks.specs.declared.ident.Ident.{Ident}
+use Rattle.swc_tree_node.specs.declared.slot.Slot.{Slot}
 use Rattle.swc_tree_node.specs.declared.node.Node.{Node}
+use Rattle.swc_tree_node.specs.Fits.{Fits}
+use Rattle.swc_tree_grammar.specs.Writable.{is_bindable, is_writable}
 use Rattle.swc_base_rename_substitution.specs.declared.names.Names.{Names}
 use Rattle.swc_base_rename_substitution.specs.declared.names.Names.TheVariants.{Texts, Ids}
 use Rattle.swc_base_rename_substitution.specs.Names.{Id, new_id, same_id}
+use Rattle.swc_base_rename_substitution.specs.Identifiers.{Changes, id_of}
 use Rattle.swc_base_rename_substitution.specs.Substituted.{Substituted}
 
 -- the map has nothing for any id
@@ -24,3 +29,11 @@ EmptyMapChangesNothing = (names : Names) (tree answer : Node) → IsEmpty names 
 -- ... nor does one that keeps all texts
 abbrev pub KeptTextsChangeNothing : Type 0
 KeptTextsChangeNothing = (names : Names) (tree answer : Node) → KeepsTexts names → Substituted (new_id names) false tree answer → answer ≡ tree
+
+-- each new text is an identifier's, and none is `eval` or `arguments`
+abbrev pub GivesNames : Changes → Type 0
+GivesNames m = (i : Ident) (text context : List ℕ) → m (id_of i) ≡ Some (text, context) → IsTrue (is_bindable true text)
+
+-- a tree that fits some place, as each module and each script does, and can be written down still can
+abbrev pub WritableStays : Type 0
+WritableStays = (m : Changes) (place : Slot) (tree answer : Node) → GivesNames m → Fits tree place → IsTrue (is_writable tree) → Substituted m false tree answer → IsTrue (is_writable answer)
