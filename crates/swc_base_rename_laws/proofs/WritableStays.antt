@@ -1,16 +1,15 @@
 -- A tree that fits and can be written down still can when its names are given anew.
-use Rattle.std.proofs.Common.{◌≡◌, ℕ, zero, suc, Bool, true, false, not, ◌&&◌, ◌||◌, IsTrue, Option, Some, None, List, [], ◌∷◌, map, rules, refl, sym, ap, ◌∙◌, subst, ◌⊎◌, inl, inr}
+use Rattle.std.proofs.Common.{◌≡◌, Bool, true, false, not, ◌&&◌, ◌||◌, IsTrue, Option, Some, None, List, [], ◌∷◌, map, rules, refl, sym, ap, ◌∙◌, subst, inl, inr}
 use Rattle.std.specs.Prelude.{if◌then◌else◌}
 use Rattle.swc_tree_marks.specs.declared.ident.Ident.{Ident}
 use Rattle.swc_tree_node.specs.declared.kind.Kind.{Kind}
 use Rattle.swc_tree_node.specs.declared.kind.Kind.TheVariants as kind
 use Rattle.swc_tree_node.specs.declared.kind.Class.TheVariants as class
-use Rattle.swc_tree_node.specs.declared.slot.Content.{Content}
 use Rattle.swc_tree_node.specs.declared.slot.Content.TheVariants as content
 use Rattle.swc_tree_node.specs.declared.slot.Slot.{Slot}
 use Rattle.swc_tree_node.specs.declared.slot.Slot.TheVariants as slot
 use Rattle.swc_tree_node.specs.declared.node.Node.{Node, Absent, Flag, Word, Text, Span, List as Many, Identifier, Tree, out-Node, the_lemmas}
-use Rattle.swc_tree_node.specs.declared.node.Node.TheVariants.{outs-Identifier, outs-List, outs-Tree}
+use Rattle.swc_tree_node.specs.declared.node.Node.TheVariants.{outs-Identifier, outs-Tree}
 use Rattle.swc_tree_node.specs.declared.node.Node.TheOpen.{Node-F}
 use Rattle.swc_tree_node.specs.Table.{is_identifier, slots_of}
 use Rattle.swc_tree_node.specs.Fits.{AllFit, FieldsFit, Fits, belongs, fits, list_fits}
@@ -23,7 +22,7 @@ use Rattle.swc_base_rename_substitution.specs.declared.place.Place.{Place}
 use Rattle.swc_base_rename_substitution.specs.declared.place.Place.TheVariants as place
 use Rattle.swc_base_rename_substitution.specs.Identifiers.{Changes, changed, default_in, identifier_to, kept_name, or_kept, with_default, written_out_if, writes_out}
 use Rattle.swc_base_rename_substitution.specs.Places.{within}
-use Rattle.swc_base_rename_substitution.specs.Substituted.{Substituted, substituted}
+use Rattle.swc_base_rename_substitution.specs.Substituted.{substituted}
 use Rattle.swc_base_rename_substitution.specs.Walk.{items_substituted}
 use Rattle.swc_base_rename_substitution.proofs.Equations.{substituted-Absent, substituted-Flag, substituted-Word, substituted-Text, substituted-Span, substituted_identifier, substituted_list}
 use Rattle.swc_base_rename_substitution.proofs.Room.{identifier_open, left, right, tree_open}
@@ -137,10 +136,10 @@ plain_target t = by_children (λ t. Fits t target → is_plain_pattern_in (out-N
   λ x f. (let never : fits (Text x) target ≡ false = fits-Text x target in absurd (cc)),
   λ s f. (let never : fits (Span s) target ≡ false = fits-Span s target in absurd (cc)),
   λ k i f. (
-    let o = identifier_open k i target f in
-    let same : o.0 ≡ class.BindingIdent = let q = o.1 in cc in
-    ap is_plain_pattern_in (outs-Identifier k i) ∙ binding_kind k i (subst (λ c. IsTrue (belongs k c)) same o.3)
-  ),
+      let o = identifier_open k i target f in
+      let same : o.0 ≡ class.BindingIdent = let q = o.1 in cc in
+      ap is_plain_pattern_in (outs-Identifier k i) ∙ binding_kind k i (subst (λ c. IsTrue (belongs k c)) same o.3)
+      ),
 )
     (λ ts l f. (let never : fits (Many ts) target ≡ false = fits-List ts target in absurd (cc)))
     (λ k ts l f. (let w = tree_opens k ts class.BindingIdent f in absurd (no_binding_tree k w.0 w.1))) t

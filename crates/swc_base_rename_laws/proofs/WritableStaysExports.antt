@@ -1,8 +1,8 @@
 -- An exported declaration, one of whose names changes, becomes the declaration and an export list that can be
 -- written down.
-use Rattle.std.proofs.Common.{◌≡◌, ℕ, zero, suc, Bool, true, false, not, ◌&&◌, ◌||◌, Option, Some, None, List, [], ◌∷◌, ◌++◌, map, rules, refl, sym, ap, ◌∙◌, subst}
+use Rattle.std.proofs.Common.{◌≡◌, Bool, true, false, not, ◌&&◌, ◌||◌, Option, Some, None, List, [], ◌∷◌, map, rules, refl, sym, ap, ◌∙◌}
 use Rattle.std.specs.Prelude.{if◌then◌else◌, is_some}
-use Rattle.std.specs.List.{list_all, list_any, slice_get}
+use Rattle.std.specs.List.{list_all, list_any}
 use Rattle.swc_tree_marks.specs.declared.ident.Ident.{Ident}
 use Rattle.swc_tree_node.specs.declared.kind.Kind.{Kind}
 use Rattle.swc_tree_node.specs.declared.kind.Kind.TheVariants as kind
@@ -14,19 +14,14 @@ use Rattle.swc_tree_scoping.specs.BoundNames.{Id, bound_ids, declared_in, declar
 use Rattle.swc_tree_scoping.specs.BoundNames.{id_of as ids_of}
 use Rattle.swc_tree_grammar.specs.Shapes.{items_in}
 use Rattle.swc_tree_grammar.specs.Kinds.{has_kind, has_kind_in, is_private_name}
-use Rattle.swc_tree_grammar.specs.Writable.{Round, all_sound, is_bindable, is_identifier_text, local_specifier_in, is_name_kind_in, name_is, sound_in}
-use Rattle.swc_tree_grammar.proofs.Induction.{Each, by_children}
-use Rattle.swc_base_rename_substitution.specs.declared.place.Place.{Place}
-use Rattle.swc_base_rename_substitution.specs.declared.place.Place.TheVariants as place
+use Rattle.swc_tree_grammar.specs.Writable.{Round, all_sound, is_identifier_text, local_specifier_in, is_name_kind_in, name_is, sound_in}
+use Rattle.swc_tree_grammar.proofs.Induction.{by_children}
 use Rattle.swc_base_rename_substitution.specs.Names.{same_id}
 use Rattle.swc_base_rename_substitution.specs.Identifiers.{Changes}
-use Rattle.swc_base_rename_substitution.specs.Exports.{declaration_of, distinct, export_list, exported_ids, exported_in, exports_of, items_for, made, nowhere, specifier, specifier_to, with_exports, without}
-use Rattle.swc_base_rename_substitution.specs.Substituted.{substituted}
-use Rattle.swc_base_rename_substitution.proofs.Room.{is_short, left, right}
+use Rattle.swc_base_rename_substitution.specs.Exports.{distinct, export_list, exported_ids, exported_in, made, nowhere, specifier, specifier_to, without}
+use Rattle.swc_base_rename_substitution.proofs.Room.{left, right}
 use Rattle.swc_base_rename_laws.specs.Laws.{GivesNames}
 use Rattle.swc_base_rename_laws.proofs.WritableStaysSound.{of, sound, sound_list, sound_name, sound_tree}
-use Rattle.swc_base_rename_laws.proofs.WritableStaysShape.{fields, long, plain_tree}
-use Rattle.swc_base_rename_laws.proofs.WritableStaysForms.{private_same, statement_same}
 use Rattle.swc_base_rename_laws.proofs.WritableStaysNames.{all_texts, bindable_text, both_true, bound_named, by_round, unbound}
 
 -- ---- the names of a declaration
@@ -96,15 +91,15 @@ changes m xs = list_any (λ x. is_some (m x)) xs
 -- ---- the export list
 
 module _ (m : Changes) (g : GivesNames m) where
-
   abbrev Good : Node → Type 0
   Good t = (local_specifier_in (out-Node t) ≡ true) × ((r : Round) → (not (has_kind is_private_name t) && sound t r) ≡ true)
 
   good : (i : Ident) (other : Node) → is_identifier_text i.sym ≡ true → Good (Tree kind.ExportNamedSpecifier (nowhere ∷ Identifier kind.Ident i ∷ other ∷ []))
   good i other h =
-      let ts : List Node = nowhere ∷ Identifier kind.Ident i ∷ other ∷ [] in
-      (ap local_specifier_in (outs-Tree kind.ExportNamedSpecifier ts) ∙ ap is_name_kind_in (outs-Identifier kind.Ident i),
-      λ r. both_true (ap (λ y. not (has_kind_in is_private_name y)) (outs-Tree kind.ExportNamedSpecifier ts)) (sound_tree kind.ExportNamedSpecifier ts r ∙ sound_name kind.Ident i r ∙ h))
+      let ts : List Node = nowhere ∷ Identifier kind.Ident i ∷ other ∷ [] in (
+        ap local_specifier_in (outs-Tree kind.ExportNamedSpecifier ts) ∙ ap is_name_kind_in (outs-Identifier kind.Ident i),
+        λ r. both_true (ap (λ y. not (has_kind_in is_private_name y)) (outs-Tree kind.ExportNamedSpecifier ts)) (sound_tree kind.ExportNamedSpecifier ts r ∙ sound_name kind.Ident i r ∙ h),
+      )
 
   good_specifier : (x : Id) (y : Option Id) → m x ≡ y → is_identifier_text x.0 ≡ true → Good (specifier_to x y)
   good_specifier x None e h = good (made x) Absent h

@@ -1,26 +1,22 @@
 -- What the rows of the grammar ask of a node's form stays when names are given anew.
-use Rattle.std.proofs.Common.{◌≡◌, ℕ, zero, suc, Bool, true, false, not, ◌&&◌, ◌||◌, Option, Some, None, List, [], ◌∷◌, codes, nat_eq, refl, sym, ap, ◌∙◌}
-use Rattle.std.specs.Prelude.{is_some, unwrap_or}
+use Rattle.std.proofs.Common.{◌≡◌, Bool, true, false, None, List, [], ◌∷◌, codes, nat_eq, refl, ap}
+use Rattle.std.specs.Prelude.{unwrap_or}
 use Rattle.std.specs.Cmp.Lexicographic.{pointwise}
 use Rattle.swc_tree_marks.specs.declared.ident.Ident.{Ident}
 use Rattle.swc_tree_node.specs.declared.kind.Kind.{Kind}
 use Rattle.swc_tree_node.specs.declared.kind.Kind.TheVariants as kind
-use Rattle.swc_tree_node.specs.declared.kind.Word.{Word as Word'}
-use Rattle.swc_tree_node.specs.declared.node.Node.{Node, Identifier, Tree, out-Node}
-use Rattle.swc_tree_node.specs.declared.node.Node.TheVariants.{outs-Identifier, outs-Tree}
+use Rattle.swc_tree_node.specs.declared.node.Node.{Node, out-Node}
 use Rattle.swc_tree_node.specs.declared.node.Node.TheOpen.{Node-F}
 use Rattle.swc_tree_scoping.specs.Places.{flag_in, text_in, literal_in, plain_in, statement_in}
-use Rattle.swc_tree_scoping.specs.Shorthands.{shorthand_key}
 use Rattle.swc_tree_grammar.specs.Shapes.{}
 use Rattle.swc_tree_grammar.specs.Levels.{word_in, is_absent_in}
 use Rattle.swc_tree_grammar.specs.Kinds.{has_kind_in, is_private_name}
-use Rattle.swc_tree_grammar.specs.Forms.{Form, form_in, form_of_word, form_of_function, is_name_in, is_named_in}
-use Rattle.swc_tree_grammar.specs.Writable.{is_plain_pattern_in, default_in, property_in, is_name_kind_in, initialised_in, constructor_key_in, local_specifier_in, declares_in, is_text}
+use Rattle.swc_tree_grammar.specs.Forms.{form_in, form_of_word, form_of_function, is_name_in, is_named_in}
+use Rattle.swc_tree_grammar.specs.Writable.{is_plain_pattern_in, default_in, property_in, is_name_kind_in, initialised_in, constructor_key_in, local_specifier_in, declares_in}
 use Rattle.swc_base_rename_substitution.specs.declared.place.Place.{Place}
 use Rattle.swc_base_rename_substitution.specs.declared.place.Place.TheVariants as place
-use Rattle.swc_base_rename_substitution.specs.Identifiers.{Changes, changed, identifier_to, with_other}
+use Rattle.swc_base_rename_substitution.specs.Identifiers.{Changes, with_other}
 use Rattle.swc_base_rename_substitution.specs.Substituted.{substituted}
-use Rattle.swc_base_rename_substitution.proofs.Equations.{substituted_identifier}
 use Rattle.swc_base_rename_substitution.proofs.Room.{is_short}
 use Rattle.swc_base_rename_laws.specs.Laws.{GivesNames}
 use Rattle.swc_base_rename_laws.proofs.WritableStaysShape.{Even, even_at, even_anywhere, fields, long}

@@ -1,26 +1,25 @@
 -- Whether an expression is an optional chain or a string, pairs taken off, stays when names are given anew.
-use Rattle.std.proofs.Common.{◌≡◌, ℕ, Bool, true, false, IsTrue, Option, Some, None, List, [], ◌∷◌, map, nat_le, length, rules, refl, sym, ap, ◌∙◌}
+use Rattle.std.proofs.Common.{◌≡◌, ℕ, Bool, true, false, IsTrue, Option, None, List, [], ◌∷◌, map, rules, refl, sym, ap, ◌∙◌}
 use Rattle.std.specs.Prelude.{is_some}
 use Rattle.swc_tree_marks.specs.declared.ident.Ident.{Ident}
 use Rattle.swc_tree_node.specs.declared.kind.Kind.{Kind}
 use Rattle.swc_tree_node.specs.declared.kind.Kind.TheVariants as kind
-use Rattle.swc_tree_node.specs.declared.kind.Class.{Class}
 use Rattle.swc_tree_node.specs.declared.kind.Class.TheVariants as class
 use Rattle.swc_tree_node.specs.declared.slot.Content.TheVariants as content
 use Rattle.swc_tree_node.specs.declared.slot.Slot.{Slot}
 use Rattle.swc_tree_node.specs.declared.slot.Slot.TheVariants as slot
-use Rattle.swc_tree_node.specs.declared.node.Node.{Node, Absent, Flag, Word, Text, Span, List as Many, Identifier, Tree, out-Node, roll-Node, the_lemmas}
-use Rattle.swc_tree_node.specs.declared.node.Node.TheVariants.{outs-Identifier, outs-List, outs-Tree, rolls-Tree}
+use Rattle.swc_tree_node.specs.declared.node.Node.{Node, List as Many, Identifier, Tree, out-Node, the_lemmas}
+use Rattle.swc_tree_node.specs.declared.node.Node.TheVariants.{outs-Identifier, outs-Tree, rolls-Tree}
 use Rattle.swc_tree_node.specs.declared.node.Node.TheOpen.{Node-F}
 use Rattle.swc_tree_node.specs.Table.{slots_of}
 use Rattle.swc_tree_node.specs.Fits.{FieldsFit, Fits, belongs, fits}
-use Rattle.swc_tree_node.proofs.Fit.{fits-Absent, fits-Flag, fits-Word, fits-Span, fits-List, fits-Identifier, fits-Tree, tree_opens}
+use Rattle.swc_tree_node.proofs.Fit.{fits-List, fits-Tree, tree_opens}
 use Rattle.swc_tree_scoping.specs.Places.{literal_in, text_in}
-use Rattle.swc_tree_grammar.specs.Kinds.{has_kind, has_kind_in, is_chain, is_opt_chain}
+use Rattle.swc_tree_grammar.specs.Kinds.{has_kind_in, is_chain, is_opt_chain}
 use Rattle.swc_tree_grammar.specs.Stripped.{settled, stripped}
 use Rattle.swc_tree_grammar.specs.Writable.{Round, binding, is_string, sound_in}
 use Rattle.swc_tree_grammar.proofs.Induction.{Each, by_children}
-use Rattle.swc_tree_grammar.proofs.Stripped.{stripped_of_list, stripped_of_tree}
+use Rattle.swc_tree_grammar.proofs.Stripped.{stripped_of_tree}
 use Rattle.swc_base_rename_substitution.specs.declared.place.Place.{Place}
 use Rattle.swc_base_rename_substitution.specs.declared.place.Place.TheVariants as place
 use Rattle.swc_base_rename_substitution.specs.Identifiers.{Changes, changed, writes_out}
@@ -141,7 +140,7 @@ module _ (m : Changes) (g : GivesNames m) where
     λ x p r n f h h'. ap (λ u. head (stripped u)) (substituted-Text m false p x),
     λ s p r n f h h'. ap (λ u. head (stripped u)) (substituted-Span m false p s),
     λ k i p r n f h h'. (let w = renamed m g p k i (changed m p i) n refl in
-    ap (λ u. head (stripped u)) (substituted_identifier m false p k i ∙ w.1) ∙ head_name k w.0 ∙ sym (head_name k i)),
+        ap (λ u. head (stripped u)) (substituted_identifier m false p k i ∙ w.1) ∙ head_name k w.0 ∙ sym (head_name k i)),
   )
       (λ ts l p r n f h h'. (let never : fits (Many ts) expr ≡ false = fits-List ts expr in absurd (cc))) tree_head t
 

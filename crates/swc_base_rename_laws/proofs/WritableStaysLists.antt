@@ -1,23 +1,17 @@
 -- What the rows of the grammar ask of lists stays when names are given anew.
-use Rattle.std.proofs.Common.{◌≡◌, ℕ, zero, suc, Bool, true, false, not, ◌&&◌, ◌||◌, Option, Some, None, List, [], ◌∷◌, ◌++◌, map, length, rules, refl, sym, ap, ◌∙◌, subst}
+use Rattle.std.proofs.Common.{◌≡◌, ℕ, Bool, true, false, not, ◌&&◌, Option, Some, None, List, [], ◌∷◌, ◌++◌, map, rules, refl, sym, ap, ◌∙◌, subst}
 use Rattle.std.specs.Prelude.{if◌then◌else◌, is_some, option_map}
 use Rattle.std.specs.List.{list_all, list_any}
-use Rattle.swc_tree_marks.specs.declared.ident.Ident.{Ident}
-use Rattle.swc_tree_node.specs.declared.kind.Kind.{Kind}
 use Rattle.swc_tree_node.specs.declared.kind.Kind.TheVariants as kind
-use Rattle.swc_tree_node.specs.declared.kind.Class.{Class}
-use Rattle.swc_tree_node.specs.declared.slot.Content.TheVariants as content
-use Rattle.swc_tree_node.specs.declared.slot.Slot.{Slot}
-use Rattle.swc_tree_node.specs.declared.slot.Slot.TheVariants as slot
-use Rattle.swc_tree_node.specs.declared.node.Node.{Node, Absent, Flag, Word, Text, Span, List as Many, Identifier, Tree, out-Node, roll-Node, roll-out-Node, the_lemmas}
+use Rattle.swc_tree_node.specs.declared.node.Node.{Node, Absent, Flag, Word, Text, Span, Identifier, Tree, out-Node, the_lemmas}
 use Rattle.swc_tree_node.specs.declared.node.Node.TheVariants.{outs-Identifier, outs-Tree, outs-List}
 use Rattle.swc_tree_node.specs.declared.node.Node.TheOpen.{Node-F}
-use Rattle.swc_tree_scoping.specs.Places.{directive_of, directive_or, has_use_strict, says, statement_in, string_of}
+use Rattle.swc_tree_scoping.specs.Places.{directive_of, directive_or, has_use_strict, says, statement_in}
 use Rattle.swc_tree_scoping.specs.BoundNames.{declared_ids}
 use Rattle.swc_tree_grammar.specs.Shapes.{items_in, items_of}
 use Rattle.swc_tree_grammar.specs.Forms.{form_in, is_using, is_using_form}
 use Rattle.swc_tree_grammar.specs.Kinds.{has_kind_in, is_private_name}
-use Rattle.swc_tree_grammar.specs.Writable.{Round, all_sound, sound_in}
+use Rattle.swc_tree_grammar.specs.Writable.{Round, all_sound}
 use Rattle.swc_tree_grammar.proofs.Induction.{Each, by_children}
 use Rattle.swc_base_rename_substitution.specs.declared.place.Place.{Place}
 use Rattle.swc_base_rename_substitution.specs.declared.place.Place.TheVariants as place
@@ -31,8 +25,8 @@ use Rattle.swc_base_rename_substitution.proofs.Equations.{substituted_list}
 use Rattle.swc_base_rename_substitution.proofs.Lists.{no_exports}
 use Rattle.swc_base_rename_substitution.proofs.Room.{is_short, left, right}
 use Rattle.swc_base_rename_laws.specs.Laws.{GivesNames}
-use Rattle.swc_base_rename_laws.proofs.WritableStaysSound.{of, sound, sound_list, sound_tree}
-use Rattle.swc_base_rename_laws.proofs.WritableStaysShape.{fields, long, plain_tree}
+use Rattle.swc_base_rename_laws.proofs.WritableStaysSound.{of, sound, sound_tree}
+use Rattle.swc_base_rename_laws.proofs.WritableStaysShape.{long, plain_tree}
 use Rattle.swc_base_rename_laws.proofs.WritableStaysForms.{form_same, is_list_in, list_same, private_same, statement_same}
 use Rattle.swc_base_rename_laws.proofs.WritableStaysNames.{all_texts, both_true}
 use Rattle.swc_base_rename_laws.proofs.WritableStaysExports.{changes, declared_named, distinct_texts, exported, no_private_declaration, no_statement_declaration, sound_exports}

@@ -1,6 +1,5 @@
 -- Accessors and the parts of chains stay what they are when names are given anew.
-use Rattle.std.proofs.Common.{◌≡◌, ℕ, Bool, true, false, not, IsTrue, List, [], ◌∷◌, map, length, nat_eq, rules, refl, sym, ap, ◌∙◌, subst}
-use Rattle.std.specs.List.{list_any}
+use Rattle.std.proofs.Common.{◌≡◌, Bool, true, false, not, IsTrue, List, [], ◌∷◌, map, length, nat_eq, rules, refl, sym, ap, ◌∙◌, subst}
 use Rattle.swc_tree_node.specs.declared.kind.Kind.{Kind}
 use Rattle.swc_tree_node.specs.declared.kind.Kind.TheVariants as kind
 use Rattle.swc_tree_node.specs.declared.kind.Class.TheVariants as class
@@ -13,7 +12,7 @@ use Rattle.swc_tree_node.specs.Table.{slots_of}
 use Rattle.swc_tree_node.specs.Fits.{FieldsFit, Fits, belongs}
 use Rattle.swc_tree_node.proofs.Fit.{tree_opens}
 use Rattle.swc_tree_grammar.specs.Writable.{Round, accessor, base_goes_on_in, binding, is_getter, is_setter, one_without_rest, parameters_in, sound_in}
-use Rattle.swc_tree_grammar.proofs.Induction.{Each, by_children}
+use Rattle.swc_tree_grammar.proofs.Induction.{by_children}
 use Rattle.swc_base_rename_substitution.specs.declared.place.Place.{Place}
 use Rattle.swc_base_rename_substitution.specs.declared.place.Place.TheVariants as place
 use Rattle.swc_base_rename_substitution.specs.Identifiers.{Changes, writes_out}
@@ -119,17 +118,17 @@ module _ (m : Changes) (g : GivesNames m) where
       → Le (base_goes_on_in (out-Node t)) (base_goes_on_in (out-Node (substituted m false p t)))
   base_le p t r = by_children
       (λ t. Fits t (slot.One (content.Node class.OptChainBase)) → sound t r ≡ true → sound (substituted m false p t) r ≡ true → Le (base_goes_on_in (out-Node t)) (base_goes_on_in (out-Node (substituted m false p t)))) (
-    λ f s s' h. none_goes_on Absent Node-F.Absent (search (rules, the_lemmas)) refl h _,
-    λ x f s s' h. none_goes_on (Flag x) (Node-F.Flag x) (search (rules, the_lemmas)) refl h _,
-    λ w f s s' h. none_goes_on (Word w) (Node-F.Word w) (search (rules, the_lemmas)) refl h _,
-    λ x f s s' h. none_goes_on (Text x) (Node-F.Text x) (search (rules, the_lemmas)) refl h _,
-    λ x f s s' h. none_goes_on (Span x) (Node-F.Span x) (search (rules, the_lemmas)) refl h _,
-    λ k i f s s' h. none_goes_on (Identifier k i) (Node-F.Identifier k i) (outs-Identifier k i) refl h _,
-  )
+        λ f s s' h. none_goes_on Absent Node-F.Absent (search (rules, the_lemmas)) refl h _,
+        λ x f s s' h. none_goes_on (Flag x) (Node-F.Flag x) (search (rules, the_lemmas)) refl h _,
+        λ w f s s' h. none_goes_on (Word w) (Node-F.Word w) (search (rules, the_lemmas)) refl h _,
+        λ x f s s' h. none_goes_on (Text x) (Node-F.Text x) (search (rules, the_lemmas)) refl h _,
+        λ x f s s' h. none_goes_on (Span x) (Node-F.Span x) (search (rules, the_lemmas)) refl h _,
+        λ k i f s s' h. none_goes_on (Identifier k i) (Node-F.Identifier k i) (outs-Identifier k i) refl h _,
+      )
       (λ ts l f s s' h. none_goes_on (Many ts) (Node-F.List ts) (outs-List ts) refl h _)
       (λ k ts l f s s' h. (
-        let w = tree_opens k ts class.OptChainBase f in
-        let is : substituted m false p (Tree k ts) ≡ Tree k (fields m p k ts) = plain_tree m p k ts (base_plain k w.1) in
-        ap (λ u. base_goes_on_in (out-Node u)) is ∙ ap base_goes_on_in (outs-Tree k (fields m p k ts))
-        ∙ base_row p k ts r w.2 (sym (sound_tree k ts r) ∙ s) (sym (ap (λ u. sound u r) is ∙ sound_tree k (fields m p k ts) r) ∙ s') (sym (ap base_goes_on_in (outs-Tree k ts)) ∙ h)
+      let w = tree_opens k ts class.OptChainBase f in
+      let is : substituted m false p (Tree k ts) ≡ Tree k (fields m p k ts) = plain_tree m p k ts (base_plain k w.1) in
+      ap (λ u. base_goes_on_in (out-Node u)) is ∙ ap base_goes_on_in (outs-Tree k (fields m p k ts))
+      ∙ base_row p k ts r w.2 (sym (sound_tree k ts r) ∙ s) (sym (ap (λ u. sound u r) is ∙ sound_tree k (fields m p k ts) r) ∙ s') (sym (ap base_goes_on_in (outs-Tree k ts)) ∙ h)
       )) t

@@ -1,43 +1,39 @@
 -- What the rows of the grammar ask of the parts of a node, where its names are given anew.
-use Rattle.std.proofs.Common.{◌≡◌, ℕ, zero, suc, Bool, true, false, not, ◌&&◌, ◌||◌, IsTrue, Option, Some, None, List, [], ◌∷◌, map, length, nat_eq, rules, refl, sym, ap, ◌∙◌, subst, ◌⊎◌, inl, inr}
+use Rattle.std.proofs.Common.{◌≡◌, ℕ, Bool, true, false, not, IsTrue, Some, List, [], ◌∷◌, length, rules, refl, sym, ap, ◌∙◌, subst, inl, inr}
 use Rattle.std.specs.Prelude.{if◌then◌else◌}
 use Rattle.std.specs.List.{list_all, list_any}
 use Rattle.swc_tree_marks.specs.declared.ident.Ident.{Ident}
 use Rattle.swc_tree_node.specs.declared.kind.Kind.{Kind}
 use Rattle.swc_tree_node.specs.declared.kind.Kind.TheVariants as kind
 use Rattle.swc_tree_node.specs.declared.kind.Class.{Class}
-use Rattle.swc_tree_node.specs.declared.kind.Class.TheVariants as class
 use Rattle.swc_tree_node.specs.declared.slot.Content.TheVariants as content
 use Rattle.swc_tree_node.specs.declared.slot.Slot.{Slot}
 use Rattle.swc_tree_node.specs.declared.slot.Slot.TheVariants as slot
 use Rattle.swc_tree_node.specs.declared.node.Node.{Node, Absent, Flag, Word, Text, Span, List as Many, Identifier, Tree, out-Node, roll-Node, roll-out-Node, the_lemmas}
 use Rattle.swc_tree_node.specs.declared.node.Node.TheVariants.{outs-Identifier, outs-List, outs-Tree, rolls-Tree}
 use Rattle.swc_tree_node.specs.declared.node.Node.TheOpen.{Node-F}
-use Rattle.swc_tree_node.specs.Table.{slots_of}
-use Rattle.swc_tree_node.specs.Fits.{AllFit, FieldsFit, Fits, belongs, fits, single}
-use Rattle.swc_tree_node.proofs.Fit.{fits-List, fits-Tree, all_open, holes_open, list_opens, tree_opens}
+use Rattle.swc_tree_node.specs.Fits.{AllFit, Fits, belongs, single}
+use Rattle.swc_tree_node.proofs.Fit.{holes_open, list_opens}
 use Rattle.swc_tree_scoping.specs.Places.{block_in, has_use_strict}
 use Rattle.swc_tree_grammar.specs.Shapes.{items_in, items_of}
-use Rattle.swc_tree_grammar.specs.Forms.{form, is_body, is_branch, is_strict, is_using}
-use Rattle.swc_tree_grammar.specs.Writable.{Asked, Round, accessor, all_sound, assigning, base_goes_on_in, binding, branch, elements, head, in_head_in, is_bindable, is_getter, is_setter, loop_body, name_is, no_using, one_bare, one_without_rest, parameters_in, pattern, sound_in, strictly}
-use Rattle.swc_tree_grammar.proofs.Induction.{Each, by_children}
+use Rattle.swc_tree_grammar.specs.Forms.{is_body, is_branch, is_strict, is_using}
+use Rattle.swc_tree_grammar.specs.Writable.{Round, assigning, branch, elements, head, is_bindable, loop_body, name_is, no_using, one_bare, strictly}
+use Rattle.swc_tree_grammar.proofs.Induction.{by_children}
 use Rattle.swc_base_rename_substitution.specs.declared.place.Place.{Place}
 use Rattle.swc_base_rename_substitution.specs.declared.place.Place.TheVariants as place
 use Rattle.swc_base_rename_substitution.specs.Identifiers.{Changes, changed}
 use Rattle.swc_base_rename_substitution.specs.Substituted.{substituted}
-use Rattle.swc_base_rename_substitution.specs.Walk.{each_substituted, is_exported_declaration, is_exported_in, items_substituted}
+use Rattle.swc_base_rename_substitution.specs.Walk.{is_exported_declaration, is_exported_in, items_substituted}
 use Rattle.swc_base_rename_substitution.proofs.Equations.{substituted-Absent, substituted-Flag, substituted-Word, substituted-Text, substituted-Span, substituted_identifier, substituted_list}
 use Rattle.swc_base_rename_substitution.proofs.Lists.{each_length}
-use Rattle.swc_base_rename_substitution.proofs.Room.{is_short, left, right, tree_open}
+use Rattle.swc_base_rename_substitution.proofs.Room.{is_short, left, tree_open}
 use Rattle.swc_base_rename_laws.specs.Laws.{GivesNames}
-use Rattle.swc_base_rename_laws.proofs.WritableStaysSound.{of, in_head, sound, sound_list, sound_name, sound_tree}
-use Rattle.swc_base_rename_laws.proofs.WritableStaysShape.{Even, IsNew, even_at, fields, long, plain_tree, renamed}
-use Rattle.swc_base_rename_laws.proofs.WritableStaysForms.{declares_same, form_same, is_list_in, list_same, word_same}
+use Rattle.swc_base_rename_laws.proofs.WritableStaysSound.{of, in_head, sound, sound_list}
+use Rattle.swc_base_rename_laws.proofs.WritableStaysShape.{Even, IsNew, even_at, fields, renamed}
+use Rattle.swc_base_rename_laws.proofs.WritableStaysForms.{declares_same, form_same, is_list_in, list_same}
 use Rattle.swc_base_rename_laws.proofs.WritableStaysNames.{both_true}
 use Rattle.swc_base_rename_laws.proofs.WritableStaysLists.{Le, items_each, no_using_items, unexported, use_strict_items}
-use Rattle.swc_base_rename_laws.proofs.WritableStaysPatterns.{and_le, elements_le, one_bare_le, one_without_rest_le, or_le, pattern_le, same_le, self_le}
-use Rattle.swc_base_rename_laws.proofs.WritableStaysHeads.{chain_same}
-use Rattle.swc_base_rename_laws.proofs.WritableStaysStripped.{first_sound, rest_sound}
+use Rattle.swc_base_rename_laws.proofs.WritableStaysPatterns.{and_le, elements_le, one_bare_le, pattern_le, same_le}
 
 -- ---- lists whose place takes no exported declaration
 
@@ -146,7 +142,7 @@ module _ (m : Changes) (g : GivesNames m) where
     λ x. same_name b (Text x) _ (substituted-Text m false p x),
     λ s. same_name b (Span s) _ (substituted-Span m false p s),
     λ k i h. (let w = renamed m g p k i (changed m p i) n refl in
-    ap (λ v. name_is b (out-Node v)) (substituted_identifier m false p k i ∙ w.1) ∙ ap (name_is b) (outs-Identifier k w.0) ∙ new_bound b i w.0 w.2 (sym (ap (name_is b) (outs-Identifier k i)) ∙ h)),
+        ap (λ v. name_is b (out-Node v)) (substituted_identifier m false p k i ∙ w.1) ∙ ap (name_is b) (outs-Identifier k w.0) ∙ new_bound b i w.0 w.2 (sym (ap (name_is b) (outs-Identifier k i)) ∙ h)),
   )
       (λ ts l h. (let never : name_is b (out-Node (Many ts)) ≡ false = ap (name_is b) (outs-List ts) in absurd (cc)))
       (λ k ts l h. (let never : name_is b (out-Node (Tree k ts)) ≡ false = ap (name_is b) (outs-Tree k ts) in absurd (cc))) t

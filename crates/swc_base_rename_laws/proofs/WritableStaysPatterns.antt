@@ -1,28 +1,24 @@
 -- Targets and the parts of patterns stay what they are when names are given anew.
-use Rattle.std.proofs.Common.{◌≡◌, ℕ, zero, suc, Bool, true, false, not, ◌&&◌, ◌||◌, Option, Some, None, List, [], ◌∷◌, ◌++◌, map, length, rules, refl, sym, ap, ◌∙◌, subst}
+use Rattle.std.proofs.Common.{◌≡◌, Bool, true, false, not, ◌&&◌, ◌||◌, List, [], ◌∷◌, ◌++◌, map, rules, refl, sym, ap, ◌∙◌}
 use Rattle.swc_tree_marks.specs.declared.ident.Ident.{Ident}
 use Rattle.swc_tree_node.specs.declared.kind.Kind.{Kind}
 use Rattle.swc_tree_node.specs.declared.kind.Kind.TheVariants as kind
-use Rattle.swc_tree_node.specs.declared.node.Node.{Node, Absent, Flag, Word, Text, Span, List as Many, Identifier, Tree, out-Node, roll-Node, roll-out-Node, the_lemmas}
-use Rattle.swc_tree_node.specs.declared.node.Node.TheVariants.{outs-Identifier, outs-Tree, outs-List, rolls-Tree}
+use Rattle.swc_tree_node.specs.declared.node.Node.{Node, List as Many, Identifier, Tree, out-Node, roll-Node, roll-out-Node, the_lemmas}
+use Rattle.swc_tree_node.specs.declared.node.Node.TheVariants.{outs-Tree, rolls-Tree}
 use Rattle.swc_tree_node.specs.declared.node.Node.TheOpen.{Node-F}
-use Rattle.swc_tree_grammar.specs.Shapes.{items_of}
-use Rattle.swc_tree_grammar.specs.Levels.{is_absent}
 use Rattle.swc_tree_grammar.specs.Kinds.{has_kind, is_rest}
 use Rattle.swc_tree_grammar.specs.Targets.{is_simple, is_target, seen, target_in}
-use Rattle.swc_tree_grammar.specs.Writable.{Round, default_in, element, elements, is_element, is_plain_pattern_in, one_bare, one_without_rest, pattern, pattern_of, pattern_of_param_in, property_in}
+use Rattle.swc_tree_grammar.specs.Writable.{Round, element, elements, is_element, one_bare, one_without_rest, pattern, pattern_of, pattern_of_param_in}
 use Rattle.swc_tree_grammar.proofs.Induction.{Each, by_children}
 use Rattle.swc_base_rename_substitution.specs.declared.place.Place.{Place}
 use Rattle.swc_base_rename_substitution.specs.declared.place.Place.TheVariants as place
-use Rattle.swc_base_rename_substitution.specs.Identifiers.{Changes, changed, identifier_to}
-use Rattle.swc_base_rename_substitution.specs.Exports.{export_list, exported_ids, items_for}
-use Rattle.swc_base_rename_substitution.specs.Places.{places}
+use Rattle.swc_base_rename_substitution.specs.Identifiers.{Changes, changed}
 use Rattle.swc_base_rename_substitution.specs.Substituted.{substituted}
 use Rattle.swc_base_rename_substitution.specs.Walk.{each_substituted, items_substituted}
-use Rattle.swc_base_rename_substitution.proofs.Equations.{substituted-Absent, substituted-Flag, substituted-Word, substituted-Text, substituted-Span, substituted_identifier, substituted_list, substituted_tree}
-use Rattle.swc_base_rename_substitution.proofs.Room.{is_short, left, right}
+use Rattle.swc_base_rename_substitution.proofs.Equations.{substituted-Absent, substituted-Flag, substituted-Word, substituted-Text, substituted-Span, substituted_identifier, substituted_list}
+use Rattle.swc_base_rename_substitution.proofs.Room.{is_short}
 use Rattle.swc_base_rename_laws.specs.Laws.{GivesNames}
-use Rattle.swc_base_rename_laws.proofs.WritableStaysShape.{Even, even_at, fields, long, plain_tree, renamed}
+use Rattle.swc_base_rename_laws.proofs.WritableStaysShape.{Even, even_at, fields, plain_tree, renamed}
 use Rattle.swc_base_rename_laws.proofs.WritableStaysForms.{absent_same, default_same, initialised_same, kind_same, plain_same, property_same}
 use Rattle.swc_base_rename_laws.proofs.WritableStaysLists.{Le, items_by}
 
@@ -101,7 +97,7 @@ module _ (m : Changes) (g : GivesNames m) where
     λ x p n. same_le (ap is_target (substituted-Text m false p x)),
     λ s p n. same_le (ap is_target (substituted-Span m false p s)),
     λ k i p n. (let r = renamed m g p k i (changed m p i) n refl in
-    same_le (ap is_target (substituted_identifier m false p k i ∙ r.1) ∙ target_name k r.0 ∙ sym (target_name k i))),
+        same_le (ap is_target (substituted_identifier m false p k i ∙ r.1) ∙ target_name k r.0 ∙ sym (target_name k i))),
   )
       (λ ts l p n h. ap is_target (substituted_list m false p ts) ∙ target_items p ts n l (sym (target_list ts) ∙ h))
       (λ k ts l p n h. target_row p k ts l (sym (target_tree k ts) ∙ h)) t
@@ -134,12 +130,11 @@ module _ (m : Changes) (g : GivesNames m) where
       at : (b : Bool) → is_param_in (out-Node t) ≡ b → (q : Place) × (is_short q ≡ false) × (pattern_of (substituted m false p t) ≡ substituted m false q (pattern_of t))
       at false e = (p, n, param_itself (substituted m false p t) (out-Node (substituted m false p t)) (param_same p n t ∙ e) ∙ ap (substituted m false p) (sym (param_itself t (out-Node t) e)))
       at true e =
-          let w = param_is t (out-Node t) refl e in
-          (
+          let w = param_is t (out-Node t) refl e in (
             place.Name,
             refl,
             ap (λ u. pattern_of (substituted m false p u)) w.2 ∙ ap pattern_of (plain_tree m p kind.Param (w.0 ∷ w.1 ∷ []) refl) ∙ param_pattern _ _
-            ∙ ap (substituted m false place.Name) (sym (ap pattern_of w.2 ∙ param_pattern w.0 w.1)),
+                ∙ ap (substituted m false place.Name) (sym (ap pattern_of w.2 ∙ param_pattern w.0 w.1)),
           )
 
   element_of_le : (p : Place) → is_short p ≡ false → (t : Node) (r : Round) → Le (element (pattern_of t) r) (element (pattern_of (substituted m false p t)) r)

@@ -1,17 +1,15 @@
 -- Expressions, functions, classes and patterns stay writable when names are given anew, if what is below them does.
-use Rattle.std.proofs.Common.{◌≡◌, ℕ, zero, suc, Bool, true, false, not, ◌&&◌, ◌||◌, List, [], ◌∷◌, map, length, nat_eq, nat_le, refl, sym, ap, ◌∙◌}
-use Rattle.std.specs.List.{list_all}
+use Rattle.std.proofs.Common.{ℕ, zero, suc, true, false, not, List, [], ◌∷◌, map, nat_le, refl, ap}
 use Rattle.swc_tree_node.specs.declared.kind.Kind.{Kind}
 use Rattle.swc_tree_node.specs.declared.kind.Kind.TheVariants as kind
 use Rattle.swc_tree_node.specs.declared.kind.Class.TheVariants as class
-use Rattle.swc_tree_node.specs.declared.node.Node.{Node, out-Node}
+use Rattle.swc_tree_node.specs.declared.node.Node.{Node}
 use Rattle.swc_tree_node.specs.declared.node.Node.TheOpen.{Node-F}
 use Rattle.swc_tree_node.specs.Table.{slots_of}
 use Rattle.swc_tree_node.specs.Fits.{FieldsFit}
-use Rattle.swc_tree_grammar.specs.Shapes.{items_of}
 use Rattle.swc_tree_grammar.specs.Levels.{is_in, word_of}
 use Rattle.swc_tree_grammar.specs.Kinds.{is_paren}
-use Rattle.swc_tree_grammar.specs.Writable.{Asked, Round, all_sound, assigning, binding, is_pattern_target, is_plain_assignment, left_side, sound_in, strictly}
+use Rattle.swc_tree_grammar.specs.Writable.{Round, all_sound, assigning, binding, is_pattern_target, is_plain_assignment, left_side, sound_in, strictly}
 use Rattle.swc_tree_grammar.proofs.Induction.{Each}
 use Rattle.swc_base_rename_substitution.specs.declared.place.Place.{Place}
 use Rattle.swc_base_rename_substitution.specs.declared.place.Place.TheVariants as place
@@ -19,13 +17,13 @@ use Rattle.swc_base_rename_substitution.specs.Identifiers.{Changes}
 use Rattle.swc_base_rename_substitution.specs.Places.{places, within}
 use Rattle.swc_base_rename_substitution.specs.Substituted.{substituted}
 use Rattle.swc_base_rename_substitution.specs.Walk.{each_substituted}
-use Rattle.swc_base_rename_substitution.proofs.Room.{is_short, left, right}
+use Rattle.swc_base_rename_substitution.proofs.Room.{left, right}
 use Rattle.swc_base_rename_laws.specs.Laws.{GivesNames}
 use Rattle.swc_base_rename_laws.proofs.WritableStaysSound.{in_head, of, sound}
-use Rattle.swc_base_rename_laws.proofs.WritableStaysShape.{fields, long, within_long}
-use Rattle.swc_base_rename_laws.proofs.WritableStaysForms.{absent_same, flag_same, key_same, kind_same, literal_same, private_same, word_same}
+use Rattle.swc_base_rename_laws.proofs.WritableStaysShape.{fields, within_long}
+use Rattle.swc_base_rename_laws.proofs.WritableStaysForms.{flag_same, key_same, kind_same, private_same, word_same}
 use Rattle.swc_base_rename_laws.proofs.WritableStaysNames.{both_true}
-use Rattle.swc_base_rename_laws.proofs.WritableStaysLists.{Le, unexported}
+use Rattle.swc_base_rename_laws.proofs.WritableStaysLists.{Le}
 use Rattle.swc_base_rename_laws.proofs.WritableStaysPatterns.{and_le, element_le, or_le, pattern_le, same_le, self_le, target_le}
 use Rattle.swc_base_rename_laws.proofs.WritableStaysParts.{bound_le, elements_of_le, holes_unexported, length_same, list_unexported, strict_le, strict_same}
 use Rattle.swc_base_rename_laws.proofs.WritableStaysMembers.{accessor_le, base_le}

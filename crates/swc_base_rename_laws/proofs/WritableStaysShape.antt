@@ -1,27 +1,26 @@
 -- What a node becomes, at each form of it: a name stays a name with a text that can be bound, a tree keeps its kind,
 -- but for what is written out.
-use Rattle.std.proofs.Common.{◌≡◌, ℕ, zero, suc, Bool, true, false, ◌&&◌, ◌||◌, IsTrue, Option, Some, None, List, [], ◌∷◌, ◌++◌, map, rules, refl, sym, ap, ◌∙◌, ◌⊎◌, inl, inr}
+use Rattle.std.proofs.Common.{◌≡◌, ℕ, Bool, true, false, IsTrue, Option, Some, None, List, [], ◌∷◌, refl, sym, ap, ◌∙◌, ◌⊎◌, inl, inr}
 use Rattle.std.specs.Prelude.{if◌then◌else◌, option_map}
-use Rattle.std.specs.List.{list_any, flat_map}
 use Rattle.swc_tree_marks.specs.declared.ident.Ident.{Ident}
 use Rattle.swc_tree_node.specs.declared.kind.Kind.{Kind}
 use Rattle.swc_tree_node.specs.declared.kind.Kind.TheVariants as kind
 use Rattle.swc_tree_node.specs.declared.slot.Role.{Role}
 use Rattle.swc_tree_node.specs.declared.slot.Role.TheVariants as role
-use Rattle.swc_tree_node.specs.declared.node.Node.{Node, Absent, Flag, Word, Text, Span, List as Many, Identifier, Tree, out-Node, the_lemmas}
+use Rattle.swc_tree_node.specs.declared.node.Node.{Node, Absent, Flag, Word, Text, Span, Identifier, Tree, out-Node}
 use Rattle.swc_tree_node.specs.declared.node.Node.TheVariants.{outs-Identifier, outs-List, outs-Tree}
 use Rattle.swc_tree_node.specs.declared.node.Node.TheOpen.{Node-F}
 use Rattle.swc_tree_scoping.specs.Shorthands.{key_of, shorthand_key}
-use Rattle.swc_tree_grammar.specs.Kinds.{has_kind, has_kind_in, is_object}
+use Rattle.swc_tree_grammar.specs.Kinds.{is_object}
 use Rattle.swc_tree_grammar.specs.Writable.{is_bindable}
-use Rattle.swc_tree_grammar.proofs.Induction.{Each, by_children}
+use Rattle.swc_tree_grammar.proofs.Induction.{by_children}
 use Rattle.swc_base_rename_substitution.specs.declared.place.Place.{Place}
 use Rattle.swc_base_rename_substitution.specs.declared.place.Place.TheVariants as place
 use Rattle.swc_base_rename_substitution.specs.Names.{Id}
-use Rattle.swc_base_rename_substitution.specs.Identifiers.{Changes, changed, id_of, identifier_at, identifier_to, kept_name, default_in, with_default, with_id, with_other, written_out, written_out_if, writes_out}
+use Rattle.swc_base_rename_substitution.specs.Identifiers.{Changes, changed, id_of, identifier_at, identifier_to, kept_name, with_default, with_id, with_other, written_out, written_out_if, writes_out}
 use Rattle.swc_base_rename_substitution.specs.Classes.{kept_class}
-use Rattle.swc_base_rename_substitution.specs.Places.{by_role, has_source, in_kind, places, within}
-use Rattle.swc_base_rename_substitution.specs.Substituted.{if_changed, keeps_name, substituted, tree_for}
+use Rattle.swc_base_rename_substitution.specs.Places.{by_role, in_kind, places, within}
+use Rattle.swc_base_rename_substitution.specs.Substituted.{if_changed, keeps_name, substituted}
 use Rattle.swc_base_rename_substitution.specs.Walk.{each_substituted, items_substituted}
 use Rattle.swc_base_rename_substitution.proofs.Equations.{substituted-Absent, substituted-Flag, substituted-Word, substituted-Text, substituted-Span, substituted_identifier, substituted_list, substituted_tree}
 use Rattle.swc_base_rename_substitution.proofs.Room.{is_short}

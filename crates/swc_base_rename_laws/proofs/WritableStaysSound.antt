@@ -1,10 +1,8 @@
 -- What being writable says at each form of a node, in terms of the nodes below it.
-use Rattle.std.proofs.Common.{◌≡◌, ℕ, Bool, true, List, [], ◌∷◌, map, rules, refl, sym, ap, ◌∙◌}
-use Rattle.swc_tree_marks.specs.declared.span.Span.{Span as Range}
+use Rattle.std.proofs.Common.{◌≡◌, Bool, List, [], ◌∷◌, map, rules, refl, ap, ◌∙◌}
 use Rattle.swc_tree_marks.specs.declared.ident.Ident.{Ident}
 use Rattle.swc_tree_node.specs.declared.kind.Kind.{Kind}
-use Rattle.swc_tree_node.specs.declared.kind.Word.{Word as Word'}
-use Rattle.swc_tree_node.specs.declared.node.Node.{Node, Absent, Flag, Word, Text, Span, List as Many, Identifier, Tree, fold-Node, the_lemmas}
+use Rattle.swc_tree_node.specs.declared.node.Node.{Node, List as Many, Identifier, Tree, fold-Node, the_lemmas}
 use Rattle.swc_tree_node.specs.declared.node.Node.TheOpen.{Node-F}
 use Rattle.swc_tree_grammar.specs.Writable.{Asked, Round, all_sound, asked_step, in_head_in, sound_in}
 use Rattle.swc_tree_grammar.proofs.Induction.{Each, by_children}

@@ -1,38 +1,36 @@
 -- Statements and modules stay writable when names are given anew, if what is below them does.
-use Rattle.std.proofs.Common.{◌≡◌, ℕ, zero, suc, Bool, true, false, not, ◌&&◌, ◌||◌, Option, Some, None, List, [], ◌∷◌, map, rules, refl, sym, ap, ◌∙◌}
+use Rattle.std.proofs.Common.{◌≡◌, Bool, true, false, not, List, [], ◌∷◌, map, refl, ap, ◌∙◌}
 use Rattle.std.specs.Prelude.{is_some}
 use Rattle.std.specs.List.{list_all}
-use Rattle.swc_tree_marks.specs.declared.ident.Ident.{Ident}
 use Rattle.swc_tree_node.specs.declared.kind.Kind.{Kind}
 use Rattle.swc_tree_node.specs.declared.kind.Kind.TheVariants as kind
 use Rattle.swc_tree_node.specs.declared.kind.Class.TheVariants as class
-use Rattle.swc_tree_node.specs.declared.node.Node.{Node, Span, Identifier, Tree, out-Node}
+use Rattle.swc_tree_node.specs.declared.node.Node.{Node, out-Node}
 use Rattle.swc_tree_node.specs.declared.node.Node.TheOpen.{Node-F}
 use Rattle.swc_tree_node.specs.Table.{slots_of}
 use Rattle.swc_tree_node.specs.Fits.{FieldsFit}
 use Rattle.swc_tree_grammar.specs.Shapes.{items_of}
 use Rattle.swc_tree_grammar.specs.Levels.{word_of}
 use Rattle.swc_tree_grammar.specs.Forms.{are_named, is_named_in, is_using_form}
-use Rattle.swc_tree_grammar.specs.Writable.{Asked, Round, all_sound, assigning, binding, head, in_head_in, initialised_in, is_const, is_string, local_specifier_in, sound_in, strictly}
-use Rattle.swc_tree_grammar.specs.Stripped.{stripped}
+use Rattle.swc_tree_grammar.specs.Writable.{Round, binding, head, in_head_in, initialised_in, is_const, local_specifier_in, strictly}
 use Rattle.swc_tree_grammar.proofs.Induction.{Each}
 use Rattle.swc_base_rename_substitution.specs.declared.place.Place.{Place}
 use Rattle.swc_base_rename_substitution.specs.declared.place.Place.TheVariants as place
 use Rattle.swc_base_rename_substitution.specs.Identifiers.{Changes}
 use Rattle.swc_base_rename_substitution.specs.Places.{places, within}
 use Rattle.swc_base_rename_substitution.specs.Substituted.{substituted}
-use Rattle.swc_base_rename_substitution.proofs.Room.{is_short, left, right}
+use Rattle.swc_base_rename_substitution.proofs.Room.{left, right}
 use Rattle.swc_base_rename_laws.specs.Laws.{GivesNames}
-use Rattle.swc_base_rename_laws.proofs.WritableStaysSound.{in_head, of, sound}
+use Rattle.swc_base_rename_laws.proofs.WritableStaysSound.{of, sound}
 use Rattle.swc_base_rename_laws.proofs.WritableStaysShape.{fields, long, within_long}
 use Rattle.swc_base_rename_laws.proofs.WritableStaysForms.{absent_same, form_same, initialised_same, is_named_same, literal_same, private_same, specifier_same, word_same}
 use Rattle.swc_base_rename_laws.proofs.WritableStaysNames.{both_true}
 use Rattle.swc_base_rename_laws.proofs.WritableStaysLists.{Le, all_each, items_each, unexported}
-use Rattle.swc_base_rename_laws.proofs.WritableStaysPatterns.{and_le, or_le, pattern_le, same_le, self_le}
+use Rattle.swc_base_rename_laws.proofs.WritableStaysPatterns.{and_le, or_le, pattern_le, same_le}
 use Rattle.swc_base_rename_laws.proofs.WritableStaysStripped.{first_sound}
 use Rattle.swc_base_rename_laws.proofs.WritableStaysHeads.{string_same}
 use Rattle.swc_base_rename_laws.proofs.WritableStaysParts.{bound_le, branch_le, head_le, list_unexported, loop_le, no_using_le, one_bare_of_le, strict_le, strict_list_same}
-use Rattle.swc_base_rename_laws.proofs.WritableStaysRows.{AllKept, Kept, Row, every_le, other_le, safe_le, two_le}
+use Rattle.swc_base_rename_laws.proofs.WritableStaysRows.{AllKept, Row, other_le, safe_le, two_le}
 
 module _ (m : Changes) (g : GivesNames m) where
   -- ---- declarations

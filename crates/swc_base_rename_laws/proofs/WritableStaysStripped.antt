@@ -1,12 +1,11 @@
 -- A sequence that can be written down stays one when it is stripped: it has two items or more.
-use Rattle.std.proofs.Common.{◌≡◌, ℕ, Bool, true, false, not, ◌&&◌, List, [], ◌∷◌, ◌++◌, map, length, take, nat_le, rules, refl, sym, ap, ◌∙◌}
+use Rattle.std.proofs.Common.{◌≡◌, Bool, true, false, not, ◌&&◌, List, [], ◌∷◌, ◌++◌, map, length, take, nat_le, rules, refl, sym, ap, ◌∙◌}
 use Rattle.std.specs.Prelude.{if◌then◌else◌}
 use Rattle.std.specs.List.{list_all, filter, flat_map}
-use Rattle.swc_tree_marks.specs.declared.ident.Ident.{Ident}
 use Rattle.swc_tree_node.specs.declared.kind.Kind.{Kind}
 use Rattle.swc_tree_node.specs.declared.kind.Kind.TheVariants as kind
-use Rattle.swc_tree_node.specs.declared.node.Node.{Node, Absent, Flag, Word, Text, Span, List as Many, Identifier, Tree, out-Node, roll-Node, the_lemmas}
-use Rattle.swc_tree_node.specs.declared.node.Node.TheVariants.{outs-Identifier, outs-List, outs-Tree, rolls-Tree}
+use Rattle.swc_tree_node.specs.declared.node.Node.{Node, Absent, Flag, Word, Text, Span, List as Many, Identifier, Tree, the_lemmas}
+use Rattle.swc_tree_node.specs.declared.node.Node.TheVariants.{outs-List, outs-Tree, rolls-Tree}
 use Rattle.swc_tree_node.specs.declared.node.Node.TheOpen.{Node-F}
 use Rattle.swc_tree_node.specs.declared.kind.Class.{Class}
 use Rattle.swc_tree_node.specs.declared.kind.Class.TheVariants as class
@@ -16,7 +15,7 @@ use Rattle.swc_tree_node.specs.Table.{slots_of}
 use Rattle.swc_tree_node.specs.Fits.{AllFit, FieldsFit, Fits, fits}
 use Rattle.swc_tree_node.proofs.Fit.{fits-List, list_opens, tree_opens}
 use Rattle.swc_tree_grammar.specs.Shapes.{items_in, items_of}
-use Rattle.swc_tree_grammar.specs.Stripped.{busy, effects, end, front, is_idle, is_void, parts, parts_in, sequence, settled, strip_step, stripped, target}
+use Rattle.swc_tree_grammar.specs.Stripped.{busy, effects, end, front, is_idle, is_void, parts, parts_in, sequence, settled, stripped, target}
 use Rattle.swc_tree_grammar.specs.Writable.{Asked, Round, all_sound, binding, sound_in}
 use Rattle.swc_tree_grammar.proofs.Induction.{Each, by_children}
 use Rattle.swc_tree_grammar.proofs.Stripped.{effects_of_list, effects_of_tree, effects_of_sequence, effects_of_void, effects_of_other, stripped_of_list, stripped_of_tree}
@@ -247,10 +246,10 @@ list_full : (ts : List Node) → Each IsFull ts → IsFull (Many ts)
 list_full ts l r h = (
   λ c f. (let never : fits (Many ts) (slot.One (content.Node c)) ≡ false = fits-List ts (slot.One (content.Node c)) in absurd (cc)),
   λ c f n. (
-    let s : all_sound (map of ts) r ≡ true = sym (sound_list ts r) ∙ h in
-    let n' : nat_le 2 (length ts) ≡ true = sym (ap (λ y. nat_le 2 (length (items_in y))) (outs-List ts)) ∙ n in
-    (ap is_long (list_parts ts) ∙ flat_long ts r c l (list_opens ts (content.Node c) f) s n', ap all_rich (list_parts ts) ∙ flat_parts ts r c l (list_opens ts (content.Node c) f) s)
-  ),
+      let s : all_sound (map of ts) r ≡ true = sym (sound_list ts r) ∙ h in
+      let n' : nat_le 2 (length ts) ≡ true = sym (ap (λ y. nat_le 2 (length (items_in y))) (outs-List ts)) ∙ n in
+      (ap is_long (list_parts ts) ∙ flat_long ts r c l (list_opens ts (content.Node c) f) s n', ap all_rich (list_parts ts) ∙ flat_parts ts r c l (list_opens ts (content.Node c) f) s)
+      ),
 )
 
 tree_full : (k : Kind) (ts : List Node) → Each IsFull ts → IsFull (Tree k ts)

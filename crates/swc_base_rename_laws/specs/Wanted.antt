@@ -1,5 +1,5 @@
 -- Laws of giving names anew that are not proved. They were tried on random trees, and none was found that breaks one.
-use Rattle.std.specs.Prelude.{◌≡◌, ℕ, Bool, true, false, IsTrue, Some, List, is_some}
+use Rattle.std.specs.Prelude.{◌≡◌, Bool, false, IsTrue, List, is_some}
 use Rattle.std.specs.List.{list_any}
 use Rattle.swc_tree_marks.specs.declared.ident.Ident.{Ident}
 use Rattle.swc_tree_node.specs.declared.kind.Class.TheVariants as class
