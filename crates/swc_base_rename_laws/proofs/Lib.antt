@@ -4,3 +4,17 @@ pub mod OuterTextsForms
 pub mod OuterTextsNames
 pub mod OuterTextsWritten
 pub mod OuterTextsStay
+mod WritableStaysSound
+mod WritableStaysShape
+mod WritableStaysForms
+mod WritableStaysNames
+mod WritableStaysExports
+mod WritableStaysLists
+mod WritableStaysPatterns
+mod WritableStaysStripped
+mod WritableStaysHeads
+mod WritableStaysParts
+mod WritableStaysMembers
+mod WritableStaysRows
+mod WritableStaysStatements
+pub mod WritableStays

@@ -3,7 +3,7 @@
 //! `specs/Laws.antt` states the laws. Each is the contract of a function that does nothing, so that it is proved.
 #![tactic(auto)]
 
-ghost use Rattle.swc_base_rename_laws.specs.Laws.{EmptyMapChangesNothing, KeptTextsChangeNothing, OuterTextsStay};
+ghost use Rattle.swc_base_rename_laws.specs.Laws.{EmptyMapChangesNothing, KeptTextsChangeNothing, OuterTextsStay, WritableStays};
 
 /// A map without names changes nothing.
 pub fn empty_map_changes_nothing()
@@ -18,4 +18,9 @@ pub fn kept_texts_change_nothing()
 /// Strings, keys, labels, imported and exported names stay, in their order.
 pub fn outer_texts_stay()
     ensures { OuterTextsStay }
+{}
+
+/// A tree that fits and can be written down still can, where each new text is an identifier's.
+pub fn writable_stays()
+    ensures { WritableStays }
 {}
