@@ -2,7 +2,9 @@
 use std::alloc::Global;
 use std::fmt::Write;
 use swc_base_resolver::scope::{DeclKind, ScopeKind};
-use swc_tree::{EsVersion, Globals, Items, Mark, MarkError, NoMemory, PassError, VarDeclKind};
+use swc_tree::{
+    EsVersion, Globals, Items, Mark, MarkError, NoMemory, PassError, Text, VarDeclKind,
+};
 
 // A list that was changed in each way is as it must be.
 fn changes(alloc: Global) -> Option<bool> {
@@ -13,6 +15,13 @@ fn changes(alloc: Global) -> Option<bool> {
     let is_changed = removed == 1 && list.as_slice() == [5, 1, 4, 2].as_slice();
     list.clear();
     Some(is_changed && list.is_empty() && list.get(0).is_none())
+}
+
+// A text given back as a string.
+fn gives_back(alloc: Global) -> Option<bool> {
+    let text = Text::new(alloc, "caf\u{e9}").ok()?;
+    let copy = text.clone().ok()?;
+    Some(text == copy && text.into_string().as_str() == copy.as_str())
 }
 
 // Marks of known parents, of the root and of one that is not known.
@@ -96,6 +105,7 @@ fn holds(alloc: Global, word: &str) -> Option<bool> {
         "lists change" => changes(alloc),
         "marks are made" => makes_marks(alloc),
         "words become kinds" => Some(converts()),
+        "texts are given back" => gives_back(alloc),
         "versions rise" => Some(versions_rise()),
         _ => None,
     }

@@ -1,22 +1,13 @@
 -- Laws of giving names anew that are not proved. They were tried on random trees, and none was found that breaks one.
-use Rattle.std.specs.Prelude.{◌≡◌, ℕ, Bool, true, false, IsTrue, Some, List, is_some}
+use Rattle.std.specs.Prelude.{◌≡◌, ℕ, true, false, IsTrue, Some, List, is_some}
 use Rattle.std.specs.List.{list_any}
 use Rattle.swc_tree_marks.specs.declared.ident.Ident.{Ident}
-use Rattle.swc_tree_node.specs.declared.kind.Class.TheVariants as class
-use Rattle.swc_tree_node.specs.declared.slot.Content.TheVariants as content
-use Rattle.swc_tree_node.specs.declared.slot.Slot.TheVariants as slot
 use Rattle.swc_tree_node.specs.declared.node.Node.{Node}
-use Rattle.swc_tree_node.specs.Fits.{Fits}
 use Rattle.swc_tree_grammar.specs.Writable.{is_bindable, is_writable}
 use Rattle.swc_tree_grammar.specs.Normal.{normal_form, same_id}
 use Rattle.swc_tree_grammar.specs.Same.{same_tree}
 use Rattle.swc_base_rename_substitution.specs.Identifiers.{Changes, id_of}
 use Rattle.swc_base_rename_substitution.specs.Substituted.{Substituted}
-use Rattle.swc_base_rename_laws.specs.Texts.{outer_texts}
-
--- strings, keys, labels, imported and exported names stay, in their order
-abbrev pub OuterTextsStay : Type 0
-OuterTextsStay = (m : Changes) (keeps : Bool) (tree answer : Node) → Fits tree (slot.One (content.Node class.Module)) → Substituted m keeps tree answer → outer_texts answer ≡ outer_texts tree
 
 -- each new text is an identifier's, and none is `eval` or `arguments`
 abbrev pub GivesNames : Changes → Type 0

@@ -35,7 +35,8 @@ operator_level word.Mul = 13
 operator_level word.Div = 13
 operator_level word.Mod = 13
 operator_level word.Exp = 14
-operator_level _ = 19
+-- no operator of two sides: the loosest
+operator_level _ = 0
 
 abbrev pub word_in : {X : Type 0} → Node-F X → Option Word
 word_in (Node-F.Word w) = Some w
@@ -46,7 +47,7 @@ word_of t = word_in (out-Node t)
 
 abbrev pub level_of_word : Option Word → ℕ
 level_of_word (Some w) = operator_level w
-level_of_word None = 19
+level_of_word None = 0
 
 abbrev pub is_in : Option Word → Bool
 is_in (Some word.In) = true

@@ -9,7 +9,7 @@ use Rattle.swc_tree_node.specs.Table.{kind_number, word_number}
 use Rattle.swc_tree_scoping.specs.declared.places.Standing.{Standing}
 use Rattle.swc_tree_scoping.specs.declared.places.Place.{Place}
 use Rattle.swc_tree_scoping.specs.Places.{program_place}
-use Rattle.swc_tree_scoping.specs.Scopes.{is_binding, is_reference}
+use Rattle.swc_tree_scoping.specs.Scopes.{is_binding, is_name}
 use Rattle.swc_tree_scoping.specs.Folds.{fold_in_place}
 use Rattle.swc_tree_grammar.specs.Normal.{normal_form, same_id}
 
@@ -23,10 +23,6 @@ declared_step place t below = bound_in place.standing (out-Node t) ++ flat_map (
 -- the names that a program declares: those that stand where names are bound
 abbrev pub declared_names : Node → List Ident
 declared_names = fold_in_place declared_step program_place
-
--- what stands so is a name that a scope may declare; a label, an imported and an exported name are none
-abbrev pub is_name : Standing → Bool
-is_name standing = is_binding standing || is_reference standing
 
 abbrev pub same_flag : Bool → Bool → Bool
 same_flag true b = b

@@ -16,6 +16,7 @@ use Rattle.swc_tree_grammar.specs.Forms.{holds}
 use Rattle.swc_tree_grammar.specs.Blocks.{span_of}
 use Rattle.swc_tree_grammar.proofs.Induction.{Each, by_children}
 use Rattle.swc_tree_grammar_laws.specs.Started.{Started, started, started_step, starts_in}
+use Rattle.swc_tree_grammar_laws.proofs.Wholes.{carried, all_carried}
 
 pub both : (a b : Bool) → (a && b) ≡ true → (a ≡ true) × (b ≡ true)
 both true b h = (refl, h)
@@ -28,28 +29,8 @@ or_right false b h = h
 abbrev judged : Node → Started
 judged = fold-Node Started started_step
 
-abbrev Whole : Node → Type 0
-Whole t = (judged t).whole ≡ t
-
-wholes : (ts : List Node) → Each Whole ts → map (λ e. e.whole) (map judged ts) ≡ ts
-wholes [] h = refl
-wholes (t ∷ ts) h = rw (h.0, wholes ts h.1) refl
-
-whole_many : (ts : List Node) → (judged (Many ts)).whole ≡ Many (map (λ e. e.whole) (map judged ts))
-whole_many ts = search (rules, the_lemmas)
-
-whole_tree : (k : Kind) (ts : List Node) → (judged (Tree k ts)).whole ≡ Tree k (map (λ e. e.whole) (map judged ts))
-whole_tree k ts = search (rules, the_lemmas)
-
-whole : (t : Node) → Whole t
-whole t = by_children Whole
-    (search (rules, the_lemmas), λ x. search (rules, the_lemmas), λ w. search (rules, the_lemmas), λ x. search (rules, the_lemmas), λ s. search (rules, the_lemmas), λ k i. search (rules, the_lemmas))
-    (λ ts h. whole_many ts ∙ ap Many (wholes ts h))
-    (λ k ts h. whole_tree k ts ∙ ap (Tree k) (wholes ts h)) t
-
 all_whole : (ts : List Node) → map (λ e. e.whole) (map judged ts) ≡ ts
-all_whole [] = refl
-all_whole (t ∷ ts) = rw (whole t, all_whole ts) refl
+all_whole ts = all_carried Started started_step (λ e. e.whole) (λ x. refl) ts
 
 each_holds : (ts : List Node) → list_all (λ e. e.holds) (map judged ts) ≡ list_all started ts
 each_holds [] = refl
@@ -74,28 +55,11 @@ spined p = fold-Node Leading (first_step p)
 abbrev pub first_paired : Places → Node → Node
 first_paired p t = (spined p t).first_paired
 
-abbrev SpineWhole : Places → Node → Type 0
-SpineWhole p t = (spined p t).whole ≡ t
-
-spine_wholes : (p : Places) (ts : List Node) → Each (SpineWhole p) ts → map (λ e. e.whole) (map (spined p) ts) ≡ ts
-spine_wholes p [] h = refl
-spine_wholes p (t ∷ ts) h = rw (h.0, spine_wholes p ts h.1) refl
-
-spine_whole_many : (p : Places) (ts : List Node) → (spined p (Many ts)).whole ≡ Many (map (λ e. e.whole) (map (spined p) ts))
-spine_whole_many p ts = search (rules, the_lemmas)
-
-spine_whole_tree : (p : Places) (k : Kind) (ts : List Node) → (spined p (Tree k ts)).whole ≡ Tree k (map (λ e. e.whole) (map (spined p) ts))
-spine_whole_tree p k ts = search (rules, the_lemmas)
-
-pub spine_whole : (p : Places) (t : Node) → SpineWhole p t
-spine_whole p t = by_children (SpineWhole p)
-    (search (rules, the_lemmas), λ x. search (rules, the_lemmas), λ w. search (rules, the_lemmas), λ x. search (rules, the_lemmas), λ s. search (rules, the_lemmas), λ k i. search (rules, the_lemmas))
-    (λ ts h. spine_whole_many p ts ∙ ap Many (spine_wholes p ts h))
-    (λ k ts h. spine_whole_tree p k ts ∙ ap (Tree k) (spine_wholes p ts h)) t
+pub spine_whole : (p : Places) (t : Node) → (spined p t).whole ≡ t
+spine_whole p t = carried Leading (first_step p) (λ e. e.whole) (λ x. refl) t
 
 spine_all : (p : Places) (ts : List Node) → map (λ e. e.whole) (map (spined p) ts) ≡ ts
-spine_all p [] = refl
-spine_all p (t ∷ ts) = rw (spine_whole p t, spine_all p ts) refl
+spine_all p ts = all_carried Leading (first_step p) (λ e. e.whole) (λ x. refl) ts
 
 first_tree : (p : Places) (k : Kind) (ts : List Node) → first_paired p (Tree k ts) ≡ first_in p (Tree k (map (λ e. e.whole) (map (spined p) ts))) (Node-F.Tree k (map (spined p) ts))
 first_tree p k ts = search (rules, the_lemmas)
@@ -119,28 +83,11 @@ Clear u = (start u ≡ Other) × (started u ≡ true) × (is_let_in (out-Node u)
 abbrev begun_of : Node → Begun
 begun_of = fold-Node Begun start_step
 
-abbrev BegunWhole : Node → Type 0
-BegunWhole t = (begun_of t).whole ≡ t
-
-begun_wholes : (ts : List Node) → Each BegunWhole ts → map (λ e. e.whole) (map begun_of ts) ≡ ts
-begun_wholes [] h = refl
-begun_wholes (t ∷ ts) h = rw (h.0, begun_wholes ts h.1) refl
-
-begun_many : (ts : List Node) → (begun_of (Many ts)).whole ≡ Many (map (λ e. e.whole) (map begun_of ts))
-begun_many ts = search (rules, the_lemmas)
-
-begun_tree : (k : Kind) (ts : List Node) → (begun_of (Tree k ts)).whole ≡ Tree k (map (λ e. e.whole) (map begun_of ts))
-begun_tree k ts = search (rules, the_lemmas)
-
-begun_whole : (t : Node) → BegunWhole t
-begun_whole t = by_children BegunWhole
-    (search (rules, the_lemmas), λ x. search (rules, the_lemmas), λ w. search (rules, the_lemmas), λ x. search (rules, the_lemmas), λ s. search (rules, the_lemmas), λ k i. search (rules, the_lemmas))
-    (λ ts h. begun_many ts ∙ ap Many (begun_wholes ts h))
-    (λ k ts h. begun_tree k ts ∙ ap (Tree k) (begun_wholes ts h)) t
+begun_whole : (t : Node) → (begun_of t).whole ≡ t
+begun_whole t = carried Begun start_step (λ e. e.whole) (λ x. refl) t
 
 begun_all : (ts : List Node) → map (λ e. e.whole) (map begun_of ts) ≡ ts
-begun_all [] = refl
-begun_all (t ∷ ts) = rw (begun_whole t, begun_all ts) refl
+begun_all ts = all_carried Begun start_step (λ e. e.whole) (λ x. refl) ts
 
 start_in_tree : (k : Kind) (ts : List Node) → start (Tree k ts) ≡ start_in (Tree k (map (λ e. e.whole) (map begun_of ts))) (Node-F.Tree k (map begun_of ts))
 start_in_tree k ts = search (rules, the_lemmas)

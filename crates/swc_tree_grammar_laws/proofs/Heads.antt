@@ -1,5 +1,5 @@
 -- What the second step of the due pairs leaves has no bare `in` and no bare `async` in a head.
-use Rattle.std.proofs.Common.{◌≡◌, Bool, true, false, not, ◌&&◌, ◌||◌, List, [], ◌∷◌, map, refl, ap, ◌∙◌, rules}
+use Rattle.std.proofs.Common.{◌≡◌, Bool, true, false, not, ◌&&◌, ◌||◌, List, [], ◌∷◌, map, refl, ◌∙◌, rules}
 use Rattle.std.specs.Prelude.{if◌then◌else◌}
 use Rattle.std.specs.List.{list_all}
 use Rattle.swc_tree_marks.specs.declared.ident.Ident.{Ident}
@@ -14,28 +14,13 @@ use Rattle.swc_tree_grammar.specs.Grammar.{is_async_name}
 use Rattle.swc_tree_grammar.specs.Due.{Places, Pairing, pair, in_step, free, of_head, async_in, paired_in_heads}
 use Rattle.swc_tree_grammar.proofs.Induction.{Each, by_children}
 use Rattle.swc_tree_grammar_laws.specs.Headed.{Headed, headed, headed_step, heads_in}
+use Rattle.swc_tree_grammar_laws.proofs.Wholes.{carried}
 
 abbrev pub judged : Node → Headed
 judged = fold-Node Headed headed_step
 
-abbrev Whole : Node → Type 0
-Whole t = (judged t).whole ≡ t
-
-wholes : (ts : List Node) → Each Whole ts → map (λ e. e.whole) (map judged ts) ≡ ts
-wholes [] h = refl
-wholes (t ∷ ts) h = rw (h.0, wholes ts h.1) refl
-
-whole_many : (ts : List Node) → (judged (Many ts)).whole ≡ Many (map (λ e. e.whole) (map judged ts))
-whole_many ts = search (rules, the_lemmas)
-
-whole_tree : (k : Kind) (ts : List Node) → (judged (Tree k ts)).whole ≡ Tree k (map (λ e. e.whole) (map judged ts))
-whole_tree k ts = search (rules, the_lemmas)
-
-pub whole : (t : Node) → Whole t
-whole t = by_children Whole
-    (search (rules, the_lemmas), λ x. search (rules, the_lemmas), λ w. search (rules, the_lemmas), λ x. search (rules, the_lemmas), λ s. search (rules, the_lemmas), λ k i. search (rules, the_lemmas))
-    (λ ts h. whole_many ts ∙ ap Many (wholes ts h))
-    (λ k ts h. whole_tree k ts ∙ ap (Tree k) (wholes ts h)) t
+pub whole : (t : Node) → (judged t).whole ≡ t
+whole t = carried Headed headed_step (λ e. e.whole) (λ x. refl) t
 
 pub headed_tree : (k : Kind) (ts : List Node) (b : Bool) → headed (Tree k ts) b ≡ heads_in (Node-F.Tree k (map judged ts)) b
 headed_tree k ts b = search (rules, the_lemmas)

@@ -15,7 +15,7 @@ use Rattle.swc_tree_scoping.specs.declared.places.View.TheVariants as view
 use Rattle.swc_tree_scoping.specs.declared.below.Fields.{Fields}
 use Rattle.swc_tree_scoping.specs.declared.below.PlacesBelow.{PlacesBelow}
 use Rattle.swc_tree_scoping.specs.declared.below.PlacesBelow.TheVariants as below
-use Rattle.swc_tree_scoping.specs.Places.{by_keyword, field_role, function_standing, is_inside, is_plain_function, is_strict, is_there, nested_below, opened_as, own_name, part_standing, plain_standing, view_from}
+use Rattle.swc_tree_scoping.specs.Places.{by_keyword, field_role, function_standing, has_own_name, is_inside, is_plain_function, is_strict, is_there, nested_below, opened_as, own_name, part_standing, plain_standing, view_from}
 
 abbrev pub standing_by : Fields → ℕ → Option Node → Role → Standing
 standing_by f i t role.Plain = plain_standing f.kind i
@@ -67,7 +67,7 @@ abbrev pub fields_are : Place → Kind → List Node → Fields
 fields_are w k ts = record {
   kind = k;
   whole = w;
-  opened = opened_as w k (is_there (slice_get ts 0));
+  opened = opened_as w k (has_own_name ts);
   strict = is_strict k ts;
   keyword = by_keyword ts;
   function = function_standing w (is_plain_function (slice_get ts fn_decl.FUNCTION));

@@ -14,6 +14,7 @@ use Rattle.swc_tree_node.specs.declared.node.Node.{Node, out-Node}
 use Rattle.swc_tree_node.specs.declared.node.Node.TheOpen.{Node-F}
 use Rattle.swc_tree_node.specs.declared.fields.functions.arrow_expr.TheConstants as arrow_expr
 use Rattle.swc_tree_node.specs.declared.fields.functions.constructor.TheConstants as constructor
+use Rattle.swc_tree_node.specs.declared.fields.functions.fn_expr.TheConstants as fn_expr
 use Rattle.swc_tree_node.specs.declared.fields.functions.function.TheConstants as function
 use Rattle.swc_tree_node.specs.declared.fields.functions.getter_prop.TheConstants as getter_prop
 use Rattle.swc_tree_node.specs.declared.fields.functions.setter_prop.TheConstants as setter_prop
@@ -187,8 +188,12 @@ opened_as w kind.CatchClause has_name = Some scope.Catch
 opened_as w kind.StaticBlock has_name = Some scope.StaticBlock
 opened_as w _ has_name = None
 
+-- whether an expression has a name of its own: of functions and classes it is the first field
+abbrev pub has_own_name : List Node → Bool
+has_own_name ts = is_there (slice_get ts fn_expr.IDENT)
+
 abbrev pub opened_in : Place → Node-F Node → Option Scope
-opened_in w (Node-F.Tree k ts) = opened_as w k (is_there (slice_get ts 0))
+opened_in w (Node-F.Tree k ts) = opened_as w k (has_own_name ts)
 opened_in w _ = None
 
 abbrev pub opened : Place → Node → Option Scope
@@ -330,7 +335,7 @@ place_in w (Node-F.List ts) i = record w { standing = part_standing w.standing (
 place_in w (Node-F.Tree k ts) i = record {
   standing = standing_below w k ts i (field_role k i);
   strict = w.strict || (is_inside (view_from k i) && is_strict k ts);
-  nested = nested_below w.nested (opened_as w k (is_there (slice_get ts 0))) (view_from k i);
+  nested = nested_below w.nested (opened_as w k (has_own_name ts)) (view_from k i);
 }
 place_in w _ i = program_place
 
