@@ -6,8 +6,8 @@ mod samples;
 use faults::{Fault, parts_of, place};
 use jsbase_reader::{ReadError, read};
 use jsbase_writer::write;
+use json::Scratch;
 use samples::add_node;
-use serde_json::Value;
 use std::alloc::Global;
 use std::fmt::Write;
 use swc_tree_marks::Globals;
@@ -87,8 +87,9 @@ fn add_all(placed: &mut Vec<Placed>) -> Option<()> {
 // The JSON that a text is written as once it was read as a node of the class, or the place of its first fault.
 fn read_and_written(alloc: Global, class: Class, text: &str) -> Option<String> {
     let globals = Globals::new(alloc);
-    let value = Value::from_str(alloc, text).ok()?;
-    match read(alloc, &globals, value, Slot::One(Content::Node(class))) {
+    let mut scratch = Scratch::new(alloc);
+    let value = json::Value::parse(alloc, text, &mut scratch).ok()?;
+    match read(alloc, &globals, &value, Slot::One(Content::Node(class))) {
         Ok(node) => write(alloc, &node).ok(),
         Err(ReadError::Fault(path)) => path.to_text(alloc).ok(),
         Err(ReadError::NoMemory) => None,
@@ -99,7 +100,7 @@ fn is_kept(alloc: Global, placed: Placed) -> Option<bool> {
     let mut text = String::new(alloc);
     add_node(&mut text, placed.kind, "", None).ok()?;
     let written = read_and_written(alloc, placed.class, text.as_str())?;
-    let sorted = Value::from_str(alloc, text.as_str())
+    let sorted = serde_json::Value::from_str(alloc, text.as_str())
         .ok()?
         .to_string(alloc)
         .ok()?;

@@ -12,9 +12,9 @@ ghost use Rattle.swc_tree_node.specs.declared.slot.Content.TheVariants.{Node as 
 ghost use Rattle.swc_tree_node.specs.Fits.{Fits};
 
 use jsbase_reader::read;
+use json::{Scratch, Value};
 use jsbase_writer::write;
 use looks::Look;
-use serde_json::Value;
 use std::alloc::Global;
 use std::fmt::Write;
 use swc_tree::class::Syntax;
@@ -32,8 +32,9 @@ fn node(alloc: Global, class: Class, text: &str) -> Option<Node>
     ensures { IfSome result (λ node. Fits node (One (Of class))) }
 {
     let globals = Globals::from_table(alloc, &MARKS).ok()?;
-    let value = Value::from_str(alloc, text).ok()?;
-    read(alloc, &globals, value, Slot::One(Content::Node(class))).ok()
+    let mut scratch = Scratch::new(alloc);
+    let value = Value::parse(alloc, text, &mut scratch).ok()?;
+    read(alloc, &globals, &value, Slot::One(Content::Node(class))).ok()
 }
 
 // The tree of a class that a text is, if it is equal to its copy.

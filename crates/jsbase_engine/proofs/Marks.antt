@@ -1,8 +1,8 @@
 -- The two marks of an envelope that was read stand in its table.
 use Rattle.std.proofs.Common.{◌≡◌, ℕ, List, true, not, ◌==◌, Ok, IsTrue, nat_eq, codes, subst, rules, arith}
 use Rattle.std.specs.List.{list_any}
-use Rattle.serde_json.specs.Data.{Data, Members}
-use Rattle.serde_json.specs.Find.{as_object}
+use Rattle.json.specs.Json.{Json, Members}
+use Rattle.json.specs.Find.{as_object}
 use Rattle.swc_tree_marks.specs.Globals.{Table, numbers}
 use Rattle.swc_tree_node.specs.declared.kind.Class.{Class}
 use Rattle.swc_tree_node.specs.declared.slot.Content.TheVariants as content
@@ -27,7 +27,7 @@ marked_is table mark h =
     not_root : (n : ℕ) → n ≡ 0 → IsTrue (not (n == 0)) → ⊥
     not_root n e h = grind (arith, rules, e, h)
 
-mark_ok : (table : Table) (d : Data) (mark : ℕ) → mark_at table d ≡ Ok mark → IsMark table mark
+mark_ok : (table : Table) (d : Json) (mark : ℕ) → mark_at table d ≡ Ok mark → IsMark table mark
 unfolding mark_at
 mark_ok table d mark h =
     let number = bound (number_at d) (marked table) mark h in

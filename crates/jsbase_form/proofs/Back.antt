@@ -1,11 +1,16 @@
 -- Leaves, identifiers and fields that are read back as they were written.
-use Rattle.std.proofs.Common.{◌≡◌, ◌^◌, ℕ, suc, List, [], ◌∷◌, Bool, true, false, not, ◌||◌, ◌==◌, cond, IsTrue, map, codes, Some, Ok, nat_lt, bytes_eq, unwrap_or, refl, sym, ap, ◌∙◌, arith}
+use Rattle.std.proofs.Common.{◌≡◌, ◌<◌, ◌^◌, ℕ, suc, List, [], ◌∷◌, Bool, true, false, not, ◌||◌, ◌==◌, cond, IsTrue, map, codes, Some, None, Ok, nat_lt, bytes_eq, unwrap_or, refl, sym, ap, ◌∙◌, arith}
+use Rattle.std.specs.Prelude.{decimal, length}
+use Rattle.std.specs.Str.{all_ascii_digits}
+use Rattle.std.specs.Str.Parse.{digits_value}
 use Rattle.std.specs.List.{find, list_any, list_all}
+use Rattle.std.proofs.lemmas.Bool.Decides.{nat_tests}
+use Rattle.std.proofs.lemmas.Fmt.{decimal_nonempty, digits_decimal, digits_value-decimal}
+use Rattle.std.proofs.lemmas.Str.Parse.{IsNumeralModel, numerals_by_value, tells_all_ascii_digits}
 use Rattle.std.proofs.lemmas.Slice.Eq.{bytes_eq-Decides}
-use Rattle.serde_json.specs.Data.{Data, null, string, Members, put}
-use Rattle.serde_json.specs.Find.{get_member}
-use Rattle.serde_json.specs.View.{items_of}
-use Rattle.serde_json.proofs.Views.{get_member-put, get_member-put_other}
+use Rattle.json.specs.Json.{Json, null, string, Members}
+use Rattle.json.specs.Find.{get_member}
+use Rattle.json.specs.Value.{items_of}
 use Rattle.swc_tree_marks.specs.Globals.{Table}
 use Rattle.swc_tree_marks.specs.declared.span.Span.{Span}
 use Rattle.swc_tree_marks.specs.declared.ident.Ident.{Ident}
@@ -18,11 +23,12 @@ use Rattle.swc_tree_node.specs.declared.slot.Role.{Role}
 use Rattle.swc_tree_node.specs.Table.{kinds_of, name_of, words_of, spelling_of, kind_number, word_number}
 use Rattle.swc_tree_node.specs.Fits.{belongs, is_among}
 use Rattle.jsbase_form.specs.Reads.{found}
-use Rattle.jsbase_form.specs.Leaves.{is_marked, number_at, span_at, mark_at, marks_of, context_at, text_at, word_at}
+use Rattle.jsbase_form.specs.Leaves.{whole, is_marked, number_at, span_at, mark_at, marks_of, context_at, text_at, word_at}
 use Rattle.jsbase_form.specs.Trees.{ident_at, kind_at, value_of}
 use Rattle.jsbase_form.specs.Known.{span_short}
-use Rattle.jsbase_form.specs.Writing.{natural, numbers_json, span_json, typed, fields_put}
+use Rattle.jsbase_form.specs.Writing.{put, natural, numbers_json, span_json, typed, fields_put}
 use Rattle.jsbase_form.proofs.Members.{apart, neither, split}
+use Rattle.jsbase_form.proofs.Puts.{put_new, put_other}
 use Rattle.jsbase_form.proofs.Numbers.{same_kind, kind_told, same_word, word_told}
 
 -- ---- searches
@@ -56,9 +62,18 @@ kind_back c k ms h e = rw e (ap found (found_first name_of kind_number same_kind
 
 -- ---- leaves
 
+pub numerals : IsNumeralModel (λ ds. all_ascii_digits ds ≡ true) (digits_value 10)
+numerals = numerals_by_value (λ ds. all_ascii_digits ds ≡ true) tells_all_ascii_digits
+
+whole_decimal : (n : ℕ) → nat_lt n (2 ^ 32) ≡ true → n < 2 ^ 64 → whole (decimal n) ≡ Some n
+whole_decimal n short h =
+    let digits : all_ascii_digits (decimal n) ≡ true = digits_decimal numerals n h in
+    let some : nat_lt 0 (length (decimal n)) ≡ true = grind (arith, nat_tests, decimal_nonempty n h) in
+    rw (some, digits, digits_value-decimal numerals n h, short) refl
+
 pub number_back : (n : ℕ) → nat_lt n (2 ^ 32) ≡ true → number_at (natural n) ≡ Ok n
 unfolding number_at
-number_back n h = rw h refl
+number_back n h = let below : n < 2 ^ 64 = grind (arith, nat_tests) in rw (whole_decimal n h below) refl
 
 pub span_back : (s : Span) → span_short s ≡ true → span_at (span_json s) ≡ Ok s
 unfolding span_at
@@ -98,13 +113,13 @@ ident_back table k i known span short = rw (span_back i.span span, context_back 
 -- ---- fields
 
 -- the other keys keep their values
-pub fields_put_other : (q : List ℕ) (fs : List (List ℕ × Slot × Role)) (ds : List Data) (ms : Members) → IsTrue (not (list_any (λ other. bytes_eq q other) (map (λ f. f.0) fs))) → get_member q (fields_put fs ds ms) ≡ get_member q ms
+pub fields_put_other : (q : List ℕ) (fs : List (List ℕ × Slot × Role)) (ds : List Json) (ms : Members) → IsTrue (not (list_any (λ other. bytes_eq q other) (map (λ f. f.0) fs))) → get_member q (fields_put fs ds ms) ≡ get_member q ms
 fields_put_other q [] ds ms h = refl
 fields_put_other q (f ∷ fs) [] ms h = refl
 fields_put_other q (f ∷ fs) (d ∷ ds) ms h =
     let both = neither (bytes_eq q f.0) (list_any (λ other. bytes_eq q other) (map (λ f. f.0) fs)) h in
-    fields_put_other q fs ds (put f.0 d ms) both.1 ∙ get_member-put_other q f.0 d ms (λ e. apart q f.0 both.0 (sym e))
+    fields_put_other q fs ds (put f.0 d ms) both.1 ∙ put_other q f.0 d ms (λ e. apart q f.0 both.0 (sym e))
 
-pub first_put : (f : List ℕ × Slot × Role) (fs : List (List ℕ × Slot × Role)) (d : Data) (ds : List Data) (ms : Members) → IsTrue (not (list_any (λ other. bytes_eq f.0 other) (map (λ f. f.0) fs)))
+pub first_put : (f : List ℕ × Slot × Role) (fs : List (List ℕ × Slot × Role)) (d : Json) (ds : List Json) (ms : Members) → IsTrue (not (list_any (λ other. bytes_eq f.0 other) (map (λ f. f.0) fs))) → get_member f.0 ms ≡ None
     → value_of f.0 (fields_put (f ∷ fs) (d ∷ ds) ms) ≡ d
-first_put f fs d ds ms h = ap (λ o. unwrap_or o null) (fields_put_other f.0 fs ds (put f.0 d ms) h ∙ get_member-put f.0 d ms)
+first_put f fs d ds ms h new = ap (λ o. unwrap_or o null) (fields_put_other f.0 fs ds (put f.0 d ms) h ∙ put_new f.0 d ms new)

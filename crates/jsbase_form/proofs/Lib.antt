@@ -5,6 +5,7 @@ pub mod Seen
 pub mod Members
 pub mod Numbers
 pub mod Induction
+pub mod Puts
 pub mod Back
 pub mod RoundTrip
 mod Rows

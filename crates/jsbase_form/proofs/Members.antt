@@ -1,10 +1,8 @@
 -- How the value of a key is read, and keys that differ.
-use Rattle.std.proofs.Common.{◌≡◌, ◌≢◌, ℕ, List, ◌∷◌, Bool, true, false, not, ◌&&◌, ◌||◌, IsTrue, map, codes, Option, Some, None, Ordering, Less, Equal, Greater, nat_cmp, bytes_eq, refl, sym, ◌∙◌}
-use Rattle.std.specs.Ordering.{match_ordering}
-use Rattle.std.specs.Cmp.Lexicographic.{slice_cmp}
+use Rattle.std.proofs.Common.{◌≡◌, ◌≢◌, ℕ, List, ◌∷◌, Bool, true, false, not, ◌&&◌, ◌||◌, cond, IsTrue, map, codes, Option, Some, None, bytes_eq, refl, sym, ap, ◌∙◌}
 use Rattle.std.proofs.lemmas.Slice.Eq.{bytes_eq-Decides}
-use Rattle.serde_json.specs.Data.{Data, Members, no_members, member}
-use Rattle.serde_json.specs.Find.{get_member}
+use Rattle.json.specs.Json.{Json, Members, no_members, member}
+use Rattle.json.specs.Find.{get_member}
 use Rattle.swc_tree_marks.specs.Globals.{Table}
 use Rattle.swc_tree_node.specs.declared.kind.Kind.{Kind}
 use Rattle.swc_tree_node.specs.declared.kind.Kind.TheVariants as kind
@@ -15,20 +13,23 @@ use Rattle.jsbase_form.specs.Reads.{Read}
 use Rattle.jsbase_form.specs.Keys.{all_differ}
 use Rattle.jsbase_form.specs.Trees.{seen, null_as, members_seen, value_of}
 
-abbrev value_seen : Table → Option Data → Slot → Read Node
+abbrev value_seen : Table → Option Json → Slot → Read Node
 value_seen table (Some d) s = seen table d s
 value_seen table None s = null_as s
 
-either : (o : Ordering) (table : Table) (a b : Option Data) (s : Slot) → match_ordering o (value_seen table a s) (value_seen table b s) (value_seen table a s) ≡ value_seen table (match_ordering o a b a) s
-either Less table a b s = refl
-either Equal table a b s = refl
-either Greater table a b s = refl
+chosen : (b : Bool) (table : Table) (d : Json) (s : Slot) → cond b (seen table d s) (null_as s) ≡ value_seen table (cond b (Some d) None) s
+chosen true table d s = refl
+chosen false table d s = refl
 
 members_seen_is : (table : Table) (ms : Members) (k : List ℕ) (s : Slot) → members_seen table ms k s ≡ value_seen table (get_member k ms) s
 members_seen_is table no_members k s = refl
-members_seen_is table (member l d ms) k s = rw (members_seen_is table ms k s) (either (slice_cmp nat_cmp k l) table (get_member k ms) (Some d) s)
+members_seen_is table (member l d ms) k s = at (get_member k ms) refl (members_seen_is table ms k s)
+  where
+    at : (o : Option Json) → get_member k ms ≡ o → members_seen table ms k s ≡ value_seen table (get_member k ms) s → members_seen table (member l d ms) k s ≡ value_seen table (get_member k (member l d ms)) s
+    at (Some e) h rest = rw h (rest ∙ ap (λ o. value_seen table o s) h)
+    at None h rest = rw h (chosen (bytes_eq l k) table d s)
 
-found_seen : (table : Table) (o : Option Data) (s : Slot) (ms : Members) (k : List ℕ) → get_member k ms ≡ o → value_seen table o s ≡ seen table (value_of k ms) s
+found_seen : (table : Table) (o : Option Json) (s : Slot) (ms : Members) (k : List ℕ) → get_member k ms ≡ o → value_seen table o s ≡ seen table (value_of k ms) s
 found_seen table None s ms k e = rw e refl
 found_seen table (Some d) s ms k e = rw e refl
 

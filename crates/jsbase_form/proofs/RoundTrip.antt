@@ -1,9 +1,9 @@
 -- Reading what was written gives the tree back.
-use Rattle.std.proofs.Common.{◌≡◌, ℕ, suc, List, [], ◌∷◌, Bool, true, false, not, ◌&&◌, IsTrue, map, codes, Option, Some, Ok, bytes_eq, refl, ap, ◌∙◌, rules}
+use Rattle.std.proofs.Common.{◌≡◌, ℕ, suc, List, [], ◌∷◌, Bool, true, false, not, ◌&&◌, IsTrue, map, codes, Option, Some, None, Ok, bytes_eq, refl, ap, ◌∙◌, rules}
 use Rattle.std.specs.List.{list_any}
-use Rattle.serde_json.specs.Data.{Data, null, boolean, string, array, object, Members, put}
-use Rattle.serde_json.specs.Find.{get_member}
-use Rattle.serde_json.specs.View.{items_of}
+use Rattle.json.specs.Json.{Json, null, boolean, string, array, object, Members, no_members}
+use Rattle.json.specs.Find.{get_member}
+use Rattle.json.specs.Value.{items_of}
 use Rattle.swc_tree_marks.specs.Globals.{Table}
 use Rattle.swc_tree_marks.specs.declared.span.Span.{Span as Span'}
 use Rattle.swc_tree_marks.specs.declared.ident.Ident.{Ident}
@@ -25,8 +25,9 @@ use Rattle.jsbase_form.specs.Keys.{all_differ}
 use Rattle.jsbase_form.specs.Leaves.{flag_at}
 use Rattle.jsbase_form.specs.Trees.{Keys, leaf_at, fields_at, body_at, node_at, null_as, single_as, listed, object_of, seen, items_seen, members_seen, ident_at, value_of}
 use Rattle.jsbase_form.specs.Known.{ReadsAs, all_of, all_keyed, marks_short, MarksKnown, marks_known, NumbersShort, numbers_short, span_short}
-use Rattle.jsbase_form.specs.Writing.{json, span_json, typed, ident_json, fields_put}
-use Rattle.jsbase_form.proofs.Members.{member_seen, table_differs, split}
+use Rattle.jsbase_form.specs.Writing.{put, json, span_json, typed, ident_json, fields_put}
+use Rattle.jsbase_form.proofs.Members.{member_seen, table_differs, split, apart, neither}
+use Rattle.jsbase_form.proofs.Puts.{put_other}
 use Rattle.jsbase_form.proofs.Folds.{known-List, known-Identifier, known-Tree, short-Span, short-List, short-Identifier, short-Tree}
 use Rattle.jsbase_form.proofs.Induction.{AllOf, by_parts}
 use Rattle.jsbase_form.proofs.Back.{word_back, kind_back, span_back, text_back, ident_members, ident_type, ident_back, fields_put_other, first_put}
@@ -91,7 +92,7 @@ tree_place : (k : Kind) (fs : List (Slot → Bool)) (o : Option Content) → IsT
 tree_place k fs (Some (content.Node c)) h = (c, refl, h)
 tree_place k fs _ h = absurd (cc)
 
-single_back : (d : Data) (s : Slot) (c : Content) (t : Node) → single s ≡ Some c → leaf_at c d ≡ Ok t → single_as d s ≡ Ok t
+single_back : (d : Json) (s : Slot) (c : Content) (t : Node) → single s ≡ Some c → leaf_at c d ≡ Ok t → single_as d s ≡ Ok t
 single_back d (slot.One x) c t one h = let same : x ≡ c = cc in ap (λ c. leaf_at c d) same ∙ h
 single_back d (slot.Optional x) c t one h = let same : x ≡ c = cc in ap (λ c. leaf_at c d) same ∙ h
 single_back d _ c t one h = absurd (cc)
@@ -181,18 +182,36 @@ lists_back : (table : Table) (ts : List Node) → AllOf (ReadsBack table) ts →
 lists_back table ts back s f known short =
     ap (λ d. seen table d s) (json-List ts) ∙ array_places table ts back (rw (← known-List table ts) known) (rw (← short-List ts) short) s (rw (← fits-List ts s) f)
 
+-- no member has the key of one of the fields
+abbrev AllNew : List (List ℕ × Slot × Role) → Members → Type 0
+AllNew [] ms = Unit {0}
+AllNew (f ∷ fs) ms = (get_member f.0 ms ≡ None) × AllNew fs ms
+
+all_new : (k : List ℕ) (d : Json) (ms : Members) (fs : List (List ℕ × Slot × Role)) → IsTrue (not (list_any (λ other. bytes_eq k other) (map (λ f. f.0) fs))) → AllNew fs ms → AllNew fs (put k d ms)
+all_new k d ms [] h new = tt
+all_new k d ms (f ∷ fs) h new =
+    let both = neither (bytes_eq k f.0) (list_any (λ other. bytes_eq k other) (map (λ f. f.0) fs)) h in
+    (put_other f.0 k d ms (apart k f.0 both.0) ∙ new.0, all_new k d ms fs both.1 new.1)
+
+all_new_first : (k : Kind) (fs : List (List ℕ × Slot × Role)) → IsTrue (not (list_any (λ other. bytes_eq (codes "type") other) (map (λ f. f.0) fs))) → AllNew fs (typed k)
+all_new_first k fs h = all_new (codes "type") (string (name_of k)) no_members fs h (none fs)
+  where
+    none : (fs : List (List ℕ × Slot × Role)) → AllNew fs no_members
+    none [] = tt
+    none (f ∷ fs) = (refl, none fs)
+
 fields_back : (table : Table) (final : Members) (fs : List (List ℕ × Slot × Role)) (ts : List Node) (ms : Members) → final ≡ fields_put fs (map json ts) ms → AllOf (ReadsBack table) ts → FieldsFit (map (λ f. f.1) fs) ts
-    → IsTrue (all_of (map (marks_known table) ts)) → IsTrue (all_keyed fs (map numbers_short ts)) → IsTrue (all_differ (map (λ f. f.0) fs)) → fields_at (members_seen table final) fs ≡ Ok ts
-fields_back table final [] [] ms is back fit known short differ = refl
-fields_back table final [] (t ∷ ts) ms is back fit known short differ = absurd fit
-fields_back table final (f ∷ fs) [] ms is back fit known short differ = absurd fit
-fields_back table final (f ∷ fs) (t ∷ ts) ms is back fit known short differ =
+    → IsTrue (all_of (map (marks_known table) ts)) → IsTrue (all_keyed fs (map numbers_short ts)) → IsTrue (all_differ (map (λ f. f.0) fs)) → AllNew fs ms → fields_at (members_seen table final) fs ≡ Ok ts
+fields_back table final [] [] ms is back fit known short differ new = refl
+fields_back table final [] (t ∷ ts) ms is back fit known short differ new = absurd fit
+fields_back table final (f ∷ fs) [] ms is back fit known short differ new = absurd fit
+fields_back table final (f ∷ fs) (t ∷ ts) ms is back fit known short differ new =
     let k = split (marks_known table t) (all_of (map (marks_known table) ts)) known in
     let n = split (numbers_short t) (all_keyed fs (map numbers_short ts)) short in
     let d = split (not (list_any (λ other. bytes_eq f.0 other) (map (λ f. f.0) fs))) (all_differ (map (λ f. f.0) fs)) differ in
-    let value : value_of f.0 final ≡ json t = ap (value_of f.0) is ∙ first_put f fs (json t) (map json ts) ms d.0 in
+    let value : value_of f.0 final ≡ json t = ap (value_of f.0) is ∙ first_put f fs (json t) (map json ts) ms d.0 new.0 in
     let first : members_seen table final f.0 f.1 ≡ Ok t = member_seen table final f.0 f.1 ∙ ap (λ d. seen table d f.1) value ∙ back.0 f.1 fit.0 k.0 n.0 in
-    rw (first, fields_back table final fs ts (put f.0 (json t) ms) is back.1 fit.1 k.1 n.1 d.1) refl
+    rw (first, fields_back table final fs ts (put f.0 (json t) ms) is back.1 fit.1 k.1 n.1 d.1 (all_new f.0 (json t) ms fs d.0 new.1)) refl
 
 trees_back : (table : Table) (k : Kind) (ts : List Node) → AllOf (ReadsBack table) ts → ReadsBack table (Tree k ts)
 trees_back table k ts back s f known short =
@@ -202,7 +221,7 @@ trees_back table k ts back s f known short =
     let ms = fields_put (fields_of k) (map json ts) (typed k) in
     let keys = split (not (list_any (λ other. bytes_eq (codes "type") other) (map (λ f. f.0) (fields_of k)))) (all_differ (map (λ f. f.0) (fields_of k))) (table_differs k) in
     let named : get_member (codes "type") ms ≡ Some (string (name_of k)) = fields_put_other (codes "type") (fields_of k) (map json ts) (typed k) keys.0 in
-    let fields = fields_back table ms (fields_of k) ts (typed k) refl back (fields_open (slots_of k) ts inside.1) (rw (← known-Tree table k ts) known) (rw (← short-Tree k ts) short) keys.1 in
+    let fields = fields_back table ms (fields_of k) ts (typed k) refl back (fields_open (slots_of k) ts inside.1) (rw (← known-Tree table k ts) known) (rw (← short-Tree k ts) short) keys.1 (all_new_first k (fields_of k) keys.0) in
     ap (λ d. seen table d s) (json-Tree k ts)
     ∙ object_back table ms s place.0 (Tree k ts) place.1
     (node_back table ms (members_seen table ms) place.0 k (Tree k ts) inside.0 named
@@ -225,5 +244,5 @@ seen_json table t = by_parts (ReadsBack table) (record {
   tree = trees_back table;
 }) t
 
-pub reads_as : (d : Data) (t : Node) → d ≡ json t → NumbersShort t → ReadsAs d t
+pub reads_as : (d : Json) (t : Node) → d ≡ json t → NumbersShort t → ReadsAs d t
 reads_as d t e short table s fit known = ap (λ d. seen table d s) e ∙ seen_json table t s fit known short

@@ -1,6 +1,6 @@
 -- The form of lists and pairs, computed on small values.
 use Rattle.std.proofs.Common.{◌≡◌, [], ◌∷◌, codes, true, Ok, Err, refl}
-use Rattle.serde_json.specs.Data.{null, boolean, string, array, no_items, item}
+use Rattle.json.specs.Json.{null, boolean, string, array, no_items, item}
 use Rattle.swc_tree_node.specs.declared.kind.Class.TheVariants as class
 use Rattle.swc_tree_node.specs.declared.slot.Content.TheVariants as content
 use Rattle.swc_tree_node.specs.declared.slot.Slot.TheVariants as slot

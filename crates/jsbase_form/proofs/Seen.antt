@@ -1,10 +1,9 @@
 -- What is read fits its place, and the table knows its marks.
-use Rattle.std.proofs.Common.{◌≡◌, ℕ, suc, List, [], ◌∷◌, Bool, true, false, cond, map, length, IsTrue, Some, option_and_then, Ordering, Less, Equal, Greater, nat_cmp, Ok, Err, codes, bytes_eq, refl, sym, ap, ◌∙◌, subst}
+use Rattle.std.proofs.Common.{◌≡◌, ℕ, suc, List, [], ◌∷◌, Bool, true, false, cond, map, length, IsTrue, Some, option_and_then, Ok, Err, codes, bytes_eq, refl, sym, ap, ◌∙◌, subst}
 use Rattle.std.specs.List.{list_all}
-use Rattle.std.specs.Ordering.{match_ordering}
-use Rattle.std.specs.Cmp.Lexicographic.{slice_cmp}
-use Rattle.serde_json.specs.Data.{Data, null, boolean, number, string, array, object, Items, no_items, item, Members, no_members, member}
-use Rattle.serde_json.specs.Find.{as_array, as_str, get_member}
+use Rattle.std.specs.Prelude.{is_some}
+use Rattle.json.specs.Json.{Json, null, boolean, number, string, array, object, Items, no_items, item, Members, no_members, member}
+use Rattle.json.specs.Find.{as_array, as_str, get_member}
 use Rattle.swc_tree_marks.specs.Globals.{Table}
 use Rattle.swc_tree_marks.specs.declared.ident.Ident.{Ident}
 use Rattle.swc_tree_node.specs.declared.kind.Kind.{Kind}
@@ -39,13 +38,13 @@ AllSound table s ts = AllFit s ts × IsTrue (all_of (map (marks_known table) ts)
 
 -- ---- leaves
 
-word_among : (ws : WordClass) (d : Data) (w : Word') → word_at ws d ≡ Ok w → is_among w ws ≡ true
+word_among : (ws : WordClass) (d : Json) (w : Word') → word_at ws d ≡ Ok w → is_among w ws ≡ true
 unfolding word_at
 word_among ws d w h =
     let text = bound (found (as_str d)) (λ text. found (spelled text (words_of ws))) w h in
     find_among (λ w. bytes_eq (spelling_of w) text.0) word_number (words_of ws) w (found_ok _ w text.2)
 
-leaf_sound : (table : Table) (c : Content) (d : Data) (t : Node) → leaf_at c d ≡ Ok t → (s : Slot) → single s ≡ Some c → Sound table s t
+leaf_sound : (table : Table) (c : Content) (d : Json) (t : Node) → leaf_at c d ≡ Ok t → (s : Slot) → single s ≡ Some c → Sound table s t
 leaf_sound table content.Span d t h s one =
     let x = bound (span_at d) (λ x. Ok (Span x)) t h in
     subst (Sound table s) (ok_same (Span x.0) t x.2) (rw (fits-Span x.0 s, one) refl, known-Span table x.0)
@@ -69,14 +68,14 @@ null_sound table (slot.OptionalList c) t h = absent_sound table (slot.OptionalLi
 null_sound table slot.Pairs t h = absent_sound table slot.Pairs t refl (ok_same Absent t h)
 null_sound table _ t h = absurd (cc)
 
-single_sound : (table : Table) (d : Data) (s : Slot) (t : Node) → single_as d s ≡ Ok t → Sound table s t
+single_sound : (table : Table) (d : Json) (s : Slot) (t : Node) → single_as d s ≡ Ok t → Sound table s t
 single_sound table d (slot.One c) t h = leaf_sound table c d t h (slot.One c) refl
 single_sound table d (slot.Optional c) t h = leaf_sound table c d t h (slot.Optional c) refl
 single_sound table d _ t h = absurd (cc)
 
 -- ---- identifiers
 
-mark_known : (table : Table) (d : Data) (n : ℕ) → mark_at table d ≡ Ok n → is_marked table n ≡ true
+mark_known : (table : Table) (d : Json) (n : ℕ) → mark_at table d ≡ Ok n → is_marked table n ≡ true
 unfolding mark_at
 mark_known table d n h =
     let number = bound (number_at d) (marked table) n h in
@@ -91,7 +90,7 @@ marks_all_known table i (item d ds) ns h =
     ap (list_all (is_marked table)) (sym (ok_same (first.0 ∷ rest.0) ns rest.2))
     ∙ rw (mark_known table d first.0 (at_ok (index i) (mark_at table d) first.0 first.1)) (marks_all_known table (suc i) ds rest.0 rest.1)
 
-context_known : (table : Table) (d : Data) (ns : List ℕ) → context_at table d ≡ Ok ns → list_all (is_marked table) ns ≡ true
+context_known : (table : Table) (d : Json) (ns : List ℕ) → context_at table d ≡ Ok ns → list_all (is_marked table) ns ≡ true
 unfolding context_at
 context_known table d ns h = let ds = bound (found (as_array d)) (marks_of table 0) ns h in marks_all_known table 0 ds.0 ns ds.2
 
@@ -199,15 +198,15 @@ arrays_sound table ds each sound counted (slot.OptionalList c) t h = listed_soun
 arrays_sound table ds each sound counted slot.Pair t h = pair_sound (are_two ds) table ds (each (slot.One content.Text)) (sound (slot.One content.Text)) (counted (slot.One content.Text)) refl t h
 arrays_sound table ds each sound counted slot.Pairs t h = listed_sound table slot.Pairs slot.Pair (each slot.Pair) (sound slot.Pair) (λ ts e. all_close slot.Pair ts) t h
 
--- one of two readings
-either_sound : (o : Ordering) (table : Table) (s : Slot) (a b : Read Node) (t : Node) → (a ≡ Ok t → Sound table s t) → (b ≡ Ok t → Sound table s t) → match_ordering o a b a ≡ Ok t → Sound table s t
-either_sound Less table s a b t f g h = f h
-either_sound Equal table s a b t f g h = g h
-either_sound Greater table s a b t f g h = f h
+-- one of three readings
+one_sound : (b c : Bool) (table : Table) (s : Slot) (later this none : Read Node) (t : Node) → (later ≡ Ok t → Sound table s t) → (this ≡ Ok t → Sound table s t) → (none ≡ Ok t → Sound table s t) → cond b later (cond c this none) ≡ Ok t → Sound table s t
+one_sound true c table s later this none t f g n h = f h
+one_sound false true table s later this none t f g n h = g h
+one_sound false false table s later this none t f g n h = n h
 
 mutual
   -- what is read fits its place, and the table knows its marks
-  pub seen_sound : (table : Table) (d : Data) (s : Slot) (t : Node) → seen table d s ≡ Ok t → Sound table s t
+  pub seen_sound : (table : Table) (d : Json) (s : Slot) (t : Node) → seen table d s ≡ Ok t → Sound table s t
   seen_sound table null s t h = null_sound table s t h
   seen_sound table (boolean b) s t h = single_sound table (boolean b) s t h
   seen_sound table (number n) s t h = single_sound table (number n) s t h
@@ -228,10 +227,10 @@ mutual
   members_sound : (table : Table) (ms : Members) (k : List ℕ) (s : Slot) (t : Node) → members_seen table ms k s ≡ Ok t → Sound table s t
   members_sound table no_members k s t h = null_sound table s t h
   members_sound table (member l d ms) k s t h =
-      either_sound (slice_cmp nat_cmp k l) table s (members_seen table ms k s) (seen table d s) t (members_sound table ms k s t) (seen_sound table d s t) h
+      one_sound (is_some (get_member k ms)) (bytes_eq l k) table s (members_seen table ms k s) (seen table d s) (null_as s) t (members_sound table ms k s t) (seen_sound table d s t) (null_sound table s t) h
 
-pub seen_fits : (table : Table) (d : Data) (s : Slot) (t : Node) → seen table d s ≡ Ok t → Fits t s
+pub seen_fits : (table : Table) (d : Json) (s : Slot) (t : Node) → seen table d s ≡ Ok t → Fits t s
 seen_fits table d s t h = (seen_sound table d s t h).0
 
-pub seen_known : (table : Table) (d : Data) (s : Slot) (t : Node) → seen table d s ≡ Ok t → MarksKnown table t
+pub seen_known : (table : Table) (d : Json) (s : Slot) (t : Node) → seen table d s ≡ Ok t → MarksKnown table t
 seen_known table d s t h = (seen_sound table d s t h).1

@@ -1,7 +1,7 @@
 -- Trees whose marks a table knows, and whose numbers have 32 bits.
 use Rattle.std.specs.Prelude.{ℕ, ◌≡◌, Ok, ◌^◌, List, [], ◌∷◌, Bool, true, ◌&&◌, IsTrue, nat_lt}
 use Rattle.std.specs.List.{list_all}
-use Rattle.serde_json.specs.Data.{Data}
+use Rattle.json.specs.Json.{Json}
 use Rattle.swc_tree_marks.specs.Globals.{Table}
 use Rattle.swc_tree_marks.specs.declared.span.Span.{Span}
 use Rattle.swc_tree_marks.specs.declared.ident.Ident.{Ident}
@@ -60,5 +60,5 @@ abbrev pub NumbersShort : Node → Type 0
 NumbersShort t = IsTrue (numbers_short t)
 
 -- the value reads as the tree, wherever the tree fits, with any table that knows its marks
-abbrev pub ReadsAs : Data → Node → Type 0
+abbrev pub ReadsAs : Json → Node → Type 0
 ReadsAs d t = (table : Table) (s : Slot) → Fits t s → MarksKnown table t → seen table d s ≡ Ok t

@@ -1,10 +1,8 @@
 -- The tree that a JSON value stands for, or the path to its first fault.
-use Rattle.std.specs.Prelude.{ℕ, suc, List, [], ◌∷◌, codes, Bool, true, false, unwrap_or, Option, option_and_then, Ok, Err, find, if◌then◌else◌}
-use Rattle.std.specs.Ordering.{nat_cmp, match_ordering}
-use Rattle.std.specs.Cmp.Lexicographic.{slice_cmp}
+use Rattle.std.specs.Prelude.{ℕ, suc, List, [], ◌∷◌, codes, Bool, true, false, unwrap_or, is_some, Option, option_and_then, Ok, Err, find, if◌then◌else◌}
 use Rattle.std.specs.Str.{bytes_eq}
-use Rattle.serde_json.specs.Data.{Data, null, boolean, number, string, array, object, Items, no_items, item, Members, no_members, member}
-use Rattle.serde_json.specs.Find.{as_str, get_member}
+use Rattle.json.specs.Json.{Json, null, boolean, number, string, array, object, Items, no_items, item, Members, no_members, member}
+use Rattle.json.specs.Find.{as_str, get_member}
 use Rattle.swc_tree_marks.specs.Globals.{Table}
 use Rattle.swc_tree_marks.specs.declared.ident.Ident.{Ident}
 use Rattle.swc_tree_node.specs.declared.kind.Kind.{Kind}
@@ -20,15 +18,15 @@ use Rattle.jsbase_form.specs.Reads.{Read, ◌>>=◌, at, found, key, index}
 use Rattle.jsbase_form.specs.Leaves.{span_at, context_at, text_at, flag_at, word_at}
 
 -- a single leaf; a node is read from an object alone
-abbrev pub leaf_at : Content → Data → Read Node
+abbrev pub leaf_at : Content → Json → Read Node
 leaf_at content.Span d = span_at d >>= (λ x. Ok (Span x))
 leaf_at content.Text d = text_at d >>= (λ x. Ok (Text x))
 leaf_at content.Flag d = flag_at d >>= (λ x. Ok (Flag x))
 leaf_at (content.Word ws) d = word_at ws d >>= (λ w. Ok (Word w))
 leaf_at (content.Node c) d = Err []
 
--- the value of a key; an absent key counts as null
-abbrev pub value_of : List ℕ → Members → Data
+-- the value of a key, the last where it comes twice; an absent key counts as null
+abbrev pub value_of : List ℕ → Members → Json
 value_of k ms = unwrap_or (get_member k ms) null
 
 unfoldable pub ident_at : Table → Members → Read Ident
@@ -65,7 +63,7 @@ null_as (slot.OptionalList c) = Ok Absent
 null_as slot.Pairs = Ok Absent
 null_as _ = Err []
 
-abbrev pub single_as : Data → Slot → Read Node
+abbrev pub single_as : Json → Slot → Read Node
 single_as d (slot.One c) = leaf_at c d
 single_as d (slot.Optional c) = leaf_at c d
 single_as d _ = Err []
@@ -98,7 +96,7 @@ object_as table ms keys _ = Err []
 
 abbrev mutual
   -- what a value is in a place
-  pub seen : Table → Data → Slot → Read Node
+  pub seen : Table → Json → Slot → Read Node
   seen table null s = null_as s
   seen table (boolean b) s = single_as (boolean b) s
   seen table (number n) s = single_as (number n) s
@@ -111,7 +109,7 @@ abbrev mutual
   items_seen table i no_items s = Ok []
   items_seen table i (item d ds) s = at (index i) (seen table d s) >>= (λ t. items_seen table (suc i) ds s >>= (λ ts. Ok (t ∷ ts)))
 
-  -- what the value of a key is in a place
+  -- what the value of a key is in a place: the last, where the key comes twice
   pub members_seen : Table → Members → Keys
   members_seen table no_members k s = null_as s
-  members_seen table (member l d ms) k s = match_ordering (slice_cmp nat_cmp k l) (members_seen table ms k s) (seen table d s) (members_seen table ms k s)
+  members_seen table (member l d ms) k s = if is_some (get_member k ms) then members_seen table ms k s else (if bytes_eq l k then seen table d s else null_as s)

@@ -4,5 +4,6 @@ pub mod Members
 pub mod Fields
 pub mod Marks
 pub mod Tables
+pub mod Numbers
 pub mod Texts
 pub mod Sound

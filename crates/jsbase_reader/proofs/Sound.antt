@@ -1,7 +1,7 @@
 -- The tree of an envelope fits its class, and the table knows its marks.
 use Rattle.std.proofs.Common.{◌≡◌, Ok, codes, subst}
-use Rattle.serde_json.specs.Data.{Data, Members}
-use Rattle.serde_json.specs.Find.{as_object}
+use Rattle.json.specs.Json.{Json, Members}
+use Rattle.json.specs.Find.{as_object}
 use Rattle.swc_tree_node.specs.declared.kind.Class.{Class}
 use Rattle.swc_tree_node.specs.declared.slot.Content.TheVariants as content
 use Rattle.swc_tree_node.specs.declared.slot.Slot.TheVariants as slot
@@ -28,11 +28,11 @@ members_sound class ms e h =
     let same = ok_same (record { globals = table.0; unresolved = marks.0.0; top = marks.0.1; keep_class_names = options.0.0; ignore_eval = options.0.1; tree = tree.0 }) e tree.2 in
     subst (IsSound class) same (seen_sound table.0 (value_of (codes "tree") ms) (slot.One (content.Node class)) tree.0 (at_ok (key (codes "tree")) _ tree.0 tree.1))
 
-envelope_sound : (class : Class) (d : Data) (e : Envelope) → envelope_in class d ≡ Ok e → IsSound class e
+envelope_sound : (class : Class) (d : Json) (e : Envelope) → envelope_in class d ≡ Ok e → IsSound class e
 envelope_sound class d e h = let ms = bound (found (as_object d)) (envelope_of class) e h in members_sound class ms.0 e ms.2
 
-pub envelope_fits : (class : Class) (d : Data) (e : Envelope) → envelope_in class d ≡ Ok e → Fits e.tree (slot.One (content.Node class))
+pub envelope_fits : (class : Class) (d : Json) (e : Envelope) → envelope_in class d ≡ Ok e → Fits e.tree (slot.One (content.Node class))
 envelope_fits class d e h = (envelope_sound class d e h).0
 
-pub envelope_known : (class : Class) (d : Data) (e : Envelope) → envelope_in class d ≡ Ok e → MarksKnown e.globals e.tree
+pub envelope_known : (class : Class) (d : Json) (e : Envelope) → envelope_in class d ≡ Ok e → MarksKnown e.globals e.tree
 envelope_known class d e h = (envelope_sound class d e h).1

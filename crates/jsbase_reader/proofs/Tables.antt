@@ -5,14 +5,14 @@ use Rattle.std.specs.Cmp.{nat_eq_equiv}
 use Rattle.std.proofs.lemmas.Map.Views.{list_any-from_Contains, Contains-from_any}
 use Rattle.std.proofs.lemmas.List.{get_or-take, length-take-le, take-append-le, take-append-drop, take_more}
 use Rattle.std.proofs.Math.Seq.{take-length, drop-length, drop-cons}
-use Rattle.serde_json.specs.View.{items_view}
-use Rattle.serde_json.specs.declared.value.Value.{Value}
+use Rattle.json.specs.Value.{items_view}
+use Rattle.json.specs.declared.value.Value.{Value}
 use Rattle.swc_tree_marks.specs.Globals.{Table, numbers, greatest, Knows, Follows, row_at, IsTable, IsFirstBad}
 use Rattle.jsbase_form.specs.Reads.{index}
 use Rattle.jsbase_form.specs.Tables.{pair_of, may_follow, checked}
 use Rattle.jsbase_reader.proofs.Marks.{same_number}
 
-pub no_pair : (vs : List Value) → (length vs ≡ 2 → ⊥) → pair_of (items_view vs) ≡ Err []
+pub no_pair : {A : Type 0} (vs : List (Value A)) → (length vs ≡ 2 → ⊥) → pair_of (items_view vs) ≡ Err []
 no_pair [] h = refl
 no_pair (a ∷ []) h = refl
 no_pair (a ∷ b ∷ []) h = absurd (h refl)

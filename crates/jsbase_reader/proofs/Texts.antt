@@ -1,27 +1,33 @@
 -- The JSON value of a text.
-use Rattle.std.proofs.Common.{◌≡◌, ℕ, List, [], Bool, true, false, cond, Some, None, Result, Ok, Err, refl, ap}
+use Rattle.std.proofs.Common.{◌≡◌, ℕ, List, [], Bool, true, false, cond, Some, None, Result, Ok, Err, option_and_then, refl, sym, ap, ◌∙◌}
 use Rattle.std.specs.Str.{IsUtf8, is_utf8}
 use Rattle.std.proofs.lemmas.Str.{IsUtf8-from_is_utf8, is_utf8-from_IsUtf8}
-use Rattle.serde_json.specs.Data.{Data}
-use Rattle.serde_json.specs.Read as json
-use Rattle.serde_json.specs.declared.value.Value.{Value}
+use Rattle.json.specs.Token.{Token}
+use Rattle.json.specs.Lex.{tokens}
+use Rattle.json.specs.Json.{Json, value, if_last}
+use Rattle.json.specs.declared.value.Value.{Value}
 use Rattle.jsbase_form.specs.Reads.{found}
 use Rattle.jsbase_reader.specs.declared.error.ReadError.{ReadError}
 use Rattle.jsbase_reader.specs.declared.error.ReadError.TheVariants as error
 use Rattle.jsbase_reader.specs.Answers.{Gives, GivesView}
-use Rattle.jsbase_reader.specs.Envelopes.{text_in}
+use Rattle.jsbase_reader.specs.Envelopes.{document, max_depth, text_in}
 
-pub text_there : (bytes : List ℕ) (d : Data) → IsUtf8 bytes × (json.read bytes ≡ Some d) → text_in bytes ≡ Ok d
+pub text_there : (bytes : List ℕ) (d : Json) → IsUtf8 bytes × (document bytes ≡ Some d) → text_in bytes ≡ Ok d
 text_there bytes d h = rw (is_utf8-from_IsUtf8 bytes h.0) (ap found h.1)
 
-no_text_at : (bytes : List ℕ) (b : Bool) → is_utf8 bytes ≡ b → (IsUtf8 bytes → json.read bytes ≡ None) → cond b (found (json.read bytes)) (Err []) ≡ Err []
+no_text_at : (bytes : List ℕ) (b : Bool) → is_utf8 bytes ≡ b → (IsUtf8 bytes → document bytes ≡ None) → cond b (found (document bytes)) (Err []) ≡ Err []
 no_text_at bytes true is h = ap found (h (IsUtf8-from_is_utf8 bytes is))
 no_text_at bytes false is h = refl
 
-pub no_text : (bytes : List ℕ) → (IsUtf8 bytes → json.read bytes ≡ None) → text_in bytes ≡ Err []
+pub no_text : (bytes : List ℕ) → (IsUtf8 bytes → document bytes ≡ None) → text_in bytes ≡ Err []
 no_text bytes h = no_text_at bytes (is_utf8 bytes) refl h
 
-pub fault_viewed : (r : Result Value ReadError) → Gives r (Err []) → GivesView r (Err [])
+pub fault_viewed : {A : Type 0} (r : Result (Value A) ReadError) → Gives r (Err []) → GivesView r (Err [])
 fault_viewed (Ok v) h = absurd (cc)
 fault_viewed (Err error.NoMemory) h = tt
 fault_viewed (Err (error.Fault p)) h = cc
+
+-- a value that is read to the end of the text
+pub document_there : (bytes text : List ℕ) (ts rest : List Token) (d : Json) → text ≡ bytes → ts ≡ tokens text → value max_depth ts ≡ Some (d, rest) → rest ≡ [] → document bytes ≡ Some d
+document_there bytes text ts rest d same lexed read end =
+    ap (λ l. option_and_then (λ p. if_last p.0 p.1) (value max_depth l)) (sym (lexed ∙ ap tokens same)) ∙ ap (option_and_then (λ p. if_last p.0 p.1)) (read ∙ ap (λ l. Some (d, l)) end)

@@ -1,8 +1,8 @@
 -- What a reader's answer says.
 use Rattle.std.specs.Prelude.{◌≡◌, List, [], ◌∷◌, ◌++◌, Result, Ok, Err, ⊤}
-use Rattle.serde_json.specs.Data.{Data}
-use Rattle.serde_json.specs.View.{view}
-use Rattle.serde_json.specs.declared.value.Value.{Value}
+use Rattle.json.specs.Json.{Json}
+use Rattle.json.specs.Value.{value_view}
+use Rattle.json.specs.declared.value.Value.{Value}
 use Rattle.jsbase_form.specs.Reads.{Read}
 use Rattle.jsbase_reader.specs.declared.error.ReadError.{ReadError}
 use Rattle.jsbase_reader.specs.declared.error.ReadError.TheVariants as error
@@ -14,8 +14,8 @@ Gives (Err error.NoMemory) read = ⊤
 Gives (Err (error.Fault path)) read = read ≡ Err path
 
 -- the same of a JSON value that was answered, as contracts see it
-abbrev pub GivesView : Result Value ReadError → Read Data → Type 0
-GivesView (Ok value) read = read ≡ Ok (view value)
+abbrev pub GivesView : {A : Type 0} → Result (Value A) ReadError → Read Json → Type 0
+GivesView (Ok value) read = read ≡ Ok (value_view value)
 GivesView (Err error.NoMemory) read = ⊤
 GivesView (Err (error.Fault path)) read = read ≡ Err path
 

@@ -1,9 +1,9 @@
 -- The envelope that a JSON value or a text stands for, or the path to its first fault.
-use Rattle.std.specs.Prelude.{List, ℕ, codes, Bool, false, if◌then◌else◌, Ok, Err, []}
+use Rattle.std.specs.Prelude.{List, ℕ, codes, Bool, false, if◌then◌else◌, Option, option_and_then, Ok, Err, []}
 use Rattle.std.specs.Str.{is_utf8}
-use Rattle.serde_json.specs.Data.{Data, null, Members}
-use Rattle.serde_json.specs.Find.{as_object}
-use Rattle.serde_json.specs.Read as json
+use Rattle.json.specs.Json.{Json, null, Members, value, if_last}
+use Rattle.json.specs.Find.{as_object}
+use Rattle.json.specs.Lex.{tokens}
 use Rattle.swc_tree_node.specs.declared.kind.Class.{Class}
 use Rattle.swc_tree_node.specs.declared.slot.Content.TheVariants as content
 use Rattle.swc_tree_node.specs.declared.slot.Slot.TheVariants as slot
@@ -15,7 +15,7 @@ use Rattle.jsbase_form.specs.Trees.{seen, value_of}
 use Rattle.jsbase_reader.specs.declared.envelope.Envelope.{Envelope}
 
 -- an option that is absent or null is false
-abbrev pub option_at : Data → Read Bool
+abbrev pub option_at : Json → Read Bool
 option_at null = Ok false
 option_at d = flag_at d
 
@@ -39,12 +39,20 @@ envelope_of class ms = at (key (codes "marks")) (table_at (value_of (codes "mark
     Ok (record { globals = table; unresolved = marks.0; top = marks.1; keep_class_names = options.0; ignore_eval = options.1; tree = tree })))))
 
 -- the envelope whose tree is of the class
-abbrev pub envelope_in : Class → Data → Read Envelope
+abbrev pub envelope_in : Class → Json → Read Envelope
 envelope_in class d = found (as_object d) >>= envelope_of class
 
--- the JSON value of a text; bytes that are not UTF-8 have none
-abbrev pub text_in : List ℕ → Read Data
-text_in bytes = if is_utf8 bytes then found (json.read bytes) else Err []
+-- how deep arrays and objects may nest
+abbrev pub max_depth : ℕ
+max_depth = 127
+
+-- the JSON value of a text
+abbrev pub document : List ℕ → Option Json
+document text = option_and_then (λ p. if_last p.0 p.1) (value max_depth (tokens text))
+
+-- the JSON value of bytes; those that are not UTF-8 have none
+abbrev pub text_in : List ℕ → Read Json
+text_in bytes = if is_utf8 bytes then found (document bytes) else Err []
 
 -- the envelope of a text
 abbrev pub envelope_in_text : Class → List ℕ → Read Envelope

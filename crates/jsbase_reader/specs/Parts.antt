@@ -1,5 +1,6 @@
 -- What a place takes, and what a node of one kind is read as.
 use Rattle.std.specs.Prelude.{ℕ, List, Ok, ◌==◌, if◌then◌else◌, Option, Some, None}
+use Rattle.json.specs.Json.{Json, object, Members, no_members}
 use Rattle.swc_tree_node.specs.declared.kind.Class.{Class}
 use Rattle.swc_tree_node.specs.declared.kind.Kind.{Kind}
 use Rattle.swc_tree_node.specs.declared.node.Node.{Node, Identifier, Tree}
@@ -29,3 +30,8 @@ identifier_of k ident = ident >>= (λ i. Ok (Identifier k i))
 
 abbrev pub tree_of : Kind → Read (List Node) → Read Node
 tree_of k fields = fields >>= (λ ts. Ok (Tree k ts))
+
+-- the members of an object; other values have none
+abbrev pub members_in : Json → Members
+members_in (object ms) = ms
+members_in _ = no_members

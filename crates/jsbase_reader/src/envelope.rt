@@ -1,6 +1,6 @@
 //! Reading envelopes: a tree with its table of marks and its options.
 ghost use Rattle.std.specs.Prelude.{IfOk, codes};
-ghost use Rattle.serde_json.specs.View.{view, items_view, members_view};
+ghost use Rattle.json.specs.Value.{value_view, items_view};
 ghost use Rattle.jsbase_form.specs.Leaves.{mark_at};
 ghost use Rattle.jsbase_form.specs.Reads.{at, key};
 ghost use Rattle.jsbase_form.specs.Tables.{pairs_of, pairs_at, table_at};
@@ -8,14 +8,14 @@ ghost use Rattle.jsbase_form.specs.Trees.{seen, value_of};
 ghost use Rattle.jsbase_form.specs.Known.{MarksKnown};
 ghost use Rattle.swc_tree_node.specs.Fits.{Fits};
 ghost use Rattle.jsbase_reader.specs.Answers.{Gives, GivesView};
+ghost use Rattle.jsbase_reader.specs.Parts.{members_in};
 ghost use Rattle.jsbase_reader.specs.Envelopes.{option_at, marks_in, options_in, envelope_of, envelope_in, text_in, envelope_in_text};
 
 use crate::error::{ReadError, fault, under};
-use crate::leaves::{read_flag, read_mark, read_pair};
-use crate::nodes::{member, read, take_value};
+use crate::leaves::{items_of, read_flag, read_mark, read_pair};
+use crate::nodes::{member, read};
 use jsbase_form::Step;
-use serde_json::error::Category;
-use serde_json::{Map, Value};
+use json::{Error, Reader, Scratch, Value};
 use std::alloc::Global;
 use swc_tree_items::Items;
 use swc_tree_marks::{Globals, Mark, MarkError};
@@ -34,7 +34,7 @@ pub struct Envelope {
     pub tree: Node,
 }
 
-fn read_rows(alloc: Global, values: &[Value]) -> Result<Items<(u32, u32)>, ReadError>
+fn read_rows(alloc: Global, values: &[Value<'_>]) -> Result<Items<(u32, u32)>, ReadError>
     ensures { Gives result (pairs_of 0 (items_view values.now)) }
 {
     let mut rows = Items::with_capacity(alloc, values.len())?;
@@ -46,10 +46,10 @@ fn read_rows(alloc: Global, values: &[Value]) -> Result<Items<(u32, u32)>, ReadE
 }
 
 #[tactic(auto, unfolding(jsbase_form::specs::Tables::pairs_at))]
-fn read_pairs(alloc: Global, value: &Value) -> Result<Items<(u32, u32)>, ReadError>
-    ensures { Gives result (pairs_at (view value.now)) }
+fn read_pairs(alloc: Global, value: &Value<'_>) -> Result<Items<(u32, u32)>, ReadError>
+    ensures { Gives result (pairs_at (value_view value.now)) }
 {
-    match value.as_array() {
+    match items_of(value) {
         Some(values) => read_rows(alloc, values),
         None => fault(alloc),
     }
@@ -57,8 +57,8 @@ fn read_pairs(alloc: Global, value: &Value) -> Result<Items<(u32, u32)>, ReadErr
 
 /// The table of marks: all its pairs are read before the first of them is checked.
 #[tactic(auto, using(crate::proofs::Tables::good_table, crate::proofs::Tables::bad_table), unfolding(jsbase_form::specs::Tables::table_at))]
-fn read_globals(alloc: Global, value: &Value) -> Result<Globals, ReadError>
-    ensures { Gives result (table_at (view value.now)) }
+fn read_globals(alloc: Global, value: &Value<'_>) -> Result<Globals, ReadError>
+    ensures { Gives result (table_at (value_view value.now)) }
 {
     let rows = read_pairs(alloc, value)?;
     match Globals::from_table(alloc, rows.as_slice()) {
@@ -69,8 +69,8 @@ fn read_globals(alloc: Global, value: &Value) -> Result<Globals, ReadError>
 }
 
 /// A flag, or false where there is none.
-fn read_option(alloc: Global, value: &Value) -> Result<bool, ReadError>
-    ensures { Gives result (option_at (view value.now)) }
+fn read_option(alloc: Global, value: &Value<'_>) -> Result<bool, ReadError>
+    ensures { Gives result (option_at (value_view value.now)) }
 {
     if value.is_null() {
         Ok(false)
@@ -81,10 +81,10 @@ fn read_option(alloc: Global, value: &Value) -> Result<bool, ReadError>
 
 /// The table of marks of an envelope.
 #[tactic(auto, unfolding(jsbase_form::specs::Tables::table_at, jsbase_form::specs::Tables::pairs_at))]
-fn table_in(alloc: Global, members: &Map<String, Value>) -> Result<Globals, ReadError>
-    ensures { Gives result (at (key (codes "marks")) (table_at (value_of (codes "marks") (members_view members.now.entries)))) }
+fn table_in(alloc: Global, object: &Value<'_>) -> Result<Globals, ReadError>
+    ensures { Gives result (at (key (codes "marks")) (table_at (value_of (codes "marks") (members_in (value_view object.now))))) }
 {
-    match member(members, "marks") {
+    match member(object, "marks") {
         Some(value) => under(Step::Key("marks"), read_globals(alloc, value)),
         None => under(Step::Key("marks"), fault(alloc)),
     }
@@ -95,12 +95,12 @@ fn table_in(alloc: Global, members: &Map<String, Value>) -> Result<Globals, Read
 fn mark_in(
     alloc: Global,
     globals: &Globals,
-    members: &Map<String, Value>,
+    object: &Value<'_>,
     name: &'static str,
 ) -> Result<Mark, ReadError>
-    ensures { Gives result (at (key name.now) (mark_at globals.now (value_of name.now (members_view members.now.entries)))) }
+    ensures { Gives result (at (key name.now) (mark_at globals.now (value_of name.now (members_in (value_view object.now))))) }
 {
-    match member(members, name) {
+    match member(object, name) {
         Some(value) => under(Step::Key(name), read_mark(alloc, globals, value)),
         None => under(Step::Key(name), fault(alloc)),
     }
@@ -109,12 +109,12 @@ fn mark_in(
 /// The option that a key holds; where it holds none it is false.
 fn option_in(
     alloc: Global,
-    members: &Map<String, Value>,
+    object: &Value<'_>,
     name: &'static str,
 ) -> Result<bool, ReadError>
-    ensures { Gives result (at (key name.now) (option_at (value_of name.now (members_view members.now.entries)))) }
+    ensures { Gives result (at (key name.now) (option_at (value_of name.now (members_in (value_view object.now))))) }
 {
-    match member(members, name) {
+    match member(object, name) {
         Some(value) => under(Step::Key(name), read_option(alloc, value)),
         None => Ok(false),
     }
@@ -124,21 +124,21 @@ fn option_in(
 fn read_marks(
     alloc: Global,
     globals: &Globals,
-    members: &Map<String, Value>,
+    object: &Value<'_>,
 ) -> Result<(Mark, Mark), ReadError>
-    ensures { Gives result (marks_in globals.now (members_view members.now.entries)) }
+    ensures { Gives result (marks_in globals.now (members_in (value_view object.now))) }
 {
-    let unresolved = mark_in(alloc, globals, members, "unresolved")?;
-    let top = mark_in(alloc, globals, members, "top")?;
+    let unresolved = mark_in(alloc, globals, object, "unresolved")?;
+    let top = mark_in(alloc, globals, object, "top")?;
     Ok((unresolved, top))
 }
 
 /// Whether classes keep their names, and whether `eval` is ignored.
-fn read_options(alloc: Global, members: &Map<String, Value>) -> Result<(bool, bool), ReadError>
-    ensures { Gives result (options_in (members_view members.now.entries)) }
+fn read_options(alloc: Global, object: &Value<'_>) -> Result<(bool, bool), ReadError>
+    ensures { Gives result (options_in (members_in (value_view object.now))) }
 {
-    let keep_class_names = option_in(alloc, members, "keepClassNames")?;
-    let ignore_eval = option_in(alloc, members, "ignoreEval")?;
+    let keep_class_names = option_in(alloc, object, "keepClassNames")?;
+    let ignore_eval = option_in(alloc, object, "ignoreEval")?;
     Ok((keep_class_names, ignore_eval))
 }
 
@@ -147,27 +147,29 @@ fn read_tree(
     alloc: Global,
     globals: &Globals,
     class: Class,
-    mut members: Map<String, Value>,
+    object: &Value<'_>,
 ) -> Result<Node, ReadError>
-    ensures { Gives result (at (key (codes "tree")) (seen globals.now (value_of (codes "tree") (members_view members.entries)) (Slot.One (Content.Node class)))) }
+    ensures { Gives result (at (key (codes "tree")) (seen globals.now (value_of (codes "tree") (members_in (value_view object.now))) (Slot.One (Content.Node class)))) }
 {
-    let tree = take_value(&mut members, "tree");
     let slot = Slot::One(Content::Node(class));
-    under(Step::Key("tree"), read(alloc, globals, tree, slot))
+    match member(object, "tree") {
+        Some(tree) => under(Step::Key("tree"), read(alloc, globals, tree, slot)),
+        None => under(Step::Key("tree"), fault(alloc)),
+    }
 }
 
 #[tactic(auto, unfolding(crate::specs::Envelopes::envelope_of))]
 fn read_members(
     alloc: Global,
     class: Class,
-    members: Map<String, Value>,
+    object: &Value<'_>,
 ) -> Result<Envelope, ReadError>
-    ensures { Gives result (envelope_of class (members_view members.entries)) }
+    ensures { Gives result (envelope_of class (members_in (value_view object.now))) }
 {
-    let globals = table_in(alloc, &members)?;
-    let (unresolved, top) = read_marks(alloc, &globals, &members)?;
-    let (keep_class_names, ignore_eval) = read_options(alloc, &members)?;
-    let tree = read_tree(alloc, &globals, class, members)?;
+    let globals = table_in(alloc, object)?;
+    let (unresolved, top) = read_marks(alloc, &globals, object)?;
+    let (keep_class_names, ignore_eval) = read_options(alloc, object)?;
+    let tree = read_tree(alloc, &globals, class, object)?;
     Ok(Envelope {
         globals,
         unresolved,
@@ -178,11 +180,11 @@ fn read_members(
     })
 }
 
-fn read_object(alloc: Global, class: Class, value: Value) -> Result<Envelope, ReadError>
-    ensures { Gives result (envelope_in class (view value)) }
+fn read_object(alloc: Global, class: Class, value: &Value<'_>) -> Result<Envelope, ReadError>
+    ensures { Gives result (envelope_in class (value_view value.now)) }
 {
     match value {
-        Value::Object(members) => read_members(alloc, class, members),
+        Value::Object(_) => read_members(alloc, class, value),
         Value::Null | Value::Bool(_) | Value::Number(_) | Value::String(_) | Value::Array(_) => {
             fault(alloc)
         }
@@ -197,8 +199,8 @@ fn read_object(alloc: Global, class: Class, value: Value) -> Result<Envelope, Re
 /// # Errors
 ///
 /// `Fault` with the path to the first fault; `NoMemory` where memory is refused.
-pub fn read_envelope(alloc: Global, class: Class, value: Value) -> Result<Envelope, ReadError>
-    ensures envelope { Gives result (envelope_in class (view value)) }
+pub fn read_envelope(alloc: Global, class: Class, value: &Value<'_>) -> Result<Envelope, ReadError>
+    ensures envelope { Gives result (envelope_in class (value_view value.now)) }
     ensures fits { IfOk result (λ e. Fits e.tree (Slot.One (Content.Node class))) }
     ensures known { IfOk result (λ e. MarksKnown e.globals e.tree) }
 {
@@ -206,16 +208,28 @@ pub fn read_envelope(alloc: Global, class: Class, value: Value) -> Result<Envelo
     Ok(envelope)
 }
 
+/// How deep arrays and objects may nest.
+const MAX_DEPTH: usize = 127;
+
 /// The JSON value of a text.
-fn parse(alloc: Global, bytes: &[u8]) -> Result<Value, ReadError>
+fn parse<'a>(
+    alloc: Global,
+    bytes: &'a [u8],
+    scratch: &'a mut Scratch,
+) -> Result<Value<'a>, ReadError>
     ensures { GivesView result (text_in bytes.now) }
 {
-    match Value::from_slice(alloc, bytes) {
-        Ok(value) => Ok(value),
-        Err(error) => match error.classify() {
-            Category::Memory => Err(ReadError::NoMemory),
-            _ => fault(alloc),
+    let Ok(text) = str::from_utf8(bytes) else {
+        return fault(alloc);
+    };
+    let mut reader = Reader::new(text, scratch)?;
+    match Value::read(alloc, &mut reader, MAX_DEPTH) {
+        Ok(value) => match reader.next() {
+            Some(_) => fault(alloc),
+            None => Ok(value),
         },
+        Err(Error::OutOfMemory) => Err(ReadError::NoMemory),
+        Err(Error::Invalid | Error::TooLong | Error::DuplicateKey) => fault(alloc),
     }
 }
 
@@ -230,7 +244,8 @@ pub fn read_bytes(alloc: Global, class: Class, bytes: &[u8]) -> Result<Envelope,
     ensures fits { IfOk result (λ e. Fits e.tree (Slot.One (Content.Node class))) }
     ensures known { IfOk result (λ e. MarksKnown e.globals e.tree) }
 {
-    let value = parse(alloc, bytes)?;
-    let envelope = read_envelope(alloc, class, value)?;
+    let mut scratch = Scratch::new(alloc);
+    let value = parse(alloc, bytes, &mut scratch)?;
+    let envelope = read_envelope(alloc, class, &value)?;
     Ok(envelope)
 }

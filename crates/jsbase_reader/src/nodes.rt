@@ -1,8 +1,7 @@
 //! Reading nodes.
-ghost use Rattle.std.specs.Prelude.{◌≡◌, ◌≢◌, ◌≤◌, ℕ, List, codes, option_map, option_and_then, IfOk};
-ghost use Rattle.serde_json.specs.Data.{depth, members_depth};
-ghost use Rattle.serde_json.specs.Find.{get_member, as_str};
-ghost use Rattle.serde_json.specs.View.{view, items_view, members_view};
+ghost use Rattle.std.specs.Prelude.{◌≡◌, codes, option_map, option_and_then, IfOk};
+ghost use Rattle.json.specs.Find.{get_member, as_str};
+ghost use Rattle.json.specs.Value.{value_view, items_view};
 ghost use Rattle.jsbase_form.specs.Reads.{Read, at, key};
 ghost use Rattle.jsbase_form.specs.Steps.{part_of};
 ghost use Rattle.jsbase_form.specs.Leaves.{span_at, context_at, text_at};
@@ -12,12 +11,12 @@ ghost use Rattle.swc_tree_node.specs.declared.node.Node.{Node};
 ghost use Rattle.swc_tree_node.specs.Fits.{Fits};
 ghost use Rattle.swc_tree_node.specs.Table.{fields_of, kinds_of};
 ghost use Rattle.jsbase_reader.specs.Answers.{Gives, GivesMore};
-ghost use Rattle.jsbase_reader.specs.Parts.{class_in, identifier_of, item_slot, tree_of};
+ghost use Rattle.jsbase_reader.specs.Parts.{class_in, identifier_of, item_slot, members_in, tree_of};
 
 use crate::error::{ReadError, fault, under};
 use crate::leaves::{read_context, read_flag, read_span, read_text, read_word};
 use jsbase_form::Step;
-use serde_json::{Map, Value};
+use json::Value;
 use std::alloc::Global;
 use swc_tree_items::{Boxed, Items, Text};
 use swc_tree_marks::{Globals, Ident, Span, SyntaxContext};
@@ -25,20 +24,20 @@ use swc_tree_node::{
     Class, Content, Kind, Node, Slot, fields_of, is_identifier, kinds_of, name_of,
 };
 
-fn read_leaf(alloc: Global, content: Content, value: Value) -> Result<Node, ReadError>
-    ensures { Gives result (leaf_at content (view value)) }
+fn read_leaf(alloc: Global, content: Content, value: &Value<'_>) -> Result<Node, ReadError>
+    ensures { Gives result (leaf_at content (value_view value.now)) }
 {
     match content {
-        Content::Span => Ok(Node::Span(read_span(alloc, &value)?)),
+        Content::Span => Ok(Node::Span(read_span(alloc, value)?)),
         Content::Text => Ok(Node::Text(read_text(alloc, value)?)),
-        Content::Flag => Ok(Node::Flag(read_flag(alloc, &value)?)),
-        Content::Word(words) => Ok(Node::Word(read_word(alloc, words, &value)?)),
+        Content::Flag => Ok(Node::Flag(read_flag(alloc, value)?)),
+        Content::Word(words) => Ok(Node::Word(read_word(alloc, words, value)?)),
         Content::Node(_) => fault(alloc),
     }
 }
 
-fn read_single(alloc: Global, slot: Slot, value: Value) -> Result<Node, ReadError>
-    ensures { Gives result (single_as (view value) slot) }
+fn read_single(alloc: Global, slot: Slot, value: &Value<'_>) -> Result<Node, ReadError>
+    ensures { Gives result (single_as (value_view value.now) slot) }
 {
     match slot {
         Slot::One(content) | Slot::Optional(content) => read_leaf(alloc, content, value),
@@ -57,35 +56,20 @@ fn read_null(alloc: Global, slot: Slot) -> Result<Node, ReadError>
     }
 }
 
-/// Takes the value of a key out of an object; an absent key counts as null.
-pub(crate) fn take_value(members: &mut Map<String, Value>, key: &str) -> Value
-    ensures value { view result ≡ value_of key.now (members_view members.old.entries) }
-    ensures others { (k : List ℕ) → k ≢ key.now
-        → get_member k (members_view members.new.entries) ≡ get_member k (members_view members.old.entries) }
-    ensures taken_depth { depth (view result) ≤ members_depth (members_view members.old.entries) }
-    ensures left_depth { members_depth (members_view members.new.entries)
-        ≤ members_depth (members_view members.old.entries) }
+/// The value of a key of an object, the last where the key comes twice.
+pub(crate) fn member<'v, 'a>(object: &'v Value<'a>, key: &str) -> Option<&'v Value<'a>>
+    ensures { option_map (λ v. value_view v.now) result
+        ≡ get_member key.now (members_in (value_view object.now)) }
 {
-    match members.remove(key) {
-        Some(value) => value,
-        None => Value::Null,
-    }
-}
-
-/// The value of a key.
-pub(crate) fn member<'v>(members: &'v Map<String, Value>, key: &str) -> Option<&'v Value>
-    ensures { option_map (λ v. view v.now) result
-        ≡ get_member key.now (members_view members.now.entries) }
-{
-    members.get(key)
+    object.get(key)
 }
 
 /// The text of a key, if it has one.
-fn text_of<'v>(members: &'v Map<String, Value>, key: &str) -> Option<&'v str>
+fn text_of<'v, 'a>(object: &'v Value<'a>, key: &str) -> Option<&'a str>
     ensures { option_map (λ s. s.now) result
-        ≡ option_and_then as_str (get_member key.now (members_view members.now.entries)) }
+        ≡ option_and_then as_str (get_member key.now (members_in (value_view object.now))) }
 {
-    member(members, key)?.as_str()
+    member(object, key)?.as_str()
 }
 
 fn named(kinds: &[Kind], name: &str) -> Option<Kind>
@@ -101,20 +85,20 @@ fn kind_named(class: Class, name: Option<&str>) -> Option<Kind>
 }
 
 #[tactic(auto, unfolding(jsbase_form::specs::Trees::kind_at))]
-fn read_kind(alloc: Global, class: Class, members: &Map<String, Value>) -> Result<Kind, ReadError>
-    ensures { Gives result (kind_at class (members_view members.now.entries)) }
+fn read_kind(alloc: Global, class: Class, object: &Value<'_>) -> Result<Kind, ReadError>
+    ensures { Gives result (kind_at class (members_in (value_view object.now))) }
 {
-    match kind_named(class, text_of(members, "type")) {
+    match kind_named(class, text_of(object, "type")) {
         Some(kind) => Ok(kind),
         None => fault(alloc),
     }
 }
 
-#[tactic(auto, unfolding(jsbase_form::specs::Leaves::span_at, jsbase_form::specs::Leaves::number_at))]
-fn span_in(alloc: Global, members: &Map<String, Value>) -> Result<Span, ReadError>
-    ensures { Gives result (at (key (codes "span")) (span_at (value_of (codes "span") (members_view members.now.entries)))) }
+#[tactic(auto, unfolding(jsbase_form::specs::Leaves::span_at))]
+fn span_in(alloc: Global, object: &Value<'_>) -> Result<Span, ReadError>
+    ensures { Gives result (at (key (codes "span")) (span_at (value_of (codes "span") (members_in (value_view object.now))))) }
 {
-    match member(members, "span") {
+    match member(object, "span") {
         Some(value) => under(Step::Key("span"), read_span(alloc, value)),
         None => under(Step::Key("span"), fault(alloc)),
     }
@@ -124,47 +108,45 @@ fn span_in(alloc: Global, members: &Map<String, Value>) -> Result<Span, ReadErro
 fn context_in(
     alloc: Global,
     globals: &Globals,
-    members: &Map<String, Value>,
+    object: &Value<'_>,
 ) -> Result<SyntaxContext, ReadError>
-    ensures { Gives result (at (key (codes "ctxt")) (context_at globals.now (value_of (codes "ctxt") (members_view members.now.entries)))) }
+    ensures { Gives result (at (key (codes "ctxt")) (context_at globals.now (value_of (codes "ctxt") (members_in (value_view object.now))))) }
 {
-    match member(members, "ctxt") {
+    match member(object, "ctxt") {
         Some(value) => under(Step::Key("ctxt"), read_context(alloc, globals, value)),
         None => under(Step::Key("ctxt"), fault(alloc)),
     }
 }
 
-/// Takes the text of an identifier out.
-fn take_sym(alloc: Global, mut members: Map<String, Value>) -> Result<Text, ReadError>
-    ensures { Gives result (at (key (codes "sym")) (text_at (value_of (codes "sym") (members_view members.entries)))) }
+#[tactic(auto, unfolding(jsbase_form::specs::Leaves::text_at))]
+fn sym_in(alloc: Global, object: &Value<'_>) -> Result<Text, ReadError>
+    ensures { Gives result (at (key (codes "sym")) (text_at (value_of (codes "sym") (members_in (value_view object.now))))) }
 {
-    let sym = take_value(&mut members, "sym");
-    under(Step::Key("sym"), read_text(alloc, sym))
+    match member(object, "sym") {
+        Some(value) => under(Step::Key("sym"), read_text(alloc, value)),
+        None => under(Step::Key("sym"), fault(alloc)),
+    }
 }
 
 #[tactic(auto, unfolding(jsbase_form::specs::Trees::ident_at))]
-fn read_ident(
-    alloc: Global,
-    globals: &Globals,
-    members: Map<String, Value>,
-) -> Result<Ident, ReadError>
-    ensures { Gives result (ident_at globals.now (members_view members.entries)) }
+fn read_ident(alloc: Global, globals: &Globals, object: &Value<'_>) -> Result<Ident, ReadError>
+    ensures { Gives result (ident_at globals.now (members_in (value_view object.now))) }
 {
-    let span = span_in(alloc, &members)?;
-    let ctxt = context_in(alloc, globals, &members)?;
-    let sym = take_sym(alloc, members)?;
+    let span = span_in(alloc, object)?;
+    let ctxt = context_in(alloc, globals, object)?;
+    let sym = sym_in(alloc, object)?;
     Ok(Ident { span, ctxt, sym })
 }
 
 fn read_identifier(
     alloc: Global,
     globals: &Globals,
-    members: Map<String, Value>,
+    object: &Value<'_>,
     kind: Kind,
 ) -> Result<Node, ReadError>
-    ensures { Gives result (identifier_of kind (ident_at globals.now (members_view members.entries))) }
+    ensures { Gives result (identifier_of kind (ident_at globals.now (members_in (value_view object.now)))) }
 {
-    let ident = read_ident(alloc, globals, members)?;
+    let ident = read_ident(alloc, globals, object)?;
     Ok(Node::Identifier(kind, Boxed::new(alloc, ident)?))
 }
 
@@ -206,16 +188,20 @@ fn class_of(slot: Slot) -> Option<Class>
 
 /// The tree that a JSON value is in a place.
 ///
-/// Nothing is copied: texts are moved out of the value, and its parts are let go as they are read.
-/// The time is in step with the size of the value, but for looking up keys and marks, which costs the
-/// logarithm of how many there are.
+/// The value is only read; texts are copied out of it. The time is in step with the size of the value, but for looking up
+/// keys, which costs how many an object has, and marks, which costs the logarithm of how many there are.
 ///
 /// # Errors
 ///
 /// `Fault` with the path to the first fault, in the order in which fields are read; `NoMemory` where
 /// memory is refused.
-pub fn read(alloc: Global, globals: &Globals, value: Value, slot: Slot) -> Result<Node, ReadError>
-    ensures tree { Gives result (seen globals.now (view value) slot) }
+pub fn read(
+    alloc: Global,
+    globals: &Globals,
+    value: &Value<'_>,
+    slot: Slot,
+) -> Result<Node, ReadError>
+    ensures tree { Gives result (seen globals.now (value_view value.now) slot) }
     ensures fits { IfOk result (λ tree. Fits tree slot) }
     ensures known { IfOk result (λ tree. MarksKnown globals.now tree) }
 {
@@ -225,18 +211,23 @@ pub fn read(alloc: Global, globals: &Globals, value: Value, slot: Slot) -> Resul
 
 #[cycle(read)]
 #[tactic(auto, using(crate::proofs::Items::node_there, crate::proofs::Items::no_node_there))]
-fn read_value(alloc: Global, globals: &Globals, value: Value, slot: Slot) -> Result<Node, ReadError>
-    ensures { Gives result (seen globals.now (view value) slot) }
+fn read_value(
+    alloc: Global,
+    globals: &Globals,
+    value: &Value<'_>,
+    slot: Slot,
+) -> Result<Node, ReadError>
+    ensures { Gives result (seen globals.now (value_view value.now) slot) }
 {
     match value {
         Value::Null => read_null(alloc, slot),
         Value::Bool(_) | Value::Number(_) | Value::String(_) => read_single(alloc, slot, value),
         Value::Array(values) => match item_slot(slot, values.len()) {
-            Some(item) => read_list(alloc, globals, values, item),
-            None => read_single(alloc, slot, Value::Array(values)),
+            Some(item) => read_list(alloc, globals, values.as_slice(), item),
+            None => read_single(alloc, slot, value),
         },
-        Value::Object(members) => match class_of(slot) {
-            Some(class) => read_node(alloc, globals, members, class),
+        Value::Object(_) => match class_of(slot) {
+            Some(class) => read_node(alloc, globals, value, class),
             None => fault(alloc),
         },
     }
@@ -246,13 +237,13 @@ fn read_value(alloc: Global, globals: &Globals, value: Value, slot: Slot) -> Res
 fn read_list(
     alloc: Global,
     globals: &Globals,
-    values: Vec<Value>,
+    values: &[Value<'_>],
     slot: Slot,
 ) -> Result<Node, ReadError>
-    ensures { Gives result (listed (items_seen globals.now 0 (items_view values.items) slot)) }
+    ensures { Gives result (listed (items_seen globals.now 0 (items_view values.now) slot)) }
 {
     let mut nodes = Items::with_capacity(alloc, values.len())?;
-    for (i, value) in values.into_iter().enumerate() {
+    for (i, value) in values.iter().enumerate() {
         let read = read_value(alloc, globals, value, slot);
         push_read(&mut nodes, Step::Index(i), read)?;
     }
@@ -264,17 +255,34 @@ fn read_list(
 fn read_node(
     alloc: Global,
     globals: &Globals,
-    members: Map<String, Value>,
+    object: &Value<'_>,
     class: Class,
 ) -> Result<Node, ReadError>
-    ensures { Gives result (node_at globals.now (members_view members.entries)
-        (members_seen globals.now (members_view members.entries)) class) }
+    ensures { Gives result (node_at globals.now (members_in (value_view object.now))
+        (members_seen globals.now (members_in (value_view object.now))) class) }
 {
-    let kind = read_kind(alloc, class, &members)?;
+    let kind = read_kind(alloc, class, object)?;
     if is_identifier(kind) {
-        read_identifier(alloc, globals, members, kind)
+        read_identifier(alloc, globals, object, kind)
     } else {
-        read_tree(alloc, globals, members, kind)
+        read_tree(alloc, globals, object, kind)
+    }
+}
+
+/// What the value of a key is in a place.
+#[cycle(read)]
+fn read_member(
+    alloc: Global,
+    globals: &Globals,
+    object: &Value<'_>,
+    key: &str,
+    slot: Slot,
+) -> Result<Node, ReadError>
+    ensures { Gives result (members_seen globals.now (members_in (value_view object.now)) key.now slot) }
+{
+    match member(object, key) {
+        Some(value) => read_value(alloc, globals, value, slot),
+        None => read_null(alloc, slot),
     }
 }
 
@@ -282,16 +290,15 @@ fn read_node(
 fn read_tree(
     alloc: Global,
     globals: &Globals,
-    mut members: Map<String, Value>,
+    object: &Value<'_>,
     kind: Kind,
 ) -> Result<Node, ReadError>
-    ensures { Gives result (tree_of kind (fields_at (members_seen globals.now (members_view members.entries)) (fields_of kind))) }
+    ensures { Gives result (tree_of kind (fields_at (members_seen globals.now (members_in (value_view object.now))) (fields_of kind))) }
 {
     let fields = fields_of(kind);
     let mut nodes = Items::with_capacity(alloc, fields.len())?;
     for field in fields {
-        let value = take_value(&mut members, field.key);
-        let read = read_value(alloc, globals, value, field.slot);
+        let read = read_member(alloc, globals, object, field.key, field.slot);
         push_read(&mut nodes, Step::Key(field.key), read)?;
     }
     Ok(Node::Tree(kind, nodes))

@@ -1,9 +1,9 @@
 -- Envelopes that are read back as they were written.
 use Rattle.std.proofs.Common.{◌≡◌, ◌≤◌, ◌^◌, ℕ, suc, List, [], ◌∷◌, ◌++◌, true, false, IsTrue, map, nat_lt, Some, Ok, refl, sym, ap, ◌∙◌, subst}
 use Rattle.std.specs.Str.{IsUtf8}
-use Rattle.serde_json.specs.Data.{Data, depth}
-use Rattle.serde_json.specs.Read.{read, max_depth}
-use Rattle.serde_json.specs.View.{items_of}
+use Rattle.json.specs.Json.{Json}
+use Rattle.json.specs.Tree.{depth}
+use Rattle.json.specs.Value.{items_of}
 use Rattle.swc_tree_marks.specs.Globals.{Table, IsTable}
 use Rattle.swc_tree_node.specs.declared.kind.Class.{Class}
 use Rattle.swc_tree_node.specs.declared.slot.Content.TheVariants as content
@@ -17,7 +17,7 @@ use Rattle.jsbase_form.specs.Known.{ReadsAs, marks_short}
 use Rattle.jsbase_form.specs.Writing.{json}
 use Rattle.jsbase_form.proofs.Members.{split}
 use Rattle.jsbase_form.proofs.Back.{number_back, mark_back}
-use Rattle.jsbase_reader.specs.Envelopes.{envelope_of, envelope_in}
+use Rattle.jsbase_reader.specs.Envelopes.{document, envelope_of, envelope_in, max_depth}
 use Rattle.jsbase_reader.proofs.Tables.{good_table}
 use Rattle.jsbase_reader.proofs.Texts.{text_there}
 use Rattle.jsbase_writer.specs.Envelopes.{row_json, table_json, table_short, envelope_json, ReadsBack}
@@ -53,9 +53,9 @@ envelope_back table top tree unresolved wanted rows short top_known unresolved_k
     let other = split (nat_lt unresolved (2 ^ 32)) true both.1 in
     rw (rows, mark_back table top top_known both.0, mark_back table unresolved unresolved_known other.0, read_tree) refl
 
-pub text_back : (text : List ℕ) (d : Data) (table : Table) (top : ℕ) (tree : Node) (unresolved : ℕ) → d ≡ envelope_json table top tree unresolved → IsUtf8 (text ++ 10 ∷ []) → (depth d ≤ max_depth → read text ≡ Some d)
+pub text_back : (text : List ℕ) (d : Json) (table : Table) (top : ℕ) (tree : Node) (unresolved : ℕ) → d ≡ envelope_json table top tree unresolved → IsUtf8 (text ++ 10 ∷ []) → (depth d ≤ max_depth → document text ≡ Some d)
     → table_at (table_json table) ≡ Ok table → IsTrue (marks_short (top ∷ unresolved ∷ [])) → ReadsAs (json tree) tree → ReadsBack (text ++ 10 ∷ []) table top tree unresolved
 text_back text d table top tree unresolved is utf8 reads rows short tree_back wanted fit known top_known unresolved_known shallow =
-    let whole : read (text ++ 10 ∷ []) ≡ Some (envelope_json table top tree unresolved) = read_line text ∙ reads (subst (λ d. depth d ≤ max_depth) (sym is) shallow) ∙ ap Some is in
+    let whole : document (text ++ 10 ∷ []) ≡ Some (envelope_json table top tree unresolved) = read_line text ∙ reads (subst (λ d. depth d ≤ max_depth) (sym is) shallow) ∙ ap Some is in
     ap (λ r. r >>= envelope_in wanted) (text_there (text ++ 10 ∷ []) (envelope_json table top tree unresolved) (utf8, whole))
     ∙ envelope_back table top tree unresolved wanted rows short top_known unresolved_known (tree_back table (slot.One (content.Node wanted)) fit known)

@@ -9,8 +9,8 @@ use Rattle.json.specs.Text.{Within, plain, after_backslash, after_u, after_high,
 use Rattle.json.specs.Ascii as ascii
 use Rattle.json.specs.Word.{ends_word, after_digits, after_minus, after_sign, after_whole, after_fraction, after_exponent, after_number, number_before, literal, word}
 use Rattle.json.specs.Lex.{Mode, between, in_word, in_string, in_escape, Class, quote, backslash, operator, space, other, class, lex_byte, lex, punctuate, fresh}
-use Rattle.json.specs.Json as json
-use Rattle.serde_json.specs.Read.{of_json, max_depth, read}
+use Rattle.json.specs.Json.{if_last, value}
+use Rattle.jsbase_reader.specs.Envelopes.{document, max_depth}
 
 abbrev ended : List ℕ → List ℕ
 ended t = t ++ 10 ∷ []
@@ -185,5 +185,5 @@ lex_line [] in_escape = refl
 lex_line (x ∷ xs) m = byte_line m (class x) x xs (lex_line xs)
 
 -- the text with a line feed reads as the text
-pub read_line : (t : List ℕ) → read (ended t) ≡ read t
-read_line t = ap (λ ls. option_and_then of_json (option_and_then (λ p. json.if_last p.0 p.1) (json.value max_depth (punctuate fresh ls)))) (lex_line t between)
+pub read_line : (t : List ℕ) → document (ended t) ≡ document t
+read_line t = ap (λ ls. option_and_then (λ p. if_last p.0 p.1) (value max_depth (punctuate fresh ls))) (lex_line t between)

@@ -7,7 +7,7 @@ use Rattle.std.specs.Cmp.Lexicographic.{slice_cmp}
 use Rattle.std.proofs.lemmas.Map.Text.{is_eq-slice_cmp}
 use Rattle.std.proofs.lemmas.Slice.Eq.{bytes_eq-Decides}
 use Rattle.std.proofs.lemmas.List.{take-append-drop}
-use Rattle.serde_json.specs.Data.{Data, string, Members, no_members, member, put}
+use Rattle.json.specs.Json.{Json, string, Members, no_members, member}
 use Rattle.swc_tree_node.specs.declared.slot.Field.{Field}
 use Rattle.swc_tree_node.specs.declared.slot.Slot.{Slot}
 use Rattle.swc_tree_node.specs.declared.slot.Role.{Role}
@@ -17,7 +17,7 @@ use Rattle.swc_tree_node.specs.Table.{fields_of, name_of}
 use Rattle.swc_tree_node.proofs.Fit.{and_both}
 use Rattle.jsbase_form.specs.Keys.{all_differ}
 use Rattle.jsbase_form.specs.Known.{NumbersShort, numbers_short, all_keyed}
-use Rattle.jsbase_form.specs.Writing.{json, typed, fields_put}
+use Rattle.jsbase_form.specs.Writing.{json, put, typed, fields_put}
 use Rattle.jsbase_form.proofs.Members.{apart, neither, split, table_differs}
 use Rattle.jsbase_writer.specs.declared.members.Member.{Member}
 use Rattle.jsbase_writer.specs.Members.{greatest, height, part_data, members_data, AllBelow, FirstNotBelow, IsPlace, IsNew, Inserts, part_height, tallest, PartShort, MembersShort}
@@ -35,7 +35,7 @@ below_more k ms i d h below next = rw (add-one i) (below_next k ms i d h below n
 same_key : (k l : List ℕ) → slice_cmp nat_cmp k l ≡ Equal → k ≡ l
 same_key k l h = (bytes_eq-Decides k l).0 (sym (is_eq-slice_cmp k l) ∙ ap is_eq h)
 
-put_first : (o : Ordering) (k l : List ℕ) (d e : Data) (ms rest : Members) → slice_cmp nat_cmp k l ≡ o → slice_cmp nat_cmp k l ≢ Greater → k ≢ l
+put_first : (o : Ordering) (k l : List ℕ) (d e : Json) (ms rest : Members) → slice_cmp nat_cmp k l ≡ o → slice_cmp nat_cmp k l ≢ Greater → k ≢ l
     → match_ordering o (member k d (member l e ms)) (member l d ms) rest ≡ member k d (member l e ms)
 put_first Less k l d e ms rest is below apart = refl
 put_first Equal k l d e ms rest is below apart = absurd (apart (same_key k l is))

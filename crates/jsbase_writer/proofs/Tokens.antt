@@ -1,14 +1,14 @@
 -- The tokens of values, piece by piece.
-use Rattle.std.proofs.Common.{◌≡◌, ◌≤◌, Some, ℕ, List, [], ◌∷◌, ◌++◌, Bool, codes, decimal, map, refl, sym, ap, ◌∙◌, append_assoc}
+use Rattle.std.proofs.Common.{◌≡◌, ◌≤◌, Some, ℕ, List, [], ◌∷◌, ◌++◌, Bool, codes, decimal, map, option_and_then, refl, sym, ap, ◌∙◌, append_assoc, append-nil}
 use Rattle.json.specs.Token as token
 use Rattle.json.specs.Token.{Token}
 use Rattle.json.specs.Lex.{tokens}
 use Rattle.json.specs.Print.{print}
-use Rattle.serde_json.specs.Read.{read, max_depth}
-use Rattle.serde_json.specs.Written.{compact_text}
-use Rattle.serde_json.proofs.Texts.{print-outline}
-use Rattle.serde_json.specs.Data.{Data, depth, null, boolean, string, array, object, Items, no_items, item, Members, no_members, member}
-use Rattle.serde_json.specs.View.{items_of}
+use Rattle.json.specs.Json.{Json, null, boolean, string, array, object, Items, no_items, item, Members, no_members, member, value, if_last}
+use Rattle.json.specs.Tree.{depth}
+use Rattle.json.proofs.Printed.Trees.{value-json_tokens}
+use Rattle.jsbase_reader.specs.Envelopes.{document, max_depth}
+use Rattle.json.specs.Value.{items_of}
 use Rattle.swc_tree_marks.specs.Globals.{Table}
 use Rattle.swc_tree_marks.specs.declared.ident.Ident.{Ident}
 use Rattle.swc_tree_node.specs.declared.kind.Kind.{Kind}
@@ -22,8 +22,7 @@ use Rattle.jsbase_writer.specs.declared.members.Part.{Part}
 use Rattle.jsbase_writer.specs.declared.members.Part.TheVariants as part
 use Rattle.jsbase_writer.specs.declared.members.Member.{Member}
 use Rattle.jsbase_writer.specs.Members.{part_data, members_data}
-use Rattle.jsbase_writer.specs.Envelopes.{table_json, envelope_json}
-use Rattle.jsbase_writer.proofs.Outlines.{IsBack, read_back}
+use Rattle.jsbase_writer.specs.Envelopes.{table_json, envelope_json, text_of}
 use Rattle.jsbase_writer.specs.Tokens.{tokens_of, tokens_of_items, tokens_of_members}
 
 pub of_null : tokens_of null ≡ token.null ∷ []
@@ -54,7 +53,7 @@ pub of_no_items : tokens_of_items no_items ≡ token.end_array ∷ []
 unfolding tokens_of_items
 of_no_items = refl
 
-pub of_item : (d : Data) (ds : Items) → tokens_of_items (item d ds) ≡ tokens_of d ++ tokens_of_items ds
+pub of_item : (d : Json) (ds : Items) → tokens_of_items (item d ds) ≡ tokens_of d ++ tokens_of_items ds
 unfolding tokens_of tokens_of_items
 of_item d ds = refl
 
@@ -62,7 +61,7 @@ pub of_no_members : tokens_of_members no_members ≡ token.end_object ∷ []
 unfolding tokens_of_members
 of_no_members = refl
 
-pub of_member : (k : List ℕ) (d : Data) (ms : Members) → tokens_of_members (member k d ms) ≡ token.key k ∷ (tokens_of d ++ tokens_of_members ms)
+pub of_member : (k : List ℕ) (d : Json) (ms : Members) → tokens_of_members (member k d ms) ≡ token.key k ∷ (tokens_of d ++ tokens_of_members ms)
 unfolding tokens_of tokens_of_members
 of_member k d ms = refl
 
@@ -76,15 +75,15 @@ then a b e us ts first rest = rest ∙ ap (λ x. x ++ ts) first ∙ append_assoc
 
 -- ---- the items of an array, one after another
 
-pub array_opened : (ds : List Data) (old new : List Token) → new ≡ old ++ token.begin_array ∷ [] → old ++ tokens_of (array (items_of ds)) ≡ new ++ tokens_of_items (items_of ds)
+pub array_opened : (ds : List Json) (old new : List Token) → new ≡ old ++ token.begin_array ∷ [] → old ++ tokens_of (array (items_of ds)) ≡ new ++ tokens_of_items (items_of ds)
 array_opened ds old new opened = rw (opened, of_array (items_of ds)) (sym (append_assoc old (token.begin_array ∷ []) (tokens_of_items (items_of ds))))
 
-pub item_written : (ds later : List Data) (d : Data) (all old new : List Token) → all ≡ old ++ tokens_of_items (items_of ds) → ds ≡ d ∷ later → new ≡ old ++ tokens_of d → all ≡ new ++ tokens_of_items (items_of later)
+pub item_written : (ds later : List Json) (d : Json) (all old new : List Token) → all ≡ old ++ tokens_of_items (items_of ds) → ds ≡ d ∷ later → new ≡ old ++ tokens_of d → all ≡ new ++ tokens_of_items (items_of later)
 item_written ds later d all old new was is more =
     was ∙ ap (λ l. old ++ tokens_of_items (items_of l)) is ∙ ap (λ ts. old ++ ts) (of_item d (items_of later)) ∙ sym (append_assoc old (tokens_of d) (tokens_of_items (items_of later)))
     ∙ ap (λ ts. ts ++ tokens_of_items (items_of later)) (sym more)
 
-pub array_closed : (ds : List Data) (all old new : List Token) → all ≡ old ++ tokens_of_items (items_of ds) → ds ≡ [] → new ≡ old ++ token.end_array ∷ [] → new ≡ all
+pub array_closed : (ds : List Json) (all old new : List Token) → all ≡ old ++ tokens_of_items (items_of ds) → ds ≡ [] → new ≡ old ++ token.end_array ∷ [] → new ≡ all
 array_closed ds all old new was is closed = closed ∙ ap (λ ts. old ++ ts) (sym of_no_items) ∙ ap (λ l. old ++ tokens_of_items (items_of l)) (sym is) ∙ sym was
 
 pub number_written : (n n' : ℕ) (old new : List Token) → new ≡ old ++ token.number (decimal n') ∷ [] → n' ≡ n → new ≡ old ++ tokens_of (natural n)
@@ -120,13 +119,15 @@ envelope_written o a b c d e f g h i z table top t unresolved ea eb ec ed ee ef 
 
 -- ---- whole texts
 
-pub whole_text : (d : Data) (none ts : List Token) (text : List ℕ) → none ≡ [] → ts ≡ none ++ tokens_of d → text ≡ print ts → text ≡ compact_text d
+pub whole_text : (d : Json) (none ts : List Token) (text : List ℕ) → none ≡ [] → ts ≡ none ++ tokens_of d → text ≡ print ts → text ≡ text_of d
 unfolding tokens_of
-whole_text d none ts text en is printed = printed ∙ ap print (is ∙ ap (λ l. l ++ tokens_of d) en) ∙ print-outline d
+whole_text d none ts text en is printed = printed ∙ ap print (is ∙ ap (λ l. l ++ tokens_of d) en)
 
-pub whole_read : (d : Data) (none ts : List Token) (text : List ℕ) → none ≡ [] → ts ≡ none ++ tokens_of d → tokens text ≡ ts → IsBack d → depth d ≤ max_depth → read text ≡ Some d
+pub whole_read : (d : Json) (none ts : List Token) (text : List ℕ) → none ≡ [] → ts ≡ none ++ tokens_of d → tokens text ≡ ts → depth d ≤ max_depth → document text ≡ Some d
 unfolding tokens_of
-whole_read d none ts text en is lexed = read_back d text (lexed ∙ is ∙ ap (λ l. l ++ tokens_of d) en)
+whole_read d none ts text en is lexed shallow =
+    let same : tokens text ≡ tokens_of d ++ [] = lexed ∙ is ∙ ap (λ l. l ++ tokens_of d) en ∙ sym (append-nil (tokens_of d)) in
+    ap (λ l. option_and_then (λ p. if_last p.0 p.1) (value max_depth l)) same ∙ ap (option_and_then (λ p. if_last p.0 p.1)) (value-json_tokens d max_depth [] shallow)
 
 -- ---- nodes
 

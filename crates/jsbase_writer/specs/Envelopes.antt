@@ -1,10 +1,10 @@
 -- The JSON of a tree with its table of marks.
 use Rattle.std.specs.Prelude.{◌≡◌, ◌≤◌, ℕ, List, [], ◌∷◌, ◌++◌, map, codes, Bool, false, IsTrue, Ok}
 use Rattle.std.specs.List.{list_all}
-use Rattle.serde_json.specs.Data.{Data, array, object, no_members, member, depth}
-use Rattle.serde_json.specs.Read.{max_depth}
-use Rattle.serde_json.specs.View.{items_of}
-use Rattle.serde_json.specs.Written.{compact_text}
+use Rattle.json.specs.Json.{Json, array, object, no_members, member}
+use Rattle.json.specs.Print.{print}
+use Rattle.json.specs.Tree.{depth, json_tokens}
+use Rattle.json.specs.Value.{items_of}
 use Rattle.swc_tree_marks.specs.Globals.{Table}
 use Rattle.swc_tree_node.specs.declared.node.Node.{Node}
 use Rattle.swc_tree_node.specs.declared.kind.Class.{Class}
@@ -14,16 +14,16 @@ use Rattle.swc_tree_node.specs.Fits.{Fits}
 use Rattle.jsbase_form.specs.Leaves.{is_marked}
 use Rattle.jsbase_form.specs.Known.{MarksKnown, marks_short}
 use Rattle.jsbase_form.specs.Writing.{json, natural, numbers_json}
-use Rattle.jsbase_reader.specs.Envelopes.{envelope_in_text}
+use Rattle.jsbase_reader.specs.Envelopes.{envelope_in_text, max_depth}
 
 -- a mark's number and its parent's
-abbrev pub row_json : ℕ × ℕ → Data
+abbrev pub row_json : ℕ × ℕ → Json
 row_json row = numbers_json (row.0 ∷ row.1 ∷ [])
 
-abbrev pub table_json : Table → Data
+abbrev pub table_json : Table → Json
 table_json table = array (items_of (map row_json table))
 
-abbrev pub envelope_json : Table → ℕ → Node → ℕ → Data
+abbrev pub envelope_json : Table → ℕ → Node → ℕ → Json
 envelope_json table top tree unresolved =
     object (member (codes "marks") (table_json table)
     (member (codes "top") (natural top)
@@ -34,9 +34,13 @@ envelope_json table top tree unresolved =
 abbrev pub table_short : Table → Bool
 table_short = list_all (λ row. marks_short (row.0 ∷ row.1 ∷ []))
 
+-- the text of a value, without spaces
+abbrev pub text_of : Json → List ℕ
+text_of d = print (json_tokens d)
+
 -- one line
 abbrev pub envelope_text : Table → ℕ → Node → ℕ → List ℕ
-envelope_text table top tree unresolved = compact_text (envelope_json table top tree unresolved) ++ 10 ∷ []
+envelope_text table top tree unresolved = text_of (envelope_json table top tree unresolved) ++ 10 ∷ []
 
 -- The text reads as the envelope, with every option false, whatever class its tree fits. The marks have to be known, and
 -- arrays and objects to nest no deeper than a reader goes.

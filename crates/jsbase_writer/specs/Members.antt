@@ -3,7 +3,7 @@ use Rattle.std.specs.Prelude.{◌≡◌, ◌≢◌, ◌≤◌, ℕ, suc, max, Li
 use Rattle.std.specs.Ordering.{nat_cmp}
 use Rattle.std.specs.declared.cmp.Ordering.TheVariants.{Greater}
 use Rattle.std.specs.Cmp.Lexicographic.{slice_cmp}
-use Rattle.serde_json.specs.Data.{Data, string, Members, no_members, member}
+use Rattle.json.specs.Json.{Json, string, Members, no_members, member}
 use Rattle.swc_tree_node.specs.declared.node.Node.{Node, fold-Node}
 use Rattle.swc_tree_node.specs.declared.node.Node.TheOpen.{Node-F}
 use Rattle.swc_tree_node.specs.Table.{name_of}
@@ -26,7 +26,7 @@ height_step _ = 0
 abbrev pub height : Node → ℕ
 height = fold-Node ℕ height_step
 
-abbrev pub part_data : Part → Data
+abbrev pub part_data : Part → Json
 part_data (part.Name k) = string (name_of k)
 part_data (part.Node t) = json t.now
 

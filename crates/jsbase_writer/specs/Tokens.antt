@@ -2,15 +2,14 @@
 use Rattle.std.specs.Prelude.{List}
 use Rattle.json.specs.Token.{Token}
 use Rattle.json.specs.Tree.{json_tokens, items_tokens, members_tokens}
-use Rattle.serde_json.specs.Data.{Data, Items, Members}
-use Rattle.serde_json.specs.Written.{outline, items_outline, members_outline}
+use Rattle.json.specs.Json.{Json, Items, Members}
 
-unfoldable pub tokens_of : Data → List Token
-tokens_of d = json_tokens (outline d)
+unfoldable pub tokens_of : Json → List Token
+tokens_of d = json_tokens d
 
 -- with the closing bracket
 unfoldable pub tokens_of_items : Items → List Token
-tokens_of_items ds = items_tokens (items_outline ds)
+tokens_of_items ds = items_tokens ds
 
 unfoldable pub tokens_of_members : Members → List Token
-tokens_of_members ms = members_tokens (members_outline ms)
+tokens_of_members ms = members_tokens ms

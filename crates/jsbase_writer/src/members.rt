@@ -1,9 +1,8 @@
 //! The members of an object, in the order of their keys.
 ghost use Rattle.std.specs.Prelude.{◌≡◌, ◌≤◌, IfOk, OnOk, IsTrue, length, map};
-ghost use Rattle.serde_json.specs.Data.{put};
 ghost use Rattle.swc_tree_node.specs.Table.{fields_of};
 ghost use Rattle.jsbase_form.specs.Known.{all_keyed, numbers_short};
-ghost use Rattle.jsbase_form.specs.Writing.{json, typed, fields_put};
+ghost use Rattle.jsbase_form.specs.Writing.{json, put, typed, fields_put};
 ghost use Rattle.jsbase_writer.specs.Members.{greatest, height, part_data, members_data, IsNew, IsPlace, Inserts, tallest, MembersShort};
 
 use std::alloc::{AllocError, Global};

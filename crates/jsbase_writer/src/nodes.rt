@@ -2,12 +2,12 @@
 ghost use Rattle.std.specs.Prelude.{◌≡◌, ◌≤◌, [], ◌++◌, Some, IfOk, OnOk, IsTrue, map, string_bytes};
 ghost use Rattle.json.specs.Lex.{tokens};
 ghost use Rattle.json.specs.Print.{print};
-ghost use Rattle.serde_json.specs.Data.{depth};
-ghost use Rattle.serde_json.specs.Read.{read, max_depth};
-ghost use Rattle.serde_json.specs.View.{items_of};
-ghost use Rattle.serde_json.specs.Written.{compact_text};
+ghost use Rattle.json.specs.Tree.{depth};
+ghost use Rattle.json.specs.Value.{items_of};
 ghost use Rattle.jsbase_form.specs.Known.{ReadsAs, NumbersShort, numbers_short, all_of, ident_short};
 ghost use Rattle.jsbase_form.specs.Writing.{json, ident_json};
+ghost use Rattle.jsbase_reader.specs.Envelopes.{document, max_depth};
+ghost use Rattle.jsbase_writer.specs.Envelopes.{text_of};
 ghost use Rattle.jsbase_writer.specs.Members.{members_data, MembersShort};
 ghost use Rattle.jsbase_writer.specs.Tokens.{tokens_of, tokens_of_items, tokens_of_members};
 
@@ -58,8 +58,8 @@ pub(crate) fn text_of(out: Writer) -> String
 ///
 /// Where memory is refused.
 pub fn write(alloc: Global, tree: &Node) -> Result<String, AllocError>
-    ensures text { IfOk result (λ text. string_bytes text ≡ compact_text (json tree.now)) }
-    ensures value { IfOk result (λ text. depth (json tree.now) ≤ max_depth → read (string_bytes text) ≡ Some (json tree.now)) }
+    ensures text { IfOk result (λ text. string_bytes text ≡ text_of (json tree.now)) }
+    ensures value { IfOk result (λ text. depth (json tree.now) ≤ max_depth → document (string_bytes text) ≡ Some (json tree.now)) }
     ensures reads_back { IfOk result (λ _. ReadsAs (json tree.now) tree.now) }
 {
     let mut out = Writer::new(Vec::new(alloc));

@@ -1,6 +1,6 @@
 -- The names that scopes take, as the code keeps them.
 use Rattle.std.specs.Prelude.{ℕ, Bool, true, false, not, ◌&&◌, ◌||◌, ◌==◌, Option, Some, None, List, slice_get, unwrap_or}
-use Rattle.std.specs.HashMap.{get_by_text}
+use Rattle.std.specs.BTreeMap.{get_by_text}
 use Rattle.swc_tree_scoping.specs.declared.places.Standing.{Standing}
 use Rattle.swc_tree_scoping.specs.declared.places.Standing.TheVariants as standing
 use Rattle.swc_base_resolver_program.specs.declared.names.Ways.{Ways}

@@ -5,7 +5,7 @@ ghost use Rattle.swc_base_resolver_program.specs.Names.{any_way, has_way, no_way
 ghost use Rattle.swc_base_resolver_program.specs.Inserted.{IsInserted};
 
 use std::alloc::{AllocError, Global};
-use std::collections::HashMap;
+use std::collections::BTreeMap;
 use swc_tree_scoping::Standing;
 
 /// The ways in which a scope takes one name.
@@ -126,10 +126,11 @@ impl Ways {
 
 /// The names that a scope takes, each with the ways in which it does.
 ///
-/// A look-up takes the same time whatever the number of names.
+/// A look-up costs the logarithm of how many there are, whatever the names: a hash of a seed that is fixed would let a program
+/// choose names that all collide.
 #[derive(Drop)]
 pub struct ScopeNames {
-    names: HashMap<String, Ways>,
+    names: BTreeMap<String, Ways>,
 }
 
 impl ScopeNames {
@@ -138,7 +139,7 @@ impl ScopeNames {
         ensures { (x : List ℕ) → ways_of result x ≡ no_ways }
     {
         ScopeNames {
-            names: HashMap::new(alloc),
+            names: BTreeMap::new(alloc),
         }
     }
 

@@ -1,5 +1,5 @@
 use Rattle.std.proofs.Common.{◌≡◌, drop}
-use Rattle.serde_json.specs.View.{items_view}
+use Rattle.json.specs.Value.{items_view}
 use Rattle.jsbase_form.specs.Leaves.{marks_of}
 use Rattle.jsbase_reader.proofs.Loops.{after}
 use Rattle.jsbase_reader.proofs.leaves.read_marks.Given as goal

@@ -6,7 +6,6 @@ use Rattle.jsbase_form.proofs.RoundTrip.{reads_as}
 use Rattle.jsbase_writer.specs.Envelopes.{envelope_json, ReadsBack}
 use Rattle.jsbase_writer.proofs.Back.{text_back}
 use Rattle.jsbase_writer.proofs.Tokens.{whole_text, whole_read}
-use Rattle.jsbase_writer.proofs.Trees.{envelope_is_back}
 use Rattle.jsbase_writer.proofs.envelope.write_envelope.Goals as goal
 
 pub returns-clause-text : goal.returns-clause-text
@@ -24,8 +23,7 @@ returns-clause-reads_back c =
     let d = envelope_json table top tree unresolved in
     let written = c.in_ok-write_object.ensures in
     let bytes = c.in_ok-push_str.ensures.bytes in
-    let is_back = envelope_is_back table top tree unresolved written.rows written.marks written.tree in
-    let line = whole_read d _ _ _ c.new-out.ensures.tokens written.written c.text_of-text.ensures.reads_back is_back in
+    let line = whole_read d _ _ _ c.new-out.ensures.tokens written.written c.text_of-text.ensures.reads_back in
     let back = text_back (string_bytes c.text_of-text.result) d table top tree unresolved refl (subst IsUtf8 bytes (IsUtf8-string_bytes c.push_str.new.self)) line written.table written.marks
     (reads_as (json tree) tree refl written.tree) in
     subst (λ t. ReadsBack t table top tree unresolved) (sym bytes) back

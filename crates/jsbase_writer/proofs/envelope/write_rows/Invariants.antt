@@ -1,5 +1,5 @@
 use Rattle.std.proofs.Common.{◌≡◌, ◌++◌, map, take, drop, IsTrue}
-use Rattle.serde_json.specs.View.{items_of}
+use Rattle.json.specs.Value.{items_of}
 use Rattle.jsbase_writer.specs.Envelopes.{row_json, table_json, table_short}
 use Rattle.jsbase_writer.specs.Tokens.{tokens_of, tokens_of_items}
 use Rattle.jsbase_writer.proofs.envelope.write_rows.Given as goal

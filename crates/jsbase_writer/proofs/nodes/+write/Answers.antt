@@ -1,7 +1,7 @@
 use Rattle.std.proofs.Common.{◌≡◌, ◌+◌, [], ◌∷◌, ◌++◌, drop, map, sym, ap, ◌∙◌, subst, arith}
 use Rattle.std.proofs.lemmas.List.{drop_more, drop_all}
 use Rattle.json.specs.Token.{string}
-use Rattle.serde_json.specs.View.{items_of}
+use Rattle.json.specs.Value.{items_of}
 use Rattle.swc_tree_node.specs.Table.{fields_of}
 use Rattle.jsbase_form.specs.Writing.{json, typed, fields_put}
 use Rattle.jsbase_writer.specs.Members.{part_data, members_data, PartShort}

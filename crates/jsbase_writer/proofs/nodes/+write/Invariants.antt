@@ -1,5 +1,5 @@
 use Rattle.std.proofs.Common.{◌≡◌, ◌≤◌, ◌+◌, ◌*◌, ◌++◌, map, drop, IsTrue}
-use Rattle.serde_json.specs.View.{items_of}
+use Rattle.json.specs.Value.{items_of}
 use Rattle.jsbase_form.specs.Known.{all_of, numbers_short}
 use Rattle.jsbase_form.specs.Writing.{json}
 use Rattle.jsbase_writer.specs.Members.{height, greatest, tallest, members_data, MembersShort}

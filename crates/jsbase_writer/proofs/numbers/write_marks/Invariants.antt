@@ -1,5 +1,5 @@
 use Rattle.std.proofs.Common.{◌≡◌, ◌++◌, map, take, drop, IsTrue}
-use Rattle.serde_json.specs.View.{items_of}
+use Rattle.json.specs.Value.{items_of}
 use Rattle.jsbase_form.specs.Known.{marks_short}
 use Rattle.jsbase_form.specs.Writing.{natural, numbers_json}
 use Rattle.jsbase_writer.specs.Tokens.{tokens_of, tokens_of_items}
