@@ -1,4 +1,5 @@
 //! Calls that no program and no tree leads to, and whether they answer as they must.
+use jsbase_engine::{Command, Kind, run};
 use std::alloc::Global;
 use std::fmt::Write;
 use swc_base_resolver::scope::{DeclKind, ScopeKind};
@@ -22,6 +23,40 @@ fn gives_back(alloc: Global) -> Option<bool> {
     let text = Text::new(alloc, "caf\u{e9}").ok()?;
     let copy = text.clone().ok()?;
     Some(text == copy && text.into_string().as_str() == copy.as_str())
+}
+
+// The first characters of names of 32 that the library's hash can't tell apart, whatever the last eight
+// (`tools/shapes.py` says why).
+const COLLIDING: &str = "GTRUmMvIgEGsoszMKsqImMGL";
+
+fn add_names(text: &mut String, before: &str, after: &str) -> Option<()> {
+    for i in 10_000_000u32..10_002_000 {
+        if i > 10_000_000 {
+            text.push_str(",").ok()?;
+        }
+        write!(text, "{before}{COLLIDING}{i}{after}").ok()?;
+    }
+    Some(())
+}
+
+// A script that declares such names and refers to each.
+fn script_of_colliding_names(alloc: Global) -> Option<String> {
+    let mut text = String::new(alloc);
+    text.push_str(r#"{"marks":[[1,0],[2,0]],"unresolved":1,"top":2,"tree":{"type":"Script","span":[0,0],"body":["#).ok()?;
+    text.push_str(r#"{"type":"VarDecl","span":[0,0],"kind":"var","decls":["#).ok()?;
+    let declarator = r#"{"type":"VarDeclarator","span":[0,0],"name":{"type":"BindingIdent","span":[0,0],"ctxt":[],"sym":""#;
+    add_names(&mut text, declarator, r#""}}"#)?;
+    text.push_str("]},").ok()?;
+    let statement = r#"{"type":"ExprStmt","span":[0,0],"expr":{"type":"Ident","span":[0,0],"ctxt":[],"sym":""#;
+    add_names(&mut text, statement, r#""}}"#)?;
+    text.push_str("]}}").ok()?;
+    Some(text)
+}
+
+fn resolves_colliding_names(alloc: Global) -> Option<bool> {
+    let script = script_of_colliding_names(alloc)?;
+    let resolved = run(alloc, Command::Resolve, Kind::Script, script.as_bytes());
+    Some(resolved.is_ok())
 }
 
 // Marks of known parents, of the root and of one that is not known.
@@ -103,6 +138,7 @@ fn holds(alloc: Global, word: &str) -> Option<bool> {
     match word {
         "ancestors are found" => finds_ancestors(alloc),
         "lists change" => changes(alloc),
+        "colliding names are resolved" => resolves_colliding_names(alloc),
         "marks are made" => makes_marks(alloc),
         "words become kinds" => Some(converts()),
         "texts are given back" => gives_back(alloc),

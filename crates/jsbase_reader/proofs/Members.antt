@@ -5,7 +5,7 @@ use Rattle.json.specs.Find.{get, get_member, later_or}
 use Rattle.json.specs.Tree.{depth, members_depth}
 use Rattle.swc_tree_marks.specs.Globals.{Table}
 use Rattle.swc_tree_node.specs.declared.slot.Slot.{Slot}
-use Rattle.jsbase_form.specs.Trees.{members_seen, null_as, seen, value_of}
+use Rattle.jsbase_form.specs.Trees.{members_seen, null_as, seen}
 use Rattle.jsbase_form.proofs.Members.{member_seen}
 use Rattle.jsbase_reader.specs.Parts.{members_in}
 

@@ -107,11 +107,7 @@ fn mark_in(
 }
 
 /// The option that a key holds; where it holds none it is false.
-fn option_in(
-    alloc: Global,
-    object: &Value<'_>,
-    name: &'static str,
-) -> Result<bool, ReadError>
+fn option_in(alloc: Global, object: &Value<'_>, name: &'static str) -> Result<bool, ReadError>
     ensures { Gives result (at (key name.now) (option_at (value_of name.now (members_in (value_view object.now))))) }
 {
     match member(object, name) {
@@ -159,11 +155,7 @@ fn read_tree(
 }
 
 #[tactic(auto, unfolding(crate::specs::Envelopes::envelope_of))]
-fn read_members(
-    alloc: Global,
-    class: Class,
-    object: &Value<'_>,
-) -> Result<Envelope, ReadError>
+fn read_members(alloc: Global, class: Class, object: &Value<'_>) -> Result<Envelope, ReadError>
     ensures { Gives result (envelope_of class (members_in (value_view object.now))) }
 {
     let globals = table_in(alloc, object)?;

@@ -3,8 +3,6 @@ use Rattle.json.specs.Json.{array}
 use Rattle.json.specs.Tree.{depth}
 use Rattle.json.specs.Value.{value_view, items_view}
 use Rattle.json.proofs.Trees.{view-Array}
-use Rattle.jsbase_form.specs.Trees.{items_seen, listed}
-use Rattle.jsbase_reader.specs.Answers.{Gives}
 use Rattle.jsbase_reader.specs.Parts.{members_in}
 use Rattle.jsbase_reader.proofs.Items.{item_within, list_read, single_read}
 use Rattle.jsbase_reader.proofs.Members.{found_there, member_depth, nothing_there}

@@ -1,0 +1,132 @@
+#!/usr/bin/env python3
+"""shapes.py JSBASE [N]: how the time of JSBASE grows with programs of one shape, as a table in Markdown.
+
+JSBASE is the built program of that crate. Each shape is a script of N, 2 N and 4 N parts (20,000, if N is not given): blocks side
+by side, the parameters of one function, the functions of one block, catch clauses, labels, pairs of parentheses, the items of a
+sequence, references below 40 blocks, names of one function that the kit's hash can't tell apart, and as many others of their
+length. The time is of the processor for one run of `resolve script`, of `unparen script` for pairs and sequences; in a
+table that grows in step with N each number is twice the one before it."""
+import json
+import random
+import resource
+import subprocess
+import sys
+import tempfile
+
+AT = [0, 0]
+WORD = (1 << 64) - 1
+SEED = 0x243F6A8885A308D3
+MULTIPLIER = 0x9E3779B97F4A7C15
+LETTERS = 'abcdefghijklmnopqrstuvwxyzABCDEFGHIJKLMNOPQRSTUVWXYZ_$'
+
+
+def node(kind, /, **fields):
+    return {'type': kind, 'span': AT, **fields}
+
+
+def named(kind, name):
+    return node(kind, ctxt=[], sym=name)
+
+
+def reference(name):
+    return named('Ident', name)
+
+
+def statement(expression):
+    return node('ExprStmt', expr=expression)
+
+
+def declaration(keyword, names):
+    parts = [node('VarDeclarator', name=named('BindingIdent', name), init=None) for name in names]
+    return node('VarDecl', kind=keyword, decls=parts)
+
+
+def block(statements):
+    return node('BlockStmt', stmts=statements)
+
+
+def function(name, parameters, statements):
+    patterns = [node('Param', pat=named('BindingIdent', name)) for name in parameters]
+    body = node('Function', params=patterns, body=block(statements), is_generator=False, is_async=False)
+    return node('FnDecl', ident=reference(name), function=body)
+
+
+def catches(n):
+    handler = node('CatchClause', param=named('BindingIdent', 'e'), body=block([declaration('var', ['e'])]))
+    return [node('TryStmt', block=block([]), handler=handler, finalizer=None) for _ in range(n)]
+
+
+def deep(n):
+    inner = [statement(reference('a')) for _ in range(n)]
+    for depth in range(40):
+        inner = [block([declaration('let', [f'b{depth}'])] + inner)]
+    return [declaration('var', ['a'])] + inner
+
+
+def folded(a, b):
+    product = a * b
+    return (product & WORD) ^ (product >> 64)
+
+
+def colliding(n):
+    """Names of 32 characters of which the kit's hash sees nothing: the third word of each is what the hash of the first two
+    words is, so that what is multiplied next is 0, whatever the last word."""
+    rng = random.Random(7)
+    while True:
+        first = ''.join(rng.choice(LETTERS) for _ in range(16)).encode()
+        word = folded(int.from_bytes(first[:8], 'little') ^ (SEED + 32 & WORD), int.from_bytes(first[8:], 'little') ^ MULTIPLIER)
+        second = word.to_bytes(8, 'little')
+        if all(chr(byte) in LETTERS for byte in second):
+            return [(first + second).decode() + f'{i:08}' for i in range(n)]
+
+
+def others(n):
+    return ['abcdefghijklmnopqrstuvwx' + f'{i:08}' for i in range(n)]
+
+
+def body_of(names):
+    return [function('f', [], [declaration('var', names)] + [statement(reference(name)) for name in names])]
+
+
+SHAPES = {
+    'blocks': lambda n: [block([declaration('let', ['a']), statement(reference('a'))]) for _ in range(n)],
+    'parameters': lambda n: [function('f', [f'p{i}' for i in range(n)], [])],
+    'functions of a block': lambda n: [block([function(f'f{i}', [], []) for i in range(n)])],
+    'catch clauses': catches,
+    'labels': lambda n: [node('LabeledStmt', label=reference(f'l{i}'), body=node('EmptyStmt')) for i in range(n)],
+    'pairs': lambda n: [statement(node('ParenExpr', expr=reference('a'))) for _ in range(n)],
+    'items of a sequence': lambda n: [statement(node('SeqExpr', exprs=[reference(f'a{i}') for i in range(n)]))],
+    'references below 40 blocks': deep,
+    'names that collide': lambda n: body_of(colliding(n)),
+    'other names': lambda n: body_of(others(n)),
+}
+
+
+def envelope(statements):
+    script = node('Script', body=statements, shebang=None)
+    return json.dumps({'marks': [[1, 0], [2, 0]], 'unresolved': 1, 'top': 2, 'tree': script}, separators=(',', ':'))
+
+
+def time_of(program, shape, n):
+    """The processor time of one run in seconds."""
+    command = 'unparen' if shape in ('pairs', 'items of a sequence') else 'resolve'
+    with tempfile.TemporaryFile('w+') as source:
+        source.write(envelope(SHAPES[shape](n)))
+        source.seek(0)
+        before = resource.getrusage(resource.RUSAGE_CHILDREN)
+        subprocess.run([program, command, 'script'], stdin=source, stdout=subprocess.DEVNULL, check=True)
+        after = resource.getrusage(resource.RUSAGE_CHILDREN)
+    return after.ru_utime + after.ru_stime - before.ru_utime - before.ru_stime
+
+
+def main():
+    program, first = sys.argv[1], int(sys.argv[2]) if len(sys.argv) > 2 else 20000
+    counts = [first, 2 * first, 4 * first]
+    print('| shape | ' + ' | '.join(f'{n:,}' for n in counts) + ' |')
+    print('|---|' + '---|' * len(counts))
+    for shape in SHAPES:
+        print(f'| {shape} | ' + ' | '.join(f'{time_of(program, shape, n):.2f} s' for n in counts) + ' |', flush=True)
+
+
+if __name__ == '__main__':
+    main()
