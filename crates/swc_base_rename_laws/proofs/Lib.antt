@@ -1,1 +1,3 @@
+pub mod NormalFormSame
+pub mod NormalFormPairs
 pub mod Unchanged
