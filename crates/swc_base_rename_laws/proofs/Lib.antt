@@ -1,3 +1,5 @@
+pub mod NormalFormStripped
+pub mod NormalFormViews
 pub mod NormalFormSame
 pub mod NormalFormPairs
 pub mod Unchanged
