@@ -1,3 +1,5 @@
+pub mod NormalFormWritten
+pub mod NormalFormLike
 pub mod NormalFormStripped
 pub mod NormalFormViews
 pub mod NormalFormSame

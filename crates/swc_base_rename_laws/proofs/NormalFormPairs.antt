@@ -147,7 +147,7 @@ mutual
     -- a specifier with both names, with one that stays, and with one that changes
     both_names : (s : Spot) (k : Kind) (a b o p t u : Node) → is_double s k ≡ true → Becomes m declared true (part false) a b → Becomes m declared true (part true) o p
         → Becomes m declared true (part false) t u → Trees m declared s k (a ∷ o ∷ t ∷ []) k (b ∷ p ∷ u ∷ [])
-    one_stays : (s : Spot) (k : Kind) (a b o p : Node) → is_double s k ≡ true → Becomes m declared true (part false) a b → Becomes m declared true (part false) o p
+    one_stays : (s : Spot) (k : Kind) (a b o p : Node) → is_double s k ≡ true → Becomes m declared true (part false) a b → Becomes m declared true (part true) o p → Becomes m declared true (part false) o p
         → Trees m declared s k (a ∷ o ∷ Absent ∷ []) k (b ∷ p ∷ Absent ∷ [])
     one_changes : (s : Spot) (k : Kind) (a b : Node) (l : Kind) (i j : Ident) → is_double s k ≡ true → Becomes m declared true (part false) a b → Alike m true i j
         → Trees m declared s k (a ∷ Identifier l i ∷ Absent ∷ []) k (b ∷ Identifier l j ∷ Identifier kind.Ident (kept_name i) ∷ [])

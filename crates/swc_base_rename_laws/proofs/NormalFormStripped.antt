@@ -129,7 +129,7 @@ module _ (m : Changes) (declared : Node → List Id) where
   nested_parts l ts us (Trees.even _ _ _ _ e _) = absurd (cc)
   nested_parts l ts us (Trees.sequence a b ts0 us0 h k) = moved_all m declared true (part true) _ ts0 _ us0 (parts_of_sequence a ts0) (parts_of_sequence b us0) k
   nested_parts l ts us (Trees.both_names _ _ _ _ _ _ _ _ e _ _ _) = absurd (cc)
-  nested_parts l ts us (Trees.one_stays _ _ _ _ _ _ e _ _) = absurd (cc)
+  nested_parts l ts us (Trees.one_stays _ _ _ _ _ _ e _ _ _) = absurd (cc)
   nested_parts l ts us (Trees.one_changes _ _ _ _ _ _ _ e _ _) = absurd (cc)
 
   tree_parts : (k l : Kind) (ts us : List Node) → T (part true) k ts l us → A true (part true) (parts (Tree k ts)) (parts (Tree l us))
@@ -247,7 +247,7 @@ module _ (m : Changes) (declared : Node → List Id) where
     tree_effects s k l ts us (Trees.key_alone f a i j h) = bare_whole _ _ _ _ _ refl refl (Trees.key_alone f a i j h)
     tree_effects s k l ts us (Trees.key_default f a i j t u h n) = bare_whole _ _ _ _ _ refl refl (Trees.key_default f a i j t u h n)
     tree_effects s k l ts us (Trees.both_names s0 k0 a b o p t u e h i j) = bare_whole s0 k0 k0 _ _ (double_bare s0 k0 e) (double_bare s0 k0 e) (Trees.both_names s0 k0 a b o p t u e h i j)
-    tree_effects s k l ts us (Trees.one_stays s0 k0 a b o p e h i) = bare_whole s0 k0 k0 _ _ (double_bare s0 k0 e) (double_bare s0 k0 e) (Trees.one_stays s0 k0 a b o p e h i)
+    tree_effects s k l ts us (Trees.one_stays s0 k0 a b o p e h i j) = bare_whole s0 k0 k0 _ _ (double_bare s0 k0 e) (double_bare s0 k0 e) (Trees.one_stays s0 k0 a b o p e h i j)
     tree_effects s k l ts us (Trees.one_changes s0 k0 a b n i j e h o) = bare_whole s0 k0 k0 _ _ (double_bare s0 k0 e) (double_bare s0 k0 e) (Trees.one_changes s0 k0 a b n i j e h o)
     tree_effects s k l ts us (Trees.exports f a b ts0 us0 c d h i j) = bare_whole _ _ _ _ _ refl refl (Trees.exports f a b ts0 us0 c d h i j)
     tree_effects s k l ts us (Trees.reexports f a b ts0 us0 xs ys c d h i x j) = bare_whole _ _ _ _ _ refl refl (Trees.reexports f a b ts0 us0 xs ys c d h i x j)
@@ -351,9 +351,9 @@ module _ (m : Changes) (before after : Node → List Id) (kept : (t : Node) → 
     strip_trees g s k l ts us (Trees.both_names s0 k0 a0 a1 b0 b1 c0 c1 e a b c) =
         goes g s0 _ _ _ _ (three k0 a0 b0 c0 _ _ _ (double_other s0 k0 e) refl refl refl) (three k0 a1 b1 c1 _ _ _ (double_other s0 k0 e) refl refl refl)
         (Becomes.tree g s0 _ _ _ _ (Trees.both_names s0 k0 _ _ _ _ _ _ e (strip_becomes true (part false) a0 a1 a) (strip_becomes true (part true) b0 b1 b) (strip_becomes true (part false) c0 c1 c)))
-    strip_trees g s k l ts us (Trees.one_stays s0 k0 a0 a1 b0 b1 e a b) =
+    strip_trees g s k l ts us (Trees.one_stays s0 k0 a0 a1 b0 b1 e a b c) =
         goes g s0 _ _ _ _ (three k0 a0 b0 Absent _ _ _ (double_other s0 k0 e) refl refl strip-Absent) (three k0 a1 b1 Absent _ _ _ (double_other s0 k0 e) refl refl strip-Absent)
-        (Becomes.tree g s0 _ _ _ _ (Trees.one_stays s0 k0 _ _ _ _ e (strip_becomes true (part false) a0 a1 a) (strip_becomes true (part false) b0 b1 b)))
+        (Becomes.tree g s0 _ _ _ _ (Trees.one_stays s0 k0 _ _ _ _ e (strip_becomes true (part false) a0 a1 a) (strip_becomes true (part true) b0 b1 b) (strip_becomes true (part false) b0 b1 c)))
     strip_trees g s k l ts us (Trees.one_changes s0 k0 a0 a1 n i j e a b) =
         goes g s0 _ _ _ _ (three k0 a0 (Identifier n i) Absent _ _ _ (double_other s0 k0 e) refl (strip-Identifier n i) strip-Absent)
         (three k0 a1 (Identifier n j) (Identifier kind.Ident (kept_name i)) _ _ _ (double_other s0 k0 e) refl (strip-Identifier n j) (strip-Identifier kind.Ident (kept_name i)))

@@ -70,7 +70,7 @@ module _ (m : Changes) (declared : Node → List Id) where
   kinds_same P e s k ts l us (Trees.key_alone _ _ _ _ _) = e
   kinds_same P e s k ts l us (Trees.key_default _ _ _ _ _ _ _ _) = e
   kinds_same P e s k ts l us (Trees.both_names _ _ _ _ _ _ _ _ _ _ _ _) = refl
-  kinds_same P e s k ts l us (Trees.one_stays _ _ _ _ _ _ _ _ _) = refl
+  kinds_same P e s k ts l us (Trees.one_stays _ _ _ _ _ _ _ _ _ _) = refl
   kinds_same P e s k ts l us (Trees.one_changes _ _ _ _ _ _ _ _ _ _) = refl
   kinds_same P e s k ts l us (Trees.exports _ _ _ _ _ _ _ _ _ _) = refl
   kinds_same P e s k ts l us (Trees.reexports _ _ _ _ _ _ _ _ _ _ _ _ _) = refl
