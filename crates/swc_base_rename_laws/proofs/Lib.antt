@@ -1,4 +1,5 @@
 pub mod NormalFormWritten
+pub mod NormalFormRows
 pub mod NormalFormLike
 pub mod NormalFormStripped
 pub mod NormalFormViews
