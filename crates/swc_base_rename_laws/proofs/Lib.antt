@@ -1,3 +1,4 @@
+pub mod NormalFormFits
 pub mod NormalFormTable
 pub mod NormalFormWritten
 pub mod NormalFormRows
