@@ -43,7 +43,7 @@ pub no_locals : (k : Kind) → is_left k ≡ true → list_all (λ (f : List ℕ
 no_locals kind.NamedExport h = absurd (cc)
 no_locals k h = refl
 
-within_is : (p : Place) → spot.is_name (within p) ≡ spot.is_name p
+pub within_is : (p : Place) → spot.is_name (within p) ≡ spot.is_name p
 within_is place.Name = refl
 within_is place.Shorthand = refl
 within_is place.Exported = refl

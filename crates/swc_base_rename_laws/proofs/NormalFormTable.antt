@@ -119,7 +119,7 @@ is_plain place.Exported = true
 is_plain place.Other = true
 is_plain p = false
 
-plain_within : (p : Place) → is_plain (within p) ≡ true
+pub plain_within : (p : Place) → is_plain (within p) ≡ true
 plain_within place.Name = refl
 plain_within place.Shorthand = refl
 plain_within place.Exported = refl
