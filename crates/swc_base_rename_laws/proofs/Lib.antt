@@ -1,3 +1,4 @@
+pub mod NormalFormModule
 pub mod NormalFormFits
 pub mod NormalFormTable
 pub mod NormalFormWritten

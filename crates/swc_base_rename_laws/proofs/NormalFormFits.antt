@@ -111,7 +111,7 @@ unexported_in b s t (Node-F.Tree kind.ExportDecl ts) e f h =
     let no = not_exported b in absurd (cc)
 unexported_in b s t y e f h = refl
 
-unexported : (b : Bool) (s : Slot) (t : Node) → fair b s ≡ true → Fits t s → exported_ids t ≡ []
+pub unexported : (b : Bool) (s : Slot) (t : Node) → fair b s ≡ true → Fits t s → exported_ids t ≡ []
 unexported b s t f h = unexported_in b s t (out-Node t) (sym (roll-out-Node t)) f h
 
 pub item_alone : (m : Changes) (t u : Node) → exported_ids t ≡ [] → items_for m t u ≡ u ∷ []
@@ -143,10 +143,10 @@ kept_by i t Node-F.Absent h = absurd (cc)
 kept_by i t y h = refl
 
 module _ (m : Changes) (declared : Node → List Id) where
-  abbrev B : Bool → Spot → Node → Node → Type 0
+  abbrev pub B : Bool → Spot → Node → Node → Type 0
   B = Becomes m declared
 
-  to : (g : Bool) (s : Spot) (t u u' : Node) → u ≡ u' → B g s t u' → B g s t u
+  pub to : (g : Bool) (s : Spot) (t u u' : Node) → u ≡ u' → B g s t u' → B g s t u
   to g s t u u' e h = subst (λ u. B g s t u) (sym e) h
 
   alike_by : (i j : Ident) (o : Option Id) → m (id_of i) ≡ o → option_map (with_id i) o ≡ Some j → Alike m true i j
@@ -184,16 +184,16 @@ module _ (m : Changes) (declared : Node → List Id) where
   abbrev pub Part : Node → Type 0
   Part t = (s : Slot) (p : Place) (b : Bool) → is_plain p ≡ true → is_name p ≡ b → fair b s ≡ true → Fits t s → Becomes m declared (needed s) (part b) t (substituted m false p t)
 
-  abbrev props : Slot
+  abbrev pub props : Slot
   props = slot.One (content.Node class.PropOrSpread)
 
-  abbrev Prop : Node → Type 0
+  abbrev pub Prop : Node → Type 0
   Prop t = Fits t props → B true property t (substituted m false place.Shorthand t)
 
-  abbrev One : Node → Type 0
+  abbrev pub One : Node → Type 0
   One t = Part t × Prop t
 
-  abbrev Whole : Node → Type 0
+  abbrev pub Whole : Node → Type 0
   Whole t = One t × Each One (items_of t)
 
   no_items : (t : Node) (y : Node-F Node) → out-Node t ≡ y → items_in y ≡ [] → Each One (items_of t)
@@ -201,12 +201,12 @@ module _ (m : Changes) (declared : Node → List Id) where
 
   -- ---- lists
 
-  item_begins : (s : Slot) (p : Place) (b g : Bool) (t : Node) (ts us : List Node) (spot : Spot) → fair b s ≡ true → Fits t s → B g spot t (substituted m false p t) → All m declared g spot ts us
+  pub item_begins : (s : Slot) (p : Place) (b g : Bool) (t : Node) (ts us : List Node) (spot : Spot) → fair b s ≡ true → Fits t s → B g spot t (substituted m false p t) → All m declared g spot ts us
       → All m declared g spot (t ∷ ts) (items_for m t (substituted m false p t) ++ us)
   item_begins s p b g t ts us spot f h k l =
       subst (λ x. All m declared g spot (t ∷ ts) (x ++ us)) (sym (item_alone m t (substituted m false p t) (unexported b s t f h))) (All.more g spot t _ ts us k l)
 
-  all_begin : (s : Slot) (p : Place) (b : Bool) (ts : List Node) → is_plain p ≡ true → is_name p ≡ b → fair b s ≡ true → Each One ts → AllFit s ts
+  pub all_begin : (s : Slot) (p : Place) (b : Bool) (ts : List Node) → is_plain p ≡ true → is_name p ≡ b → fair b s ≡ true → Each One ts → AllFit s ts
       → All m declared (needed s) (part b) ts (items_substituted m false p ts)
   all_begin s p b [] h n f e a = All.none (needed s) (part b)
   all_begin s p b (t ∷ ts) h n f e a = item_begins s p b (needed s) t ts _ (part b) f a.0 (e.0.0 s p b h n f a.0) (all_begin s p b ts h n f e.1 a.1)
@@ -248,7 +248,7 @@ module _ (m : Changes) (declared : Node → List Id) where
       → Fields m declared (spots b k) ts (fields m p k ts)
   fields_at p b k ts n a o h e = fields_begin (fields_of k) (places false p k ts) b ts (λ i f g. place_of_row p b k ts i f n a o g) (rows_fair b k a) h e
 
-  plain_one : (g : Bool) (s : Spot) (p : Place) (k : Kind) (ts us : List Node) → writes_out k ≡ false → fields m p k ts ≡ us → Trees m declared s k ts k us → B g s (Tree k ts) (substituted m false p (Tree k ts))
+  pub plain_one : (g : Bool) (s : Spot) (p : Place) (k : Kind) (ts us : List Node) → writes_out k ≡ false → fields m p k ts ≡ us → Trees m declared s k ts k us → B g s (Tree k ts) (substituted m false p (Tree k ts))
   plain_one g s p k ts us w e h = to g s _ _ _ (plain_tree m p k ts w ∙ ap (Tree k) e) (Becomes.tree g s k k ts us h)
 
   -- ---- pairs and sequences
@@ -261,7 +261,7 @@ module _ (m : Changes) (declared : Node → List Id) where
   pair_begins g true p ts n a f e = plain_one g (part true) p kind.ParenExpr ts _ refl refl (pair_fields ts _ (fields_at p true kind.ParenExpr ts n a refl f e))
   pair_begins g false p ts n a f e = absurd (cc)
 
-  span_at : (p : Place) (a : Node) → is_plain p ≡ true → is_name p ≡ false → Part a → Fits a (slot.One content.Span) → B true (part false) a (substituted m false p a)
+  pub span_at : (p : Place) (a : Node) → is_plain p ≡ true → is_name p ≡ false → Part a → Fits a (slot.One content.Span) → B true (part false) a (substituted m false p a)
   span_at p a h n e f = e (slot.One content.Span) p false h n refl f
 
   several : (g : Bool) (p : Place) (a : Node) (ts : List Node) → One a → Each One ts → Fits a (slot.One content.Span) → AllFit (slot.One (content.Node class.Expr)) ts
@@ -304,10 +304,10 @@ module _ (m : Changes) (declared : Node → List Id) where
   -- ---- `{ a }` in patterns
 
   -- a value that is left out, or one that is there
-  abbrev Given : Bool → Node → Node → Type 0
+  abbrev pub Given : Bool → Node → Node → Type 0
   Given b t u = ((t ≡ Absent) × (u ≡ Absent)) ⊎ B true (part b) t u
 
-  given : (p : Place) (b : Bool) (c : Class) (t : Node) → is_plain p ≡ true → is_name p ≡ b → fair_content b (content.Node c) ≡ true → Part t → Fits t (slot.Optional (content.Node c)) → Given b t (substituted m false p t)
+  pub given : (p : Place) (b : Bool) (c : Class) (t : Node) → is_plain p ≡ true → is_name p ≡ b → fair_content b (content.Node c) ≡ true → Part t → Fits t (slot.Optional (content.Node c)) → Given b t (substituted m false p t)
   given p b c t h n f e g = by (absent_or (content.Node c) t g)
     where
       by : (t ≡ Absent) ⊎ Fits t (slot.One (content.Node c)) → Given b t (substituted m false p t)
@@ -338,7 +338,7 @@ module _ (m : Changes) (declared : Node → List Id) where
       to g (part b) _ _ _ (ap (λ t. Tree kind.KeyValuePatProp (key_of i ∷ default_in i t u (out-Node u) ∷ [])) (changed_at q kind.BindingIdent i j h))
       (key_changes g b a i j v u (changed_alike q b i j h n e) k)
 
-  name_there : (k : Kind) (i : Ident) (a : Node) (ts : List Node) → identifier_at (a ∷ Identifier k i ∷ ts) 1 ≡ Some i
+  pub name_there : (k : Kind) (i : Ident) (a : Node) (ts : List Node) → identifier_at (a ∷ Identifier k i ∷ ts) 1 ≡ Some i
   name_there k i a ts = ap identifier_in (outs-Identifier k i)
 
   key_of_name : (g b : Bool) (p : Place) (a : Node) (i : Ident) (v : Node) → is_plain (within p) ≡ true → is_name (within p) ≡ b → B true (part false) a (substituted m false place.Other a)
@@ -364,7 +364,7 @@ module _ (m : Changes) (declared : Node → List Id) where
 
   -- ---- specifiers
 
-  abbrev Others : Kind → Type 0
+  abbrev pub Others : Kind → Type 0
   Others k = (j : Ident) (us : List Node) → written_out k j us ≡ Tree k (with_other j us)
 
   same_name : (g b : Bool) (l : Kind) (i : Ident) → B g (part b) (Identifier l i) (Identifier l i)
@@ -429,7 +429,7 @@ module _ (m : Changes) (declared : Node → List Id) where
   no_module true = refl
   no_module false = refl
 
-  tree_of : (g b : Bool) (p : Place) (k : Kind) (ts : List Node) → is_name p ≡ b → allowed b k ≡ true → FieldsFit (slots_of k) ts → Each Whole ts → B g (part b) (Tree k ts) (substituted m false p (Tree k ts))
+  pub tree_of : (g b : Bool) (p : Place) (k : Kind) (ts : List Node) → is_name p ≡ b → allowed b k ≡ true → FieldsFit (slots_of k) ts → Each Whole ts → B g (part b) (Tree k ts) (substituted m false p (Tree k ts))
   tree_of g b p kind.ParenExpr ts n a f e = pair_begins g b p ts n a f e
   tree_of g b p kind.SeqExpr ts n a f e = sequence_begins g b p ts a f e
   tree_of g b p kind.ObjectLit ts n a f e = object_begins g b p ts f e
@@ -473,7 +473,7 @@ module _ (m : Changes) (declared : Node → List Id) where
       plain_one true property place.Shorthand k ts _ plain'.0 refl
       (Trees.even property k ts _ even' (fields_at place.Shorthand true k ts refl (allowed_there true k class.PropOrSpread refl belongs') plain'.1 w.fields e))
 
-  first_of : (ts : List Node) → Each Whole ts → Each One ts
+  pub first_of : (ts : List Node) → Each Whole ts → Each One ts
   first_of [] e = tt
   first_of (t ∷ ts) e = (e.0.0, first_of ts e.1)
 
