@@ -1,3 +1,6 @@
+pub mod NormalFormStays
+pub mod NormalFormDeclared
+pub mod NormalFormSound
 pub mod NormalFormModule
 pub mod NormalFormFits
 pub mod NormalFormTable

@@ -94,7 +94,7 @@ is_binding : (k : Kind) → IsTrue (belongs k class.BindingIdent) → k ≡ kind
 is_binding kind.BindingIdent h = refl
 is_binding k h = absurd (cc)
 
-binding_name : (t : Node) → Fits t (slot.One (content.Node class.BindingIdent)) → (i : Ident) × (t ≡ Identifier kind.BindingIdent i)
+pub binding_name : (t : Node) → Fits t (slot.One (content.Node class.BindingIdent)) → (i : Ident) × (t ≡ Identifier kind.BindingIdent i)
 binding_name t h = let (k, i, e, b) = named_only class.BindingIdent no_binding t h in (i, e ∙ ap (λ k. Identifier k i) (is_binding k b))
 
 pub ident_name : (t : Node) → Fits t (slot.One (content.Node class.Ident)) → Named t class.Ident

@@ -72,7 +72,7 @@ any_distinct m (x ∷ xs) = any_first m x xs (is_some (m x)) refl (any_distinct 
 
 -- ---- trees, where a class takes no identifier
 
-abbrev Treed : Node → Class → Type 0
+abbrev pub Treed : Node → Class → Type 0
 Treed t c = (k : Kind) × (ts : List Node) × (t ≡ Tree k ts) × IsTrue (not (is_identifier k)) × IsTrue (belongs k c) × FieldsFit (slots_of k) ts
 
 treed : (c : Class) (k : Kind) (ts : List Node) → Fits (Tree k ts) (slot.One (content.Node c)) → Treed (Tree k ts) c
@@ -102,7 +102,7 @@ no_names c e f t k i h = let b = both (is_identifier k) (belongs k c) (rw (← f
     by kind.BindingIdent g h = absurd (cc)
     by k g h = absurd (cc)
 
-tree_only : (c : Class) → belongs kind.Ident c ≡ false → belongs kind.BindingIdent c ≡ false → (t : Node) → Fits t (slot.One (content.Node c)) → Treed t c
+pub tree_only : (c : Class) → belongs kind.Ident c ≡ false → belongs kind.BindingIdent c ≡ false → (t : Node) → Fits t (slot.One (content.Node c)) → Treed t c
 tree_only c e f t h = by (either_one c t h)
   where
     by : Named t c ⊎ Treed t c → Treed t c

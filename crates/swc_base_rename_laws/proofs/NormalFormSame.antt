@@ -149,7 +149,7 @@ module _ (m : Changes) (changing : List Ident) (named : (i : Ident) → IsTrue (
   of_tree w k ts us h = opens w (Tree k ts) (Tree k us) _ _ (outs-Tree k ts) (outs-Tree k us) (and_both _ _ (numbers k) h)
 
   mutual
-    same_like : (b : Bool) (t u : Node) → Like m b t u → (w : ScopingPlace) → is_name w.standing ≡ b → same_at w t u ≡ true
+    pub same_like : (b : Bool) (t u : Node) → Like m b t u → (w : ScopingPlace) → is_name w.standing ≡ b → same_at w t u ≡ true
     same_like b t u (Like.absent c) w e = opens w Absent Absent _ _ outs-Absent outs-Absent refl
     same_like b t u (Like.a_flag c x) w e = opens w (Flag x) (Flag x) _ _ (outs-Flag x) (outs-Flag x) (flags_same x)
     same_like b t u (Like.a_word c x) w e = opens w (Word x) (Word x) _ _ (outs-Word x) (outs-Word x) ((unsigned_Decides (word_number x) (word_number x)).1 refl)

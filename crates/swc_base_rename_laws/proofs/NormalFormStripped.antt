@@ -312,7 +312,7 @@ module _ (m : Changes) (before after : Node → List Id) (kept : (t : Node) → 
   split_moved t t' u v v' ts us e f h = subst (λ v. Items m after (t ∷ ts) (u ∷ v ∷ us)) (sym f) (subst (λ t. Items m after (t ∷ ts) (u ∷ v' ∷ us)) (sym e) h)
 
   mutual
-    strip_becomes : (g : Bool) (s : Spot) (t u : Node) → Becomes m before g s t u → C g s (stripped t) (stripped u)
+    pub strip_becomes : (g : Bool) (s : Spot) (t u : Node) → Becomes m before g s t u → C g s (stripped t) (stripped u)
     strip_becomes g s t u (Becomes.absent s0) = goes false s0 _ _ _ _ strip-Absent strip-Absent (Becomes.absent s0)
     strip_becomes g s t u (Becomes.a_flag g0 s0 x) = goes g0 s0 _ _ _ _ (strip-Flag x) (strip-Flag x) (Becomes.a_flag g0 s0 x)
     strip_becomes g s t u (Becomes.a_word g0 s0 x) = goes g0 s0 _ _ _ _ (strip-Word x) (strip-Word x) (Becomes.a_word g0 s0 x)

@@ -80,7 +80,7 @@ some_default s n t e = ap (λ b. if b then n else Tree kind.AssignPat (s ∷ n �
 
 -- ---- patterns
 
-key_is : (a : Node) (i : Ident) (t : Node) → written_out (Tree kind.AssignPatProp (a ∷ Identifier kind.BindingIdent i ∷ t ∷ []))
+pub key_is : (a : Node) (i : Ident) (t : Node) → written_out (Tree kind.AssignPatProp (a ∷ Identifier kind.BindingIdent i ∷ t ∷ []))
     ≡ Tree kind.KeyValuePatProp (key_of i ∷ with_default (Span i.span) (Identifier kind.BindingIdent i) (written_out t) ∷ [])
 key_is a i t =
     out-Tree kind.AssignPatProp (a ∷ Identifier kind.BindingIdent i ∷ t ∷ [])
@@ -307,7 +307,7 @@ module _ (m : Changes) where
   leaf_done s t y e o n = ap (finished s) e ∙ tame s t y o n
 
   mutual
-    written_becomes : (g : Bool) (s : Spot) (t u : Node) → Becomes m declared g s t u → Done s t u
+    pub written_becomes : (g : Bool) (s : Spot) (t u : Node) → Becomes m declared g s t u → Done s t u
     written_becomes g s t u (Becomes.absent s0) = moved m (flag s0) _ _ _ _ (leaf_done s0 Absent _ out-Absent outs-Absent refl) (leaf_done s0 Absent _ out-Absent outs-Absent refl) (Like.absent (flag s0))
     written_becomes g s t u (Becomes.a_flag _ s0 x) = moved m (flag s0) _ _ _ _ (leaf_done s0 (Flag x) _ (out-Flag x) (outs-Flag x) refl) (leaf_done s0 (Flag x) _ (out-Flag x) (outs-Flag x) refl) (Like.a_flag (flag s0) x)
     written_becomes g s t u (Becomes.a_word _ s0 x) = moved m (flag s0) _ _ _ _ (leaf_done s0 (Word x) _ (out-Word x) (outs-Word x) refl) (leaf_done s0 (Word x) _ (out-Word x) (outs-Word x) refl) (Like.a_word (flag s0) x)

@@ -25,8 +25,3 @@ GivesNames m = (i : Ident) (text context : List ℕ) → m (id_of i) ≡ Some (t
 -- a writable tree stays writable
 abbrev pub WritableStays : Type 0
 WritableStays = (m : Changes) (tree answer : Node) → GivesNames m → IsTrue (is_writable tree) → Substituted m false tree answer → IsTrue (is_writable answer)
-
--- ... and has the same normal form but for the names that change
-abbrev pub NormalFormStays : Type 0
-NormalFormStays = (m : Changes) (changing : List Ident) (tree answer : Node) → GivesNames m → ((i : Ident) → IsTrue (is_some (m (id_of i))) → IsTrue (list_any (same_id i) changing))
-    → IsTrue (is_writable tree) → Substituted m false tree answer → IsTrue (same_tree changing (normal_form tree) (normal_form answer))

@@ -3,7 +3,7 @@
 //! `specs/Laws.antt` states the laws. Each is the contract of a function that does nothing, so that it is proved.
 #![tactic(auto)]
 
-ghost use Rattle.swc_base_rename_laws.specs.Laws.{EmptyMapChangesNothing, KeptTextsChangeNothing};
+ghost use Rattle.swc_base_rename_laws.specs.Laws.{EmptyMapChangesNothing, KeptTextsChangeNothing, NormalFormStays};
 
 /// A map without names changes nothing.
 pub fn empty_map_changes_nothing()
@@ -13,4 +13,9 @@ pub fn empty_map_changes_nothing()
 /// A map that gives each id its own text changes nothing.
 pub fn kept_texts_change_nothing()
     ensures { KeptTextsChangeNothing }
+{}
+
+/// A writable program has the same normal form but for the names that change.
+pub fn normal_form_stays()
+    ensures { NormalFormStays }
 {}
