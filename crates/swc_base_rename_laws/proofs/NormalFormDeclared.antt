@@ -1,12 +1,11 @@
 -- A writable exported declaration declares the same when all is written out.
-use Rattle.std.proofs.Common.{◌≡◌, ◌⊎◌, ℕ, zero, suc, Bool, true, false, not, ◌&&◌, ◌||◌, IsTrue, Option, Some, None, List, [], ◌∷◌, ◌++◌, map, refl, sym, ap, ◌∙◌, subst, rules, inl, inr}
-use Rattle.std.specs.Prelude.{if◌then◌else◌, slice_get}
-use Rattle.std.specs.List.{flat_map, list_all}
+use Rattle.std.proofs.Common.{◌≡◌, Bool, true, false, not, ◌&&◌, ◌||◌, IsTrue, List, [], ◌∷◌, ◌++◌, map, refl, sym, ap, ◌∙◌, subst, rules}
+use Rattle.std.specs.Prelude.{if◌then◌else◌}
+use Rattle.std.specs.List.{flat_map}
 use Rattle.swc_tree_marks.specs.declared.span.Span.{Span as Range}
 use Rattle.swc_tree_marks.specs.declared.ident.Ident.{Ident}
 use Rattle.swc_tree_node.specs.declared.kind.Kind.{Kind}
 use Rattle.swc_tree_node.specs.declared.kind.Kind.TheVariants as kind
-use Rattle.swc_tree_node.specs.declared.kind.Class.{Class}
 use Rattle.swc_tree_node.specs.declared.kind.Class.TheVariants as class
 use Rattle.swc_tree_node.specs.declared.slot.Content.{Content}
 use Rattle.swc_tree_node.specs.declared.slot.Content.TheVariants as content
@@ -15,13 +14,12 @@ use Rattle.swc_tree_node.specs.declared.slot.Slot.TheVariants as slot
 use Rattle.swc_tree_node.specs.declared.node.Node.{Node, Absent, Flag, Word, Text, Span, List as Many, Identifier, Tree, out-Node, roll-Node, roll-out-Node, the_lemmas}
 use Rattle.swc_tree_node.specs.declared.node.Node.TheVariants.{outs-Absent, outs-Flag, outs-Word, outs-Text, outs-Span, outs-List, outs-Identifier, outs-Tree, rolls-Tree}
 use Rattle.swc_tree_node.specs.declared.node.Node.TheOpen.{Node-F}
-use Rattle.swc_tree_node.specs.Table.{is_identifier, slots_of}
+use Rattle.swc_tree_node.specs.Table.{slots_of}
 use Rattle.swc_tree_node.specs.Fits.{AllFit, belongs, FieldsFit, Fits}
-use Rattle.swc_tree_node.proofs.Fit.{fits-Absent, fits-Flag, fits-Identifier, fits-List, fits-Span, fits-Text, fits-Tree, fits-Word, holes_open}
-use Rattle.swc_tree_scoping.specs.Places.{field_role}
-use Rattle.swc_tree_scoping.specs.BoundNames.{Id, bound_ids, declared_ids, declared_in, id_of, in_parts, name_in, name_of}
+use Rattle.swc_tree_node.proofs.Fit.{fits-Absent, fits-Flag, fits-Identifier, fits-Span, fits-Text, fits-Tree, fits-Word, holes_open}
+use Rattle.swc_tree_scoping.specs.BoundNames.{bound_ids, declared_ids, declared_in}
 use Rattle.swc_tree_scoping.specs.Shorthands.{key_of}
-use Rattle.swc_tree_scoping.proofs.BoundNames.{bound-Absent, bound-Identifier, bound-List, bound-Tree}
+use Rattle.swc_tree_scoping.proofs.BoundNames.{bound-Identifier, bound-List, bound-Tree}
 use Rattle.swc_tree_grammar.specs.Shapes.{items_in, items_of}
 use Rattle.swc_tree_grammar.specs.Levels.{is_absent, is_absent_in}
 use Rattle.swc_tree_grammar.specs.Forms.{form_in, is_using, is_using_form}
@@ -29,12 +27,12 @@ use Rattle.swc_tree_grammar.specs.Kinds.{has_kind, has_kind_in, is_rest}
 use Rattle.swc_tree_grammar.specs.Targets.{is_target}
 use Rattle.swc_tree_grammar.specs.Stripped.{stripped}
 use Rattle.swc_tree_grammar.specs.Normal.{as_pattern, pattern_in, with_default, written_out, written_step}
-use Rattle.swc_tree_grammar.specs.Writable.{Round, all_sound, binding, default_in, element, elements, is_element, is_plain_pattern_in, pattern, pattern_of, pattern_of_param_in, property_in, sound_in}
+use Rattle.swc_tree_grammar.specs.Writable.{Round, all_sound, binding, default_in, element, elements, is_element, is_plain_pattern_in, pattern, pattern_of, pattern_of_param_in, property_in}
 use Rattle.swc_tree_grammar.proofs.Induction.{Each, by_children}
 use Rattle.swc_tree_grammar.proofs.Items.{items_of_list, listed}
 use Rattle.swc_tree_grammar.proofs.Places.{stands}
 use Rattle.swc_tree_grammar.proofs.Stripped.{is_other, stripped_of_list, stripped_other}
-use Rattle.swc_base_rename_laws.proofs.NormalFormRows.{out-Absent, out-Identifier, out-List, out-Tree, out_items}
+use Rattle.swc_base_rename_laws.proofs.NormalFormRows.{out-Absent, out-Identifier, out-List, out-Tree}
 use Rattle.swc_base_rename_laws.proofs.NormalFormWritten.{key_is}
 use Rattle.swc_base_rename_laws.proofs.NormalFormFits.{binding_name, ident_name}
 use Rattle.swc_base_rename_laws.proofs.NormalFormModule.{tree_only}

@@ -1,7 +1,7 @@
 -- What fits the table stands beside what it becomes.
-use Rattle.std.proofs.Common.{◌≡◌, ◌⊎◌, ℕ, zero, suc, Bool, true, false, not, ◌&&◌, ◌||◌, IsTrue, Option, Some, None, List, [], ◌∷◌, ◌++◌, map, refl, sym, ap, ◌∙◌, subst, inl, inr, arith}
+use Rattle.std.proofs.Common.{◌≡◌, ◌⊎◌, ℕ, zero, suc, Bool, true, false, not, IsTrue, Option, Some, None, List, [], ◌∷◌, ◌++◌, map, refl, sym, ap, ◌∙◌, subst, inl, inr}
 use Rattle.std.specs.Prelude.{if◌then◌else◌, is_some, option_map, slice_get}
-use Rattle.std.specs.List.{list_all, list_any, flat_map}
+use Rattle.std.specs.List.{list_all}
 use Rattle.swc_tree_marks.specs.declared.ident.Ident.{Ident}
 use Rattle.swc_tree_node.specs.declared.kind.Kind.{Kind}
 use Rattle.swc_tree_node.specs.declared.kind.Kind.TheVariants as kind
@@ -12,7 +12,7 @@ use Rattle.swc_tree_node.specs.declared.slot.Content.TheVariants as content
 use Rattle.swc_tree_node.specs.declared.slot.Slot.{Slot}
 use Rattle.swc_tree_node.specs.declared.slot.Slot.TheVariants as slot
 use Rattle.swc_tree_node.specs.declared.node.Node.{Node, Absent, Flag, Word, Text, Span, List as Many, Identifier, Tree, out-Node, roll-Node, roll-out-Node}
-use Rattle.swc_tree_node.specs.declared.node.Node.TheVariants.{outs-Absent, outs-Flag, outs-Word, outs-Text, outs-Span, outs-List, outs-Identifier, outs-Tree, rolls-Tree}
+use Rattle.swc_tree_node.specs.declared.node.Node.TheVariants.{outs-Absent, outs-Flag, outs-Word, outs-Text, outs-Span, outs-Identifier, outs-Tree, rolls-Tree}
 use Rattle.swc_tree_node.specs.declared.node.Node.TheOpen.{Node-F}
 use Rattle.swc_tree_node.specs.Table.{fields_of, is_identifier, slots_of}
 use Rattle.swc_tree_node.specs.Fits.{AllFit, belongs, FieldsFit, Fits, single}
@@ -27,12 +27,12 @@ use Rattle.swc_tree_grammar.proofs.Places.{stands}
 use Rattle.swc_base_rename_substitution.specs.declared.place.Place.{Place}
 use Rattle.swc_base_rename_substitution.specs.declared.place.Place.TheVariants as place
 use Rattle.swc_base_rename_substitution.specs.Places.{is_name, places, within}
-use Rattle.swc_base_rename_substitution.specs.Identifiers.{Changes, changed, default_in, id_of, identifier_at, identifier_in, identifier_to, kept_in, kept_name, with_id, with_other, writes_out, written_out, written_out_if}
+use Rattle.swc_base_rename_substitution.specs.Identifiers.{Changes, changed, default_in, id_of, identifier_at, identifier_in, identifier_to, kept_in, with_id, with_other, writes_out, written_out, written_out_if}
 use Rattle.swc_base_rename_substitution.specs.Exports.{exported_ids, exported_in, exports_of, items_for, with_exports}
-use Rattle.swc_base_rename_substitution.specs.Substituted.{if_changed, renewed, substituted}
+use Rattle.swc_base_rename_substitution.specs.Substituted.{if_changed, substituted}
 use Rattle.swc_base_rename_substitution.specs.Walk.{each_substituted, items_substituted}
 use Rattle.swc_base_rename_substitution.proofs.Equations.{substituted-Absent, substituted-Flag, substituted-Word, substituted-Text, substituted-Span, substituted_identifier, substituted_list}
-use Rattle.swc_base_rename_laws.proofs.NormalFormPairs.{All, Alike, Becomes, Fields, Items, Spot, Trees, even_at, even_property, flag, flag_below, free, is_double, is_even, needed, part, spots, property, specifier}
+use Rattle.swc_base_rename_laws.proofs.NormalFormPairs.{All, Alike, Becomes, Fields, Spot, Trees, even_property, flag_below, is_double, needed, part, spots, property}
 use Rattle.swc_base_rename_laws.proofs.NormalFormSame.{within_is}
 use Rattle.swc_base_rename_laws.proofs.NormalFormViews.{weaken}
 use Rattle.swc_base_rename_laws.proofs.NormalFormTable.{Row, allowed, allowed_there, fair, fair_content, fair_row, fields, is_plain, left, no_object, place_of_row, plain_tree, plain_within, right, rows_fair, tree_is}
@@ -491,27 +491,37 @@ module _ (m : Changes) (declared : Node → List Id) where
       (
         λ s p b h n f a. to (needed s) (part b) _ _ _ (substituted-Flag m false p x) (Becomes.a_flag (needed s) (part b) x),
         λ h. to true property _ _ _ (substituted-Flag m false place.Shorthand x) (Becomes.a_flag true property x),
-      ), no_items (Flag x) _ (outs-Flag x) refl),
+      ),
+      no_items (Flag x) _ (outs-Flag x) refl,
+    ),
     λ x. (
       (
         λ s p b h n f a. to (needed s) (part b) _ _ _ (substituted-Word m false p x) (Becomes.a_word (needed s) (part b) x),
         λ h. to true property _ _ _ (substituted-Word m false place.Shorthand x) (Becomes.a_word true property x),
-      ), no_items (Word x) _ (outs-Word x) refl),
+      ),
+      no_items (Word x) _ (outs-Word x) refl,
+    ),
     λ x. (
       (
         λ s p b h n f a. to (needed s) (part b) _ _ _ (substituted-Text m false p x) (Becomes.a_text (needed s) (part b) x),
         λ h. to true property _ _ _ (substituted-Text m false place.Shorthand x) (Becomes.a_text true property x),
-      ), no_items (Text x) _ (outs-Text x) refl),
+      ),
+      no_items (Text x) _ (outs-Text x) refl,
+    ),
     λ x. (
       (
         λ s p b h n f a. to (needed s) (part b) _ _ _ (substituted-Span m false p x) (Becomes.a_span (needed s) (part b) x),
         λ h. to true property _ _ _ (substituted-Span m false place.Shorthand x) (Becomes.a_span true property x),
-      ), no_items (Span x) _ (outs-Span x) refl),
+      ),
+      no_items (Span x) _ (outs-Span x) refl,
+    ),
     λ k i. (
       (
         λ s p b h n f a. to (needed s) (part b) _ _ _ (substituted_identifier m false p k i) (name_by (needed s) p b k i (changed m p i) h n refl),
         λ h. to true property _ _ _ (substituted_identifier m false place.Shorthand k i) (short_by k i (m (id_of i)) refl),
-      ), no_items (Identifier k i) _ (outs-Identifier k i) refl),
+      ),
+      no_items (Identifier k i) _ (outs-Identifier k i) refl,
+    ),
   )
       (λ ts e. ((list_part ts (first_of ts e), λ h. absurd (cc (sym (fits-List ts props) ∙ h))), subst (Each One) (sym (all_kept ts)) (first_of ts e)))
       (λ k ts e. ((tree_part k ts e, tree_prop k ts e), no_items (Tree k ts) _ (outs-Tree k ts) refl)) t

@@ -1,5 +1,5 @@
 -- What is seen alike of a node and of one that is like it.
-use Rattle.std.proofs.Common.{◌≡◌, ◌⊎◌, ℕ, zero, suc, Bool, true, false, not, ◌&&◌, ◌||◌, Option, Some, None, List, [], ◌∷◌, ◌++◌, map, refl, sym, ap, ◌∙◌, subst, rules, inl, inr}
+use Rattle.std.proofs.Common.{◌≡◌, ℕ, zero, suc, Bool, true, false, ◌||◌, Some, List, [], ◌∷◌, ◌++◌, map, refl, sym, ap, ◌∙◌, subst, rules, inl, inr}
 use Rattle.std.specs.Prelude.{if◌then◌else◌, is_some, slice_get}
 use Rattle.std.specs.List.{flat_map, list_any}
 use Rattle.swc_tree_marks.specs.declared.ident.Ident.{Ident}
@@ -12,7 +12,7 @@ use Rattle.swc_tree_node.specs.declared.node.Node.TheVariants.{outs-Absent, outs
 use Rattle.swc_tree_node.specs.declared.node.Node.TheOpen.{Node-F}
 use Rattle.swc_tree_scoping.specs.Places.{field_role}
 use Rattle.swc_tree_scoping.specs.BoundNames.{Id, bound_ids, declared_ids, declared_in, id_of, in_part, in_parts, name_in, name_of, own_id}
-use Rattle.swc_tree_scoping.proofs.BoundNames.{bound-Absent, bound-Flag, bound-Word, bound-Text, bound-Span, bound-Identifier, bound-List, bound-Tree}
+use Rattle.swc_tree_scoping.proofs.BoundNames.{bound-Span, bound-Identifier, bound-List, bound-Tree}
 use Rattle.swc_tree_grammar.specs.Shapes.{items_in, items_of}
 use Rattle.swc_tree_grammar.specs.Levels.{is_absent, is_absent_in}
 use Rattle.swc_tree_grammar.specs.Blocks.{takes_else, takes_else_step}
@@ -80,7 +80,6 @@ module _ (m : Changes) where
   items_like b t u (Like.reexports _ a c ts us xs ys d e h l f j) = moved_all b _ [] _ [] (ap items_in (outs-Tree kind.NamedExport _)) (ap items_in (outs-Tree kind.NamedExport _)) (Likes.none b)
 
   -- ---- patterns, other names, items of a module
-
 
   pattern_name : (b : Bool) (k : Kind) (i j : Ident) → Alike m b i j → Like m b (pattern_in (Identifier k i) (Node-F.Identifier k i)) (pattern_in (Identifier k j) (Node-F.Identifier k j))
   pattern_name b kind.Ident i j a = Like.name b kind.BindingIdent i j a

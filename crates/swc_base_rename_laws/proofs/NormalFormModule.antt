@@ -1,5 +1,5 @@
 -- Modules stand beside what they become.
-use Rattle.std.proofs.Common.{◌≡◌, ◌⊎◌, ℕ, zero, suc, Bool, true, false, not, ◌&&◌, ◌||◌, IsTrue, Option, Some, None, List, [], ◌∷◌, ◌++◌, map, nat_eq, refl, sym, ap, ◌∙◌, subst, inl, inr}
+use Rattle.std.proofs.Common.{◌≡◌, ◌⊎◌, Bool, true, false, not, ◌&&◌, ◌||◌, IsTrue, Some, None, List, [], ◌∷◌, ◌++◌, nat_eq, refl, sym, ap, ◌∙◌, subst, inl, inr}
 use Rattle.std.specs.Prelude.{if◌then◌else◌, is_some}
 use Rattle.std.specs.Cmp.{unsigned_Decides}
 use Rattle.std.specs.Cmp.Lexicographic.{pointwise, pointwise_decides}
@@ -9,12 +9,11 @@ use Rattle.swc_tree_node.specs.declared.kind.Kind.{Kind}
 use Rattle.swc_tree_node.specs.declared.kind.Kind.TheVariants as kind
 use Rattle.swc_tree_node.specs.declared.kind.Class.{Class}
 use Rattle.swc_tree_node.specs.declared.kind.Class.TheVariants as class
-use Rattle.swc_tree_node.specs.declared.slot.Content.{Content}
 use Rattle.swc_tree_node.specs.declared.slot.Content.TheVariants as content
 use Rattle.swc_tree_node.specs.declared.slot.Slot.{Slot}
 use Rattle.swc_tree_node.specs.declared.slot.Slot.TheVariants as slot
-use Rattle.swc_tree_node.specs.declared.node.Node.{Node, Absent, Flag, Word, Text, Span, List as Many, Identifier, Tree, out-Node}
-use Rattle.swc_tree_node.specs.declared.node.Node.TheVariants.{outs-Absent, outs-Identifier, outs-Tree}
+use Rattle.swc_tree_node.specs.declared.node.Node.{Node, Absent, List as Many, Identifier, Tree, out-Node}
+use Rattle.swc_tree_node.specs.declared.node.Node.TheVariants.{outs-Absent, outs-Tree}
 use Rattle.swc_tree_node.specs.declared.node.Node.TheOpen.{Node-F}
 use Rattle.swc_tree_node.specs.Table.{is_identifier, slots_of}
 use Rattle.swc_tree_node.specs.Fits.{AllFit, belongs, FieldsFit, Fits}
@@ -32,9 +31,9 @@ use Rattle.swc_base_rename_substitution.specs.Exports.{declaration_in, distinct,
 use Rattle.swc_base_rename_substitution.specs.Substituted.{if_changed, substituted}
 use Rattle.swc_base_rename_substitution.specs.Walk.{items_substituted}
 use Rattle.swc_base_rename_substitution.proofs.Equations.{substituted-Absent, substituted_identifier, substituted_list}
-use Rattle.swc_base_rename_laws.proofs.NormalFormPairs.{All, Alike, Becomes, Fields, Items, Spot, Trees, is_double, is_even, part, spots, property, specifier}
-use Rattle.swc_base_rename_laws.proofs.NormalFormTable.{allowed, fair, fields, plain_tree, tree_is}
-use Rattle.swc_base_rename_laws.proofs.NormalFormFits.{Given, Named, One, Whole, absent_or, all_begin, begins, double_by, fields_at, first_of, given, item_alone, item_begins, name_there, plain_one, span_at, to, tree_of, unexported}
+use Rattle.swc_base_rename_laws.proofs.NormalFormPairs.{All, Becomes, Fields, Items, Spot, Trees, part, spots, specifier}
+use Rattle.swc_base_rename_laws.proofs.NormalFormTable.{allowed, fields, plain_tree, tree_is}
+use Rattle.swc_base_rename_laws.proofs.NormalFormFits.{Given, Named, One, Whole, absent_or, all_begin, begins, double_by, fields_at, first_of, given, item_alone, item_begins, name_there, plain_one, span_at, to, tree_of}
 
 -- ---- names that change, each once
 

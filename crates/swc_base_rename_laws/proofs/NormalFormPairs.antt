@@ -1,6 +1,6 @@
 -- A tree beside what it becomes where names are given anew, as the two stay beside one another while pairs of
 -- parentheses go and what is short is written out.
-use Rattle.std.proofs.Common.{◌≡◌, ◌⊎◌, ℕ, Bool, true, false, not, Option, Some, None, List, [], ◌∷◌, map}
+use Rattle.std.proofs.Common.{◌≡◌, ◌⊎◌, ℕ, Bool, true, false, not, List, [], ◌∷◌, map}
 use Rattle.std.specs.Prelude.{is_some}
 use Rattle.std.specs.List.{list_any}
 use Rattle.swc_tree_marks.specs.declared.span.Span.{Span as Range}

@@ -1,28 +1,22 @@
 -- What is beside one another is alike when what is short is written out.
-use Rattle.std.proofs.Common.{◌≡◌, ◌⊎◌, ℕ, zero, suc, Bool, true, false, not, ◌&&◌, Option, Some, None, List, [], ◌∷◌, ◌++◌, map, codes, nat_eq, refl, sym, ap, ◌∙◌, subst, rules, inl, inr}
-use Rattle.std.specs.Prelude.{if◌then◌else◌, is_some}
+use Rattle.std.proofs.Common.{◌≡◌, ℕ, Bool, true, false, List, [], ◌∷◌, map, codes, nat_eq, refl, sym, ap, ◌∙◌, subst, rules, inl, inr}
+use Rattle.std.specs.Prelude.{if◌then◌else◌}
 use Rattle.std.specs.Cmp.Lexicographic.{pointwise}
-use Rattle.std.specs.List.{filter, flat_map, list_any}
 use Rattle.swc_tree_marks.specs.declared.span.Span.{Span as Range}
 use Rattle.swc_tree_marks.specs.declared.ident.Ident.{Ident}
 use Rattle.swc_tree_node.specs.declared.kind.Kind.{Kind}
 use Rattle.swc_tree_node.specs.declared.kind.Kind.TheVariants as kind
 use Rattle.swc_tree_node.specs.declared.kind.Word.{Word as Word'}
 use Rattle.swc_tree_node.specs.declared.node.Node.{Node, Absent, Flag, Word, Text, Span, List as Many, Identifier, Tree, out-Node, roll-Node, out-roll-Node, the_lemmas}
-use Rattle.swc_tree_node.specs.declared.node.Node.TheVariants.{outs-Absent, outs-Flag, outs-Word, outs-Text, outs-Span, outs-List, outs-Identifier, outs-Tree, rolls-Tree}
+use Rattle.swc_tree_node.specs.declared.node.Node.TheVariants.{outs-Identifier, rolls-Tree}
 use Rattle.swc_tree_node.specs.declared.node.Node.TheOpen.{Node-F}
-use Rattle.swc_tree_scoping.specs.BoundNames.{Id, declared_ids}
 use Rattle.swc_tree_scoping.specs.Shorthands.{computed_key, key_of, shorthand_key}
 use Rattle.swc_tree_grammar.specs.Shapes.{items_of}
-use Rattle.swc_tree_grammar.specs.Levels.{is_absent, is_absent_in}
-use Rattle.swc_tree_grammar.specs.Normal.{again, again_in, as_pattern, each_once, export_list, exported_as_itself, made, opened, pattern_property_in, plain_name, property as to_property, property_in, same_id, specifier as to_specifier, specifier_in, split, split_in, with_default, written_out, written_step}
+use Rattle.swc_tree_grammar.specs.Normal.{property as to_property, property_in, specifier as to_specifier, specifier_in, written_out, written_step}
 use Rattle.swc_tree_grammar.proofs.Items.{items_of_list}
-use Rattle.swc_base_rename_substitution.specs.Names.{same_id as same_ids}
-use Rattle.swc_base_rename_substitution.specs.Identifiers.{Changes, kept_name}
-use Rattle.swc_base_rename_substitution.specs.Exports as exported
-use Rattle.swc_base_rename_substitution.specs.Exports.{distinct, nowhere, specifier_to, without}
-use Rattle.swc_base_rename_laws.proofs.NormalFormPairs.{All, Alike, Becomes, Fields, Items, Like, LikeFields, Likes, Spot, Trees, even_at, even_property, even_specifier, flag, flags, free, is_double, is_even, is_left, part, spots, property, specifier}
-use Rattle.swc_base_rename_laws.proofs.NormalFormLike.{absent_same, again_like, declared_kept, items_like, moved, moved_all, opened_like, pattern_like, patterns_like, split_alone}
+use Rattle.swc_base_rename_substitution.specs.Identifiers.{Changes}
+use Rattle.swc_base_rename_laws.proofs.NormalFormPairs.{Alike, Like, LikeFields, Spot, even_at, flag, flags, free, part, property, specifier}
+use Rattle.swc_base_rename_laws.proofs.NormalFormLike.{items_like, moved, opened_like, pattern_like, patterns_like}
 
 -- ---- leaves
 
@@ -147,7 +141,6 @@ module _ (m : Changes) where
       (Like.tree true kind.KeyValueProp _ _ refl (LikeFields.next false _ _ _ _ _ (shorthand_like false i i refl) (LikeFields.next true _ _ _ _ _ (Like.name true k i j a) LikeFields.end)))
 
   -- ---- rows
-
 
   if_row : (b : Bool) (ts us : List Node) → LikeFields m (flags b kind.IfStmt) ts us → L b (written_step (Node-F.Tree kind.IfStmt ts)) (written_step (Node-F.Tree kind.IfStmt us))
   if_row b ts us (LikeFields.next _ _ a0 a1 _ _ a (LikeFields.next _ _ b0 b1 _ _ t (LikeFields.next _ _ c0 c1 _ _ c (LikeFields.next _ _ d0 d1 _ _ d LikeFields.end)))) =

@@ -1,15 +1,13 @@
 -- What is like a tree is the same but for names.
-use Rattle.std.proofs.Common.{◌≡◌, ◌⊎◌, ℕ, zero, suc, Bool, true, false, not, ◌&&◌, ◌||◌, ◌==◌, IsTrue, Option, Some, None, List, [], ◌∷◌, map, refl, sym, ap, ◌∙◌, inl, inr, nat_eq}
+use Rattle.std.proofs.Common.{◌≡◌, ℕ, zero, suc, Bool, true, false, not, ◌&&◌, ◌||◌, ◌==◌, IsTrue, Some, List, [], ◌∷◌, map, refl, sym, ap, ◌∙◌, inl, inr, nat_eq}
 use Rattle.std.specs.Prelude.{if◌then◌else◌, is_some, option_map, slice_get, unwrap_or}
 use Rattle.std.specs.List.{list_all, list_any}
 use Rattle.std.specs.Cmp.{unsigned_Decides}
 use Rattle.std.specs.Cmp.Lexicographic.{pointwise}
 use Rattle.std.proofs.lemmas.Cmp.{nat_list_eq_equiv}
-use Rattle.swc_tree_marks.specs.declared.span.Span.{Span as Range}
 use Rattle.swc_tree_marks.specs.declared.ident.Ident.{Ident}
 use Rattle.swc_tree_node.specs.declared.kind.Kind.{Kind}
 use Rattle.swc_tree_node.specs.declared.kind.Kind.TheVariants as kind
-use Rattle.swc_tree_node.specs.declared.kind.Word.{Word as Word'}
 use Rattle.swc_tree_node.specs.declared.slot.Slot.{Slot}
 use Rattle.swc_tree_node.specs.declared.slot.Role.{Role}
 use Rattle.swc_tree_node.specs.declared.slot.Role.TheVariants as role
@@ -18,9 +16,8 @@ use Rattle.swc_tree_node.specs.declared.node.Node.TheVariants.{outs-Absent, outs
 use Rattle.swc_tree_node.specs.declared.node.Node.TheOpen.{Node-F}
 use Rattle.swc_tree_node.specs.Table.{fields_of, kind_number, word_number}
 use Rattle.swc_tree_scoping.specs.declared.places.Place.{Place as ScopingPlace}
-use Rattle.swc_tree_scoping.specs.declared.places.Standing.{Standing}
 use Rattle.swc_tree_scoping.specs.declared.places.Standing.TheVariants as standing
-use Rattle.swc_tree_scoping.specs.Places.{absent_in, children_in, field_role, place_in, place_below}
+use Rattle.swc_tree_scoping.specs.Places.{absent_in, children_in, field_role, place_in}
 use Rattle.swc_tree_scoping.specs.Folds.{each_in, fold_in_place}
 use Rattle.swc_tree_scoping.proofs.Under.{fold_in_place_out}
 use Rattle.swc_tree_grammar.specs.Normal.{same_id}

@@ -1,8 +1,5 @@
 -- The normal form of a program stays but for the names that are given anew.
-use Rattle.std.proofs.Common.{◌≡◌, ◌⊎◌, ℕ, Bool, true, false, not, ◌&&◌, IsTrue, List, [], ◌∷◌, map, refl, sym, ap, ◌∙◌, subst, inl, inr}
-use Rattle.std.specs.Prelude.{is_some}
-use Rattle.std.specs.List.{list_any}
-use Rattle.swc_tree_marks.specs.declared.ident.Ident.{Ident}
+use Rattle.std.proofs.Common.{◌≡◌, Bool, true, false, ◌&&◌, IsTrue, List, [], ◌∷◌, map, refl, sym, ◌∙◌, subst, inl, inr}
 use Rattle.swc_tree_node.specs.declared.kind.Kind.{Kind}
 use Rattle.swc_tree_node.specs.declared.kind.Kind.TheVariants as kind
 use Rattle.swc_tree_node.specs.declared.kind.Class.TheVariants as class
@@ -13,15 +10,14 @@ use Rattle.swc_tree_node.specs.Table.{slots_of}
 use Rattle.swc_tree_node.specs.Fits.{AllFit, belongs, FieldsFit, Fits}
 use Rattle.swc_tree_scoping.specs.Places.{program_place}
 use Rattle.swc_tree_scoping.specs.BoundNames.{Id, declared_ids}
-use Rattle.swc_tree_grammar.specs.Normal.{normal_form, same_id, written_out}
-use Rattle.swc_tree_grammar.specs.Same.{same_tree}
+use Rattle.swc_tree_grammar.specs.Normal.{normal_form, written_out}
 use Rattle.swc_tree_grammar.specs.Stripped.{stripped}
-use Rattle.swc_tree_grammar.specs.Writable.{Round, all_sound, is_writable, strictly}
+use Rattle.swc_tree_grammar.specs.Writable.{Round, all_sound, strictly}
 use Rattle.swc_tree_grammar.proofs.Induction.{Each}
 use Rattle.swc_tree_grammar.proofs.Items.{listed}
 use Rattle.swc_base_rename_substitution.specs.declared.place.Place.TheVariants as place
-use Rattle.swc_base_rename_substitution.specs.Identifiers.{Changes, id_of}
-use Rattle.swc_base_rename_substitution.specs.Substituted.{Substituted, substituted}
+use Rattle.swc_base_rename_substitution.specs.Identifiers.{Changes}
+use Rattle.swc_base_rename_substitution.specs.Substituted.{substituted}
 use Rattle.swc_base_rename_laws.specs.Laws.{NormalFormStays}
 use Rattle.swc_base_rename_laws.proofs.NormalFormPairs.{Becomes, Like, part}
 use Rattle.swc_base_rename_laws.proofs.NormalFormSame.{same_like}

@@ -1,24 +1,24 @@
 -- What is beside one another is so when pairs of parentheses, nested sequences and idle expressions go.
-use Rattle.std.proofs.Common.{◌≡◌, ℕ, Bool, true, false, not, ◌&&◌, Option, Some, None, IsTrue, List, [], ◌∷◌, ◌++◌, map, take, refl, sym, ap, ◌∙◌, subst, rules}
+use Rattle.std.proofs.Common.{◌≡◌, ℕ, Bool, true, false, Option, Some, None, IsTrue, List, [], ◌∷◌, map, refl, sym, ap, ◌∙◌, subst, rules}
 use Rattle.std.specs.Prelude.{if◌then◌else◌, is_some}
-use Rattle.std.specs.List.{filter, flat_map, list_all, list_any}
+use Rattle.std.specs.List.{filter, flat_map, list_any}
 use Rattle.swc_tree_marks.specs.declared.span.Span.{Span as Range}
 use Rattle.swc_tree_marks.specs.declared.ident.Ident.{Ident}
 use Rattle.swc_tree_node.specs.declared.kind.Kind.{Kind}
 use Rattle.swc_tree_node.specs.declared.kind.Kind.TheVariants as kind
 use Rattle.swc_tree_node.specs.declared.kind.Word.{Word as Word'}
-use Rattle.swc_tree_node.specs.declared.node.Node.{Node, Absent, Flag, Word, Text, Span, List as Many, Identifier, Tree, out-Node, the_lemmas}
+use Rattle.swc_tree_node.specs.declared.node.Node.{Node, Absent, Flag, Word, Text, Span, List as Many, Identifier, Tree, the_lemmas}
 use Rattle.swc_tree_node.specs.declared.node.Node.TheVariants.{outs-Flag, outs-Word, outs-Text, outs-Span, outs-Identifier, outs-Tree, rolls-Tree}
 use Rattle.swc_tree_node.specs.declared.node.Node.TheOpen.{Node-F}
 use Rattle.swc_tree_scoping.specs.BoundNames.{Id}
 use Rattle.swc_tree_scoping.specs.Shorthands.{computed_key, key_of, shorthand_key}
 use Rattle.swc_tree_grammar.specs.Shapes.{items_of}
-use Rattle.swc_tree_grammar.specs.Stripped.{busy, effects, is_member, is_void, parts, parts_in, sequence, settled, strip_step, stripped, target}
+use Rattle.swc_tree_grammar.specs.Stripped.{effects, is_member, is_void, parts, parts_in, sequence, settled, strip_step, stripped, target}
 use Rattle.swc_tree_grammar.proofs.Items.{items_of_list}
-use Rattle.swc_tree_grammar.proofs.Stripped.{effects_of_flag, effects_of_identifier, effects_of_list, effects_of_other, effects_of_sequence, effects_of_span, effects_of_text, effects_of_tree, effects_of_void, effects_of_word, is_other, stripped_of_list, stripped_of_tree, stripped_other}
+use Rattle.swc_tree_grammar.proofs.Stripped.{effects_of_flag, effects_of_identifier, effects_of_list, effects_of_other, effects_of_sequence, effects_of_span, effects_of_text, effects_of_void, effects_of_word, is_other, stripped_of_list, stripped_of_tree, stripped_other}
 use Rattle.swc_base_rename_substitution.specs.Identifiers.{Changes, kept_name}
-use Rattle.swc_base_rename_substitution.specs.Exports.{distinct, export_list, made, nowhere, specifier as specifier_for, specifier_to}
-use Rattle.swc_base_rename_laws.proofs.NormalFormPairs.{All, Alike, Becomes, Fields, Items, Spot, Trees, even_at, flag, is_double, is_even, part, spots, property, specifier}
+use Rattle.swc_base_rename_substitution.specs.Exports.{distinct, export_list, nowhere, specifier as specifier_for, specifier_to}
+use Rattle.swc_base_rename_laws.proofs.NormalFormPairs.{All, Becomes, Fields, Items, Spot, Trees, even_at, flag, is_double, is_even, part, spots, property, specifier}
 use Rattle.swc_base_rename_laws.proofs.NormalFormViews.{all_append, all_busy, all_end, all_filter, all_front, alone, effects_bare, is_bare, items_same, member_same, moved, moved_all, not_sequence, kinds_same, parts_single, target_same, void_same, weaken}
 
 -- ---- leaves

@@ -1,13 +1,12 @@
 -- What the table says of places that hold names, and of those that take pairs of parentheses.
-use Rattle.std.proofs.Common.{◌≡◌, ◌⊎◌, ℕ, zero, suc, Bool, true, false, not, ◌&&◌, ◌||◌, ◌==◌, IsTrue, Option, Some, None, List, [], ◌∷◌, ◌++◌, map, refl, sym, ap, ◌∙◌, subst, inl, inr, arith}
+use Rattle.std.proofs.Common.{◌≡◌, ℕ, zero, suc, Bool, true, false, not, ◌&&◌, ◌||◌, ◌==◌, IsTrue, Option, Some, None, List, [], ◌∷◌, refl, sym, ap, ◌∙◌, arith}
 use Rattle.std.proofs.lemmas.Bool.{eqb-true}
-use Rattle.std.specs.Prelude.{if◌then◌else◌, is_some, option_map, slice_get, unwrap_or}
+use Rattle.std.specs.Prelude.{if◌then◌else◌, option_map, slice_get, unwrap_or}
 use Rattle.std.specs.List.{list_all, list_any}
 use Rattle.swc_tree_marks.specs.declared.ident.Ident.{Ident}
 use Rattle.swc_tree_node.specs.declared.kind.Kind.{Kind}
 use Rattle.swc_tree_node.specs.declared.kind.Kind.TheVariants as kind
 use Rattle.swc_tree_node.specs.declared.kind.Class.{Class}
-use Rattle.swc_tree_node.specs.declared.kind.Class.TheVariants as class
 use Rattle.swc_tree_node.specs.declared.slot.Content.{Content}
 use Rattle.swc_tree_node.specs.declared.slot.Content.TheVariants as content
 use Rattle.swc_tree_node.specs.declared.slot.Slot.{Slot}
@@ -27,8 +26,8 @@ use Rattle.swc_base_rename_substitution.specs.Substituted.{if_changed, keeps_nam
 use Rattle.swc_base_rename_substitution.specs.Walk.{each_substituted}
 use Rattle.swc_base_rename_substitution.proofs.Equations.{substituted_tree}
 use Rattle.swc_base_rename_substitution.proofs.NamesOfScoping.{kind_is}
-use Rattle.swc_base_rename_laws.proofs.NormalFormPairs.{flag, flag_below, is_even, even_at, even_property, part, property, specifier, Spot}
-use Rattle.swc_base_rename_laws.proofs.NormalFormSame.{below_is, not_local, role_at}
+use Rattle.swc_base_rename_laws.proofs.NormalFormPairs.{flag_below}
+use Rattle.swc_base_rename_laws.proofs.NormalFormSame.{below_is, not_local}
 
 -- ---- kinds
 
@@ -163,9 +162,10 @@ pub place_of_row : (p : Place) (b : Bool) (k : Kind) (ts : List Node) (i : ℕ) 
     → (is_plain (places false p k ts i) ≡ true) × (is_name (places false p k ts i) ≡ flag_below b f.2)
 place_of_row p b k ts i f n a o e =
     let role : field_role k i ≡ f.2 = role_of_row k i f e in
-    let not_there : not_local (field_role k i) ≡ true = ap not_local role ∙ right (fair (flag_below b f.2) f.1) _ (row_at (fair_row b) (fields_of k) i f (rows_fair b k a) e) in
-    (kind_plain k _ o (plain_role p (has_source ts) (field_role k i)),
-    kind_is false k (by_role p (has_source ts) (field_role k i)) ∙ below_is p (has_source ts) (field_role k i) not_there ∙ (λ x. flag_below (n x) (role x)))
+    let not_there : not_local (field_role k i) ≡ true = ap not_local role ∙ right (fair (flag_below b f.2) f.1) _ (row_at (fair_row b) (fields_of k) i f (rows_fair b k a) e) in (
+      kind_plain k _ o (plain_role p (has_source ts) (field_role k i)),
+      kind_is false k (by_role p (has_source ts) (field_role k i)) ∙ below_is p (has_source ts) (field_role k i) not_there ∙ (λ x. flag_below (n x) (role x)),
+    )
 
 -- ---- trees
 

@@ -1,21 +1,19 @@
 -- What is seen alike of a tree and of what it becomes.
-use Rattle.std.proofs.Common.{◌≡◌, ℕ, Bool, true, false, not, ◌&&◌, Some, None, List, [], ◌∷◌, ◌++◌, map, take, refl, sym, ap, ◌∙◌, subst, rules}
-use Rattle.std.specs.Prelude.{if◌then◌else◌, is_some}
-use Rattle.std.specs.List.{filter, flat_map, list_all}
-use Rattle.swc_tree_marks.specs.declared.span.Span.{Span as Range}
+use Rattle.std.proofs.Common.{◌≡◌, Bool, true, false, not, ◌&&◌, List, [], ◌∷◌, ◌++◌, take, refl, sym, ap, ◌∙◌, subst}
+use Rattle.std.specs.Prelude.{if◌then◌else◌}
+use Rattle.std.specs.List.{filter, list_all}
 use Rattle.swc_tree_marks.specs.declared.ident.Ident.{Ident}
 use Rattle.swc_tree_node.specs.declared.kind.Kind.{Kind}
 use Rattle.swc_tree_node.specs.declared.kind.Kind.TheVariants as kind
-use Rattle.swc_tree_node.specs.declared.kind.Word.{Word as Word'}
 use Rattle.swc_tree_node.specs.declared.node.Node.{Node, Absent, Flag, Word, Text, Span, List as Many, Identifier, Tree, out-Node}
 use Rattle.swc_tree_node.specs.declared.node.Node.TheVariants.{outs-Absent, outs-Flag, outs-Word, outs-Text, outs-Span, outs-List, outs-Identifier, outs-Tree}
 use Rattle.swc_tree_node.specs.declared.node.Node.TheOpen.{Node-F}
 use Rattle.swc_tree_scoping.specs.BoundNames.{Id}
 use Rattle.swc_tree_grammar.specs.Shapes.{items_in, items_of}
-use Rattle.swc_tree_grammar.specs.Stripped.{busy, effects, effects_in, end as last_of, front, is_empty_in, is_idle, is_idle_in, is_idle_kind, is_member, is_void, is_void_in, parts, parts_in, sequence, settled, target, target_in}
-use Rattle.swc_tree_grammar.proofs.Stripped.{effects_of_flag, effects_of_identifier, effects_of_other, effects_of_sequence, effects_of_list, effects_of_span, effects_of_text, effects_of_tree, effects_of_void, effects_of_word}
+use Rattle.swc_tree_grammar.specs.Stripped.{busy, effects, end as last_of, front, is_empty_in, is_idle, is_idle_in, is_idle_kind, is_member, is_void, is_void_in, parts, parts_in, target, target_in}
+use Rattle.swc_tree_grammar.proofs.Stripped.{effects_of_tree}
 use Rattle.swc_base_rename_substitution.specs.Identifiers.{Changes}
-use Rattle.swc_base_rename_laws.proofs.NormalFormPairs.{All, Alike, Becomes, Fields, Spot, Trees, even_at, flag, is_even, part, spots, property, specifier}
+use Rattle.swc_base_rename_laws.proofs.NormalFormPairs.{All, Alike, Becomes, Spot, Trees, part}
 
 -- ---- kinds that are no sequence, and drop no value
 

@@ -1,8 +1,8 @@
 -- What is beside one another is alike when what is short is written out: the whole.
-use Rattle.std.proofs.Common.{◌≡◌, ◌⊎◌, ℕ, zero, suc, Bool, true, false, not, ◌&&◌, Option, Some, None, List, [], ◌∷◌, ◌++◌, map, codes, nat_eq, refl, sym, ap, ◌∙◌, subst, rules, inl, inr}
+use Rattle.std.proofs.Common.{◌≡◌, ℕ, Bool, true, false, not, ◌&&◌, Option, Some, None, List, [], ◌∷◌, ◌++◌, map, nat_eq, refl, sym, ap, ◌∙◌, subst, inl, inr}
 use Rattle.std.specs.Prelude.{if◌then◌else◌, is_some}
 use Rattle.std.specs.Cmp.Lexicographic.{pointwise}
-use Rattle.std.specs.List.{filter, flat_map, list_any}
+use Rattle.std.specs.List.{filter, flat_map}
 use Rattle.std.proofs.lemmas.Cmp.{nat_list_eq_equiv}
 use Rattle.swc_tree_marks.specs.declared.span.Span.{Span as Range}
 use Rattle.swc_tree_marks.specs.declared.ident.Ident.{Ident}
@@ -10,8 +10,8 @@ use Rattle.swc_tree_node.specs.declared.kind.Kind.{Kind}
 use Rattle.swc_tree_node.specs.declared.kind.Kind.TheVariants as kind
 use Rattle.swc_tree_node.specs.declared.slot.Slot.{Slot}
 use Rattle.swc_tree_node.specs.declared.slot.Role.{Role}
-use Rattle.swc_tree_node.specs.declared.node.Node.{Node, Absent, Flag, Word, Text, Span, List as Many, Identifier, Tree, out-Node, roll-Node, out-roll-Node, the_lemmas}
-use Rattle.swc_tree_node.specs.declared.node.Node.TheVariants.{outs-Absent, outs-Flag, outs-Word, outs-Text, outs-Span, outs-List, outs-Identifier, outs-Tree, rolls-Tree}
+use Rattle.swc_tree_node.specs.declared.node.Node.{Node, Absent, Flag, Word, Text, Span, List as Many, Identifier, Tree, out-Node, roll-Node, out-roll-Node}
+use Rattle.swc_tree_node.specs.declared.node.Node.TheVariants.{outs-Absent, outs-Flag, outs-Word, outs-Text, outs-Span, outs-Identifier, outs-Tree, rolls-Tree}
 use Rattle.swc_tree_node.specs.declared.node.Node.TheOpen.{Node-F}
 use Rattle.swc_tree_node.specs.Table.{fields_of}
 use Rattle.swc_tree_scoping.specs.BoundNames.{Id, declared_ids}
@@ -24,8 +24,8 @@ use Rattle.swc_base_rename_substitution.specs.Names.{same_id as same_ids}
 use Rattle.swc_base_rename_substitution.specs.Identifiers.{Changes, kept_name}
 use Rattle.swc_base_rename_substitution.specs.Exports as exported
 use Rattle.swc_base_rename_substitution.specs.Exports.{distinct, nowhere, specifier_to, without}
-use Rattle.swc_base_rename_laws.proofs.NormalFormPairs.{All, Alike, Becomes, Fields, Items, Like, LikeFields, Likes, Spot, Trees, even_at, even_property, even_specifier, flag, flag_below, flags, free, is_double, is_even, is_left, needed, part, spots, property, specifier}
-use Rattle.swc_base_rename_laws.proofs.NormalFormLike.{absent_same, again_like, declared_kept, items_like, moved, moved_all, moved_fields, split_alone}
+use Rattle.swc_base_rename_laws.proofs.NormalFormPairs.{All, Alike, Becomes, Fields, Items, Like, LikeFields, Likes, Spot, Trees, flag, flag_below, flags, is_double, is_even, is_left, needed, part, spots, property, specifier}
+use Rattle.swc_base_rename_laws.proofs.NormalFormLike.{absent_same, again_like, declared_kept, moved, moved_all, split_alone}
 use Rattle.swc_base_rename_laws.proofs.NormalFormRows.{all_finished, even_row, finished, is_tame, key_like, name_done, out-Absent, out-Flag, out-Word, out-Text, out-Span, out-Identifier, out-List, out-Tree, out_items, out_key, out_shorthand, rolled, setter_row, short_done, tame}
 
 -- ---- what is there stays there

@@ -1,6 +1,5 @@
 -- Laws of giving names anew that are not proved. They were tried on random trees, and none was found that breaks one.
-use Rattle.std.specs.Prelude.{◌≡◌, ℕ, Bool, true, false, IsTrue, Some, List, is_some}
-use Rattle.std.specs.List.{list_any}
+use Rattle.std.specs.Prelude.{◌≡◌, ℕ, Bool, true, false, IsTrue, Some, List}
 use Rattle.swc_tree_marks.specs.declared.ident.Ident.{Ident}
 use Rattle.swc_tree_node.specs.declared.kind.Class.TheVariants as class
 use Rattle.swc_tree_node.specs.declared.slot.Content.TheVariants as content
@@ -8,8 +7,6 @@ use Rattle.swc_tree_node.specs.declared.slot.Slot.TheVariants as slot
 use Rattle.swc_tree_node.specs.declared.node.Node.{Node}
 use Rattle.swc_tree_node.specs.Fits.{Fits}
 use Rattle.swc_tree_grammar.specs.Writable.{is_bindable, is_writable}
-use Rattle.swc_tree_grammar.specs.Normal.{normal_form, same_id}
-use Rattle.swc_tree_grammar.specs.Same.{same_tree}
 use Rattle.swc_base_rename_substitution.specs.Identifiers.{Changes, id_of}
 use Rattle.swc_base_rename_substitution.specs.Substituted.{Substituted}
 use Rattle.swc_base_rename_laws.specs.Texts.{outer_texts}
