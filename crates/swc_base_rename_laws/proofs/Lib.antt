@@ -1,3 +1,16 @@
+pub mod NormalFormStays
+pub mod NormalFormDeclared
+pub mod NormalFormSound
+pub mod NormalFormModule
+pub mod NormalFormFits
+pub mod NormalFormTable
+pub mod NormalFormWritten
+pub mod NormalFormRows
+pub mod NormalFormLike
+pub mod NormalFormStripped
+pub mod NormalFormViews
+pub mod NormalFormSame
+pub mod NormalFormPairs
 pub mod Unchanged
 pub mod OuterTexts
 pub mod OuterTextsForms

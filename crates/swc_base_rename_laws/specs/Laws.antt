@@ -1,5 +1,6 @@
 -- What giving names anew keeps.
-use Rattle.std.specs.Prelude.{◌≡◌, ◌⊎◌, ℕ, Bool, true, false, IsTrue, Some, None, List}
+use Rattle.std.specs.Prelude.{◌≡◌, ◌⊎◌, ℕ, Bool, true, false, IsTrue, Some, None, List, is_some}
+use Rattle.std.specs.List.{list_any}
 use Rattle.std.specs.HashMap.{get}
 use Rattle.swc_tree_marks.specs.declared.ident.Ident.{Ident}
 use Rattle.swc_tree_node.specs.declared.kind.Class.TheVariants as class
@@ -9,6 +10,8 @@ use Rattle.swc_tree_node.specs.declared.slot.Slot.TheVariants as slot
 use Rattle.swc_tree_node.specs.declared.node.Node.{Node}
 use Rattle.swc_tree_node.specs.Fits.{Fits}
 use Rattle.swc_tree_grammar.specs.Writable.{is_bindable, is_writable}
+use Rattle.swc_tree_grammar.specs.Normal.{normal_form, same_id as same_identifier}
+use Rattle.swc_tree_grammar.specs.Same.{same_tree}
 use Rattle.swc_base_rename_substitution.specs.declared.names.Names.{Names}
 use Rattle.swc_base_rename_substitution.specs.declared.names.Names.TheVariants.{Texts, Ids}
 use Rattle.swc_base_rename_substitution.specs.Names.{Id, new_id, same_id}
@@ -49,3 +52,8 @@ GivesNames m = (i : Ident) (text context : List ℕ) → m (id_of i) ≡ Some (t
 -- a tree that fits some place, as each module and each script does, and can be written down still can
 abbrev pub WritableStays : Type 0
 WritableStays = (m : Changes) (place : Slot) (tree answer : Node) → GivesNames m → Fits tree place → IsTrue (is_writable tree) → Substituted m false tree answer → IsTrue (is_writable answer)
+
+-- ... and a writable program has the same normal form but for the names that change
+abbrev pub NormalFormStays : Type 0
+NormalFormStays = (m : Changes) (changing : List Ident) (tree answer : Node) → ((i : Ident) → IsTrue (is_some (m (id_of i))) → IsTrue (list_any (same_identifier i) changing))
+    → IsProgram tree → IsTrue (is_writable tree) → Substituted m false tree answer → IsTrue (same_tree changing (normal_form tree) (normal_form answer))

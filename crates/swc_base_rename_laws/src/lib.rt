@@ -3,7 +3,7 @@
 //! `specs/Laws.antt` states the laws. Each is the contract of a function that does nothing, so that it is proved.
 #![tactic(auto)]
 
-ghost use Rattle.swc_base_rename_laws.specs.Laws.{EmptyMapChangesNothing, KeptTextsChangeNothing, OuterTextsStay, WritableStays};
+ghost use Rattle.swc_base_rename_laws.specs.Laws.{EmptyMapChangesNothing, KeptTextsChangeNothing, NormalFormStays, OuterTextsStay, WritableStays};
 
 /// A map without names changes nothing.
 pub fn empty_map_changes_nothing()
@@ -23,4 +23,9 @@ pub fn outer_texts_stay()
 /// A tree that fits and can be written down still can, where each new text is an identifier's.
 pub fn writable_stays()
     ensures { WritableStays }
+{}
+
+/// A writable program has the same normal form but for the names that change.
+pub fn normal_form_stays()
+    ensures { NormalFormStays }
 {}

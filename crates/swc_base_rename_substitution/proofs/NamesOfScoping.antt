@@ -28,7 +28,7 @@ short : (b : Bool) → is_name (cond b place.ClassName place.Name) ≡ true
 short true = refl
 short false = refl
 
-kind_is : (keeps : Bool) (k : Kind) (p : Place) → is_name (in_kind keeps k p) ≡ is_name p
+pub kind_is : (keeps : Bool) (k : Kind) (p : Place) → is_name (in_kind keeps k p) ≡ is_name p
 kind_is keeps kind.ObjectLit place.Name = refl
 kind_is keeps kind.ObjectLit p = refl
 kind_is keeps kind.ExportDecl place.Other = refl
@@ -100,14 +100,14 @@ referred : (b : Bool) (r : Standing) → binds_or_refers r ≡ true → binds_or
 referred true r h = h
 referred false r h = refl
 
-part_is : (r : Standing) (o : Option Node) → binds_or_refers r ≡ binds_or_refers (part_standing r o)
+pub part_is : (r : Standing) (o : Option Node) → binds_or_refers r ≡ binds_or_refers (part_standing r o)
 part_is standing.Variable o = referred (is_identifier_expression o) standing.Variable refl
 part_is standing.Lexical o = referred (is_identifier_expression o) standing.Lexical refl
 part_is standing.Parameter o = referred (is_identifier_expression o) standing.Parameter refl
 part_is standing.CatchParameter o = referred (is_identifier_expression o) standing.CatchParameter refl
 part_is r o = refl
 
-role_is : (p : Place) (w : ScopingPlace) (k : Kind) (ts : List Node) (i : ℕ) (r : Role) → is_name p ≡ binds_or_refers w.standing
+pub role_is : (p : Place) (w : ScopingPlace) (k : Kind) (ts : List Node) (i : ℕ) (r : Role) → is_name p ≡ binds_or_refers w.standing
     → is_name (by_role p (has_source ts) r) ≡ binds_or_refers (standing_below w k ts i r)
 role_is p w k ts i role.Plain h = plain_is k i
 role_is p w k ts i role.Inherited h = within_is p ∙ h ∙ part_is w.standing (slice_get ts i)
