@@ -21,7 +21,8 @@ use Rattle.swc_tree_scoping.specs.Places.{absent_in, children_in, field_role, pl
 use Rattle.swc_tree_scoping.specs.Folds.{each_in, fold_in_place}
 use Rattle.swc_tree_scoping.proofs.Under.{fold_in_place_out}
 use Rattle.swc_tree_grammar.specs.Normal.{same_id}
-use Rattle.swc_tree_grammar.specs.Same.{each_same, is_name, same_flag, same_in, same_step}
+use Rattle.swc_tree_scoping.specs.Scopes.{is_name}
+use Rattle.swc_tree_grammar.specs.Same.{each_same, same_flag, same_in, same_step}
 use Rattle.swc_base_rename_substitution.specs.declared.place.Place.{Place}
 use Rattle.swc_base_rename_substitution.specs.declared.place.Place.TheVariants as place
 use Rattle.swc_base_rename_substitution.specs.Places as spot
