@@ -26,10 +26,10 @@ use Rattle.swc_tree_grammar_laws.proofs.Begins.{or_right}
 use Rattle.swc_tree_grammar_laws.proofs.Every.{every_tree, every_list}
 
 -- what stands below what fits, fits somewhere
-abbrev Somewhere : Node → Type 0
+abbrev pub Somewhere : Node → Type 0
 Somewhere t = (s : Slot) × Fits t s
 
-fields_fit : (ss : List Slot) (ts : List Node) → FieldsFit ss ts → Each Somewhere ts
+pub fields_fit : (ss : List Slot) (ts : List Node) → FieldsFit ss ts → Each Somewhere ts
 fields_fit [] [] f = tt
 fields_fit [] (t ∷ ts) f = absurd f
 fields_fit (s ∷ ss) [] f = absurd f
@@ -39,7 +39,7 @@ all_fit : (s : Slot) (ts : List Node) → AllFit s ts → Each Somewhere ts
 all_fit s [] f = tt
 all_fit s (t ∷ ts) f = ((s, f.0), all_fit s ts f.1)
 
-items_fit : (s : Slot) (ts : List Node) → IsTrue (list_fits (map fits ts) s) → Each Somewhere ts
+pub items_fit : (s : Slot) (ts : List Node) → IsTrue (list_fits (map fits ts) s) → Each Somewhere ts
 items_fit (slot.List c) ts f = all_fit (slot.One c) ts (all_open (slot.One c) ts f)
 items_fit (slot.OptionalList c) ts f = all_fit (slot.One c) ts (all_open (slot.One c) ts f)
 items_fit (slot.Holes c) ts f = all_fit (slot.Optional c) ts (all_open (slot.Optional c) ts f)
@@ -48,13 +48,13 @@ items_fit slot.Pair ts f = let texts : List Slot = slot.One content.Text ∷ slo
 items_fit (slot.One c) ts f = absurd (cc)
 items_fit (slot.Optional c) ts f = absurd (cc)
 
-fields_at : (k : Kind) (ts : List Node) (o : Option Content) → IsTrue (tree_fits k (map fits ts) o) → FieldsFit (slots_of k) ts
+pub fields_at : (k : Kind) (ts : List Node) (o : Option Content) → IsTrue (tree_fits k (map fits ts) o) → FieldsFit (slots_of k) ts
 fields_at k ts (Some (content.Node c)) h =
     fields_open (slots_of k) ts (both (belongs k c) (each_fits (slots_of k) (map fits ts)) (both (not (is_identifier k)) (belongs k c && each_fits (slots_of k) (map fits ts)) h).1).1
 fields_at k ts o h = absurd (cc)
 
 -- chains
-of_three : (P : List Node → Type 0) (x y z : Slot) → ((a b c : Node) → Fits c z → P (a ∷ b ∷ c ∷ [])) → (ts : List Node) → FieldsFit (x ∷ y ∷ z ∷ []) ts → P ts
+pub of_three : (P : List Node → Type 0) (x y z : Slot) → ((a b c : Node) → Fits c z → P (a ∷ b ∷ c ∷ [])) → (ts : List Node) → FieldsFit (x ∷ y ∷ z ∷ []) ts → P ts
 of_three P x y z p [] f = absurd f
 of_three P x y z p (a ∷ []) f = absurd f.1
 of_three P x y z p (a ∷ b ∷ []) f = absurd f.1.1
@@ -75,10 +75,10 @@ no_identifier k = refl
 abbrev a_base : Slot
 a_base = slot.One (content.Node class.OptChainBase)
 
-no : false ≡ true → ⊥
+pub no : false ≡ true → ⊥
 no h = cc
 
-base_is : (t : Node) → Fits t a_base → is_link t ≡ true
+pub base_is : (t : Node) → Fits t a_base → is_link t ≡ true
 base_is t = by_children (λ t. Fits t a_base → is_link t ≡ true)
     (λ h. absurd (no (sym (fits-Absent a_base) ∙ h)), λ x h. absurd (no (sym (fits-Flag x a_base) ∙ h)), λ w h. absurd (no (sym (fits-Word w a_base) ∙ h)), λ x h. absurd (no (sym (fits-Text x a_base) ∙ h)), λ x h. absurd (no (sym (fits-Span x a_base) ∙ h)), λ k i h. absurd (no (sym (no_identifier k) ∙ sym (fits-Identifier k i a_base) ∙ h)))
     (λ ts l h. absurd (no (sym (fits-List ts a_base) ∙ h)))

@@ -28,13 +28,13 @@ headed_tree k ts b = search (rules, the_lemmas)
 pub headed_list : (ts : List Node) (b : Bool) → headed (Many ts) b ≡ list_all (λ e. e.holds b) (map judged ts)
 headed_list ts b = search (rules, the_lemmas)
 
-abbrev heading : Places → Node → Pairing
+abbrev pub heading : Places → Node → Pairing
 heading p = fold-Node Pairing (in_step p)
 
-heading_tree : (p : Places) (k : Kind) (ts : List Node) (b : Bool) → heading p (Tree k ts) b ≡ in_step p (Node-F.Tree k (map (heading p) ts)) b
+pub heading_tree : (p : Places) (k : Kind) (ts : List Node) (b : Bool) → heading p (Tree k ts) b ≡ in_step p (Node-F.Tree k (map (heading p) ts)) b
 heading_tree p k ts b = search (rules, the_lemmas)
 
-heading_list : (p : Places) (ts : List Node) (b : Bool) → heading p (Many ts) b ≡ Many (map (λ f. f b) (map (heading p) ts))
+pub heading_list : (p : Places) (ts : List Node) (b : Bool) → heading p (Many ts) b ≡ Many (map (λ f. f b) (map (heading p) ts))
 heading_list p ts b = search (rules, the_lemmas)
 
 abbrev IsHeaded : Places → Node → Type 0

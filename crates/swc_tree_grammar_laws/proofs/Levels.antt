@@ -107,13 +107,13 @@ row p b kind.ExprStmt (s ∷ e ∷ []) h =
     levelled_tree kind.ExprStmt (s ∷ sequence_statement p e (out-Node e) ∷ []) b ∙ rw (q.0, f) refl
 row p b k ts h = settled_tree p b k ts h
 
-abbrev pairing : Places → Node → Pairing
+abbrev pub pairing : Places → Node → Pairing
 pairing p = fold-Node Pairing (level_step p)
 
-pairing_tree : (p : Places) (k : Kind) (ts : List Node) (b : Bool) → pairing p (Tree k ts) b ≡ level_step p (Node-F.Tree k (map (pairing p) ts)) b
+pub pairing_tree : (p : Places) (k : Kind) (ts : List Node) (b : Bool) → pairing p (Tree k ts) b ≡ level_step p (Node-F.Tree k (map (pairing p) ts)) b
 pairing_tree p k ts b = search (rules, the_lemmas)
 
-pairing_list : (p : Places) (ts : List Node) (b : Bool) → pairing p (Many ts) b ≡ Many (map alone (map (pairing p) ts))
+pub pairing_list : (p : Places) (ts : List Node) (b : Bool) → pairing p (Many ts) b ≡ Many (map alone (map (pairing p) ts))
 pairing_list p ts b = search (rules, the_lemmas)
 
 abbrev IsLevelled : Places → Node → Type 0

@@ -1,0 +1,13 @@
+pub mod Up
+pub mod Kept
+pub mod HeadsKept
+pub mod ElseKept
+pub mod FormedKept
+pub mod Formed
+pub mod SetsLevels
+pub mod SetsNames
+pub mod SetsRows
+pub mod SetsHeads
+pub mod SetsStarts
+pub mod Starts
+pub mod Answer

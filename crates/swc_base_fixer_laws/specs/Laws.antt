@@ -1,0 +1,18 @@
+-- Laws of the fixer's answer.
+use Rattle.std.specs.Prelude.{false}
+use Rattle.swc_tree_node.specs.declared.node.Node.{Node}
+use Rattle.swc_tree_node.specs.declared.slot.Slot.{Slot}
+use Rattle.swc_tree_node.specs.Fits.{Fits}
+use Rattle.swc_tree_grammar.specs.Blocks.{with_blocks}
+use Rattle.swc_tree_grammar.specs.Due.{Places, with_due_pairs}
+use Rattle.swc_tree_grammar.specs.Grammar.{FitsGrammar}
+use Rattle.swc_tree_grammar.specs.Writable.{Writable}
+use Rattle.swc_base_fixer_laws.specs.Sets.{Sets}
+
+-- the due pairs are pairs round expressions, and nothing else changes
+abbrev pub DuePairsArePairs : Type 0
+DuePairsArePairs = (place : Places) (t : Node) (s : Slot) → Fits t s → Sets false (with_blocks t) (with_due_pairs place (with_blocks t))
+
+-- the grammar derives the answer if it can be written down
+abbrev pub AnswerFits : Type 0
+AnswerFits = (place : Places) (t : Node) (s : Slot) → Fits t s → Writable (with_due_pairs place (with_blocks t)) → FitsGrammar (with_due_pairs place (with_blocks t))

@@ -1,0 +1,3 @@
+pub mod Formed
+pub mod Sets
+pub mod Laws
