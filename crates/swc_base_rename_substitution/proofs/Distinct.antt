@@ -1,11 +1,13 @@
 -- Ids, each once.
-use Rattle.std.proofs.Common.{◌≡◌, Bool, true, false, ◌&&◌, ◌||◌, List, [], ◌∷◌, ◌++◌, refl, sym, ap, ◌∙◌, append-nil}
-use Rattle.std.specs.Prelude.{nat_eq, if◌then◌else◌}
+use Rattle.std.proofs.Common.{◌≡◌, ℕ, Bool, true, false, ◌&&◌, ◌||◌, Some, None, List, [], ◌∷◌, ◌++◌, bytes_eq, refl, sym, ap, ◌∙◌, append-nil}
+use Rattle.std.specs.Prelude.{nat_eq, unwrap_or, if◌then◌else◌}
+use Rattle.std.specs.BTreeMap.{get_by_text}
+use Rattle.std.proofs.lemmas.Slice.Eq.{bytes_eq-Decides}
 use Rattle.std.specs.Cmp.Lexicographic.{pointwise}
 use Rattle.std.proofs.lemmas.Cmp.{nat_list_eq_equiv}
 use Rattle.std.specs.List.{list_any}
 use Rattle.swc_base_rename_substitution.specs.Names.{Id, same_id}
-use Rattle.swc_base_rename_substitution.specs.Exports.{without, distinct, with_one_more}
+use Rattle.swc_base_rename_substitution.specs.Exports.{Seen, contexts_of, has_seen, without, distinct, with_one_more}
 
 both_left : (a b : Bool) → (a && b) ≡ true → a ≡ true
 both_left true b h = refl
@@ -84,3 +86,35 @@ pub one_more_seen : (before after : Id → Bool) (xs now : List Id) (y copy : Id
     → (x : Id) → after x ≡ list_any (same_id x) now
 one_more_seen before after xs now y copy e n h g x =
     g x ∙ ap (λ b. if same_id copy x then true else b) (h x) ∙ ap (λ b. if b then true else list_any (same_id x) xs) (ap (λ c. same_id c x) e ∙ same_symm y x) ∙ more_in (same_id x y) x y xs refl ∙ ap (list_any (same_id x)) (sym n)
+
+any_end : (p : List ℕ → Bool) (xs : List (List ℕ)) (y : List ℕ) → list_any p (xs ++ y ∷ []) ≡ (if p y then true else list_any p xs)
+any_end p [] y = last (p y)
+  where
+    last : (b : Bool) → (b || false) ≡ (if b then true else false)
+    last true = refl
+    last false = refl
+any_end p (x ∷ xs) y = ap (λ b. p x || b) (any_end p xs y) ∙ moved (p x) (p y)
+  where
+    moved : (a b : Bool) → (a || (if b then true else list_any p xs)) ≡ (if b then true else (a || list_any p xs))
+    moved true true = refl
+    moved true false = refl
+    moved false b = refl
+
+-- a table of the contexts of each text has one id more
+pub one_seen : (before left after : Seen) (y : Id) (contexts more : List (List ℕ)) (x : Id) → contexts ≡ contexts_of before y.0 → more ≡ contexts ++ y.1 ∷ []
+    → get_by_text left x.0 ≡ (if bytes_eq y.0 x.0 then None else get_by_text before x.0) → get_by_text after x.0 ≡ (if bytes_eq y.0 x.0 then Some more else get_by_text left x.0)
+    → has_seen after x ≡ (if same_id y x then true else has_seen before x)
+one_seen before left after y contexts more x taken pushed removed put = at (bytes_eq y.0 x.0) refl
+  where
+    at : (b : Bool) → bytes_eq y.0 x.0 ≡ b → has_seen after x ≡ (if same_id y x then true else has_seen before x)
+    at true e =
+        let same : y.0 ≡ x.0 = (bytes_eq-Decides y.0 x.0).0 e in
+        let there : get_by_text after x.0 ≡ Some more = put ∙ ap (λ b. if b then Some more else get_by_text left x.0) e in
+        let all : more ≡ contexts_of before x.0 ++ y.1 ∷ [] = pushed ∙ ap (λ l. l ++ y.1 ∷ []) (taken ∙ ap (contexts_of before) same) in
+        ap (λ o. list_any (λ context. pointwise nat_eq context x.1) (unwrap_or o [])) there
+        ∙ ap (list_any (λ context. pointwise nat_eq context x.1)) all
+        ∙ any_end (λ context. pointwise nat_eq context x.1) (contexts_of before x.0) y.1
+        ∙ ap (λ b. if b && pointwise nat_eq y.1 x.1 then true else has_seen before x) (sym e)
+    at false e =
+        let gone : get_by_text after x.0 ≡ get_by_text before x.0 = put ∙ ap (λ b. if b then Some more else get_by_text left x.0) e ∙ removed ∙ ap (λ b. if b then None else get_by_text before x.0) e in
+        ap (λ o. list_any (λ context. pointwise nat_eq context x.1) (unwrap_or o [])) gone ∙ ap (λ b. if b && pointwise nat_eq y.1 x.1 then true else has_seen before x) (sym e)

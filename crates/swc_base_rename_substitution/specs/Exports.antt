@@ -1,7 +1,9 @@
 -- Exported declarations, whose names stay as they were for other modules.
-use Rattle.std.specs.Prelude.{◌≡◌, Option, Some, None, is_some, List, [], ◌∷◌, ◌++◌, map, if◌then◌else◌}
+use Rattle.std.specs.Prelude.{◌≡◌, ℕ, Bool, nat_eq, Option, Some, None, is_some, unwrap_or, List, [], ◌∷◌, ◌++◌, map, String, if◌then◌else◌}
+use Rattle.std.specs.Global.{Global}
 use Rattle.std.specs.List.{list_any}
-use Rattle.std.specs.HashSet.{HashSet, contains}
+use Rattle.std.specs.BTreeMap.{BTreeMap, get_by_text}
+use Rattle.std.specs.Cmp.Lexicographic.{pointwise}
 use Rattle.swc_tree_marks.specs.declared.ident.Ident.{Ident}
 use Rattle.swc_tree_node.specs.declared.kind.Kind.TheVariants as kind
 use Rattle.swc_tree_node.specs.declared.node.Node.{Node, Absent, Span, List as Many, Identifier, Tree, out-Node}
@@ -19,9 +21,19 @@ abbrev pub distinct : List Id → List Id
 distinct [] = []
 distinct (x ∷ xs) = x ∷ without x (distinct xs)
 
--- a set has just the ids of a list
-abbrev pub AreSeen : {S : Type 0} → List Id → HashSet Id S → Type 0
-AreSeen ids seen = (x : Id) → contains same_id seen x ≡ list_any (same_id x) ids
+-- the contexts of each text
+abbrev pub Seen : Type 0
+Seen = BTreeMap (String Global) (List (List ℕ))
+
+abbrev pub contexts_of : Seen → List ℕ → List (List ℕ)
+contexts_of seen text = unwrap_or (get_by_text seen text) []
+
+abbrev pub has_seen : Seen → Id → Bool
+has_seen seen x = list_any (λ context. pointwise nat_eq context x.1) (contexts_of seen x.0)
+
+-- just the ids of a list
+abbrev pub AreSeen : List Id → Seen → Type 0
+AreSeen ids seen = (x : Id) → has_seen seen x ≡ list_any (same_id x) ids
 
 -- the ids with one more, unless it is among them
 abbrev pub with_one_more : Id → List Id → List Id
