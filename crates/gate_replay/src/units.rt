@@ -42,12 +42,17 @@ fn add_names(text: &mut String, before: &str, after: &str) -> Option<()> {
 // A script that declares such names and refers to each.
 fn script_of_colliding_names(alloc: Global) -> Option<String> {
     let mut text = String::new(alloc);
-    text.push_str(r#"{"marks":[[1,0],[2,0]],"unresolved":1,"top":2,"tree":{"type":"Script","span":[0,0],"body":["#).ok()?;
-    text.push_str(r#"{"type":"VarDecl","span":[0,0],"kind":"var","decls":["#).ok()?;
-    let declarator = r#"{"type":"VarDeclarator","span":[0,0],"name":{"type":"BindingIdent","span":[0,0],"ctxt":[],"sym":""#;
+    text.push_str(
+        r#"{"marks":[[1,0],[2,0]],"unresolved":1,"top":2,"tree":{"type":"Script","span":[0,0],"body":["#,
+    ).ok()?;
+    text.push_str(r#"{"type":"VarDecl","span":[0,0],"kind":"var","decls":["#)
+        .ok()?;
+    let declarator =
+        r#"{"type":"VarDeclarator","span":[0,0],"name":{"type":"BindingIdent","span":[0,0],"ctxt":[],"sym":""#;
     add_names(&mut text, declarator, r#""}}"#)?;
     text.push_str("]},").ok()?;
-    let statement = r#"{"type":"ExprStmt","span":[0,0],"expr":{"type":"Ident","span":[0,0],"ctxt":[],"sym":""#;
+    let statement =
+        r#"{"type":"ExprStmt","span":[0,0],"expr":{"type":"Ident","span":[0,0],"ctxt":[],"sym":""#;
     add_names(&mut text, statement, r#""}}"#)?;
     text.push_str("]}}").ok()?;
     Some(text)

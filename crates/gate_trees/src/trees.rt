@@ -12,8 +12,8 @@ ghost use Rattle.swc_tree_node.specs.declared.slot.Content.TheVariants.{Node as 
 ghost use Rattle.swc_tree_node.specs.Fits.{Fits};
 
 use jsbase_reader::read;
-use json::{Scratch, Value};
 use jsbase_writer::write;
+use json::{Scratch, Value};
 use looks::Look;
 use std::alloc::Global;
 use std::fmt::Write;
