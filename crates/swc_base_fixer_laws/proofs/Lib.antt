@@ -2,10 +2,11 @@ pub mod Up
 pub mod Kept
 pub mod HeadsKept
 pub mod ElseKept
-pub mod FormedKept
-pub mod Formed
+pub mod FitsKept
+pub mod PlainKept
 pub mod SetsLevels
 pub mod SetsNames
+pub mod Strings
 pub mod SetsRows
 pub mod SetsHeads
 pub mod SetsStarts

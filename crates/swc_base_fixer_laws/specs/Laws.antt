@@ -1,5 +1,4 @@
 -- Laws of the fixer's answer.
-use Rattle.std.specs.Prelude.{false}
 use Rattle.swc_tree_node.specs.declared.node.Node.{Node}
 use Rattle.swc_tree_node.specs.declared.slot.Slot.{Slot}
 use Rattle.swc_tree_node.specs.Fits.{Fits}
@@ -9,9 +8,13 @@ use Rattle.swc_tree_grammar.specs.Grammar.{FitsGrammar}
 use Rattle.swc_tree_grammar.specs.Writable.{Writable}
 use Rattle.swc_base_fixer_laws.specs.Sets.{Sets}
 
--- the due pairs are pairs round expressions, and nothing else changes
+-- the due pairs are pairs round expressions where the table takes them, and nothing else changes
 abbrev pub DuePairsArePairs : Type 0
-DuePairsArePairs = (place : Places) (t : Node) (s : Slot) → Fits t s → Sets false (with_blocks t) (with_due_pairs place (with_blocks t))
+DuePairsArePairs = (place : Places) (t : Node) (s : Slot) → Fits t s → Sets s t (with_due_pairs place t)
+
+-- so the answer stands where the tree does
+abbrev pub AnswerFitsTable : Type 0
+AnswerFitsTable = (place : Places) (t : Node) (s : Slot) → Fits t s → Fits (with_due_pairs place (with_blocks t)) s
 
 -- the grammar derives the answer if it can be written down
 abbrev pub AnswerFits : Type 0

@@ -1,3 +1,2 @@
-pub mod Formed
 pub mod Sets
 pub mod Laws

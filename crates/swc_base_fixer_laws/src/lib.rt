@@ -1,14 +1,19 @@
 //! Laws of the fixer: what its answer keeps, and that the grammar derives it.
 //!
-//! `specs/Sets` says when a tree is another with some more pairs of parentheses, `specs/Formed` what is asked of a tree
-//! for that. `specs/Laws` states the laws. Each is the contract of a function that does nothing, so that it is proved.
+//! `specs/Sets` says when a tree is another with some more pairs of parentheses, `specs/Laws` states the laws. Each
+//! is the contract of a function that does nothing, so that it is proved.
 #![tactic(auto)]
 
-ghost use Rattle.swc_base_fixer_laws.specs.Laws.{AnswerFits, DuePairsArePairs};
+ghost use Rattle.swc_base_fixer_laws.specs.Laws.{AnswerFits, AnswerFitsTable, DuePairsArePairs};
 
 /// The due pairs are pairs round expressions, and nothing else changes.
 pub fn due_pairs_are_pairs()
     ensures { DuePairsArePairs }
+{}
+
+/// The answer fits the table where the tree does.
+pub fn answer_fits_table()
+    ensures { AnswerFitsTable }
 {}
 
 /// The grammar derives the answer if it can be written down.
