@@ -12,3 +12,6 @@ pub mod SetsHeads
 pub mod SetsStarts
 pub mod Starts
 pub mod Answer
+pub mod Alike
+pub mod StrippedKept
+pub mod Looks

@@ -6,6 +6,8 @@ use Rattle.swc_tree_grammar.specs.Blocks.{with_blocks}
 use Rattle.swc_tree_grammar.specs.Due.{Places, with_due_pairs}
 use Rattle.swc_tree_grammar.specs.Grammar.{FitsGrammar}
 use Rattle.swc_tree_grammar.specs.Writable.{Writable}
+use Rattle.swc_tree_grammar.specs.Stripped.{stripped}
+use Rattle.swc_base_fixer_laws.specs.Alike.{Alike}
 use Rattle.swc_base_fixer_laws.specs.Sets.{Sets}
 
 -- the due pairs are pairs round expressions where the table takes them, and nothing else changes
@@ -15,6 +17,10 @@ DuePairsArePairs = (place : Places) (t : Node) (s : Slot) → Fits t s → Sets 
 -- so the answer stands where the tree does
 abbrev pub AnswerFitsTable : Type 0
 AnswerFitsTable = (place : Places) (t : Node) (s : Slot) → Fits t s → Fits (with_due_pairs place (with_blocks t)) s
+
+-- stripping takes them off again: what is left is the same but for the kind of the name `async` before `of`
+abbrev pub StrippingUndoesDuePairs : Type 0
+StrippingUndoesDuePairs = (place : Places) (t : Node) (s : Slot) → Fits t s → Alike (stripped t) (stripped (with_due_pairs place t))
 
 -- the grammar derives the answer if it can be written down
 abbrev pub AnswerFits : Type 0
