@@ -56,7 +56,7 @@ name_fits : (r : Range) (i : _) → Fits (Tree kind.ParenExpr (Span r ∷ Identi
 name_fits r i = pair_fits (one class.ForHead) r (Identifier kind.Ident i) refl (fits-Identifier kind.Ident i an_expression)
 
 -- lists
-same_length : {s : Slot} {ts us : List Node} → AllSet s ts us → length us ≡ length ts
+pub same_length : {s : Slot} {ts us : List Node} → AllSet s ts us → length us ≡ length ts
 same_length none = refl
 same_length (more c d) = ap suc (same_length d)
 

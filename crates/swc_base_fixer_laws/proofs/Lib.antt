@@ -15,3 +15,5 @@ pub mod Answer
 pub mod Alike
 pub mod StrippedKept
 pub mod Looks
+pub mod Elements
+pub mod FormsKept

@@ -199,7 +199,7 @@ property_rows kind.KeyValuePatProp ts us d = refl
 property_rows kind.AssignPatProp ts us d = refl
 property_rows k ts us d = refl
 
-property_kept : {s : Slot} {t u : Node} → Sets s t u → is_head s ≡ false → property_in (out-Node u) ≡ property_in (out-Node t)
+pub property_kept : {s : Slot} {t u : Node} → Sets s t u → is_head s ≡ false → property_in (out-Node u) ≡ property_in (out-Node t)
 property_kept d h = look_kept Bool property_in false property_hidden (λ us. refl) (λ ts. refl) property_rows d h
 
 pub name_kept : {s : Slot} {t u : Node} → Sets s t u → is_head s ≡ false → is_name_kind_in (out-Node u) ≡ is_name_kind_in (out-Node t)
@@ -207,3 +207,34 @@ name_kept d h = look_kept Bool is_name_kind_in false (λ k ts h. refl) (λ us. r
 
 pub bound_kept : {s : Slot} {t u : Node} → Sets s t u → is_head s ≡ false → is_name_in (out-Node u) ≡ is_name_in (out-Node t)
 bound_kept d h = look_kept Bool is_name_in false (λ k ts h. refl) (λ us. refl) (λ ts. refl) (λ k ts us d. refl) d h
+
+-- the same where a name is not seen either, and where no pair may stand
+module _ (X : Type 0) (look : Node-F Node → X) where
+  tree_looks : (k : Kind) (ts : List Node) → look (out-Node (Tree k ts)) ≡ look (Node-F.Tree k ts)
+  tree_looks k ts = search (rules, the_lemmas)
+
+  list_looks : (ts : List Node) → look (out-Node (Many ts)) ≡ look (Node-F.List ts)
+  list_looks ts = search (rules, the_lemmas)
+
+  name_looks : (k : Kind) (i : Ident) → look (out-Node (Identifier k i)) ≡ look (Node-F.Identifier k i)
+  name_looks k i = search (rules, the_lemmas)
+
+  abbrev RowsOf : Type 0
+  RowsOf = (k : Kind) (ts us : List Node) → FieldsSet (slots_of k) ts us → look (Node-F.Tree k us) ≡ look (Node-F.Tree k ts)
+
+  pub seen_closed : ((ts us : List Node) → look (Node-F.List us) ≡ look (Node-F.List ts)) → RowsOf → {s : Slot} {t u : Node} → Sets s t u → takes_pair s ≡ false → look (out-Node u) ≡ look (out-Node t)
+  seen_closed l r (same t) h = refl
+  seen_closed l r (after c d) h = seen_closed l r d h ∙ seen_closed l r c h
+  seen_closed l r (around x t u a b d) h = absurd (cc (sym h ∙ a))
+  seen_closed l r (named x k i) h = absurd (cc)
+  seen_closed l r (items ts us d) h = list_looks us ∙ l ts us ∙ sym (list_looks ts)
+  seen_closed l r (tree k ts us e d) h = tree_looks k us ∙ r k ts us d ∙ sym (tree_looks k ts)
+
+  pub seen_anywhere : (off : X) → ((k : Kind) (ts : List Node) → can_pair k ≡ true → look (Node-F.Tree k ts) ≡ off) → ((us : List Node) → look (Node-F.Tree kind.ParenExpr us) ≡ off) → ((k : Kind) (i : Ident) → look (Node-F.Identifier k i) ≡ off)
+      → ((ts us : List Node) → look (Node-F.List us) ≡ look (Node-F.List ts)) → RowsOf → {s : Slot} {t u : Node} → Sets s t u → look (out-Node u) ≡ look (out-Node t)
+  seen_anywhere off f p n l r (same t) = refl
+  seen_anywhere off f p n l r (after c d) = seen_anywhere off f p n l r d ∙ seen_anywhere off f p n l r c
+  seen_anywhere off f p n l r (around x t u a b d) = tree_looks kind.ParenExpr (Span x ∷ u ∷ []) ∙ p (Span x ∷ u ∷ []) ∙ sym (look_pair X look off f t b)
+  seen_anywhere off f p n l r (named x k i) = tree_looks kind.ParenExpr (Span x ∷ Identifier kind.Ident i ∷ []) ∙ p (Span x ∷ Identifier kind.Ident i ∷ []) ∙ sym (name_looks k i ∙ n k i)
+  seen_anywhere off f p n l r (items ts us d) = list_looks us ∙ l ts us ∙ sym (list_looks ts)
+  seen_anywhere off f p n l r (tree k ts us e d) = tree_looks k us ∙ r k ts us d ∙ sym (tree_looks k ts)
