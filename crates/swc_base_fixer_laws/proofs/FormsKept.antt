@@ -89,7 +89,7 @@ pub declares_kept : {s : Slot} {t u : Node} → Sets s t u → declares_in (out-
 declares_kept d = seen_anywhere Bool declares_in false declares_hidden (λ us. refl) (λ k i. refl) (λ ts us. refl) declares_rows d
 
 -- tests of the items of a list
-all_items : {s : Slot} {ts us : List Node} (q : Node → Bool) → ((t u : Node) → Sets s t u → q u ≡ q t) → AllSet s ts us → list_all q us ≡ list_all q ts
+pub all_items : {s : Slot} {ts us : List Node} (q : Node → Bool) → ((t u : Node) → Sets s t u → q u ≡ q t) → AllSet s ts us → list_all q us ≡ list_all q ts
 all_items q f none = refl
 all_items q f (more {t = t} {u = u} c d) = rw (f t u c, all_items q f d) refl
 

@@ -17,3 +17,4 @@ pub mod StrippedKept
 pub mod Looks
 pub mod Elements
 pub mod FormsKept
+pub mod PartsKept
