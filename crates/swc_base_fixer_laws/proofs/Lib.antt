@@ -18,3 +18,4 @@ pub mod Looks
 pub mod Elements
 pub mod FormsKept
 pub mod PartsKept
+pub mod Freed
