@@ -19,3 +19,4 @@ pub mod Elements
 pub mod FormsKept
 pub mod PartsKept
 pub mod Freed
+pub mod Sound
