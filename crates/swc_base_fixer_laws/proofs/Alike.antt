@@ -1,16 +1,16 @@
 -- What stripping makes of trees that are the same but for the kinds of their names is the same but for these.
-use Rattle.std.proofs.Common.{◌≡◌, Bool, true, false, not, ◌&&◌, List, [], ◌∷◌, ◌++◌, map, refl, sym, ap, ◌∙◌, rules}
+use Rattle.std.proofs.Common.{◌≡◌, Bool, true, false, not, List, [], ◌∷◌, ◌++◌, refl, sym, ap, ◌∙◌, rules}
 use Rattle.std.specs.Prelude.{take, if◌then◌else◌}
 use Rattle.std.specs.List.{flat_map, filter, list_all}
 use Rattle.swc_tree_marks.specs.declared.ident.Ident.{Ident}
 use Rattle.swc_tree_node.specs.declared.kind.Kind.{Kind}
 use Rattle.swc_tree_node.specs.declared.kind.Kind.TheVariants as kind
-use Rattle.swc_tree_node.specs.declared.node.Node.{Node, List as Many, Identifier, Tree, out-Node, roll-Node, the_lemmas}
+use Rattle.swc_tree_node.specs.declared.node.Node.{Node, List as Many, Identifier, Tree, roll-Node, the_lemmas}
 use Rattle.swc_tree_node.specs.declared.node.Node.TheVariants.{rolls-Tree}
 use Rattle.swc_tree_node.specs.declared.node.Node.TheOpen.{Node-F}
 use Rattle.swc_tree_grammar.specs.Shapes.{items_of}
-use Rattle.swc_tree_grammar.specs.Stripped.{stripped, strip_step, parts, parts_in, effects, is_void, is_idle, is_idle_kind, busy, front, end, settled, sequence, target, target_in, is_member, is_empty_in}
-use Rattle.swc_tree_grammar.proofs.Stripped.{effects_of_list, effects_of_tree, effects_of_sequence, effects_of_void, effects_of_other, effects_of_identifier, stripped_of_list, stripped_of_tree}
+use Rattle.swc_tree_grammar.specs.Stripped.{strip_step, parts, parts_in, effects, is_void, is_idle, is_idle_kind, busy, front, end, settled, sequence, target, target_in, is_member, is_empty_in}
+use Rattle.swc_tree_grammar.proofs.Stripped.{effects_of_list, effects_of_tree, effects_of_sequence, effects_of_void, effects_of_other, effects_of_identifier}
 use Rattle.swc_base_fixer_laws.specs.Alike.{Alike, AllAlike}
 use Rattle.swc_base_fixer_laws.specs.Alike.Alike.{same, after, name, list, tree}
 use Rattle.swc_base_fixer_laws.specs.Alike.AllAlike.{none, more}

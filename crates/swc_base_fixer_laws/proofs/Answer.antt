@@ -19,6 +19,7 @@ use Rattle.swc_tree_grammar_laws.proofs.Adds.{tests_add_up}
 use Rattle.swc_tree_grammar.specs.Stripped.{stripped}
 use Rattle.swc_base_fixer_laws.specs.Alike.{Alike}
 use Rattle.swc_base_fixer_laws.proofs.StrippedKept.{stripped_kept}
+use Rattle.swc_base_fixer_laws.proofs.Sound.{sound_kept}
 use Rattle.swc_base_fixer_laws.specs.Sets.{Sets}
 use Rattle.swc_base_fixer_laws.specs.Sets.Sets.{after}
 use Rattle.swc_base_fixer_laws.proofs.Kept.{levelled_kept, off}
@@ -54,10 +55,13 @@ due_fits p t s f = fits_kept (due_set p t s f) f
 pub answer_fits_table : (p : Places) (t : Node) (s : Slot) → Fits t s → Fits (with_due_pairs p (with_blocks t)) s
 answer_fits_table p t s f = due_fits p (with_blocks t) s (blocks_fit t s f)
 
-pub answer_fits : (p : Places) (t : Node) (s : Slot) → Fits t s → Writable (with_due_pairs p (with_blocks t)) → FitsGrammar (with_due_pairs p (with_blocks t))
+pub keep_writable : (p : Places) (t : Node) (s : Slot) → Fits t s → Writable t → Writable (with_due_pairs p t)
+keep_writable p t s f w = sound_kept (due_set p t s f) f (record { strict = false; assigned = false }) w
+
+pub answer_fits : (p : Places) (t : Node) (s : Slot) → Fits t s → Writable (with_blocks t) → FitsGrammar (with_due_pairs p (with_blocks t))
 answer_fits p t s f w =
     let u = with_blocks t in let g = blocks_fit t s f in let d = due_set p u s g in
-    tests_add_up (with_due_pairs p u) (table_is_plain (with_due_pairs p u) s (fits_kept d g) (keeps_elses_kept d (blocks_keep_elses t))) w (due_levelled p u s g) (due_headed p u s g) (due_started p u)
+    tests_add_up (with_due_pairs p u) (table_is_plain (with_due_pairs p u) s (fits_kept d g) (keeps_elses_kept d (blocks_keep_elses t))) (keep_writable p u s g w) (due_levelled p u s g) (due_headed p u s g) (due_started p u)
 
 pub stripping_undoes : (p : Places) (t : Node) (s : Slot) → Fits t s → Alike (stripped t) (stripped (with_due_pairs p t))
 stripping_undoes p t s f = stripped_kept (due_set p t s f)

@@ -1,50 +1,32 @@
 -- Forms of statements, directives, and what else is asked of parts by their looks, stay where pairs are set.
-use Rattle.std.proofs.Common.{◌≡◌, ℕ, Bool, true, false, not, ◌&&◌, ◌||◌, IsTrue, List, [], ◌∷◌, map, refl, sym, ap, ◌∙◌, rules}
-use Rattle.std.specs.Prelude.{Option, Some, None, length, nat_eq, is_some, codes, if◌then◌else◌, unwrap_or}
+use Rattle.std.proofs.Common.{◌≡◌, ℕ, Bool, true, false, List, [], ◌∷◌, refl, sym, ap, ◌∙◌, rules}
+use Rattle.std.specs.Prelude.{Option, Some, None, nat_eq, is_some, codes, unwrap_or}
 use Rattle.std.specs.Cmp.Lexicographic.{pointwise}
 use Rattle.std.specs.List.{list_all}
 use Rattle.swc_tree_marks.specs.declared.span.Span.{Span as Range}
-use Rattle.swc_tree_marks.specs.declared.ident.Ident.{Ident}
 use Rattle.swc_tree_node.specs.declared.kind.Kind.{Kind}
 use Rattle.swc_tree_node.specs.declared.kind.Kind.TheVariants as kind
 use Rattle.swc_tree_node.specs.declared.kind.Class.TheVariants as class
-use Rattle.swc_tree_node.specs.declared.kind.Word.{Word as Word'}
 use Rattle.swc_tree_node.specs.declared.slot.Content.TheVariants as content
 use Rattle.swc_tree_node.specs.declared.slot.Slot.{Slot}
 use Rattle.swc_tree_node.specs.declared.slot.Slot.TheVariants as slot
-use Rattle.swc_tree_node.specs.declared.node.Node.{Node, Absent, Flag, Word, Text, Span, List as Many, Identifier, Tree, out-Node, the_lemmas}
+use Rattle.swc_tree_node.specs.declared.node.Node.{Node, Span, List as Many, Identifier, Tree, out-Node, the_lemmas}
 use Rattle.swc_tree_node.specs.declared.node.Node.TheOpen.{Node-F}
-use Rattle.swc_tree_node.specs.Table.{slots_of, is_identifier}
-use Rattle.swc_tree_node.specs.Fits.{Fits, belongs}
-use Rattle.swc_tree_node.proofs.Fit.{tree_opens}
-use Rattle.swc_tree_scoping.specs.Places.{has_use_strict, directive_of, directive_or, string_of, statement_in, literal_in, text_in, block_in, items_in as items_in', is_plain_function, plain_in as plain_function_in}
+use Rattle.swc_tree_node.specs.Table.{slots_of}
+use Rattle.swc_tree_scoping.specs.Places.{has_use_strict, string_of, statement_in, literal_in, text_in, block_in, items_in as items_in', plain_in as plain_function_in}
 use Rattle.swc_tree_grammar.specs.Shapes.{items_of}
-use Rattle.swc_tree_grammar.specs.Kinds.{has_kind, is_chain, is_opt_chain, is_paren}
-use Rattle.swc_tree_grammar.specs.Levels.{is_absent, word_of}
-use Rattle.swc_tree_grammar.specs.Stripped.{stripped}
-use Rattle.swc_tree_grammar.specs.Targets.{seen, is_target, target_in}
-use Rattle.swc_tree_grammar.specs.Forms.{Form, form, form_in, form_of_word, form_of_function, is_name_in, is_strict, is_using, is_named_in, are_named}
+use Rattle.swc_tree_grammar.specs.Forms.{Form, form, form_in, form_of_word, form_of_function, is_strict}
 use Rattle.swc_tree_grammar.specs.Forms.Form.{Ordinary}
-use Rattle.swc_tree_grammar.specs.Writable.{Round, is_string, is_name_kind_in, declares_in, parameters_in, one_without_rest, is_text, constructor_key_in, initialised_in, one_bare, local_specifier_in, base_goes_on_in, left_side, is_pattern_target, is_plain_assignment, pattern_of}
+use Rattle.swc_tree_grammar.specs.Writable.{is_string, declares_in, constructor_key_in}
 use Rattle.swc_tree_grammar.proofs.Induction.{by_children}
-use Rattle.swc_tree_grammar.proofs.Places.{one}
-use Rattle.swc_tree_grammar.proofs.Walks.{target_of_tree}
-use Rattle.swc_tree_grammar_laws.proofs.Levelled.{both, also_both}
-use Rattle.swc_base_fixer_laws.specs.Alike.{Alike, AllAlike}
-use Rattle.swc_base_fixer_laws.specs.Alike.Alike.{same as alike, after as alike_after, name, list, tree as alike_tree}
-use Rattle.swc_base_fixer_laws.specs.Alike.AllAlike.{none as no_alike, more as more_alike}
-use Rattle.swc_base_fixer_laws.specs.Sets.{Sets, AllSet, FieldsSet, takes_pair, pairable, can_pair, item}
+use Rattle.swc_base_fixer_laws.specs.Sets.{Sets, AllSet, FieldsSet, takes_pair, can_pair}
 use Rattle.swc_base_fixer_laws.specs.Sets.Sets.{same, after, around, named, items, tree}
 use Rattle.swc_base_fixer_laws.specs.Sets.AllSet.{none, more}
 use Rattle.swc_base_fixer_laws.specs.Sets.FieldsSet.{nil, field}
-use Rattle.swc_base_fixer_laws.proofs.Up.{up, no_pair, kind_of_tree}
-use Rattle.swc_base_fixer_laws.proofs.Kept.{off}
-use Rattle.swc_base_fixer_laws.proofs.ElseKept.{pairable_tree}
-use Rattle.swc_base_fixer_laws.proofs.FitsKept.{fits_kept, same_length}
-use Rattle.swc_base_fixer_laws.proofs.Looks.{is_head, seen_closed, seen_anywhere, name_kept, bound_kept, target_kept}
-use Rattle.swc_base_fixer_laws.proofs.Elements.{of_items, rests}
+use Rattle.swc_base_fixer_laws.proofs.Up.{up}
+use Rattle.swc_base_fixer_laws.proofs.Looks.{seen_closed, seen_anywhere}
+use Rattle.swc_base_fixer_laws.proofs.Elements.{of_items}
 use Rattle.swc_base_fixer_laws.proofs.Strings.{string_of_tree}
-use Rattle.swc_base_fixer_laws.proofs.StrippedKept.{stripped_kept}
 
 -- forms of statements
 plain_hidden : (k : Kind) (ts : List Node) → can_pair k ≡ true → plain_function_in (Node-F.Tree k ts) ≡ false

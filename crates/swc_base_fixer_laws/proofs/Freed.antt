@@ -1,22 +1,19 @@
 -- An expression can be written down where names are bound if it can where they are assigned to.
-use Rattle.std.proofs.Common.{◌≡◌, Bool, true, false, not, ◌&&◌, ◌||◌, IsTrue, List, [], ◌∷◌, map, refl, sym, ap, ◌∙◌, rules}
-use Rattle.std.specs.List.{list_all}
+use Rattle.std.proofs.Common.{◌≡◌, true, false, ◌&&◌, List, [], ◌∷◌, map, refl, sym, ◌∙◌, rules}
 use Rattle.swc_tree_marks.specs.declared.ident.Ident.{Ident}
 use Rattle.swc_tree_node.specs.declared.kind.Kind.{Kind}
 use Rattle.swc_tree_node.specs.declared.kind.Kind.TheVariants as kind
 use Rattle.swc_tree_node.specs.declared.kind.Class.TheVariants as class
 use Rattle.swc_tree_node.specs.declared.slot.Content.TheVariants as content
-use Rattle.swc_tree_node.specs.declared.slot.Slot.{Slot}
-use Rattle.swc_tree_node.specs.declared.slot.Slot.TheVariants as slot
-use Rattle.swc_tree_node.specs.declared.node.Node.{Node, Absent, Flag, Word, Text, Span, List as Many, Identifier, Tree, the_lemmas}
+use Rattle.swc_tree_node.specs.declared.node.Node.{Node, Identifier, the_lemmas}
 use Rattle.swc_tree_node.specs.declared.node.Node.TheOpen.{Node-F}
 use Rattle.swc_tree_node.specs.Table.{slots_of, is_identifier}
 use Rattle.swc_tree_node.specs.Fits.{Fits, FieldsFit, AllFit, belongs}
 use Rattle.swc_tree_node.proofs.Fit.{fits-Absent, fits-Flag, fits-Word, fits-Text, fits-Span, fits-List, fits-Identifier, fits-Tree, tree_opens, list_opens}
-use Rattle.swc_tree_grammar.specs.Writable.{Round, sound_in, all_sound, no_private, binding}
+use Rattle.swc_tree_grammar.specs.Writable.{Round, sound_in, all_sound, binding}
 use Rattle.swc_tree_grammar.proofs.Induction.{Each, by_children}
 use Rattle.swc_tree_grammar.proofs.Places.{one}
-use Rattle.swc_tree_grammar_laws.proofs.Levelled.{both, half, also}
+use Rattle.swc_tree_grammar_laws.proofs.Levelled.{half, also}
 use Rattle.swc_tree_grammar_laws.proofs.Blocked.{no}
 use Rattle.swc_tree_grammar_laws.proofs.Derived.{asked, sound, sound_tree, sound_list}
 use Rattle.swc_base_fixer_laws.proofs.SetsLevels.{expressions, fields_same}

@@ -1,6 +1,6 @@
 -- What is seen of a node from above stays where pairs are set in it or round it.
-use Rattle.std.proofs.Common.{◌≡◌, ℕ, Bool, true, false, not, ◌&&◌, ◌||◌, IsTrue, List, [], ◌∷◌, map, refl, sym, ap, ◌∙◌, rules}
-use Rattle.std.specs.Prelude.{Option, Some, None}
+use Rattle.std.proofs.Common.{◌≡◌, Bool, true, false, not, ◌&&◌, IsTrue, List, [], ◌∷◌, map, refl, sym, ◌∙◌, rules}
+use Rattle.std.specs.Prelude.{Option, Some}
 use Rattle.swc_tree_marks.specs.declared.span.Span.{Span as Range}
 use Rattle.swc_tree_marks.specs.declared.ident.Ident.{Ident}
 use Rattle.swc_tree_node.specs.declared.kind.Kind.{Kind}
@@ -15,22 +15,20 @@ use Rattle.swc_tree_node.specs.declared.node.Node.TheOpen.{Node-F}
 use Rattle.swc_tree_node.specs.Table.{slots_of, is_identifier}
 use Rattle.swc_tree_node.specs.Fits.{Fits, belongs}
 use Rattle.swc_tree_node.proofs.Fit.{fits-List, fits-Tree, tree_opens}
-use Rattle.swc_tree_grammar.specs.Kinds.{has_kind, is_private_name, is_rest}
-use Rattle.swc_tree_grammar.specs.Levels.{is_absent}
+use Rattle.swc_tree_grammar.specs.Kinds.{has_kind, is_private_name}
 use Rattle.swc_tree_grammar.specs.Places.{content_of}
 use Rattle.swc_tree_grammar.specs.Targets.{seen, is_target, target_in}
-use Rattle.swc_tree_grammar.specs.Forms.{Form, form, form_in, form_of_word, form_of_function, is_name_in}
-use Rattle.swc_tree_grammar.specs.Forms.Form.{Ordinary}
-use Rattle.swc_tree_grammar.specs.Writable.{Round, pattern, is_plain_pattern_in, element, default_in, property_in, pattern_of, pattern_of_param_in, is_element, elements, is_name_kind_in, declares_in}
+use Rattle.swc_tree_grammar.specs.Forms.{is_name_in}
+use Rattle.swc_tree_grammar.specs.Writable.{Round, pattern, is_plain_pattern_in, element, default_in, property_in, is_name_kind_in}
 use Rattle.swc_tree_grammar.proofs.Induction.{by_children}
 use Rattle.swc_tree_grammar.proofs.Walks.{target_of_tree, target_of_list}
-use Rattle.swc_tree_grammar_laws.proofs.Levelled.{both, also_both}
+use Rattle.swc_tree_grammar_laws.proofs.Levelled.{also_both}
 use Rattle.swc_tree_grammar_laws.proofs.Blocked.{no}
 use Rattle.swc_base_fixer_laws.specs.Sets.{Sets, AllSet, FieldsSet, takes_pair, pairable, can_pair, item}
 use Rattle.swc_base_fixer_laws.specs.Sets.Sets.{same, after, around, named, items, tree}
 use Rattle.swc_base_fixer_laws.specs.Sets.AllSet.{none, more}
 use Rattle.swc_base_fixer_laws.specs.Sets.FieldsSet.{nil, field}
-use Rattle.swc_base_fixer_laws.proofs.Up.{up, no_pair, kind_of_tree}
+use Rattle.swc_base_fixer_laws.proofs.Up.{no_pair, kind_of_tree}
 use Rattle.swc_base_fixer_laws.proofs.ElseKept.{pairable_tree}
 use Rattle.swc_base_fixer_laws.proofs.FitsKept.{fits_kept}
 

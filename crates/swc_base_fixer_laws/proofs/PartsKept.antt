@@ -1,8 +1,7 @@
 -- What is asked of declarators, accessors, chains and targets by their looks stays where pairs are set.
-use Rattle.std.proofs.Common.{◌≡◌, ℕ, Bool, true, false, not, ◌&&◌, ◌||◌, IsTrue, List, [], ◌∷◌, map, refl, sym, ap, ◌∙◌, rules}
-use Rattle.std.specs.Prelude.{Option, Some, None, length, nat_eq, is_some, if◌then◌else◌}
+use Rattle.std.proofs.Common.{◌≡◌, ℕ, Bool, true, false, not, ◌||◌, IsTrue, List, [], ◌∷◌, map, refl, sym, ap, ◌∙◌, rules}
+use Rattle.std.specs.Prelude.{Option, None, length, nat_eq, is_some}
 use Rattle.std.specs.List.{list_all}
-use Rattle.swc_tree_marks.specs.declared.span.Span.{Span as Range}
 use Rattle.swc_tree_marks.specs.declared.ident.Ident.{Ident}
 use Rattle.swc_tree_node.specs.declared.kind.Kind.{Kind}
 use Rattle.swc_tree_node.specs.declared.kind.Kind.TheVariants as kind
@@ -18,21 +17,19 @@ use Rattle.swc_tree_node.specs.Fits.{Fits, belongs}
 use Rattle.swc_tree_node.proofs.Fit.{tree_opens}
 use Rattle.swc_tree_scoping.specs.Places.{literal_in, text_in}
 use Rattle.swc_tree_grammar.specs.Shapes.{items_of}
-use Rattle.swc_tree_grammar.specs.Kinds.{has_kind, is_chain, is_opt_chain, is_paren, is_rest}
-use Rattle.swc_tree_grammar.specs.Levels.{is_absent, word_of}
+use Rattle.swc_tree_grammar.specs.Kinds.{has_kind, is_chain, is_opt_chain, is_paren}
 use Rattle.swc_tree_grammar.specs.Stripped.{stripped}
-use Rattle.swc_tree_grammar.specs.Targets.{seen, is_target, target_in, is_simple}
-use Rattle.swc_tree_grammar.specs.Forms.{is_name_in, is_using, is_using_form, is_named_in, are_named}
-use Rattle.swc_tree_grammar.specs.Writable.{is_string, is_name_kind_in, parameters_in, one_without_rest, accessor, is_getter, is_setter, initialised_in, one_bare, local_specifier_in, base_goes_on_in, left_side, is_pattern_target, is_plain_assignment, pattern_of}
+use Rattle.swc_tree_grammar.specs.Targets.{seen, is_target, target_in}
+use Rattle.swc_tree_grammar.specs.Forms.{is_using, is_using_form, is_named_in, are_named}
+use Rattle.swc_tree_grammar.specs.Writable.{is_string, parameters_in, one_without_rest, accessor, initialised_in, one_bare, local_specifier_in, base_goes_on_in, left_side, is_pattern_target}
 use Rattle.swc_tree_grammar.proofs.Induction.{by_children}
 use Rattle.swc_tree_grammar.proofs.Places.{one}
 use Rattle.swc_tree_grammar.proofs.Walks.{target_of_tree}
-use Rattle.swc_tree_grammar_laws.proofs.Levelled.{both, also_both}
 use Rattle.swc_base_fixer_laws.specs.Alike.{Alike, AllAlike}
 use Rattle.swc_base_fixer_laws.specs.Alike.Alike.{same as alike, after as alike_after, name, list, tree as alike_tree}
 use Rattle.swc_base_fixer_laws.specs.Alike.AllAlike.{none as no_alike, more as more_alike}
-use Rattle.swc_base_fixer_laws.specs.Sets.{Sets, AllSet, FieldsSet, takes_pair, pairable, can_pair, item, is_directive_in}
-use Rattle.swc_base_fixer_laws.specs.Sets.Sets.{same, after, around, named, items, tree}
+use Rattle.swc_base_fixer_laws.specs.Sets.{Sets, AllSet, FieldsSet, takes_pair, pairable, can_pair, is_directive_in}
+use Rattle.swc_base_fixer_laws.specs.Sets.Sets.{same, after, around, items, tree}
 use Rattle.swc_base_fixer_laws.specs.Sets.AllSet.{none, more}
 use Rattle.swc_base_fixer_laws.specs.Sets.FieldsSet.{nil, field}
 use Rattle.swc_base_fixer_laws.proofs.Up.{up, no_pair, kind_of_tree}

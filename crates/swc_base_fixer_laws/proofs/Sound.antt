@@ -1,5 +1,5 @@
 -- A tree that can be written down can be with pairs set in it.
-use Rattle.std.proofs.Common.{◌≡◌, ℕ, Bool, true, false, not, ◌&&◌, ◌||◌, IsTrue, List, [], ◌∷◌, map, refl, sym, ap, ◌∙◌, rules}
+use Rattle.std.proofs.Common.{◌≡◌, Bool, true, false, not, ◌&&◌, ◌||◌, IsTrue, List, [], ◌∷◌, map, refl, sym, ap, ◌∙◌, rules}
 use Rattle.std.specs.Prelude.{suc, nat_le, nat_eq, length, if◌then◌else◌}
 use Rattle.std.specs.List.{list_all}
 use Rattle.swc_tree_marks.specs.declared.span.Span.{Span as Range}
@@ -7,7 +7,6 @@ use Rattle.swc_tree_marks.specs.declared.ident.Ident.{Ident}
 use Rattle.swc_tree_node.specs.declared.kind.Kind.{Kind}
 use Rattle.swc_tree_node.specs.declared.kind.Kind.TheVariants as kind
 use Rattle.swc_tree_node.specs.declared.kind.Class.TheVariants as class
-use Rattle.swc_tree_node.specs.declared.kind.Word.{Word as Word'}
 use Rattle.swc_tree_node.specs.declared.slot.Content.TheVariants as content
 use Rattle.swc_tree_node.specs.declared.slot.Slot.{Slot}
 use Rattle.swc_tree_node.specs.declared.slot.Slot.TheVariants as slot
@@ -23,18 +22,18 @@ use Rattle.swc_tree_grammar.specs.Levels.{is_absent, word_of, is_in}
 use Rattle.swc_tree_grammar.specs.Stripped.{stripped}
 use Rattle.swc_tree_grammar.specs.Targets.{is_target}
 use Rattle.swc_tree_grammar.specs.Forms.{form, is_body, is_branch, is_using, is_strict, are_named, holds}
-use Rattle.swc_tree_grammar.specs.Writable.{Round, Asked, sound_in, in_head_in, all_sound, no_private, binding, assigning, strictly, bound, name_is, pattern, element, elements, left_side, base_goes_on_in, constructor_key_in, accessor, initialised_in, is_const, is_string, local_specifier_in, no_using, loop_body, branch, head, declares_in, one_bare, is_identifier_text}
+use Rattle.swc_tree_grammar.specs.Writable.{Round, sound_in, in_head_in, all_sound, no_private, binding, assigning, strictly, bound, name_is, pattern, element, elements, left_side, base_goes_on_in, constructor_key_in, accessor, initialised_in, is_const, is_string, local_specifier_in, loop_body, branch, head, declares_in, one_bare, is_identifier_text}
 use Rattle.swc_tree_grammar.proofs.Induction.{by_children}
 use Rattle.swc_tree_grammar.proofs.Places.{one, stands}
 use Rattle.swc_tree_grammar_laws.proofs.Levelled.{both, half, also, also_both}
 use Rattle.swc_tree_grammar_laws.proofs.Begins.{or_right}
 use Rattle.swc_tree_grammar_laws.proofs.Derived.{asked, sound, same as whole, sound_tree, sound_list, in_head_tree, in_head_list}
-use Rattle.swc_base_fixer_laws.specs.Sets.{Sets, AllSet, FieldsSet, takes_pair, pairable, can_pair, item, is_directive_in}
+use Rattle.swc_base_fixer_laws.specs.Sets.{Sets, AllSet, FieldsSet, pairable, can_pair, is_directive_in}
 use Rattle.swc_base_fixer_laws.specs.Sets.Sets.{same, after, around, named, items, tree}
 use Rattle.swc_base_fixer_laws.specs.Sets.AllSet.{none, more}
 use Rattle.swc_base_fixer_laws.specs.Sets.FieldsSet.{nil, field}
 use Rattle.swc_base_fixer_laws.proofs.Up.{up, no_pair}
-use Rattle.swc_base_fixer_laws.proofs.Kept.{not_up, not_false}
+use Rattle.swc_base_fixer_laws.proofs.Kept.{not_up}
 use Rattle.swc_base_fixer_laws.proofs.ElseKept.{pairable_tree}
 use Rattle.swc_base_fixer_laws.proofs.FitsKept.{fits_kept, expression_fits}
 use Rattle.swc_base_fixer_laws.proofs.SetsRows.{items_open}
@@ -233,3 +232,72 @@ head_row : (k : Kind) {ts us : List Node} → Kept (slots_of k) ts us → (r : R
 head_row kind.VarDecl (also_kept a _ _ (also_kept c f x (also_kept d g y nought))) r h = let p = half h in also (at (λ t. one_bare (items_of t)) d (one_bare_kept d) p.0) (y.keeps (binding r) p.1)
 head_row kind.UsingDecl (also_kept a _ _ (also_kept c f x (also_kept d g y nought))) r h = let p = half h in let q = half p.1 in also (at (λ t. one_bare (items_of t)) d (one_bare_kept d) p.0) (also (at (λ t. are_named false (items_of t)) d (all_named false d) q.0) (y.keeps (binding r) q.1))
 head_row k d r h = absurd (cc)
+
+-- a pair round an expression
+pair_sound : (x : Range) (u : Node) (r : Round) → no_private (asked u) ≡ true → sound u (binding r) ≡ true → sound (Tree kind.ParenExpr (Span x ∷ u ∷ [])) r ≡ true
+pair_sound x u r h g =
+    let e : (no_private (asked (Span x)) && sound (Span x) (binding r)) ≡ true = search (rules, the_lemmas) in
+    sound_tree kind.ParenExpr (Span x ∷ u ∷ []) r ∙ also_both (no_private (asked (Span x)) && sound (Span x) (binding r)) ((no_private (asked u) && sound u (binding r)) && true) e (also_both (no_private (asked u) && sound u (binding r)) true (also h g) refl)
+
+no_head_row : (k : Kind) (ts : List Node) → can_pair k ≡ true → (r : Round) → in_head_in (Node-F.Tree k (map asked ts)) r ≡ false
+no_head_row kind.VarDecl ts h r = absurd (cc)
+no_head_row kind.UsingDecl ts h r = absurd (cc)
+no_head_row k ts h r = refl
+
+no_head : (t : Node) → IsTrue (pairable t) → (r : Round) → (asked t).in_head r ≡ false
+no_head t = by_children (λ t. IsTrue (pairable t) → (r : Round) → (asked t).in_head r ≡ false)
+    (no_pair Absent (search (rules, the_lemmas)), λ x. no_pair (Flag x) (search (rules, the_lemmas)), λ w. no_pair (Word w) (search (rules, the_lemmas)), λ x. no_pair (Text x) (search (rules, the_lemmas)), λ s. no_pair (Span s) (search (rules, the_lemmas)), λ k i. no_pair (Identifier k i) (search (rules, the_lemmas)))
+    (λ ts l. no_pair (Many ts) (search (rules, the_lemmas)))
+    (λ k ts l h r. in_head_tree k ts r ∙ no_head_row k ts (sym (pairable_tree k ts) ∙ h) r) t
+
+unprivate : (t : Node) → has_kind is_private_name t ≡ false → no_private (asked t) ≡ true
+unprivate t h = ap (λ t. not (has_kind is_private_name t)) (whole t) ∙ ap not h
+
+-- a name that becomes an expression
+sound_name : (k : Kind) (i : Ident) (r : Round) → sound (Identifier k i) r ≡ sound_in (Node-F.Identifier k i) r
+sound_name k i r = search (rules, the_lemmas)
+
+text_if : (b : Bool) (x y : Bool) → (if b then x else (x && y)) ≡ true → x ≡ true
+text_if true x y h = h
+text_if false x y h = (both x y h).0
+
+name_text : (k : Kind) (i : Ident) (r : Round) → sound_in (Node-F.Identifier k i) r ≡ true → is_identifier_text i.sym ≡ true
+name_text kind.BindingIdent i r h = text_if r.assigned (is_identifier_text i.sym) _ h
+name_text k i r h = h
+
+name_head : (k : Kind) (i : Ident) (r : Round) → (asked (Identifier k i)).in_head r ≡ false
+name_head k i r = search (rules, the_lemmas)
+
+name_public : (k : Kind) (i : Ident) → has_kind is_private_name (Identifier k i) ≡ false
+name_public k i = search (rules, the_lemmas)
+
+name_sound : (x : Range) (k : Kind) (i : Ident) (r : Round) → sound (Identifier k i) r ≡ true → sound (Tree kind.ParenExpr (Span x ∷ Identifier kind.Ident i ∷ [])) r ≡ true
+name_sound x k i r h =
+    pair_sound x (Identifier kind.Ident i) r (unprivate (Identifier kind.Ident i) (name_public kind.Ident i)) (sound_name kind.Ident i (binding r) ∙ name_text k i r (sym (sound_name k i r) ∙ h))
+
+-- every node
+mutual
+  keep : {s : Slot} {t u : Node} → Sets s t u → Fits t s → Keeps t u
+  keep (same t) f = record { keeps = λ r h. h; heads = λ r h. h }
+  keep (after c d) f = let x = keep c f in let y = keep d (fits_kept c f) in record { keeps = λ r h. y.keeps r (x.keeps r h); heads = λ r h. y.heads r (x.heads r h) }
+  keep {s = s} (around x t u p q d) f =
+      let g = expression_fits t s q f in let y = keep d g in
+      record { keeps = λ r h. pair_sound x u r (private_at d (unprivate t (pair_private t q))) (y.keeps (binding r) (freed t g r h)); heads = λ r h. absurd (cc (sym (no_head t q r) ∙ h)) }
+  keep (named x k i) f = record { keeps = λ r h. name_sound x k i r h; heads = λ r h. absurd (cc (sym (name_head k i r) ∙ h)) }
+  keep {s = s} (items ts us d) f =
+      let g = items_open s ts (sym (fits-List ts s) ∙ f) in
+      record { keeps = λ r h. sound_list us r ∙ each d g r (sym (sound_list ts r) ∙ h); heads = λ r h. absurd (cc (sym (in_head_list ts r) ∙ h)) }
+  keep {s = s} (tree k ts us e d) f =
+      let w = stands k ts s f in let x = fields_keep d w.fields in
+      record { keeps = λ r h. sound_tree k us r ∙ row k e x r (sym (sound_tree k ts r) ∙ h); heads = λ r h. in_head_tree k us r ∙ head_row k x r (sym (in_head_tree k ts r) ∙ h) }
+
+  each : {s : Slot} {ts us : List Node} → AllSet s ts us → AllFit s ts → (r : Round) → all_sound (map asked ts) r ≡ true → all_sound (map asked us) r ≡ true
+  each none f r h = refl
+  each (more c d) f r h = let p = half h in let q = half p.0 in let x = keep c f.0 in also (also (private_at c q.0) (x.keeps r q.1)) (each d f.1 r p.1)
+
+  fields_keep : {ss : List Slot} {ts us : List Node} → FieldsSet ss ts us → FieldsFit ss ts → Kept ss ts us
+  fields_keep nil f = nought
+  fields_keep (field c d) f = also_kept c f.0 (keep c f.0) (fields_keep d f.1)
+
+pub sound_kept : {s : Slot} {t u : Node} → Sets s t u → Fits t s → (r : Round) → sound t r ≡ true → sound u r ≡ true
+sound_kept d f r h = let x = keep d f in x.keeps r h

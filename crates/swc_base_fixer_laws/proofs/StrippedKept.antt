@@ -1,11 +1,11 @@
 -- Stripping takes off the pairs that are set: what is left is what was left before, but for the kinds of names.
-use Rattle.std.proofs.Common.{◌≡◌, List, [], ◌∷◌, map, refl, sym, ◌∙◌, rules}
+use Rattle.std.proofs.Common.{◌≡◌, List, [], ◌∷◌, map, rules}
 use Rattle.swc_tree_marks.specs.declared.ident.Ident.{Ident}
 use Rattle.swc_tree_marks.specs.declared.span.Span.{Span as Range}
 use Rattle.swc_tree_node.specs.declared.kind.Kind.{Kind}
 use Rattle.swc_tree_node.specs.declared.kind.Kind.TheVariants as kind
 use Rattle.swc_tree_node.specs.declared.slot.Slot.{Slot}
-use Rattle.swc_tree_node.specs.declared.node.Node.{Node, Span, List as Many, Identifier, Tree, the_lemmas}
+use Rattle.swc_tree_node.specs.declared.node.Node.{Node, Span, Identifier, Tree, the_lemmas}
 use Rattle.swc_tree_grammar.specs.Stripped.{stripped}
 use Rattle.swc_tree_grammar.proofs.Stripped.{stripped_of_list, stripped_of_tree}
 use Rattle.swc_base_fixer_laws.specs.Alike.{Alike, AllAlike}

@@ -22,6 +22,10 @@ AnswerFitsTable = (place : Places) (t : Node) (s : Slot) → Fits t s → Fits (
 abbrev pub StrippingUndoesDuePairs : Type 0
 StrippingUndoesDuePairs = (place : Places) (t : Node) (s : Slot) → Fits t s → Alike (stripped t) (stripped (with_due_pairs place t))
 
--- the grammar derives the answer if it can be written down
+-- what can be written down once its pairs are set still can with the pairs
+abbrev pub DuePairsKeepWritable : Type 0
+DuePairsKeepWritable = (place : Places) (t : Node) (s : Slot) → Fits t s → Writable t → Writable (with_due_pairs place t)
+
+-- the grammar derives the answer to what can be written down
 abbrev pub AnswerFits : Type 0
-AnswerFits = (place : Places) (t : Node) (s : Slot) → Fits t s → Writable (with_due_pairs place (with_blocks t)) → FitsGrammar (with_due_pairs place (with_blocks t))
+AnswerFits = (place : Places) (t : Node) (s : Slot) → Fits t s → Writable (with_blocks t) → FitsGrammar (with_due_pairs place (with_blocks t))

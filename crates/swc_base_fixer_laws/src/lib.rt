@@ -5,7 +5,7 @@
 //! is the contract of a function that does nothing, so that it is proved.
 #![tactic(auto)]
 
-ghost use Rattle.swc_base_fixer_laws.specs.Laws.{AnswerFits, AnswerFitsTable, DuePairsArePairs, StrippingUndoesDuePairs};
+ghost use Rattle.swc_base_fixer_laws.specs.Laws.{AnswerFits, AnswerFitsTable, DuePairsArePairs, DuePairsKeepWritable, StrippingUndoesDuePairs};
 
 /// The due pairs are pairs round expressions, and nothing else changes.
 pub fn due_pairs_are_pairs()
@@ -22,7 +22,12 @@ pub fn stripping_undoes_due_pairs()
     ensures { StrippingUndoesDuePairs }
 {}
 
-/// The grammar derives the answer if it can be written down.
+/// What can be written down still can with its due pairs.
+pub fn due_pairs_keep_writable()
+    ensures { DuePairsKeepWritable }
+{}
+
+/// The grammar derives the answer to what can be written down.
 pub fn answer_fits()
     ensures { AnswerFits }
 {}
