@@ -1,5 +1,5 @@
 -- Pairs leave it as it is where an `else` would go.
-use Rattle.std.proofs.Common.{◌≡◌, Bool, true, false, IsTrue, List, [], ◌∷◌, map, refl, sym, ◌∙◌, rules}
+use Rattle.std.proofs.Common.{◌≡◌, true, false, IsTrue, List, [], ◌∷◌, map, refl, sym, ◌∙◌, rules}
 use Rattle.swc_tree_marks.specs.declared.span.Span.{Span as Range}
 use Rattle.swc_tree_marks.specs.declared.ident.Ident.{Ident}
 use Rattle.swc_tree_node.specs.declared.kind.Kind.{Kind}
@@ -11,7 +11,8 @@ use Rattle.swc_tree_grammar.proofs.Walks.{takes_else_of_tree}
 use Rattle.swc_tree_grammar.proofs.Induction.{by_children}
 use Rattle.swc_base_fixer_laws.specs.Sets.{Sets, pairable, can_pair}
 use Rattle.swc_base_fixer_laws.specs.Sets.Sets.{same, after, around, named, items, tree}
-use Rattle.swc_base_fixer_laws.specs.Sets.AllSet.{none, more}
+use Rattle.swc_base_fixer_laws.specs.Sets.FieldsSet.{nil, field}
+use Rattle.swc_tree_node.specs.declared.slot.Slot.{Slot}
 
 expression_row : (k : Kind) (ts : List Node) → can_pair k ≡ true → takes_else_step (Node-F.Tree k (map takes_else ts)) ≡ false
 expression_row kind.IfStmt ts h = absurd (cc)
@@ -47,17 +48,17 @@ of_paren s u = takes_else_of_tree kind.ParenExpr (Span s ∷ u ∷ [])
 by_row : (k : Kind) (ts us : List Node) → takes_else_step (Node-F.Tree k (map takes_else us)) ≡ takes_else_step (Node-F.Tree k (map takes_else ts)) → takes_else (Tree k us) ≡ takes_else (Tree k ts)
 by_row k ts us e = takes_else_of_tree k us ∙ e ∙ sym (takes_else_of_tree k ts)
 
-pub takes_else_kept : {b : Bool} {t u : Node} → Sets b t u → takes_else u ≡ takes_else t
+pub takes_else_kept : {s : Slot} {t u : Node} → Sets s t u → takes_else u ≡ takes_else t
 takes_else_kept (same t) = refl
 takes_else_kept (after c d) = takes_else_kept d ∙ takes_else_kept c
-takes_else_kept (around s t u p d) = of_paren s u ∙ sym (of_expression t p)
-takes_else_kept (named s k i) = of_paren s (Identifier kind.Ident i) ∙ sym (of_name k i)
+takes_else_kept (around r t u p q d) = of_paren r u ∙ sym (of_expression t q)
+takes_else_kept (named r k i) = of_paren r (Identifier kind.Ident i) ∙ sym (of_name k i)
 takes_else_kept (items ts us d) = of_list us ∙ sym (of_list ts)
-takes_else_kept (tree kind.IfStmt ts us (more s (more a (more e (more d none))))) = by_row kind.IfStmt ts us (takes_else_kept d)
-takes_else_kept (tree kind.LabeledStmt ts us (more s (more a (more d none)))) = by_row kind.LabeledStmt ts us (takes_else_kept d)
-takes_else_kept (tree kind.WhileStmt ts us (more s (more a (more d none)))) = by_row kind.WhileStmt ts us (takes_else_kept d)
-takes_else_kept (tree kind.WithStmt ts us (more s (more a (more d none)))) = by_row kind.WithStmt ts us (takes_else_kept d)
-takes_else_kept (tree kind.ForStmt ts us (more s (more a (more e (more f (more d none)))))) = by_row kind.ForStmt ts us (takes_else_kept d)
-takes_else_kept (tree kind.ForInStmt ts us (more s (more a (more e (more d none))))) = by_row kind.ForInStmt ts us (takes_else_kept d)
-takes_else_kept (tree kind.ForOfStmt ts us (more s (more a (more e (more f (more d none)))))) = by_row kind.ForOfStmt ts us (takes_else_kept d)
-takes_else_kept (tree k ts us d) = by_row k ts us refl
+takes_else_kept (tree kind.IfStmt ts us x (field s (field a (field e (field d nil))))) = by_row kind.IfStmt ts us (takes_else_kept d)
+takes_else_kept (tree kind.LabeledStmt ts us x (field s (field a (field d nil)))) = by_row kind.LabeledStmt ts us (takes_else_kept d)
+takes_else_kept (tree kind.WhileStmt ts us x (field s (field a (field d nil)))) = by_row kind.WhileStmt ts us (takes_else_kept d)
+takes_else_kept (tree kind.WithStmt ts us x (field s (field a (field d nil)))) = by_row kind.WithStmt ts us (takes_else_kept d)
+takes_else_kept (tree kind.ForStmt ts us x (field s (field a (field e (field f (field d nil)))))) = by_row kind.ForStmt ts us (takes_else_kept d)
+takes_else_kept (tree kind.ForInStmt ts us x (field s (field a (field e (field d nil))))) = by_row kind.ForInStmt ts us (takes_else_kept d)
+takes_else_kept (tree kind.ForOfStmt ts us x (field s (field a (field e (field f (field d nil)))))) = by_row kind.ForOfStmt ts us (takes_else_kept d)
+takes_else_kept (tree k ts us x d) = by_row k ts us refl

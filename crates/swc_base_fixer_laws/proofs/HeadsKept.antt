@@ -13,9 +13,11 @@ use Rattle.swc_tree_grammar.proofs.Induction.{Each, by_children}
 use Rattle.swc_tree_grammar_laws.specs.Headed.{headed, heads_in}
 use Rattle.swc_tree_grammar_laws.proofs.Levelled.{both}
 use Rattle.swc_tree_grammar_laws.proofs.Heads.{judged, whole, headed_tree, headed_list}
-use Rattle.swc_base_fixer_laws.specs.Sets.{Sets, AllSet}
+use Rattle.swc_base_fixer_laws.specs.Sets.{Sets, AllSet, FieldsSet}
 use Rattle.swc_base_fixer_laws.specs.Sets.Sets.{same, after, around, named, items, tree}
 use Rattle.swc_base_fixer_laws.specs.Sets.AllSet.{none, more}
+use Rattle.swc_base_fixer_laws.specs.Sets.FieldsSet.{nil as no_field, field}
+use Rattle.swc_tree_node.specs.declared.slot.Slot.{Slot}
 use Rattle.swc_base_fixer_laws.proofs.Kept.{both_up, or_both, not_up}
 use Rattle.swc_base_fixer_laws.proofs.Up.{Up, up}
 
@@ -122,17 +124,21 @@ around_headed : (s : Range) (u : Node) (b : Bool) → headed u true ≡ true →
 around_headed s u b h = let e : (r : Node) → headed (Tree kind.ParenExpr (Span s ∷ u ∷ [])) b ≡ (true && (headed u true && true)) = λ r. search (rules, the_lemmas) in e u ∙ rw h refl
 
 mutual
-  keep : {c : Bool} {t u : Node} → Sets c t u → Keeps t u
+  keep : {s : Slot} {t u : Node} → Sets s t u → Keeps t u
   keep (same t) = record { keeps = λ b h. h }
   keep (after c d) = let x = keep c in let y = keep d in record { keeps = λ b h. y.keeps b (x.keeps b h) }
-  keep (around s t u p d) = let x = keep d in record { keeps = λ b h. around_headed s u b (more_free u b (x.keeps b h)) }
-  keep (named s k i) = record { keeps = λ b h. around_headed s (Identifier kind.Ident i) b (search (rules, the_lemmas)) }
+  keep (around r t u p q d) = let x = keep d in record { keeps = λ b h. around_headed r u b (more_free u b (x.keeps b h)) }
+  keep (named r k i) = record { keeps = λ b h. around_headed r (Identifier kind.Ident i) b (search (rules, the_lemmas)) }
   keep (items ts us d) = let x = all_keep d in record { keeps = λ b h. headed_list us b ∙ each_keep b x (sym (headed_list ts b) ∙ h) }
-  keep (tree k ts us d) = let x = all_keep d in record { keeps = λ b h. headed_tree k us b ∙ row k x b (sym (headed_tree k ts b) ∙ h) }
+  keep (tree k ts us e d) = let x = fields_keep d in record { keeps = λ b h. headed_tree k us b ∙ row k x b (sym (headed_tree k ts b) ∙ h) }
 
-  all_keep : {c : Bool} {ts us : List Node} → AllSet c ts us → AllKeep ts us
+  all_keep : {s : Slot} {ts us : List Node} → AllSet s ts us → AllKeep ts us
   all_keep none = nil
   all_keep (more c d) = cons (up c) (keep c) (all_keep d)
 
-pub headed_kept : {c : Bool} {t u : Node} → Sets c t u → (b : Bool) → headed t b ≡ true → headed u b ≡ true
+  fields_keep : {ss : List Slot} {ts us : List Node} → FieldsSet ss ts us → AllKeep ts us
+  fields_keep no_field = nil
+  fields_keep (field c d) = cons (up c) (keep c) (fields_keep d)
+
+pub headed_kept : {s : Slot} {t u : Node} → Sets s t u → (b : Bool) → headed t b ≡ true → headed u b ≡ true
 headed_kept d b h = let x = keep d in x.keeps b h

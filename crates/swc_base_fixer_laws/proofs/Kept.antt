@@ -1,5 +1,5 @@
 -- Pairs that are set in a levelled tree leave it levelled.
-use Rattle.std.proofs.Common.{◌≡◌, Bool, true, false, not, ◌&&◌, ◌||◌, List, [], ◌∷◌, refl, sym, ap, ◌∙◌, rules}
+use Rattle.std.proofs.Common.{◌≡◌, Bool, true, false, not, ◌&&◌, ◌||◌, IsTrue, List, [], ◌∷◌, refl, sym, ap, ◌∙◌, rules}
 use Rattle.std.specs.Prelude.{Option, Some, None}
 use Rattle.std.specs.List.{list_all}
 use Rattle.swc_tree_marks.specs.declared.span.Span.{Span as Range}
@@ -12,14 +12,20 @@ use Rattle.swc_tree_node.specs.declared.node.Node.TheOpen.{Node-F}
 use Rattle.swc_tree_grammar.specs.Kinds.{is_opt_chain}
 use Rattle.swc_tree_grammar.specs.Levels.{word_of}
 use Rattle.swc_tree_grammar.specs.Demands.{Demand, demands, meets, left_side, right_side}
-use Rattle.swc_tree_grammar.specs.Demands.Demand.{Any, NewCallee, Each as EachOf}
+use Rattle.swc_tree_grammar.specs.Demands.Demand.{Any, Key, NewCallee, Each as EachOf}
 use Rattle.swc_tree_grammar_laws.specs.Levelled.{levelled, each_meets}
 use Rattle.swc_tree_grammar_laws.proofs.Levelled.{levelled_tree, levelled_list, both, also_both}
 use Rattle.swc_tree_grammar_laws.proofs.Settled.{is_met_by_pairs}
-use Rattle.swc_base_fixer_laws.specs.Sets.{Sets, AllSet}
+use Rattle.swc_base_fixer_laws.specs.Sets.{Sets, AllSet, FieldsSet, takes_pair}
 use Rattle.swc_base_fixer_laws.specs.Sets.Sets.{same, after, around, named, items, tree}
 use Rattle.swc_base_fixer_laws.specs.Sets.AllSet.{none, more}
-use Rattle.swc_base_fixer_laws.proofs.Up.{AllUp, ups}
+use Rattle.swc_base_fixer_laws.specs.Sets.FieldsSet.{nil as no_field, field}
+use Rattle.swc_tree_node.specs.declared.kind.Class.TheVariants as class
+use Rattle.swc_tree_node.specs.declared.slot.Content.TheVariants as content
+use Rattle.swc_tree_node.specs.declared.slot.Slot.{Slot}
+use Rattle.swc_tree_node.specs.declared.slot.Slot.TheVariants as slot
+use Rattle.swc_tree_node.specs.Table.{slots_of}
+use Rattle.swc_base_fixer_laws.proofs.Up.{AllUp, fields_up}
 use Rattle.swc_base_fixer_laws.proofs.Up.AllUp.{nil, cons}
 
 pub both_up : (a b c d : Bool) → (a ≡ true → c ≡ true) → (b ≡ true → d ≡ true) → (a && b) ≡ true → (c && d) ≡ true
@@ -41,17 +47,30 @@ abbrev pub is_single : Demand → Bool
 is_single (EachOf n) = false
 is_single d = is_met_by_pairs d
 
-sides : (op : Option Word') → (is_single (left_side op) ≡ true) × (is_single (right_side op) ≡ true)
-sides (Some word.LogicalOr) = (refl, refl)
-sides (Some word.LogicalAnd) = (refl, refl)
-sides (Some word.NullishCoalescing) = (refl, refl)
-sides (Some word.Exp) = (refl, refl)
-sides (Some w) = (refl, refl)
-sides None = (refl, refl)
+-- where what is asked may not be met, a pair may stand
+abbrev pub asks_pair : Demand → Slot → Bool
+asks_pair Any s = true
+asks_pair Key s = true
+asks_pair d s = takes_pair s
+
+abbrev pub all_ask : List Demand → List Slot → Bool
+all_ask (d ∷ ds) (s ∷ ss) = asks_pair d s && all_ask ds ss
+all_ask _ _ = true
+
+abbrev an_operand : Slot
+an_operand = slot.One (content.Node class.Expr)
+
+sides : (op : Option Word') → (is_single (left_side op) ≡ true) × (is_single (right_side op) ≡ true) × (asks_pair (left_side op) an_operand ≡ true) × (asks_pair (right_side op) an_operand ≡ true)
+sides (Some word.LogicalOr) = (refl, refl, refl, refl)
+sides (Some word.LogicalAnd) = (refl, refl, refl, refl)
+sides (Some word.NullishCoalescing) = (refl, refl, refl, refl)
+sides (Some word.Exp) = (refl, refl, refl, refl)
+sides (Some w) = (refl, refl, refl, refl)
+sides None = (refl, refl, refl, refl)
 
 -- the pairs change nothing that is asked, and what is asked can be met by pairs
 abbrev pub Asks : Bool → Kind → List Node → List Node → Type 0
-Asks b k ts us = (demands b (Node-F.Tree k us) ≡ demands b (Node-F.Tree k ts)) × (list_all is_single (demands b (Node-F.Tree k ts)) ≡ true)
+Asks b k ts us = (demands b (Node-F.Tree k us) ≡ demands b (Node-F.Tree k ts)) × (list_all is_single (demands b (Node-F.Tree k ts)) ≡ true) × (all_ask (demands b (Node-F.Tree k ts)) (slots_of k) ≡ true)
 
 abbrev pub is_sequence : Kind → Bool
 is_sequence kind.SeqExpr = true
@@ -59,38 +78,38 @@ is_sequence _ = false
 
 pub asks : (b : Bool) (k : Kind) {ts us : List Node} → AllUp ts us → is_sequence k ≡ false → Asks b k ts us
 asks b kind.SeqExpr d n = absurd (cc)
-asks b kind.BinExpr (cons s (cons {t = x} o (cons l (cons r nil)))) n = let h = sides (word_of x) in (rw o.word_same refl, rw (h.0, h.1) refl)
-asks true kind.MemberExpr (cons s (cons o (cons m nil))) n = (refl, refl)
-asks false kind.MemberExpr (cons s (cons o (cons m nil))) n = (refl, refl)
-asks b kind.AssignExpr (cons s (cons o (cons l (cons r nil)))) n = (refl, refl)
-asks b kind.CondExpr (cons s (cons t (cons c (cons a nil)))) n = (refl, refl)
-asks b kind.UnaryExpr (cons s (cons o (cons e nil))) n = (refl, refl)
-asks b kind.AwaitExpr (cons s (cons e nil)) n = (refl, refl)
-asks b kind.UpdateExpr (cons s (cons o (cons f (cons e nil)))) n = (refl, refl)
-asks b kind.YieldExpr (cons s (cons e (cons d nil))) n = (refl, refl)
-asks b kind.TaggedTpl (cons s (cons e (cons m nil))) n = (refl, refl)
-asks b kind.CallExpr (cons s (cons e (cons m nil))) n = (refl, refl)
-asks b kind.OptCall (cons s (cons e (cons m nil))) n = (refl, refl)
-asks b kind.NewExpr (cons s (cons e (cons a nil))) n = (ap (λ x. Any ∷ NewCallee x ∷ Any ∷ []) a.absent, refl)
-asks b kind.ExprOrSpread (cons s (cons e nil)) n = (refl, refl)
-asks b kind.SpreadElement (cons s (cons e nil)) n = (refl, refl)
-asks b kind.KeyValueProp (cons k (cons e nil)) n = (refl, refl)
-asks b kind.MethodProp (cons k (cons f nil)) n = (refl, refl)
-asks b kind.GetterProp (cons s (cons k (cons e nil))) n = (refl, refl)
-asks b kind.SetterProp (cons s (cons k (cons a (cons e nil)))) n = (refl, refl)
-asks b kind.Constructor (cons s (cons k (cons a (cons e nil)))) n = (refl, refl)
-asks b kind.ClassMethod (cons s (cons k (cons f (cons w (cons x nil))))) n = (refl, refl)
-asks b kind.ClassProp (cons s (cons k (cons e (cons x nil)))) n = (refl, refl)
-asks b kind.PrivateProp (cons s (cons k (cons e (cons x nil)))) n = (refl, refl)
-asks b kind.ArrowExpr (cons s (cons a (cons e (cons x nil)))) n = (refl, refl)
-asks b kind.Class (cons s (cons e (cons c nil))) n = (refl, refl)
-asks b kind.VarDeclarator (cons s (cons m (cons e nil))) n = (refl, refl)
-asks b kind.AssignPat (cons s (cons l (cons e nil))) n = (refl, refl)
-asks b kind.AssignPatProp (cons s (cons k (cons e nil))) n = (refl, refl)
-asks b kind.KeyValuePatProp (cons k (cons e nil)) n = (refl, refl)
-asks b kind.ExportDefaultExpr (cons s (cons e nil)) n = (refl, refl)
-asks b kind.ForOfStmt (cons s (cons w (cons l (cons r (cons e nil))))) n = (refl, refl)
-asks b k d n = (refl, refl)
+asks b kind.BinExpr (cons s (cons {t = x} o (cons l (cons r nil)))) n = let h = sides (word_of x) in (rw o.word_same refl, rw (h.0, h.1) refl, rw (h.2, h.3) refl)
+asks true kind.MemberExpr (cons s (cons o (cons m nil))) n = (refl, refl, refl)
+asks false kind.MemberExpr (cons s (cons o (cons m nil))) n = (refl, refl, refl)
+asks b kind.AssignExpr (cons s (cons o (cons l (cons r nil)))) n = (refl, refl, refl)
+asks b kind.CondExpr (cons s (cons t (cons c (cons a nil)))) n = (refl, refl, refl)
+asks b kind.UnaryExpr (cons s (cons o (cons e nil))) n = (refl, refl, refl)
+asks b kind.AwaitExpr (cons s (cons e nil)) n = (refl, refl, refl)
+asks b kind.UpdateExpr (cons s (cons o (cons f (cons e nil)))) n = (refl, refl, refl)
+asks b kind.YieldExpr (cons s (cons e (cons d nil))) n = (refl, refl, refl)
+asks b kind.TaggedTpl (cons s (cons e (cons m nil))) n = (refl, refl, refl)
+asks b kind.CallExpr (cons s (cons e (cons m nil))) n = (refl, refl, refl)
+asks b kind.OptCall (cons s (cons e (cons m nil))) n = (refl, refl, refl)
+asks b kind.NewExpr (cons s (cons e (cons a nil))) n = (ap (λ x. Any ∷ NewCallee x ∷ Any ∷ []) a.absent, refl, refl)
+asks b kind.ExprOrSpread (cons s (cons e nil)) n = (refl, refl, refl)
+asks b kind.SpreadElement (cons s (cons e nil)) n = (refl, refl, refl)
+asks b kind.KeyValueProp (cons k (cons e nil)) n = (refl, refl, refl)
+asks b kind.MethodProp (cons k (cons f nil)) n = (refl, refl, refl)
+asks b kind.GetterProp (cons s (cons k (cons e nil))) n = (refl, refl, refl)
+asks b kind.SetterProp (cons s (cons k (cons a (cons e nil)))) n = (refl, refl, refl)
+asks b kind.Constructor (cons s (cons k (cons a (cons e nil)))) n = (refl, refl, refl)
+asks b kind.ClassMethod (cons s (cons k (cons f (cons w (cons x nil))))) n = (refl, refl, refl)
+asks b kind.ClassProp (cons s (cons k (cons e (cons x nil)))) n = (refl, refl, refl)
+asks b kind.PrivateProp (cons s (cons k (cons e (cons x nil)))) n = (refl, refl, refl)
+asks b kind.ArrowExpr (cons s (cons a (cons e (cons x nil)))) n = (refl, refl, refl)
+asks b kind.Class (cons s (cons e (cons c nil))) n = (refl, refl, refl)
+asks b kind.VarDeclarator (cons s (cons m (cons e nil))) n = (refl, refl, refl)
+asks b kind.AssignPat (cons s (cons l (cons e nil))) n = (refl, refl, refl)
+asks b kind.AssignPatProp (cons s (cons k (cons e nil))) n = (refl, refl, refl)
+asks b kind.KeyValuePatProp (cons k (cons e nil)) n = (refl, refl, refl)
+asks b kind.ExportDefaultExpr (cons s (cons e nil)) n = (refl, refl, refl)
+asks b kind.ForOfStmt (cons s (cons w (cons l (cons r (cons e nil))))) n = (refl, refl, refl)
+asks b k d n = (refl, refl, refl)
 
 pub single_met : (d : Demand) → is_single d ≡ true → is_met_by_pairs d ≡ true
 single_met (EachOf n) h = absurd (cc)
@@ -120,18 +139,44 @@ span_fine s c = search (rules, the_lemmas)
 around_levelled : (s : Range) (u : Node) → levelled u false ≡ true → levelled (Tree kind.ParenExpr (Span s ∷ u ∷ [])) false ≡ true
 around_levelled s u h = levelled_tree kind.ParenExpr (Span s ∷ u ∷ []) false ∙ rw (span_fine s false, h) refl
 
-mutual
-  pub levelled_kept : {b : Bool} {t u : Node} → Sets b t u → levelled t b ≡ true → levelled u b ≡ true
-  levelled_kept (same t) h = h
-  levelled_kept (after c d) h = levelled_kept d (levelled_kept c h)
-  levelled_kept (around s t u p d) h = around_levelled s u (levelled_kept d h)
-  levelled_kept (named s k i) h = around_levelled s (Identifier kind.Ident i) (search (rules, the_lemmas))
-  levelled_kept {b = b} (items ts us d) h = levelled_list us b ∙ all_kept d (sym (levelled_list ts b) ∙ h)
-  levelled_kept {b = b} (tree k ts us d) h =
-      levelled_tree k us b
-      ∙ both_up (each_meets (demands b (Node-F.Tree k ts)) ts) (list_all (λ t. levelled t (is_opt_chain k)) ts) (each_meets (demands b (Node-F.Tree k us)) us) (list_all (λ t. levelled t (is_opt_chain k)) us)
-      (fields_kept b k (is_sequence k) refl (ups d)) (all_kept d) (sym (levelled_tree k ts b) ∙ h)
+-- the base of an optional chain stands where no pair may
+abbrev Closed : Bool → Slot → Type 0
+Closed c s = c ≡ true → takes_pair s ≡ false
 
-  all_kept : {b : Bool} {ts us : List Node} → AllSet b ts us → list_all (λ t. levelled t b) ts ≡ true → list_all (λ t. levelled t b) us ≡ true
+abbrev AllClosed : Bool → List Slot → Type 0
+AllClosed c ss = c ≡ true → list_all (λ s. not (takes_pair s)) ss ≡ true
+
+chain_closed : (k : Kind) → AllClosed (is_opt_chain k) (slots_of k)
+chain_closed kind.OptChainExpr e = refl
+chain_closed k e = absurd (cc)
+
+pub off : {A : Type 0} → false ≡ true → A
+off e = absurd (cc)
+
+around_kept : (c : Bool) (s : Slot) (r : Range) (t u : Node) → IsTrue (takes_pair s) → Closed c s → (levelled t false ≡ true → levelled u false ≡ true) → levelled t c ≡ true → levelled (Tree kind.ParenExpr (Span r ∷ u ∷ [])) c ≡ true
+around_kept true s r t u p w f h = absurd (cc (sym (w refl) ∙ p))
+around_kept false s r t u p w f h = around_levelled r u (f h)
+
+first_closed : (c : Bool) (s : Slot) (ss : List Slot) → AllClosed c (s ∷ ss) → Closed c s × AllClosed c ss
+first_closed c s ss w = (λ e. not_false (takes_pair s) ((both (not (takes_pair s)) (list_all (λ s. not (takes_pair s)) ss) (w e)).0), λ e. (both (not (takes_pair s)) (list_all (λ s. not (takes_pair s)) ss) (w e)).1)
+
+mutual
+  pub levelled_kept : {s : Slot} {t u : Node} → Sets s t u → (c : Bool) → Closed c s → levelled t c ≡ true → levelled u c ≡ true
+  levelled_kept (same t) c w h = h
+  levelled_kept (after x y) c w h = levelled_kept y c w (levelled_kept x c w h)
+  levelled_kept {s = s} (around r t u p q d) c w h = around_kept c s r t u p w (levelled_kept d false (λ e. off e)) h
+  levelled_kept (named r k i) c w h = levelled_tree kind.ParenExpr (Span r ∷ Identifier kind.Ident i ∷ []) c ∙ search (rules, the_lemmas)
+  levelled_kept (items ts us d) c w h = levelled_list us c ∙ all_kept d (sym (levelled_list ts c) ∙ h)
+  levelled_kept (tree k ts us e d) c w h =
+      levelled_tree k us c
+      ∙ both_up (each_meets (demands c (Node-F.Tree k ts)) ts) (list_all (λ t. levelled t (is_opt_chain k)) ts) (each_meets (demands c (Node-F.Tree k us)) us) (list_all (λ t. levelled t (is_opt_chain k)) us)
+      (fields_kept c k (is_sequence k) refl (fields_up d)) (fields_levelled d (is_opt_chain k) (chain_closed k)) (sym (levelled_tree k ts c) ∙ h)
+
+  all_kept : {s : Slot} {ts us : List Node} → AllSet s ts us → list_all (λ t. levelled t false) ts ≡ true → list_all (λ t. levelled t false) us ≡ true
   all_kept none h = refl
-  all_kept {b = b} (more {t = t} {u = u} {ts = ts} {us = us} c d) h = both_up (levelled t b) (list_all (λ t. levelled t b) ts) (levelled u b) (list_all (λ t. levelled t b) us) (levelled_kept c) (all_kept d) h
+  all_kept (more {t = t} {u = u} {ts = ts} {us = us} x d) h = both_up (levelled t false) (list_all (λ t. levelled t false) ts) (levelled u false) (list_all (λ t. levelled t false) us) (levelled_kept x false (λ e. off e)) (all_kept d) h
+
+  fields_levelled : {ss : List Slot} {ts us : List Node} → FieldsSet ss ts us → (c : Bool) → AllClosed c ss → list_all (λ t. levelled t c) ts ≡ true → list_all (λ t. levelled t c) us ≡ true
+  fields_levelled no_field c w h = refl
+  fields_levelled (field {s = s} {ss = ss} {t = t} {u = u} {ts = ts} {us = us} x d) c w h =
+      let q = first_closed c s ss w in both_up (levelled t c) (list_all (λ t. levelled t c) ts) (levelled u c) (list_all (λ t. levelled t c) us) (levelled_kept x c q.0) (fields_levelled d c q.1) h

@@ -18,14 +18,20 @@ use Rattle.swc_tree_grammar.proofs.Induction.{Each, by_children}
 use Rattle.swc_tree_grammar_laws.proofs.Wholes.{carried}
 use Rattle.swc_tree_grammar_laws.proofs.Levelled.{both}
 use Rattle.swc_tree_grammar_laws.proofs.Callees.{callee, paired_of}
-use Rattle.swc_base_fixer_laws.specs.Formed.{is_list}
-use Rattle.swc_base_fixer_laws.specs.Sets.{Sets, AllSet, pairable, can_pair}
+use Rattle.swc_base_fixer_laws.specs.Sets.{Sets, AllSet, FieldsSet, pairable, can_pair, takes_pair}
 use Rattle.swc_base_fixer_laws.specs.Sets.Sets.{same, around, items, tree}
 use Rattle.swc_base_fixer_laws.specs.Sets.AllSet.{none, more}
+use Rattle.swc_base_fixer_laws.specs.Sets.FieldsSet.{nil, field}
+use Rattle.swc_tree_node.specs.declared.kind.Class.TheVariants as class
+use Rattle.swc_tree_node.specs.declared.slot.Content.TheVariants as content
+use Rattle.swc_tree_node.specs.declared.slot.Slot.{Slot}
+use Rattle.swc_tree_node.specs.declared.slot.Slot.TheVariants as slot
+use Rattle.swc_tree_node.specs.Fits.{Fits, FieldsFit}
+use Rattle.swc_tree_node.proofs.Fit.{fits-Absent, fits-Flag, fits-Word, fits-Text, fits-Span, fits-Identifier, fits-Tree}
+use Rattle.swc_tree_grammar_laws.proofs.Blocked.{no}
 use Rattle.swc_base_fixer_laws.proofs.Up.{at_least_of_tree, called_of_tree, bare_of_tree, nullish_of_tree, kind_of_tree}
-use Rattle.swc_base_fixer_laws.proofs.Kept.{is_single}
+use Rattle.swc_base_fixer_laws.proofs.Kept.{is_single, asks_pair, all_ask, not_false}
 use Rattle.swc_base_fixer_laws.proofs.ElseKept.{pairable_tree}
-use Rattle.swc_base_fixer_laws.proofs.FormedKept.{no_list, tree_list, name_list}
 
 -- what gets no pair needs none
 level_row : (k : Kind) (ts : List Node) → can_pair k ≡ false → level_in (Node-F.Tree k ts) ≡ 19
@@ -113,41 +119,45 @@ pub unmet : (d : Demand) (t : Node) → is_place d ≡ true → meets d t ≡ fa
 unmet d t m h = unmet_if (pairable t) d t refl m h
 
 -- a pair where a test says so
-pub pair_set : (b : Bool) (p : Places) (e : Node) → (b ≡ true → IsTrue (pairable e)) → Sets false e (pair_if b p e)
-pair_set true p e h = around (p (span_of e)) e e (h refl) (same e)
-pair_set false p e h = same e
+abbrev pub May : Slot → Node → Type 0
+May s e = IsTrue (takes_pair s) × IsTrue (pairable e)
+
+pub pair_set : (b : Bool) (p : Places) (s : Slot) (e : Node) → (b ≡ true → May s e) → Sets s e (pair_if b p e)
+pair_set true p s e h = let q = h refl in around (p (span_of e)) e e q.0 q.1 (same e)
+pair_set false p s e h = same e
 
 either : (a b : Bool) {A : Type 0} → (a ≡ true → A) → (b ≡ false → A) → (a || not b) ≡ true → A
 either true b f g h = f refl
 either false false f g h = g refl
 either false true f g h = absurd (cc)
 
-abbrev pub Names : (Node → Bool) → Node → Type 0
-Names named e = named e ≡ true → IsTrue (pairable e)
+abbrev pub Names : Slot → (Node → Bool) → Node → Type 0
+Names s named e = named e ≡ true → May s e
 
-one_set : (d : Demand) (p : Places) (named : Node → Bool) (e : Node) → is_place d ≡ true → Names named e → Sets false e (pair_if (named e || not (meets d e)) p e)
-one_set d p named e m f = pair_set (named e || not (meets d e)) p e (either (named e) (meets d e) f (unmet d e m))
+asks_of : (d : Demand) (s : Slot) (e : Node) → is_place d ≡ true → asks_pair d s ≡ true → meets d e ≡ false → IsTrue (takes_pair s)
+asks_of Any s e m a h = absurd (cc)
+asks_of Key s e m a h = absurd (cc)
+asks_of d s e m a h = a
 
-not_false : (b : Bool) → not b ≡ true → b ≡ false
-not_false true h = absurd (cc)
-not_false false h = refl
+one_set : (d : Demand) (p : Places) (named : Node → Bool) (s : Slot) (e : Node) → is_place d ≡ true → asks_pair d s ≡ true → Names s named e → Sets s e (pair_if (named e || not (meets d e)) p e)
+one_set d p named s e m a f = pair_set (named e || not (meets d e)) p s e (either (named e) (meets d e) f (λ h. (asks_of d s e m a h, unmet d e m h)))
 
-to_set : (n : ℕ) (p : Places) (e : Node) → nat_le n 19 ≡ true → Sets false e (to_level n p e)
-to_set n p e m = pair_set (not (at_least n e)) p e (λ h. unmet (AtLeast n) e m (not_false (at_least n e) h))
+to_set : (n : ℕ) (p : Places) (s : Slot) (e : Node) → IsTrue (takes_pair s) → nat_le n 19 ≡ true → Sets s e (to_level n p e)
+to_set n p s e w m = pair_set (not (at_least n e)) p s e (λ h. (w, unmet (AtLeast n) e m (not_false (at_least n e) h)))
 
 -- keys
-computed_set : (k : Kind) (ts : List Node) (p : Places) → Sets false (Tree k ts) (key_in p (Tree k ts) (Node-F.Tree k ts))
-computed_set kind.ComputedPropName (s ∷ e ∷ []) p = tree kind.ComputedPropName (s ∷ e ∷ []) (s ∷ to_level 2 p e ∷ []) (more (same s) (more (to_set 2 p e refl) none))
-computed_set k ts p = same (Tree k ts)
+computed_set : (s : Slot) (k : Kind) (ts : List Node) (p : Places) → Sets s (Tree k ts) (key_in p (Tree k ts) (Node-F.Tree k ts))
+computed_set s kind.ComputedPropName (a ∷ e ∷ []) p = tree kind.ComputedPropName (a ∷ e ∷ []) (a ∷ to_level 2 p e ∷ []) refl (field (same a) (field (to_set 2 p (slot.One (content.Node class.Expr)) e refl refl) nil))
+computed_set s k ts p = same (Tree k ts)
 
-key_leaf : (p : Places) (t : Node) → key_in p t (out-Node t) ≡ t → Sets false t (key_in p t (out-Node t))
-key_leaf p t e = rw e (same t)
+key_leaf : (p : Places) (s : Slot) (t : Node) → key_in p t (out-Node t) ≡ t → Sets s t (key_in p t (out-Node t))
+key_leaf p s t e = rw e (same t)
 
-key_set : (p : Places) (t : Node) → Sets false t (key_in p t (out-Node t))
-key_set p t = by_children (λ t. Sets false t (key_in p t (out-Node t)))
-    (key_leaf p Absent (search (rules, the_lemmas)), λ x. key_leaf p (Flag x) (search (rules, the_lemmas)), λ w. key_leaf p (Word w) (search (rules, the_lemmas)), λ x. key_leaf p (Text x) (search (rules, the_lemmas)), λ s. key_leaf p (Span s) (search (rules, the_lemmas)), λ k i. key_leaf p (Identifier k i) (search (rules, the_lemmas)))
-    (λ ts l. key_leaf p (Many ts) (search (rules, the_lemmas)))
-    (λ k ts l. (let e : key_in p (Tree k ts) (out-Node (Tree k ts)) ≡ key_in p (Tree k ts) (Node-F.Tree k ts) = search (rules, the_lemmas) in rw e (computed_set k ts p))) t
+key_set : (p : Places) (s : Slot) (t : Node) → Sets s t (key_in p t (out-Node t))
+key_set p s t = by_children (λ t. Sets s t (key_in p t (out-Node t)))
+    (key_leaf p s Absent (search (rules, the_lemmas)), λ x. key_leaf p s (Flag x) (search (rules, the_lemmas)), λ w. key_leaf p s (Word w) (search (rules, the_lemmas)), λ x. key_leaf p s (Text x) (search (rules, the_lemmas)), λ r. key_leaf p s (Span r) (search (rules, the_lemmas)), λ k i. key_leaf p s (Identifier k i) (search (rules, the_lemmas)))
+    (λ ts l. key_leaf p s (Many ts) (search (rules, the_lemmas)))
+    (λ k ts l. (let e : key_in p (Tree k ts) (out-Node (Tree k ts)) ≡ key_in p (Tree k ts) (Node-F.Tree k ts) = search (rules, the_lemmas) in rw e (computed_set s k ts p))) t
 
 -- what `new` calls: the pair stands at a call
 called_row : (k : Kind) (ts : List Node) → called_step (Node-F.Tree k (map is_called ts)) ≡ true → nat_le 18 (level_in (Node-F.Tree k ts)) ≡ false
@@ -170,78 +180,105 @@ if_called true h = refl
 if_called false h = absurd (cc)
 
 abbrev CallPaired : Places → Node → Type 0
-CallPaired p t = at_least 18 t ≡ false → Sets false t (call_paired p t)
+CallPaired p t = (s : Slot) → IsTrue (takes_pair s) → at_least 18 t ≡ false → Sets s t (call_paired p t)
 
 callee_whole : (p : Places) (t : Node) → (callee p t).whole ≡ t
 callee_whole p t = carried Callee (callee_step p) (λ e. e.whole) (λ x. refl) t
 
-callee_row : (p : Places) (k : Kind) (ts : List Node) → Each (CallPaired p) ts → nat_le 18 (level_in (Node-F.Tree k ts)) ≡ false → Sets false (Tree k ts) (callee_in p (Tree k ts) (Node-F.Tree k (map (callee p) ts)))
-callee_row p kind.MemberExpr (s ∷ o ∷ m ∷ []) l h =
-    rw (callee_whole p s, callee_whole p m) (tree kind.MemberExpr (s ∷ o ∷ m ∷ []) (s ∷ call_paired p o ∷ m ∷ []) (more (same s) (more (l.1.0 (called_low o (if_called (is_called o) h))) (more (same m) none))))
-callee_row p kind.TaggedTpl (s ∷ o ∷ m ∷ []) l h =
-    rw (callee_whole p s, callee_whole p m) (tree kind.TaggedTpl (s ∷ o ∷ m ∷ []) (s ∷ call_paired p o ∷ m ∷ []) (more (same s) (more (l.1.0 (called_low o (if_called (is_called o) h))) (more (same m) none))))
-callee_row p k ts l h = around (p (span_of (Tree k ts))) (Tree k ts) (Tree k ts) (unmet (AtLeast 18) (Tree k ts) refl (at_least_of_tree 18 k ts ∙ h)) (same (Tree k ts))
+callee_row : (p : Places) (k : Kind) (ts : List Node) → Each (CallPaired p) ts → (s : Slot) → IsTrue (takes_pair s) → nat_le 18 (level_in (Node-F.Tree k ts)) ≡ false → Sets s (Tree k ts) (callee_in p (Tree k ts) (Node-F.Tree k (map (callee p) ts)))
+callee_row p kind.MemberExpr (a ∷ o ∷ m ∷ []) l s w h =
+    rw (callee_whole p a, callee_whole p m)
+    (tree kind.MemberExpr (a ∷ o ∷ m ∷ []) (a ∷ call_paired p o ∷ m ∷ []) refl (field (same a) (field (l.1.0 (slot.One (content.Node class.Expr)) refl (called_low o (if_called (is_called o) h))) (field (same m) nil))))
+callee_row p kind.TaggedTpl (a ∷ o ∷ m ∷ []) l s w h =
+    rw (callee_whole p a, callee_whole p m)
+    (tree kind.TaggedTpl (a ∷ o ∷ m ∷ []) (a ∷ call_paired p o ∷ m ∷ []) refl (field (same a) (field (l.1.0 (slot.One (content.Node class.Expr)) refl (called_low o (if_called (is_called o) h))) (field (same m) nil))))
+callee_row p k ts l s w h = around (p (span_of (Tree k ts))) (Tree k ts) (Tree k ts) w (unmet (AtLeast 18) (Tree k ts) refl (at_least_of_tree 18 k ts ∙ h)) (same (Tree k ts))
 
 high : (p : Places) (t : Node) → at_least 18 t ≡ true → CallPaired p t
-high p t e h = absurd (cc)
+high p t e s w h = absurd (cc)
 
 callee_set : (p : Places) (t : Node) → CallPaired p t
 callee_set p t = by_children (CallPaired p)
     (high p Absent (search (rules, the_lemmas)), λ x. high p (Flag x) (search (rules, the_lemmas)), λ w. high p (Word w) (search (rules, the_lemmas)), λ x. high p (Text x) (search (rules, the_lemmas)), λ s. high p (Span s) (search (rules, the_lemmas)), λ k i. high p (Identifier k i) (search (rules, the_lemmas)))
     (λ ts l. high p (Many ts) (search (rules, the_lemmas)))
-    (λ k ts l h. rw (paired_of p k ts) (callee_row p k ts l (sym (at_least_of_tree 18 k ts) ∙ h))) t
+    (λ k ts l s w h. rw (paired_of p k ts) (callee_row p k ts l s w (sym (at_least_of_tree 18 k ts) ∙ h))) t
 
 or_left : (a b : Bool) → (a || b) ≡ false → a ≡ false
 or_left true b h = absurd (cc)
 or_left false b h = refl
 
-new_else : (x : Bool) (p : Places) (a : Bool) (e : Node) → meets (NewCallee a) e ≡ x → Sets false e (if x then e else call_paired p e)
-new_else true p a e h = same e
-new_else false p a e h = callee_set p e (or_left (at_least 18 e) (a && is_bare_new e) h)
+new_else : (x : Bool) (p : Places) (a : Bool) (s : Slot) (e : Node) → IsTrue (takes_pair s) → meets (NewCallee a) e ≡ x → Sets s e (if x then e else call_paired p e)
+new_else true p a s e w h = same e
+new_else false p a s e w h = callee_set p e s w (or_left (at_least 18 e) (a && is_bare_new e) h)
 
-new_if : (c : Bool) (p : Places) (a : Bool) (named : Node → Bool) (e : Node) → named e ≡ c → Names named e → Sets false e (if c then pair p e else if meets (NewCallee a) e then e else call_paired p e)
-new_if true p a named e h f = around (p (span_of e)) e e (f h) (same e)
-new_if false p a named e h f = new_else (meets (NewCallee a) e) p a e refl
+new_if : (c : Bool) (p : Places) (a : Bool) (named : Node → Bool) (s : Slot) (e : Node) → IsTrue (takes_pair s) → named e ≡ c → Names s named e → Sets s e (if c then pair p e else if meets (NewCallee a) e then e else call_paired p e)
+new_if true p a named s e w h f = let q = f h in around (p (span_of e)) e e q.0 q.1 (same e)
+new_if false p a named s e w h f = new_else (meets (NewCallee a) e) p a s e w refl
 
 -- what a place gets
-pub settled_set : (p : Places) (d : Demand) (named : Node → Bool) (e : Node) → is_single d ≡ true → Names named e → Sets false e (settled p d named e)
-settled_set p (EachOf n) named e m f = absurd (cc)
-settled_set p Key named e m f = key_set p e
-settled_set p (NewCallee a) named e m f = new_if (named e) p a named e refl f
-settled_set p Any named e m f = one_set Any p named e m f
-settled_set p (AtLeast n) named e m f = one_set (AtLeast n) p named e m f
-settled_set p Body named e m f = one_set Body p named e m f
-settled_set p Operand named e m f = one_set Operand p named e m f
-settled_set p Link named e m f = one_set Link p named e m f
-settled_set p OrSide named e m f = one_set OrSide p named e m f
-settled_set p NullishSide named e m f = one_set NullishSide p named e m f
+pub settled_set : (p : Places) (d : Demand) (named : Node → Bool) (s : Slot) (e : Node) → is_single d ≡ true → asks_pair d s ≡ true → Names s named e → Sets s e (settled p d named e)
+settled_set p (EachOf n) named s e m a f = absurd (cc)
+settled_set p Key named s e m a f = key_set p s e
+settled_set p (NewCallee b) named s e m a f = new_if (named e) p b named s e a refl f
+settled_set p Any named s e m a f = one_set Any p named s e m a f
+settled_set p (AtLeast n) named s e m a f = one_set (AtLeast n) p named s e m a f
+settled_set p Body named s e m a f = one_set Body p named s e m a f
+settled_set p Operand named s e m a f = one_set Operand p named s e m a f
+settled_set p Link named s e m a f = one_set Link p named s e m a f
+settled_set p OrSide named s e m a f = one_set OrSide p named s e m a f
+settled_set p NullishSide named s e m a f = one_set NullishSide p named s e m a f
 
 -- all fields
-abbrev pub AllName : List (Node → Bool) → List Node → Type 0
-AllName (n ∷ ns) (t ∷ ts) = Names n t × AllName ns ts
-AllName _ _ = Unit {0}
+abbrev pub AllName : List Slot → List (Node → Bool) → List Node → Type 0
+AllName (s ∷ ss) (n ∷ ns) (t ∷ ts) = Names s n t × AllName ss ns ts
+AllName _ _ _ = Unit {0}
 
-pub unnamed : (t : Node) → Names no_names t
-unnamed t h = absurd (cc)
+pub unnamed : (s : Slot) (t : Node) → Names s no_names t
+unnamed s t h = absurd (cc)
 
-pub all_same : (ts : List Node) → AllSet false ts ts
+pub all_same : {s : Slot} (ts : List Node) → AllSet s ts ts
 all_same [] = none
 all_same (t ∷ ts) = more (same t) (all_same ts)
 
-pub fields_set : (p : Places) (ds : List Demand) (ns : List (Node → Bool)) (ts : List Node) → list_all is_single ds ≡ true → AllName ns ts → AllSet false ts (each_settled p ds ns ts)
-fields_set p [] ns ts m f = all_same ts
-fields_set p (d ∷ ds) [] [] m f = none
-fields_set p (d ∷ ds) (n ∷ ns) [] m f = none
-fields_set p (d ∷ ds) [] (t ∷ ts) m f = let q = both (is_single d) (list_all is_single ds) m in more (settled_set p d no_names t q.0 (unnamed t)) (fields_set p ds [] ts q.1 tt)
-fields_set p (d ∷ ds) (n ∷ ns) (t ∷ ts) m f = let q = both (is_single d) (list_all is_single ds) m in more (settled_set p d n t q.0 f.0) (fields_set p ds ns ts q.1 f.1)
+pub fields_same : (ss : List Slot) (ts : List Node) → FieldsFit ss ts → FieldsSet ss ts ts
+fields_same [] [] f = nil
+fields_same [] (t ∷ ts) f = absurd f
+fields_same (s ∷ ss) [] f = absurd f
+fields_same (s ∷ ss) (t ∷ ts) f = field (same t) (fields_same ss ts f.1)
+
+pub nameless : (ss : List Slot) (ts : List Node) → AllName ss [] ts
+nameless [] ts = tt
+nameless (s ∷ ss) ts = tt
+
+pub fields_set : (p : Places) (ss : List Slot) (ds : List Demand) (ns : List (Node → Bool)) (ts : List Node) → list_all is_single ds ≡ true → all_ask ds ss ≡ true → AllName ss ns ts → FieldsFit ss ts → FieldsSet ss ts (each_settled p ds ns ts)
+fields_set p [] ds ns (t ∷ ts) m a f g = absurd g
+fields_set p (s ∷ ss) ds ns [] m a f g = absurd g
+fields_set p [] [] ns [] m a f g = nil
+fields_set p [] (d ∷ ds) [] [] m a f g = nil
+fields_set p [] (d ∷ ds) (n ∷ ns) [] m a f g = nil
+fields_set p (s ∷ ss) [] ns (t ∷ ts) m a f g = fields_same (s ∷ ss) (t ∷ ts) g
+fields_set p (s ∷ ss) (d ∷ ds) [] (t ∷ ts) m a f g =
+    let q = both (is_single d) (list_all is_single ds) m in let r = both (asks_pair d s) (all_ask ds ss) a in field (settled_set p d no_names s t q.0 r.0 (unnamed s t)) (fields_set p ss ds [] ts q.1 r.1 (nameless ss ts) g.1)
+fields_set p (s ∷ ss) (d ∷ ds) (n ∷ ns) (t ∷ ts) m a f g =
+    let q = both (is_single d) (list_all is_single ds) m in let r = both (asks_pair d s) (all_ask ds ss) a in field (settled_set p d n s t q.0 r.0 f.0) (fields_set p ss ds ns ts q.1 r.1 f.1 g.1)
 
 -- the items of a sequence
-to_each : (n : ℕ) (p : Places) (ts : List Node) → nat_le n 19 ≡ true → AllSet false ts (map (to_level n p) ts)
+to_each : (n : ℕ) (p : Places) (ts : List Node) → nat_le n 19 ≡ true → AllSet (slot.One (content.Node class.Expr)) ts (map (to_level n p) ts)
 to_each n p [] h = none
-to_each n p (t ∷ ts) h = more (to_set n p t h) (to_each n p ts h)
+to_each n p (t ∷ ts) h = more (to_set n p (slot.One (content.Node class.Expr)) t refl h) (to_each n p ts h)
 
-pub each_set : (n : ℕ) (p : Places) (t : Node) → nat_le n 19 ≡ true → is_list t ≡ true → Sets false t (Many (map (to_level n p) (items_of t)))
-each_set n p t h = by_children (λ t. is_list t ≡ true → Sets false t (Many (map (to_level n p) (items_of t))))
-    (λ g. no_list Absent (search (rules, the_lemmas)) g, λ x g. no_list (Flag x) (search (rules, the_lemmas)) g, λ w g. no_list (Word w) (search (rules, the_lemmas)) g, λ x g. no_list (Text x) (search (rules, the_lemmas)) g, λ s g. no_list (Span s) (search (rules, the_lemmas)) g, λ k i g. no_list (Identifier k i) (name_list k i) g)
-    (λ ts l g. (let e : items_of (Many ts) ≡ ts = search (rules, the_lemmas) in rw e (items ts (map (to_level n p) ts) (to_each n p ts h))))
-    (λ k ts l g. no_list (Tree k ts) (tree_list k ts) g) t
+abbrev pub expressions : Slot
+expressions = slot.List (content.Node class.Expr)
+
+-- what is a list stands where one may
+pub of_list : (P : Node → Type 0) → ((ts : List Node) → P (Many ts)) → (t : Node) → Fits t expressions → P t
+of_list P f t = by_children (λ t. Fits t expressions → P t)
+    (λ h. absurd (no (sym (fits-Absent expressions) ∙ h)), λ x h. absurd (no (sym (fits-Flag x expressions) ∙ h)), λ w h. absurd (no (sym (fits-Word w expressions) ∙ h)), λ x h. absurd (no (sym (fits-Text x expressions) ∙ h)), λ s h. absurd (no (sym (fits-Span s expressions) ∙ h)), λ k i h. absurd (no (sym (fits-Identifier k i expressions) ∙ h)))
+    (λ ts l h. f ts)
+    (λ k ts l h. absurd (no (sym (fits-Tree k ts expressions) ∙ h))) t
+
+many_set : (n : ℕ) (p : Places) → nat_le n 19 ≡ true → (ts : List Node) → Sets expressions (Many ts) (Many (map (to_level n p) (items_of (Many ts))))
+many_set n p h ts = let e : items_of (Many ts) ≡ ts = search (rules, the_lemmas) in rw e (items ts (map (to_level n p) ts) (to_each n p ts h))
+
+pub each_set : (n : ℕ) (p : Places) (t : Node) → nat_le n 19 ≡ true → Fits t expressions → Sets expressions t (Many (map (to_level n p) (items_of t)))
+each_set n p t h f = of_list (λ t. Sets expressions t (Many (map (to_level n p) (items_of t)))) (many_set n p h) t f

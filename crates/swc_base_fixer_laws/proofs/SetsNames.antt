@@ -16,8 +16,14 @@ use Rattle.swc_base_fixer_laws.specs.Sets.{AllSet, pairable, can_pair}
 use Rattle.swc_base_fixer_laws.specs.Sets.Sets.{same}
 use Rattle.swc_base_fixer_laws.specs.Sets.AllSet.{none, more}
 use Rattle.swc_base_fixer_laws.proofs.Up.{kind_of_tree}
+use Rattle.swc_base_fixer_laws.proofs.Kept.{off}
 use Rattle.swc_base_fixer_laws.proofs.ElseKept.{pairable_tree}
-use Rattle.swc_base_fixer_laws.proofs.SetsLevels.{AllName, unnamed, pair_set}
+use Rattle.swc_base_fixer_laws.proofs.SetsLevels.{AllName, nameless, pair_set}
+use Rattle.swc_tree_node.specs.declared.kind.Class.TheVariants as class
+use Rattle.swc_tree_node.specs.declared.slot.Content.TheVariants as content
+use Rattle.swc_tree_node.specs.declared.slot.Slot.{Slot}
+use Rattle.swc_tree_node.specs.declared.slot.Slot.TheVariants as slot
+use Rattle.swc_tree_node.specs.Table.{slots_of}
 
 -- by the kind
 no_kind : (q : Kind → Bool) (t : Node) → has_kind q t ≡ false → has_kind q t ≡ true → IsTrue (pairable t)
@@ -115,18 +121,18 @@ odd_left : (op : Option Word') (e : Node) → is_odd_left op e ≡ true → IsTr
 odd_left op e h = odd_if (odd_unary op (unary_word_in (out-Node e))) (is_instance op || is_equality op) (has_kind is_object e) (dropping op e) (of_kind is_object object_kind e) h
 
 -- the fields of each kind
-pub names : (k : Kind) (ts : List Node) → AllName (named_in (Node-F.Tree k ts)) ts
-names kind.CallExpr (s ∷ e ∷ a ∷ []) = (unnamed s, (of_kind is_odd_callee odd_callee e, (unnamed a, tt)))
-names kind.OptCall (s ∷ e ∷ a ∷ []) = (unnamed s, (of_kind is_odd_callee odd_callee e, (unnamed a, tt)))
-names kind.MemberExpr (s ∷ e ∷ m ∷ []) = (unnamed s, (of_kind is_odd_object odd_object e, (unnamed m, tt)))
-names kind.TaggedTpl (s ∷ e ∷ m ∷ []) = (unnamed s, (of_kind is_function function_kind e, (unnamed m, tt)))
-names kind.NewExpr (s ∷ e ∷ a ∷ []) = (unnamed s, (of_kind is_literal literal_kind e, (unnamed a, tt)))
-names kind.BinExpr (s ∷ o ∷ l ∷ r ∷ []) = (unnamed s, (unnamed o, (odd_left (word_of o) l, (unnamed r, tt))))
-names kind.ExprOrSpread (s ∷ e ∷ []) = (unnamed s, (λ h. of_kind is_yield yield_kind e (and_right (is_absent s) (has_kind is_yield e) h), tt))
-names kind.ArrowExpr (s ∷ a ∷ e ∷ f ∷ []) = (unnamed s, (unnamed a, (assigning is_array_pattern e, (unnamed f, tt))))
-names kind.ExportDefaultExpr (s ∷ e ∷ []) = (unnamed s, (of_kind is_arrow arrow_kind e, tt))
-names kind.ForOfStmt (s ∷ w ∷ l ∷ r ∷ e ∷ []) = (unnamed s, (unnamed w, (unnamed l, (of_kind is_await await_kind r, (unnamed e, tt)))))
-names k ts = tt
+pub names : (k : Kind) (ts : List Node) → AllName (slots_of k) (named_in (Node-F.Tree k ts)) ts
+names kind.CallExpr (s ∷ e ∷ a ∷ []) = (λ h. off h, (λ h. (refl, of_kind is_odd_callee odd_callee e h), (λ h. off h, tt)))
+names kind.OptCall (s ∷ e ∷ a ∷ []) = (λ h. off h, (λ h. (refl, of_kind is_odd_callee odd_callee e h), (λ h. off h, tt)))
+names kind.MemberExpr (s ∷ e ∷ m ∷ []) = (λ h. off h, (λ h. (refl, of_kind is_odd_object odd_object e h), (λ h. off h, tt)))
+names kind.TaggedTpl (s ∷ e ∷ m ∷ []) = (λ h. off h, (λ h. (refl, of_kind is_function function_kind e h), (λ h. off h, tt)))
+names kind.NewExpr (s ∷ e ∷ a ∷ []) = (λ h. off h, (λ h. (refl, of_kind is_literal literal_kind e h), (λ h. off h, tt)))
+names kind.BinExpr (s ∷ o ∷ l ∷ r ∷ []) = (λ h. off h, (λ h. off h, (λ h. (refl, odd_left (word_of o) l h), (λ h. off h, tt))))
+names kind.ExprOrSpread (s ∷ e ∷ []) = (λ h. off h, (λ h. (refl, of_kind is_yield yield_kind e (and_right (is_absent s) (has_kind is_yield e) h)), tt))
+names kind.ArrowExpr (s ∷ a ∷ e ∷ f ∷ []) = (λ h. off h, (λ h. off h, (λ h. (refl, assigning is_array_pattern e h), (λ h. off h, tt))))
+names kind.ExportDefaultExpr (s ∷ e ∷ []) = (λ h. off h, (λ h. (refl, of_kind is_arrow arrow_kind e h), tt))
+names kind.ForOfStmt (s ∷ w ∷ l ∷ r ∷ e ∷ []) = (λ h. off h, (λ h. off h, (λ h. off h, (λ h. (refl, of_kind is_await await_kind r h), (λ h. off h, tt)))))
+names k ts = nameless (slots_of k) ts
 
 -- the items of a sequence that is a statement
 item_ways : (a b c : Bool) {A : Type 0} → (a ≡ true → A) → (b ≡ true → A) → (c ≡ true → A) → (a || (b || c)) ≡ true → A
@@ -137,7 +143,10 @@ item_ways false false c f g i h = i h
 odd_item : (t : Node) → is_odd_item t ≡ true → IsTrue (pairable t)
 odd_item t h = item_ways (has_kind is_object t) (has_kind is_class t) (assigns_to is_object_pattern t) (of_kind is_object object_kind t) (of_kind is_class class_kind t) (assigning is_object_pattern t) h
 
-pub odd_set : (p : Places) (ts : List Node) → AllSet false ts (odd_items p ts)
+abbrev an_expression : Slot
+an_expression = slot.One (content.Node class.Expr)
+
+pub odd_set : (p : Places) (ts : List Node) → AllSet an_expression ts (odd_items p ts)
 odd_set p [] = none
 odd_set p (t ∷ []) = more (same t) none
-odd_set p (t ∷ u ∷ ts) = more (pair_set (is_odd_item t) p t (odd_item t)) (odd_set p (u ∷ ts))
+odd_set p (t ∷ u ∷ ts) = more (pair_set (is_odd_item t) p an_expression t (λ h. (refl, odd_item t h))) (odd_set p (u ∷ ts))

@@ -20,9 +20,11 @@ use Rattle.swc_tree_grammar.proofs.Induction.{by_children}
 use Rattle.swc_tree_grammar_laws.proofs.Levelled.{both, also_both}
 use Rattle.swc_tree_grammar_laws.proofs.Begins.{or_right}
 use Rattle.swc_tree_grammar_laws.proofs.Settled.{is_met_by_pairs}
-use Rattle.swc_base_fixer_laws.specs.Sets.{pairable, Sets, AllSet}
+use Rattle.swc_base_fixer_laws.specs.Sets.{pairable, Sets, AllSet, FieldsSet}
 use Rattle.swc_base_fixer_laws.specs.Sets.Sets.{same, after, around, named, items, tree}
 use Rattle.swc_base_fixer_laws.specs.Sets.AllSet.{none, more}
+use Rattle.swc_base_fixer_laws.specs.Sets.FieldsSet.{nil as no_field, field}
+use Rattle.swc_tree_node.specs.declared.slot.Slot.{Slot}
 
 pub record Up (t u : Node) : Type 0 where
   pub met : (d : Demand) → is_met_by_pairs d ≡ true → meets d t ≡ true → meets d u ≡ true
@@ -243,14 +245,18 @@ a_name : (k : Kind) (i : Ident) → Paired (Identifier k i)
 a_name k i = record { no_word = search (rules, the_lemmas); not_absent = search (rules, the_lemmas); no_flag = search (rules, the_lemmas) }
 
 mutual
-  pub up : {b : Bool} {t u : Node} → Sets b t u → Up t u
+  pub up : {s : Slot} {t u : Node} → Sets s t u → Up t u
   up (same t) = up_same t
   up (after c d) = up_then (up c) (up d)
-  up (around s t u h d) = up_around s t u (paired t h)
-  up (named s k i) = up_around s (Identifier k i) (Identifier kind.Ident i) (a_name k i)
+  up (around r t u p h d) = up_around r t u (paired t h)
+  up (named r k i) = up_around r (Identifier k i) (Identifier kind.Ident i) (a_name k i)
   up (items ts us d) = up_list ts us (ups d)
-  up (tree k ts us d) = up_tree k ts us (ups d)
+  up (tree k ts us e d) = up_tree k ts us (fields_up d)
 
-  pub ups : {b : Bool} {ts us : List Node} → AllSet b ts us → AllUp ts us
+  pub ups : {s : Slot} {ts us : List Node} → AllSet s ts us → AllUp ts us
   ups none = nil
   ups (more c d) = cons (up c) (ups d)
+
+  pub fields_up : {ss : List Slot} {ts us : List Node} → FieldsSet ss ts us → AllUp ts us
+  fields_up no_field = nil
+  fields_up (field c d) = cons (up c) (fields_up d)

@@ -1,3 +1,3 @@
-pub mod Formed
+pub mod Alike
 pub mod Sets
 pub mod Laws
