@@ -26,11 +26,11 @@ new_spine = (search (rules, the_lemmas), search (rules, the_lemmas), search (rul
 after_chain : Needs (member (chain true (member a))) (member (paren (chain true (member a)))) (1 ∷ [])
 after_chain = (search (rules, the_lemmas), search (rules, the_lemmas), search (rules, the_lemmas))
 
--- `(a ? b : c) ? d : f`
+-- a conditional in a pair, as the test of a conditional
 test_choice : Needs (cond (cond a b c) d f) (cond (paren (cond a b c)) d f) (1 ∷ [])
 test_choice = (search (rules, the_lemmas), search (rules, the_lemmas), search (rules, the_lemmas))
 
--- `a ? b : (c, d)`
+-- a sequence in a pair, as the last part of a conditional
 choice_list : Needs (cond a b (seq (c ∷ d ∷ []))) (cond a b (paren (seq (c ∷ d ∷ [])))) (3 ∷ [])
 choice_list = (search (rules, the_lemmas), search (rules, the_lemmas), search (rules, the_lemmas))
 
@@ -170,7 +170,7 @@ default_call = (search (rules, the_lemmas), search (rules, the_lemmas))
 in_brackets : Bare (loop (element a (bin word.In b c)))
 in_brackets = (search (rules, the_lemmas), search (rules, the_lemmas))
 
--- `for (a ? b in c : d;;) ;`
+-- the first part of a `for` is a conditional, between whose parts `in` stands bare
 in_middle : Bare (loop (cond a (bin word.In b c) d))
 in_middle = (search (rules, the_lemmas), search (rules, the_lemmas))
 
