@@ -87,7 +87,7 @@ def is_for_readers(t, path):
     if place == 'ForOfStmt' and field == 3:
         return inner == 'AwaitExpr'
     if place == 'ArrowExpr' and field == 2:
-        return inner == 'AssignExpr' and kind(content[2][2]) == 'ArrayPat'
+        return inner == 'AssignExpr' and kind(content[2][2]) in ('ArrayPat', 'ObjectPat')
     is_item = above[0] == 'List' and len(path) > 3 and kind(at(t, path[:-2])) == 'SeqExpr' and kind(at(t, path[:-3])) == 'ExprStmt'
     if is_item and field < len(above[1]) - 1:
         return inner in ('ObjectLit', 'ClassExpr') or inner == 'AssignExpr' and kind(content[2][2]) == 'ObjectPat'

@@ -4,6 +4,7 @@
     python3 tools/compute/laws.py .                      each law on 300 trees that meet its premise
     python3 tools/compute/laws.py . names_apart --trees 10000 --seed 7
     python3 tools/compute/laws.py . names_apart --text 'let a#1;'   one law on a tree that is written down
+    python3 tools/compute/laws.py . fits_with_due_pairs --expressions   a law on nests of expressions, each in one place
     python3 tools/compute/laws.py . --show 'let a#1;' [--script]    what the definitions say of a module or a script
     python3 tools/compute/laws.py . --kinds              which kinds of nodes the random trees have
 
@@ -14,6 +15,7 @@ import argparse
 import sys
 import time
 
+import expressions
 import js
 import random_trees
 import scoping
@@ -77,7 +79,8 @@ def tried(tallies, options):
     active = tallies
     while active and time.time() < end:
         share = max(min(tally.met for tally in active) / options.trees, 1 - (end - time.time()) / options.seconds)
-        t = active[0].source(random, FEWEST + int((options.biggest - FEWEST) * share))
+        source = expressions.expressions if options.expressions else active[0].source
+        t = source(random, FEWEST + int((options.biggest - FEWEST) * share))
         for tally in active:
             tally.try_on(t)
         active = [tally for tally in active if tally.met < options.trees]
@@ -161,6 +164,7 @@ def arguments():
     parser.add_argument('--seed', type=int, default=1)
     parser.add_argument('--seconds', type=float, default=300, help='at most, for the laws of one source')
     parser.add_argument('--biggest', type=int, default=BIGGEST, help='the rough number of nodes of the last trees')
+    parser.add_argument('--expressions', action='store_true', help='on programs of one nest of expressions in place of random trees')
     parser.add_argument('--text', help='a tree that is written down, for one law')
     parser.add_argument('--show', help='a tree that is written down, of which the definitions are asked')
     parser.add_argument('--script', action='store_true', help='it is a script')

@@ -59,6 +59,7 @@ SOURCES = {
     'NoneOfStrictCode': 'a11cf217380e -',
     'NoneTwice': '47756087b472',
     'OneScope': 'dcee2d2f5c3c',
+    'PartlyAdded': '932e6aceee2d -',
     'Passes': 'a2b5770d3ea5 -',
     'PassesNone': 'd22a4e5ba346',
     'Resolved': '7f3ffb29c85c',

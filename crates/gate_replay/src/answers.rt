@@ -20,9 +20,14 @@ fn answer(alloc: Global, words: &str, input: &str) -> Result<Vec<u8>> {
         "unit" => line(alloc, units::answer(alloc, rest)),
         "status" => engine::status(alloc, rest, input),
         "beginnings" => engine::beginnings(alloc, input),
-        "pass" | "twice" | "fold" | "items" | "rename" | "remap" | "unparen_comments" => {
-            Ok(programs::answer(alloc, words, input)?.into_bytes())
-        }
+        "pass"
+        | "twice"
+        | "fold"
+        | "items"
+        | "rename"
+        | "remap"
+        | "unparen_comments"
+        | "fix_comments" => Ok(programs::answer(alloc, words, input)?.into_bytes()),
         _ => engine::written(alloc, words, input),
     }
 }

@@ -8,6 +8,7 @@ use Rattle.jsbase_engine.specs.declared.arguments.Kind.TheVariants as kind
 abbrev pub command_word : Command → List ℕ
 command_word command.Resolve = codes "resolve"
 command_word command.Unparen = codes "unparen"
+command_word command.Fix = codes "fix"
 
 abbrev pub kind_word : Kind → List ℕ
 kind_word kind.Module = codes "module"

@@ -12,6 +12,7 @@ use Rattle.swc_tree_scoping.specs.Resolved.{Resolved}
 use Rattle.swc_tree_grammar.specs.Blocks.{with_blocks}
 use Rattle.swc_tree_grammar.specs.Stripped.{stripped}
 use Rattle.swc_tree_grammar.specs.Targets.{all_bare}
+use Rattle.swc_base_fixer_program.specs.Answers.{answer_to}
 use Rattle.jsbase_form.specs.Reads.{Path, path_text}
 use Rattle.jsbase_reader.specs.declared.envelope.Envelope.{Envelope}
 use Rattle.jsbase_reader.specs.declared.error.ReadError.{ReadError}
@@ -43,10 +44,16 @@ pub record IsUnparened (envelope : Envelope) (output : List ℕ) : Type 0 where
   pub assignable : all_bare envelope.tree ≡ true
   pub written : output ≡ envelope_text envelope.globals envelope.top (with_blocks (stripped envelope.tree)) envelope.unresolved
 
+-- the output is the envelope of the tree with its parentheses set anew, whose parenthesised targets may be assigned to
+pub record IsFixed (envelope : Envelope) (output : List ℕ) : Type 0 where
+  pub assignable : all_bare envelope.tree ≡ true
+  pub written : output ≡ envelope_text envelope.globals envelope.top (answer_to envelope.tree) envelope.unresolved
+
 -- what the command is to make of an envelope
 abbrev pub Does : Command → Envelope → List ℕ → Type 0
 Does command.Resolve envelope output = IsResolved envelope output
 Does command.Unparen envelope output = IsUnparened envelope output
+Does command.Fix envelope output = IsFixed envelope output
 
 -- why the command may be refused on an envelope, beside want of memory
 abbrev pub IsRefusalOf : Command → Envelope → PassError → Type 0
@@ -54,6 +61,8 @@ IsRefusalOf command.Resolve envelope refusal.MarksSpent = 4294967295 < greatest 
 IsRefusalOf command.Resolve envelope _ = ⊥
 IsRefusalOf command.Unparen envelope refusal.NotAssignable = all_bare envelope.tree ≡ false
 IsRefusalOf command.Unparen envelope _ = ⊥
+IsRefusalOf command.Fix envelope refusal.NotAssignable = all_bare envelope.tree ≡ false
+IsRefusalOf command.Fix envelope _ = ⊥
 
 -- memory was refused, or the command's pass for its own cause
 abbrev pub IsRefusedFor : Command → Envelope → PassError → Type 0

@@ -13,6 +13,8 @@ pub enum Command {
     Resolve,
     /// Parentheses are taken off, and with them what is idle in sequences and classes.
     Unparen,
+    /// Parentheses are set anew: those that are due, and no other.
+    Fix,
 }
 
 /// The goal symbol of a program (ECMA-262, Script and Module).
@@ -29,6 +31,7 @@ fn command_named(word: &str) -> Option<Command>
     match word {
         "resolve" => Some(Command::Resolve),
         "unparen" => Some(Command::Unparen),
+        "fix" => Some(Command::Fix),
         _ => None,
     }
 }

@@ -3,13 +3,14 @@ ghost use Rattle.std.specs.Prelude.{◌≡◌, ◌≢◌, Some, MatchResult, str
 ghost use Rattle.swc_tree_scoping.specs.declared.places.Scope.TheVariants as scope;
 ghost use Rattle.swc_tree_scoping.specs.Places.{opened, program_place};
 ghost use Rattle.swc_base_resolver_program.specs.Marked.{MarksOk};
-ghost use Rattle.jsbase_engine.specs.Run.{class_of as class_in, Answers, Does, IsFaultOf, IsResolved, IsUnparened, IsRefusedFor, IsReadFault};
+ghost use Rattle.jsbase_engine.specs.Run.{class_of as class_in, Answers, Does, IsFaultOf, IsResolved, IsFixed, IsUnparened, IsRefusedFor, IsReadFault};
 
 use crate::arguments::{Command, Kind};
 use crate::fault::Fault;
 use jsbase_reader::{Envelope, ReadError, read_bytes};
 use jsbase_writer::write_envelope;
 use std::alloc::Global;
+use swc_base_fixer_program::fix_parens;
 use swc_base_fixer_unparen::remove_parens;
 use swc_base_resolver_program::resolve_program;
 use swc_tree_comments::NoComments;
@@ -18,7 +19,7 @@ use swc_tree_node::Class;
 
 /// What the program writes on an input.
 ///
-/// Time and memory grow in step with the input; its parts are let go as they are read.
+/// Time and memory grow in step with the input.
 ///
 /// # Errors
 ///
@@ -68,6 +69,7 @@ fn answer(alloc: Global, command: Command, envelope: Envelope) -> Result<String,
     match command {
         Command::Resolve => resolve(alloc, envelope),
         Command::Unparen => unparen(alloc, envelope),
+        Command::Fix => fix(alloc, envelope),
     }
 }
 
@@ -102,5 +104,21 @@ fn unparen(alloc: Global, envelope: Envelope) -> Result<String, PassError>
     } = envelope;
     let bare = remove_parens(alloc, None::<&mut NoComments>, tree)?;
     let text = write_envelope(alloc, &globals, top, &bare, unresolved)?;
+    Ok(text)
+}
+
+// Sets the parentheses of the program of an envelope anew.
+fn fix(alloc: Global, envelope: Envelope) -> Result<String, PassError>
+    ensures { MatchResult result (λ text. IsFixed envelope (string_bytes text)) (IsRefusedFor Command.Fix envelope) }
+{
+    let Envelope {
+        globals,
+        unresolved,
+        top,
+        tree,
+        ..
+    } = envelope;
+    let fixed = fix_parens(alloc, None::<&mut NoComments>, tree)?;
+    let text = write_envelope(alloc, &globals, top, &fixed, unresolved)?;
     Ok(text)
 }

@@ -1,7 +1,7 @@
 //! Reading syntax trees from JSON.
 //!
-//! What a value is read as stands in `jsbase_form`. Nothing is copied: texts are moved out of the
-//! JSON value, and its parts are let go as they are read.
+//! What a value is read as stands in `jsbase_form`. The value is only read: what the tree keeps, names
+//! and other texts, is copied out of it once.
 #![tactic(auto)]
 
 mod envelope;

@@ -1,2 +1,4 @@
+pub mod Fixed
 pub mod Open
 pub mod Programs
+pub mod Promised

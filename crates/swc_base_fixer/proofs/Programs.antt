@@ -11,7 +11,7 @@ use Rattle.swc_tree_grammar.specs.Stripped.{is_pairless, stripped}
 use Rattle.swc_tree_grammar.specs.Targets.{all_bare}
 use Rattle.swc_tree_grammar.proofs.Walks.{bare_of_tree, pairs_of_tree}
 
-abbrev program : Kind → Range → Node → Option (List ℕ) → Node
+abbrev pub program : Kind → Range → Node → Option (List ℕ) → Node
 program k s body shebang = Tree k (Span s ∷ body ∷ optional_text shebang ∷ [])
 
 pub module_unparened : (s : Range) (body : Node) (shebang : Option (List ℕ)) → with_blocks (stripped (program kind.Module s body shebang)) ≡ program kind.Module s (with_blocks (stripped body)) shebang
@@ -60,10 +60,10 @@ text_pairs : (x : Option (List ℕ)) → pairs (optional_text x) ≡ []
 text_pairs None = search (rules, the_lemmas)
 text_pairs (Some x) = search (rules, the_lemmas)
 
-module_found : (s : Range) (body : Node) (shebang : Option (List ℕ)) → pairs (program kind.Module s body shebang) ≡ pairs body
+pub module_found : (s : Range) (body : Node) (shebang : Option (List ℕ)) → pairs (program kind.Module s body shebang) ≡ pairs body
 module_found s body shebang = pairs_of_tree kind.Module (Span s ∷ body ∷ optional_text shebang ∷ []) ∙ rw (span_pairs s, text_pairs shebang) (append-nil (pairs body))
 
-script_found : (s : Range) (body : Node) (shebang : Option (List ℕ)) → pairs (program kind.Script s body shebang) ≡ pairs body
+pub script_found : (s : Range) (body : Node) (shebang : Option (List ℕ)) → pairs (program kind.Script s body shebang) ≡ pairs body
 script_found s body shebang = pairs_of_tree kind.Script (Span s ∷ body ∷ optional_text shebang ∷ []) ∙ rw (span_pairs s, text_pairs shebang) (append-nil (pairs body))
 
 pub module_moves : (s : Range) (body : Node) (shebang : Option (List ℕ)) → moves (program kind.Module s body shebang) ≡ moves body

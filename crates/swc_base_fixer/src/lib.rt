@@ -1,8 +1,13 @@
-//! The pass that takes parentheses off a program: `paren_remover`.
+//! The passes that take parentheses off a program and set those that are due: `paren_remover` and `fixer`.
 #![tactic(auto)]
 
-mod pass;
+mod build;
+mod fixing;
+mod fixing_pass;
 mod remover;
+mod remover_pass;
 
+pub use build::fixer;
+pub use fixing::Fixer;
 pub use remover::{ParenRemover, paren_remover};
 pub use swc_tree_comments::{Comments, NoComments};

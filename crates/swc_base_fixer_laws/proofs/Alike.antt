@@ -1,6 +1,6 @@
--- What stripping makes of trees that are the same but for the kinds of their names is the same but for these.
+-- What stripping makes of trees that are the same but for the kinds of the names `async` is the same but for these.
 use Rattle.std.proofs.Common.{◌≡◌, Bool, true, false, not, List, [], ◌∷◌, ◌++◌, refl, sym, ap, ◌∙◌, rules}
-use Rattle.std.specs.Prelude.{take, if◌then◌else◌}
+use Rattle.std.specs.Prelude.{IsTrue, take, if◌then◌else◌}
 use Rattle.std.specs.List.{flat_map, filter, list_all}
 use Rattle.swc_tree_marks.specs.declared.ident.Ident.{Ident}
 use Rattle.swc_tree_node.specs.declared.kind.Kind.{Kind}
@@ -9,6 +9,7 @@ use Rattle.swc_tree_node.specs.declared.node.Node.{Node, List as Many, Identifie
 use Rattle.swc_tree_node.specs.declared.node.Node.TheVariants.{rolls-Tree}
 use Rattle.swc_tree_node.specs.declared.node.Node.TheOpen.{Node-F}
 use Rattle.swc_tree_grammar.specs.Shapes.{items_of}
+use Rattle.swc_tree_grammar.specs.Grammar.{is_async_name}
 use Rattle.swc_tree_grammar.specs.Stripped.{strip_step, parts, parts_in, effects, is_void, is_idle, is_idle_kind, busy, front, end, settled, sequence, target, target_in, is_member, is_empty_in}
 use Rattle.swc_tree_grammar.proofs.Stripped.{effects_of_list, effects_of_tree, effects_of_sequence, effects_of_void, effects_of_other, effects_of_identifier}
 use Rattle.swc_base_fixer_laws.specs.Alike.{Alike, AllAlike}
@@ -41,7 +42,7 @@ list_items ts = search (rules, the_lemmas)
 pub items_alike : {t u : Node} → Alike t u → AllAlike (items_of t) (items_of u)
 items_alike (same t) = all_alike (items_of t)
 items_alike (after c d) = all_then (items_alike c) (items_alike d)
-items_alike (name k l i) = rw (name_items k i, name_items l i) none
+items_alike (name k l i called) = rw (name_items k i, name_items l i) none
 items_alike (list ts us d) = rw (list_items ts, list_items us) d
 items_alike (tree k ts us d) = rw (no_items k ts, no_items k us) none
 
@@ -58,7 +59,7 @@ list_void ts = search (rules, the_lemmas)
 void_same : {t u : Node} → Alike t u → is_void u ≡ is_void t
 void_same (same t) = refl
 void_same (after c d) = void_same d ∙ void_same c
-void_same (name k l i) = name_void l i ∙ sym (name_void k i)
+void_same (name k l i called) = name_void l i ∙ sym (name_void k i)
 void_same (list ts us d) = list_void us ∙ sym (list_void ts)
 void_same (tree k ts us d) = word_row k us ∙ sym (word_row k ts)
 
@@ -75,7 +76,7 @@ idle_list ts = search (rules, the_lemmas)
 idle_same : {t u : Node} → Alike t u → is_idle u ≡ is_idle t
 idle_same (same t) = refl
 idle_same (after c d) = idle_same d ∙ idle_same c
-idle_same (name k l i) = idle_name l i ∙ sym (idle_name k i)
+idle_same (name k l i called) = idle_name l i ∙ sym (idle_name k i)
 idle_same (list ts us d) = idle_list us ∙ sym (idle_list ts)
 idle_same (tree k ts us d) = idle_tree k us ∙ sym (idle_tree k ts)
 
@@ -95,7 +96,7 @@ member_list ts = search (rules, the_lemmas)
 member_same : {t u : Node} → Alike t u → is_member u ≡ is_member t
 member_same (same t) = refl
 member_same (after c d) = member_same d ∙ member_same c
-member_same (name k l i) = member_name l i ∙ sym (member_name k i)
+member_same (name k l i called) = member_name l i ∙ sym (member_name k i)
 member_same (list ts us d) = member_list us ∙ sym (member_list ts)
 member_same (tree k ts us d) = member_tree k us ∙ ap not (member_row k ts us) ∙ sym (member_tree k ts)
 
@@ -157,7 +158,7 @@ parts_row k {ts = ts} {us = us} d = more (tree k ts us d) none
 parts_alike : {t u : Node} → Alike t u → AllAlike (parts t) (parts u)
 parts_alike (same t) = all_alike (parts t)
 parts_alike (after c d) = all_then (parts_alike c) (parts_alike d)
-parts_alike (name k l i) = rw (parts_of_name k i, parts_of_name l i) (more (name k l i) none)
+parts_alike (name k l i called) = rw (parts_of_name k i, parts_of_name l i) (more (name k l i called) none)
 parts_alike (list ts us d) = rw (parts_of_list ts, parts_of_list us) (more (list ts us d) none)
 parts_alike (tree k ts us d) = rw (parts_of_tree k ts, parts_of_tree k us) (parts_row k d)
 
@@ -181,7 +182,7 @@ mutual
   effects_alike : {t u : Node} → Alike t u → AllAlike (effects t) (effects u)
   effects_alike (same t) = all_alike (effects t)
   effects_alike (after c d) = all_then (effects_alike c) (effects_alike d)
-  effects_alike (name k l i) = rw (effects_of_identifier k i, effects_of_identifier l i) (more (name k l i) none)
+  effects_alike (name k l i called) = rw (effects_of_identifier k i, effects_of_identifier l i) (more (name k l i called) none)
   effects_alike (list ts us d) = rw (effects_of_list ts, effects_of_list us) (all_effects d)
   effects_alike (tree kind.SeqExpr ts us (more {t = s} {u = s'} a (more {t = e} {u = e'} b none))) = rw (effects_of_sequence s e, effects_of_sequence s' e') (effects_alike b)
   effects_alike (tree kind.UnaryExpr ts us (more {t = s} {u = s'} a (more {t = o} {u = o'} b (more {t = e} {u = e'} c none)))) =
@@ -211,16 +212,16 @@ target_list ts = search (rules, the_lemmas)
 target_name : (k : Kind) (i : Ident) → target (Identifier k i) ≡ target_in (Identifier k i) (Node-F.Identifier k i)
 target_name k i = search (rules, the_lemmas)
 
-target_row : (k l : Kind) (i : Ident) → Alike (target_in (Identifier k i) (Node-F.Identifier k i)) (target_in (Identifier l i) (Node-F.Identifier l i))
-target_row kind.Ident kind.Ident i = same (Identifier kind.BindingIdent i)
-target_row kind.Ident l i = name kind.BindingIdent l i
-target_row k kind.Ident i = name k kind.BindingIdent i
-target_row k l i = name k l i
+target_row : (k l : Kind) (i : Ident) → IsTrue (is_async_name (Identifier kind.Ident i)) → Alike (target_in (Identifier k i) (Node-F.Identifier k i)) (target_in (Identifier l i) (Node-F.Identifier l i))
+target_row kind.Ident kind.Ident i called = same (Identifier kind.BindingIdent i)
+target_row kind.Ident l i called = name kind.BindingIdent l i called
+target_row k kind.Ident i called = name k kind.BindingIdent i called
+target_row k l i called = name k l i called
 
 target_alike : {t u : Node} → Alike t u → Alike (target t) (target u)
 target_alike (same t) = same (target t)
 target_alike (after c d) = after (target_alike c) (target_alike d)
-target_alike (name k l i) = rw (target_name k i, target_name l i) (target_row k l i)
+target_alike (name k l i called) = rw (target_name k i, target_name l i) (target_row k l i called)
 target_alike (list ts us d) = rw (target_list ts, target_list us) (list ts us d)
 target_alike (tree k ts us d) = rw (target_tree k ts, target_tree k us) (tree k ts us d)
 

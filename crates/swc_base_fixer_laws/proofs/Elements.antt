@@ -54,7 +54,7 @@ pub rest_kept : {s : Slot} {t u : Node} → Sets s t u → is_head s ≡ false �
 rest_kept (same t) h = refl
 rest_kept (after c d) h = rest_kept d h ∙ rest_kept c h
 rest_kept (around r t u p q d) h = kind_of_tree is_rest kind.ParenExpr (Span r ∷ u ∷ []) ∙ sym (no_rest t q)
-rest_kept (named r k i) h = absurd (cc)
+rest_kept (named r k i called) h = absurd (cc)
 rest_kept (items ts us d) h = search (rules, the_lemmas)
 rest_kept (tree k ts us e d) h = kind_of_tree is_rest k us ∙ sym (kind_of_tree is_rest k ts)
 
@@ -87,7 +87,7 @@ pattern_looks (after c d) h = let x = pattern_looks c h in let y = pattern_looks
 pattern_looks {s = s} (around r t u p q d) h =
     by_own t (Tree kind.ParenExpr (Span r ∷ u ∷ [])) (pattern_of t) (pattern_of (Tree kind.ParenExpr (Span r ∷ u ∷ []))) (own_pattern t q) (pattern_tree kind.ParenExpr (Span r ∷ u ∷ []))
     (record { is_a_rest = kind_of_tree is_rest kind.ParenExpr (Span r ∷ u ∷ []) ∙ sym (no_rest t q); is_an_element = λ r'. pair_element s r t u p q d h r' })
-pattern_looks (named r k i) h = absurd (cc)
+pattern_looks (named r k i called) h = absurd (cc)
 pattern_looks {s = s} (items ts us d) h = by_own (Many ts) (Many us) (pattern_of (Many ts)) (pattern_of (Many us)) (pattern_list ts) (pattern_list us) (list_looks s ts us d h)
 pattern_looks {s = s} (tree k ts us e d) h =
     by_own (pattern_of_param_in (Tree k ts) (Node-F.Tree k ts)) (pattern_of_param_in (Tree k us) (Node-F.Tree k us)) (pattern_of (Tree k ts)) (pattern_of (Tree k us)) (pattern_tree k ts) (pattern_tree k us) (tree_looks s k ts us e d h)
@@ -115,6 +115,6 @@ pub of_items : {s : Slot} {t u : Node} (X : Type 0) (f : List Node → X) → ((
 of_items X f g p h (same t) = refl
 of_items X f g p h (after c d) = of_items X f g p h d ∙ of_items X f g p h c
 of_items X f g p h (around r t u a b d) = absurd (cc (sym p ∙ a))
-of_items X f g p h (named r k i) = absurd (cc)
+of_items X f g p h (named r k i called) = absurd (cc)
 of_items X f g p h (items ts us d) = ap f (items_many us) ∙ g ts us d ∙ sym (ap f (items_many ts))
 of_items X f g p h (tree k ts us e d) = ap f (no_items k us) ∙ sym (ap f (no_items k ts))

@@ -52,7 +52,7 @@ pub takes_else_kept : {s : Slot} {t u : Node} → Sets s t u → takes_else u �
 takes_else_kept (same t) = refl
 takes_else_kept (after c d) = takes_else_kept d ∙ takes_else_kept c
 takes_else_kept (around r t u p q d) = of_paren r u ∙ sym (of_expression t q)
-takes_else_kept (named r k i) = of_paren r (Identifier kind.Ident i) ∙ sym (of_name k i)
+takes_else_kept (named r k i called) = of_paren r (Identifier kind.Ident i) ∙ sym (of_name k i)
 takes_else_kept (items ts us d) = of_list us ∙ sym (of_list ts)
 takes_else_kept (tree kind.IfStmt ts us x (field s (field a (field e (field d nil))))) = by_row kind.IfStmt ts us (takes_else_kept d)
 takes_else_kept (tree kind.LabeledStmt ts us x (field s (field a (field d nil)))) = by_row kind.LabeledStmt ts us (takes_else_kept d)

@@ -89,7 +89,7 @@ mutual
   fits_kept (same t) f = f
   fits_kept (after c d) f = fits_kept d (fits_kept c f)
   fits_kept {s = s} (around r t u p q d) f = pair_fits s r u p (fits_kept d (expression_fits t s q f))
-  fits_kept (named r k i) f = name_fits r i
+  fits_kept (named r k i called) f = name_fits r i
   fits_kept {s = s} (items ts us d) f = fits-List us s ∙ items_kept s ts us (same_length d) (λ f. all_kept d f) (sym (fits-List ts s) ∙ f)
   fits_kept {s = s} (tree k ts us e d) f =
       let w = stands k ts s f in stands_there k us s (record { in_class = w.in_class; place = w.place; no_identifier = w.no_identifier; belonging = w.belonging; fields = fields_kept d w.fields })

@@ -105,7 +105,7 @@ literal_back : {s : Slot} {t u : Node} → Sets s t u → is_string u ≡ true �
 literal_back (same t) h = refl
 literal_back (after c d) h = let e = literal_back d h in e ∙ literal_back c (ap is_some (sym e) ∙ h)
 literal_back (around r t u p q d) h = absurd (cc (sym (paren_literal r u) ∙ h))
-literal_back (named r k i) h = absurd (cc (sym (paren_literal r (Identifier kind.Ident i)) ∙ h))
+literal_back (named r k i called) h = absurd (cc (sym (paren_literal r (Identifier kind.Ident i)) ∙ h))
 literal_back (items ts us d) h = absurd (cc (sym (no_literal us) ∙ h))
 literal_back (tree k ts us e d) h = literal_tree k us ∙ literal_rows k ts us d ∙ sym (literal_tree k ts)
 
@@ -130,7 +130,7 @@ string_kept : {s : Slot} {t u : Node} → Sets s t u → takes_pair s ≡ false 
 string_kept (same t) h = refl
 string_kept (after c d) h = string_kept d h ∙ string_kept c h
 string_kept (around r t u p q d) h = absurd (cc (sym h ∙ p))
-string_kept (named r k i) h = absurd (cc)
+string_kept (named r k i called) h = absurd (cc)
 string_kept (items ts us d) h = no_statement us ∙ sym (no_statement ts)
 string_kept (tree kind.ExprStmt ts us e (field a (field {t = t} {u = u} b nil))) h = statement_tree kind.ExprStmt us ∙ literal_kept t u b e ∙ sym (statement_tree kind.ExprStmt ts)
 string_kept (tree k ts us e d) h = statement_tree k us ∙ sym (statement_tree k ts)

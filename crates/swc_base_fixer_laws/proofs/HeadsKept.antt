@@ -42,7 +42,9 @@ mono_row kind.OptCall (s ∷ o ∷ m ∷ []) l h = both_up (headed o false) (hea
 mono_row kind.OptChainExpr (s ∷ o ∷ m ∷ []) l h = l.1.1.0 h
 mono_row kind.ArrowExpr (s ∷ a ∷ e ∷ f ∷ []) l h = both_up (headed a true) (headed e false) (headed a true) (headed e true) (λ x. x) l.1.1.0 h
 mono_row kind.VarDecl (s ∷ w ∷ d ∷ []) l h = l.1.1.0 h
-mono_row kind.VarDeclarator (s ∷ n ∷ i ∷ []) l h = both_up (headed n true) (headed i false) (headed n true) (headed i true) (λ x. x) l.1.1.0 h
+mono_row kind.VarDeclarator (s ∷ n ∷ i ∷ []) l h = both_up (headed n false) (headed i false) (headed n true) (headed i true) l.1.0 l.1.1.0 h
+mono_row kind.AssignPat (s ∷ f ∷ a ∷ []) l h = both_up (headed f false) (headed a false) (headed f true) (headed a true) l.1.0 l.1.1.0 h
+mono_row kind.RestPat (s ∷ a ∷ []) l h = l.1.0 h
 mono_row kind.ForStmt (s ∷ i ∷ t ∷ u ∷ e ∷ []) l h = h
 mono_row kind.ForInStmt (s ∷ i ∷ r ∷ e ∷ []) l h = h
 mono_row kind.ForOfStmt (s ∷ w ∷ i ∷ r ∷ e ∷ []) l h = h
@@ -114,7 +116,9 @@ row kind.OptCall (cons _ _ (cons _ x (cons _ y nil))) b h = two_keep b true x y 
 row kind.OptChainExpr (cons _ _ (cons _ _ (cons _ x nil))) b h = x.keeps b h
 row kind.ArrowExpr (cons _ _ (cons _ x (cons _ y (cons _ _ nil)))) b h = two_keep true b x y h
 row kind.VarDecl (cons _ _ (cons _ _ (cons _ x nil))) b h = x.keeps b h
-row kind.VarDeclarator (cons _ _ (cons _ x (cons _ y nil))) b h = two_keep true b x y h
+row kind.VarDeclarator (cons _ _ (cons _ x (cons _ y nil))) b h = two_keep b b x y h
+row kind.AssignPat (cons _ _ (cons _ x (cons _ y nil))) b h = two_keep b b x y h
+row kind.RestPat (cons _ _ (cons _ x nil)) b h = x.keeps b h
 row kind.ForStmt (cons _ _ (cons _ x (cons _ y (cons _ z (cons _ w nil))))) b h = four_keep x y z w h
 row kind.ForInStmt (cons _ _ (cons _ x (cons _ y (cons _ z nil)))) b h = three_keep false true true x y z h
 row kind.ForOfStmt (cons _ _ (cons a _ (cons c x (cons _ y (cons _ z nil))))) b h = of_keep a c x y z h
@@ -128,7 +132,7 @@ mutual
   keep (same t) = record { keeps = λ b h. h }
   keep (after c d) = let x = keep c in let y = keep d in record { keeps = λ b h. y.keeps b (x.keeps b h) }
   keep (around r t u p q d) = let x = keep d in record { keeps = λ b h. around_headed r u b (more_free u b (x.keeps b h)) }
-  keep (named r k i) = record { keeps = λ b h. around_headed r (Identifier kind.Ident i) b (search (rules, the_lemmas)) }
+  keep (named r k i called) = record { keeps = λ b h. around_headed r (Identifier kind.Ident i) b (search (rules, the_lemmas)) }
   keep (items ts us d) = let x = all_keep d in record { keeps = λ b h. headed_list us b ∙ each_keep b x (sym (headed_list ts b) ∙ h) }
   keep (tree k ts us e d) = let x = fields_keep d in record { keeps = λ b h. headed_tree k us b ∙ row k x b (sym (headed_tree k ts b) ∙ h) }
 

@@ -165,7 +165,7 @@ mutual
   levelled_kept (same t) c w h = h
   levelled_kept (after x y) c w h = levelled_kept y c w (levelled_kept x c w h)
   levelled_kept {s = s} (around r t u p q d) c w h = around_kept c s r t u p w (levelled_kept d false (λ e. off e)) h
-  levelled_kept (named r k i) c w h = levelled_tree kind.ParenExpr (Span r ∷ Identifier kind.Ident i ∷ []) c ∙ search (rules, the_lemmas)
+  levelled_kept (named r k i called) c w h = levelled_tree kind.ParenExpr (Span r ∷ Identifier kind.Ident i ∷ []) c ∙ search (rules, the_lemmas)
   levelled_kept (items ts us d) c w h = levelled_list us c ∙ all_kept d (sym (levelled_list ts c) ∙ h)
   levelled_kept (tree k ts us e d) c w h =
       levelled_tree k us c

@@ -73,7 +73,7 @@ pub same_fixed : {s : Slot} {t u : Node} → Sets s t u → fixed s ≡ true →
 same_fixed (same t) h f = refl
 same_fixed (after c d) h f = same_fixed d h (fits_kept c f) ∙ same_fixed c h f
 same_fixed {s = s} (around r t u p q d) h f = absurd (cc (sym (closed s h) ∙ p))
-same_fixed (named r k i) h f = absurd (cc)
+same_fixed (named r k i called) h f = absurd (cc)
 same_fixed {s = s} (items ts us d) h f = absurd (no_list s ts h f)
 same_fixed {s = s} (tree k ts us e d) h f = absurd (no_tree s k ts h f)
 
@@ -86,7 +86,7 @@ pub private_kept : {s : Slot} {t u : Node} → Sets s t u → has_kind is_privat
 private_kept (same t) h = h
 private_kept (after c d) h = private_kept d (private_kept c h)
 private_kept (around r t u p q d) h = kind_of_tree is_private_name kind.ParenExpr (Span r ∷ u ∷ [])
-private_kept (named r k i) h = kind_of_tree is_private_name kind.ParenExpr (Span r ∷ Identifier kind.Ident i ∷ [])
+private_kept (named r k i called) h = kind_of_tree is_private_name kind.ParenExpr (Span r ∷ Identifier kind.Ident i ∷ [])
 private_kept (items ts us d) h = search (rules, the_lemmas)
 private_kept (tree k ts us e d) h = kind_of_tree is_private_name k us ∙ sym (kind_of_tree is_private_name k ts) ∙ h
 
@@ -119,7 +119,7 @@ mutual
   target_kept (same t) h = refl
   target_kept (after c d) h = target_kept d h ∙ target_kept c h
   target_kept (around r t u p q d) h = target_pair r u ∙ target_kept d refl
-  target_kept (named r k i) h = absurd (cc)
+  target_kept (named r k i called) h = absurd (cc)
   target_kept {s = s} (items ts us d) h = target_of_list us ∙ items_target d (item_head s h) ∙ sym (target_of_list ts)
   target_kept (tree kind.ParenExpr ts us e (field a (field b nil))) h = target_of_tree kind.ParenExpr us ∙ target_kept b refl ∙ sym (target_of_tree kind.ParenExpr ts)
   target_kept (tree kind.SeqExpr ts us e (field a (field b nil))) h = target_of_tree kind.SeqExpr us ∙ target_kept b refl ∙ sym (target_of_tree kind.SeqExpr ts)
@@ -155,7 +155,7 @@ module _ (X : Type 0) (look : Node-F Node → X) (off : X) where
   look_kept f p l r (same t) h = refl
   look_kept f p l r (after c d) h = look_kept f p l r d h ∙ look_kept f p l r c h
   look_kept f p l r (around x t u a b d) h = look_tree kind.ParenExpr (Span x ∷ u ∷ []) ∙ p (Span x ∷ u ∷ []) ∙ sym (look_pair f t b)
-  look_kept f p l r (named x k i) h = absurd (cc)
+  look_kept f p l r (named x k i called) h = absurd (cc)
   look_kept f p l r (items ts us d) h = look_list us ∙ l us ∙ sym (l ts) ∙ sym (look_list ts)
   look_kept f p l r (tree k ts us e d) h = look_tree k us ∙ r k ts us d ∙ sym (look_tree k ts)
 
@@ -224,7 +224,7 @@ module _ (X : Type 0) (look : Node-F Node → X) where
   seen_closed l r (same t) h = refl
   seen_closed l r (after c d) h = seen_closed l r d h ∙ seen_closed l r c h
   seen_closed l r (around x t u a b d) h = absurd (cc (sym h ∙ a))
-  seen_closed l r (named x k i) h = absurd (cc)
+  seen_closed l r (named x k i called) h = absurd (cc)
   seen_closed l r (items ts us d) h = list_looks us ∙ l ts us ∙ sym (list_looks ts)
   seen_closed l r (tree k ts us e d) h = tree_looks k us ∙ r k ts us d ∙ sym (tree_looks k ts)
 
@@ -233,6 +233,6 @@ module _ (X : Type 0) (look : Node-F Node → X) where
   seen_anywhere off f p n l r (same t) = refl
   seen_anywhere off f p n l r (after c d) = seen_anywhere off f p n l r d ∙ seen_anywhere off f p n l r c
   seen_anywhere off f p n l r (around x t u a b d) = tree_looks kind.ParenExpr (Span x ∷ u ∷ []) ∙ p (Span x ∷ u ∷ []) ∙ sym (look_pair X look off f t b)
-  seen_anywhere off f p n l r (named x k i) = tree_looks kind.ParenExpr (Span x ∷ Identifier kind.Ident i ∷ []) ∙ p (Span x ∷ Identifier kind.Ident i ∷ []) ∙ sym (name_looks k i ∙ n k i)
+  seen_anywhere off f p n l r (named x k i called) = tree_looks kind.ParenExpr (Span x ∷ Identifier kind.Ident i ∷ []) ∙ p (Span x ∷ Identifier kind.Ident i ∷ []) ∙ sym (name_looks k i ∙ n k i)
   seen_anywhere off f p n l r (items ts us d) = list_looks us ∙ l ts us ∙ sym (list_looks ts)
   seen_anywhere off f p n l r (tree k ts us e d) = tree_looks k us ∙ r k ts us d ∙ sym (tree_looks k ts)

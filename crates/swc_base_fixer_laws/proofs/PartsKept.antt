@@ -141,7 +141,7 @@ chain_of_list ts = search (rules, the_lemmas)
 chain_alike : {t u : Node} → Alike t u → is_chain u ≡ is_chain t
 chain_alike (alike t) = refl
 chain_alike (alike_after c d) = chain_alike d ∙ chain_alike c
-chain_alike (name k l i) = chain_of_name l i ∙ sym (chain_of_name k i)
+chain_alike (name k l i called) = chain_of_name l i ∙ sym (chain_of_name k i)
 chain_alike (list ts us d) = chain_of_list us ∙ sym (chain_of_list ts)
 chain_alike (alike_tree k ts us d) = kind_of_tree is_opt_chain k us ∙ sym (kind_of_tree is_opt_chain k ts)
 
@@ -157,7 +157,7 @@ text_of_name k i = search (rules, the_lemmas)
 text_alike : {t u : Node} → Alike t u → text_in (out-Node u) ≡ text_in (out-Node t)
 text_alike (alike t) = refl
 text_alike (alike_after c d) = text_alike d ∙ text_alike c
-text_alike (name k l i) = text_of_name l i ∙ sym (text_of_name k i)
+text_alike (name k l i called) = text_of_name l i ∙ sym (text_of_name k i)
 text_alike (list ts us d) = text_of_list us ∙ sym (text_of_list ts)
 text_alike (alike_tree k ts us d) = text_of_tree k us ∙ sym (text_of_tree k ts)
 
@@ -176,7 +176,7 @@ string_of_list ts = search (rules, the_lemmas)
 string_alike : {t u : Node} → Alike t u → is_string u ≡ is_string t
 string_alike (alike t) = refl
 string_alike (alike_after c d) = string_alike d ∙ string_alike c
-string_alike (name k l i) = string_of_name l i ∙ sym (string_of_name k i)
+string_alike (name k l i called) = string_of_name l i ∙ sym (string_of_name k i)
 string_alike (list ts us d) = string_of_list us ∙ sym (string_of_list ts)
 string_alike (alike_tree k ts us d) = string_of_tree k us ∙ ap is_some (string_row k d) ∙ sym (string_of_tree k ts)
 

@@ -31,7 +31,7 @@ mutual
   keeps_elses_kept (same t) h = h
   keeps_elses_kept (after c d) h = keeps_elses_kept d (keeps_elses_kept c h)
   keeps_elses_kept (around r t u p q d) h = around_keeps r u (keeps_elses_kept d h)
-  keeps_elses_kept (named r k i) h = around_keeps r (Identifier kind.Ident i) (search (rules, the_lemmas))
+  keeps_elses_kept (named r k i called) h = around_keeps r (Identifier kind.Ident i) (search (rules, the_lemmas))
   keeps_elses_kept (items ts us d) h = let q = both true (list_all keeps_elses ts) (sym (every_list keeps_else_in ts) ∙ h) in every_list keeps_else_in us ∙ all_kept d q.1
   keeps_elses_kept (tree k ts us e d) h =
       every_tree keeps_else_in k us ∙ both_up (keeps_else_in (Node-F.Tree k ts)) (list_all keeps_elses ts) (keeps_else_in (Node-F.Tree k us)) (list_all keeps_elses us) (row k d) (fields_kept d) (sym (every_tree keeps_else_in k ts) ∙ h)

@@ -120,9 +120,13 @@ binary_if false p q b s o f g h l =
 abbrev a_head : Slot
 a_head = one class.ForHead
 
-async_if : (d : Bool) (p : Places) (k : Kind) (i : Ident) → Sets a_head (Identifier k i) (if d then pair p (Identifier kind.Ident i) else Identifier k i)
-async_if true p k i = named (p (span_of (Identifier kind.Ident i))) k i
-async_if false p k i = same (Identifier k i)
+async_if : (d : Bool) (p : Places) (k : Kind) (i : Ident) → (d ≡ true → IsTrue (is_async_name (Identifier kind.Ident i))) → Sets a_head (Identifier k i) (if d then pair p (Identifier kind.Ident i) else Identifier k i)
+async_if true p k i called = named (p (span_of (Identifier kind.Ident i))) k i (called refl)
+async_if false p k i called = same (Identifier k i)
+
+-- what a name is called doesn't hang on its kind
+same_called : (k : Kind) (i : Ident) → is_async_name (Identifier k i) ≡ is_async_name (Identifier kind.Ident i)
+same_called k i = search (rules, the_lemmas)
 
 async_leaf : (p : Places) (w : Bool) (t : Node) → async_in p w t (out-Node t) ≡ t → Sets a_head t (async_in p w t (out-Node t))
 async_leaf p w t e = rw e (same t)
@@ -134,7 +138,7 @@ async_set p w t = by_children (λ t. Sets a_head t (async_in p w t (out-Node t))
   λ v. async_leaf p w (Word v) (search (rules, the_lemmas)),
   λ x. async_leaf p w (Text x) (search (rules, the_lemmas)),
   λ s. async_leaf p w (Span s) (search (rules, the_lemmas)),
-  λ k i. (let e : async_in p w (Identifier k i) (out-Node (Identifier k i)) ≡ (if is_async_name (Identifier k i) && not w then pair p (Identifier kind.Ident i) else Identifier k i) = search (rules, the_lemmas) in rw e (async_if (is_async_name (Identifier k i) && not w) p k i)),
+  λ k i. (let e : async_in p w (Identifier k i) (out-Node (Identifier k i)) ≡ (if is_async_name (Identifier k i) && not w then pair p (Identifier kind.Ident i) else Identifier k i) = search (rules, the_lemmas) in rw e (async_if (is_async_name (Identifier k i) && not w) p k i (λ h. sym (same_called k i) ∙ (both (is_async_name (Identifier k i)) (not w) h).0))),
 )
     (λ ts l. async_leaf p w (Many ts) (search (rules, the_lemmas)))
     (λ k ts l. async_leaf p w (Tree k ts) (search (rules, the_lemmas))) t
@@ -175,7 +179,9 @@ row p q b kind.OptChainExpr (s ∷ o ∷ e ∷ []) h x l a = tree kind.OptChainE
 row p q b kind.OptCall (s ∷ o ∷ e ∷ []) h x l a = tree kind.OptCall (s ∷ o ∷ e ∷ []) _ refl (field (l.0 true) (field (l.1.0 b) (field (l.1.1.0 true) nil)))
 row p q b kind.ArrowExpr (s ∷ o ∷ f ∷ g ∷ []) h x l a = tree kind.ArrowExpr (s ∷ o ∷ f ∷ g ∷ []) _ refl (field (l.0 true) (field (l.1.0 true) (field (l.1.1.0 b) (field (l.1.1.1.0 true) nil))))
 row p q b kind.VarDecl (s ∷ o ∷ e ∷ []) h x l a = tree kind.VarDecl (s ∷ o ∷ e ∷ []) _ refl (field (l.0 true) (field (l.1.0 true) (field (l.1.1.0 b) nil)))
-row p q b kind.VarDeclarator (s ∷ o ∷ e ∷ []) h x l a = tree kind.VarDeclarator (s ∷ o ∷ e ∷ []) _ refl (field (l.0 true) (field (l.1.0 true) (field (l.1.1.0 b) nil)))
+row p q b kind.VarDeclarator (s ∷ o ∷ e ∷ []) h x l a = tree kind.VarDeclarator (s ∷ o ∷ e ∷ []) _ refl (field (l.0 true) (field (l.1.0 b) (field (l.1.1.0 b) nil)))
+row p q b kind.AssignPat (s ∷ o ∷ e ∷ []) h x l a = tree kind.AssignPat (s ∷ o ∷ e ∷ []) _ refl (field (l.0 true) (field (l.1.0 b) (field (l.1.1.0 b) nil)))
+row p q b kind.RestPat (s ∷ e ∷ []) h x l a = tree kind.RestPat (s ∷ e ∷ []) _ refl (field (l.0 true) (field (l.1.0 b) nil))
 row p q b kind.ForStmt (s ∷ o ∷ f ∷ g ∷ e ∷ []) h x l a = tree kind.ForStmt (s ∷ o ∷ f ∷ g ∷ e ∷ []) _ refl (field (l.0 true) (field (l.1.0 false) (field (l.1.1.0 true) (field (l.1.1.1.0 true) (field (l.1.1.1.1.0 true) nil)))))
 row p q b kind.ForInStmt (s ∷ o ∷ f ∷ g ∷ []) h x l a = tree kind.ForInStmt (s ∷ o ∷ f ∷ g ∷ []) _ refl (field (l.0 true) (field (l.1.0 false) (field (l.1.1.0 true) (field (l.1.1.1.0 true) nil))))
 row p q b kind.ForOfStmt (s ∷ o ∷ f ∷ g ∷ e ∷ []) h x l a =

@@ -6,7 +6,7 @@ use Rattle.swc_tree_node.specs.declared.kind.Kind.TheVariants as kind
 use Rattle.swc_tree_node.specs.declared.kind.Word.{Word as Word'}
 use Rattle.swc_tree_node.specs.declared.node.Node.{Node, Absent, Flag, Word, Text, Span, List as Many, Identifier, Tree, out-Node, the_lemmas}
 use Rattle.swc_tree_node.specs.declared.node.Node.TheOpen.{Node-F}
-use Rattle.swc_tree_grammar.specs.Kinds.{has_kind, is_object, is_class, is_function, is_arrow, is_yield, is_await, is_literal, is_array_pattern, is_object_pattern}
+use Rattle.swc_tree_grammar.specs.Kinds.{has_kind, is_object, is_class, is_function, is_arrow, is_yield, is_await, is_literal, is_destructuring, is_object_pattern}
 use Rattle.swc_tree_grammar.specs.Levels.{is_absent, word_of}
 use Rattle.swc_tree_grammar.specs.Due.{Places, odd_items}
 use Rattle.swc_tree_grammar.specs.Readers.{named_in, is_odd_item, is_odd_callee, is_odd_object, is_odd_left, odd_unary, unary_word_in, is_equality, is_instance, assigns_to, assigns_in}
@@ -129,7 +129,7 @@ names kind.TaggedTpl (s ∷ e ∷ m ∷ []) = (λ h. off h, (λ h. (refl, of_kin
 names kind.NewExpr (s ∷ e ∷ a ∷ []) = (λ h. off h, (λ h. (refl, of_kind is_literal literal_kind e h), (λ h. off h, tt)))
 names kind.BinExpr (s ∷ o ∷ l ∷ r ∷ []) = (λ h. off h, (λ h. off h, (λ h. (refl, odd_left (word_of o) l h), (λ h. off h, tt))))
 names kind.ExprOrSpread (s ∷ e ∷ []) = (λ h. off h, (λ h. (refl, of_kind is_yield yield_kind e (and_right (is_absent s) (has_kind is_yield e) h)), tt))
-names kind.ArrowExpr (s ∷ a ∷ e ∷ f ∷ []) = (λ h. off h, (λ h. off h, (λ h. (refl, assigning is_array_pattern e h), (λ h. off h, tt))))
+names kind.ArrowExpr (s ∷ a ∷ e ∷ f ∷ []) = (λ h. off h, (λ h. off h, (λ h. (refl, assigning is_destructuring e h), (λ h. off h, tt))))
 names kind.ExportDefaultExpr (s ∷ e ∷ []) = (λ h. off h, (λ h. (refl, of_kind is_arrow arrow_kind e h), tt))
 names kind.ForOfStmt (s ∷ w ∷ l ∷ r ∷ e ∷ []) = (λ h. off h, (λ h. off h, (λ h. off h, (λ h. (refl, of_kind is_await await_kind r h), (λ h. off h, tt)))))
 names k ts = nameless (slots_of k) ts

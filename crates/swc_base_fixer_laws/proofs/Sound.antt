@@ -41,7 +41,7 @@ use Rattle.swc_base_fixer_laws.proofs.Looks.{private_kept, pair_private, same_fi
 use Rattle.swc_base_fixer_laws.proofs.Elements.{elements_kept, of_items}
 use Rattle.swc_base_fixer_laws.proofs.FormsKept.{form_kept, declares_kept, key_kept, strict_list, strict_kept}
 use Rattle.swc_base_fixer_laws.proofs.PartsKept.{length_kept, accessor_kept, all_initialised, all_named, one_bare_kept, using_kept, no_using_kept, all_local, stripped_string, base_kept, left_kept}
-use Rattle.swc_base_fixer_laws.proofs.Freed.{freed}
+use Rattle.swc_base_fixer_laws.proofs.Rounds.{freed}
 
 -- what is kept of a node: what is asked of it, also as the declaration in the head of a `for` in or of
 pub record Keeps (t u : Node) : Type 0 where
@@ -139,7 +139,7 @@ head_pattern : {t u : Node} → Sets (slot.One (content.Node class.ForHead)) t u
 head_pattern (same t) r e h = h
 head_pattern (after c d) r e h = head_pattern d r e (head_pattern c r e h)
 head_pattern (around x t u p q d) r e h = of_around x t u q d r h
-head_pattern (named x k i) r e h = name_pattern x i r e
+head_pattern (named x k i called) r e h = name_pattern x i r e
 head_pattern (items ts us d) r e h = of_items_in ts us d r h
 head_pattern (tree k ts us x d) r e h = of_tree k ts us x d r h
 
@@ -283,7 +283,7 @@ mutual
   keep {s = s} (around x t u p q d) f =
       let g = expression_fits t s q f in let y = keep d g in
       record { keeps = λ r h. pair_sound x u r (private_at d (unprivate t (pair_private t q))) (y.keeps (binding r) (freed t g r h)); heads = λ r h. absurd (cc (sym (no_head t q r) ∙ h)) }
-  keep (named x k i) f = record { keeps = λ r h. name_sound x k i r h; heads = λ r h. absurd (cc (sym (name_head k i r) ∙ h)) }
+  keep (named x k i called) f = record { keeps = λ r h. name_sound x k i r h; heads = λ r h. absurd (cc (sym (name_head k i r) ∙ h)) }
   keep {s = s} (items ts us d) f =
       let g = items_open s ts (sym (fits-List ts s) ∙ f) in
       record { keeps = λ r h. sound_list us r ∙ each d g r (sym (sound_list ts r) ∙ h); heads = λ r h. absurd (cc (sym (in_head_list ts r) ∙ h)) }

@@ -52,7 +52,7 @@ paren_stays : {s : Slot} {t u : Node} → Sets s t u → has_kind is_paren t ≡
 paren_stays (same t) h = h
 paren_stays (after c d) h = paren_stays d (paren_stays c h)
 paren_stays (around r t u p q d) h = kind_of_tree is_paren kind.ParenExpr (Span r ∷ u ∷ [])
-paren_stays (named r k i) h = kind_of_tree is_paren kind.ParenExpr (Span r ∷ Identifier kind.Ident i ∷ [])
+paren_stays (named r k i called) h = kind_of_tree is_paren kind.ParenExpr (Span r ∷ Identifier kind.Ident i ∷ [])
 paren_stays (items ts us d) h = let e : has_kind is_paren (Many ts) ≡ false = search (rules, the_lemmas) in absurd (cc)
 paren_stays (tree k ts us e d) h = kind_of_tree is_paren k us ∙ sym (kind_of_tree is_paren k ts) ∙ h
 
@@ -64,7 +64,7 @@ pub string_kept : {s : Slot} {t u : Node} → Sets s t u → Fits t s → has_ki
 string_kept (same t) f h = refl
 string_kept (after {t = t} {u = u} {v = v} c d) f h = string_kept d (fits_kept c f) h ∙ string_kept c f (then_bare (has_kind is_paren u) u v refl (paren_stays d) h)
 string_kept (around r t u p q d) f h = absurd (cc (sym (kind_of_tree is_paren kind.ParenExpr (Span r ∷ u ∷ [])) ∙ h))
-string_kept (named r k i) f h = absurd (cc (sym (kind_of_tree is_paren kind.ParenExpr (Span r ∷ Identifier kind.Ident i ∷ [])) ∙ h))
+string_kept (named r k i called) f h = absurd (cc (sym (kind_of_tree is_paren kind.ParenExpr (Span r ∷ Identifier kind.Ident i ∷ [])) ∙ h))
 string_kept (items ts us d) f h = list_string us ∙ sym (list_string ts)
 string_kept {s = s} (tree k ts us e d) f h = string_of_tree k us ∙ ap is_some (string_row k d (stands k ts s f).fields) ∙ sym (string_of_tree k ts)
 

@@ -1,4 +1,4 @@
--- Stripping takes off the pairs that are set: what is left is what was left before, but for the kinds of names.
+-- Stripping takes off the pairs that are set: what is left is what was left before, but for the kinds of the names `async`.
 use Rattle.std.proofs.Common.{◌≡◌, List, [], ◌∷◌, map, rules}
 use Rattle.swc_tree_marks.specs.declared.ident.Ident.{Ident}
 use Rattle.swc_tree_marks.specs.declared.span.Span.{Span as Range}
@@ -28,7 +28,7 @@ mutual
   stripped_kept (same t) = alike (stripped t)
   stripped_kept (after c d) = alike_after (stripped_kept c) (stripped_kept d)
   stripped_kept (around r t u p q d) = rw (pair_is r u) (stripped_kept d)
-  stripped_kept (named r k i) = rw (pair_is r (Identifier kind.Ident i), name_is k i, name_is kind.Ident i) (name k kind.Ident i)
+  stripped_kept (named r k i called) = rw (pair_is r (Identifier kind.Ident i), name_is k i, name_is kind.Ident i) (name k kind.Ident i called)
   stripped_kept (items ts us d) = rw (stripped_of_list ts, stripped_of_list us) (list (map stripped ts) (map stripped us) (all_kept d))
   stripped_kept (tree k ts us e d) = rw (stripped_of_tree k ts, stripped_of_tree k us) (strip_alike k (fields_kept d))
 

@@ -249,7 +249,7 @@ mutual
   up (same t) = up_same t
   up (after c d) = up_then (up c) (up d)
   up (around r t u p h d) = up_around r t u (paired t h)
-  up (named r k i) = up_around r (Identifier k i) (Identifier kind.Ident i) (a_name k i)
+  up (named r k i called) = up_around r (Identifier k i) (Identifier kind.Ident i) (a_name k i)
   up (items ts us d) = up_list ts us (ups d)
   up (tree k ts us e d) = up_tree k ts us (fields_up d)
 

@@ -1,14 +1,22 @@
 -- Laws of the fixer's answer.
+use Rattle.std.specs.Prelude.{◌≡◌, true, IsTrue}
 use Rattle.swc_tree_node.specs.declared.node.Node.{Node}
 use Rattle.swc_tree_node.specs.declared.slot.Slot.{Slot}
 use Rattle.swc_tree_node.specs.Fits.{Fits}
 use Rattle.swc_tree_grammar.specs.Blocks.{with_blocks}
 use Rattle.swc_tree_grammar.specs.Due.{Places, with_due_pairs}
 use Rattle.swc_tree_grammar.specs.Grammar.{FitsGrammar}
+use Rattle.swc_tree_grammar.specs.Places.{is_open}
+use Rattle.swc_tree_grammar.specs.Targets.{all_bare}
 use Rattle.swc_tree_grammar.specs.Writable.{Writable}
 use Rattle.swc_tree_grammar.specs.Stripped.{stripped}
+use Rattle.swc_tree_grammar.specs.Normal.{normal_form}
+use Rattle.swc_tree_grammar.specs.Spanless.{SameButForSpans}
+use Rattle.swc_tree_grammar.specs.Fixed.{fixed, IsFixed}
 use Rattle.swc_base_fixer_laws.specs.Alike.{Alike}
 use Rattle.swc_base_fixer_laws.specs.Sets.{Sets}
+use Rattle.swc_base_fixer_laws.specs.Named.{named}
+use Rattle.swc_base_fixer_laws.specs.Once.{paired_once}
 
 -- the due pairs are pairs round expressions where the table takes them, and nothing else changes
 abbrev pub DuePairsArePairs : Type 0
@@ -18,7 +26,7 @@ DuePairsArePairs = (place : Places) (t : Node) (s : Slot) → Fits t s → Sets 
 abbrev pub AnswerFitsTable : Type 0
 AnswerFitsTable = (place : Places) (t : Node) (s : Slot) → Fits t s → Fits (with_due_pairs place (with_blocks t)) s
 
--- stripping takes them off again: what is left is the same but for the kind of the name `async` before `of`
+-- stripping takes them off again: what is left is the same but for the kinds of the names `async`, which before `of` becomes an expression
 abbrev pub StrippingUndoesDuePairs : Type 0
 StrippingUndoesDuePairs = (place : Places) (t : Node) (s : Slot) → Fits t s → Alike (stripped t) (stripped (with_due_pairs place t))
 
@@ -29,3 +37,56 @@ DuePairsKeepWritable = (place : Places) (t : Node) (s : Slot) → Fits t s → W
 -- the grammar derives the answer to what can be written down
 abbrev pub AnswerFits : Type 0
 AnswerFits = (place : Places) (t : Node) (s : Slot) → Fits t s → Writable (with_blocks t) → FitsGrammar (with_due_pairs place (with_blocks t))
+
+-- what can be written down still can with its blocks
+abbrev pub BlocksKeepWritable : Type 0
+BlocksKeepWritable = (t : Node) (s : Slot) → Fits t s → Writable t → Writable (with_blocks t)
+
+-- in what can be written down each parenthesised assignment target can stand bare
+abbrev pub TargetsStandBare : Type 0
+TargetsStandBare = (t : Node) (s : Slot) → Fits t s → Writable t → all_bare t ≡ true
+
+-- what can be written down still can once it is stripped
+abbrev pub StrippingKeepsWritable : Type 0
+StrippingKeepsWritable = (t : Node) (s : Slot) → Fits t s → Writable t → Writable (stripped t)
+
+-- what can be written down still can with its due pairs in place of those that it had, and the grammar derives it:
+-- of a module, a script, and what stands in any place of the table but that of an assignment's target
+abbrev pub FixedFits : Type 0
+FixedFits = (place : Places) (t : Node) (s : Slot) → IsTrue (is_open s) → Fits t s → Writable t → Writable (fixed place t) × FitsGrammar (fixed place t)
+
+-- what stripping leaves of the answer is the stripped tree with its blocks, in which the name `async` before `of` is an
+-- expression
+abbrev pub StrippingUndoesFixer : Type 0
+StrippingUndoesFixer = (place : Places) (t : Node) (s : Slot) → Fits t s → stripped (fixed place t) ≡ named (with_blocks (stripped t))
+
+-- the normal form stays what it was, spans too
+abbrev pub NormalFormStays : Type 0
+NormalFormStays = (place : Places) (t : Node) (s : Slot) → Fits t s → normal_form (fixed place t) ≡ normal_form t
+
+-- no expression has two pairs
+abbrev pub NoPairInPair : Type 0
+NoPairInPair = (place : Places) (t : Node) (s : Slot) → Fits t s → IsTrue (paired_once (fixed place t))
+
+-- the answer to an answer is what the tree itself is answered
+abbrev pub AnswerAgain : Type 0
+AnswerAgain = (first second : Places) (t : Node) (s : Slot) → Fits t s → fixed second (fixed first t) ≡ fixed second t
+
+-- where pairs are put changes spans alone
+abbrev pub PlacesChangeSpans : Type 0
+PlacesChangeSpans = (first second : Places) (t : Node) → SameButForSpans (fixed first t) (fixed second t)
+
+-- so a second run changes nothing but spans
+abbrev pub SecondRunChangesSpans : Type 0
+SecondRunChangesSpans = (first second : Places) (t : Node) (s : Slot) → Fits t s → SameButForSpans (fixed second (fixed first t)) (fixed first t)
+
+-- the same said of whatever the fixer answers, which is known but for spans
+abbrev pub FixerKeepsNormalForm : Type 0
+FixerKeepsNormalForm = (t u : Node) (s : Slot) → Fits t s → IsFixed t u → SameButForSpans (normal_form u) (normal_form t)
+
+abbrev pub FixerPairsOnce : Type 0
+FixerPairsOnce = (t u : Node) (s : Slot) → Fits t s → IsFixed t u → IsTrue (paired_once u)
+
+-- its answer to an answer is that answer
+abbrev pub FixerStaysThere : Type 0
+FixerStaysThere = (t u v : Node) (s : Slot) → Fits t s → IsFixed t u → IsFixed u v → SameButForSpans v u

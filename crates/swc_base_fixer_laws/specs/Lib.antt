@@ -1,3 +1,5 @@
 pub mod Alike
 pub mod Sets
 pub mod Laws
+pub mod Once
+pub mod Named

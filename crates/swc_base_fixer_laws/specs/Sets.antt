@@ -14,6 +14,7 @@ use Rattle.swc_tree_node.specs.declared.node.Node.TheOpen.{Node-F}
 use Rattle.swc_tree_node.specs.Table.{slots_of}
 use Rattle.swc_tree_node.specs.Fits.{belongs}
 use Rattle.swc_tree_grammar.specs.Shapes.{Statement}
+use Rattle.swc_tree_grammar.specs.Grammar.{is_async_name}
 use Rattle.swc_tree_grammar.specs.Writable.{is_string}
 
 -- the kinds that may get a pair
@@ -77,7 +78,7 @@ mutual
     after : {s : Slot} {t u v : Node} → Sets s t u → Sets s u v → Sets s t v
     around : {s : Slot} (r : Range) (t u : Node) → IsTrue (takes_pair s) → IsTrue (pairable t) → Sets (slot.One (content.Node class.Expr)) t u → Sets s t (Tree kind.ParenExpr (Span r ∷ u ∷ []))
     -- the name `async` before `of`, which becomes an expression
-    named : (r : Range) (k : Kind) (i : Ident) → Sets (slot.One (content.Node class.ForHead)) (Identifier k i) (Tree kind.ParenExpr (Span r ∷ Identifier kind.Ident i ∷ []))
+    named : (r : Range) (k : Kind) (i : Ident) → IsTrue (is_async_name (Identifier kind.Ident i)) → Sets (slot.One (content.Node class.ForHead)) (Identifier k i) (Tree kind.ParenExpr (Span r ∷ Identifier kind.Ident i ∷ []))
     items : {s : Slot} (ts us : List Node) → AllSet (item s) ts us → Sets s (Many ts) (Many us)
     -- a directive stays one
     tree : {s : Slot} (k : Kind) (ts us : List Node) → is_directive_in (Node-F.Tree k us) ≡ is_directive_in (Node-F.Tree k ts) → FieldsSet (slots_of k) ts us → Sets s (Tree k ts) (Tree k us)

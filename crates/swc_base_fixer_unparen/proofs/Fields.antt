@@ -14,6 +14,13 @@ use Rattle.swc_tree_node.specs.declared.node.Node.TheOpen.{Node-F}
 use Rattle.swc_tree_grammar.specs.Shapes.{items_of}
 use Rattle.swc_tree_grammar.specs.Stripped.{strip_step, target, is_member, is_idle, busy, is_void, effects, front, end, parts, sequence, settled}
 
+-- said once for the kinds that a match leaves: `cc` at each of them is dear
+no_field : {X : Type 0} (i : ℕ) → None ≡ Some i → X
+no_field i h = absurd (cc)
+
+some_field : {X : Type 0} (i : ℕ) → Some i ≡ None → X
+some_field i h = absurd (cc)
+
 assigned_at : (fields : List Node) (left : Node) → length fields ≡ 4 → slice_get fields 2 ≡ Some left
     → Tree kind.AssignExpr (slice_set (slice_set fields 2 Absent) 2 (target left)) ≡ strip_step (Node-F.Tree kind.AssignExpr fields)
 assigned_at (a ∷ b ∷ c ∷ d ∷ []) left h g = cc
@@ -67,7 +74,7 @@ pub effects_left : (k : Kind) (ts : List Node) (i : ℕ) (e : Node) → field_le
 effects_left kind.SeqExpr (span ∷ exprs ∷ []) i e h g =
     let one : 1 ≡ i = cc in let same : exprs ≡ e = (let g1 = rw (← one) at g in cc) in rw (← same) (effects_of_sequence span exprs)
 effects_left kind.UnaryExpr (span ∷ op ∷ arg ∷ []) i e h g = void_left (is_void op) op span arg e i refl h g
-effects_left k ts i e h g = absurd (cc)
+effects_left k ts i e h g = no_field i h
 
 kept : (b : Bool) (op : Node) (span arg : Node) → is_void op ≡ b → if◌then◌else◌ {A = Option ℕ} b (Some 2) None ≡ None → effects (Tree kind.UnaryExpr (span ∷ op ∷ arg ∷ [])) ≡ Tree kind.UnaryExpr (span ∷ op ∷ arg ∷ []) ∷ []
 kept true op span arg v h = absurd (cc)
@@ -144,7 +151,7 @@ else_in_last kind.IfStmt (a ∷ b ∷ c ∷ d ∷ []) i e h g = takes_else_of_tr
 else_in_last kind.ForInStmt (a ∷ b ∷ c ∷ d ∷ []) i e h g = takes_else_of_tree kind.ForInStmt (a ∷ b ∷ c ∷ d ∷ []) ∙ ap takes_else (at_fourth a b c d [] i e h g)
 else_in_last kind.ForStmt (a ∷ b ∷ c ∷ d ∷ l ∷ []) i e h g = takes_else_of_tree kind.ForStmt (a ∷ b ∷ c ∷ d ∷ l ∷ []) ∙ ap takes_else (at_fifth a b c d l [] i e h g)
 else_in_last kind.ForOfStmt (a ∷ b ∷ c ∷ d ∷ l ∷ []) i e h g = takes_else_of_tree kind.ForOfStmt (a ∷ b ∷ c ∷ d ∷ l ∷ []) ∙ ap takes_else (at_fifth a b c d l [] i e h g)
-else_in_last k ts i e h g = absurd (cc)
+else_in_last k ts i e h g = no_field i h
 
 pub no_else : (k : Kind) (ts : List Node) → last_statement k ts ≡ None → takes_else (Tree k ts) ≡ false
 no_else kind.LabeledStmt (a ∷ b ∷ c ∷ []) h = absurd (cc)
@@ -176,7 +183,7 @@ first_at a ts i e h g = let here : 0 ≡ i = cc in let found = rw (← here) at 
 pub span_in_field : (k : Kind) (ts : List Node) (i : ℕ) (e : Node) → span_field k ts ≡ Some i → e ≡ get_or ts i e → span_of (Tree k ts) ≡ span_of e
 span_in_field kind.FnExpr (a ∷ b ∷ []) i e h g = span_of_tree kind.FnExpr (a ∷ b ∷ []) ∙ ap span_of (at_second a b [] i e h g)
 span_in_field kind.ClassExpr (a ∷ b ∷ []) i e h g = span_of_tree kind.ClassExpr (a ∷ b ∷ []) ∙ ap span_of (at_second a b [] i e h g)
-span_in_field k [] i e h g = absurd (cc)
+span_in_field k [] i e h g = no_field i h
 span_in_field k (t ∷ ts) i e h g = span_of_tree k (t ∷ ts) ∙ ap span_of (first_at t ts i e h g)
 
 pub no_span_field : (k : Kind) (ts : List Node) → span_field k ts ≡ None → span_of (Tree k ts) ≡ no_span
@@ -185,12 +192,12 @@ no_span_field kind.ClassExpr (a ∷ b ∷ []) h = absurd (cc)
 no_span_field kind.FnExpr [] h = span_of_tree kind.FnExpr []
 no_span_field kind.ClassExpr [] h = span_of_tree kind.ClassExpr []
 no_span_field k [] h = span_of_tree k []
-no_span_field k (t ∷ ts) h = absurd (cc)
+no_span_field k (t ∷ ts) h = some_field 0 h
 
 pub target_in_field : (k : Kind) (ts : List Node) (i : ℕ) (e : Node) → content_field k ts ≡ Some i → e ≡ get_or ts i e → is_target (Tree k ts) ≡ is_target e
 target_in_field kind.ParenExpr (a ∷ b ∷ []) i e h g = target_of_tree kind.ParenExpr (a ∷ b ∷ []) ∙ ap is_target (at_second a b [] i e h g)
 target_in_field kind.SeqExpr (a ∷ b ∷ []) i e h g = target_of_tree kind.SeqExpr (a ∷ b ∷ []) ∙ ap is_target (at_second a b [] i e h g)
-target_in_field k ts i e h g = absurd (cc)
+target_in_field k ts i e h g = no_field i h
 
 pub target_by_kind : (k : Kind) (ts : List Node) → content_field k ts ≡ None → is_target (Tree k ts) ≡ is_simple k
 target_by_kind kind.ParenExpr (a ∷ b ∷ []) h = absurd (cc)

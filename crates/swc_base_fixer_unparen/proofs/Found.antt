@@ -31,10 +31,14 @@ own_pair [] a b h g f = absurd (omega arith)
 own_pair (x ∷ []) a b h g f = absurd (omega arith)
 own_pair (x ∷ y ∷ z ∷ ts) a b h g f = absurd (omega arith)
 
+-- said once for the kinds that a match leaves: `cc` at each of them is dear
+other_kind : {X : Type 0} → false ≡ true → X
+other_kind h = absurd (cc)
+
 pub inside_assignment : (k : Kind) (ts : List Node) (l r : Node) → is_assignment k ts ≡ true → l ≡ get_or ts 2 l → r ≡ get_or ts 3 r
     → inside_of (Node-F.Tree k (map found ts)) ≡ pairs_inside l ++ pairs r
 inside_assignment kind.AssignExpr (a ∷ b ∷ c ∷ d ∷ []) l r h g f = rw (g, f) refl
-inside_assignment k ts l r h g f = absurd (cc)
+inside_assignment k ts l r h g f = other_kind h
 
 -- the two sides of an assignment, one behind the other
 pub inside_sides : (k : Kind) (ts : List Node) (l r : Node) (now mid all : List Pair) → is_assignment k ts ≡ true → l ≡ get_or ts 2 l → r ≡ get_or ts 3 r

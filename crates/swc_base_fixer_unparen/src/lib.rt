@@ -11,6 +11,8 @@ mod stripping;
 mod targets;
 
 pub use blocks::add_blocks;
+pub use comments::move_pairs;
+pub use pairs::pairs_of;
 pub use pass::{remove_parens, remove_parens_with};
 pub use stripping::strip;
 pub use targets::all_bare;

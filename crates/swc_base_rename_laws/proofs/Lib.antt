@@ -31,3 +31,4 @@ mod WritableStaysMembers
 mod WritableStaysRows
 mod WritableStaysStatements
 pub mod WritableStays
+pub mod Impossible

@@ -37,6 +37,7 @@ use Rattle.swc_base_rename_laws.proofs.NormalFormWritten.{key_is}
 use Rattle.swc_base_rename_laws.proofs.NormalFormFits.{binding_name, ident_name}
 use Rattle.swc_base_rename_laws.proofs.NormalFormModule.{tree_only}
 use Rattle.swc_base_rename_laws.proofs.NormalFormSound.{of, sound, sound_list, sound_tree}
+use Rattle.swc_base_rename_laws.proofs.Impossible.{impossible}
 
 -- ---- the normal form of a part
 
@@ -163,15 +164,15 @@ test y = is_absent_in y || (property_in y || (default_in y || (is_plain_pattern_
 tested : (y : Node-F Node) → test y ≡ true → shaped_in y ≡ true
 tested Node-F.Absent h = refl
 tested (Node-F.Identifier kind.BindingIdent i) h = refl
-tested (Node-F.Identifier k i) h = absurd (cc)
+tested (Node-F.Identifier k i) h = impossible h
 tested (Node-F.Tree kind.ArrayPat ts) h = refl
 tested (Node-F.Tree kind.ObjectPat ts) h = refl
 tested (Node-F.Tree kind.RestPat ts) h = refl
 tested (Node-F.Tree kind.AssignPat ts) h = refl
 tested (Node-F.Tree kind.KeyValuePatProp ts) h = refl
 tested (Node-F.Tree kind.AssignPatProp ts) h = refl
-tested (Node-F.Tree k ts) h = absurd (cc)
-tested y h = absurd (cc)
+tested (Node-F.Tree k ts) h = impossible h
+tested y h = impossible h
 
 or_right : (a b : Bool) → b ≡ true → (a || b) ≡ true
 or_right true b h = refl
@@ -211,8 +212,8 @@ item_shaped t r a f h =
 
 rest_in : (y : Node-F Node) → has_kind_in is_rest y ≡ true → shaped_in y ≡ true
 rest_in (Node-F.Tree kind.RestPat ts) h = refl
-rest_in (Node-F.Tree k ts) h = absurd (cc)
-rest_in y h = absurd (cc)
+rest_in (Node-F.Tree k ts) h = impossible h
+rest_in y h = impossible h
 
 last_shaped : (t : Node) (r : Round) (b : Bool) → r.assigned ≡ false → Fits t pats → has_kind is_rest (pattern_of t) ≡ b → (b || is_element r t) ≡ true → shaped t ≡ true
 last_shaped t r true a f e h =
@@ -247,7 +248,7 @@ prop_kind : (k : Kind) → IsTrue (belongs k class.ObjectPatProp) → is_pattern
 prop_kind kind.KeyValuePatProp h = refl
 prop_kind kind.AssignPatProp h = refl
 prop_kind kind.RestPat h = refl
-prop_kind k h = absurd (cc)
+prop_kind k h = impossible h
 
 prop_shaped : (t : Node) → Fits t patterns → shaped t ≡ true
 prop_shaped t f = let x = tree_only class.ObjectPatProp refl refl t f in ap shaped x.2 ∙ ap shaped_in (outs-Tree x.0 x.1) ∙ prop_kind x.0 x.4
@@ -323,7 +324,7 @@ tree_good kind.AssignPatProp (x ∷ y ∷ z ∷ t ∷ ts) p f e r n h = absurd f
 tree_good kind.AssignPatProp (x ∷ y ∷ z ∷ []) p f e r n h =
     let (i, is) = binding_name y f.1.0 in
     subst (λ y. Good (Tree kind.AssignPatProp (x ∷ y ∷ z ∷ []))) (sym is) (good_key x i z)
-tree_good k ts p f e r n h = absurd (cc)
+tree_good k ts p f e r n h = impossible p
 
 no_items : (t : Node) (y : Node-F Node) → out-Node t ≡ y → items_in y ≡ [] → Each Holds (items_of t)
 no_items t y e f = subst (Each Holds) (sym (ap items_in e ∙ f)) tt
@@ -376,7 +377,7 @@ declarator_of kind.VarDeclarator (x ∷ y ∷ z ∷ t ∷ ts) r b f h = absurd f
 declarator_of kind.VarDeclarator (x ∷ y ∷ z ∷ []) r b f h =
     let s : (pattern y (binding r) && (sound y (binding r) && all_sound (of z ∷ []) (binding r))) ≡ true = sym (sound_tree kind.VarDeclarator (x ∷ y ∷ z ∷ []) r) ∙ h in
     declarator_same x y z ((holds y).0 (slot.One (content.Node class.Pat)) (binding r) refl f.1.0 (pattern_shaped y (binding r) refl (both_left _ _ s)) (both_left _ _ (both_right _ _ s)))
-declarator_of k ts r b f h = absurd (cc)
+declarator_of k ts r b f h = impossible b
 
 declarators_same : (ts : List Node) (r : Round) → AllFit (slot.One (content.Node class.VarDeclarator)) ts → all_sound (map of ts) r ≡ true → Each Same ts
 declarators_same [] r f h = tt
@@ -437,7 +438,7 @@ declaration_of kind.VarDecl (x ∷ y ∷ z ∷ t ∷ ts) r b f u h = absurd f.1.
 declaration_of kind.VarDecl (x ∷ y ∷ z ∷ []) r b f u h =
     let l = listed z (content.Node class.VarDeclarator) f.1.1.0 in
     subst (λ z. Declares (Tree kind.VarDecl (x ∷ y ∷ z ∷ []))) (sym l.is) (variables_of x y l.items r l.fit (subst (λ z. sound (Tree kind.VarDecl (x ∷ y ∷ z ∷ [])) r ≡ true) l.is h))
-declaration_of k ts r b f u h = absurd (cc)
+declaration_of k ts r b f u h = impossible b
 
 declares : (d : Node) (r : Round) → Fits d (slot.One (content.Node class.Decl)) → not (is_using d) ≡ true → sound d r ≡ true → Declares d
 declares d r f u h =

@@ -36,6 +36,7 @@ use Rattle.swc_base_rename_laws.proofs.NormalFormPairs.{All, Alike, Becomes, Fie
 use Rattle.swc_base_rename_laws.proofs.NormalFormSame.{within_is}
 use Rattle.swc_base_rename_laws.proofs.NormalFormViews.{weaken}
 use Rattle.swc_base_rename_laws.proofs.NormalFormTable.{Row, allowed, allowed_there, fair, fair_content, fair_row, fields, is_plain, left, no_object, place_of_row, plain_tree, plain_within, right, rows_fair, tree_is}
+use Rattle.swc_base_rename_laws.proofs.Impossible.{impossible}
 
 -- ---- what fits
 
@@ -83,16 +84,16 @@ named_only c none t = by_children (λ t. Fits t (slot.One (content.Node c)) → 
         none k w.no_identifier (subst (λ c. IsTrue (belongs k c)) (sym same) w.belonging)
 
 no_binding : (k : Kind) → IsTrue (not (is_identifier k)) → IsTrue (belongs k class.BindingIdent) → ⊥
-no_binding kind.BindingIdent h g = absurd (cc)
-no_binding k h g = absurd (cc)
+no_binding kind.BindingIdent h g = impossible h
+no_binding k h g = impossible g
 
 no_ident : (k : Kind) → IsTrue (not (is_identifier k)) → IsTrue (belongs k class.Ident) → ⊥
-no_ident kind.Ident h g = absurd (cc)
-no_ident k h g = absurd (cc)
+no_ident kind.Ident h g = impossible h
+no_ident k h g = impossible g
 
 is_binding : (k : Kind) → IsTrue (belongs k class.BindingIdent) → k ≡ kind.BindingIdent
 is_binding kind.BindingIdent h = refl
-is_binding k h = absurd (cc)
+is_binding k h = impossible h
 
 pub binding_name : (t : Node) → Fits t (slot.One (content.Node class.BindingIdent)) → (i : Ident) × (t ≡ Identifier kind.BindingIdent i)
 binding_name t h = let (k, i, e, b) = named_only class.BindingIdent no_binding t h in (i, e ∙ ap (λ k. Identifier k i) (is_binding k b))
@@ -447,8 +448,8 @@ module _ (m : Changes) (declared : Node → List Id) where
   prop_kind kind.GetterProp h g = refl
   prop_kind kind.SetterProp h g = refl
   prop_kind kind.MethodProp h g = refl
-  prop_kind kind.Ident h g = absurd (cc)
-  prop_kind k h g = absurd (cc)
+  prop_kind kind.Ident h g = impossible h
+  prop_kind k h g = impossible g
 
   prop_plain : (k : Kind) → even_property k ≡ true → (writes_out k ≡ false) × (no_object k ≡ true)
   prop_plain kind.SpreadElement h = (refl, refl)
@@ -456,7 +457,7 @@ module _ (m : Changes) (declared : Node → List Id) where
   prop_plain kind.GetterProp h = (refl, refl)
   prop_plain kind.SetterProp h = (refl, refl)
   prop_plain kind.MethodProp h = (refl, refl)
-  prop_plain k h = absurd (cc)
+  prop_plain k h = impossible h
 
   tree_part : (k : Kind) (ts : List Node) → Each Whole ts → Part (Tree k ts)
   tree_part k ts e s p b h n f a =

@@ -34,6 +34,7 @@ use Rattle.swc_base_rename_substitution.proofs.Equations.{substituted-Absent, su
 use Rattle.swc_base_rename_laws.proofs.NormalFormPairs.{All, Becomes, Fields, Items, Spot, Trees, part, spots, specifier}
 use Rattle.swc_base_rename_laws.proofs.NormalFormTable.{allowed, fields, plain_tree, tree_is}
 use Rattle.swc_base_rename_laws.proofs.NormalFormFits.{Given, Named, One, Whole, absent_or, all_begin, begins, double_by, fields_at, first_of, given, item_alone, item_begins, name_there, plain_one, span_at, to, tree_of}
+use Rattle.swc_base_rename_laws.proofs.Impossible.{impossible}
 
 -- ---- names that change, each once
 
@@ -97,9 +98,9 @@ no_names : (c : Class) → belongs kind.Ident c ≡ false → belongs kind.Bindi
 no_names c e f t k i h = let b = both (is_identifier k) (belongs k c) (rw (← fits-Identifier k i (slot.One (content.Node c))) h) in by k b.0 b.1
   where
     by : (k : Kind) → IsTrue (is_identifier k) → IsTrue (belongs k c) → ⊥
-    by kind.Ident g h = absurd (cc)
-    by kind.BindingIdent g h = absurd (cc)
-    by k g h = absurd (cc)
+    by kind.Ident g h = impossible (sym e ∙ h)
+    by kind.BindingIdent g h = impossible (sym f ∙ h)
+    by k g h = impossible g
 
 pub tree_only : (c : Class) → belongs kind.Ident c ≡ false → belongs kind.BindingIdent c ≡ false → (t : Node) → Fits t (slot.One (content.Node c)) → Treed t c
 tree_only c e f t h = by (either_one c t h)
@@ -111,12 +112,12 @@ tree_only c e f t h = by (either_one c t h)
 -- the name of an export is an identifier or a string
 is_string : (k : Kind) → IsTrue (not (is_identifier k)) → IsTrue (belongs k class.ModuleExportName) → k ≡ kind.Str
 is_string kind.Str h g = refl
-is_string kind.Ident h g = absurd (cc)
-is_string k h g = absurd (cc)
+is_string kind.Ident h g = impossible h
+is_string k h g = impossible g
 
 is_source : (k : Kind) → IsTrue (belongs k class.Str) → k ≡ kind.Str
 is_source kind.Str h = refl
-is_source k h = absurd (cc)
+is_source k h = impossible h
 
 abbrev Quoted : Node → Type 0
 Quoted t = (xs : List Node) × (t ≡ Tree kind.Str xs) × FieldsFit (slots_of kind.Str) xs
@@ -210,7 +211,7 @@ module _ (m : Changes) (declared : Node → List Id) where
   specifier_of kind.ExportNamedSpecifier (x ∷ y ∷ []) b f = absurd f.1.1
   specifier_of kind.ExportNamedSpecifier (x ∷ y ∷ z ∷ t ∷ ts) b f = absurd f.1.1.1
   specifier_of kind.ExportNamedSpecifier (x ∷ y ∷ z ∷ []) b f = export_of x y z f.0 f.1.1.0 (export_name y f.1.0)
-  specifier_of k ts b f = absurd (cc)
+  specifier_of k ts b f = impossible b
 
   abbrev specs : Slot
   specs = slot.One (content.Node class.ExportSpecifier)
@@ -292,17 +293,17 @@ module _ (m : Changes) (declared : Node → List Id) where
   is_export k = false
 
   item_allowed : (k : Kind) → IsTrue (belongs k class.ModuleItem) → is_export k ≡ false → allowed false k ≡ true
-  item_allowed kind.ParenExpr b e = absurd (cc)
-  item_allowed kind.SeqExpr b e = absurd (cc)
-  item_allowed kind.ArrayPat b e = absurd (cc)
-  item_allowed kind.RestPat b e = absurd (cc)
-  item_allowed kind.ObjectPat b e = absurd (cc)
-  item_allowed kind.AssignPat b e = absurd (cc)
-  item_allowed kind.KeyValuePatProp b e = absurd (cc)
-  item_allowed kind.VarDeclarator b e = absurd (cc)
-  item_allowed kind.Module b e = absurd (cc)
-  item_allowed kind.ExportDecl b e = absurd (cc)
-  item_allowed kind.NamedExport b e = absurd (cc)
+  item_allowed kind.ParenExpr b e = impossible b
+  item_allowed kind.SeqExpr b e = impossible b
+  item_allowed kind.ArrayPat b e = impossible b
+  item_allowed kind.RestPat b e = impossible b
+  item_allowed kind.ObjectPat b e = impossible b
+  item_allowed kind.AssignPat b e = impossible b
+  item_allowed kind.KeyValuePatProp b e = impossible b
+  item_allowed kind.VarDeclarator b e = impossible b
+  item_allowed kind.Module b e = impossible b
+  item_allowed kind.ExportDecl b e = impossible (sym e)
+  item_allowed kind.NamedExport b e = impossible (sym e)
   item_allowed k b e = refl
 
   -- what an exported declaration declares is what is written out
@@ -313,7 +314,7 @@ module _ (m : Changes) (declared : Node → List Id) where
   With t ts us = Items m declared (t ∷ ts) (items_for m t (substituted m false place.Other t) ++ us)
 
   unexported_tree : (k : Kind) (ts : List Node) → is_export k ≡ false → exported_in (Node-F.Tree k ts) ≡ []
-  unexported_tree kind.ExportDecl ts e = absurd (cc)
+  unexported_tree kind.ExportDecl ts e = impossible (sym e)
   unexported_tree k ts e = refl
 
   other_item : (k : Kind) (xs ts us : List Node) → exported_ids (Tree k xs) ≡ [] → Stays (Tree k xs) → Items m declared ts us → With (Tree k xs) ts us

@@ -26,6 +26,7 @@ use Rattle.swc_base_rename_laws.proofs.NormalFormWritten.{written_becomes}
 use Rattle.swc_base_rename_laws.proofs.NormalFormModule.{Exported, module_becomes, script_becomes, tree_only}
 use Rattle.swc_base_rename_laws.proofs.NormalFormSound.{of, sound, sound_list, sound_tree}
 use Rattle.swc_base_rename_laws.proofs.NormalFormDeclared.{exported_declares}
+use Rattle.swc_base_rename_laws.proofs.Impossible.{impossible}
 
 -- what a declaration declares, pairs taken off, and when all is written out
 abbrev before : Node → List Id
@@ -66,7 +67,7 @@ module _ (m : Changes) where
   of_kind kind.Module (x ∷ y ∷ z ∷ []) r b f s =
       let l = listed y (content.Node class.ModuleItem) f.1.0 in
       subst (λ y. Stands (Tree kind.Module (x ∷ y ∷ z ∷ []))) (sym l.is) (module_of x l.items z r f.0 l.fit f.1.1.0 (subst (λ y. sound (Tree kind.Module (x ∷ y ∷ z ∷ [])) r ≡ true) l.is s))
-  of_kind k ts r b f s = absurd (cc)
+  of_kind k ts r b f s = impossible b
 
   module_stands : (t : Node) (r : Round) → Fits t (slot.One (content.Node class.Module)) → sound t r ≡ true → Stands t
   module_stands t r f s =

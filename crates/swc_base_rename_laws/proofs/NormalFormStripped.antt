@@ -20,6 +20,7 @@ use Rattle.swc_base_rename_substitution.specs.Identifiers.{Changes, kept_name}
 use Rattle.swc_base_rename_substitution.specs.Exports.{distinct, export_list, nowhere, specifier as specifier_for, specifier_to}
 use Rattle.swc_base_rename_laws.proofs.NormalFormPairs.{All, Becomes, Fields, Items, Spot, Trees, even_at, flag, is_double, is_even, part, spots, property, specifier}
 use Rattle.swc_base_rename_laws.proofs.NormalFormViews.{all_append, all_busy, all_end, all_filter, all_front, alone, effects_bare, is_bare, items_same, member_same, moved, moved_all, not_sequence, kinds_same, parts_single, target_same, void_same, weaken}
+use Rattle.swc_base_rename_laws.proofs.Impossible.{impossible}
 
 -- ---- leaves
 
@@ -84,10 +85,10 @@ strip_exports m xs = four kind.NamedExport nowhere (Many (map (specifier_for m) 
 
 double_other : (s : Spot) (k : Kind) → is_double s k ≡ true → IsTrue (is_other k)
 double_other (part b) kind.ImportNamedSpecifier h = refl
-double_other (part b) k h = absurd (cc)
+double_other (part b) k h = impossible h
 double_other specifier kind.ExportNamedSpecifier h = refl
-double_other specifier k h = absurd (cc)
-double_other property k h = absurd (cc)
+double_other specifier k h = impossible h
+double_other property k h = impossible h
 
 no_pair : (s : Spot) → is_even s kind.ParenExpr ≡ false
 no_pair (part b) = refl
@@ -101,10 +102,10 @@ no_sequence specifier = refl
 
 double_bare : (s : Spot) (k : Kind) → is_double s k ≡ true → is_bare k ≡ true
 double_bare (part b) kind.ImportNamedSpecifier h = refl
-double_bare (part b) k h = absurd (cc)
+double_bare (part b) k h = impossible h
 double_bare specifier kind.ExportNamedSpecifier h = refl
-double_bare specifier k h = absurd (cc)
-double_bare property k h = absurd (cc)
+double_bare specifier k h = impossible h
+double_bare property k h = impossible h
 
 parts_of_sequence : (a : Node) (ts : List Node) → parts (Tree kind.SeqExpr (a ∷ Many ts ∷ [])) ≡ ts
 parts_of_sequence a ts = ap (parts_in (Tree kind.SeqExpr (a ∷ Many ts ∷ []))) (outs-Tree kind.SeqExpr (a ∷ Many ts ∷ [])) ∙ items_of_list ts

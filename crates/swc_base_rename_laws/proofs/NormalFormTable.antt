@@ -28,6 +28,7 @@ use Rattle.swc_base_rename_substitution.proofs.Equations.{substituted_tree}
 use Rattle.swc_base_rename_substitution.proofs.NamesOfScoping.{kind_is}
 use Rattle.swc_base_rename_laws.proofs.NormalFormPairs.{flag_below}
 use Rattle.swc_base_rename_laws.proofs.NormalFormSame.{below_is, not_local}
+use Rattle.swc_base_rename_laws.proofs.Impossible.{impossible}
 
 -- ---- kinds
 
@@ -91,19 +92,19 @@ abbrev pub fair_row : Bool → Row → Bool
 fair_row b f = fair (flag_below b f.2) f.1 && not_local f.2
 
 rows_true : (k : Kind) → allowed true k ≡ true → list_all (fair_row true) (fields_of k) ≡ true
-rows_true kind.NamedExport a = absurd (cc)
-rows_true kind.Module a = absurd (cc)
+rows_true kind.NamedExport a = impossible a
+rows_true kind.Module a = impossible a
 rows_true k a = refl
 
 rows_false : (k : Kind) → allowed false k ≡ true → list_all (fair_row false) (fields_of k) ≡ true
-rows_false kind.NamedExport a = absurd (cc)
-rows_false kind.Module a = absurd (cc)
-rows_false kind.ArrayPat a = absurd (cc)
-rows_false kind.RestPat a = absurd (cc)
-rows_false kind.ObjectPat a = absurd (cc)
-rows_false kind.AssignPat a = absurd (cc)
-rows_false kind.KeyValuePatProp a = absurd (cc)
-rows_false kind.VarDeclarator a = absurd (cc)
+rows_false kind.NamedExport a = impossible a
+rows_false kind.Module a = impossible a
+rows_false kind.ArrayPat a = impossible a
+rows_false kind.RestPat a = impossible a
+rows_false kind.ObjectPat a = impossible a
+rows_false kind.AssignPat a = impossible a
+rows_false kind.KeyValuePatProp a = impossible a
+rows_false kind.VarDeclarator a = impossible a
 rows_false k a = refl
 
 pub rows_fair : (b : Bool) (k : Kind) → allowed b k ≡ true → list_all (fair_row b) (fields_of k) ≡ true

@@ -27,6 +27,7 @@ use Rattle.swc_base_rename_substitution.specs.Exports.{distinct, nowhere, specif
 use Rattle.swc_base_rename_laws.proofs.NormalFormPairs.{All, Alike, Becomes, Fields, Items, Like, LikeFields, Likes, Spot, Trees, flag, flag_below, flags, is_double, is_even, is_left, needed, part, spots, property, specifier}
 use Rattle.swc_base_rename_laws.proofs.NormalFormLike.{absent_same, again_like, declared_kept, moved, moved_all, split_alone}
 use Rattle.swc_base_rename_laws.proofs.NormalFormRows.{all_finished, even_row, finished, is_tame, key_like, name_done, out-Absent, out-Flag, out-Word, out-Text, out-Span, out-Identifier, out-List, out-Tree, out_items, out_key, out_shorthand, rolled, setter_row, short_done, tame}
+use Rattle.swc_base_rename_laws.proofs.Impossible.{impossible}
 
 -- ---- what is there stays there
 
@@ -111,12 +112,12 @@ default_is s j t =
 double_is : (s : Spot) (k : Kind) (a o t : Node) → is_double s k ≡ true
     → finished s (written_out (Tree k (a ∷ o ∷ t ∷ []))) ≡ Tree k (written_out a ∷ written_out o ∷ again (written_out o) (written_out t) ∷ [])
 double_is (part b) kind.ImportNamedSpecifier a o t e = out-Tree kind.ImportNamedSpecifier (a ∷ o ∷ t ∷ [])
-double_is (part b) k a o t e = absurd (cc)
+double_is (part b) k a o t e = impossible e
 double_is specifier kind.ExportNamedSpecifier a o t e =
     ap to_specifier (out-Tree kind.ExportNamedSpecifier (a ∷ o ∷ t ∷ []) ∙ rolls-Tree kind.ExportNamedSpecifier (written_out a ∷ written_out o ∷ written_out t ∷ []))
     ∙ ap (specifier_in (Tree kind.ExportNamedSpecifier (written_out a ∷ written_out o ∷ written_out t ∷ []))) (outs-Tree kind.ExportNamedSpecifier (written_out a ∷ written_out o ∷ written_out t ∷ []))
-double_is specifier k a o t e = absurd (cc)
-double_is property k a o t e = absurd (cc)
+double_is specifier k a o t e = impossible e
+double_is property k a o t e = impossible e
 
 -- ---- export lists
 
@@ -214,10 +215,10 @@ module _ (m : Changes) where
 
   double_like : (s : Spot) (k : Kind) (a b o p t u : Node) → is_double s k ≡ true → L false a b → L true o p → L false t u → L (flag s) (Tree k (a ∷ o ∷ t ∷ [])) (Tree k (b ∷ p ∷ u ∷ []))
   double_like (part f) kind.ImportNamedSpecifier a b o p t u e x y z = Like.tree f kind.ImportNamedSpecifier _ _ refl (LikeFields.next false _ _ _ _ _ x (LikeFields.next true _ _ _ _ _ y (LikeFields.next false _ _ _ _ _ z LikeFields.end)))
-  double_like (part f) k a b o p t u e x y z = absurd (cc)
+  double_like (part f) k a b o p t u e x y z = impossible e
   double_like specifier kind.ExportNamedSpecifier a b o p t u e x y z = Like.tree true kind.ExportNamedSpecifier _ _ refl (LikeFields.next false _ _ _ _ _ x (LikeFields.next true _ _ _ _ _ y (LikeFields.next false _ _ _ _ _ z LikeFields.end)))
-  double_like specifier k a b o p t u e x y z = absurd (cc)
-  double_like property k a b o p t u e x y z = absurd (cc)
+  double_like specifier k a b o p t u e x y z = impossible e
+  double_like property k a b o p t u e x y z = impossible e
 
   -- ---- the export list of an exported declaration
 
@@ -294,9 +295,9 @@ module _ (m : Changes) where
   even_done property kind.GetterProp ts us e l = rolled_row property kind.GetterProp ts us refl refl refl l
   even_done property kind.MethodProp ts us e l = rolled_row property kind.MethodProp ts us refl refl refl l
   even_done property kind.SetterProp ts us e l = setter_done ts us l
-  even_done property k ts us e l = absurd (cc)
+  even_done property k ts us e l = impossible e
   even_done specifier kind.ExportNamespaceSpecifier ts us e l = rolled_row specifier kind.ExportNamespaceSpecifier ts us refl refl refl l
-  even_done specifier k ts us e l = absurd (cc)
+  even_done specifier k ts us e l = impossible e
 
   -- ---- the whole
 

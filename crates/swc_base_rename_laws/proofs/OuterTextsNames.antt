@@ -35,6 +35,7 @@ use Rattle.swc_base_rename_substitution.specs.Walk.{each_substituted, items_subs
 use Rattle.swc_base_rename_substitution.proofs.Equations.{substituted-Absent, substituted-Flag, substituted-Word, substituted-Text, substituted-Span, substituted_identifier, substituted_list, substituted_tree}
 use Rattle.swc_base_rename_substitution.proofs.Room.{left, right, tree_open}
 use Rattle.swc_base_rename_laws.proofs.OuterTextsForms.{identifier_here, is_plain, item_slot, items_open, never, not_exported, one_item, same_identifier, same_kind, takes_none, tree_here}
+use Rattle.swc_base_rename_laws.proofs.Impossible.{impossible}
 
 -- ---- lists of ids
 
@@ -140,19 +141,19 @@ role_plain p b r = refl
 
 only_names : (k : Kind) → IsTrue (belongs k class.Ident) → IsTrue (is_identifier k)
 only_names kind.Ident h = refl
-only_names k h = absurd (cc)
+only_names k h = impossible h
 
 only_bindings : (k : Kind) → IsTrue (belongs k class.BindingIdent) → IsTrue (is_identifier k)
 only_bindings kind.BindingIdent h = refl
-only_bindings k h = absurd (cc)
+only_bindings k h = impossible h
 
 binding_kind : (k : Kind) → IsTrue (belongs k class.BindingIdent) → k ≡ kind.BindingIdent
 binding_kind kind.BindingIdent h = refl
-binding_kind k h = absurd (cc)
+binding_kind k h = impossible h
 
 no_names : (k : Kind) → IsTrue (belongs k class.Decl) → is_identifier k ≡ false
-no_names kind.Ident h = absurd (cc)
-no_names kind.BindingIdent h = absurd (cc)
+no_names kind.Ident h = impossible h
+no_names kind.BindingIdent h = impossible h
 no_names k h = refl
 
 pub name_here : (t : Node) → Fits t (slot.One (content.Node class.Ident)) → (k : Kind) × (i : Ident) × (t ≡ Identifier k i)
@@ -350,7 +351,7 @@ module _ (m : Changes) (keeps : Bool) where
   same_declaration kind.FnDecl ts us b = same_kind kind.FnDecl _ us (λ i. refl)
   same_declaration kind.VarDecl ts us b = same_kind kind.VarDecl _ us (λ i. refl)
   same_declaration kind.UsingDecl ts us b = same_kind kind.UsingDecl _ us (λ i. refl)
-  same_declaration k ts us b = absurd (cc)
+  same_declaration k ts us b = impossible b
 
   declared_stay : (k : Kind) (ts : List Node) → IsTrue (belongs k class.Decl) → FieldsFit (slots_of k) ts → Unchanged (declared_ids (Tree k ts))
       → declared_ids (substituted m keeps place.Exported (Tree k ts)) ≡ declared_ids (Tree k ts)
@@ -366,7 +367,7 @@ module _ (m : Changes) (keeps : Bool) where
   declared_stay kind.ClassDecl [] b h u = absurd h
   declared_stay kind.ClassDecl (t ∷ []) b h u = absurd h.1
   declared_stay kind.ClassDecl (t ∷ f ∷ x ∷ xs) b h u = absurd h.1.1
-  declared_stay k ts b h u = absurd (cc)
+  declared_stay k ts b h u = impossible b
 
   -- the names of an exported declaration
   pub exported_stay : (t : Node) → Fits t (slot.One (content.Node class.Decl)) → Unchanged (distinct (declared_ids t)) → distinct (declared_ids (substituted m keeps place.Exported t)) ≡ distinct (declared_ids t)

@@ -37,6 +37,7 @@ use Rattle.swc_base_rename_laws.proofs.OuterTexts.{all_append, all_texts, outer_
 use Rattle.swc_base_rename_laws.proofs.OuterTextsForms.{is_plain, item_slot, items_open, keeps_name_of, named, not_exported, one_item, same_kind, span_here, stays_there, takes_none, there_at}
 use Rattle.swc_base_rename_laws.proofs.OuterTextsNames.{declaration_here, exported_stay, role_plain, same_declaration}
 use Rattle.swc_base_rename_laws.proofs.OuterTextsWritten.{default_texts, either, export_texts, exports_texts, import_texts, kept_class_texts, kept_other, key_texts, other_side, quiet, shorthand_texts}
+use Rattle.swc_base_rename_laws.proofs.Impossible.{impossible}
 
 -- ---- places
 
@@ -328,7 +329,7 @@ module _ (m : Changes) (keeps : Bool) where
   placeless o short kind.UsingDecl (t ∷ []) ps b f = absurd f.1
   placeless o short kind.UsingDecl (t ∷ u ∷ []) ps b f = absurd f.1.1
   placeless o short kind.UsingDecl (t ∷ u ∷ v ∷ x ∷ xs) ps b f = absurd f.1.1.1
-  placeless o short k ts ps b f = absurd (cc)
+  placeless o short k ts ps b f = impossible b
 
   moved : (o short : Bool) (t : Node) → Fits t (slot.One (content.Node class.Decl)) → texts o short (substituted m keeps place.Exported t) ≡ texts false false (substituted m keeps place.Exported t)
   moved o short t f =

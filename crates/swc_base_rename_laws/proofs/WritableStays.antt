@@ -37,6 +37,7 @@ use Rattle.swc_base_rename_laws.proofs.WritableStaysParts.{bound_le}
 use Rattle.swc_base_rename_laws.proofs.WritableStaysRows as rows
 use Rattle.swc_base_rename_laws.proofs.WritableStaysRows.{AllKept, Kept, Row, other_le, safe_le}
 use Rattle.swc_base_rename_laws.proofs.WritableStaysStatements as more
+use Rattle.swc_base_rename_laws.proofs.Impossible.{impossible}
 
 -- ---- names
 
@@ -118,11 +119,11 @@ written_export (Some i) a x y r h = sound_tree kind.ExportNamedSpecifier (a ∷ 
 
 binding_kind : (k : Kind) (i : Ident) → IsTrue (belongs k class.BindingIdent) → is_plain_pattern_in (Node-F.Identifier k i) ≡ true
 binding_kind kind.BindingIdent i h = refl
-binding_kind k i h = absurd (cc)
+binding_kind k i h = impossible h
 
 no_binding_tree : (k : Kind) → IsTrue (not (is_identifier k)) → IsTrue (belongs k class.BindingIdent) → ⊥
-no_binding_tree kind.BindingIdent n h = absurd (cc)
-no_binding_tree k n h = absurd (cc)
+no_binding_tree kind.BindingIdent n h = impossible n
+no_binding_tree k n h = impossible h
 
 abbrev target : Slot
 target = slot.One (content.Node class.BindingIdent)

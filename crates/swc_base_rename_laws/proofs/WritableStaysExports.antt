@@ -23,6 +23,7 @@ use Rattle.swc_base_rename_substitution.proofs.Room.{left, right}
 use Rattle.swc_base_rename_laws.specs.Laws.{GivesNames}
 use Rattle.swc_base_rename_laws.proofs.WritableStaysSound.{of, sound, sound_list, sound_name, sound_tree}
 use Rattle.swc_base_rename_laws.proofs.WritableStaysNames.{all_texts, bindable_text, both_true, bound_named, by_round, unbound}
+use Rattle.swc_base_rename_laws.proofs.Impossible.{impossible}
 
 -- ---- the names of a declaration
 
@@ -131,18 +132,18 @@ module _ (m : Changes) (g : GivesNames m) where
 
   exported_at : (t : Node) (y : Node-F Node) → out-Node t ≡ y → changes m (exported_in y) ≡ true → Exported t
   exported_at t (Node-F.Tree kind.ExportDecl (a ∷ d ∷ [])) e h = (a, d, sym (roll-out-Node t) ∙ ap roll-Node e ∙ rolls-Tree kind.ExportDecl (a ∷ d ∷ []), h)
-  exported_at t y e h = absurd (cc)
+  exported_at t y e h = impossible h
 
   pub exported : (t : Node) → changes m (exported_ids t) ≡ true → Exported t
   exported t h = exported_at t (out-Node t) refl h
 
   private_row : (k : Kind) (ts : List Node) → is_private_name k ≡ true → declared_in (Tree k ts) (Node-F.Tree k ts) ≡ []
   private_row kind.PrivateName ts h = unbound kind.PrivateName ts refl
-  private_row k ts h = absurd (cc)
+  private_row k ts h = impossible h
 
   statement_row : (k : Kind) (ts : List Node) → is_some (statement_in (Node-F.Tree k ts)) ≡ true → declared_in (Tree k ts) (Node-F.Tree k ts) ≡ []
   statement_row kind.ExprStmt ts h = unbound kind.ExprStmt ts refl
-  statement_row k ts h = absurd (cc)
+  statement_row k ts h = impossible h
 
   by_form : (F : Node-F Node → Bool) → ((k : Kind) (ts : List Node) → F (Node-F.Tree k ts) ≡ true → declared_in (Tree k ts) (Node-F.Tree k ts) ≡ [])
       → ((y : Node-F Node) (t : Node) → t ≡ roll-Node y → F y ≡ true → (k : Kind) × (ts : List Node) × (y ≡ Node-F.Tree k ts)) → (t : Node) → F (out-Node t) ≡ true → declared_ids t ≡ []

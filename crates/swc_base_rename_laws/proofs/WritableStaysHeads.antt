@@ -32,6 +32,7 @@ use Rattle.swc_base_rename_laws.proofs.WritableStaysSound.{of, sound, sound_tree
 use Rattle.swc_base_rename_laws.proofs.WritableStaysShape.{fields, plain_tree, renamed}
 use Rattle.swc_base_rename_laws.proofs.WritableStaysForms.{text_same}
 use Rattle.swc_base_rename_laws.proofs.WritableStaysStripped.{first_sound, is_full, items, rest_sound, sequence_strips}
+use Rattle.swc_base_rename_laws.proofs.Impossible.{impossible}
 
 abbrev head_in : Node-F Node → Bool × Option (List ℕ)
 head_in y = (has_kind_in is_opt_chain y, literal_in y)
@@ -76,9 +77,9 @@ head_string a b c f =
 
 -- no expression writes a name out
 expr_plain : (k : Kind) → IsTrue (belongs k class.Expr) → writes_out k ≡ false
-expr_plain kind.AssignPatProp h = absurd (cc)
-expr_plain kind.ImportNamedSpecifier h = absurd (cc)
-expr_plain kind.ExportNamedSpecifier h = absurd (cc)
+expr_plain kind.AssignPatProp h = impossible h
+expr_plain kind.ImportNamedSpecifier h = impossible h
+expr_plain kind.ExportNamedSpecifier h = impossible h
 expr_plain k h = refl
 
 module _ (m : Changes) (g : GivesNames m) where
@@ -117,10 +118,10 @@ module _ (m : Changes) (g : GivesNames m) where
       ap (λ u. head (stripped u)) (plain_tree m p kind.AssignExpr (a ∷ b ∷ c ∷ d ∷ []) refl)
       ∙ head_tree (Tree kind.AssignExpr (fields m p kind.AssignExpr (a ∷ b ∷ c ∷ d ∷ []))) kind.AssignExpr _ (stripped_of_tree kind.AssignExpr (fields m p kind.AssignExpr (a ∷ b ∷ c ∷ d ∷ [])))
       ∙ sym (head_tree (Tree kind.AssignExpr (a ∷ b ∷ c ∷ d ∷ [])) kind.AssignExpr _ (stripped_of_tree kind.AssignExpr (a ∷ b ∷ c ∷ d ∷ [])))
-  row p kind.Class (a ∷ b ∷ c ∷ []) r l w f h h' = let o = (tree_opens kind.Class (a ∷ b ∷ c ∷ []) class.Expr w).1 in absurd (cc)
-  row p kind.AssignPatProp ts r l w f h h' = let o = (tree_opens kind.AssignPatProp ts class.Expr w).1 in absurd (cc)
-  row p kind.ImportNamedSpecifier ts r l w f h h' = let o = (tree_opens kind.ImportNamedSpecifier ts class.Expr w).1 in absurd (cc)
-  row p kind.ExportNamedSpecifier ts r l w f h h' = let o = (tree_opens kind.ExportNamedSpecifier ts class.Expr w).1 in absurd (cc)
+  row p kind.Class (a ∷ b ∷ c ∷ []) r l w f h h' = impossible (tree_opens kind.Class (a ∷ b ∷ c ∷ []) class.Expr w).1
+  row p kind.AssignPatProp ts r l w f h h' = impossible (tree_opens kind.AssignPatProp ts class.Expr w).1
+  row p kind.ImportNamedSpecifier ts r l w f h h' = impossible (tree_opens kind.ImportNamedSpecifier ts class.Expr w).1
+  row p kind.ExportNamedSpecifier ts r l w f h h' = impossible (tree_opens kind.ExportNamedSpecifier ts class.Expr w).1
   row p k ts r l w f h h' =
       ap (λ u. head (stripped u)) (plain_tree m p k ts refl)
       ∙ head_tree (Tree k (fields m p k ts)) k (map stripped (fields m p k ts)) (stripped_of_tree k (fields m p k ts) ∙ rolls-Tree k (map stripped (fields m p k ts)))

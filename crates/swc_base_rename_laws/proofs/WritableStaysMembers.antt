@@ -29,6 +29,7 @@ use Rattle.swc_base_rename_laws.proofs.WritableStaysPatterns.{and_le, one_withou
 use Rattle.swc_base_rename_laws.proofs.WritableStaysStripped.{first_sound, rest_sound}
 use Rattle.swc_base_rename_laws.proofs.WritableStaysHeads.{chain_same}
 use Rattle.swc_base_rename_laws.proofs.WritableStaysParts.{list_unexported}
+use Rattle.swc_base_rename_laws.proofs.Impossible.{impossible}
 
 abbrev is_function_in : Node-F Node → Bool
 is_function_in (Node-F.Tree kind.Function (a ∷ b ∷ c ∷ d ∷ e ∷ [])) = true
@@ -109,7 +110,7 @@ module _ (m : Changes) (g : GivesNames m) where
       chain_same m g place.Name (binding r) refl b f.1.0 (first_sound b (of c ∷ []) (binding r) (rest_sound a (of b ∷ of c ∷ []) (binding r) h))
       (first_sound (substituted m false place.Name b) (of (substituted m false place.Other c) ∷ []) (binding r)
       (rest_sound (substituted m false place.Other a) (of (substituted m false place.Name b) ∷ of (substituted m false place.Other c) ∷ []) (binding r) h')) ∙ x
-  base_row p k ts r f h h' x = absurd (cc)
+  base_row p k ts r f h h' x = impossible x
 
   none_goes_on : (t : Node) (y : Node-F Node) → out-Node t ≡ y → base_goes_on_in y ≡ false → base_goes_on_in (out-Node t) ≡ true → (b : Bool) → b ≡ true
   none_goes_on t y o e h b = let never : base_goes_on_in (out-Node t) ≡ false = ap base_goes_on_in o ∙ e in absurd (cc)

@@ -21,6 +21,7 @@ use Rattle.swc_base_rename_laws.specs.Laws.{GivesNames}
 use Rattle.swc_base_rename_laws.proofs.WritableStaysShape.{Even, even_at, fields, plain_tree, renamed}
 use Rattle.swc_base_rename_laws.proofs.WritableStaysForms.{absent_same, default_same, initialised_same, kind_same, plain_same, property_same}
 use Rattle.swc_base_rename_laws.proofs.WritableStaysLists.{Le, items_by}
+use Rattle.swc_base_rename_laws.proofs.Impossible.{impossible}
 
 -- ---- orders of tests
 
@@ -78,7 +79,7 @@ module _ (m : Changes) (g : GivesNames m) where
   target_row p kind.MemberExpr ts l h = ap is_target (plain_tree m p kind.MemberExpr ts refl) ∙ target_tree kind.MemberExpr _
   target_row p kind.SuperPropExpr ts l h = ap is_target (plain_tree m p kind.SuperPropExpr ts refl) ∙ target_tree kind.SuperPropExpr _
   target_row p kind.Ident ts l h = ap is_target (plain_tree m p kind.Ident ts refl) ∙ target_tree kind.Ident _
-  target_row p k ts l h = absurd (cc)
+  target_row p k ts l h = impossible h
 
   no_target_declaration : (a d : Node) → is_target (Tree kind.ExportDecl (a ∷ d ∷ [])) ≡ false
   no_target_declaration a d = target_tree kind.ExportDecl (a ∷ d ∷ [])

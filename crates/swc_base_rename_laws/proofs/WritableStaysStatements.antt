@@ -31,6 +31,7 @@ use Rattle.swc_base_rename_laws.proofs.WritableStaysStripped.{first_sound}
 use Rattle.swc_base_rename_laws.proofs.WritableStaysHeads.{string_same}
 use Rattle.swc_base_rename_laws.proofs.WritableStaysParts.{bound_le, branch_le, head_le, list_unexported, loop_le, no_using_le, one_bare_of_le, strict_le, strict_list_same}
 use Rattle.swc_base_rename_laws.proofs.WritableStaysRows.{AllKept, Row, other_le, safe_le, two_le}
+use Rattle.swc_base_rename_laws.proofs.Impossible.{impossible}
 
 module _ (m : Changes) (g : GivesNames m) where
   -- ---- declarations
@@ -173,4 +174,4 @@ module _ (m : Changes) (g : GivesNames m) where
   head_row p kind.UsingDecl (a ∷ w ∷ d ∷ []) l f r h =
       let u = list_unexported class.VarDeclarator refl d f.1.1.0 in
       and_le (one_bare_of_le m g place.Name refl d u) (and_le (same_le (named_all false d u)) ((l.1.1.0 place.Name).sounds (binding r))) h
-  head_row p k ts l f r h = absurd (cc)
+  head_row p k ts l f r h = impossible h

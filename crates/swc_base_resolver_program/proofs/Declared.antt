@@ -20,6 +20,7 @@ use Rattle.swc_base_resolver_program.specs.Names.{any_way, has_way, ways_in}
 use Rattle.swc_base_resolver_program.specs.Lookup.{Open, Tables, declares_in, hoists_from, hoists_in, meaning_in, meets_in, names_in, otherwise_in, passes_in, same_number, taker_in}
 use Rattle.swc_base_resolver_program.specs.Walks.{Reaches, Takes, has_at, open_round}
 use Rattle.std.proofs.lemmas.Bool.Decides.{nat_tests}
+use Rattle.std.proofs.lemmas.Bool.{eqb-true}
 use Rattle.swc_base_resolver_program.proofs.Numbers.{one_number}
 use Rattle.swc_base_resolver_program.proofs.Rounds.{first_among, first_unique, found_first, found_holds, none_that, number_of, rounds_are, that_among, there}
 use Rattle.swc_base_resolver_program.proofs.Ways.{and_both, both, is_true, not_true, or_cases, or_left, or_right, true_not}
@@ -50,6 +51,13 @@ any_forth f w h =
 after : (a b : Bool) → IsTrue b → IsTrue (a || b)
 after = or_right
 
+-- said once, outside of what else is known: a tactic goes over all of it each time
+no_way : {X : Type 0} → false ≡ true → X
+no_way h = absurd (cc)
+
+itself : (k : ℕ) → (k == k) ≡ true
+itself k = grind (arith, nat_tests)
+
 any_back : (f : Standing → Bool) (w : Ways) (r : Standing) → IsTrue (f r) → IsTrue (has_way w r) → IsTrue (any_way f w)
 any_back f w standing.Variable p q = or_left _ _ (and_both (f standing.Variable) _ p q)
 any_back f w standing.Lexical p q = or_right (f standing.Variable && w.variable) _ (or_left _ _ (and_both (f standing.Lexical) _ p q))
@@ -75,14 +83,14 @@ any_back f w standing.ClassName p q =
     or_right (f standing.Variable && w.variable) _ (or_right (f standing.Lexical && w.lexical) _ (or_right (f standing.Function && w.function) _ (or_right (f standing.BlockFunction && w.block_function) _
     (or_right (f standing.SloppyFunction && w.sloppy_function) _ (or_right (f standing.Parameter && w.parameter) _ (or_right (f standing.CatchParameter && w.catch_parameter) _
     (or_right (f standing.Import && w.import) _ (or_right (f standing.FunctionName && w.function_name) _ (and_both (f standing.ClassName) _ p q)))))))))
-any_back f w standing.Plain p q = absurd (grind arith)
-any_back f w standing.Reference p q = absurd (grind arith)
-any_back f w standing.Body p q = absurd (grind arith)
-any_back f w standing.Branch p q = absurd (grind arith)
-any_back f w standing.DefaultExport p q = absurd (grind arith)
-any_back f w standing.Label p q = absurd (grind arith)
-any_back f w standing.Imported p q = absurd (grind arith)
-any_back f w standing.Exported p q = absurd (grind arith)
+any_back f w standing.Plain p q = no_way q
+any_back f w standing.Reference p q = no_way q
+any_back f w standing.Body p q = no_way q
+any_back f w standing.Branch p q = no_way q
+any_back f w standing.DefaultExport p q = no_way q
+any_back f w standing.Label p q = no_way q
+any_back f w standing.Imported p q = no_way q
+any_back f w standing.Exported p q = no_way q
 
 some_is : (a b : ℕ) → Some a ≡ Some b → a ≡ b
 some_is a b h = cc
@@ -262,7 +270,7 @@ module _ (t : Node) (opens : opened program_place t ≡ Some scope.Program) wher
       same_if a b k h = next (b == a) refl
         where
           next : (z : Bool) → (b == a) ≡ z → (a ≡ k) × (b ≡ a)
-          next true e = let g : Some a ≡ Some k = sym (ap (λ z. cond z (Some a) None) e) ∙ h in let q : b ≡ a = grind (arith, nat_tests, e) in (some_is a k g, q)
+          next true e = let g : Some a ≡ Some k = sym (ap (λ z. cond z (Some a) None) e) ∙ h in (some_is a k g, eqb-true b a e)
           next false e = let g : None ≡ Some k = sym (ap (λ z. cond z (Some a) None) e) ∙ h in absurd (cc)
 
       pub uncaught_is : (s : Path) (x : List ℕ) → IsOpen s → IsTrue (has_at reached (nr s) standing.Variable x) ↔ ((b : Bound t s standing.Variable x) × IsUncaught t b.path x)
@@ -300,7 +308,7 @@ module _ (t : Node) (opens : opened program_place t ≡ Some scope.Program) wher
       )
         where
           same_self : (k : ℕ) → same_number (Some k) (Some k) ≡ Some k
-          same_self k = let e : (k == k) ≡ true = grind (arith, nat_tests) in rw e refl
+          same_self k = rw (itself k) refl
 
       abbrev pub D : Tables
       D = record { bound = ways_in bound; reached = ways_in reached }

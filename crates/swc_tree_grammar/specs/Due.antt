@@ -4,7 +4,7 @@ use Rattle.swc_tree_marks.specs.declared.span.Span.{Span as Range}
 use Rattle.swc_tree_node.specs.declared.kind.Kind.TheVariants as kind
 use Rattle.swc_tree_node.specs.declared.node.Node.{Node, Span, List as Many, Identifier, Tree, out-Node, roll-Node, fold-Node, map-Node}
 use Rattle.swc_tree_node.specs.declared.node.Node.TheOpen.{Node-F}
-use Rattle.swc_tree_grammar.specs.Shapes.{Seq, Assign, Cond, Bin, Unary, Await, Update, Yield, Member, TaggedTpl, Call, New, OptChain, OptCall, Computed, Arrow, Declarator, VarDecl, Statement, ExportDefault, For, ForIn, ForOf, items_of}
+use Rattle.swc_tree_grammar.specs.Shapes.{Seq, Assign, Cond, Bin, Unary, Await, Update, Yield, Member, TaggedTpl, Call, New, OptChain, OptCall, Computed, Arrow, Declarator, AssignPat, RestPat, VarDecl, Statement, ExportDefault, For, ForIn, ForOf, items_of}
 use Rattle.swc_tree_grammar.specs.Kinds.{has_kind, is_paren, is_block, is_object_pattern}
 use Rattle.swc_tree_grammar.specs.Levels.{word_of, is_in}
 use Rattle.swc_tree_grammar.specs.Demands.{Demand, demands, meets, at_least}
@@ -125,7 +125,9 @@ in_step place (OptChain span optional base) b = Tree kind.OptChainExpr (free spa
 in_step place (OptCall span callee args) b = Tree kind.OptCall (free span ∷ callee b ∷ free args ∷ [])
 in_step place (Arrow span params body is_async) b = Tree kind.ArrowExpr (free span ∷ free params ∷ body b ∷ free is_async ∷ [])
 in_step place (VarDecl span keyword decls) b = Tree kind.VarDecl (free span ∷ free keyword ∷ decls b ∷ [])
-in_step place (Declarator span name init) b = Tree kind.VarDeclarator (free span ∷ free name ∷ init b ∷ [])
+in_step place (Declarator span name init) b = Tree kind.VarDeclarator (free span ∷ name b ∷ init b ∷ [])
+in_step place (AssignPat span left right) b = Tree kind.AssignPat (free span ∷ left b ∷ right b ∷ [])
+in_step place (RestPat span arg) b = Tree kind.RestPat (free span ∷ arg b ∷ [])
 in_step place (For span init test update body) b = Tree kind.ForStmt (free span ∷ init false ∷ free test ∷ free update ∷ free body ∷ [])
 in_step place (ForIn span left right body) b = Tree kind.ForInStmt (free span ∷ left false ∷ free right ∷ free body ∷ [])
 in_step place (ForOf span is_await_loop left right body) b = Tree kind.ForOfStmt (free span ∷ free is_await_loop ∷ of_head place (free is_await_loop) (left false) ∷ free right ∷ free body ∷ [])

@@ -61,9 +61,11 @@ is_literal kind.BigInt = true
 is_literal kind.Regex = true
 is_literal _ = false
 
-abbrev pub is_array_pattern : Kind → Bool
-is_array_pattern kind.ArrayPat = true
-is_array_pattern _ = false
+-- patterns that take a value apart
+abbrev pub is_destructuring : Kind → Bool
+is_destructuring kind.ArrayPat = true
+is_destructuring kind.ObjectPat = true
+is_destructuring _ = false
 
 abbrev pub is_object_pattern : Kind → Bool
 is_object_pattern kind.ObjectPat = true

@@ -10,7 +10,7 @@ use Rattle.swc_tree_node.specs.declared.fields.statements.expr_stmt.TheConstants
 use Rattle.swc_tree_node.specs.declared.fields.expressions.seq_expr.TheConstants as seq_expr
 use Rattle.swc_tree_scoping.specs.Places.{Path, child, given}
 use Rattle.swc_tree_grammar.specs.Shapes.{Seq, Assign, Bin, Unary, Member, TaggedTpl, Call, New, OptCall, Argument, Arrow, Statement, ExportDefault, ForOf, items_of}
-use Rattle.swc_tree_grammar.specs.Kinds.{has_kind, is_object, is_class, is_function, is_arrow, is_yield, is_await, is_literal, is_array_pattern, is_object_pattern}
+use Rattle.swc_tree_grammar.specs.Kinds.{has_kind, is_object, is_class, is_function, is_arrow, is_yield, is_await, is_literal, is_destructuring, is_object_pattern}
 use Rattle.swc_tree_grammar.specs.Levels.{word_of, is_absent}
 
 abbrev pub is_odd_callee : Kind → Bool
@@ -68,7 +68,7 @@ named_in (TaggedTpl span tag tpl) = none ∷ has_kind is_function ∷ none ∷ [
 named_in (New span callee args) = none ∷ has_kind is_literal ∷ none ∷ []
 named_in (Bin span op left right) = none ∷ none ∷ is_odd_left (word_of op) ∷ none ∷ []
 named_in (Argument spread expr) = none ∷ (λ e. is_absent spread && has_kind is_yield e) ∷ []
-named_in (Arrow span params body is_async) = none ∷ none ∷ assigns_to is_array_pattern ∷ none ∷ []
+named_in (Arrow span params body is_async) = none ∷ none ∷ assigns_to is_destructuring ∷ none ∷ []
 named_in (ExportDefault span expr) = none ∷ has_kind is_arrow ∷ []
 named_in (ForOf span is_await_loop left right body) = none ∷ none ∷ none ∷ has_kind is_await ∷ none ∷ []
 named_in _ = []

@@ -192,7 +192,9 @@ freer_row kind.OptCall (s ∷ o ∷ m ∷ []) l h = freer_one (headed o false) (
 freer_row kind.OptChainExpr (s ∷ o ∷ m ∷ []) l h = l.1.1.0 h
 freer_row kind.ArrowExpr (s ∷ a ∷ e ∷ f ∷ []) l h = freer_two (headed a true) (headed e false) (headed a true) (headed e true) (λ x. x) l.1.1.0 h
 freer_row kind.VarDecl (s ∷ w ∷ d ∷ []) l h = l.1.1.0 h
-freer_row kind.VarDeclarator (s ∷ n ∷ i ∷ []) l h = freer_two (headed n true) (headed i false) (headed n true) (headed i true) (λ x. x) l.1.1.0 h
+freer_row kind.VarDeclarator (s ∷ n ∷ i ∷ []) l h = freer_two (headed n false) (headed i false) (headed n true) (headed i true) l.1.0 l.1.1.0 h
+freer_row kind.AssignPat (s ∷ f ∷ a ∷ []) l h = freer_two (headed f false) (headed a false) (headed f true) (headed a true) l.1.0 l.1.1.0 h
+freer_row kind.RestPat (s ∷ a ∷ []) l h = l.1.0 h
 freer_row kind.ForStmt (s ∷ i ∷ t ∷ u ∷ e ∷ []) l h = h
 freer_row kind.ForInStmt (s ∷ i ∷ r ∷ e ∷ []) l h = h
 freer_row kind.ForOfStmt (s ∷ w ∷ i ∷ r ∷ e ∷ []) l h = h
@@ -257,12 +259,12 @@ class s a b c r e m i w y q g =
 pub declarator : (s n a : Node) → Row kind.VarDeclarator (s ∷ n ∷ a ∷ [])
 declarator s n a c r e m i w y q g =
     let p = half (half m).1 in let j = half i in
-    also (g.1.0 (inside c) (binding r) e p.0 j.0) (spot (AtLeast 2) a c (binding r) g.1.1.0 e (heard (a ∷ []) (binding r) p.1).0 j.1 w.1.1.0)
+    also (g.1.0 c (binding r) e p.0 j.0) (spot (AtLeast 2) a c (binding r) g.1.1.0 e (heard (a ∷ []) (binding r) p.1).0 j.1 w.1.1.0)
 
 pub assign_pat : (s f a : Node) → Row kind.AssignPat (s ∷ f ∷ a ∷ [])
 assign_pat s f a c r e m i w y q g =
-    let p = half (half m).1 in let j = free (s ∷ f ∷ a ∷ []) i in
-    also (g.1.0 (inside c) r e p.0 j.1.0) (spot (AtLeast 2) a (inside c) (binding r) g.1.1.0 e (heard (a ∷ []) (binding r) p.1).0 j.1.1.0 w.1.1.0)
+    let p = half (half m).1 in let j = half i in
+    also (g.1.0 c r e p.0 j.0) (spot (AtLeast 2) a c (binding r) g.1.1.0 e (heard (a ∷ []) (binding r) p.1).0 j.1 w.1.1.0)
 
 pub assign_pat_prop : (s k a : Node) → Row kind.AssignPatProp (s ∷ k ∷ a ∷ [])
 assign_pat_prop s k a c r e m i w y q g = spot (AtLeast 2) a (inside c) (binding r) g.1.1.0 e (heard (a ∷ []) (binding r) (half m).1).0 (free (s ∷ k ∷ a ∷ []) i).1.1.0 w.1.1.0
@@ -274,7 +276,7 @@ pub object_pat : (s a : Node) → Row kind.ObjectPat (s ∷ a ∷ [])
 object_pat s a c r e m i w y q g = g.1.0 (inside c) r e (half m).1 (free (s ∷ a ∷ []) i).1.0
 
 pub rest_pat : (s a : Node) → Row kind.RestPat (s ∷ a ∷ [])
-rest_pat s a c r e m i w y q g = g.1.0 (inside c) r e (half m).1 (free (s ∷ a ∷ []) i).1.0
+rest_pat s a c r e m i w y q g = g.1.0 c r e (half m).1 i
 
 pub key_value_pat : (k a : Node) → Row kind.KeyValuePatProp (k ∷ a ∷ [])
 key_value_pat k a c r e m i w y q g =

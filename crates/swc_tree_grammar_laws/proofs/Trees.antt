@@ -13,7 +13,7 @@ use Rattle.swc_tree_grammar.specs.Needed.{is_pair, without_pair, is_for_reader}
 use Rattle.swc_tree_grammar_laws.proofs.Rows.{at, name}
 
 -- where the pairs stand is left aside
-abbrev here : Places
+abbrev pub here : Places
 here s = no_span
 
 abbrev sloppy : Context
@@ -38,6 +38,10 @@ NeedsPair u p = (derives u sloppy ≡ true) × ((is_pair u p && not (derives (wi
 -- a step gives the first tree the pair of the second and no other, and that one is needed
 abbrev pub NeedsAfter : (Places → Node → Node) → Node → Node → Path → Type 0
 NeedsAfter step t u p = (step here t ≡ u) × (derives u sloppy ≡ true) × ((is_pair u p && not (derives (without_pair u p) sloppy)) ≡ true)
+
+-- a step leaves the tree as it is, and the tree fits the grammar
+abbrev pub BareAfter : (Places → Node → Node) → Node → Type 0
+BareAfter step t = (step here t ≡ t) × (derives t sloppy ≡ true)
 
 -- as `Needs`, of a pair for a reader: with it and without it, the tree fits the grammar
 abbrev pub Shows : Node → Node → Path → Type 0

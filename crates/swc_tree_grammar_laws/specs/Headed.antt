@@ -4,7 +4,7 @@ use Rattle.std.specs.Prelude.{Bool, true, false, not, ◌&&◌, ◌||◌}
 use Rattle.std.specs.List.{list_all}
 use Rattle.swc_tree_node.specs.declared.node.Node.{Node, fold-Node, map-Node, roll-Node}
 use Rattle.swc_tree_node.specs.declared.node.Node.TheOpen.{Node-F}
-use Rattle.swc_tree_grammar.specs.Shapes.{Seq, Assign, Cond, Bin, Unary, Await, Update, Yield, Member, TaggedTpl, Call, New, OptChain, OptCall, Arrow, VarDecl, Declarator, For, ForIn, ForOf}
+use Rattle.swc_tree_grammar.specs.Shapes.{Seq, Assign, Cond, Bin, Unary, Await, Update, Yield, Member, TaggedTpl, Call, New, OptChain, OptCall, Arrow, VarDecl, Declarator, AssignPat, RestPat, For, ForIn, ForOf}
 use Rattle.swc_tree_grammar.specs.Levels.{word_of, is_in}
 use Rattle.swc_tree_grammar.specs.Forms.{holds as is_set}
 use Rattle.swc_tree_grammar.specs.Grammar.{is_async_name}
@@ -31,7 +31,9 @@ heads_in (OptChain span optional base) b = base.holds b
 heads_in (OptCall span callee args) b = callee.holds b && args.holds true
 heads_in (Arrow span params body is_async) b = params.holds true && body.holds b
 heads_in (VarDecl span keyword decls) b = decls.holds b
-heads_in (Declarator span name init) b = name.holds true && init.holds b
+heads_in (Declarator span name init) b = name.holds b && init.holds b
+heads_in (AssignPat span left right) b = left.holds b && right.holds b
+heads_in (RestPat span arg) b = arg.holds b
 heads_in (For span init test update body) b = init.holds false && (test.holds true && (update.holds true && body.holds true))
 heads_in (ForIn span left right body) b = left.holds false && (right.holds true && body.holds true)
 heads_in (ForOf span is_await left right body) b = (is_set is_await.whole || not (is_async_name left.whole)) && (left.holds false && (right.holds true && body.holds true))

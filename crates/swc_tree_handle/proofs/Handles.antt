@@ -39,22 +39,28 @@ identifier_moves k i c d h g = identifier_closes k i d (identifier_opens k i c h
 pub tree_moves : (k : Kind) (ts : List Node) (c d : Class) → Fits (Tree k ts) (slot.One (content.Node c)) → IsTrue (is_of (Tree k ts) d) → Fits (Tree k ts) (slot.One (content.Node d))
 tree_moves k ts c d h g = let o = tree_opens k ts c h in tree_closes k ts d o.0 (rw (← ap (takes d) (kind_of-Tree k ts)) g) o.2
 
+-- by numbers alone: a tactic that meets a kind's number tells the kinds apart one by one
+one_number : (n m : ℕ) → IsTrue (n == m) → n ≡ m
+one_number n m h = grind arith
+
 same_number : (n m : ℕ) (ks : List Kind) → n ≡ m → IsTrue (list_any (λ x. n == kind_number x) ks) → IsTrue (list_any (λ x. m == kind_number x) ks)
 same_number n m ks e h = subst (λ z. IsTrue (list_any (λ x. z == kind_number x) ks)) e h
 
-first : (k x : Kind) (d : Class) (b : Bool) → (kind_number k == kind_number x) ≡ b → IsTrue b → IsTrue (belongs x d) → IsTrue (belongs k d)
-first k x d true e t h = same_number (kind_number x) (kind_number k) (kinds_of d) (grind arith) h
-first k x d false e t h = absurd (grind arith)
+first : (k x : Kind) (d : Class) → IsTrue (kind_number k == kind_number x) → IsTrue (belongs x d) → IsTrue (belongs k d)
+first k x d e h = same_number (kind_number x) (kind_number k) (kinds_of d) (sym (one_number (kind_number k) (kind_number x) e)) h
+
+none : IsTrue false → ⊥
+none h = absurd (cc)
 
 found : {X : Type 0} (b c : Bool) → IsTrue (b || c) → (IsTrue b → X) → (IsTrue c → X) → X
 found true c h f g = f refl
 found false c h f g = g h
 
 among : (k : Kind) (xs : List Kind) (d : Class) → IsTrue (list_any (λ x. kind_number k == kind_number x) xs) → IsTrue (list_all (λ x. belongs x d) xs) → IsTrue (belongs k d)
-among k [] d h a = absurd (grind arith)
+among k [] d h a = absurd (none h)
 among k (x ∷ xs) d h a =
     let p = both (belongs x d) (list_all (λ x. belongs x d) xs) a in
-    found (kind_number k == kind_number x) (list_any (λ x. kind_number k == kind_number x) xs) h (λ t. first k x d (kind_number k == kind_number x) refl t p.0) (λ t. among k xs d t p.1)
+    found (kind_number k == kind_number x) (list_any (λ x. kind_number k == kind_number x) xs) h (λ t. first k x d t p.0) (λ t. among k xs d t p.1)
 
 -- a kind of the narrower class is a kind of the wider
 pub within : (k : Kind) (c d : Class) → IsTrue (is_within c d) → IsTrue (belongs k c) → IsTrue (belongs k d)
@@ -67,15 +73,15 @@ pub tree_widens : (k : Kind) (ts : List Node) (c d : Class) → Fits (Tree k ts)
 tree_widens k ts c d h w = let o = tree_opens k ts c h in tree_closes k ts d o.0 (within k c d w o.1) o.2
 
 only : (k l : Kind) → IsTrue (list_any (λ x. kind_number k == kind_number x) (l ∷ [])) → k ≡ l
-only k l h = same_kind k l (grind arith)
+only k l h = found (kind_number k == kind_number l) false h (λ t. same_kind k l (one_number (kind_number k) (kind_number l) t)) (λ f. absurd (none f))
 
 -- a class of one kind
 sole : (k l : Kind) (c : Class) → kinds_of c ≡ l ∷ [] → IsTrue (belongs k c) → k ≡ l
 sole k l c e h = only k l (subst (λ ks. IsTrue (list_any (λ x. kind_number k == kind_number x) ks)) e h)
 
 clash : (b : Bool) → IsTrue b → IsTrue (not b) → ⊥
-clash true h g = absurd (grind arith)
-clash false h g = absurd (grind arith)
+clash true h g = none g
+clash false h g = none h
 
 pub sole_tree : (k : Kind) (ts : List Node) (c : Class) (l : Kind) → Fits (Tree k ts) (slot.One (content.Node c)) → kinds_of c ≡ l ∷ [] → (k ≡ l) × FieldsFit (slots_of l) ts
 sole_tree k ts c l h e =
@@ -109,7 +115,7 @@ all_set s (x ∷ ts) zero t h f = (f, h.1)
 all_set s (x ∷ ts) (suc i) t h f = (h.0, all_set s ts i t h.1 f)
 
 alike : (k l : Kind) (b c : Bool) → (kind_number k == kind_number l) ≡ c → IsTrue (c || b) → (k ≡ l → ⊥) → IsTrue b
-alike k l b true e h n = absurd (n (same_kind k l (grind arith)))
+alike k l b true e h n = absurd (n (same_kind k l (one_number (kind_number k) (kind_number l) e)))
 alike k l b false e h n = h
 
 -- a kind that is not the first of a list is one of the rest

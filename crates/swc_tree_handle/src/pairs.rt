@@ -5,7 +5,7 @@ ghost use Rattle.swc_tree_node.specs.Fits.{Fits, AllFit};
 ghost use Rattle.swc_tree_node.specs.Sameness.{all_same, all_same_equiv, all_same_per};
 ghost use Rattle.swc_tree_handle.specs.Handles.{optional_list, pair_node};
 
-use crate::leaves::to_text;
+use crate::row::Row;
 use crate::tree::collect;
 use std::alloc::{AllocError, Global};
 use std::marker::Model;
@@ -143,15 +143,15 @@ impl Eq for Pairs {
 }
 
 /// The texts of a pair.
-#[tactic(auto, using(swc_tree_node::proofs::Fit::fitting, swc_tree_node::proofs::Fit::pair_opens, swc_tree_node::proofs::Fit::lengths))]
+#[tactic(auto, using(swc_tree_node::proofs::Fit::fitting, swc_tree_node::proofs::Fit::pair_opens))]
 fn to_pair(node: Node) -> (Atom, Atom)
     requires { Fits node Pair }
     ensures { pair_node result.0 result.1 ≡ node }
 {
     match node {
         Node::List(texts) => {
-            let [key, value] = texts.into_array::<2>();
-            (to_text(key), to_text(value))
+            let (((), key), value): (((), Atom), Atom) = Row::taken(texts);
+            (key, value)
         }
         _ => unreachable!(),
     }

@@ -79,7 +79,7 @@ impl<C: Syntax> Tree<C> {
     }
 
     /// What struct the node is.
-    #[tactic(auto, using(swc_tree_node::proofs::Fit::fitting, crate::proofs::Handles::kinds, crate::proofs::Handles::tree_belongs))]
+    #[tactic(auto, using(swc_tree_node::proofs::Fit::fitting))]
     pub fn kind(&self) -> Kind
         ensures is { kind_of self.now ≡ Some result }
         ensures belongs { IsTrue (belongs result C.class) }
@@ -106,7 +106,7 @@ impl<C: Syntax> Tree<C> {
     }
 
     /// The node as one of a class that takes its kind.
-    #[tactic(auto, using(swc_tree_node::proofs::Fit::fitting, crate::proofs::Handles::identifier_moves, crate::proofs::Handles::tree_moves))]
+    #[tactic(auto, using(swc_tree_node::proofs::Fit::fitting))]
     pub fn narrow<D: Syntax>(self) -> Tree<D>
         requires { IsTrue (is_of self D.class) }
         ensures { result ≡ self }
@@ -119,7 +119,7 @@ impl<C: Syntax> Tree<C> {
     }
 
     /// The node as one of a wider class.
-    #[tactic(auto, using(swc_tree_node::proofs::Fit::fitting, crate::proofs::Handles::identifier_widens, crate::proofs::Handles::tree_widens))]
+    #[tactic(auto, using(swc_tree_node::proofs::Fit::fitting))]
     pub fn widen<D: Syntax>(self) -> Tree<D>
         requires { IsTrue (is_within C.class D.class) }
         ensures { result ≡ self }
@@ -171,7 +171,6 @@ impl<C: Syntax> Tree<C> {
     }
 
     /// The node of a kind and its fields.
-    #[tactic(auto, using(swc_tree_node::proofs::Fit::tree_closes))]
     pub fn from_fields(kind: Kind, fields: Items<Node>) -> Tree<C>
         requires plain { IsTrue (not (is_identifier kind)) }
         requires belongs { IsTrue (belongs kind C.class) }

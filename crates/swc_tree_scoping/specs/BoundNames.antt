@@ -1,5 +1,5 @@
 -- The names that a pattern or a declaration binds (ECMA-262, 8.2.1 BoundNames), in the order of the source.
-use Rattle.std.specs.Prelude.{ℕ, zero, suc, Option, Some, None, List, [], ◌∷◌, ◌++◌, slice_get}
+use Rattle.std.specs.Prelude.{◌≡◌, ℕ, zero, suc, Option, Some, None, List, [], ◌∷◌, ◌++◌, slice_get}
 use Rattle.std.specs.List.{flat_map}
 use Rattle.swc_tree_marks.specs.declared.ident.Ident.{Ident}
 use Rattle.swc_tree_node.specs.declared.kind.Kind.{Kind}
@@ -64,3 +64,10 @@ declared_in t _ = bound_ids t
 -- the ids that a declaration binds: the name of a function or a class, or those of its declarators
 abbrev pub declared_ids : Node → List Id
 declared_ids t = declared_in t (out-Node t)
+
+-- the list is what it was, followed by a beginning of the ids
+pub record PartlyAdded (old ids new : List Id) : Type 0 where
+  pub added : List Id
+  pub left : List Id
+  pub all : ids ≡ added ++ left
+  pub list : new ≡ old ++ added

@@ -1,8 +1,8 @@
 //! The names that patterns and declarations bind.
-ghost use Rattle.std.specs.Prelude.{◌≡◌, ◌++◌, OnOk, map, slice_get};
+ghost use Rattle.std.specs.Prelude.{◌≡◌, ◌++◌, OnErr, OnOk, map, slice_get};
 ghost use Rattle.std.specs.List.{flat_map};
 ghost use Rattle.std.specs.Option.{option_copied};
-ghost use Rattle.swc_tree_scoping.specs.BoundNames.{bound_ids, declared_ids, id_of, in_part, in_parts, name_of, own_id};
+ghost use Rattle.swc_tree_scoping.specs.BoundNames.{bound_ids, declared_ids, id_of, in_part, in_parts, name_of, own_id, PartlyAdded};
 ghost use Rattle.swc_tree_scoping.specs.Places.{field_role};
 
 use crate::below::role_of_field;
@@ -13,7 +13,8 @@ use swc_tree_node::{Kind, Node, Role};
 
 // Adds the id of an identifier, if its kind is that of patterns.
 fn add_own(kind: Kind, ident: &Ident, ids: &mut Items<Id>) -> Result<(), NoMemory>
-    ensures { OnOk result (ids.new ≡ ids.old ++ own_id kind ident.now) }
+    ensures ok { OnOk result (ids.new ≡ ids.old ++ own_id kind ident.now) }
+    ensures err { OnErr result (ids.new ≡ ids.old) }
 {
     match kind {
         Kind::BindingIdent => {
@@ -29,11 +30,12 @@ fn add_own(kind: Kind, ident: &Ident, ids: &mut Items<Id>) -> Result<(), NoMemor
 ///
 /// # Errors
 ///
-/// `NoMemory` where memory was refused.
+/// `NoMemory` where memory was refused. A beginning of the ids stands then behind what the list was.
 #[cycle(bound)]
 #[tactic(auto, using(crate::proofs::BoundNames::bound))]
 pub fn add_bound_ids(node: &Node, ids: &mut Items<Id>) -> Result<(), NoMemory>
-    ensures { OnOk result (ids.new ≡ ids.old ++ bound_ids node.now) }
+    ensures ok { OnOk result (ids.new ≡ ids.old ++ bound_ids node.now) }
+    ensures err { OnErr result (PartlyAdded ids.old (bound_ids node.now) ids.new) }
 {
     match node {
         Node::Identifier(kind, ident) => { add_own(*kind, ident.get(), ids) }
@@ -47,10 +49,11 @@ pub fn add_bound_ids(node: &Node, ids: &mut Items<Id>) -> Result<(), NoMemory>
 ///
 /// # Errors
 ///
-/// `NoMemory` where memory was refused.
+/// `NoMemory` where memory was refused, as for one.
 #[cycle(bound)]
 pub fn add_bound_in_items(items: &[Node], ids: &mut Items<Id>) -> Result<(), NoMemory>
-    ensures { OnOk result (ids.new ≡ ids.old ++ flat_map bound_ids items.now) }
+    ensures ok { OnOk result (ids.new ≡ ids.old ++ flat_map bound_ids items.now) }
+    ensures err { OnErr result (PartlyAdded ids.old (flat_map bound_ids items.now) ids.new) }
 {
     for item in items {
         add_bound_ids(item, ids)?;
@@ -60,7 +63,8 @@ pub fn add_bound_in_items(items: &[Node], ids: &mut Items<Id>) -> Result<(), NoM
 
 #[cycle(bound)]
 fn add_bound_in_fields(kind: Kind, fields: &[Node], ids: &mut Items<Id>) -> Result<(), NoMemory>
-    ensures { OnOk result (ids.new ≡ ids.old ++ in_parts (field_role kind) (map bound_ids fields.now)) }
+    ensures ok { OnOk result (ids.new ≡ ids.old ++ in_parts (field_role kind) (map bound_ids fields.now)) }
+    ensures err { OnErr result (PartlyAdded ids.old (in_parts (field_role kind) (map bound_ids fields.now)) ids.new) }
 {
     for i in 0..fields.len() {
         add_bound_in_field(role_of_field(kind, i), &fields[i], ids)?;
@@ -70,7 +74,8 @@ fn add_bound_in_fields(kind: Kind, fields: &[Node], ids: &mut Items<Id>) -> Resu
 
 #[cycle(bound)]
 fn add_bound_in_field(role: Role, field: &Node, ids: &mut Items<Id>) -> Result<(), NoMemory>
-    ensures { OnOk result (ids.new ≡ ids.old ++ in_part role (bound_ids field.now)) }
+    ensures ok { OnOk result (ids.new ≡ ids.old ++ in_part role (bound_ids field.now)) }
+    ensures err { OnErr result (PartlyAdded ids.old (in_part role (bound_ids field.now)) ids.new) }
 {
     match role {
         Role::Declared | Role::Lexical | Role::Inherited => { add_bound_ids(field, ids) }
@@ -90,7 +95,8 @@ fn name(fields: &[Node], index: usize) -> Option<&Ident>
 
 // Adds the id of a name, where there is one.
 fn add_name(name: Option<&Ident>, ids: &mut Items<Id>) -> Result<(), NoMemory>
-    ensures { OnOk result (ids.new ≡ ids.old ++ id_of (option_copied name.entry)) }
+    ensures ok { OnOk result (ids.new ≡ ids.old ++ id_of (option_copied name.entry)) }
+    ensures err { OnErr result (ids.new ≡ ids.old) }
 {
     match name {
         Some(name) => {
@@ -105,9 +111,10 @@ fn add_name(name: Option<&Ident>, ids: &mut Items<Id>) -> Result<(), NoMemory>
 ///
 /// # Errors
 ///
-/// `NoMemory` where memory was refused.
+/// `NoMemory` where memory was refused. A beginning of the ids stands then behind what the list was.
 pub fn add_declared_ids(node: &Node, ids: &mut Items<Id>) -> Result<(), NoMemory>
-    ensures { OnOk result (ids.new ≡ ids.old ++ declared_ids node.now) }
+    ensures ok { OnOk result (ids.new ≡ ids.old ++ declared_ids node.now) }
+    ensures err { OnErr result (PartlyAdded ids.old (declared_ids node.now) ids.new) }
 {
     match node {
         Node::Tree(Kind::FnDecl, fields) => {

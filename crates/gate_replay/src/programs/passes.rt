@@ -6,7 +6,7 @@ use crate::texts::text_each;
 use anyhow::{Result, bail};
 use std::alloc::{AllocError, Global};
 use std::collections::HashMap;
-use swc_base_fixer::{NoComments, paren_remover};
+use swc_base_fixer::{NoComments, fixer, paren_remover};
 use swc_base_rename::{Config, remap, rename, rename_with_config};
 use swc_base_resolver::{Resolver, marks_ok, resolver};
 use swc_tree::{Id, JsPass, JsWord, PassError};
@@ -27,6 +27,8 @@ pub enum Pass {
     Resolve(Resolver),
     Unparen,
     UnparenComments(Notes),
+    Fix,
+    FixComments(Notes),
     Rename(HashMap<Id, JsWord>, Config),
     Remap(HashMap<Id, Id>, Config),
 }
@@ -61,8 +63,17 @@ fn visit_each<P: JsPass>(
 }
 
 // The same with comments, of which the pass is asked afterwards.
-fn visit_with(notes: &mut Notes, alloc: Global, programs: &mut [Given]) -> Result<(), PassError> {
+fn unparen_with(notes: &mut Notes, alloc: Global, programs: &mut [Given]) -> Result<(), PassError> {
     let mut pass = paren_remover(Some(notes));
+    let answer = visit_each(&mut pass, alloc, programs);
+    match pass.into_comments() {
+        Some(_kept) => answer,
+        None => answer,
+    }
+}
+
+fn fix_with(notes: &mut Notes, alloc: Global, programs: &mut [Given]) -> Result<(), PassError> {
+    let mut pass = fixer(Some(notes));
     let answer = visit_each(&mut pass, alloc, programs);
     match pass.into_comments() {
         Some(_kept) => answer,
@@ -79,6 +90,7 @@ impl Pass {
                 None => bail!("the marks are not known"),
             },
             "unparen" => Ok(Pass::Unparen),
+            "fix" => Ok(Pass::Fix),
             "rename" => {
                 let texts = text_each(alloc, given.program.items())?;
                 Ok(Pass::Rename(texts, config_of(given)))
@@ -96,6 +108,7 @@ impl Pass {
                 alloc,
                 room(alloc, input)?,
             ))),
+            "fix_comments" => Some(Pass::FixComments(Notes::new(alloc, room(alloc, input)?))),
             _ => None,
         }
     }
@@ -119,7 +132,9 @@ impl Pass {
             Pass::Unparen => {
                 visit_each(&mut paren_remover(None::<&mut NoComments>), alloc, programs)
             }
-            Pass::UnparenComments(notes) => visit_with(notes, alloc, programs),
+            Pass::UnparenComments(notes) => unparen_with(notes, alloc, programs),
+            Pass::Fix => visit_each(&mut fixer(None::<&mut NoComments>), alloc, programs),
+            Pass::FixComments(notes) => fix_with(notes, alloc, programs),
             Pass::Rename(texts, config) if config.keep_class_names => {
                 visit_each(&mut rename_with_config(texts, *config), alloc, programs)
             }
@@ -131,7 +146,9 @@ impl Pass {
     /// What is left, behind the moves that the pass asked for.
     pub fn before(&self, alloc: Global, left: String) -> Result<String, AllocError> {
         match self {
-            Pass::UnparenComments(notes) => notes.before(alloc, left.as_str()),
+            Pass::UnparenComments(notes) | Pass::FixComments(notes) => {
+                notes.before(alloc, left.as_str())
+            }
             _ => Ok(left),
         }
     }

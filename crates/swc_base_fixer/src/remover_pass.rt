@@ -1,7 +1,9 @@
 //! Taking parentheses off, as a pass.
 ghost use Rattle.std.specs.Prelude.{OnOk, OnErr, IfErr};
 ghost use Rattle.swc_tree.specs.Passes.{IsEmptied, IsEmptiedScript, IsExtended};
-ghost use Rattle.swc_base_fixer.specs.Visits.{Refuses, RefusesScript, Unparens, UnparensScript};
+ghost use Rattle.swc_tree_grammar.specs.Pairs.{moves};
+ghost use Rattle.swc_base_fixer.specs.Refusals.{Refuses, RefusesScript};
+ghost use Rattle.swc_base_fixer.specs.Visits.{Unparens, UnparensScript};
 
 use crate::remover::ParenRemover;
 use std::alloc::Global;
@@ -17,9 +19,9 @@ impl<'a, C: Comments> JsPass for ParenRemover<'a, C> {
 
     ghost visits_script = { λ pass old before kept new after. UnparensScript C.moved pass.comments old before kept.comments new after };
 
-    ghost refuses = { λ pass old before kept new e. Refuses C.moved pass.comments old before kept.comments new e };
+    ghost refuses = { λ pass old before kept new e. Refuses C.moved moves pass.comments old before kept.comments new e };
 
-    ghost refuses_script = { λ pass old before kept new e. RefusesScript C.moved pass.comments old before kept.comments new e };
+    ghost refuses_script = { λ pass old before kept new e. RefusesScript C.moved moves pass.comments old before kept.comments new e };
 
     /// Takes every pair of parentheses off a program. Comments move once the program is done, from the last pair of
     /// the source to the first.
@@ -40,7 +42,7 @@ impl<'a, C: Comments> JsPass for ParenRemover<'a, C> {
         ensures done { OnOk result (Unparens C.moved self.old.comments globals.old program.old self.new.comments globals.new program.new) }
         ensures refused { OnErr result (IsEmptied program.old program.new) }
         ensures marks { IsExtended globals.old globals.new }
-        ensures cause { IfErr result (Refuses C.moved self.old.comments globals.old program.old self.new.comments globals.new) }
+        ensures cause { IfErr result (Refuses C.moved moves self.old.comments globals.old program.old self.new.comments globals.new) }
     {
         let Module {
             span,
@@ -72,7 +74,7 @@ impl<'a, C: Comments> JsPass for ParenRemover<'a, C> {
         ensures done { OnOk result (UnparensScript C.moved self.old.comments globals.old program.old self.new.comments globals.new program.new) }
         ensures refused { OnErr result (IsEmptiedScript program.old program.new) }
         ensures marks { IsExtended globals.old globals.new }
-        ensures cause { IfErr result (RefusesScript C.moved self.old.comments globals.old program.old self.new.comments globals.new) }
+        ensures cause { IfErr result (RefusesScript C.moved moves self.old.comments globals.old program.old self.new.comments globals.new) }
     {
         let Script {
             span,

@@ -1,0 +1,8 @@
+use Rattle.std.proofs.Common.{sym}
+use Rattle.swc_base_fixer.proofs.Promised.{script_promised}
+use Rattle.swc_base_fixer.proofs.fixing_pass.FixerJsPass.visit_mut_script.Goals as goal
+
+pub returns-clause-promises : goal.returns-clause-promises
+returns-clause-promises g c =
+    script_promised c.replace-body.result c.args.program.now c.into_node.result c.in_ok-body.body c.from_node.result
+    c.replace-body.ensures.value c.into_node.ensures.same c.into_node.ensures.fits c.from_node.ensures c.in_ok-body.ensures.answer

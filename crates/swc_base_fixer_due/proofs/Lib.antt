@@ -1,0 +1,10 @@
+pub mod Begin
+pub mod Beginnings
+pub mod Each
+pub mod Fields
+pub mod Heading
+pub mod Least
+pub mod Rows
+pub mod Settled
+pub mod Wholes
+pub mod Recorded

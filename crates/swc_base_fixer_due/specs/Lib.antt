@@ -1,0 +1,11 @@
+pub mod Record
+pub mod Fields
+pub mod Least
+pub mod Family
+pub mod Naming
+pub mod Test
+pub mod Row
+pub mod Settled
+pub mod Walk
+pub mod Heads
+pub mod Begin

@@ -1,0 +1,218 @@
+//! The second step: pairs round a bare `in` in the first part of the head of a `for`, and round a bare `async`
+//! before `of` (ECMA-262, 14.7).
+ghost use Rattle.std.specs.Prelude.{◌≡◌, length, IfOk};
+ghost use Rattle.swc_tree_node.specs.declared.kind.Kind.TheVariants as kind;
+ghost use Rattle.swc_tree_node.specs.declared.node.Node.TheOpen.{Node-F};
+ghost use Rattle.swc_tree_grammar.specs.Forms.{holds as is_held};
+ghost use Rattle.swc_tree_grammar.specs.Due.{async_in};
+ghost use Rattle.swc_tree_grammar.specs.Grammar.{is_async_name as is_async_name_in};
+ghost use Rattle.swc_tree_node.specs.declared.node.Node.{out-Node};
+ghost use Rattle.swc_base_fixer_due.specs.Heads.{as_expression as as_expression_of, flag_at, handing_for, headed as headed_of, is_bare_in as is_bare_in_of, of_headed};
+ghost use Rattle.swc_base_fixer_due.specs.Record.{place_in};
+ghost use Rattle.swc_base_fixer_due.specs.Walk.{each_told, in_heads};
+
+use crate::level::{is_in, word_of};
+use crate::pair::pair;
+use crate::record::Record;
+use std::alloc::{AllocError, Global};
+use swc_tree_items::Items;
+use swc_tree_node::fields::{
+    arrow_expr, assign_expr, assign_pat, await_expr, bin_expr, call_expr, cond_expr, for_in_stmt,
+    for_of_stmt, for_stmt, member_expr, opt_chain_expr, rest_pat, seq_expr, unary_expr,
+    update_expr, var_decl, var_declarator, yield_expr,
+};
+use swc_tree_node::{Kind, Node};
+
+/// To which fields a node hands on whether `in` may stand bare; in the others it may.
+#[derive(Clone, Copy)]
+pub enum Handing {
+    ToAll,
+    ToNone,
+    ToOne(usize),
+    ToTwo(usize, usize),
+    /// A field in which no `in` may stand bare.
+    Head(usize),
+}
+
+impl Handing {
+    /// Whether `in` may stand bare in a field of a node where it may if `with_in` holds.
+    fn flag(self, with_in: bool, index: usize) -> bool
+        ensures { result ≡ flag_at self with_in index }
+    {
+        match self {
+            Handing::ToAll => with_in,
+            Handing::ToOne(i) if index == i => with_in,
+            Handing::ToTwo(i, j) if index == i || index == j => with_in,
+            Handing::Head(i) if index == i => false,
+            _ => true,
+        }
+    }
+}
+
+/// To which fields a node hands on whether `in` may stand bare.
+fn handing_of(kind: Kind, fields: &[Node]) -> Handing
+    ensures { result ≡ handing_for (Node-F.Tree kind fields.now) }
+{
+    match kind {
+        Kind::BinExpr if fields.len() == 4 => Handing::ToTwo(bin_expr::LEFT, bin_expr::RIGHT),
+        Kind::SeqExpr if fields.len() == 2 => Handing::ToOne(seq_expr::EXPRS),
+        Kind::AssignExpr if fields.len() == 4 => {
+            Handing::ToTwo(assign_expr::LEFT, assign_expr::RIGHT)
+        }
+        Kind::CondExpr if fields.len() == 4 => Handing::ToTwo(cond_expr::TEST, cond_expr::ALT),
+        Kind::UnaryExpr if fields.len() == 3 => Handing::ToOne(unary_expr::ARG),
+        Kind::AwaitExpr if fields.len() == 2 => Handing::ToOne(await_expr::ARG),
+        Kind::UpdateExpr if fields.len() == 4 => Handing::ToOne(update_expr::ARG),
+        Kind::YieldExpr if fields.len() == 3 => Handing::ToOne(yield_expr::ARG),
+        Kind::MemberExpr | Kind::TaggedTpl if fields.len() == 3 => {
+            Handing::ToOne(member_expr::OBJ)
+        }
+        Kind::CallExpr | Kind::NewExpr | Kind::OptCall if fields.len() == 3 => {
+            Handing::ToOne(call_expr::CALLEE)
+        }
+        Kind::OptChainExpr if fields.len() == 3 => Handing::ToOne(opt_chain_expr::BASE),
+        Kind::ArrowExpr if fields.len() == 4 => Handing::ToOne(arrow_expr::BODY),
+        Kind::VarDecl if fields.len() == 3 => Handing::ToOne(var_decl::DECLS),
+        Kind::VarDeclarator if fields.len() == 3 => {
+            Handing::ToTwo(var_declarator::NAME, var_declarator::INIT)
+        }
+        Kind::AssignPat if fields.len() == 3 => Handing::ToTwo(assign_pat::LEFT, assign_pat::RIGHT),
+        Kind::RestPat if fields.len() == 2 => Handing::ToOne(rest_pat::ARG),
+        Kind::ForStmt if fields.len() == 5 => Handing::Head(for_stmt::INIT),
+        Kind::ForInStmt if fields.len() == 4 => Handing::Head(for_in_stmt::LEFT),
+        Kind::ForOfStmt if fields.len() == 5 => Handing::Head(for_of_stmt::LEFT),
+        _ => Handing::ToNone,
+    }
+}
+
+/// Whether a node is an `in` where none may stand bare.
+fn is_bare_in(with_in: bool, kind: Kind, fields: &[Node]) -> bool
+    ensures { result ≡ is_bare_in_of with_in (Node-F.Tree kind fields.now) }
+{
+    match kind {
+        Kind::BinExpr if fields.len() == 4 => is_in(word_of(&fields[bin_expr::OP])) && !with_in,
+        _ => false,
+    }
+}
+
+/// Whether a flag is set.
+pub fn holds(node: &Node) -> bool
+    ensures { result ≡ is_held node.now }
+{
+    match node {
+        Node::Flag(flag) => *flag,
+        _ => false,
+    }
+}
+
+/// Whether a node is the name `async`.
+fn is_async_name(node: &Node) -> bool
+    ensures { result ≡ is_async_name_in node.now }
+{
+    match node {
+        Node::Identifier(_, ident) => ident.get().sym.as_str() == "async",
+        _ => false,
+    }
+}
+
+/// An expression in place of a name that stands as a pattern.
+fn as_expression(node: Node) -> Node
+    ensures { result ≡ as_expression_of node (out-Node node) }
+{
+    match node {
+        Node::Identifier(_, ident) => Node::Identifier(Kind::Ident, ident),
+        node => node,
+    }
+}
+
+/// What stands before `of`; `with_await` says whether the loop is one of `for await`.
+#[tactic(auto, using(crate::proofs::Heading::by_name))]
+fn of_head(
+    alloc: Global,
+    recorded: &Record,
+    with_await: bool,
+    left: Node,
+) -> Result<Node, AllocError>
+    ensures { IfOk result (λ t. t ≡ async_in (place_in recorded.now) with_await left (out-Node left)) }
+{
+    if is_async_name(&left) && !with_await {
+        pair(alloc, recorded, as_expression(left))
+    } else {
+        Ok(left)
+    }
+}
+
+fn for_of(alloc: Global, recorded: &Record, mut fields: Items<Node>) -> Result<Node, AllocError>
+    requires { length fields ≡ 5 }
+    ensures { IfOk result (λ t. t ≡ of_headed (place_in recorded.now) kind.ForOfStmt fields) }
+{
+    let with_await = holds(&fields.as_slice()[for_of_stmt::IS_AWAIT]);
+    let left = fields.replace(for_of_stmt::LEFT, Node::Absent);
+    let left = of_head(alloc, recorded, with_await, left)?;
+    fields.set(for_of_stmt::LEFT, left);
+    Ok(Node::Tree(Kind::ForOfStmt, fields))
+}
+
+/// A tree whose fields have their pairs, in a pair if it is an `in` that may not stand bare.
+fn headed(
+    alloc: Global,
+    recorded: &Record,
+    is_due: bool,
+    kind: Kind,
+    fields: Items<Node>,
+) -> Result<Node, AllocError>
+    ensures { IfOk result (λ t. t ≡ headed_of (place_in recorded.now) is_due kind fields) }
+{
+    if is_due {
+        return pair(alloc, recorded, Node::Tree(kind, fields));
+    }
+    match kind {
+        Kind::ForOfStmt if fields.len() == 5 => for_of(alloc, recorded, fields),
+        kind => Ok(Node::Tree(kind, fields)),
+    }
+}
+
+/// The tree with the pairs that are due in heads of `for`; `with_in` says whether `in` may stand bare in it.
+///
+/// It goes through the tree once, in place.
+#[cycle(heads)]
+pub fn pair_in_heads(
+    alloc: Global,
+    recorded: &Record,
+    with_in: bool,
+    node: Node,
+) -> Result<Node, AllocError>
+    ensures { IfOk result (λ t. t ≡ in_heads (place_in recorded.now) node with_in) }
+{
+    match node {
+        Node::List(items) => {
+            let items = pair_each(alloc, recorded, Handing::ToAll, with_in, items)?;
+            Ok(Node::List(items))
+        }
+        Node::Tree(kind, fields) => {
+            let is_due = is_bare_in(with_in, kind, fields.as_slice());
+            let handing = handing_of(kind, fields.as_slice());
+            let fields = pair_each(alloc, recorded, handing, with_in || is_due, fields)?;
+            headed(alloc, recorded, is_due, kind, fields)
+        }
+        leaf => Ok(leaf),
+    }
+}
+
+#[cycle(heads)]
+fn pair_each(
+    alloc: Global,
+    recorded: &Record,
+    handing: Handing,
+    with_in: bool,
+    mut nodes: Items<Node>,
+) -> Result<Items<Node>, AllocError>
+    ensures { IfOk result (λ r. r ≡ each_told (in_heads (place_in recorded.now)) (flag_at handing with_in) nodes) }
+{
+    for i in 0..nodes.len() {
+        let node = nodes.replace(i, Node::Absent);
+        let done = pair_in_heads(alloc, recorded, handing.flag(with_in, i), node)?;
+        nodes.set(i, done);
+    }
+    Ok(nodes)
+}

@@ -1,0 +1,218 @@
+//! The first step: pairs round what is not as its place asks, or what the reader's table names there.
+ghost use Rattle.std.specs.Prelude.{◌≡◌, Bool, true, length, map, IfOk};
+ghost use Rattle.swc_tree_node.specs.declared.kind.Kind.TheVariants as kind;
+ghost use Rattle.swc_tree_node.specs.declared.node.Node.{Tree, out-Node};
+ghost use Rattle.swc_tree_node.specs.declared.node.Node.TheOpen.{Node-F};
+ghost use Rattle.swc_tree_grammar.specs.Due.{odd_items as odd_items_of, paired_in as paired_fields, sequence_statement as sequence_statement_of};
+ghost use Rattle.swc_base_fixer_due.specs.Record.{place_in};
+ghost use Rattle.swc_base_fixer_due.specs.Row.{ask_at};
+ghost use Rattle.swc_base_fixer_due.specs.Settled.{odd_item as odd_item_of, odd_list as odd_list_of, settled_by};
+ghost use Rattle.swc_base_fixer_due.specs.Walk.{by_level, each_told, is_base as is_base_of, is_chain_in, is_statement_in};
+
+use crate::pair::pair_if;
+use crate::reader::is_odd_item;
+use crate::record::Record;
+use crate::row::{Row, row_of};
+use crate::settle::settle;
+use std::alloc::{AllocError, Global};
+use swc_tree_items::Items;
+use swc_tree_node::fields::{expr_stmt, opt_chain_expr, seq_expr};
+use swc_tree_node::{Kind, Node};
+
+/// The fields, in each of which is settled what the row asks there.
+#[tactic(auto, using(crate::proofs::Rows::nothing_asked))]
+fn settle_fields(
+    alloc: Global,
+    recorded: &Record,
+    row: Row,
+    mut fields: Items<Node>,
+) -> Result<Items<Node>, AllocError>
+    ensures { IfOk result (λ r. r ≡ each_told (settled_by (place_in recorded.now)) (ask_at row) fields) }
+{
+    if matches!(row, Row::Nothing) {
+        return Ok(fields);
+    }
+    for i in 0..fields.len() {
+        let field = fields.replace(i, Node::Absent);
+        let done = settle(alloc, recorded, row.at(i), field)?;
+        fields.set(i, done);
+    }
+    Ok(fields)
+}
+
+/// An item before the last of a sequence that is a statement.
+fn odd_item(alloc: Global, recorded: &Record, expr: Node) -> Result<Node, AllocError>
+    ensures { IfOk result (λ t. t ≡ odd_item_of (place_in recorded.now) expr) }
+{
+    let is_due = is_odd_item(&expr);
+    pair_if(alloc, recorded, is_due, expr)
+}
+
+fn each_odd_item(
+    alloc: Global,
+    recorded: &Record,
+    mut exprs: Items<Node>,
+) -> Result<Items<Node>, AllocError>
+    ensures { IfOk result (λ r. r ≡ map (odd_item_of (place_in recorded.now)) exprs) }
+{
+    for i in 0..exprs.len() {
+        let expr = exprs.replace(i, Node::Absent);
+        let done = odd_item(alloc, recorded, expr)?;
+        exprs.set(i, done);
+    }
+    Ok(exprs)
+}
+
+/// The items of a sequence that is a statement.
+fn odd_items(
+    alloc: Global,
+    recorded: &Record,
+    mut exprs: Items<Node>,
+) -> Result<Items<Node>, AllocError>
+    ensures { IfOk result (λ r. r ≡ odd_items_of (place_in recorded.now) exprs) }
+{
+    match exprs.pop() {
+        None => Ok(exprs),
+        Some(last) => {
+            let mut exprs = each_odd_item(alloc, recorded, exprs)?;
+            exprs.push(last)?;
+            Ok(exprs)
+        }
+    }
+}
+
+/// The list of the items of a sequence that is a statement.
+fn odd_list(alloc: Global, recorded: &Record, exprs: Node) -> Result<Node, AllocError>
+    ensures { IfOk result (λ t. t ≡ odd_list_of (place_in recorded.now) exprs) }
+{
+    match exprs {
+        Node::List(exprs) => {
+            let exprs = odd_items(alloc, recorded, exprs)?;
+            Ok(Node::List(exprs))
+        }
+        _ => Ok(Node::List(Items::new(alloc))),
+    }
+}
+
+fn sequence(alloc: Global, recorded: &Record, mut fields: Items<Node>) -> Result<Node, AllocError>
+    requires { length fields ≡ 2 }
+    ensures { IfOk result (λ t. t ≡ sequence_statement_of (place_in recorded.now) (Tree kind.SeqExpr fields) (Node-F.Tree kind.SeqExpr fields)) }
+{
+    let exprs = fields.replace(seq_expr::EXPRS, Node::Absent);
+    let exprs = odd_list(alloc, recorded, exprs)?;
+    fields.set(seq_expr::EXPRS, exprs);
+    Ok(Node::Tree(Kind::SeqExpr, fields))
+}
+
+/// The expression of a statement, where it is a sequence with pairs round the items that the reader's table names.
+fn sequence_statement(alloc: Global, recorded: &Record, expr: Node) -> Result<Node, AllocError>
+    ensures { IfOk result (λ t. t ≡ sequence_statement_of (place_in recorded.now) expr (out-Node expr)) }
+{
+    match expr {
+        Node::Tree(kind, fields) => match kind {
+            Kind::SeqExpr if fields.len() == 2 => sequence(alloc, recorded, fields),
+            kind => Ok(Node::Tree(kind, fields)),
+        },
+        expr => Ok(expr),
+    }
+}
+
+/// Whether a tree is a statement that is an expression.
+fn is_statement(kind: Kind, fields: &[Node]) -> bool
+    ensures { result ≡ is_statement_in (Node-F.Tree kind fields.now) }
+{
+    matches!(kind, Kind::ExprStmt) && fields.len() == 2
+}
+
+#[tactic(auto, using(crate::proofs::Rows::statement_long))]
+fn statement(
+    alloc: Global,
+    recorded: &Record,
+    kind: Kind,
+    mut fields: Items<Node>,
+) -> Result<Node, AllocError>
+    requires { is_statement_in (Node-F.Tree kind fields) ≡ true }
+    ensures { IfOk result (λ t. (in_chain : Bool) → t ≡ paired_fields (place_in recorded.now) in_chain (Node-F.Tree kind fields)) }
+{
+    let expr = fields.replace(expr_stmt::EXPR, Node::Absent);
+    let expr = sequence_statement(alloc, recorded, expr)?;
+    fields.set(expr_stmt::EXPR, expr);
+    Ok(Node::Tree(kind, fields))
+}
+
+/// A tree whose fields have their pairs; `in_chain` says whether it is the base of an optional chain.
+fn paired(
+    alloc: Global,
+    recorded: &Record,
+    in_chain: bool,
+    kind: Kind,
+    fields: Items<Node>,
+) -> Result<Node, AllocError>
+    ensures { IfOk result (λ t. t ≡ paired_fields (place_in recorded.now) in_chain (Node-F.Tree kind fields)) }
+{
+    if is_statement(kind, fields.as_slice()) {
+        let statement = statement(alloc, recorded, kind, fields)?;
+        return Ok(statement);
+    }
+    let row = row_of(in_chain, kind, fields.as_slice());
+    let fields = settle_fields(alloc, recorded, row, fields)?;
+    Ok(Node::Tree(kind, fields))
+}
+
+/// Whether a tree is an optional chain.
+fn is_chain(kind: Kind, fields: &[Node]) -> bool
+    ensures { result ≡ is_chain_in (Node-F.Tree kind fields.now) }
+{
+    matches!(kind, Kind::OptChainExpr) && fields.len() == 3
+}
+
+/// Whether a field of a node is the base of an optional chain; `chain` says whether the node is one.
+fn is_base(chain: bool, index: usize) -> bool
+    ensures { result ≡ is_base_of chain index }
+{
+    chain && index == opt_chain_expr::BASE
+}
+
+/// The tree with a pair round each expression that is not what its place asks, or that the reader's table names
+/// there; `in_chain` says whether it is the base of an optional chain.
+///
+/// It goes through the tree once, in place.
+#[cycle(levels)]
+pub fn pair_by_level(
+    alloc: Global,
+    recorded: &Record,
+    in_chain: bool,
+    node: Node,
+) -> Result<Node, AllocError>
+    ensures { IfOk result (λ t. t ≡ by_level (place_in recorded.now) node in_chain) }
+{
+    match node {
+        Node::List(items) => {
+            let items = pair_each(alloc, recorded, false, items)?;
+            Ok(Node::List(items))
+        }
+        Node::Tree(kind, fields) => {
+            let chain = is_chain(kind, fields.as_slice());
+            let fields = pair_each(alloc, recorded, chain, fields)?;
+            paired(alloc, recorded, in_chain, kind, fields)
+        }
+        leaf => Ok(leaf),
+    }
+}
+
+#[cycle(levels)]
+fn pair_each(
+    alloc: Global,
+    recorded: &Record,
+    chain: bool,
+    mut nodes: Items<Node>,
+) -> Result<Items<Node>, AllocError>
+    ensures { IfOk result (λ r. r ≡ each_told (by_level (place_in recorded.now)) (is_base_of chain) nodes) }
+{
+    for i in 0..nodes.len() {
+        let node = nodes.replace(i, Node::Absent);
+        let done = pair_by_level(alloc, recorded, is_base(chain, i), node)?;
+        nodes.set(i, done);
+    }
+    Ok(nodes)
+}

@@ -1,0 +1,29 @@
+//! Sets the pairs of parentheses that are due in a tree that has none.
+//!
+//! In three steps, each of which goes through the tree once, in place:
+//!
+//! - `levels` settles what each place asks of the expression in it. `row` says what that is, by `demand`, `reader` and
+//!   `family`; `level` says how tightly an expression binds, `settle` sets the pairs.
+//! - `heads` looks for a bare `in` and a bare `async` in heads of `for`.
+//! - `starts` looks at what statements, default exports and bodies of arrows begin with, which `start` says.
+//!
+//! `record` says where a pair stands, `pair` makes it.
+#![tactic(auto)]
+
+mod demand;
+mod due;
+mod family;
+mod heads;
+mod level;
+mod levels;
+mod pair;
+mod reader;
+mod record;
+mod row;
+mod settle;
+mod span;
+mod start;
+mod starts;
+
+pub use due::set_due_pairs;
+pub use record::Record;

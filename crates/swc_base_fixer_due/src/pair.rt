@@ -1,0 +1,36 @@
+ghost use Rattle.std.specs.Prelude.{◌≡◌, IfOk};
+ghost use Rattle.swc_tree_grammar.specs.Due.{pair as paired, pair_if as paired_if};
+ghost use Rattle.swc_base_fixer_due.specs.Record.{place_in};
+
+use crate::record::Record;
+use crate::span::span_of;
+use std::alloc::{AllocError, Global};
+use swc_tree_items::Items;
+use swc_tree_node::{Kind, Node};
+
+/// The expression in a pair of parentheses.
+pub fn pair(alloc: Global, recorded: &Record, expr: Node) -> Result<Node, AllocError>
+    ensures { IfOk result (λ t. t ≡ paired (place_in recorded.now) expr) }
+{
+    let span = recorded.place(span_of(&expr));
+    let mut fields = Items::with_capacity(alloc, 2)?;
+    fields.push(Node::Span(span))?;
+    fields.push(expr)?;
+    Ok(Node::Tree(Kind::ParenExpr, fields))
+}
+
+/// The expression, in a pair where one is due.
+pub fn pair_if(
+    alloc: Global,
+    recorded: &Record,
+    is_due: bool,
+    expr: Node,
+) -> Result<Node, AllocError>
+    ensures { IfOk result (λ t. t ≡ paired_if is_due (place_in recorded.now) expr) }
+{
+    if is_due {
+        pair(alloc, recorded, expr)
+    } else {
+        Ok(expr)
+    }
+}

@@ -1,0 +1,157 @@
+//! The third step: pairs where a statement, a default export or the body of an arrow may not begin as it does
+//! (ECMA-262, 14.5, 15.3 and 16.2.3).
+ghost use Rattle.std.specs.Prelude.{◌≡◌, ◌<◌, length, map, IfOk, IfSome};
+ghost use Rattle.swc_tree_node.specs.declared.node.Node.TheOpen.{Node-F};
+ghost use Rattle.swc_tree_grammar.specs.Due.{begin_step, begun as begun_of, paired_at_starts};
+ghost use Rattle.swc_base_fixer_due.specs.Begin.{begins, beginning_for, first_paired as first_in_pair, may_begin as may_begin_with};
+ghost use Rattle.swc_base_fixer_due.specs.Record.{place_in};
+
+use crate::family::{Family, is_of};
+use crate::pair::pair;
+use crate::record::Record;
+use crate::start::{Start, leading_field, start_of};
+use std::alloc::{AllocError, Global};
+use swc_tree_items::Items;
+use swc_tree_node::fields::{arrow_expr, export_default_expr, expr_stmt};
+use swc_tree_node::{Kind, Node};
+
+/// Where an expression may not begin with just anything.
+#[derive(Clone, Copy)]
+pub enum Beginning {
+    Statement,
+    Export,
+    /// The body of an arrow.
+    Body,
+}
+
+/// Whether an expression may begin so in a place.
+fn may_begin(beginning: Beginning, start: Start) -> bool
+    ensures { result ≡ may_begin_with beginning (begins start) }
+{
+    match beginning {
+        Beginning::Statement => matches!(start, Start::Other),
+        Beginning::Export => matches!(start, Start::Brace | Start::LetBracket | Start::Other),
+        Beginning::Body => !matches!(start, Start::Brace),
+    }
+}
+
+/// An expression with a pair round the innermost expression that it begins with.
+fn first_paired(alloc: Global, recorded: &Record, expr: Node) -> Result<Node, AllocError>
+    ensures { IfOk result (λ t. t ≡ first_in_pair (place_in recorded.now) expr) }
+{
+    match expr {
+        Node::List(mut exprs) => {
+            if exprs.is_empty() {
+                return pair(alloc, recorded, Node::List(exprs));
+            }
+            let first = exprs.replace(0, Node::Absent);
+            let first = first_paired(alloc, recorded, first)?;
+            exprs.set(0, first);
+            Ok(Node::List(exprs))
+        }
+        Node::Tree(kind, mut fields) => match leading_field(kind, fields.as_slice()) {
+            Some(index) => {
+                let first = fields.replace(index, Node::Absent);
+                let first = first_paired(alloc, recorded, first)?;
+                fields.set(index, first);
+                Ok(Node::Tree(kind, fields))
+            }
+            None => pair(alloc, recorded, Node::Tree(kind, fields)),
+        },
+        expr => pair(alloc, recorded, expr),
+    }
+}
+
+/// An expression as it may begin in a place.
+fn begun(
+    alloc: Global,
+    recorded: &Record,
+    beginning: Beginning,
+    expr: Node,
+) -> Result<Node, AllocError>
+    ensures { IfOk result (λ t. t ≡ begun_of (place_in recorded.now) (may_begin_with beginning) expr) }
+{
+    if may_begin(beginning, start_of(&expr)) {
+        Ok(expr)
+    } else {
+        first_paired(alloc, recorded, expr)
+    }
+}
+
+/// The field that is looked at for how it begins, and as what.
+fn beginning_of(kind: Kind, fields: &[Node]) -> Option<(usize, Beginning)>
+    ensures place { result ≡ beginning_for kind fields.now }
+    ensures within { IfSome result (λ b. b.0 < length fields.now) }
+{
+    match kind {
+        Kind::ExprStmt if fields.len() == 2 => Some((expr_stmt::EXPR, Beginning::Statement)),
+        Kind::ExportDefaultExpr if fields.len() == 2 => {
+            Some((export_default_expr::EXPR, Beginning::Export))
+        }
+        Kind::ArrowExpr if fields.len() == 4 => {
+            if is_of(&fields[arrow_expr::BODY], Family::Block) {
+                None
+            } else {
+                Some((arrow_expr::BODY, Beginning::Body))
+            }
+        }
+        _ => None,
+    }
+}
+
+/// A tree whose fields have their pairs.
+fn begin(
+    alloc: Global,
+    recorded: &Record,
+    kind: Kind,
+    mut fields: Items<Node>,
+) -> Result<Node, AllocError>
+    ensures { IfOk result (λ t. t ≡ begin_step (place_in recorded.now) (Node-F.Tree kind fields)) }
+{
+    match beginning_of(kind, fields.as_slice()) {
+        Some((index, beginning)) => {
+            let expr = fields.replace(index, Node::Absent);
+            let expr = begun(alloc, recorded, beginning, expr)?;
+            fields.set(index, expr);
+            Ok(Node::Tree(kind, fields))
+        }
+        None => Ok(Node::Tree(kind, fields)),
+    }
+}
+
+/// The tree with the pairs that are due at the start of statements, default exports and bodies of arrows.
+///
+/// It goes through the tree once, in place. The start of each such expression is looked at once, and once more where
+/// it gets a pair; no two of these ways share a node.
+#[cycle(starts)]
+pub fn pair_at_starts(alloc: Global, recorded: &Record, node: Node) -> Result<Node, AllocError>
+    ensures { IfOk result (λ t. t ≡ paired_at_starts (place_in recorded.now) node) }
+{
+    match node {
+        Node::List(items) => {
+            let items = pair_each(alloc, recorded, items)?;
+            Ok(Node::List(items))
+        }
+        Node::Tree(kind, fields) => {
+            let fields = pair_each(alloc, recorded, fields)?;
+            begin(alloc, recorded, kind, fields)
+        }
+        leaf => Ok(leaf),
+    }
+}
+
+#[cycle(starts)]
+fn pair_each(
+    alloc: Global,
+    recorded: &Record,
+    mut nodes: Items<Node>,
+) -> Result<Items<Node>, AllocError>
+    ensures { IfOk result (λ r. r ≡ map (paired_at_starts (place_in recorded.now)) nodes) }
+{
+    for i in 0..nodes.len() {
+        let node = nodes.replace(i, Node::Absent);
+        let done = pair_at_starts(alloc, recorded, node)?;
+        nodes.set(i, done);
+    }
+    Ok(nodes)
+}

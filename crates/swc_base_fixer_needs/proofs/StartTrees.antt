@@ -1,0 +1,79 @@
+-- Each pair has a reason after the third step.
+use Rattle.std.proofs.Common.{◌≡◌, Bool, true, false, ◌&&◌, List, [], ◌∷◌, map, refl, sym, ap, subst, ◌∙◌, rules}
+use Rattle.std.specs.List.{list_all}
+use Rattle.swc_tree_node.specs.declared.kind.Kind.{Kind}
+use Rattle.swc_tree_node.specs.declared.kind.Kind.TheVariants as kind
+use Rattle.swc_tree_node.specs.declared.node.Node.{Node, List as Many, Tree, out-Node, the_lemmas}
+use Rattle.swc_tree_node.specs.declared.node.Node.TheOpen.{Node-F}
+use Rattle.swc_tree_node.specs.declared.node.Node.TheVariants.{rolls-Tree}
+use Rattle.swc_tree_node.specs.declared.slot.Slot.{Slot}
+use Rattle.swc_tree_node.specs.Fits.{Fits}
+use Rattle.swc_tree_grammar.specs.Needed.{NoIdlePair}
+use Rattle.swc_tree_grammar.specs.Stripped.{is_pairless}
+use Rattle.swc_tree_grammar.specs.Starts.{is_let_bracket}
+use Rattle.swc_tree_grammar.specs.Due.{Places, paired_by_level, paired_in_heads, paired_at_starts, with_due_pairs}
+use Rattle.swc_tree_grammar.proofs.Induction.{by_children}
+use Rattle.swc_tree_grammar_laws.proofs.Levelled.{both}
+use Rattle.swc_tree_grammar_laws.proofs.Begins.{starts_of_tree, starts_of_list}
+use Rattle.swc_base_fixer_laws.proofs.FitsKept.{fits_kept}
+use Rattle.swc_base_fixer_laws.proofs.Answer.{due_set}
+use Rattle.swc_base_fixer_needs.specs.Keys.{names_constructors}
+use Rattle.swc_base_fixer_needs.specs.Sites.{Site, Spot, clue, any, spots, may_open}
+use Rattle.swc_base_fixer_needs.specs.Sites.Spot.{Hidden, At}
+use Rattle.swc_base_fixer_needs.specs.Reasons.{Label, nothing, labels, Reason, Due, AllDue, is_leaf}
+use Rattle.swc_base_fixer_needs.specs.Reasons.Reason.{for_reader, unmet, leads_call, in_head, async_before_of, begins_so}
+use Rattle.swc_base_fixer_needs.specs.Reasons.Extent.{Reasoned}
+use Rattle.swc_base_fixer_needs.specs.Reasons.Due.{leaf, unseen, pair, many, tree}
+use Rattle.swc_base_fixer_needs.specs.Reasons.AllDue.{none, more}
+use Rattle.swc_base_fixer_needs.proofs.Views.{same_meets}
+use Rattle.swc_base_fixer_needs.proofs.KeysKept.{names_kept}
+use Rattle.swc_base_fixer_needs.proofs.Seen.{seen_needs}
+use Rattle.swc_base_fixer_needs.proofs.HeadSteps.{Stable, AllStable, nothing_stable, labels_stable, list_stable, named_still}
+use Rattle.swc_base_fixer_needs.proofs.HeadNodes.{same_list, heads_have_reasons}
+use Rattle.swc_base_fixer_needs.proofs.StartViews.{stepped, starting_view, stepped_clues, async_kept, bracket_kept, bare_kept, start_kept}
+use Rattle.swc_base_fixer_needs.proofs.StartNodes.{calm, calm_in, calm_tree, calm_list, step_row, labels_kept}
+
+leaf_starting : (p : Places) (t : Node) → is_leaf t ≡ true → paired_at_starts p t ≡ t
+leaf_starting p t = by_children (λ t. is_leaf t ≡ true → paired_at_starts p t ≡ t)
+    (λ h. search (rules, the_lemmas), λ x h. search (rules, the_lemmas), λ w h. search (rules, the_lemmas), λ x h. search (rules, the_lemmas), λ s h. search (rules, the_lemmas), λ k i h. search (rules, the_lemmas))
+    (λ ts l h. (let e : is_leaf (Many ts) ≡ false = search (rules, the_lemmas) in absurd (cc)))
+    (λ k ts l h. (let e : is_leaf (Tree k ts) ≡ false = search (rules, the_lemmas) in absurd (cc))) t
+
+kept : {l : Label} {a : Site} {e : Node} → (p : Places) → Reason l a e → Stable l → Reason l a (paired_at_starts p e)
+kept {l = l} {e = e} p (for_reader n) s = for_reader (named_still l e (paired_at_starts p e) s (starting_view p e) n)
+kept {a = a} {e = e} p (unmet m) s = unmet (same_meets (starting_view p e) a.demand ∙ m)
+kept {e = e} p (leads_call c d) s = leads_call c ((starting_view p e).called ∙ d)
+kept {e = e} p (in_head c d) s = in_head c (bare_kept p e ∙ d)
+kept {e = e} p (async_before_of c d) s = async_before_of c (async_kept p e ∙ d)
+kept {a = a} {e = e} p (begins_so c d) s = begins_so (ap (may_open a.opening) (start_kept p e) ∙ c) (ap (λ b. a.optional && b) (bracket_kept p e) ∙ d)
+
+calm_parts : (k : Kind) (ts : List Node) → calm (Tree k ts) ≡ true → (calm_in (Node-F.Tree k ts) ≡ true) × (list_all calm ts ≡ true)
+calm_parts k ts h = both (calm_in (Node-F.Tree k ts)) (list_all calm ts) (sym (calm_tree k ts) ∙ h)
+
+calm_content : (s e : Node) → calm (Tree kind.ParenExpr (s ∷ e ∷ [])) ≡ true → calm e ≡ true
+calm_content s e h = let q = both (calm s) (calm e && true) (calm_parts kind.ParenExpr (s ∷ e ∷ []) h).1 in (both (calm e) true q.1).0
+
+mutual
+  starts_due : {l : Label} {s : Spot} {t : Node} → (p : Places) → Due Reasoned l s t → Stable l → calm t ≡ true → Due Reasoned l s (paired_at_starts p t)
+  starts_due {l = l} {s = s} p (leaf t n) q h = subst (λ u. Due Reasoned l s u) (sym (leaf_starting p t n)) (leaf t n)
+  starts_due p (unseen t f) q h = unseen (paired_at_starts p t) (λ z. absurd (cc))
+  starts_due p (pair {l = l} {a = a} s e m n c r g d) q h =
+      subst (λ u. Due Reasoned l (At a) u) (sym (starts_of_tree p kind.ParenExpr (s ∷ e ∷ []) ∙ rolls-Tree kind.ParenExpr (paired_at_starts p s ∷ paired_at_starts p e ∷ [])))
+      (pair (paired_at_starts p s) (paired_at_starts p e) (λ z. absurd (cc)) (λ z. absurd (cc)) ((starting_view p e).clue_same ∙ c) (kept p r q) (λ z. absurd (cc)) (starts_due p d nothing_stable (calm_content s e h)))
+  starts_due p (many {l = l} {a = a} ts d) q h =
+      let us : List Node = stepped p ts in let c = stepped_clues p ts in
+      subst (λ u. Due Reasoned l (At a) u) (sym (starts_of_list p ts)) (many us (rw (same_list l ts us c, c) (all_due p d (list_stable l ts) (sym (calm_list ts) ∙ h))))
+  starts_due p (tree {l = l} {a = a} k ts n m d) q h =
+      let b = calm_parts k ts h in
+      subst (λ u. Due Reasoned l (At a) u) (sym (starts_of_tree p k ts)) (step_row p l a k ts n b.0 (rw (labels_kept p l k ts n, stepped_clues p ts) (all_due p d (labels_stable l k ts) b.1)))
+
+  all_due : {ls : List Label} {ss : List Spot} {ts : List Node} → (p : Places) → AllDue Reasoned ls ss ts → AllStable ls → list_all calm ts ≡ true → AllDue Reasoned ls ss (stepped p ts)
+  all_due p none q h = none
+  all_due p (more {t = t} {ts = ts} c d) q h = let b = both (calm t) (list_all calm ts) h in more (starts_due p c q.0 b.0) (all_due p d q.1 b.1)
+
+-- each step of the due pairs: where no arrow that returns an expression begins it with an assignment to an object pattern
+pub due_have_reasons : (p : Places) (t : Node) → is_pairless t ≡ true → calm (paired_in_heads p (paired_by_level p t)) ≡ true → Due Reasoned nothing any (with_due_pairs p t)
+due_have_reasons p t n c = starts_due p (heads_have_reasons p t n) nothing_stable c
+
+pub due_are_needed : (p : Places) (t : Node) (s : Slot) → Fits t s → is_pairless t ≡ true → names_constructors t ≡ true → calm (paired_in_heads p (paired_by_level p t)) ≡ true → NoIdlePair (with_due_pairs p t)
+due_are_needed p t s f n k c = let d = due_set p t s f in seen_needs (with_due_pairs p t) s (fits_kept d f) (names_kept d k) (due_have_reasons p t n c)
