@@ -18,6 +18,7 @@ use Rattle.swc_tree_grammar.specs.Fixed.{fixed, recorded}
 use Rattle.swc_tree_grammar.specs.Places.{is_open}
 use Rattle.swc_base_fixer_laws.proofs.Fixed.{fixed_fits}
 use Rattle.swc_base_fixer_laws.proofs.AgainLaws.{all_normal_form_stays, all_no_pair_in_pair, all_second_run_changes_spans}
+use Rattle.swc_base_fixer_needs.proofs.StartTrees.{fixed_is_needed}
 use Rattle.swc_base_fixer_program.specs.Answers.{answer_to}
 use Rattle.swc_base_fixer.specs.Promises.{Promises}
 use Rattle.swc_base_fixer.proofs.Programs.{program}
@@ -41,6 +42,7 @@ unfolding answer_to
 promised t s o f = record {
   writable = λ w. (fixed_fits (recorded (pairs t)) t s o f w).0;
   derived = λ w. (fixed_fits (recorded (pairs t)) t s o f w).1;
+  needed = λ w. fixed_is_needed (recorded (pairs t)) t s o f w;
   normal_form = all_normal_form_stays (recorded (pairs t)) t s f;
   once = all_no_pair_in_pair (recorded (pairs t)) t s f;
   again = all_second_run_changes_spans (recorded (pairs t)) (recorded (pairs (fixed (recorded (pairs t)) t))) t s f;

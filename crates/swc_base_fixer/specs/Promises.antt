@@ -2,17 +2,19 @@
 use Rattle.std.specs.Prelude.{◌≡◌, IsTrue}
 use Rattle.swc_tree_node.specs.declared.node.Node.{Node}
 use Rattle.swc_tree_grammar.specs.Grammar.{FitsGrammar}
+use Rattle.swc_tree_grammar.specs.Needed.{NoIdlePair}
 use Rattle.swc_tree_grammar.specs.Normal as normal
 use Rattle.swc_tree_grammar.specs.Spanless.{SameButForSpans}
 use Rattle.swc_tree_grammar.specs.Writable.{Writable}
 use Rattle.swc_base_fixer_laws.specs.Once.{paired_once}
 use Rattle.swc_base_fixer_program.specs.Answers.{answer_to}
 
--- what could be written down still can and is derived by the grammar; the normal form is what it was; no pair stands right
--- in another; and a second run changes nothing but spans
+-- what could be written down still can and is derived by the grammar, and each of its pairs is needed or stands for a
+-- reader; the normal form is what it was; no pair stands right in another; and a second run changes nothing but spans
 pub record Promises (before after : Node) : Type 0 where
   pub writable : Writable before → Writable after
   pub derived : Writable before → FitsGrammar after
+  pub needed : Writable before → NoIdlePair after
   pub normal_form : normal.normal_form after ≡ normal.normal_form before
   pub once : IsTrue (paired_once after)
   pub again : SameButForSpans (answer_to after) after

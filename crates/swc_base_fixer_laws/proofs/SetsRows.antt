@@ -100,7 +100,7 @@ directive_row : (k : Kind) (us : List Node) → FieldsFit (slots_of k) us → (p
 directive_row kind.ExprStmt (s ∷ e ∷ []) f p b = refl
 directive_row k us f p b = refl
 
-row : (p : Places) (s : Slot) (b : Bool) (k : Kind) {ts us : List Node} → FieldsSet (slots_of k) ts us → FieldsFit (slots_of k) us → is_directive_in (Node-F.Tree k us) ≡ is_directive_in (Node-F.Tree k ts) → Sets s (Tree k ts) (paired_in p b (Node-F.Tree k us))
+pub row : (p : Places) (s : Slot) (b : Bool) (k : Kind) {ts us : List Node} → FieldsSet (slots_of k) ts us → FieldsFit (slots_of k) us → is_directive_in (Node-F.Tree k us) ≡ is_directive_in (Node-F.Tree k ts) → Sets s (Tree k ts) (paired_in p b (Node-F.Tree k us))
 row p s b kind.ExprStmt (field {t = a} {u = a'} x (field {t = e} {u = e'} y nil)) f h =
     let d = sequence_set p an_expression e' f.1.0 in
     tree kind.ExprStmt (a ∷ e ∷ []) (a' ∷ sequence_statement p e' (out-Node e') ∷ []) (same_string e' (sequence_statement p e' (out-Node e')) d f.1.0 (sequence_bare p e') ∙ h) (field x (field (after y d) nil))

@@ -3,7 +3,7 @@ use Rattle.std.proofs.Common.{◌≡◌, Bool, true, false, ◌&&◌, ◌||◌, 
 use Rattle.std.specs.Prelude.{if◌then◌else◌}
 use Rattle.swc_tree_node.specs.declared.kind.Kind.{Kind}
 use Rattle.swc_tree_node.specs.declared.kind.Kind.TheVariants as kind
-use Rattle.swc_tree_node.specs.declared.node.Node.{Node, Absent, Flag, Word, Text, Span, List as Many, Identifier, Tree, the_lemmas}
+use Rattle.swc_tree_node.specs.declared.node.Node.{Node, Span, List as Many, Tree, the_lemmas}
 use Rattle.swc_tree_node.specs.declared.node.Node.TheOpen.{Node-F}
 use Rattle.swc_tree_grammar.specs.Kinds.{has_kind, is_paren, is_object_pattern}
 use Rattle.swc_tree_grammar.specs.Forms.{holds}
@@ -14,8 +14,7 @@ use Rattle.swc_tree_grammar.specs.Starts.Start.{Other, LetBracket}
 use Rattle.swc_tree_grammar.specs.Due.{Places, pair as in_pair, first_in}
 use Rattle.swc_tree_grammar.proofs.Induction.{by_children}
 use Rattle.swc_tree_grammar_laws.proofs.Begins.{spined, first_paired, spine_whole, first_of_tree, first_of_list, start_tree, start_list}
-use Rattle.swc_base_fixer_laws.proofs.Up.{kind_of_tree}
-use Rattle.swc_base_fixer_needs.specs.Sites.{Opening, Site, Spot, clue, any, asks, spots, first_unless, may_open}
+use Rattle.swc_base_fixer_needs.specs.Sites.{Opening, Site, Spot, clue, asks, spots, first_unless, may_open}
 use Rattle.swc_base_fixer_needs.specs.Sites.Spot.{Hidden, At}
 use Rattle.swc_base_fixer_needs.specs.Reasons.{Label, nothing, labels, Due, AllDue, is_leaf, blank}
 use Rattle.swc_base_fixer_needs.specs.Reasons.Label.{Names, OfStatement, OfItems}
@@ -24,7 +23,7 @@ use Rattle.swc_base_fixer_needs.specs.Reasons.Extent.{Reasoned}
 use Rattle.swc_base_fixer_needs.specs.Reasons.Due.{leaf, unseen, pair, many, tree}
 use Rattle.swc_base_fixer_needs.specs.Reasons.AllDue.{none, more}
 use Rattle.swc_base_fixer_needs.proofs.Paths.{clue_of_tree}
-use Rattle.swc_base_fixer_needs.proofs.FirstRows.{lead_of, led, led_tree, led_list, begun_of, begun_whole, blocked, other_opens, opening_blocks, Free, Anywhere, Inner, First, Leads, Ready, Readys, Fields, Dues, is_pair, assign_anywhere, member_anywhere, chain_anywhere, inner_row}
+use Rattle.swc_base_fixer_needs.proofs.FirstRows.{lead_of, led, led_tree, led_list, begun_of, begun_whole, blocked, other_opens, opening_blocks, Free, Anywhere, Leads, Readys, Fields, Dues, is_pair, assign_anywhere, member_anywhere, chain_anywhere, inner_row}
 
 around : (p : Places) (l : Label) (a : Site) (t : Node) → clue t ≡ blank → may_open a.opening (start t) ≡ false → (a.optional && is_let_bracket t) ≡ false → Anywhere t → Due Reasoned l (At a) (in_pair p t)
 around p l a t c m o y = pair (Span (p (span_of t))) t (λ z. absurd (cc)) (λ z. absurd (cc)) c (begins_so m o) (λ z. absurd (cc)) (y nothing (asks Any true) refl)

@@ -11,24 +11,21 @@ use Rattle.swc_tree_grammar.specs.Forms.{holds}
 use Rattle.swc_tree_grammar.specs.Blocks.{span_of}
 use Rattle.swc_tree_grammar.specs.Demands.Demand.{Any, AtLeast}
 use Rattle.swc_tree_grammar.specs.Starts.{Start, Begun, start, start_in, start_step, is_let_in, is_computed_in, is_let_bracket}
-use Rattle.swc_tree_grammar.specs.Starts.Start.{Other, LetBracket}
+use Rattle.swc_tree_grammar.specs.Starts.Start.{Other}
 use Rattle.swc_tree_grammar.specs.Due.{Places, pair as in_pair, first_in}
-use Rattle.swc_tree_grammar.proofs.Induction.{Each, by_children}
+use Rattle.swc_tree_grammar.proofs.Induction.{by_children}
 use Rattle.swc_tree_grammar_laws.proofs.Levelled.{both}
 use Rattle.swc_tree_grammar_laws.proofs.Wholes.{carried}
 use Rattle.swc_tree_grammar_laws.proofs.Begins.{spined, first_paired, spine_whole, first_of_tree}
 use Rattle.swc_base_fixer_laws.proofs.Up.{kind_of_tree}
-use Rattle.swc_base_fixer_needs.specs.Sites.{Opening, Site, Spot, clue, any, asks, leads, spots, first_unless, may_open}
+use Rattle.swc_base_fixer_needs.specs.Sites.{Opening, Site, Spot, clue, asks, leads, spots, may_open}
 use Rattle.swc_base_fixer_needs.specs.Sites.Mode.{Base}
 use Rattle.swc_base_fixer_needs.specs.Sites.Opening.{Anything, OfStatement as AtStatement, OfExport, OfBody}
 use Rattle.swc_base_fixer_needs.specs.Sites.Spot.{Hidden, At}
-use Rattle.swc_base_fixer_needs.specs.Reasons.{Label, nothing, labels, Due, AllDue, is_leaf, blank}
-use Rattle.swc_base_fixer_needs.specs.Reasons.Label.{Names, OfStatement, OfItems}
-use Rattle.swc_base_fixer_needs.specs.Reasons.Reason.{begins_so}
+use Rattle.swc_base_fixer_needs.specs.Reasons.{Label, nothing, labels, Due, AllDue, is_leaf}
 use Rattle.swc_base_fixer_needs.specs.Reasons.Extent.{Reasoned}
-use Rattle.swc_base_fixer_needs.specs.Reasons.Due.{leaf, unseen, pair, tree}
+use Rattle.swc_base_fixer_needs.specs.Reasons.Due.{leaf, unseen, tree}
 use Rattle.swc_base_fixer_needs.specs.Reasons.AllDue.{none, more}
-use Rattle.swc_base_fixer_needs.proofs.Paths.{clue_of_tree}
 
 -- a node, and whether it begins with an assignment to an object pattern
 pub record Lead : Type 0 where

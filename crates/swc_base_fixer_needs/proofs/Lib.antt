@@ -27,4 +27,6 @@ pub mod FirstRows
 pub mod FirstNodes
 pub mod StartNodes
 pub mod StartTrees
-pub mod CalmHeads
+pub mod CalmSets
+pub mod CalmLevels
+pub mod Tight

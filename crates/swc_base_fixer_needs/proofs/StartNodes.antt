@@ -4,7 +4,7 @@ use Rattle.std.specs.Prelude.{if◌then◌else◌}
 use Rattle.std.specs.List.{list_all}
 use Rattle.swc_tree_node.specs.declared.kind.Kind.{Kind}
 use Rattle.swc_tree_node.specs.declared.kind.Kind.TheVariants as kind
-use Rattle.swc_tree_node.specs.declared.node.Node.{Node, List as Many, Tree, out-Node, roll-Node, fold-Node, map-Node, the_lemmas}
+use Rattle.swc_tree_node.specs.declared.node.Node.{Node, List as Many, Tree, roll-Node, fold-Node, map-Node, the_lemmas}
 use Rattle.swc_tree_node.specs.declared.node.Node.TheOpen.{Node-F}
 use Rattle.swc_tree_node.specs.declared.node.Node.TheVariants.{rolls-Tree}
 use Rattle.swc_tree_grammar.specs.Shapes.{Arrow}
@@ -12,27 +12,23 @@ use Rattle.swc_tree_grammar.specs.Kinds.{has_kind, is_paren, is_block, is_arrow,
 use Rattle.swc_tree_grammar.specs.Readers.{assigns_to}
 use Rattle.swc_tree_grammar.specs.Demands.Demand.{Any, AtLeast, Body}
 use Rattle.swc_tree_grammar.specs.Grammar.{may_begin_statement, may_begin_export, may_begin_body}
-use Rattle.swc_tree_grammar.specs.Starts.{Start, start, is_let_bracket}
+use Rattle.swc_tree_grammar.specs.Starts.{start, is_let_bracket}
 use Rattle.swc_tree_grammar.specs.Due.{Places, pair as in_pair, first_in, begun, begin_step, paired_at_starts}
 use Rattle.swc_tree_grammar.proofs.Induction.{Each, by_children}
-use Rattle.swc_tree_grammar_laws.proofs.Levelled.{both}
-use Rattle.swc_tree_grammar_laws.proofs.Wholes.{carried, all_carried}
+use Rattle.swc_tree_grammar_laws.proofs.Wholes.{all_carried}
 use Rattle.swc_tree_grammar_laws.proofs.Begins.{spined, first_paired, first_of_tree, first_empty, first_of_list, starts_of_tree, starts_of_list}
 use Rattle.swc_base_fixer_laws.proofs.Up.{kind_of_tree}
-use Rattle.swc_base_fixer_needs.specs.Sites.{Opening, Site, Spot, clue, any, asks, spots, may_open}
+use Rattle.swc_base_fixer_needs.specs.Sites.{Site, asks, may_open}
 use Rattle.swc_base_fixer_needs.specs.Sites.Opening.{OfStatement as AtStatement, OfExport, OfBody}
-use Rattle.swc_base_fixer_needs.specs.Sites.Spot.{Hidden, At}
-use Rattle.swc_base_fixer_needs.specs.Reasons.{Label, nothing, labels, names_content, Reason, Due, AllDue, is_leaf, blank}
+use Rattle.swc_base_fixer_needs.specs.Sites.Spot.{At}
+use Rattle.swc_base_fixer_needs.specs.Reasons.{Label, labels, Due}
 use Rattle.swc_base_fixer_needs.specs.Reasons.Label.{Names, OfStatement, OfItems}
-use Rattle.swc_base_fixer_needs.specs.Reasons.Reason.{for_reader, unmet, leads_call, in_head, async_before_of, begins_so}
 use Rattle.swc_base_fixer_needs.specs.Reasons.Extent.{Reasoned}
-use Rattle.swc_base_fixer_needs.specs.Reasons.Due.{leaf, unseen, pair, many, tree}
+use Rattle.swc_base_fixer_needs.specs.Reasons.Due.{tree}
 use Rattle.swc_base_fixer_needs.specs.Reasons.AllDue.{none, more}
-use Rattle.swc_base_fixer_needs.proofs.Views.{View, same_meets}
-use Rattle.swc_base_fixer_needs.proofs.HeadSteps.{Stable, AllStable, nothing_stable, labels_stable, list_stable, named_still, same_fields, usual_same}
-use Rattle.swc_base_fixer_needs.proofs.HeadNodes.{same_list}
-use Rattle.swc_base_fixer_needs.proofs.StartViews.{stepped, starting_view, stepped_clues, async_kept, bracket_kept, bare_kept, start_kept}
-use Rattle.swc_base_fixer_needs.proofs.FirstRows.{led, led_in, led_tree, led_list, lead_of, lead_whole, Free, Leads, Dues}
+use Rattle.swc_base_fixer_needs.proofs.HeadSteps.{same_fields, usual_same}
+use Rattle.swc_base_fixer_needs.proofs.StartViews.{stepped, starting_view, stepped_clues}
+use Rattle.swc_base_fixer_needs.proofs.FirstRows.{led, led_in, led_tree, led_list, lead_of, lead_whole, Free, Dues}
 use Rattle.swc_base_fixer_needs.proofs.FirstNodes.{leading}
 
 -- no arrow whose body is an expression begins it with an assignment to an object pattern

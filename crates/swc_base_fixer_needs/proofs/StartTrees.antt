@@ -1,26 +1,34 @@
 -- Each pair has a reason after the third step.
-use Rattle.std.proofs.Common.{◌≡◌, Bool, true, false, ◌&&◌, List, [], ◌∷◌, map, refl, sym, ap, subst, ◌∙◌, rules}
+use Rattle.std.proofs.Common.{◌≡◌, IsTrue, true, false, ◌&&◌, List, [], ◌∷◌, refl, sym, ap, subst, ◌∙◌, rules}
 use Rattle.std.specs.List.{list_all}
 use Rattle.swc_tree_node.specs.declared.kind.Kind.{Kind}
 use Rattle.swc_tree_node.specs.declared.kind.Kind.TheVariants as kind
-use Rattle.swc_tree_node.specs.declared.node.Node.{Node, List as Many, Tree, out-Node, the_lemmas}
+use Rattle.swc_tree_node.specs.declared.node.Node.{Node, List as Many, Tree, the_lemmas}
 use Rattle.swc_tree_node.specs.declared.node.Node.TheOpen.{Node-F}
 use Rattle.swc_tree_node.specs.declared.node.Node.TheVariants.{rolls-Tree}
 use Rattle.swc_tree_node.specs.declared.slot.Slot.{Slot}
 use Rattle.swc_tree_node.specs.Fits.{Fits}
 use Rattle.swc_tree_grammar.specs.Needed.{NoIdlePair}
-use Rattle.swc_tree_grammar.specs.Stripped.{is_pairless}
-use Rattle.swc_tree_grammar.specs.Starts.{is_let_bracket}
-use Rattle.swc_tree_grammar.specs.Due.{Places, paired_by_level, paired_in_heads, paired_at_starts, with_due_pairs}
+use Rattle.swc_tree_grammar.specs.Stripped.{stripped, is_pairless}
+use Rattle.swc_tree_grammar.specs.Blocks.{with_blocks}
+use Rattle.swc_tree_grammar.specs.Places.{is_open}
+use Rattle.swc_tree_grammar.specs.Writable.{Writable}
+use Rattle.swc_tree_grammar.specs.Fixed.{fixed}
+use Rattle.swc_tree_grammar.specs.Due.{Places, paired_at_starts, with_due_pairs}
 use Rattle.swc_tree_grammar.proofs.Induction.{by_children}
+use Rattle.swc_tree_grammar.proofs.Kept.{stripped_fits}
+use Rattle.swc_tree_grammar.proofs.BlocksKept.{blocks_fit}
+use Rattle.swc_tree_grammar.proofs.Pairless.{unparened_pairless}
 use Rattle.swc_tree_grammar_laws.proofs.Levelled.{both}
 use Rattle.swc_tree_grammar_laws.proofs.Begins.{starts_of_tree, starts_of_list}
 use Rattle.swc_base_fixer_laws.proofs.FitsKept.{fits_kept}
 use Rattle.swc_base_fixer_laws.proofs.Answer.{due_set}
+use Rattle.swc_base_fixer_laws.proofs.Blocking.{blocks_keep_writable}
+use Rattle.swc_base_fixer_laws.proofs.Fixed.{targets_stand_bare, stripping_keeps_writable}
 use Rattle.swc_base_fixer_needs.specs.Keys.{names_constructors}
-use Rattle.swc_base_fixer_needs.specs.Sites.{Site, Spot, clue, any, spots, may_open}
-use Rattle.swc_base_fixer_needs.specs.Sites.Spot.{Hidden, At}
-use Rattle.swc_base_fixer_needs.specs.Reasons.{Label, nothing, labels, Reason, Due, AllDue, is_leaf}
+use Rattle.swc_base_fixer_needs.specs.Sites.{Site, Spot, any, may_open}
+use Rattle.swc_base_fixer_needs.specs.Sites.Spot.{At}
+use Rattle.swc_base_fixer_needs.specs.Reasons.{Label, nothing, Reason, Due, AllDue, is_leaf}
 use Rattle.swc_base_fixer_needs.specs.Reasons.Reason.{for_reader, unmet, leads_call, in_head, async_before_of, begins_so}
 use Rattle.swc_base_fixer_needs.specs.Reasons.Extent.{Reasoned}
 use Rattle.swc_base_fixer_needs.specs.Reasons.Due.{leaf, unseen, pair, many, tree}
@@ -31,6 +39,8 @@ use Rattle.swc_base_fixer_needs.proofs.Seen.{seen_needs}
 use Rattle.swc_base_fixer_needs.proofs.HeadSteps.{Stable, AllStable, nothing_stable, labels_stable, list_stable, named_still}
 use Rattle.swc_base_fixer_needs.proofs.HeadNodes.{same_list, heads_have_reasons}
 use Rattle.swc_base_fixer_needs.proofs.StartViews.{stepped, starting_view, stepped_clues, async_kept, bracket_kept, bare_kept, start_kept}
+use Rattle.swc_base_fixer_needs.proofs.WritableNames.{writable_names_constructors}
+use Rattle.swc_base_fixer_needs.proofs.CalmLevels.{calm_before_starts}
 use Rattle.swc_base_fixer_needs.proofs.StartNodes.{calm, calm_in, calm_tree, calm_list, step_row, labels_kept}
 
 leaf_starting : (p : Places) (t : Node) → is_leaf t ≡ true → paired_at_starts p t ≡ t
@@ -71,9 +81,14 @@ mutual
   all_due p none q h = none
   all_due p (more {t = t} {ts = ts} c d) q h = let b = both (calm t) (list_all calm ts) h in more (starts_due p c q.0 b.0) (all_due p d q.1 b.1)
 
--- each step of the due pairs: where no arrow that returns an expression begins it with an assignment to an object pattern
-pub due_have_reasons : (p : Places) (t : Node) → is_pairless t ≡ true → calm (paired_in_heads p (paired_by_level p t)) ≡ true → Due Reasoned nothing any (with_due_pairs p t)
-due_have_reasons p t n c = starts_due p (heads_have_reasons p t n) nothing_stable c
+pub starts_have_reasons : (p : Places) (t : Node) (s : Slot) → Fits t s → is_pairless t ≡ true → Due Reasoned nothing any (with_due_pairs p t)
+starts_have_reasons p t s f n = starts_due p (heads_have_reasons p t n) nothing_stable (calm_before_starts p t s f)
 
-pub due_are_needed : (p : Places) (t : Node) (s : Slot) → Fits t s → is_pairless t ≡ true → names_constructors t ≡ true → calm (paired_in_heads p (paired_by_level p t)) ≡ true → NoIdlePair (with_due_pairs p t)
-due_are_needed p t s f n k c = let d = due_set p t s f in seen_needs (with_due_pairs p t) s (fits_kept d f) (names_kept d k) (due_have_reasons p t n c)
+pub due_pairs_are_needed : (p : Places) (t : Node) (s : Slot) → Fits t s → is_pairless t ≡ true → names_constructors t ≡ true → NoIdlePair (with_due_pairs p t)
+due_pairs_are_needed p t s f n k = let d = due_set p t s f in seen_needs (with_due_pairs p t) s (fits_kept d f) (names_kept d k) (starts_have_reasons p t s f n)
+
+-- the answer to what can be written down
+pub fixed_is_needed : (p : Places) (t : Node) (s : Slot) → IsTrue (is_open s) → Fits t s → Writable t → NoIdlePair (fixed p t)
+fixed_is_needed p t s o f w =
+    let u = with_blocks (stripped t) in let g = stripped_fits t s (targets_stand_bare t s f w) o f in let h = blocks_fit (stripped t) s g in
+    due_pairs_are_needed p u s h (unparened_pairless t u s refl f) (writable_names_constructors u s h (blocks_keep_writable (stripped t) s g (stripping_keeps_writable t s f w)))

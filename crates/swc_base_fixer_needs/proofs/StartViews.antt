@@ -1,5 +1,5 @@
 -- The third step keeps what is seen of a node from above, and what it begins with.
-use Rattle.std.proofs.Common.{◌≡◌, Bool, true, false, ◌&&◌, List, [], ◌∷◌, map, refl, sym, ap, subst, ◌∙◌, rules}
+use Rattle.std.proofs.Common.{◌≡◌, Bool, false, List, [], ◌∷◌, map, refl, sym, ap, subst, ◌∙◌, rules}
 use Rattle.std.specs.Prelude.{if◌then◌else◌}
 use Rattle.swc_tree_node.specs.declared.kind.Kind.{Kind}
 use Rattle.swc_tree_node.specs.declared.kind.Kind.TheVariants as kind
@@ -7,9 +7,9 @@ use Rattle.swc_tree_node.specs.declared.node.Node.{Node, Absent, Flag, Word, Tex
 use Rattle.swc_tree_node.specs.declared.node.Node.TheOpen.{Node-F}
 use Rattle.swc_tree_node.specs.declared.node.Node.TheVariants.{rolls-Tree}
 use Rattle.swc_tree_grammar.specs.Kinds.{has_kind, is_block}
-use Rattle.swc_tree_grammar.specs.Levels.{word_of, is_in}
+use Rattle.swc_tree_grammar.specs.Levels.{is_in}
 use Rattle.swc_tree_grammar.specs.Forms.{holds}
-use Rattle.swc_tree_grammar.specs.Starts.{Start, Begun, start, start_in, start_step, is_let_in, is_computed_in, is_let_bracket, let_bracket_in}
+use Rattle.swc_tree_grammar.specs.Starts.{Begun, start, start_in, start_step, is_let_in, is_computed_in, is_let_bracket, let_bracket_in}
 use Rattle.swc_tree_grammar.specs.Grammar.{is_async_name, may_begin_statement, may_begin_export, may_begin_body}
 use Rattle.swc_tree_grammar.specs.Due.{Places, begun, begin_step, paired_at_starts}
 use Rattle.swc_tree_grammar.proofs.Induction.{Each, by_children}
@@ -17,7 +17,6 @@ use Rattle.swc_tree_grammar_laws.proofs.Wholes.{carried}
 use Rattle.swc_tree_grammar_laws.proofs.Begins.{start_tree, start_list, starts_of_tree, starts_of_list}
 use Rattle.swc_base_fixer_needs.specs.Sites.{clue}
 use Rattle.swc_base_fixer_needs.specs.Reasons.{is_bare_in}
-use Rattle.swc_base_fixer_needs.proofs.Paths.{clue_of_tree, clue_of_list}
 use Rattle.swc_base_fixer_needs.proofs.LevelNodes.{OfKind}
 use Rattle.swc_base_fixer_needs.proofs.Views.{View, Parts, Views, view_same, view_of_tree, view_of_list, parts_bin, parts_member, parts_tagged, parts_new, parts_unary, parts_assign, parts_computed, parts_other, looks_below}
 

@@ -4,7 +4,9 @@ use Rattle.swc_tree_node.specs.declared.node.Node.{Node}
 use Rattle.swc_tree_node.specs.declared.slot.Slot.{Slot}
 use Rattle.swc_tree_node.specs.Fits.{Fits}
 use Rattle.swc_tree_grammar.specs.Stripped.{is_pairless}
-use Rattle.swc_tree_grammar.specs.Due.{Places, paired_by_level, paired_in_heads}
+use Rattle.swc_tree_grammar.specs.Due.{Places, paired_by_level, paired_in_heads, with_due_pairs}
+use Rattle.swc_tree_grammar.specs.Fixed.{fixed}
+use Rattle.swc_tree_grammar.specs.Places.{is_open}
 use Rattle.swc_tree_grammar.specs.Needed.{NoIdlePair}
 use Rattle.swc_tree_grammar.specs.Writable.{Writable}
 use Rattle.swc_base_fixer_needs.specs.Sites.{any}
@@ -39,3 +41,15 @@ HeadsAreNeeded = (place : Places) (t : Node) (s : Slot) → Fits t s → IsTrue 
 -- in a tree of the table that can be written down each constructor has a name as its key
 abbrev pub WritableNamesConstructors : Type 0
 WritableNamesConstructors = (t : Node) (s : Slot) → Fits t s → Writable t → IsTrue (names_constructors t)
+
+-- with the third step too: of a tree of the table each due pair has a reason, or one of its head or of its start
+abbrev pub StartsHaveReasons : Type 0
+StartsHaveReasons = (place : Places) (t : Node) (s : Slot) → Fits t s → IsTrue (is_pairless t) → Due Reasoned nothing any (with_due_pairs place t)
+
+-- so no due pair is idle
+abbrev pub DuePairsAreNeeded : Type 0
+DuePairsAreNeeded = (place : Places) (t : Node) (s : Slot) → Fits t s → IsTrue (is_pairless t) → IsTrue (names_constructors t) → NoIdlePair (with_due_pairs place t)
+
+-- and of what can be written down no pair of the answer is idle
+abbrev pub FixedIsNeeded : Type 0
+FixedIsNeeded = (place : Places) (t : Node) (s : Slot) → IsTrue (is_open s) → Fits t s → Writable t → NoIdlePair (fixed place t)

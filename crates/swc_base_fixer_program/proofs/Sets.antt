@@ -1,27 +1,19 @@
 -- The answer by the record of the program's pairs, and the pairs that are not set again.
-use Rattle.std.proofs.Common.{◌≡◌, ℕ, ◌+◌, ◌<◌, ◌≤◌, length, take, get_or, take_all, add-one, Bool, true, false, not, List, [], ◌∷◌, ◌++◌, reverse, IsTrue, subst, refl, sym, ap, ◌∙◌, rules}
+use Rattle.std.proofs.Common.{◌≡◌, ℕ, ◌+◌, ◌<◌, ◌≤◌, length, take, get_or, take_all, add-one, Bool, true, false, not, List, [], ◌∷◌, ◌++◌, reverse, refl, sym, ap, ◌∙◌}
 use Rattle.std.specs.List.{filter, flat_map, list_any}
 use Rattle.std.specs.Prelude.{if◌then◌else◌}
 use Rattle.std.proofs.Math.Seq.{take-suc}
 use Rattle.std.proofs.lemmas.List.{append-nil, reverse-append}
 use Rattle.std.proofs.lemmas.List.Elements.{filter-append}
-use Rattle.swc_tree_marks.specs.declared.span.Span.{Span as Range}
 use Rattle.swc_tree_node.specs.declared.node.Node.{Node}
-use Rattle.swc_tree_comments.specs.declared.moves.Move.{Move}
 use Rattle.swc_tree_grammar.specs.declared.pairs.Pair.{Pair}
 use Rattle.swc_tree_grammar.specs.Pairs.{pairs, moves_of}
 use Rattle.swc_tree_grammar.specs.Stripped.{stripped}
 use Rattle.swc_tree_grammar.specs.Blocks.{with_blocks}
-use Rattle.swc_tree_grammar.specs.Due.{Places, with_due_pairs}
+use Rattle.swc_tree_grammar.specs.Due.{with_due_pairs}
 use Rattle.swc_tree_grammar.specs.Fixed.{fixed, recorded, same_span, is_set_in, moves_to}
 use Rattle.swc_base_fixer_due.specs.declared.record.Record.{Record}
 use Rattle.swc_base_fixer_due.specs.Record.{place_in, has_in, Records}
-use Rattle.swc_tree_node.specs.declared.slot.Slot.{Slot}
-use Rattle.swc_tree_node.specs.Fits.{Fits}
-use Rattle.swc_tree_grammar.specs.Places.{is_open}
-use Rattle.swc_tree_grammar.specs.Targets.{all_bare}
-use Rattle.swc_tree_grammar.proofs.BlocksKept.{unparened_fits}
-use Rattle.swc_base_fixer_laws.proofs.Answer.{due_fits}
 use Rattle.swc_base_fixer_program.specs.Answers.{answer_to, moves_for}
 
 abbrev at_each : {X Y : Type 0} {f g : X → Y} → ((x : X) → f x ≡ g x) → f ≡ g
@@ -81,7 +73,3 @@ one_dropped r qs ls ms p o i h e l b m = one_asked r qs ls ms p o i h e l (m ∙
 pub all_asked : (r : Record) (u : Node) (ps qs ls : List Pair) (i : ℕ) → length qs ≤ i → Records ps r → ps ≡ reverse (pairs u) → ls ≡ filter (λ p. not (has_in r p.content)) (take i qs)
     → ls ≡ filter (λ p. not (is_set_in u p)) qs
 all_asked r u ps qs ls i h a b l = l ∙ ap (λ qs. filter (λ p. not (has_in r p.content)) qs) (take_all i qs h) ∙ left_of ps qs r u a b
-
-pub answer_fits : (t u : Node) (s : Slot) → all_bare t ≡ true → u ≡ answer_to t → IsTrue (is_open s) → Fits t s → Fits u s
-unfolding answer_to
-answer_fits t u s b h o f = subst (λ u. Fits u s) (sym h) (due_fits (recorded (pairs t)) (with_blocks (stripped t)) s (unparened_fits t (with_blocks (stripped t)) s b refl o f))

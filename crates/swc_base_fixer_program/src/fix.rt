@@ -1,9 +1,6 @@
 //! Setting the parentheses of a program anew.
-ghost use Rattle.std.specs.Prelude.{◌≡◌, ◌↔◌, ◌⊎◌, false, reverse, IfOk, IfErr, IsErrAnd, IsTrue};
+ghost use Rattle.std.specs.Prelude.{◌≡◌, ◌↔◌, ◌⊎◌, false, reverse, IfOk, IfErr, IsErrAnd};
 ghost use Rattle.swc_tree_marks.specs.declared.error.PassError.TheVariants as pass;
-ghost use Rattle.swc_tree_node.specs.declared.slot.Slot.{Slot};
-ghost use Rattle.swc_tree_node.specs.Fits.{Fits};
-ghost use Rattle.swc_tree_grammar.specs.Places.{is_open};
 ghost use Rattle.swc_tree_grammar.specs.Fixed.{fixed, recorded};
 ghost use Rattle.swc_tree_grammar.specs.Targets.{all_bare as bare};
 ghost use Rattle.swc_base_fixer_unparen.specs.Moves.{Moved, MovedIn, UnmovedIn};
@@ -54,7 +51,6 @@ fn fix_with<C: Comments>(alloc: Global, comments: &mut C, node: Node) -> Result<
 /// The pass on a tree without comments.
 fn fix_parens_alone(alloc: Global, node: Node) -> Result<Node, PassError>
     ensures answer { IfOk result (λ t. t ≡ answer_to node) }
-    ensures fits { (s : Slot) → IsTrue (is_open s) → Fits node s → IfOk result (λ t. Fits t s) }
     ensures not_assignable { IsErrAnd result (λ e. e ≡ pass.NotAssignable) ↔ (bare node ≡ false) }
     ensures no_memory { IfErr result (λ e. (e ≡ pass.NotAssignable) ⊎ (e ≡ pass.NoMemory)) }
 {
@@ -72,7 +68,6 @@ pub fn fix_parens_with<C: Comments>(
     node: Node,
 ) -> Result<Node, PassError>
     ensures answer { IfOk result (λ t. t ≡ answer_to node) }
-    ensures fits { (s : Slot) → IsTrue (is_open s) → Fits node s → IfOk result (λ t. Fits t s) }
     ensures not_assignable { IsErrAnd result (λ e. e ≡ pass.NotAssignable) ↔ (bare node ≡ false) }
     ensures no_memory { IfErr result (λ e. (e ≡ pass.NotAssignable) ⊎ (e ≡ pass.NoMemory)) }
     ensures moved { Moved C.moved comments.old (moves_for node) comments.new result }
@@ -88,6 +83,8 @@ pub fn fix_parens_with<C: Comments>(
 /// Takes every pair of parentheses off a tree, with what is idle in sequences and classes; puts a block round each
 /// first branch of an `if` that ends in an `if` without `else`; and sets the pairs that are due: those without which
 /// the grammar would not take the tree (ECMA-262, 13 to 16), and a few for the reader.
+///
+/// What fits its place in the table still does, which `swc_base_fixer_laws` proves of the definitions.
 ///
 /// A pair that is set where the tree had one round the same content, by its span, stands where that one stood. The
 /// comments of each other pair that the tree had move to its content, once the tree is done and from the last pair
@@ -109,7 +106,6 @@ pub fn fix_parens<C: Comments>(
     node: Node,
 ) -> Result<Node, PassError>
     ensures answer { IfOk result (λ t. t ≡ answer_to node) }
-    ensures fits { (s : Slot) → IsTrue (is_open s) → Fits node s → IfOk result (λ t. Fits t s) }
     ensures not_assignable { IsErrAnd result (λ e. e ≡ pass.NotAssignable) ↔ (bare node ≡ false) }
     ensures no_memory { IfErr result (λ e. (e ≡ pass.NotAssignable) ⊎ (e ≡ pass.NoMemory)) }
     ensures moved { MovedIn C.moved comments.entry (moves_for node) comments.exit result }

@@ -1,4 +1,4 @@
-use Rattle.std.proofs.Common.{rules, sym}
+use Rattle.std.proofs.Common.{sym}
 use Rattle.swc_base_fixer_program.proofs.Sets.{own_record}
 use Rattle.swc_base_fixer_program.proofs.fix.fix.Goals as goal
 

@@ -1,4 +1,3 @@
-use Rattle.std.proofs.Common.{sym}
 use Rattle.swc_base_fixer.proofs.Promised.{module_promised}
 use Rattle.swc_base_fixer.proofs.fixing_pass.FixerJsPass.visit_mut_module.Goals as goal
 
