@@ -5,6 +5,7 @@
 
 mod classes;
 mod config;
+mod contexts;
 mod exports;
 mod identifiers;
 mod names;
@@ -15,5 +16,6 @@ mod unique;
 mod written_out;
 
 pub use config::Config;
+pub use contexts::clear_contexts;
 pub use names::Names;
 pub use pass::substitute;
