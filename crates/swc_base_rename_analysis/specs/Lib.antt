@@ -1,0 +1,5 @@
+pub mod Ids
+pub mod Analysis
+pub mod Order
+pub mod Preserved
+pub mod Named
