@@ -3,3 +3,4 @@ pub mod Analysis
 pub mod Order
 pub mod Preserved
 pub mod Named
+pub mod Laws

@@ -7,11 +7,11 @@ use Rattle.swc_base_rename_analysis.specs.Analysis.{Declares, IsAtOrAbove, Occur
 use Rattle.swc_base_rename_analysis.specs.Order.{IsBefore, Site}
 
 -- what a renamer is to naming: the text of an id for a counter, its two flags, and the ids that it preserves
-pub record Renaming : Type 1 where
+pub record Renaming : Type 0 where
   pub text : Id → ℕ → List ℕ
   pub mangles : Bool
   pub resets : Bool
-  pub preserves : Id → Type 0
+  pub preserves : Id → Bool
 
 -- within a scope the counter goes on from id to id
 abbrev pub counts_on : Renaming → Bool
@@ -21,7 +21,7 @@ counts_on r = r.mangles || not r.resets
 pub record IsNamedAt (t : Node) (r : Renaming) (a : Site) (x : Id) : Type 0 where
   pub declared : Declares t a.0 a.1 x
   pub first : (b : Site) → Declares t b.0 b.1 x → ¬ IsBefore t b a
-  pub not_preserved : ¬ r.preserves x
+  pub not_preserved : ¬ IsTrue (r.preserves x)
   pub not_eval : x.0 ≢ codes "eval"
 
 -- an id that gets its name before the site
@@ -39,23 +39,22 @@ all_count u s = Unit {0}
 abbrev pub outer_count : Node → Counting
 outer_count t u s = IsAtOrAbove t u s
 
-module _ (t : Node) (r : Renaming) (preserved : List ℕ → Type 0) (counts : Counting) (taken : Id → ℕ) where
-  -- a text may be taken at a site: it is not preserved, and no earlier id has it whose scope counts and that occurs at
-  -- the site's scope or below
-  pub record IsFreeText (a : Site) (text : List ℕ) : Type 0 where
-    pub not_preserved : ¬ preserved text
-    pub not_held : (b : Site) (y : Id) → IsEarlier t r a b y → counts b.0 a.0 → OccursIn t a.0 y → r.text y (taken y) ≢ text
+-- a text may be taken at a site: it is not preserved, and no earlier id has it whose scope counts and that occurs at the
+-- site's scope or below
+pub record IsFreeText (t : Node) (r : Renaming) (preserved : List ℕ → Type 0) (counts : Counting) (taken : Id → ℕ) (a : Site) (text : List ℕ) : Type 0 where
+  pub not_preserved : ¬ preserved text
+  pub not_held : (b : Site) (y : Id) → IsEarlier t r a b y → counts b.0 a.0 → OccursIn t a.0 y → r.text y (taken y) ≢ text
 
-  -- a counter from which an id starts, or a later one: any, but behind those of the scope's earlier ids where the counter
-  -- goes on
-  abbrev pub IsFromStart : Site → ℕ → Type 0
-  IsFromStart a n = IsTrue (counts_on r) → (b : Site) (y : Id) → IsEarlier t r a b y → b.0 ≡ a.0 → taken y < n
+-- the counter from which an id starts, or a later one: any, but behind those of the scope's earlier ids where the counter
+-- goes on
+abbrev pub IsFromStart : Node → Renaming → (Id → ℕ) → Site → ℕ → Type 0
+IsFromStart t r taken a n = IsTrue (counts_on r) → (b : Site) (y : Id) → IsEarlier t r a b y → b.0 ≡ a.0 → taken y < n
 
-  -- the least counter from the start whose text is free
-  pub record IsLeast (a : Site) (x : Id) : Type 0 where
-    pub from_start : IsFromStart a (taken x)
-    pub free : IsFreeText a (r.text x (taken x))
-    pub least : (n : ℕ) → n < taken x → IsFromStart a n → ¬ IsFreeText a (r.text x n)
+-- the least counter from the start whose text is free
+pub record IsLeast (t : Node) (r : Renaming) (preserved : List ℕ → Type 0) (counts : Counting) (taken : Id → ℕ) (a : Site) (x : Id) : Type 0 where
+  pub from_start : IsFromStart t r taken a (taken x)
+  pub free : IsFreeText t r preserved counts taken a (r.text x (taken x))
+  pub least : (n : ℕ) → n < taken x → IsFromStart t r taken a n → ¬ IsFreeText t r preserved counts taken a (r.text x n)
 
 -- the map gives each id that gets a name the text of the counter that it took, and has no other ids
 pub record Named (t : Node) (r : Renaming) (preserved : List ℕ → Type 0) (counts : Counting) (new_texts : Id → Option (List ℕ)) : Type 0 where
@@ -71,4 +70,4 @@ pub record IsSpent (t : Node) (r : Renaming) (preserved : List ℕ → Type 0) (
   pub id : Id
   pub named : IsNamedAt t r site id
   pub earlier : (b : Site) (y : Id) → IsEarlier t r site b y → IsLeast t r preserved counts taken b y
-  pub none_free : (n : ℕ) → n < bound → IsFromStart t r preserved counts taken site n → ¬ IsFreeText t r preserved counts taken site (r.text id n)
+  pub none_free : (n : ℕ) → n < bound → IsFromStart t r taken site n → ¬ IsFreeText t r preserved counts taken site (r.text id n)

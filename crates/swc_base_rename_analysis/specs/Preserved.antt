@@ -24,5 +24,5 @@ pub record IsLoose (t : Node) (x : Id) : Type 0 where
   pub unbound : ¬ IsBound t x
 
 -- the texts of such ids, and of those that the renamer preserves
-abbrev pub IsPreserved : Node → (Id → Type 0) → List ℕ → Type 0
-IsPreserved t preserves text = (x : Id) × (x.0 ≡ text) × (IsLoose t x ⊎ preserves x)
+abbrev pub IsPreserved : Node → (Id → Bool) → List ℕ → Type 0
+IsPreserved t preserves text = (x : Id) × (x.0 ≡ text) × (IsLoose t x ⊎ IsTrue (preserves x))

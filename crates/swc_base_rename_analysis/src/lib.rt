@@ -7,4 +7,11 @@
 
 mod scopes;
 
+ghost use Rattle.swc_base_rename_analysis.specs.Laws.{NamedFixesTheMap};
+
 pub use scopes::ScopeKind;
+
+/// A tree and a renamer leave one map, where all names count, and where only those of a scope and of the scopes round it do.
+pub fn named_fixes_the_map()
+    ensures { NamedFixesTheMap }
+{}
