@@ -1,0 +1,4 @@
+pub mod Seen
+pub mod Tests
+pub mod ScopeRows
+pub mod PreservedRows
