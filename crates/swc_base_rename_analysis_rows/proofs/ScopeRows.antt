@@ -130,7 +130,7 @@ pub body_is_inside : scopes_round (draw getter) (1 ∷ 0 ∷ 1 ∷ 1 ∷ 0 ∷ 2
 body_is_inside = scopes_are getter (1 ∷ 0 ∷ 1 ∷ 1 ∷ 0 ∷ 2 ∷ 1 ∷ 0 ∷ 1 ∷ [])
 
 -- who declares
-no_arguments : (x : List ℕ) → bytes_eq x (codes "arguments") ≡ false → x ≡ codes "arguments" → ⊥
+pub no_arguments : (x : List ℕ) → bytes_eq x (codes "arguments") ≡ false → x ≡ codes "arguments" → ⊥
 no_arguments x n e = apart_by (λ l. bytes_eq l (codes "arguments")) (sym e) refl n
 
 pub variable_leaves_blocks : Declares (draw blocks) [] c_bound (id_of c1)
@@ -160,7 +160,7 @@ pub arguments_is_passed_over : (d : Drawing) (s p : Path) (c : List ℕ) → ¬ 
 arguments_is_passed_over d s p c h = h.analysed refl
 
 -- where an id occurs
-there : (d : Drawing) (s p : Path) (k : ScopeKind) → Contains (scopes_drawn d p) (s, k) → IsRound (draw d) s p
+pub there : (d : Drawing) (s p : Path) (k : ScopeKind) → Contains (scopes_drawn d p) (s, k) → IsRound (draw d) s p
 there d s p k h = (k, subst (λ l. Contains l (s, k)) (sym (scopes_are d p)) h)
 
 pub occurs_by_reference : OccursIn (draw blocks) inner (id_of a1)
