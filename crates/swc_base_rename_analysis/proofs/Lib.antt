@@ -1,2 +1,4 @@
 pub mod InOrder
 pub mod OneMap
+pub mod Level
+pub mod Spent

@@ -18,10 +18,10 @@ module _ (t : Node) (r : Renaming) (preserved : List ℕ → Type 0) (counts : C
   Agree one other a = (b : Site) (y : Id) → IsEarlier t r a b y → one y ≡ other y
 
   module _ (one other : Id → ℕ) (a : Site) (agree : Agree one other a) where
-    same_start : (n : ℕ) → IsFromStart t r one a n → IsFromStart t r other a n
+    pub same_start : (n : ℕ) → IsFromStart t r one a n → IsFromStart t r other a n
     same_start n h on b y e s = subst (λ k. k < n) (agree b y e) (h on b y e s)
 
-    same_free : (text : List ℕ) → IsFreeText t r preserved counts one a text → IsFreeText t r preserved counts other a text
+    pub same_free : (text : List ℕ) → IsFreeText t r preserved counts one a text → IsFreeText t r preserved counts other a text
     same_free text f = record { not_preserved = f.not_preserved; not_held = λ b y e c o same. f.not_held b y e c o (ap (r.text y) (agree b y e) ∙ same) }
 
     not_less : (x : Id) → IsLeast t r preserved counts one a x → IsLeast t r preserved counts other a x → one x < other x → ⊥
@@ -30,7 +30,7 @@ module _ (t : Node) (r : Renaming) (preserved : List ℕ → Type 0) (counts : C
   back : (one other : Id → ℕ) (a : Site) → Agree one other a → Agree other one a
   back one other a agree b y e = sym (agree b y e)
 
-  same_counter : (one other : Id → ℕ) (a : Site) (x : Id) → Agree one other a → IsLeast t r preserved counts one a x → IsLeast t r preserved counts other a x → one x ≡ other x
+  pub same_counter : (one other : Id → ℕ) (a : Site) (x : Id) → Agree one other a → IsLeast t r preserved counts one a x → IsLeast t r preserved counts other a x → one x ≡ other x
   same_counter one other a x agree h g = by (nat_cmp (one x) (other x)) (ranks (one x) (other x))
     where
       by : (o : Ordering) → MatchOrdering o (one x < other x) (one x ≡ other x) (other x < one x) → one x ≡ other x

@@ -7,11 +7,21 @@
 
 mod scopes;
 
-ghost use Rattle.swc_base_rename_analysis.specs.Laws.{NamedFixesTheMap};
+ghost use Rattle.swc_base_rename_analysis.specs.Laws.{EachTreesSitesAreInOrder, NamedFixesTheMap, NamedIsNotSpent};
 
 pub use scopes::ScopeKind;
 
 /// A tree and a renamer leave one map, where all names count, and where only those of a scope and of the scopes round it do.
 pub fn named_fixes_the_map()
     ensures { NamedFixesTheMap }
+{}
+
+/// Where a map is named by counters below a bound, they are not spent at it.
+pub fn named_is_not_spent()
+    ensures { NamedIsNotSpent }
+{}
+
+/// Sites are in a total order, in which no two that declare an id are level.
+pub fn sites_are_in_order()
+    ensures { EachTreesSitesAreInOrder }
 {}
