@@ -29,8 +29,10 @@ SOURCES = {
     'IsRound': 'c3152b98607e',
     'IsSpent': 'eb81bd4c1662',
     'Named': '6134b8a0371e',
+    'NotSpent': 'ba80abc83590',
     'OccursIn': '548db1287100',
     'RenameCost': 'e38368e4f7e7',
+    'SitesAreInOrder': '00d47712ea7c',
 }
 ARGUMENTS, EVAL = tuple(b'arguments'), tuple(b'eval')
 

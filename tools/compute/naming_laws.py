@@ -3,6 +3,7 @@ import itertools
 
 import js
 import naming
+import naming_walk
 import scoping
 from grammar_laws import is_same
 from lawbook import Bad, D, any_tree, clean_program, identity, is_module, is_name, is_writable, kids, law, normal_form, well_scoped_module
@@ -98,6 +99,32 @@ def plain_procedure_is_named(t):
                 faults = one.faults(taken, one.new_texts(taken))
                 if faults:
                     return Bad(repr(faults))
+    return True
+
+
+def all_scopes(scope):
+    yield scope
+    for inner in scope.inner:
+        yield from all_scopes(inner)
+
+
+@law(few_names)
+def walk_by_the_rules_is_named(t):
+    """a walk with open scopes, written from the rules, gives the map that is `Named`, flat and chained, with ids preserved
+    and without; and at each of its scopes the cost of renaming"""
+    analysis = Analysis(D.all, t)
+    if not analysis.declares:
+        return None
+    walk = naming_walk.Walk(analysis.program)
+    for scope in all_scopes(walk.root.inner[0]):
+        if len(scope.within()) != naming.RenameCost(analysis, scope.path):
+            return Bad('cost at', repr(scope.path))
+    for preserves in ((), some_ids(analysis)):
+        for r in renamings(preserves):
+            for counts in (all_count, outer_count):
+                one = Naming(analysis, r, None, counts)
+                if naming_walk.names(walk, r, one.preserved, counts is outer_count) != one.new_texts():
+                    return Bad('the definitions give', repr(one.new_texts()))
     return True
 
 
