@@ -138,18 +138,18 @@ is_rest_or_default (Node-F.Tree kind.RestPat ts) = true
 is_rest_or_default (Node-F.Tree kind.AssignPat ts) = true
 is_rest_or_default _ = false
 
-abbrev pub is_such_parameter : Node-F Node → Bool
-is_such_parameter (Node-F.Tree kind.Param ts) = given (slice_get ts param.PAT) false (λ c. is_rest_or_default (out-Node c))
-is_such_parameter _ = false
+abbrev pub parameter_is_rest_or_default : Node-F Node → Bool
+parameter_is_rest_or_default (Node-F.Tree kind.Param ts) = given (slice_get ts param.PAT) false (λ c. is_rest_or_default (out-Node c))
+parameter_is_rest_or_default _ = false
 
-abbrev pub has_such_parameter : Node-F Node → Bool
-has_such_parameter (Node-F.Tree kind.Function ts) = list_any (λ c. is_such_parameter (out-Node c)) (items_of (slice_get ts function.PARAMS))
-has_such_parameter _ = false
+abbrev pub function_has_rest_or_default : Node-F Node → Bool
+function_has_rest_or_default (Node-F.Tree kind.Function ts) = list_any (λ c. parameter_is_rest_or_default (out-Node c)) (items_of (slice_get ts function.PARAMS))
+function_has_rest_or_default _ = false
 
 -- a function declaration or a function expression of which a parameter is a rest or has a default
 abbrev pub uses_own_name : Node-F Node → Bool
-uses_own_name (Node-F.Tree kind.FnDecl ts) = given (slice_get ts fn_decl.FUNCTION) false (λ c. has_such_parameter (out-Node c))
-uses_own_name (Node-F.Tree kind.FnExpr ts) = given (slice_get ts fn_expr.FUNCTION) false (λ c. has_such_parameter (out-Node c))
+uses_own_name (Node-F.Tree kind.FnDecl ts) = given (slice_get ts fn_decl.FUNCTION) false (λ c. function_has_rest_or_default (out-Node c))
+uses_own_name (Node-F.Tree kind.FnExpr ts) = given (slice_get ts fn_expr.FUNCTION) false (λ c. function_has_rest_or_default (out-Node c))
 uses_own_name _ = false
 
 -- the path is that of the name of such a function, and the scope is the function's: it counts as using its own name

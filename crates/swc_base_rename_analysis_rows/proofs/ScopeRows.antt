@@ -1,6 +1,7 @@
 -- Scopes, who declares an id, and where it occurs: trees that meet a clause, and trees that do not.
+use Rattle.std.specs.List.{list_any, slice_index_or}
 use Rattle.std.specs.Str.{bytes_eq}
-use Rattle.std.proofs.Common.{◌≡◌, ℕ, Bool, true, false, ◌&&◌, ◌||◌, ◌⊎◌, inl, inr, zero, suc, length, List, [], ◌∷◌, Contains, codes, refl, sym, ◌∙◌, subst, arith}
+use Rattle.std.proofs.Common.{◌≡◌, ◌<◌, ℕ, Bool, true, false, ◌&&◌, ◌||◌, ◌⊎◌, inl, inr, zero, suc, length, List, [], ◌∷◌, Contains, codes, refl, sym, ap, ◌∙◌, subst, arith}
 use Rattle.std.specs.declared.cmp.Ordering.TheVariants.{Less, Equal, Greater}
 use Rattle.swc_tree_marks.specs.declared.ident.Ident.{Ident}
 use Rattle.swc_tree_node.specs.declared.kind.Kind.TheVariants as kind
@@ -13,10 +14,11 @@ use Rattle.swc_tree_scoping_rows.proofs.Drawn.{Drawing, Drawing.none, Drawing.fl
 use Rattle.swc_tree_scoping_rows.proofs.Sites.{apart_by, block, declaration, identifier, module_of, one, try_catch, two, use_of}
 use Rattle.swc_base_rename_analysis.specs.declared.scopes.ScopeKind.{ScopeKind}
 use Rattle.swc_base_rename_analysis.specs.declared.scopes.ScopeKind.TheVariants.{Block, Fn}
-use Rattle.swc_base_rename_analysis.specs.Analysis.{Declares, IsAtOrAbove, IsDeclaredWithin, IsRound, OccursIn, RenameCost, scopes_round}
+use Rattle.swc_base_rename_analysis.specs.Analysis.{EachOnce, Declares, IsAtOrAbove, IsDeclaredWithin, IsRound, OccursIn, RenameCost, scopes_round}
+use Rattle.swc_base_rename_analysis.specs.Named.{all_count, outer_count}
 use Rattle.swc_base_rename_analysis.specs.Order.{IsBefore, Site}
 use Rattle.swc_base_rename_analysis_rows.proofs.Seen.{cmp_is, declares, id_is, scopes_are, scopes_drawn}
-use Rattle.swc_base_rename_analysis_rows.proofs.Tests.{declared_passes, id_is_same, occurring_passes, one_so, both_so, own_name_is, path_is, same}
+use Rattle.swc_base_rename_analysis_rows.proofs.Tests.{found, declared_passes, id_is_same, occurring_passes, one_so, both_so, own_name_is, path_is, same}
 
 abbrev pub of : List ℕ → ℕ → Ident
 of x m = identifier x (m ∷ [])
@@ -263,3 +265,46 @@ outer_does_not_cost_nothing c = none c.ids c.counted ((c.just_these (id_of b1)).
     none : (ids : List Id) → length ids ≡ 0 → Contains ids (id_of b1) → ⊥
     none [] e (n, l, same) = absurd (omega arith)
     none (x ∷ xs) e h = absurd (cc)
+
+-- at or above, and whose names count where only the outer ones do
+pub outer_is_above_inner : outer_count (draw blocks) outer inner
+outer_is_above_inner = inr (there blocks outer inner Block (0, omega arith, refl))
+
+pub each_scope_counts_for_itself : outer_count (draw blocks) inner inner
+each_scope_counts_for_itself = inl refl
+
+pub inner_is_not_above_outer : ¬ outer_count (draw blocks) inner outer
+inner_is_not_above_outer (inl e) = let z : true ≡ false = ap (λ p. bytes_eq p inner) e in absurd (cc)
+inner_is_not_above_outer (inr (k, h)) = let z : false ≡ true = found (scopes_drawn blocks outer) inner (inner, k) (subst (λ l. Contains l (inner, k)) (scopes_are blocks outer) h) refl in absurd (cc)
+
+pub inner_names_count_outside_where_all_do : all_count inner outer
+inner_names_count_outside_where_all_do = tt
+
+-- `a` and `c` are declared within the program, and nothing within the inner block
+pub variable_is_declared_within_the_program : IsDeclaredWithin (draw blocks) [] (id_of c1)
+variable_is_declared_within_the_program = ([], c_bound, variable_leaves_blocks, inl refl)
+
+pub nothing_is_declared_within_the_inner_block : (x : Id) → ¬ IsDeclaredWithin (draw blocks) inner x
+nothing_is_declared_within_the_inner_block x (u, p, d, above) = by (one_so _ _ (no_other_declares u p x d))
+  where
+    none : (v : Path) → u ≡ v → bytes_eq v inner ≡ false → list_any (λ s. bytes_eq s.0 inner) (scopes_drawn blocks v) ≡ false → ⊥
+    none v e n m = at (subst (IsAtOrAbove (draw blocks) inner) e above)
+      where
+        at : IsAtOrAbove (draw blocks) inner v → ⊥
+        at (inl g) = let z : true ≡ false = sym (ap (λ p. bytes_eq p inner) (sym g)) ∙ n in absurd (cc)
+        at (inr (k, h)) = let z : false ≡ true = sym m ∙ found (scopes_drawn blocks v) inner (inner, k) (subst (λ l. Contains l (inner, k)) (scopes_are blocks v) h) refl in absurd (cc)
+
+    by : ((bytes_eq u [] && (same x (id_of a1) || same x (id_of c1))) ≡ true) ⊎ ((bytes_eq u outer && same x (id_of b1)) ≡ true) → ⊥
+    by (inl h) = none [] (path_is u [] (both_so _ _ h).0) refl refl
+    by (inr h) = none outer (path_is u outer (both_so _ _ h).0) refl refl
+
+-- lists without repeats
+pub two_ids_once : EachOnce (id_of a1 ∷ id_of b1 ∷ [])
+two_ids_once = ((λ (n, l, e). other n l e), ((λ (n, l, e). absurd (omega arith)), tt))
+  where
+    other : (n : ℕ) → n < 1 → slice_index_or (id_of b1 ∷ []) n (id_of a1) ≡ id_of a1 → ⊥
+    other zero l e = let z : true ≡ false = ap (λ x. same x (id_of b1)) e in absurd (cc)
+    other (suc n) l e = omega arith
+
+pub one_id_twice : ¬ EachOnce (id_of a1 ∷ id_of a1 ∷ [])
+one_id_twice h = h.0 (0, omega arith, refl)

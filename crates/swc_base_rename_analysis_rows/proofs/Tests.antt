@@ -22,7 +22,7 @@ use Rattle.swc_tree_scoping.specs.BoundNames.{Id}
 use Rattle.swc_tree_scoping.specs.WellScoped.{InExportList}
 use Rattle.swc_tree_scoping_rows.proofs.Drawn.{Drawing, Drawing.none, Drawing.flag, Drawing.word, Drawing.span, Drawing.many, Drawing.name, Drawing.tree, Drawings, Drawings.end, Drawings.next, as_drawn, draw, draws, drawn_or, get, get_is, inner, layer, out_draw, place_drawn, stands_drawn, stands_is}
 use Rattle.swc_tree_scoping_rows.proofs.Names.{Every, Named, names_in}
-use Rattle.swc_base_rename_analysis.specs.Analysis.{Around, Declares, IsOwnName, IsRound, OccursIn, first_taking, has_such_parameter, is_rest_or_default, is_such_parameter, uses_own_name}
+use Rattle.swc_base_rename_analysis.specs.Analysis.{Around, Declares, IsOwnName, IsRound, OccursIn, first_taking, function_has_rest_or_default, is_rest_or_default, parameter_is_rest_or_default, uses_own_name}
 use Rattle.swc_base_rename_analysis.specs.Ids.{id_at}
 use Rattle.swc_base_rename_analysis_rows.proofs.Seen.{each_id, fits_child, scopes_are, scopes_drawn, some_is, taken_drawn}
 
@@ -98,11 +98,11 @@ abbrev parameter_drawn : Drawing → Bool
 parameter_drawn (tree kind.Param ds) = drawn_or (get ds param.PAT) false (λ c. is_rest_or_default (layer c))
 parameter_drawn _ = false
 
-parameter_of_kind : (k : Kind) (ds : Drawings) → is_such_parameter (Node-F.Tree k (draws ds)) ≡ parameter_drawn (tree k ds)
+parameter_of_kind : (k : Kind) (ds : Drawings) → parameter_is_rest_or_default (Node-F.Tree k (draws ds)) ≡ parameter_drawn (tree k ds)
 parameter_of_kind kind.Param ds = ap (λ o. given o false (λ c. is_rest_or_default (out-Node c))) (get_is ds param.PAT) ∙ fits_child false (λ c. is_rest_or_default (out-Node c)) (λ c. is_rest_or_default (layer c)) (get ds param.PAT) (λ c. ap is_rest_or_default (out_draw c))
 parameter_of_kind _ ds = refl
 
-parameter_is : (d : Drawing) → is_such_parameter (layer d) ≡ parameter_drawn d
+parameter_is : (d : Drawing) → parameter_is_rest_or_default (layer d) ≡ parameter_drawn d
 parameter_is none = refl
 parameter_is (flag x) = refl
 parameter_is (word x) = refl
@@ -115,16 +115,16 @@ abbrev function_drawn : Drawing → Bool
 function_drawn (tree kind.Function ds) = drawn_or (get ds function.PARAMS) false (λ c. any_drawn parameter_drawn (items_drawn c))
 function_drawn _ = false
 
-any_of : (o : Option Drawing) → list_any (λ c. is_such_parameter (out-Node c)) (items_of (option_map draw o)) ≡ drawn_or o false (λ c. any_drawn parameter_drawn (items_drawn c))
+any_of : (o : Option Drawing) → list_any (λ c. parameter_is_rest_or_default (out-Node c)) (items_of (option_map draw o)) ≡ drawn_or o false (λ c. any_drawn parameter_drawn (items_drawn c))
 any_of None = refl
-any_of (Some d) = ap (λ y. list_any (λ c. is_such_parameter (out-Node c)) (items_in y)) (out_draw d) ∙ ap (list_any (λ c. is_such_parameter (out-Node c))) (items_is d)
-    ∙ any_is (λ c. is_such_parameter (out-Node c)) parameter_drawn (λ c. ap is_such_parameter (out_draw c) ∙ parameter_is c) (items_drawn d)
+any_of (Some d) = ap (λ y. list_any (λ c. parameter_is_rest_or_default (out-Node c)) (items_in y)) (out_draw d) ∙ ap (list_any (λ c. parameter_is_rest_or_default (out-Node c))) (items_is d)
+    ∙ any_is (λ c. parameter_is_rest_or_default (out-Node c)) parameter_drawn (λ c. ap parameter_is_rest_or_default (out_draw c) ∙ parameter_is c) (items_drawn d)
 
-function_of_kind : (k : Kind) (ds : Drawings) → has_such_parameter (Node-F.Tree k (draws ds)) ≡ function_drawn (tree k ds)
-function_of_kind kind.Function ds = ap (λ o. list_any (λ c. is_such_parameter (out-Node c)) (items_of o)) (get_is ds function.PARAMS) ∙ any_of (get ds function.PARAMS)
+function_of_kind : (k : Kind) (ds : Drawings) → function_has_rest_or_default (Node-F.Tree k (draws ds)) ≡ function_drawn (tree k ds)
+function_of_kind kind.Function ds = ap (λ o. list_any (λ c. parameter_is_rest_or_default (out-Node c)) (items_of o)) (get_is ds function.PARAMS) ∙ any_of (get ds function.PARAMS)
 function_of_kind _ ds = refl
 
-function_is : (d : Drawing) → has_such_parameter (layer d) ≡ function_drawn d
+function_is : (d : Drawing) → function_has_rest_or_default (layer d) ≡ function_drawn d
 function_is none = refl
 function_is (flag x) = refl
 function_is (word x) = refl
@@ -138,12 +138,12 @@ own_name_drawn (tree kind.FnDecl ds) = drawn_or (get ds fn_decl.FUNCTION) false 
 own_name_drawn (tree kind.FnExpr ds) = drawn_or (get ds fn_expr.FUNCTION) false function_drawn
 own_name_drawn _ = false
 
-function_below : (o : Option Drawing) → given (option_map draw o) false (λ c. has_such_parameter (out-Node c)) ≡ drawn_or o false function_drawn
-function_below o = fits_child false (λ c. has_such_parameter (out-Node c)) function_drawn o (λ c. ap has_such_parameter (out_draw c) ∙ function_is c)
+function_below : (o : Option Drawing) → given (option_map draw o) false (λ c. function_has_rest_or_default (out-Node c)) ≡ drawn_or o false function_drawn
+function_below o = fits_child false (λ c. function_has_rest_or_default (out-Node c)) function_drawn o (λ c. ap function_has_rest_or_default (out_draw c) ∙ function_is c)
 
 own_name_of_kind : (k : Kind) (ds : Drawings) → uses_own_name (Node-F.Tree k (draws ds)) ≡ own_name_drawn (tree k ds)
-own_name_of_kind kind.FnDecl ds = ap (λ o. given o false (λ c. has_such_parameter (out-Node c))) (get_is ds fn_decl.FUNCTION) ∙ function_below (get ds fn_decl.FUNCTION)
-own_name_of_kind kind.FnExpr ds = ap (λ o. given o false (λ c. has_such_parameter (out-Node c))) (get_is ds fn_expr.FUNCTION) ∙ function_below (get ds fn_expr.FUNCTION)
+own_name_of_kind kind.FnDecl ds = ap (λ o. given o false (λ c. function_has_rest_or_default (out-Node c))) (get_is ds fn_decl.FUNCTION) ∙ function_below (get ds fn_decl.FUNCTION)
+own_name_of_kind kind.FnExpr ds = ap (λ o. given o false (λ c. function_has_rest_or_default (out-Node c))) (get_is ds fn_expr.FUNCTION) ∙ function_below (get ds fn_expr.FUNCTION)
 own_name_of_kind _ ds = refl
 
 own_name_layer : (d : Drawing) → uses_own_name (layer d) ≡ own_name_drawn d
@@ -187,7 +187,7 @@ own_seen d s p (q, w, f, e, g, there, uses) =
     at None h = absurd (cc)
     at (Some c) h = sym (own_name_is c.1) ∙ ap (λ z. uses_own_name (out-Node z.1)) (some_is h) ∙ uses
 
-found : (xs : List Around) (s : Path) (y : Around) → Contains xs y → y.0 ≡ s → list_any (λ u. bytes_eq u.0 s) xs ≡ true
+pub found : (xs : List Around) (s : Path) (y : Around) → Contains xs y → y.0 ≡ s → list_any (λ u. bytes_eq u.0 s) xs ≡ true
 found [] s y (n, l, e) h = absurd (omega arith)
 found (x ∷ xs) s y (zero, l, e) h = ap (λ b. b || list_any (λ u. bytes_eq u.0 s) xs) ((bytes_decides x.0 s).1 (ap (λ z. z.0) e ∙ h))
 found (x ∷ xs) s y (suc n, l, e) h = or_second _ _ (found xs s y (n, (omega arith), e) h)
