@@ -2,3 +2,4 @@ pub mod InOrder
 pub mod OneMap
 pub mod Level
 pub mod Spent
+pub mod Cost

@@ -3,8 +3,9 @@ use Rattle.std.specs.Prelude.{◌≡◌, ◌<◌, ℕ, Option, List}
 use Rattle.std.specs.declared.cmp.Ordering.TheVariants.{Equal}
 use Rattle.std.specs.Cmp.{IsTotalOrder}
 use Rattle.swc_tree_node.specs.declared.node.Node.{Node}
+use Rattle.swc_tree_scoping.specs.Places.{Path}
 use Rattle.swc_tree_scoping.specs.BoundNames.{Id}
-use Rattle.swc_base_rename_analysis.specs.Analysis.{Declares}
+use Rattle.swc_base_rename_analysis.specs.Analysis.{Declares, RenameCost}
 use Rattle.swc_base_rename_analysis.specs.Named.{Counting, IsNamedAt, IsSpent, Named, Renaming, all_count, outer_count}
 use Rattle.swc_base_rename_analysis.specs.Order.{Site, site_cmp}
 use Rattle.swc_base_rename_analysis.specs.Preserved.{IsPreserved}
@@ -31,3 +32,7 @@ pub record SitesAreInOrder (t : Node) : Type 0 where
 
 abbrev pub EachTreesSitesAreInOrder : Type 0
 EachTreesSitesAreInOrder = (t : Node) → SitesAreInOrder t
+
+-- a scope costs one number
+abbrev pub CostIsOne : Type 0
+CostIsOne = (t : Node) (s : Path) (one other : ℕ) → RenameCost t s one → RenameCost t s other → one ≡ other

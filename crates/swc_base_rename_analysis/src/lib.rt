@@ -7,7 +7,7 @@
 
 mod scopes;
 
-ghost use Rattle.swc_base_rename_analysis.specs.Laws.{EachTreesSitesAreInOrder, NamedFixesTheMap, NamedIsNotSpent};
+ghost use Rattle.swc_base_rename_analysis.specs.Laws.{CostIsOne, EachTreesSitesAreInOrder, NamedFixesTheMap, NamedIsNotSpent};
 
 pub use scopes::ScopeKind;
 
@@ -24,4 +24,9 @@ pub fn named_is_not_spent()
 /// Sites are in a total order, in which no two that declare an id are level.
 pub fn sites_are_in_order()
     ensures { EachTreesSitesAreInOrder }
+{}
+
+/// It costs one number to rename a scope.
+pub fn cost_is_one()
+    ensures { CostIsOne }
 {}
