@@ -3,3 +3,4 @@ pub mod OneMap
 pub mod Level
 pub mod Spent
 pub mod Cost
+pub mod Kept

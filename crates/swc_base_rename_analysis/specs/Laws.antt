@@ -1,11 +1,15 @@
 -- Laws of the definitions.
-use Rattle.std.specs.Prelude.{◌≡◌, ◌<◌, ℕ, Option, List}
+use Rattle.std.specs.Prelude.{◌≡◌, ◌<◌, ℕ, Bool, true, false, Option, Some, List, Contains}
 use Rattle.std.specs.declared.cmp.Ordering.TheVariants.{Equal}
 use Rattle.std.specs.Cmp.{IsTotalOrder}
-use Rattle.swc_tree_node.specs.declared.node.Node.{Node}
-use Rattle.swc_tree_scoping.specs.Places.{Path}
+use Rattle.swc_tree_node.specs.declared.kind.Kind.{Kind}
+use Rattle.swc_tree_node.specs.declared.kind.Kind.TheVariants as kind
+use Rattle.swc_tree_node.specs.declared.node.Node.{Node, Tree}
+use Rattle.swc_tree_scoping.specs.declared.places.Place.{Place}
+use Rattle.swc_tree_scoping.specs.Places.{Path, place_at, program_place}
+use Rattle.swc_tree_scoping.specs.Scopes.{rounds}
 use Rattle.swc_tree_scoping.specs.BoundNames.{Id}
-use Rattle.swc_base_rename_analysis.specs.Analysis.{Declares, RenameCost}
+use Rattle.swc_base_rename_analysis.specs.Analysis.{Declares, IsRound, RenameCost}
 use Rattle.swc_base_rename_analysis.specs.Named.{Counting, IsNamedAt, IsSpent, Named, Renaming, all_count, outer_count}
 use Rattle.swc_base_rename_analysis.specs.Order.{Site, site_cmp}
 use Rattle.swc_base_rename_analysis.specs.Preserved.{IsPreserved}
@@ -36,3 +40,15 @@ EachTreesSitesAreInOrder = (t : Node) → SitesAreInOrder t
 -- a scope costs one number
 abbrev pub CostIsOne : Type 0
 CostIsOne = (t : Node) (s : Path) (one other : ℕ) → RenameCost t s one → RenameCost t s other → one ≡ other
+
+-- scopes of the language that are none of the analysis: the cases of a `switch`, and the block of a function that is a
+-- branch of an `if`
+abbrev pub is_left_out : Kind → Bool
+is_left_out kind.SwitchStmt = true
+is_left_out kind.FnDecl = true
+is_left_out _ = false
+
+-- a scope of the language that stands round a path is one of the analysis there
+abbrev pub KeepsScopes : Type 0
+KeepsScopes = (t : Node) (s p : Path) (whole : Bool) (w : Place) (k : Kind) (ts : List Node)
+    → Contains (rounds program_place t p) (s, whole) → place_at program_place t s ≡ Some (w, Tree k ts) → is_left_out k ≡ false → IsRound t s p

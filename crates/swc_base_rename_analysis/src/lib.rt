@@ -7,7 +7,7 @@
 
 mod scopes;
 
-ghost use Rattle.swc_base_rename_analysis.specs.Laws.{CostIsOne, EachTreesSitesAreInOrder, NamedFixesTheMap, NamedIsNotSpent};
+ghost use Rattle.swc_base_rename_analysis.specs.Laws.{CostIsOne, EachTreesSitesAreInOrder, KeepsScopes, NamedFixesTheMap, NamedIsNotSpent};
 
 pub use scopes::ScopeKind;
 
@@ -29,4 +29,10 @@ pub fn sites_are_in_order()
 /// It costs one number to rename a scope.
 pub fn cost_is_one()
     ensures { CostIsOne }
+{}
+
+/// A scope of the language that stands round a path is one of the analysis there, but for the cases of a `switch` and the
+/// block of a function that is a branch of an `if`.
+pub fn scopes_are_kept()
+    ensures { KeepsScopes }
 {}
