@@ -23,10 +23,10 @@ use Rattle.swc_base_rename_analysis.specs.declared.scopes.ScopeKind.TheVariants.
 use Rattle.swc_base_rename_analysis.specs.Analysis.{Around, body_kind, is_default_export, is_for_body, is_outside, key_field, kind_of, opened_here, opened_round, own_kind, scopes_below}
 use Rattle.swc_base_rename_analysis.specs.Laws.{KeepsScopes, is_left_out}
 
-some_same : {A : Type 0} {a b : A} → Some a ≡ Some b → a ≡ b
+pub some_same : {A : Type 0} {a b : A} → Some a ≡ Some b → a ≡ b
 some_same h = cc
 
-impossible : {A : Type 0} → false ≡ true → A
+pub impossible : {A : Type 0} → false ≡ true → A
 impossible h = absurd (cc)
 
 -- which scope a node opens
@@ -120,16 +120,16 @@ seen_here (Some z) view.Parameters s whole (suc n, l, e) = absurd (omega arith)
 seen_here (Some z) view.Whole s whole (zero, l, e) = (z, refl, refl, ap (λ r. r.0) (sym e))
 seen_here (Some z) view.Whole s whole (suc n, l, e) = absurd (omega arith)
 
-none_there : {A X : Type 0} {x : X} → Contains [] x → A
+pub none_there : {A X : Type 0} {x : X} → Contains [] x → A
 none_there (n, l, e) = absurd (omega arith)
 
 -- lists under a map
-from_map : {X Y : Type 0} (f : X → Y) (xs : List X) (y : Y) → Contains (map f xs) y → (x : X) × Contains xs x × (f x ≡ y)
+pub from_map : {X Y : Type 0} (f : X → Y) (xs : List X) (y : Y) → Contains (map f xs) y → (x : X) × Contains xs x × (f x ≡ y)
 from_map f [] y (n, l, e) = absurd (omega arith)
 from_map f (x ∷ xs) y (zero, l, e) = (x, (0, (omega arith), refl), e)
 from_map f (x ∷ xs) y (suc n, l, e) = let (z, (m, k, s), g) = from_map f xs y (n, (omega arith), e) in (z, (suc m, (omega arith), s), g)
 
-to_map : {X Y : Type 0} (f : X → Y) (xs : List X) (x : X) → Contains xs x → Contains (map f xs) (f x)
+pub to_map : {X Y : Type 0} (f : X → Y) (xs : List X) (x : X) → Contains xs x → Contains (map f xs) (f x)
 to_map f [] x (n, l, e) = absurd (omega arith)
 to_map f (y ∷ ys) x (zero, l, e) = (0, (omega arith), ap f e)
 to_map f (y ∷ ys) x (suc n, l, e) = let (m, k, s) = to_map f ys x (n, (omega arith), e) in (suc m, (omega arith), s)
@@ -141,10 +141,10 @@ Stays w t s = (v : Place) × (k : Kind) × (ts : List Node) × (place_at w t s �
 abbrev Kept : Bool → Place → Node → Path → Path → Type 0
 Kept f w t s p = (a : ScopeKind) × Contains (scopes_below f w t p) (s, a)
 
-abbrev under : ℕ → Round → Round
+abbrev pub under : ℕ → Round → Round
 under i s = (i ∷ s.0, s.1)
 
-abbrev lower : ℕ → Around → Around
+abbrev pub lower : ℕ → Around → Around
 lower i s = (i ∷ s.0, s.1)
 
 opened_there : (f : Bool) (w : Place) (t : Node) (i : ℕ) (v : Place) (k : Kind) (ts : List Node) (s : Scope) → t ≡ Tree k ts → opened w t ≡ Some s → is_inside (view_in (out-Node t) i) ≡ true → is_left_out k ≡ false

@@ -4,3 +4,4 @@ pub mod Level
 pub mod Spent
 pub mod Cost
 pub mod Kept
+pub mod Added

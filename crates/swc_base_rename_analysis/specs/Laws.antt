@@ -1,15 +1,15 @@
 -- Laws of the definitions.
-use Rattle.std.specs.Prelude.{◌≡◌, ◌<◌, ℕ, Bool, true, false, Option, Some, List, Contains}
+use Rattle.std.specs.Prelude.{◌≡◌, ◌<◌, ℕ, Bool, true, false, ◌⊎◌, Option, Some, List, [], ◌∷◌, Contains}
 use Rattle.std.specs.declared.cmp.Ordering.TheVariants.{Equal}
 use Rattle.std.specs.Cmp.{IsTotalOrder}
 use Rattle.swc_tree_node.specs.declared.kind.Kind.{Kind}
 use Rattle.swc_tree_node.specs.declared.kind.Kind.TheVariants as kind
-use Rattle.swc_tree_node.specs.declared.node.Node.{Node, Tree}
+use Rattle.swc_tree_node.specs.declared.node.Node.{Node, Tree, out-Node}
 use Rattle.swc_tree_scoping.specs.declared.places.Place.{Place}
-use Rattle.swc_tree_scoping.specs.Places.{Path, place_at, program_place}
+use Rattle.swc_tree_scoping.specs.Places.{Path, child, given, place_at, program_place}
 use Rattle.swc_tree_scoping.specs.Scopes.{rounds}
 use Rattle.swc_tree_scoping.specs.BoundNames.{Id}
-use Rattle.swc_base_rename_analysis.specs.Analysis.{Declares, IsRound, RenameCost}
+use Rattle.swc_base_rename_analysis.specs.Analysis.{Declares, IsRound, RenameCost, is_for_body}
 use Rattle.swc_base_rename_analysis.specs.Named.{Counting, IsNamedAt, IsSpent, Named, Renaming, all_count, outer_count}
 use Rattle.swc_base_rename_analysis.specs.Order.{Site, site_cmp}
 use Rattle.swc_base_rename_analysis.specs.Preserved.{IsPreserved}
@@ -52,3 +52,14 @@ is_left_out _ = false
 abbrev pub KeepsScopes : Type 0
 KeepsScopes = (t : Node) (s p : Path) (whole : Bool) (w : Place) (k : Kind) (ts : List Node)
     → Contains (rounds program_place t p) (s, whole) → place_at program_place t s ≡ Some (w, Tree k ts) → is_left_out k ≡ false → IsRound t s p
+
+-- the node at a path is the body of a `for` statement
+abbrev pub is_body_at : Bool → Node → Path → Bool
+is_body_at for_body t [] = for_body
+is_body_at for_body t (i ∷ s) = given (child t i) false (λ c. is_body_at (is_for_body (out-Node t) i) c s)
+
+-- a scope of the analysis that stands round a path is one of the language there, or that of a class expression, or the
+-- body of a `for` statement
+abbrev pub AddsFew : Type 0
+AddsFew = (t : Node) (s p : Path) (w : Place) (k : Kind) (ts : List Node) → IsRound t s p → place_at program_place t s ≡ Some (w, Tree k ts)
+    → ((whole : Bool) × Contains (rounds program_place t p) (s, whole)) ⊎ ((k ≡ kind.ClassExpr) ⊎ (is_body_at false t s ≡ true))

@@ -7,7 +7,7 @@
 
 mod scopes;
 
-ghost use Rattle.swc_base_rename_analysis.specs.Laws.{CostIsOne, EachTreesSitesAreInOrder, KeepsScopes, NamedFixesTheMap, NamedIsNotSpent};
+ghost use Rattle.swc_base_rename_analysis.specs.Laws.{AddsFew, CostIsOne, EachTreesSitesAreInOrder, KeepsScopes, NamedFixesTheMap, NamedIsNotSpent};
 
 pub use scopes::ScopeKind;
 
@@ -35,4 +35,10 @@ pub fn cost_is_one()
 /// block of a function that is a branch of an `if`.
 pub fn scopes_are_kept()
     ensures { KeepsScopes }
+{}
+
+/// A scope of the analysis that stands round a path is one of the language there, or that of a class expression, or the
+/// body of a `for` statement.
+pub fn few_scopes_are_added()
+    ensures { AddsFew }
 {}
