@@ -2,7 +2,8 @@
 //!
 //! They are definitions, in `specs/`: `Analysis` says which scopes a renamer tells apart, which of them declares an id
 //! and where an id occurs, `Order` in which order ids get their names, `Preserved` which texts no new name may be,
-//! `Named` which new names they get.
+//! `Named` which new names they get. `Laws` is what is proved of them: each law is the contract of a function that does
+//! nothing.
 #![tactic(auto)]
 
 mod scopes;
