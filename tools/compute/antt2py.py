@@ -30,8 +30,8 @@ from antt_values import CALLED, STANDARD, STANDARD_TYPES, STANDARD_VALUES, Rec, 
 from antt_writer import Writer, flat_name, mangled
 
 __all__ = ['CRATES', 'Rec', 'Translation', 'load']
-CRATES = ['swc_tree_node', 'swc_tree_grammar', 'swc_tree_scoping', 'swc_base_rename_substitution', 'swc_tree_ext',
-          'swc_tree_marks', 'swc_base_resolver_program', 'swc_base_fixer_unparen']
+CRATES = ['swc_tree_node', 'swc_tree_grammar', 'swc_tree_scoping', 'swc_base_rename_substitution',
+          'swc_base_rename_analysis', 'swc_tree_ext', 'swc_tree_marks', 'swc_base_resolver_program', 'swc_base_fixer_unparen']
 NODE = 'Rattle.swc_tree_node.specs.declared.node.Node'
 
 

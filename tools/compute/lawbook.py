@@ -5,12 +5,13 @@ what went wrong. `@law(source)` says which random trees it is tried on.
 """
 import antt2py
 import js
+import naming
 import scoping
 import random_trees
 import trees
 from trees import at, paths
 
-CRATES = ['swc_tree_node', 'swc_tree_grammar', 'swc_tree_scoping', 'swc_base_rename_substitution', 'swc_tree_ext', 'swc_tree_marks']
+CRATES = ['swc_tree_node', 'swc_tree_grammar', 'swc_tree_scoping', 'swc_base_rename_substitution', 'swc_base_rename_analysis', 'swc_tree_ext', 'swc_tree_marks']
 
 
 class Definitions:
@@ -27,7 +28,7 @@ def load(checkout):
     D.node, D.grammar, D.scoping = D.all.swc_tree_node, D.all.swc_tree_grammar, D.all.swc_tree_scoping
     D.substitution, D.ext, D.marks = D.all.swc_base_rename_substitution, D.all.swc_tree_ext, D.all.swc_tree_marks
     random_trees.setup(D.all)
-    return scoping.check_sources(checkout)
+    return scoping.check_sources(checkout) + naming.check_sources(checkout)
 
 
 def definition(*paths):

@@ -76,29 +76,33 @@ STOPPING = {'Lexical', 'Import', 'Parameter', 'CatchParameter'}
 IN_BLOCKS = {'BlockFunction', 'SloppyFunction'}
 
 
-def digests(checkout):
-    """of each relation of the crate a digest of its text, without comments and white space"""
+def digests(checkout, crate, functions):
+    """of each relation of a crate, and of some functions, a digest of its text, without comments and white space"""
     found = {}
-    root = os.path.join(checkout, 'crates', CRATE, 'specs')
+    root = os.path.join(checkout, 'crates', crate, 'specs')
     for path in sorted(glob.glob(os.path.join(root, '*.antt'))):
-        module = Module(CRATE, os.path.basename(path)[:-5], path, path)
+        module = Module(crate, os.path.basename(path)[:-5], path, path)
         module.read()
         with open(path, encoding='utf-8') as file:
             items = [' '.join(text.split()) for _, text in blocks(file.read())]
         relations = [name for name, why in module.skipped.items() if why == 'a relation']
-        for name in relations + [name for name in FUNCTIONS if name in module.definitions]:
+        for name in relations + [name for name in functions if name in module.definitions]:
             text = '\n'.join(item for item in items if re.match(r'((pub|abbrev|record) )*%s\b' % re.escape(name), item))
             found[name] = hashlib.sha256(text.encode()).hexdigest()[:12]
     return found
 
 
-def check_sources(checkout):
-    """warns of each relation that is another than those that this was made from; the names of those"""
-    found = digests(checkout)
-    changed = [name for name in sorted(set(found) | set(SOURCES)) if found.get(name, '-') not in SOURCES.get(name, '').split()]
+def check_relations(checkout, crate, sources, functions, made):
+    """warns of each relation of a crate that is another than those that a file was made from; the names of those"""
+    found = digests(checkout, crate, functions)
+    changed = [name for name in sorted(set(found) | set(sources)) if found.get(name, '-') not in sources.get(name, '').split()]
     for name in changed:
-        print('warning: the relation %s of %s is not one that scoping.py was made from: %s' % (name, CRATE, found.get(name, 'there is none')), file=sys.stderr)
+        print('warning: the relation %s of %s is not one that %s was made from: %s' % (name, crate, made, found.get(name, 'there is none')), file=sys.stderr)
     return changed
+
+
+def check_sources(checkout):
+    return check_relations(checkout, CRATE, SOURCES, FUNCTIONS, 'scoping.py')
 
 
 def defined(defs, name):

@@ -86,7 +86,7 @@ get end i = None
 get (next d ds) zero = Some d
 get (next d ds) (suc i) = get ds i
 
-get_is : (ds : Drawings) (i : ℕ) → slice_get (draws ds) i ≡ option_map draw (get ds i)
+pub get_is : (ds : Drawings) (i : ℕ) → slice_get (draws ds) i ≡ option_map draw (get ds i)
 get_is end i = refl
 get_is (next d ds) zero = refl
 get_is (next d ds) (suc i) = get_is ds i
@@ -105,11 +105,11 @@ inner_is (many ds) = refl
 inner_is (name k i) = refl
 inner_is (tree k ds) = refl
 
-child_is : (d : Drawing) (i : ℕ) → child (draw d) i ≡ option_map draw (get (inner d) i)
+pub child_is : (d : Drawing) (i : ℕ) → child (draw d) i ≡ option_map draw (get (inner d) i)
 child_is d i = ap (λ y. slice_get (children_in y) i) (out_draw d) ∙ ap (λ l. slice_get l i) (inner_is d) ∙ get_is (inner d) i
 
 -- what fields say of one another
-abbrev there : Option Drawing → Bool
+abbrev pub there : Option Drawing → Bool
 there None = false
 there (Some d) = not (absent_in (layer d))
 
@@ -117,7 +117,7 @@ there_is : (o : Option Drawing) → is_there (option_map draw o) ≡ there o
 there_is None = refl
 there_is (Some d) = ap (λ y. not (absent_in y)) (out_draw d)
 
-there_at : (ds : Drawings) (i : ℕ) → is_there (slice_get (draws ds) i) ≡ there (get ds i)
+pub there_at : (ds : Drawings) (i : ℕ) → is_there (slice_get (draws ds) i) ≡ there (get ds i)
 there_at ds i = ap is_there (get_is ds i) ∙ there_is (get ds i)
 
 abbrev flagged : Option Drawing → Bool
@@ -342,7 +342,7 @@ place_drawn_is w (word x) i = refl
 place_drawn_is w span i = refl
 place_drawn_is w (name k j) i = refl
 
-place_is : (w : Place) (d : Drawing) (i : ℕ) → place_below w (draw d) i ≡ place_drawn w d i
+pub place_is : (w : Place) (d : Drawing) (i : ℕ) → place_below w (draw d) i ≡ place_drawn w d i
 place_is w d i = ap (λ y. place_in w y i) (out_draw d) ∙ place_drawn_is w d i
 
 abbrev pub opened_drawn : Place → Drawing → Option Scope

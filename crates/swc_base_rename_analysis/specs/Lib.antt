@@ -1,0 +1,6 @@
+pub mod Ids
+pub mod Analysis
+pub mod Order
+pub mod Preserved
+pub mod Named
+pub mod Laws

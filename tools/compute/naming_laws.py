@@ -1,0 +1,277 @@
+"""Laws of naming: which ids get new names, and which. They go by `naming.py`, which is written by hand."""
+import itertools
+
+import js
+import naming
+import naming_walk
+import scoping
+from grammar_laws import is_same
+from lawbook import Bad, D, any_tree, clean_program, identity, is_module, is_name, is_writable, kids, law, normal_form, well_scoped_module
+from naming import Analysis, Naming, Renaming, all_count, hygiene, numbered, outer_count
+from naming_rows import with_hygiene
+
+
+def of_few_texts(x, n):
+    """different for each counter of an id, and often the text of another id"""
+    return js.codes(('a', 'b', 'c', 'v0', 'v1', 'a1')[(n + len(x[1])) % 6] + ('' if n < 6 else str(n)))
+
+
+def renamings(preserves=()):
+    """renamers of each setting of the flags"""
+    yield hygiene(preserves)
+    for mangles, resets in itertools.product((False, True), repeat=2):
+        yield numbered(mangles, resets, preserves)
+        yield Renaming(of_few_texts, mangles, resets, preserves)
+
+
+def some_ids(t):
+    """every third id of the tree, to be preserved"""
+    return sorted({x for _, _, x in t.ids})[::3]
+
+
+def few_names(random, size):
+    """well-scoped modules, programs of few names with other contexts than a resolver's, and any tree"""
+    choice = random.below(4)
+    if choice == 0:
+        return random.well_scoped(size, True)
+    if choice == 1:
+        return random.wild(size, random.chance(0.6))
+    t = random.names(size, random.chance(0.5))
+    return random.recoloured(scoping.resolved(D.all, t)) if choice == 2 else random.disturbed(random.recoloured(scoping.resolved(D.all, t)))
+
+
+@law(few_names)
+def walk_gives_analysis_scopes(t):
+    """the walk of naming.py agrees with `scopes_round` and `id_at` of the definitions"""
+    analysis = Analysis(D.all, t)
+    for p, standing, x in analysis.ids:
+        if D.all.swc_base_rename_analysis.Analysis.scopes_round(t, p) != analysis.around[p]:
+            return Bad('scopes_round at', repr(p))
+        if D.all.swc_base_rename_analysis.Ids.id_at(t, p) != ((standing, x),):
+            return Bad('id_at at', repr(p))
+    return True if analysis.ids else None
+
+
+@law(few_names)
+def binding_has_one_analysis_scope(t):
+    """each binding is declared by a scope of the analysis, and only a class, a function or a block opens one that the
+    language does not have"""
+    analysis = Analysis(D.all, t)
+    bindings = [(p, r, x) for p, r, x in analysis.ids if analysis.program.S.is_binding(r) and naming.IsAnalysed(x)]
+    for p, _, x in bindings:
+        if not any(q == p for _, q, _ in analysis.declares):
+            return Bad('no scope declares what stands at', repr(p))
+    return True if bindings else None
+
+
+@law(few_names)
+def order_tells_sites_apart(t):
+    """of two sites of a tree one comes before the other, and a scope's sites are all before or all behind another's, but
+    for those within"""
+    analysis = Analysis(D.all, t)
+    sites = sorted({(s, p) for s, p, _ in analysis.declares}, key=analysis.key)
+    if len(sites) < 2:
+        return None
+    if len({analysis.key(a) for a in sites}) != len(sites):
+        return Bad('two sites are in no order')
+    scopes = [s for s, _ in sites]
+    for s in set(scopes):
+        own = [i for i, u in enumerate(scopes) if u == s]
+        if own != list(range(own[0], own[-1] + 1)):
+            return Bad('the ids of a scope are not side by side:', repr(s))
+        within = [i for i, u in enumerate(scopes) if naming.IsAtOrAbove(analysis, s, u)]
+        if within != list(range(within[0], within[-1] + 1)) or within[0] != own[0]:
+            return Bad('the ids within a scope are not behind its own:', repr(s))
+    return True
+
+
+@law(few_names)
+def plain_procedure_is_named(t):
+    """what a plain procedure answers meets each clause of `Named`, flat and chained, with ids preserved and without"""
+    analysis = Analysis(D.all, t)
+    if not analysis.declares:
+        return None
+    for preserves in ((), some_ids(analysis)):
+        for r in renamings(preserves):
+            for counts in (all_count, outer_count):
+                one = Naming(analysis, r, None, counts)
+                taken = one.counters()
+                faults = one.faults(taken, one.new_texts(taken))
+                if faults:
+                    return Bad(repr(faults))
+    return True
+
+
+def all_scopes(scope):
+    yield scope
+    for inner in scope.inner:
+        yield from all_scopes(inner)
+
+
+@law(few_names)
+def walk_by_the_rules_is_named(t):
+    """a walk with open scopes, written from the rules, gives the map that is `Named`, flat and chained, with ids preserved
+    and without; and at each of its scopes the cost of renaming"""
+    analysis = Analysis(D.all, t)
+    if not analysis.declares:
+        return None
+    walk = naming_walk.Walk(analysis.program)
+    for scope in all_scopes(walk.root.inner[0]):
+        if len(scope.within()) != naming.RenameCost(analysis, scope.path):
+            return Bad('cost at', repr(scope.path))
+    for preserves in ((), some_ids(analysis)):
+        for r in renamings(preserves):
+            for counts in (all_count, outer_count):
+                one = Naming(analysis, r, None, counts)
+                if naming_walk.names(walk, r, one.preserved, counts is outer_count) != one.new_texts():
+                    return Bad('the definitions give', repr(one.new_texts()))
+    return True
+
+
+@law(few_names)
+def named_fixes_the_map(t):
+    """of all ways to give small counters to up to four ids just one meets the clauses of `Named`"""
+    analysis = Analysis(D.all, t)
+    found = False
+    for r in renamings():
+        for counts in (all_count, outer_count):
+            one = Naming(analysis, r, None, counts)
+            right = one.counters()
+            if not 0 < len(right) < 5:
+                continue
+            found = True
+            for numbers in itertools.product(range(max(right.values()) + 2), repeat=len(right)):
+                taken = dict(zip(right, numbers))
+                if (not one.faults(taken, one.new_texts(taken))) != (taken == right):
+                    return Bad('counters', repr(taken), 'and', repr(right))
+    return True if found else None
+
+
+@law(few_names)
+def tries_are_few(t):
+    """the counter that an id takes is at most as far past its start as there are preserved texts and ids named before it"""
+    analysis = Analysis(D.all, t)
+    if not analysis.declares:
+        return None
+    for r in renamings():
+        one = Naming(analysis, r)
+        taken = one.counters()
+        for number, (a, x) in enumerate(one.sites):
+            start = next(n for n in range(taken[x] + 1) if one.IsFromStart(taken, a, n))
+            if taken[x] - start > len(one.preserved) + number:
+                return Bad('counter', str(taken[x]), 'from', str(start))
+    return True
+
+
+def writable_and_well_scoped(t):
+    return is_module(t) and scoping.WellScoped(D.all, t) and is_writable(t)
+
+
+class Occurrences:
+    """for each scope of the language the ids that occur there or below, and for each id the scopes that declare it"""
+    def __init__(self, t):
+        self.ids = scoping.by_ids(D.all, t)
+        program = scoping.Program(D.all, t)
+        self.occurs, self.declared, self.frees = {}, {}, set()
+        for p, r, name in scoping.Stands(self.ids):
+            if is_name(r):
+                x = identity(program.identifier(p))
+                for s, _ in self.ids.rounds_at[p]:
+                    self.occurs.setdefault(s, set()).add(x)
+                if self.ids.S.is_binding(r):
+                    self.declared.setdefault(x, set()).add(scoping.DeclaredBy(self.ids, p, r, name))
+        self.frees = {x for ids in self.occurs.values() for x in ids if x not in self.declared}
+
+    def at_or_above(self, s):
+        return {s} | {u for u, _ in self.ids.rounds_at[s]}
+
+
+def names_apart_faults(t, text):
+    """the clauses of names apart that new texts do not meet: two ids that occur in one scope of the language and are
+    declared there or further out have two texts; a free one has another text than what the scope declares; and keeps it"""
+    found, all_of = [], Occurrences(t)
+    for s, ids in all_of.occurs.items():
+        above = all_of.at_or_above(s)
+        here = [x for x in ids if all_of.declared.get(x, set()) & above]
+        found += [('declared_apart', s, x, y) for x, y in itertools.combinations(here, 2) if text(x) == text(y)]
+        own = [y for y, scopes in all_of.declared.items() if s in scopes]
+        found += [('free_apart', s, x, y) for x in ids & all_of.frees for y in own if text(x) == text(y)]
+    return found + [('free_kept', x) for x in all_of.frees if text(x) != x[0]]
+
+
+@law(well_scoped_module)
+def hygiene_sets_names_apart(t):
+    """on well-scoped writable modules the names that hygiene gives are apart"""
+    if not writable_and_well_scoped(t):
+        return None
+    for r in (hygiene(), numbered(False, True), numbered(True, False), Renaming(of_few_texts, True, False)):
+        new_texts = naming.named(D.all, t, r)
+        faults = names_apart_faults(t, lambda x, new_texts=new_texts: new_texts.get(x, x[0]))
+        if faults:
+            return Bad(repr(faults))
+    return True
+
+
+@law(well_scoped_module)
+def hygiene_names_all_that_is_declared(t):
+    """on well-scoped modules hygiene gives a name to each id that a binding declares, and to no other"""
+    if not is_module(t) or not scoping.WellScoped(D.all, t):
+        return None
+    return set(naming.named(D.all, t, hygiene())) == Analysis(D.all, t).bound or Bad('others')
+
+
+def side_by_side(t, u):
+    """the identifiers of two trees of one shape, in pairs"""
+    if t[0] == 'Identifier':
+        yield t[2], u[2]
+    for one, other in zip(kids(t), kids(u)):
+        yield from side_by_side(one, other)
+
+
+@law(well_scoped_module)
+def hygiene_keeps_ids(t):
+    """on well-scoped writable modules the answer of hygiene is writable, has no early error of names and the same normal
+    form but for bound names; resolved again, it gives one id exactly where there was one"""
+    if not writable_and_well_scoped(t):
+        return None
+    answer = with_hygiene(t)
+    if not is_writable(answer):
+        return Bad('not writable:', answer)
+    if not scoping.NoEarlyErrorOfNames(D.all, answer):
+        return Bad('early error:', answer)
+    if not is_same(t, answer):
+        return Bad('another normal form:', answer)
+    before, there, back = normal_form(t), {}, {}
+    after = normal_form(scoping.resolved(D.all, answer, 1, 1))
+    program = scoping.Program(D.all, before)
+    standings = [program.standing(p) for p in program.identifiers]
+    for (i, j), standing in zip(side_by_side(before, after), standings):
+        x, y = identity(i), identity(j)
+        if is_name(standing) and (there.setdefault(x, y) != y or back.setdefault(y, x) != x):
+            return Bad('hygiene:', answer, '-- resolved:', after)
+    return True
+
+
+@law(well_scoped_module)
+def chained_is_flat(t):
+    """on well-scoped modules the names are those where only the names of a scope and of those round it count, in mangle
+    mode and without"""
+    if not is_module(t) or not scoping.WellScoped(D.all, t):
+        return None
+    analysis = Analysis(D.all, t)
+    for preserves in ((), some_ids(analysis)):
+        for r in renamings(preserves):
+            flat, chained = Naming(analysis, r).new_texts(), Naming(analysis, r, None, outer_count).new_texts()
+            if flat != chained:
+                return Bad('flat', repr(flat), 'chained', repr(chained))
+    return True
+
+
+@law(clean_program)
+def hygiene_settles(t):
+    """what a resolver and hygiene make of a clean module without early errors of names, they make of it again"""
+    if not scoping.IsClean(D.all, t) or not scoping.NoEarlyErrorOfNames(D.all, t) or not is_module(t):
+        return None
+    answer = with_hygiene(scoping.resolved(D.all, t, 1, 2))
+    again = with_hygiene(scoping.resolved(D.all, answer, 1, 2))
+    return answer == again or Bad('first:', answer, 'then:', again)
