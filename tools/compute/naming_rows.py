@@ -11,7 +11,7 @@ from naming import Renaming, hygiene, numbered, outer_count
 from substitution_laws import changes_of, substituted
 from trees import with_identifiers
 
-A1, B1 = (js.codes('a'), (1,)), (js.codes('b'), (1,))
+ID_A, ID_B = (js.codes('a'), (1,)), (js.codes('b'), (1,))
 FLAT, KEEPS = dict(), dict(keeps=True)
 CHAINED = dict(counts=outer_count)
 NORMAL = numbered(mangles=False, resets=True)
@@ -50,7 +50,7 @@ ROWS = [
     ('let a#1; { let b#2; a#1; } { let c#3; }', NUMBERED, FLAT, 'let v0; { let v1; v0; } { let v0; }'),
     ('let a#1, b#1;', NUMBERED, FLAT, 'let v0, v1;'),
     ('let a#1; v0#9;', NUMBERED, FLAT, 'let v1; v0#9;'),
-    ('let a#1; let b#1;', numbered(False, True, [A1]), FLAT, 'let a#1; let v0;'),
+    ('let a#1; let b#1;', numbered(False, True, [ID_A]), FLAT, 'let a#1; let v0;'),
     ('{ let a#1; } { let b#2; a#1; }', NUMBERED, CHAINED, '{ let v0; } { let v0; v0; }'),
     ('{ let a#1; } { let b#2; a#1; }', NUMBERED, FLAT, '{ let v0; } { let v1; v0; }'),
     # the four settings of the flags
@@ -61,7 +61,7 @@ ROWS = [
     ('let x#1; { let a#1, b#1; x#1; { a#1; } }', Renaming(lambda x, n: js.codes('v%d' % (n // 2)) + x[0], False, False), FLAT,
      'let v0x; { let v0a, v0b; v0x; { v0a; } }'),
     # ids that are left alone
-    ('let a#1; let b#1;', numbered(False, True, [A1, B1]), FLAT, 'let a#1; let b#1;'),
+    ('let a#1; let b#1;', numbered(False, True, [ID_A, ID_B]), FLAT, 'let a#1; let b#1;'),
     ('var arguments#1; var eval#1; var a#1; arguments#1; eval#1;', NUMBERED, FLAT, 'var arguments#1; var eval#1; var v0; arguments#1; eval#1;'),
     # order, and where ids are declared and occur
     ('try {} catch ({ a = (x#1) => x#1 }) { (x#2) => x#1; }', HYGIENE, FLAT, 'try {} catch ({ a = (x) => x }) { (x) => x; }'),
