@@ -1,5 +1,5 @@
 -- A table in which the list of one text was written.
-use Rattle.std.proofs.Common.{◌≡◌, ℕ, Bool, true, false, Option, Some, None, List, [], ◌∷◌, ◌++◌, String, Vec, Global, string_bytes, vec_len, cond, refl, sym, ◌∙◌, ap}
+use Rattle.std.proofs.Common.{◌≡◌, ℕ, Bool, true, false, Option, Some, None, List, [], ◌++◌, String, Vec, Global, string_bytes, vec_len, cond, refl, sym, ◌∙◌, ap}
 use Rattle.std.specs.BTreeMap as tree
 use Rattle.std.specs.BTreeMap.{BTreeMap, get_by_text}
 use Rattle.std.specs.Bool.{if◌then◌else◌}

@@ -1,5 +1,5 @@
 -- What holds of a text that a number is put behind.
-use Rattle.std.proofs.Common.{◌≡◌, ℕ, ◌+◌, ◌<◌, ◌%◌, ◌/◌, ◌^◌, ◌⊎◌, Bool, true, false, not, ◌&&◌, ◌||◌, List, [], ◌∷◌, ◌++◌, length, length-append, codes, decimal, IsTrue, refl, sym, ◌∙◌, ap, inl, inr, arith, append_assoc, nat_eq}
+use Rattle.std.proofs.Common.{◌≡◌, ℕ, ◌+◌, ◌<◌, ◌%◌, ◌^◌, ◌⊎◌, Bool, true, false, not, ◌&&◌, ◌||◌, List, [], ◌∷◌, ◌++◌, length, length-append, get_or, ◌==◌, decimal, IsTrue, refl, sym, ◌∙◌, ap, inl, inr, arith, append_assoc, nat_eq}
 use Rattle.std.specs.List.{list_all, list_any}
 use Rattle.std.specs.Cmp.Lexicographic.{pointwise}
 use Rattle.std.proofs.lemmas.Bool.{false_from_ne_true}
@@ -12,7 +12,7 @@ use Rattle.std.proofs.Math.Bool.{or-true}
 use Rattle.swc_tree_grammar.specs.Writable.{begins_name, is_digit, is_identifier_text, is_letter, reserved}
 use Rattle.swc_base_rename_naming.specs.Texts.{numbered}
 
-pub both_true : (a b : Bool) → a ≡ true → b ≡ true → (a && b) ≡ true
+both_true : (a b : Bool) → a ≡ true → b ≡ true → (a && b) ≡ true
 both_true a b p q = ap (λ x. x && b) p ∙ q
 
 both_of : (a b : Bool) → (a && b) ≡ true → (a ≡ true) × (b ≡ true)
@@ -70,7 +70,7 @@ apart test text word passes fails = false_from_ne_true (pointwise nat_eq text wo
     let is_true : true ≡ false = sym passes ∙ ap test ((bytes_eq-Decides text word).0 same) ∙ fails in cc)
 
 -- a text that passes a test is none of those that do not
-pub is_none_of : (test : List ℕ → Bool) (text : List ℕ) → test text ≡ true → (words : List (List ℕ)) → list_any test words ≡ false → list_any (pointwise nat_eq text) words ≡ false
+is_none_of : (test : List ℕ → Bool) (text : List ℕ) → test text ≡ true → (words : List (List ℕ)) → list_any test words ≡ false → list_any (pointwise nat_eq text) words ≡ false
 is_none_of test text passes [] none = refl
 is_none_of test text passes (w ∷ ws) none =
     let others = neither (test w) (list_any test ws) none in
@@ -88,7 +88,7 @@ differ-decimal text m n p q e = decimal_injective m n p q (append_cancel_left te
 pub is_none-decimal : {A : Type 0} (text word : List ℕ) (n : ℕ) → n < 2 ^ 64 → ends_in_digit word ≡ false → text ++ decimal n ≡ word → A
 is_none-decimal text word n fits other e = absurd (let is_true : true ≡ false = sym (ends-decimal n fits text) ∙ ap ends_in_digit e ∙ other in cc)
 
-pub numbered_cases : (text : List ℕ) (n : ℕ) → ((n ≡ 0) × (numbered text n ≡ text)) ⊎ ((0 < n) × (numbered text n ≡ text ++ decimal n))
+numbered_cases : (text : List ℕ) (n : ℕ) → ((n ≡ 0) × (numbered text n ≡ text)) ⊎ ((0 < n) × (numbered text n ≡ text ++ decimal n))
 numbered_cases text n = grind (arith, nat_tests)
 
 longer : (text : List ℕ) (n : ℕ) → n < 2 ^ 64 → text ≡ text ++ decimal n → ⊥
@@ -100,6 +100,19 @@ differ-numbered text m n p q e = elim (numbered_cases text m) [
   | inl a ↦ elim (numbered_cases text n) [ inl b ↦ a.0 ∙ sym b.0 | inr b ↦ absurd (longer text n q (sym a.1 ∙ e ∙ b.1)) ]
   | inr a ↦ elim (numbered_cases text n) [ inl b ↦ absurd (longer text m p (sym b.1 ∙ sym e ∙ a.1)) | inr b ↦ differ-decimal text m n p q (sym a.1 ∙ e ∙ b.1) ]
 ]
+
+first-numbered : (c n : ℕ) → get_or (numbered (c ∷ []) n) 0 0 ≡ c
+first-numbered c n = elim (numbered_cases (c ∷ []) n) [ inl a ↦ ap (λ t. get_or t 0 0) a.1 | inr a ↦ ap (λ t. get_or t 0 0) a.1 ]
+
+-- of one letter, with or without a number behind it, the text tells the letter and the counter
+pub differ-letters : (c d m n : ℕ) → m < 2 ^ 64 → n < 2 ^ 64 → numbered (c ∷ []) m ≡ numbered (d ∷ []) n → (c ≡ d) × (m ≡ n)
+differ-letters c d m n p q e =
+    let same : c ≡ d = sym (first-numbered c m) ∙ ap (λ t. get_or t 0 0) e ∙ first-numbered d n in
+    (same, differ-numbered (c ∷ []) m n p q (e ∙ ap (λ c. numbered (c ∷ []) n) (sym same)))
+
+-- one letter is an identifier's text
+pub identifier-letter : (c : ℕ) → is_letter c ≡ true → IsTrue (is_identifier_text (c ∷ []))
+identifier-letter c h = both_true _ _ (both_true _ true h refl) (ap not (is_none_of (λ t. length t == 1) (c ∷ []) refl reserved refl))
 
 -- an identifier's text stays one
 pub identifier-numbered : (text : List ℕ) (n : ℕ) → n < 2 ^ 64 → IsTrue (is_identifier_text text) → IsTrue (is_identifier_text (numbered text n))
@@ -114,3 +127,7 @@ word-numbered text word n fits other e = elim (numbered_cases text n) [
   | inl a ↦ sym a.1 ∙ e
   | inr a ↦ is_none-decimal text word n fits other (sym a.1 ∙ e)
 ]
+
+-- a longer word that does not end in a digit is no text of one letter
+pub no_word-letter : {A : Type 0} (c n : ℕ) (word : List ℕ) → n < 2 ^ 64 → ends_in_digit word ≡ false → (length word == 1) ≡ false → numbered (c ∷ []) n ≡ word → A
+no_word-letter c n word fits no_digit longer e = absurd (let is_true : true ≡ false = ap (λ t. length t == 1) (word-numbered (c ∷ []) word n fits no_digit e) ∙ longer in cc)

@@ -1,5 +1,6 @@
 //! The renamer of hygiene.
-ghost use Rattle.std.specs.Prelude.{true, false, codes, refl};
+ghost use Rattle.std.specs.Prelude.{true, false, codes, refl, IfOk, IsOk};
+ghost use Rattle.swc_base_rename_naming.specs.Ids.{HasJust};
 ghost use Rattle.swc_base_rename_naming.specs.Texts.{numbered as numbered_text};
 ghost use Rattle.swc_base_rename_naming.specs.TextLaws.{differ-numbered, identifier-numbered, word-numbered};
 
@@ -36,7 +37,10 @@ impl Renamer for HygieneRenamer {
         &mut self,
         alloc: Global,
         _program: &Module,
-    ) -> Result<HashSet<Id>, NoMemory> {
+    ) -> Result<HashSet<Id>, NoMemory>
+        ensures just { IfOk result (HasJust (λ _. false)) }
+        ensures succeeds { IsOk result }
+    {
         Ok(HashSet::new(alloc))
     }
 
@@ -49,7 +53,10 @@ impl Renamer for HygieneRenamer {
         &mut self,
         alloc: Global,
         _program: &Script,
-    ) -> Result<HashSet<Id>, NoMemory> {
+    ) -> Result<HashSet<Id>, NoMemory>
+        ensures just { IfOk result (HasJust (λ _. false)) }
+        ensures succeeds { IsOk result }
+    {
         Ok(HashSet::new(alloc))
     }
 

@@ -44,7 +44,7 @@ pub trait Renamer {
         alloc: Global,
         program: &Module,
     ) -> Result<HashSet<Id>, NoMemory>
-        ensures { IfOk result (HasJust (preserved self.old (module_node program.now))) };
+        ensures just { IfOk result (HasJust (preserved self.old (module_node program.now))) };
 
     /// The ids that keep their texts in a script.
     ///
@@ -56,7 +56,7 @@ pub trait Renamer {
         alloc: Global,
         program: &Script,
     ) -> Result<HashSet<Id>, NoMemory>
-        ensures { IfOk result (HasJust (preserved self.old (script_node program.now))) };
+        ensures just { IfOk result (HasJust (preserved self.old (script_node program.now))) };
 
     /// The text of an id at a counter, which goes one up.
     ///
