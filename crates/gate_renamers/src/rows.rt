@@ -1,4 +1,9 @@
 //! Whether renamers, and maps from texts to ids, answer as they must.
+ghost use Rattle.std.specs.Prelude.{◌≡◌};
+ghost use Rattle.std.specs.List.{list_any};
+ghost use Rattle.swc_base_rename_naming.specs.Chained.{ids_of};
+ghost use Rattle.swc_base_rename_substitution.specs.Names.{same_id};
+
 use crate::{Letters, Numbered, Refusing};
 use std::alloc::Global;
 use std::fmt::Write;
@@ -24,6 +29,18 @@ fn are(alloc: Global, ids: Iter<'_>, wanted: &str) -> Option<bool> {
     Some(found.as_str() == wanted)
 }
 
+// Whether a text was given to an id.
+fn is_given(map: &ReverseMap<'_>, text: &str, id: &Id) -> bool
+    ensures { result ≡ list_any (same_id id.now) (ids_of map.now text.now) }
+{
+    for other in map.get(text) {
+        if *id == *other {
+            return true;
+        }
+    }
+    false
+}
+
 fn chains(alloc: Global) -> Option<bool> {
     let mut map = ReverseMap::new(alloc);
     for text in ["a", "b"] {
@@ -36,7 +53,9 @@ fn chains(alloc: Global) -> Option<bool> {
     let of_child = are(alloc, child.get("x"), "c#2 a#1 b#1 ")?;
     let of_none = are(alloc, child.get("y"), "")?;
     let of_parent = are(alloc, map.get("x"), "a#1 b#1 ")?;
-    Some(of_child && of_none && of_parent)
+    let is_outer = is_given(&child, "x", &id(alloc, "b", 1)?);
+    let is_inner = is_given(&map, "x", &id(alloc, "c", 2)?);
+    Some(of_child && of_none && of_parent && is_outer && !is_inner)
 }
 
 // Whether a renamer gives an id a text, and the counter goes one up.
@@ -77,7 +96,9 @@ fn letters(alloc: Global) -> Option<bool> {
 }
 
 // The two settings of a renamer.
-fn settings<R: Renamer>() -> (bool, bool) {
+fn settings<R: Renamer>() -> (bool, bool)
+    ensures { result ≡ (R.MANGLE, R.RESET_N) }
+{
     (R::MANGLE, R::RESET_N)
 }
 
