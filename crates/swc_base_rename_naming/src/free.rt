@@ -1,5 +1,6 @@
 //! The first free text of an id.
 ghost use Rattle.std.specs.Prelude.{◌≡◌, ℕ, List, ◌+◌, ◌≤◌, length, IfOk, IfErr, OnOk};
+ghost use Rattle.swc_base_rename_naming.specs.Counters.{greatest};
 ghost use Rattle.swc_base_rename_naming.specs.Free.{Covers, FindsFree, IsSearchRefusal};
 
 use crate::lawful::Renamer;
@@ -24,7 +25,8 @@ pub trait Taken {
 ///
 /// # Errors
 ///
-/// `CounterSpent` where no counter from `n` on and below the greatest `usize` has a free text, and `NoMemory`.
+/// `CounterSpent` where no counter from `n` on and below the greatest `usize` has a free text, so that as many texts are taken
+/// as there are such counters; and `NoMemory`.
 pub fn free_text<R: Renamer, T: Taken>(
     alloc: Global,
     renamer: &R,
@@ -34,6 +36,7 @@ pub fn free_text<R: Renamer, T: Taken>(
 ) -> Result<JsWord, PassError>
     ensures found { IfOk result (FindsFree (R.text renamer.now id.now) (T.taken taken.now) n.old n.new) }
     ensures tries { OnOk result ((texts : List (List ℕ)) → Covers texts (T.taken taken.now) → n.new ≤ n.old + length texts + 1) }
+    ensures crowded { IfErr result (λ e. e ≡ PassError.CounterSpent → (texts : List (List ℕ)) → Covers texts (T.taken taken.now) → greatest ≤ n.old + length texts) }
     ensures refused { IfErr result (IsSearchRefusal (R.text renamer.now id.now) (T.taken taken.now) n.old) }
 {
     loop {

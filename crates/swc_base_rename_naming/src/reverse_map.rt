@@ -115,7 +115,7 @@ impl ReverseMap<'_> {
     }
 }
 
-/// The ids that a text was given to, each once for each time.
+/// The ids that a text was given to, each as often as it was.
 #[derive(Clone, Copy)]
 pub struct Iter<'a> {
     text: &'a str,
