@@ -148,7 +148,7 @@ fn holds(alloc: Global, word: &str) -> Option<bool> {
         "words become kinds" => Some(converts()),
         "texts are given back" => gives_back(alloc),
         "versions rise" => Some(versions_rise()),
-        _ => None,
+        _ => gate_renamers::holds(alloc, word),
     }
 }
 

@@ -1,0 +1,10 @@
+//! Renamers that the gate's rows use: `Letters`, an example of one that a user writes, and those that only tests want.
+#![tactic(auto)]
+
+mod by_letter;
+mod by_number;
+mod rows;
+
+pub use by_letter::Letters;
+pub use by_number::{Numbered, Refusing};
+pub use rows::holds;

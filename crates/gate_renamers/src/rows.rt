@@ -1,0 +1,152 @@
+//! Whether renamers, and maps from texts to ids, answer as they must.
+ghost use Rattle.std.specs.Prelude.{◌≡◌};
+ghost use Rattle.std.specs.List.{list_any};
+ghost use Rattle.swc_base_rename_naming.specs.Chained.{ids_of};
+ghost use Rattle.swc_base_rename_substitution.specs.Names.{same_id};
+
+use crate::{Letters, Numbered, Refusing};
+use std::alloc::Global;
+use std::fmt::Write;
+use swc_base_rename_naming::{HygieneRenamer, Iter, Renamer, ReverseMap, Taken, free_text};
+use swc_tree_items::Text;
+use swc_tree_marks::{Id, Mark, PassError, SyntaxContext};
+
+fn id(alloc: Global, text: &str, mark: u32) -> Option<Id> {
+    let mut context = SyntaxContext::empty(alloc);
+    if mark > 0 {
+        context.apply_mark(Mark::from_u32(mark)).ok()?;
+    }
+    Some((Text::new(alloc, text).ok()?, context))
+}
+
+// Whether these are the ids, each with its last mark.
+fn are(alloc: Global, ids: Iter<'_>, wanted: &str) -> Option<bool> {
+    let mut found = String::new(alloc);
+    for id in ids {
+        let (text, mark) = (&id.0, id.1.outer().as_u32());
+        write!(found, "{text}#{mark} ").ok()?;
+    }
+    Some(found.as_str() == wanted)
+}
+
+// Whether a text was given to an id.
+fn is_given(map: &ReverseMap<'_>, text: &str, id: &Id) -> bool
+    ensures { result ≡ list_any (same_id id.now) (ids_of map.now text.now) }
+{
+    for other in map.get(text) {
+        if *id == *other {
+            return true;
+        }
+    }
+    false
+}
+
+fn chains(alloc: Global) -> Option<bool> {
+    let mut map = ReverseMap::new(alloc);
+    for text in ["a", "b"] {
+        let given = Text::new(alloc, "x").ok()?;
+        map.push_entry(given, id(alloc, text, 1)?).ok()?;
+    }
+    let mut child = map.next(alloc);
+    let given = Text::new(alloc, "x").ok()?;
+    child.push_entry(given, id(alloc, "c", 2)?).ok()?;
+    let of_child = are(alloc, child.get("x"), "c#2 a#1 b#1 ")?;
+    let of_none = are(alloc, child.get("y"), "")?;
+    let of_parent = are(alloc, map.get("x"), "a#1 b#1 ")?;
+    let is_outer = is_given(&child, "x", &id(alloc, "b", 1)?);
+    let is_inner = is_given(&map, "x", &id(alloc, "c", 2)?);
+    Some(of_child && of_none && of_parent && is_outer && !is_inner)
+}
+
+// Whether a renamer gives an id a text, and the counter goes one up.
+fn gives<R: Renamer>(alloc: Global, renamer: &R, from: usize, wanted: &str) -> Option<bool> {
+    let mut n = from;
+    let name = renamer
+        .new_name_for(alloc, &id(alloc, "a", 1)?, &mut n)
+        .ok()?;
+    Some(name.as_str() == wanted && n == from + 1)
+}
+
+// Whether a renamer has no text at the greatest counter, which stays.
+fn is_spent<R: Renamer>(alloc: Global, renamer: &R) -> Option<bool> {
+    let mut n = usize::MAX;
+    let error = renamer
+        .new_name_for(alloc, &id(alloc, "a", 1)?, &mut n)
+        .err()?;
+    Some(error == PassError::CounterSpent && n == usize::MAX)
+}
+
+fn counts(alloc: Global) -> Option<bool> {
+    let first = gives(alloc, &HygieneRenamer, 0, "a")?;
+    let tenth = gives(alloc, &HygieneRenamer, 10, "a10")?;
+    let last = gives(
+        alloc,
+        &HygieneRenamer,
+        usize::MAX - 1,
+        "a18446744073709551614",
+    )?;
+    Some(first && tenth && last && is_spent(alloc, &HygieneRenamer)?)
+}
+
+fn letters(alloc: Global) -> Option<bool> {
+    let first = gives(alloc, &Letters, 0, "a")?;
+    let last = gives(alloc, &Letters, 25, "z")?;
+    let next = gives(alloc, &Letters, 27, "b1")?;
+    Some(first && last && next && is_spent(alloc, &Letters)?)
+}
+
+// The two settings of a renamer.
+fn settings<R: Renamer>() -> (bool, bool)
+    ensures { result ≡ (R.MANGLE, R.RESET_N) }
+{
+    (R::MANGLE, R::RESET_N)
+}
+
+fn numbers(alloc: Global) -> Option<bool> {
+    let renamer = Numbered::<true, false>::new(Vec::new(alloc));
+    let set = settings::<Numbered<true, true>>() == (true, true)
+        && settings::<Numbered<true, false>>() == (true, false)
+        && settings::<Numbered<false, true>>() == (false, true)
+        && settings::<Numbered<false, false>>() == (false, false);
+    let refuses = Refusing
+        .new_name_for(alloc, &id(alloc, "a", 1)?, &mut 0)
+        .err()?;
+    Some(set && gives(alloc, &renamer, 0, "v0")? && refuses == PassError::NoMemory)
+}
+
+// Two texts that are taken.
+#[derive(Clone, Copy)]
+struct Two<'a>(&'a str, &'a str);
+
+impl Taken for Two<'_> {
+    ghost use Rattle.std.specs.Prelude.{◌||◌};
+    ghost use Rattle.std.specs.Str.{bytes_eq};
+
+    ghost taken = { λ two text. bytes_eq text two.0.now || bytes_eq text two.1.now };
+
+    fn is_taken(&self, text: &str) -> bool {
+        text == self.0 || text == self.1
+    }
+}
+
+fn free(alloc: Global) -> Option<bool> {
+    let mut n = 0;
+    let id = id(alloc, "b", 2)?;
+    let name = free_text(alloc, &HygieneRenamer, &id, &Two("b", "b1"), &mut n).ok()?;
+    let mut last = usize::MAX - 1;
+    let taken = Two("b18446744073709551614", "b");
+    let error = free_text(alloc, &HygieneRenamer, &id, &taken, &mut last).err()?;
+    Some(name.as_str() == "b2" && n == 3 && error == PassError::CounterSpent)
+}
+
+/// Whether what the words name is as it must be; nothing where memory is refused, or the words name nothing.
+pub fn holds(alloc: Global, words: &str) -> Option<bool> {
+    match words {
+        "maps are chained" => chains(alloc),
+        "hygiene counts" => counts(alloc),
+        "letters are given" => letters(alloc),
+        "numbers are given" => numbers(alloc),
+        "the first free text is found" => free(alloc),
+        _ => None,
+    }
+}

@@ -1,0 +1,3 @@
+pub mod Chains
+pub mod Tables
+pub mod Tries

@@ -1,0 +1,6 @@
+pub mod Ids
+pub mod Counters
+pub mod Texts
+pub mod TextLaws
+pub mod Free
+pub mod Chained

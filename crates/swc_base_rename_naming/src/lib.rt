@@ -1,0 +1,18 @@
+//! Renamers and their laws, and what the naming of ids stands on.
+//!
+//! A `Renamer` gives an id a text for each counter. All that is proved of names rests on the laws of
+//! the trait, and on nothing of an implementation. `free_text` takes the first text that is free, and
+//! a `ReverseMap` keeps which ids were given a text.
+#![tactic(auto)]
+
+mod free;
+mod hygiene;
+mod lawful;
+mod reverse_map;
+mod texts;
+
+pub use free::{Taken, free_text};
+pub use hygiene::HygieneRenamer;
+pub use lawful::Renamer;
+pub use reverse_map::{Iter, ReverseMap};
+pub use texts::numbered;
