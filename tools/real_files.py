@@ -46,16 +46,16 @@ def printed(js2tree, envelope, out):
 
 
 def measured(command, source, target):
-    """The status, the least processor time in seconds and the most memory in megabytes of some runs."""
+    """The status, the least processor time in seconds and the most memory in megabytes of some runs. They are those that
+    `time` says: the memory of a process that Python starts counts Python's own."""
     least, most, status = None, 0, 0
     for _ in range(RUNS):
         with open(source, 'rb') as stdin, open(target, 'wb') as stdout:
-            child = subprocess.Popen(command, stdin=stdin, stdout=stdout, stderr=subprocess.DEVNULL)
-            _, ended, usage = os.wait4(child.pid, 0)
-        child.returncode = os.waitstatus_to_exitcode(ended)
-        took = usage.ru_utime + usage.ru_stime
+            done = subprocess.run(['/usr/bin/time', '-f', '%U %S %M', *command], stdin=stdin, stdout=stdout, stderr=subprocess.PIPE, check=False)
+        user, system, kilobytes = done.stderr.split()[-3:]
+        took = float(user) + float(system)
         least = took if least is None else min(least, took)
-        most, status = max(most, usage.ru_maxrss / 1000), status or child.returncode
+        most, status = max(most, int(kilobytes) / 1000), status or done.returncode
     return status, least, most
 
 
