@@ -4,8 +4,9 @@
 JSBASE is the built program of that crate. Each shape is a script of N, 2 N and 4 N parts (20,000, if N is not given): blocks side
 by side, the parameters of one function, the functions of one block, catch clauses, labels, pairs of parentheses, the items of a
 sequence, references below 40 blocks, names of one function that the kit's hash can't tell apart, and as many others of their
-length. The time is of the processor for one run of `resolve script`, of `unparen script` for pairs and sequences; in a
-table that grows in step with N each number is twice the one before it."""
+length; calls in chains (`a.b().b()`), operators in chains on the left and on the right, and arrows in nests, 10 in each and as
+many as JSON may nest. The time is of the processor for one run of `resolve script`, of `unparen script` for pairs and
+sequences, of `fix script` for chains and nests; in a table that grows in step with N each number is twice the one before it."""
 import json
 import random
 import resource
@@ -63,6 +64,28 @@ def deep(n):
     return [declaration('var', ['a'])] + inner
 
 
+def called(object_):
+    return node('CallExpr', callee=node('MemberExpr', obj=object_, prop=node('IdentName', sym='b')), args=[])
+
+
+def added(left, right):
+    return node('BinExpr', op='+', left=left, right=right)
+
+
+def arrow(body):
+    return node('ArrowExpr', params=[named('BindingIdent', 'a')], body=body, is_async=False)
+
+
+def nests(depth, round_):
+    """N parts in nests of a depth."""
+    def of(n):
+        inner = reference('a')
+        for _ in range(depth):
+            inner = round_(inner)
+        return [statement(inner)] * (n // depth)
+    return of
+
+
 def folded(a, b):
     product = a * b
     return (product & WORD) ^ (product >> 64)
@@ -89,16 +112,24 @@ def body_of(names):
 
 
 SHAPES = {
-    'blocks': lambda n: [block([declaration('let', ['a']), statement(reference('a'))]) for _ in range(n)],
-    'parameters': lambda n: [function('f', [f'p{i}' for i in range(n)], [])],
-    'functions of a block': lambda n: [block([function(f'f{i}', [], []) for i in range(n)])],
-    'catch clauses': catches,
-    'labels': lambda n: [node('LabeledStmt', label=reference(f'l{i}'), body=node('EmptyStmt')) for i in range(n)],
-    'pairs': lambda n: [statement(node('ParenExpr', expr=reference('a'))) for _ in range(n)],
-    'items of a sequence': lambda n: [statement(node('SeqExpr', exprs=[reference(f'a{i}') for i in range(n)]))],
-    'references below 40 blocks': deep,
-    'names that collide': lambda n: body_of(colliding(n)),
-    'other names': lambda n: body_of(others(n)),
+    'blocks': ('resolve', lambda n: [block([declaration('let', ['a']), statement(reference('a'))]) for _ in range(n)]),
+    'parameters': ('resolve', lambda n: [function('f', [f'p{i}' for i in range(n)], [])]),
+    'functions of a block': ('resolve', lambda n: [block([function(f'f{i}', [], []) for i in range(n)])]),
+    'catch clauses': ('resolve', catches),
+    'labels': ('resolve', lambda n: [node('LabeledStmt', label=reference(f'l{i}'), body=node('EmptyStmt')) for i in range(n)]),
+    'pairs': ('unparen', lambda n: [statement(node('ParenExpr', expr=reference('a'))) for _ in range(n)]),
+    'items of a sequence': ('unparen', lambda n: [statement(node('SeqExpr', exprs=[reference(f'a{i}') for i in range(n)]))]),
+    'references below 40 blocks': ('resolve', deep),
+    'names that collide': ('resolve', lambda n: body_of(colliding(n))),
+    'other names': ('resolve', lambda n: body_of(others(n))),
+    'calls, 10 in a chain': ('fix', nests(10, called)),
+    'calls, 50 in a chain': ('fix', nests(50, called)),
+    'operators, 10 on the left': ('fix', nests(10, lambda left: added(left, reference('a')))),
+    'operators, 100 on the left': ('fix', nests(100, lambda left: added(left, reference('a')))),
+    'operators, 10 on the right': ('fix', nests(10, lambda right: added(reference('a'), right))),
+    'operators, 100 on the right': ('fix', nests(100, lambda right: added(reference('a'), right))),
+    'arrows, 10 in a nest': ('fix', nests(10, arrow)),
+    'arrows, 100 in a nest': ('fix', nests(100, arrow)),
 }
 
 
@@ -109,9 +140,9 @@ def envelope(statements):
 
 def time_of(program, shape, n):
     """The processor time of one run in seconds."""
-    command = 'unparen' if shape in ('pairs', 'items of a sequence') else 'resolve'
+    command, statements = SHAPES[shape]
     with tempfile.TemporaryFile('w+') as source:
-        source.write(envelope(SHAPES[shape](n)))
+        source.write(envelope(statements(n)))
         source.seek(0)
         before = resource.getrusage(resource.RUSAGE_CHILDREN)
         subprocess.run([program, command, 'script'], stdin=source, stdout=subprocess.DEVNULL, check=True)
