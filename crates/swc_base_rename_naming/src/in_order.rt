@@ -1,10 +1,10 @@
 //! Names for ids, one after the other.
-ghost use Rattle.std.specs.Prelude.{◌≡◌, ◌||◌, not, ℕ, None, IfOk, IfErr, OnOk};
+ghost use Rattle.std.specs.Prelude.{◌≡◌, ◌||◌, not, ℕ, Bool, None, IfOk, IfErr, OnOk};
 ghost use Rattle.std.specs.List.{list_any};
 ghost use Rattle.swc_base_rename_naming.specs.Chained.{ids_of};
 ghost use Rattle.swc_base_rename_naming.specs.Free.{FindsFree, IsSearchRefusal};
 ghost use Rattle.swc_base_rename_naming.specs.InOrder.{IsRefused, NamedInOrder};
-ghost use Rattle.swc_base_rename_naming.specs.Steps.{IsKept, IsNamable, IsNameGiven, all_count, next_at as is_next_at, rules, taken_at, text_at};
+ghost use Rattle.swc_base_rename_naming.specs.Steps.{IsKept, IsNamable, IsNameGiven, all_count, next_at as is_next_at, naming, rules, taken_at, text_at, IsSiteDone, IsSiteRefused};
 
 use crate::asked::Analysis;
 use crate::free::{Taken, free_text};
@@ -155,6 +155,25 @@ fn give_name<R: Renamer, A: Analysis>(
     Ok(())
 }
 
+// Gives the id of a site its name, if it is to get one.
+fn name_site<R: Renamer, A: Analysis>(
+    alloc: Global,
+    renamer: &R,
+    analysis: &A,
+    ids: &[Id],
+    site: (usize, usize),
+    given: &mut ReverseMap<'_>,
+    names: &mut Names,
+) -> Result<(), PassError>
+    ensures named { OnOk result ((counts : ℕ → ℕ → Bool) → IsSiteDone (naming (R.text renamer.now) (R.MANGLE || not R.RESET_N) (A.keeps analysis.now) (A.preserved analysis.now) (A.occurs analysis.now) counts ids.now) site names.old names.new given.old given.new) }
+    ensures refused { IfErr result (λ e. (counts : ℕ → ℕ → Bool) → IsSiteRefused (naming (R.text renamer.now) (R.MANGLE || not R.RESET_N) (A.keeps analysis.now) (A.preserved analysis.now) (A.occurs analysis.now) counts ids.now) site names.old given.old e) }
+{
+    match namable(analysis, ids, &names.texts, site.1) {
+        Some(id) => give_name(alloc, renamer, analysis, id, site, given, names),
+        None => Ok(()),
+    }
+}
+
 /// The texts of the ids that are declared at these sites, by the ids' numbers.
 ///
 /// The ids get them in the order of the sites: each the first that is free, at the first site that declares it. An id that keeps
@@ -170,15 +189,13 @@ pub fn names_in_order<R: Renamer, A: Analysis>(
     ids: &[Id],
     sites: &[(usize, usize)],
 ) -> Result<BTreeMap<usize, JsWord>, PassError>
-    ensures named { IfOk result (λ texts. NamedInOrder (rules (R.text renamer.now) (R.MANGLE || not R.RESET_N) (A.keeps analysis.now) (A.preserved analysis.now) (A.occurs analysis.now) all_count ids.now) sites.now (text_at texts)) }
-    ensures refused { IfErr result (IsRefused (rules (R.text renamer.now) (R.MANGLE || not R.RESET_N) (A.keeps analysis.now) (A.preserved analysis.now) (A.occurs analysis.now) all_count ids.now) sites.now) }
+    ensures named { IfOk result (λ texts. NamedInOrder (rules (naming (R.text renamer.now) (R.MANGLE || not R.RESET_N) (A.keeps analysis.now) (A.preserved analysis.now) (A.occurs analysis.now) all_count ids.now)) sites.now (text_at texts)) }
+    ensures refused { IfErr result (IsRefused (rules (naming (R.text renamer.now) (R.MANGLE || not R.RESET_N) (A.keeps analysis.now) (A.preserved analysis.now) (A.occurs analysis.now) all_count ids.now)) sites.now) }
 {
     let mut given = ReverseMap::new(alloc);
     let mut names = Names::new(alloc);
     for site in sites {
-        if let Some(id) = namable(analysis, ids, &names.texts, site.1) {
-            give_name(alloc, renamer, analysis, id, *site, &mut given, &mut names)?;
-        }
+        name_site(alloc, renamer, analysis, ids, *site, &mut given, &mut names)?;
     }
     Ok(names.texts)
 }
