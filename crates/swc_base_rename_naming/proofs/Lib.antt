@@ -3,3 +3,4 @@ pub mod Tables
 pub mod Tries
 pub mod Choices
 pub mod Stands
+pub mod Inside

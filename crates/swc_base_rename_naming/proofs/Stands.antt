@@ -1,7 +1,7 @@
 -- What stands while ids are named site by site.
 use Rattle.std.proofs.Common.{◌≡◌, ℕ, ◌+◌, ◌==◌, ◌⊎◌, Bool, true, false, ◌&&◌, ◌||◌, Some, None, List, [], ◌∷◌, ◌++◌, refl, sym, ◌∙◌, ap, inl, inr, suc, ◌<◌, length, take, drop, get_or, arith, append_assoc}
 use Rattle.std.specs.Prelude.{is_some, if◌then◌else◌}
-use Rattle.std.specs.List.{AllByRecursion, list_any, last_or, slice_get}
+use Rattle.std.specs.List.{list_any, last_or, slice_get}
 use Rattle.std.specs.Str.{bytes_eq}
 use Rattle.std.proofs.Math.Seq.{take-suc}
 use Rattle.std.proofs.lemmas.List.{append-nil, take-append-drop}
@@ -12,7 +12,7 @@ use Rattle.swc_base_rename_substitution.specs.Names.{Id}
 use Rattle.swc_base_rename_naming.specs.Chained.{IsPushed, ids_of, outer_ids, own_ids}
 use Rattle.swc_base_rename_naming.specs.Counters.{greatest}
 use Rattle.swc_base_rename_naming.specs.Free.{AllTaken, IsLeastFree, IsSearchRefusal, Test, Texts}
-use Rattle.swc_base_rename_naming.specs.InOrder.{AreChosen, Choice, IsRefused, Rules, Site, chosen_text, is_taken, name_in, past, start}
+use Rattle.swc_base_rename_naming.specs.InOrder.{Choice, IsRefused, Rules, Site, chosen_text, is_taken, name_in, past, start}
 use Rattle.swc_base_rename_naming.specs.Steps.{Holds, IsDone, IsNameGiven, Naming, Stands, id_at, id_or, keeps_text, next_at, rules, stays, taken_at, text_at}
 use Rattle.swc_base_rename_naming.specs.declared.reverse_map.ReverseMap.{ReverseMap}
 use Rattle.swc_base_rename_naming.specs.declared.in_order.Names.{Names}
@@ -108,12 +108,12 @@ one_more n done choices site id was is given_was given_is stands holds found cha
     record {
       chosen = one_chosen r done choices site g.counter stands.chosen named chosen;
       texts = λ x. g.kept.texts x
-        ∙ ap (λ o. if site.1 == x then Some (n.text id g.counter) else o) (stands.texts x)
-        ∙ ap (λ o. if site.1 == x then Some (n.text (id_or o) g.counter) else name_in r choices x) (sym found)
-        ∙ sym (one_name r choices (site, g.counter) no_name x);
+          ∙ ap (λ o. if site.1 == x then Some (n.text id g.counter) else o) (stands.texts x)
+          ∙ ap (λ o. if site.1 == x then Some (n.text (id_or o) g.counter) else name_in r choices x) (sym found)
+          ∙ sym (one_name r choices (site, g.counter) no_name x);
       counter = λ u. ap (λ p. if p == u then is.next else 0) g.kept.scope
-        ∙ ap (λ p. if site.0 == u then p else 0) g.kept.next
-        ∙ ap (past u) (sym (last-append None choices (site, g.counter)));
+          ∙ ap (λ p. if site.0 == u then p else 0) g.kept.next
+          ∙ ap (past u) (sym (last-append None choices (site, g.counter)));
     }
 
 pub done_named : (n : Naming) (done : List Site) (choices : List Choice) (site : Site) (id : Id) (was is : Names) (given_was given_is : ReverseMap)

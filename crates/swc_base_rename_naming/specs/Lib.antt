@@ -6,3 +6,4 @@ pub mod Free
 pub mod Chained
 pub mod InOrder
 pub mod Steps
+pub mod Inside

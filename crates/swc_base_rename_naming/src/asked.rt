@@ -28,3 +28,24 @@ pub trait Analysis {
     fn is_preserved(&self, text: &str) -> bool
         ensures { result ≡ preserved self.now text.now };
 }
+
+/// How the scopes of a program lie in one another.
+pub trait Nesting {
+    ghost use Rattle.std.specs.Prelude.{◌≡◌, ℕ, Bool, true};
+
+    /// Whether a scope is another one, or lies round it.
+    ghost surrounds: { Self → ℕ → ℕ → Bool };
+
+    /// Whether a scope is another one, or lies round it.
+    fn surrounds(&self, outer: usize, inner: usize) -> bool
+        ensures { result ≡ surrounds self.now outer inner };
+
+    /// A scope is itself.
+    ghost own: { (a : Self) (s : ℕ) → surrounds a s s ≡ true };
+
+    /// What lies in a scope lies in those round it.
+    ghost through: { (a : Self) (s t u : ℕ) → surrounds a s t ≡ true → surrounds a t u ≡ true → surrounds a s u ≡ true };
+
+    /// No two scopes lie in one another.
+    ghost same: { (a : Self) (s t : ℕ) → surrounds a s t ≡ true → surrounds a t s ≡ true → s ≡ t };
+}

@@ -44,14 +44,14 @@ impl<A: Analysis> Taken for AtScope<'_, '_, A> {
 
 /// The texts that ids have got, by the ids' numbers, the scope in which the last one was given, and the counter after it.
 #[derive(Drop)]
-struct Names {
+pub struct Names {
     texts: BTreeMap<usize, JsWord>,
     scope: usize,
     next: usize,
 }
 
 impl Names {
-    fn new(alloc: Global) -> Names
+    pub fn new(alloc: Global) -> Names
         ensures texts { (x : ℕ) → text_at result.texts x ≡ None }
         ensures next { result.next ≡ 0 }
     {
@@ -60,6 +60,13 @@ impl Names {
             scope: 0,
             next: 0,
         }
+    }
+
+    /// The texts.
+    pub fn into_texts(self) -> BTreeMap<usize, JsWord>
+        ensures { result ≡ self.texts }
+    {
+        self.texts
     }
 }
 
@@ -155,8 +162,8 @@ fn give_name<R: Renamer, A: Analysis>(
     Ok(())
 }
 
-// Gives the id of a site its name, if it is to get one.
-fn name_site<R: Renamer, A: Analysis>(
+/// Gives the id of a site its name, if it is to get one.
+pub fn name_site<R: Renamer, A: Analysis>(
     alloc: Global,
     renamer: &R,
     analysis: &A,
@@ -197,5 +204,5 @@ pub fn names_in_order<R: Renamer, A: Analysis>(
     for site in sites {
         name_site(alloc, renamer, analysis, ids, *site, &mut given, &mut names)?;
     }
-    Ok(names.texts)
+    Ok(names.into_texts())
 }

@@ -1,7 +1,6 @@
-use Rattle.std.proofs.Common.{[], ◌∷◌, ◌++◌, ◌+◌, ◌||◌, ◌<◌, drop, length, not, arith, refl}
+use Rattle.std.proofs.Common.{[], ◌++◌, ◌+◌, ◌||◌, ◌<◌, drop, length, not, arith, refl}
 use Rattle.std.proofs.lemmas.Result.{err_from_is_err_and}
-use Rattle.swc_base_rename_naming.specs.InOrder.{IsRefused}
-use Rattle.swc_base_rename_naming.specs.Steps.{Naming, all_count, naming, rules}
+use Rattle.swc_base_rename_naming.specs.Steps.{Naming, all_count, naming}
 use Rattle.swc_base_rename_naming.proofs.Stands.{holds_first, next_taken, split_at, stands_first}
 use Rattle.swc_base_rename_naming.proofs.in_order.names_in_order.Goals as goal
 
