@@ -1,1 +1,2 @@
 pub mod ByLetter
+pub mod Flat

@@ -3,6 +3,7 @@
 
 mod by_letter;
 mod by_number;
+mod name_rows;
 mod rows;
 
 pub use by_letter::Letters;

@@ -147,6 +147,6 @@ pub fn holds(alloc: Global, words: &str) -> Option<bool> {
         "letters are given" => letters(alloc),
         "numbers are given" => numbers(alloc),
         "the first free text is found" => free(alloc),
-        _ => None,
+        _ => crate::name_rows::holds(alloc, words),
     }
 }

@@ -1,3 +1,6 @@
 pub mod Chains
 pub mod Tables
 pub mod Tries
+pub mod Choices
+pub mod Stands
+pub mod Inside

@@ -4,3 +4,6 @@ pub mod Texts
 pub mod TextLaws
 pub mod Free
 pub mod Chained
+pub mod InOrder
+pub mod Steps
+pub mod Inside

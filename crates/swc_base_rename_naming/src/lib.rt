@@ -5,14 +5,20 @@
 //! a `ReverseMap` keeps which ids were given a text.
 #![tactic(auto)]
 
+mod asked;
 mod free;
 mod hygiene;
+mod in_order;
 mod lawful;
+mod nested;
 mod reverse_map;
 mod texts;
 
+pub use asked::{Analysis, Nesting};
 pub use free::{Taken, free_text};
 pub use hygiene::HygieneRenamer;
+pub use in_order::names_in_order;
 pub use lawful::Renamer;
+pub use nested::names_by_scope;
 pub use reverse_map::{Iter, ReverseMap};
 pub use texts::numbered;

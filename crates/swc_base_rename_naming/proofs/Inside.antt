@@ -1,0 +1,177 @@
+-- Scopes that are named one in the other.
+use Rattle.std.proofs.Common.{◌≡◌, ℕ, ◌+◌, ◌<◌, ◌≤◌, Bool, true, false, ◌&&◌, ◌||◌, List, [], ◌∷◌, ◌++◌, length, take, get_or, refl, sym, ◌∙◌, ap, inl, inr, arith, append_assoc}
+use Rattle.std.specs.List.{AllByRecursion, list_any}
+use Rattle.std.specs.Str.{bytes_eq}
+use Rattle.std.proofs.lemmas.Bool.{false_from_ne_true}
+use Rattle.std.proofs.lemmas.List.{append-nil}
+use Rattle.std.proofs.lemmas.List.Folds.{list_any-append}
+use Rattle.swc_base_rename_naming.specs.Chained.{IsChild, ids_of, outer_ids}
+use Rattle.swc_base_rename_naming.specs.InOrder.{Choice, Site, chosen_text}
+use Rattle.swc_base_rename_naming.specs.Inside.{IsInPreorder, IsOver, IsScopeDone, IsSettled, MayBegin, scope_at}
+use Rattle.swc_base_rename_naming.specs.Steps.{Holds, IsDone, Naming, Stands, id_at, rules}
+use Rattle.swc_base_rename_naming.specs.declared.reverse_map.ReverseMap.{ReverseMap}
+use Rattle.swc_base_rename_naming.specs.declared.in_order.Names.{Names}
+use Rattle.swc_base_rename_naming.proofs.Stands.{next_taken}
+
+-- what holds of how scopes lie in one another
+pub record Laws (surrounds : ℕ → ℕ → Bool) : Type 0 where
+  pub own : (s : ℕ) → surrounds s s ≡ true
+  pub through : (s t u : ℕ) → surrounds s t ≡ true → surrounds t u ≡ true → surrounds s u ≡ true
+  pub same : (s t : ℕ) → surrounds s t ≡ true → surrounds t s ≡ true → s ≡ t
+
+all_append : {A : Type 0} (P : A → Type 0) (xs ys : List A) → AllByRecursion P xs → AllByRecursion P ys → AllByRecursion P (xs ++ ys)
+all_append P [] ys p q = q
+all_append P (x ∷ xs) ys p q = (p.0, all_append P xs ys p.1 q)
+
+all_map : {A : Type 0} (P Q : A → Type 0) (xs : List A) → ((x : A) → P x → Q x) → AllByRecursion P xs → AllByRecursion Q xs
+all_map P Q [] f p = tt
+all_map P Q (x ∷ xs) f p = (f x p.0, all_map P Q xs f p.1)
+
+any_same : {A : Type 0} (p q : A → Bool) (xs : List A) → AllByRecursion (λ x. p x ≡ q x) xs → list_any p xs ≡ list_any q xs
+any_same p q [] h = refl
+any_same p q (x ∷ xs) h = ap (λ b. b || list_any p xs) h.0 ∙ ap (λ b. q x || b) (any_same p q xs h.1)
+
+any_none : {A : Type 0} (p : A → Bool) (xs : List A) → AllByRecursion (λ x. p x ≡ false) xs → list_any p xs ≡ false
+any_none p [] h = refl
+any_none p (x ∷ xs) h = ap (λ b. b || list_any p xs) h.0 ∙ any_none p xs h.1
+
+or_false : (a b : Bool) → b ≡ false → a ≡ (a || b)
+or_false true b e = refl
+or_false false b e = sym e
+
+-- what stands within a scope
+pub record Half (n : Naming) (sites : List Site) (from at : ℕ) (choices : List Choice) (names : Names) (given : ReverseMap) : Type 0 where
+  pub more : List Choice
+  pub stands : Stands n (take at sites) (choices ++ more) names
+  pub holds : Holds n (scope_at sites from) (choices ++ more) given
+  pub settled : AllByRecursion (IsSettled n.counts sites at (scope_at sites from)) (choices ++ more)
+  pub inside : AllByRecursion (λ c. n.counts (scope_at sites from) c.0.0 ≡ true) more
+
+pub half_first : (n : Naming) (sites : List Site) (from : ℕ) (choices : List Choice) (names : Names) (outer child : ReverseMap)
+    → IsChild outer child → MayBegin n sites from choices names outer → Half n sites from from choices names child
+half_first n sites from choices names outer child is_child begins =
+    let none = append-nil choices in
+    record {
+      more = [];
+      stands = rw none begins.stands;
+      holds = rw none (λ x f. ap (λ own. list_any f (own ++ outer_ids child x)) (is_child.own x) ∙ ap (list_any f) (is_child.outer x) ∙ begins.holds x f);
+      settled = rw none begins.settled;
+      inside = tt;
+    }
+
+over_later : (surrounds : ℕ → ℕ → Bool) (sites : List Site) (at to : ℕ) (c : Choice) → at ≤ to → IsOver surrounds sites at c → IsOver surrounds sites to c
+over_later surrounds sites at to c later over j from within = over j (omega arith) within
+
+settled_later : (surrounds : ℕ → ℕ → Bool) (sites : List Site) (at to s : ℕ) (c : Choice) → at ≤ to → IsSettled surrounds sites at s c → IsSettled surrounds sites to s c
+settled_later surrounds sites at to s c later settled = elim settled [ inl h ↦ inl h | inr over ↦ inr (over_later surrounds sites at to c later over) ]
+
+-- a site of the scope itself
+pub half_site : (n : Naming) (sites : List Site) (from at : ℕ) (choices : List Choice) (was is : Names) (given_was given_is : ReverseMap)
+    → Laws n.counts → at < length sites → scope_at sites at ≡ scope_at sites from
+    → (half : Half n sites from at choices was given_was)
+    → IsDone n (take at sites) (choices ++ half.more) (get_or sites at (0, 0)) is given_is
+    → Half n sites from (at + 1) choices is given_is
+half_site n sites from at choices was is given_was given_is laws within own half done =
+    let s = scope_at sites from in
+    let next = next_taken sites at within in
+    let all = append_assoc choices half.more done.more in
+    let itself : (c : Choice) → c.0.0 ≡ scope_at sites at → c.0.0 ≡ s = λ c e. e ∙ own in
+    record {
+      more = half.more ++ done.more;
+      stands = rw (next, sym all) done.stands;
+      holds = rw (sym all, sym own) done.holds;
+      settled = rw (sym all) (all_append _ (choices ++ half.more) done.more
+          (all_map _ _ (choices ++ half.more) (λ c. settled_later n.counts sites at (at + 1) s c (omega arith)) half.settled)
+          (all_map _ _ done.more (λ c e. inl (ap (λ u. n.counts u s) (itself c e) ∙ laws.own s)) done.own));
+      inside = all_append _ half.more done.more half.inside (all_map _ _ done.more (λ c e. ap (n.counts s) (itself c e) ∙ laws.own s) done.own);
+    }
+
+-- a scope in the scope begins
+counts_alike : (surrounds : ℕ → ℕ → Bool) (sites : List Site) (at s : ℕ) (c : Choice) → Laws surrounds → at < length sites → surrounds s (scope_at sites at) ≡ true
+    → IsSettled surrounds sites at s c → surrounds c.0.0 s ≡ surrounds c.0.0 (scope_at sites at)
+counts_alike surrounds sites at s c laws within round settled = elim settled [
+  | inl h ↦ h ∙ sym (laws.through c.0.0 s (scope_at sites at) h round)
+  | inr over ↦
+      let is_over : surrounds c.0.0 (scope_at sites at) ≡ false = over at (omega arith) within in
+      false_from_ne_true (surrounds c.0.0 s) (λ h. let no : true ≡ false = sym (laws.through c.0.0 s (scope_at sites at) h round) ∙ is_over in absurd (cc)) ∙ sym is_over
+]
+
+pub child_begins : (n : Naming) (sites : List Site) (from at : ℕ) (choices : List Choice) (names : Names) (given : ReverseMap)
+    → Laws n.counts → at < length sites → n.counts (scope_at sites from) (scope_at sites at) ≡ true
+    → (half : Half n sites from at choices names given)
+    → MayBegin n sites at (choices ++ half.more) names given
+child_begins n sites from at choices names given laws within round half =
+    let s = scope_at sites from in
+    let v = scope_at sites at in
+    record {
+      stands = half.stands;
+      holds = λ x f. half.holds x f ∙ any_same _ _ (choices ++ half.more)
+          (all_map _ _ (choices ++ half.more) (λ c settled. ap (λ b. b && (bytes_eq (chosen_text (rules n) c) x && f (id_at n c.0.1))) (counts_alike n.counts sites at s c laws within round settled)) half.settled);
+      settled = all_map _ _ (choices ++ half.more) (λ c settled. elim settled [ inl h ↦ inl (laws.through c.0.0 s v h round) | inr over ↦ inr over ]) half.settled;
+    }
+
+-- where a scope ended, the choices in it are over
+pub over_in : (n : Naming) (sites : List Site) (at to : ℕ) (c : Choice) → Laws n.counts → IsInPreorder n.counts sites → at ≤ to
+    → (to < length sites → n.counts (scope_at sites at) (scope_at sites to) ≡ false)
+    → n.counts (scope_at sites at) c.0.0 ≡ true → IsOver n.counts sites to c
+over_in n sites at to c laws order later ended inside j from within =
+    false_from_ne_true (n.counts c.0.0 (scope_at sites j)) (λ h.
+    let round = order at to j later from within (laws.through (scope_at sites at) c.0.0 (scope_at sites j) inside h) in
+    let no : true ≡ false = sym round ∙ ended (omega arith) in absurd (cc))
+
+-- and do not count at the scope round it
+not_outside : (n : Naming) (s v : ℕ) (c : Choice) → Laws n.counts → n.counts s v ≡ true → (v ≡ s → ⊥) → n.counts v c.0.0 ≡ true → n.counts c.0.0 s ≡ false
+not_outside n s v c laws round other inside =
+    false_from_ne_true (n.counts c.0.0 s) (λ h. other (laws.same v s (laws.through v c.0.0 s inside h) round))
+
+-- the scope in the scope ended
+pub half_child : (n : Naming) (sites : List Site) (from at to : ℕ) (choices : List Choice) (was is : Names) (given : ReverseMap)
+    → Laws n.counts → IsInPreorder n.counts sites → at ≤ to → n.counts (scope_at sites from) (scope_at sites at) ≡ true → (scope_at sites at ≡ scope_at sites from → ⊥)
+    → (half : Half n sites from at choices was given)
+    → IsScopeDone n sites at to (choices ++ half.more) is
+    → Half n sites from to choices is given
+half_child n sites from at to choices was is given laws order later round other half done =
+    let s = scope_at sites from in
+    let v = scope_at sites at in
+    let all = append_assoc choices half.more done.more in
+    record {
+      more = half.more ++ done.more;
+      stands = rw (sym all) done.stands;
+      holds = rw (sym all) (λ x f. half.holds x f
+          ∙ or_false (list_any _ (choices ++ half.more)) _ (any_none (λ c. n.counts c.0.0 s && (bytes_eq (chosen_text (rules n) c) x && f (id_at n c.0.1))) done.more
+          (all_map _ _ done.more (λ c inside. ap (λ b. b && (bytes_eq (chosen_text (rules n) c) x && f (id_at n c.0.1))) (not_outside n s v c laws round other inside)) done.inside))
+          ∙ sym (list_any-append (λ c. n.counts c.0.0 s && (bytes_eq (chosen_text (rules n) c) x && f (id_at n c.0.1))) (choices ++ half.more) done.more));
+      settled = rw (sym all) (all_append _ (choices ++ half.more) done.more
+          (all_map _ _ (choices ++ half.more) (λ c. settled_later n.counts sites at to s c later) half.settled)
+          (all_map _ _ done.more (λ c inside. inr (over_in n sites at to c laws order later done.ended inside)) done.inside));
+      inside = all_append _ half.more done.more half.inside (all_map _ _ done.more (λ c inside. laws.through s v c.0.0 round inside) done.inside);
+    }
+
+-- what stands where no scope is open
+pub record Whole (n : Naming) (sites : List Site) (at : ℕ) (names : Names) : Type 0 where
+  pub choices : List Choice
+  pub stands : Stands n (take at sites) choices names
+  pub over : AllByRecursion (IsOver n.counts sites at) choices
+
+pub root_begins : (n : Naming) (sites : List Site) (at : ℕ) (names : Names) (outer : ReverseMap)
+    → at < length sites → ((x : List ℕ) → ids_of outer x ≡ []) → (whole : Whole n sites at names) → MayBegin n sites at whole.choices names outer
+root_begins n sites at names outer within empty whole = record {
+  stands = whole.stands;
+  holds = λ x f. ap (list_any f) (empty x) ∙ sym (any_none (λ c. n.counts c.0.0 (scope_at sites at) && (bytes_eq (chosen_text (rules n) c) x && f (id_at n c.0.1))) whole.choices
+      (all_map _ _ whole.choices (λ c over. ap (λ b. b && (bytes_eq (chosen_text (rules n) c) x && f (id_at n c.0.1))) (over at (omega arith) within)) whole.over));
+  settled = all_map _ _ whole.choices (λ c over. inr over) whole.over;
+}
+
+pub root_done : (n : Naming) (sites : List Site) (at to : ℕ) (was is : Names)
+    → Laws n.counts → IsInPreorder n.counts sites → at ≤ to → (whole : Whole n sites at was) → IsScopeDone n sites at to whole.choices is → Whole n sites to is
+root_done n sites at to was is laws order later whole done = record {
+  choices = whole.choices ++ done.more;
+  stands = done.stands;
+  over = all_append _ whole.choices done.more
+      (all_map _ _ whole.choices (λ c. over_later n.counts sites at to c later) whole.over)
+      (all_map _ _ done.more (λ c inside. over_in n sites at to c laws order later done.ended inside) done.inside);
+}
+
+pub half_holds : (n : Naming) (sites : List Site) (from at : ℕ) (choices : List Choice) (names : Names) (given : ReverseMap)
+    → scope_at sites at ≡ scope_at sites from → (half : Half n sites from at choices names given) → Holds n (scope_at sites at) (choices ++ half.more) given
+half_holds n sites from at choices names given own half = rw own half.holds

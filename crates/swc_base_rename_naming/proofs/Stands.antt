@@ -1,0 +1,176 @@
+-- What stands while ids are named site by site.
+use Rattle.std.proofs.Common.{◌≡◌, ℕ, ◌+◌, ◌==◌, ◌⊎◌, Bool, true, false, ◌&&◌, ◌||◌, Some, None, List, [], ◌∷◌, ◌++◌, refl, sym, ◌∙◌, ap, inl, inr, suc, ◌<◌, length, take, drop, get_or, arith, append_assoc}
+use Rattle.std.specs.Prelude.{is_some, if◌then◌else◌}
+use Rattle.std.specs.List.{list_any, last_or, slice_get}
+use Rattle.std.specs.Str.{bytes_eq}
+use Rattle.std.proofs.Math.Seq.{take-suc}
+use Rattle.std.proofs.lemmas.List.{append-nil, take-append-drop}
+use Rattle.std.proofs.lemmas.List.Folds.{list_any-append}
+use Rattle.swc_tree_marks.specs.declared.error.PassError.{PassError}
+use Rattle.swc_tree_marks.specs.declared.error.PassError.TheVariants as pass
+use Rattle.swc_base_rename_substitution.specs.Names.{Id}
+use Rattle.swc_base_rename_naming.specs.Chained.{IsPushed, ids_of, outer_ids, own_ids}
+use Rattle.swc_base_rename_naming.specs.Counters.{greatest}
+use Rattle.swc_base_rename_naming.specs.Free.{AllTaken, IsLeastFree, IsSearchRefusal, Test, Texts}
+use Rattle.swc_base_rename_naming.specs.InOrder.{Choice, IsRefused, Rules, Site, chosen_text, is_taken, name_in, past, start}
+use Rattle.swc_base_rename_naming.specs.Steps.{Holds, IsDone, IsNameGiven, Naming, Stands, id_at, id_or, keeps_text, next_at, rules, stays, taken_at, text_at}
+use Rattle.swc_base_rename_naming.specs.declared.reverse_map.ReverseMap.{ReverseMap}
+use Rattle.swc_base_rename_naming.specs.declared.in_order.Names.{Names}
+use Rattle.swc_base_rename_naming.proofs.Choices.{is_next, is_passed, last-append, no_room, one_chosen, one_name, one_passed}
+
+if_zero : (b : Bool) (n : ℕ) → n ≡ 0 → (if b then n else 0) ≡ 0
+if_zero true n e = e
+if_zero false n e = refl
+
+pub stands_first : (n : Naming) (names : Names) → ((x : ℕ) → text_at names.texts x ≡ None) → names.next ≡ 0 → Stands n [] [] names
+stands_first n names empty zero = record {
+  chosen = record { their_sites = refl; each = λ before after c e. absurd (no_room before c after e) };
+  texts = empty;
+  counter = λ u. if_zero (names.scope == u) names.next zero;
+}
+
+pub holds_first : (n : Naming) (s : ℕ) (given : ReverseMap) → ((x : List ℕ) → ids_of given x ≡ []) → Holds n s [] given
+holds_first n s given empty x f = ap (list_any f) (empty x)
+
+-- behind what a map has stands one id more, where the text is its
+swap_or : (a f o : Bool) → ((a || (f || false)) || o) ≡ ((a || o) || f)
+swap_or true f o = refl
+swap_or false true true = refl
+swap_or false true false = refl
+swap_or false false true = refl
+swap_or false false false = refl
+
+or_none : (b : Bool) → b ≡ (b || false)
+or_none true = refl
+or_none false = refl
+
+any_pushed : (f : Id → Bool) (b : Bool) (own outer : List Id) (id : Id) → list_any f ((if b then own ++ id ∷ [] else own) ++ outer) ≡ (list_any f (own ++ outer) || (b && f id))
+any_pushed f true own outer id =
+    list_any-append f (own ++ id ∷ []) outer
+    ∙ ap (λ b. b || list_any f outer) (list_any-append f own (id ∷ []))
+    ∙ swap_or (list_any f own) (f id) (list_any f outer)
+    ∙ ap (λ b. b || f id) (sym (list_any-append f own outer))
+any_pushed f false own outer id = or_none (list_any f (own ++ outer))
+
+-- whether a choice counts, has the text and passes the test
+abbrev counted : Naming → ℕ → List ℕ → (Id → Bool) → Choice → Bool
+counted n s x f c = n.counts c.0.0 s && (bytes_eq (chosen_text (rules n) c) x && f (id_at n c.0.1))
+
+-- one id more
+pub holds_more : (n : Naming) (s : ℕ) (choices : List Choice) (c : Choice) (was is : ReverseMap) (text : List ℕ) (id : Id)
+    → Holds n s choices was → n.counts c.0.0 s ≡ true → text ≡ chosen_text (rules n) c → id ≡ id_at n c.0.1 → IsPushed text id was is → Holds n s (choices ++ c ∷ []) is
+holds_more n s choices c was is text id before counts texts ids pushed x f =
+    ap (λ own. list_any f (own ++ outer_ids is x)) (pushed.own x)
+    ∙ ap (λ outer. list_any f ((if bytes_eq text x then own_ids was x ++ id ∷ [] else own_ids was x) ++ outer)) (pushed.outer x)
+    ∙ any_pushed f (bytes_eq text x) (own_ids was x) (outer_ids was x) id
+    ∙ ap (λ b. b || (bytes_eq text x && f id)) (before x f)
+    ∙ ap (λ t. list_any (counted n s x f) choices || (bytes_eq t x && f id)) texts
+    ∙ ap (λ y. list_any (counted n s x f) choices || (bytes_eq (chosen_text (rules n) c) x && f y)) ids
+    ∙ ap (λ b. list_any (counted n s x f) choices || (b && (bytes_eq (chosen_text (rules n) c) x && f (id_at n c.0.1)))) (sym counts)
+    ∙ ap (λ b. list_any (counted n s x f) choices || b) (or_none _)
+    ∙ sym (list_any-append (counted n s x f) choices (c ∷ []))
+
+same_start : (r : Rules) (goes_on : Bool) (names : Names) (choices : List Choice) (s : ℕ) → (if names.scope == s then names.next else 0) ≡ past s (last_or None choices) → next_at goes_on names s ≡ (if goes_on then past s (last_or None choices) else 0)
+same_start r true names choices s e = e
+same_start r false names choices s e = refl
+
+-- a search by what stands is one by the choices
+same_search : (P : Texts → Test → ℕ → Type 0) (text text' : Texts) (taken taken' : Test) (n n' : ℕ) → text ≡ text' → ((x : List ℕ) → taken x ≡ taken' x) → n ≡ n' → P text taken n → P text' taken' n'
+same_search P text text' taken taken' n n' e f g h =
+    let same : taken ≡ taken' = λ i x. f x i in
+    rw (sym e, sym same, sym g) h
+
+pub by_choices : (n : Naming) (P : Texts → Test → ℕ → Type 0) (done : List Site) (choices : List Choice) (names : Names) (given : ReverseMap) (site : Site) (id : Id)
+    → Stands n done choices names → Holds n site.0 choices given → slice_get n.ids site.1 ≡ Some id
+    → P (n.text id) (taken_at n.preserved n.occurs given site.0) (next_at n.goes_on names site.0)
+    → P (Rules.text (rules n) site.1) (is_taken (rules n) choices site.0) (start (rules n) choices site.0)
+by_choices n P done choices names given site id stands holds found h =
+    same_search P _ _ _ _ _ _
+    (ap (λ o k. n.text (id_or o) k) (sym found))
+    (λ x. ap (λ b. n.preserved x || b) (holds x (n.occurs site.0)))
+    (same_start (rules n) n.goes_on names choices site.0 (stands.counter site.0))
+    h
+
+pub stays_not : (n : Naming) (x : ℕ) (id : Id) → slice_get n.ids x ≡ Some id → keeps_text n.keeps id ≡ false → Rules.stays (rules n) x ≡ false
+stays_not n x id found changes = ap (stays n.keeps) found ∙ changes
+
+-- a site at which an id got its name
+one_more : (n : Naming) (done : List Site) (choices : List Choice) (site : Site) (id : Id) (was is : Names) (given_was given_is : ReverseMap)
+    → Stands n done choices was → Holds n site.0 choices given_was
+    → slice_get n.ids site.1 ≡ Some id → keeps_text n.keeps id ≡ false → text_at was.texts site.1 ≡ None
+    → (g : IsNameGiven (n.text id) (taken_at n.preserved n.occurs given_was site.0) (next_at n.goes_on was site.0) id site was is given_was given_is)
+    → Stands n (done ++ site ∷ []) (choices ++ (site, g.counter) ∷ []) is
+one_more n done choices site id was is given_was given_is stands holds found changes none g =
+    let r = rules n in
+    let no_name = sym (stands.texts site.1) ∙ none in
+    let named = is_next r done choices site stands.chosen (stays_not n site.1 id found changes) no_name in
+    let chosen = by_choices n (λ text taken start. IsLeastFree text taken start g.counter) done choices was given_was site id stands holds found g.least in
+    record {
+      chosen = one_chosen r done choices site g.counter stands.chosen named chosen;
+      texts = λ x. g.kept.texts x
+          ∙ ap (λ o. if site.1 == x then Some (n.text id g.counter) else o) (stands.texts x)
+          ∙ ap (λ o. if site.1 == x then Some (n.text (id_or o) g.counter) else name_in r choices x) (sym found)
+          ∙ sym (one_name r choices (site, g.counter) no_name x);
+      counter = λ u. ap (λ p. if p == u then is.next else 0) g.kept.scope
+          ∙ ap (λ p. if site.0 == u then p else 0) g.kept.next
+          ∙ ap (past u) (sym (last-append None choices (site, g.counter)));
+    }
+
+pub done_named : (n : Naming) (done : List Site) (choices : List Choice) (site : Site) (id : Id) (was is : Names) (given_was given_is : ReverseMap)
+    → slice_get n.ids site.1 ≡ Some id → keeps_text n.keeps id ≡ false → text_at was.texts site.1 ≡ None
+    → IsNameGiven (n.text id) (taken_at n.preserved n.occurs given_was site.0) (next_at n.goes_on was site.0) id site was is given_was given_is
+    → Stands n done choices was → Holds n site.0 choices given_was → n.counts site.0 site.0 ≡ true
+    → IsDone n done choices site is given_is
+done_named n done choices site id was is given_was given_is found changes none g stands holds counts = record {
+  more = (site, g.counter) ∷ [];
+  own = (refl, tt);
+  stands = one_more n done choices site id was is given_was given_is stands holds found changes none g;
+  holds = holds_more n site.0 choices (site, g.counter) given_was given_is (n.text id g.counter) id holds counts (ap (λ o. n.text (id_or o) g.counter) (sym found)) (ap id_or (sym found)) g.kept.pushed;
+}
+
+-- a site at which none did
+pub done_passed : (n : Naming) (done : List Site) (choices : List Choice) (site : Site) (names : Names) (given : ReverseMap)
+    → (stays n.keeps (slice_get n.ids site.1) ≡ true) ⊎ (is_some (text_at names.texts site.1) ≡ true)
+    → Stands n done choices names → Holds n site.0 choices given → IsDone n done choices site names given
+done_passed n done choices site names given why stands holds =
+    let r = rules n in
+    let passed = is_passed r done choices site stands.chosen (elim why [ inl e ↦ inl e | inr e ↦ inr (ap is_some (sym (stands.texts site.1)) ∙ e) ]) in
+    let same = append-nil choices in
+    record {
+      more = [];
+      own = tt;
+      stands = rw same (record { chosen = one_passed r done choices site stands.chosen passed; texts = stands.texts; counter = stands.counter });
+      holds = rw same holds;
+    }
+
+-- the sites up to the next
+pub next_taken : (sites : List Site) (i : ℕ) → i < length sites → take (i + 1) sites ≡ take i sites ++ get_or sites i (0, 0) ∷ []
+next_taken sites i within =
+    let e : i + 1 ≡ suc i = omega arith in
+    ap (λ k. take k sites) e ∙ take-suc sites i (0, 0) within
+
+pub split_at : (sites : List Site) (i : ℕ) → i < length sites → sites ≡ take i sites ++ get_or sites i (0, 0) ∷ drop (i + 1) sites
+split_at sites i within =
+    sym (take-append-drop (i + 1) sites)
+    ∙ ap (λ l. l ++ drop (i + 1) sites) (next_taken sites i within)
+    ∙ append_assoc (take i sites) (get_or sites i (0, 0) ∷ []) (drop (i + 1) sites)
+
+-- why names are refused
+pub refused_at : (n : Naming) (done after : List Site) (choices : List Choice) (site : Site) (id : Id) (names : Names) (given : ReverseMap) (e : PassError)
+    → slice_get n.ids site.1 ≡ Some id → keeps_text n.keeps id ≡ false → text_at names.texts site.1 ≡ None
+    → IsSearchRefusal (n.text id) (taken_at n.preserved n.occurs given site.0) (next_at n.goes_on names site.0) e
+    → Stands n done choices names → Holds n site.0 choices given
+    → IsRefused (rules n) (done ++ site ∷ after) e
+refused_at n done after choices site id names given pass.NoMemory found changes none h stands holds = tt
+refused_at n done after choices site id names given pass.CounterSpent found changes none h stands holds = record {
+  before = done;
+  site = site;
+  after = after;
+  stands = refl;
+  named = is_next (rules n) done choices site stands.chosen (stays_not n site.1 id found changes) (sym (stands.texts site.1) ∙ none);
+  choices = choices;
+  chosen = stands.chosen;
+  none_free = by_choices n (λ text taken start. AllTaken text taken start greatest) done choices names given site id stands holds found h;
+}
+refused_at n done after choices site id names given pass.MarksSpent found changes none h stands holds = absurd h
+refused_at n done after choices site id names given pass.NotAssignable found changes none h stands holds = absurd h

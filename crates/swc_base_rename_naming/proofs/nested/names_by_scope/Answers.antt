@@ -1,0 +1,35 @@
+use Rattle.std.proofs.Common.{◌||◌, ◌<◌, ◌≤◌, [], length, not, arith}
+use Rattle.std.proofs.lemmas.Result.{err_from_is_err_and}
+use Rattle.swc_base_rename_naming.specs.Steps.{Naming, naming}
+use Rattle.swc_base_rename_naming.proofs.Inside.{Laws, root_begins, root_done}
+use Rattle.swc_base_rename_naming.proofs.Stands.{stands_first}
+use Rattle.swc_base_rename_naming.proofs.nested.names_by_scope.Goals as goal
+
+pub loop-at-init : goal.loop-at-init
+loop-at-init g c =
+    let n : Naming = naming (g.R.Renamer.text c.args.renamer.now) (g.R.Renamer.MANGLE || not g.R.Renamer.RESET_N) (g.A.Analysis.keeps c.args.analysis.now) (g.A.Analysis.preserved c.args.analysis.now) (g.A.Analysis.occurs c.args.analysis.now) (g.A.Nesting.surrounds c.args.analysis.now) c.args.ids.now in
+    let sites = c.args.sites.now in
+    record { fits = omega arith; whole = record { choices = []; stands = stands_first n c.new-names.result c.new-names.ensures.texts c.new-names.ensures.next; over = tt } }
+
+pub returns-in_err-at-clause-refused : goal.returns-in_err-at-clause-refused
+returns-in_err-at-clause-refused g c =
+    let n : Naming = naming (g.R.Renamer.text c.args.renamer.now) (g.R.Renamer.MANGLE || not g.R.Renamer.RESET_N) (g.A.Analysis.keeps c.args.analysis.now) (g.A.Analysis.preserved c.args.analysis.now) (g.A.Analysis.occurs c.args.analysis.now) (g.A.Nesting.surrounds c.args.analysis.now) c.args.ids.now in
+    let sites = c.args.sites.now in
+    let within : c.loop-at.at < length sites = omega arith in
+    let whole = c.loop-at.invariant.whole in
+    let refused = err_from_is_err_and c.from_residual.result c.from_residual.ensures.1 in
+    rw (refused.1, refused.2) (c.in_err-at.ensures.refused whole.choices (root_begins n sites c.loop-at.at c.loop-at.names c.new-outer.result within c.new-outer.ensures whole))
+
+pub loop-at-preserved : goal.loop-at-preserved
+loop-at-preserved g c =
+    let n : Naming = naming (g.R.Renamer.text c.args.renamer.now) (g.R.Renamer.MANGLE || not g.R.Renamer.RESET_N) (g.A.Analysis.keeps c.args.analysis.now) (g.A.Analysis.preserved c.args.analysis.now) (g.A.Analysis.occurs c.args.analysis.now) (g.A.Nesting.surrounds c.args.analysis.now) c.args.ids.now in
+    let sites = c.args.sites.now in
+    let laws : Laws (g.A.Nesting.surrounds c.args.analysis.now) = record { own = g.met.A.Nesting.own c.args.analysis.now; through = g.met.A.Nesting.through c.args.analysis.now; same = g.met.A.Nesting.same c.args.analysis.now } in
+    let within : c.loop-at.at < length sites = omega arith in
+    let whole = c.loop-at.invariant.whole in
+    let done = c.in_ok-at.ensures.named in
+    let later : c.loop-at.at ≤ c.in_ok-at.at = omega (arith, done.further) in
+    record {
+      fits = done.fits;
+      whole = root_done n sites c.loop-at.at c.in_ok-at.at c.loop-at.names c.name_scope.new.names laws c.requires later whole (done.done whole.choices (root_begins n sites c.loop-at.at c.loop-at.names c.new-outer.result within c.new-outer.ensures whole));
+    }

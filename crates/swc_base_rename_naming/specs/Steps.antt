@@ -1,0 +1,120 @@
+-- Names as they are given, site by site.
+use Rattle.std.specs.Prelude.{◌≡◌, ℕ, ◌+◌, ◌==◌, ◌⊎◌, Bool, true, false, ◌&&◌, ◌||◌, Option, Some, None, is_some, List, ◌∷◌, ◌++◌, codes, MatchOption, unwrap_or, [], if◌then◌else◌}
+use Rattle.std.specs.Borrow.{Bor}
+use Rattle.std.specs.Ordering.{nat_cmp}
+use Rattle.std.specs.List.{AllByRecursion, last_or, list_any, slice_get}
+use Rattle.std.specs.Option.{option_map_or}
+use Rattle.std.specs.BTreeMap.{BTreeMap, get}
+use Rattle.std.specs.Str.{bytes_eq}
+use Rattle.swc_base_rename_substitution.specs.Names.{Id}
+use Rattle.swc_base_rename_naming.specs.Chained.{IsPushed, ids_of}
+use Rattle.swc_base_rename_naming.specs.Free.{IsLeastFree, Test, Texts}
+use Rattle.swc_tree_marks.specs.declared.error.PassError.{PassError}
+use Rattle.swc_base_rename_naming.specs.InOrder.{AreChosen, Choice, IsRefused, Rules, Site, chosen_text, name_in, past}
+use Rattle.swc_base_rename_naming.specs.declared.reverse_map.ReverseMap.{ReverseMap}
+use Rattle.swc_base_rename_naming.specs.declared.in_order.Names.{Names}
+
+-- an id keeps its text if it is preserved, or is `eval`
+abbrev pub keeps_text : (Id → Bool) → Id → Bool
+keeps_text keeps id = keeps id || bytes_eq id.0 (codes "eval")
+
+-- what has no id stays as well
+abbrev pub stays : (Id → Bool) → Option Id → Bool
+stays keeps id = option_map_or (keeps_text keeps) id true
+
+abbrev pub id_or : Option Id → Id
+id_or id = unwrap_or id ([], [])
+
+-- all names count at each scope
+abbrev pub all_count : ℕ → ℕ → Bool
+all_count u s = true
+
+-- what names go by: the texts of ids, whether the counter goes on within a scope, which ids keep their texts, which texts
+-- nobody may get, which ids occur at a scope or below it, whether names of one scope count at another, and the ids by number
+pub record Naming : Type 0 where
+  pub text : Id → ℕ → List ℕ
+  pub goes_on : Bool
+  pub keeps : Id → Bool
+  pub preserved : List ℕ → Bool
+  pub occurs : ℕ → Id → Bool
+  pub counts : ℕ → ℕ → Bool
+  pub ids : List Id
+
+abbrev pub naming : (Id → ℕ → List ℕ) → Bool → (Id → Bool) → (List ℕ → Bool) → (ℕ → Id → Bool) → (ℕ → ℕ → Bool) → List Id → Naming
+naming text goes_on keeps preserved occurs counts ids = record {
+  text = text;
+  goes_on = goes_on;
+  keeps = keeps;
+  preserved = preserved;
+  occurs = occurs;
+  counts = counts;
+  ids = ids;
+}
+
+abbrev pub id_at : Naming → ℕ → Id
+id_at n x = id_or (slice_get n.ids x)
+
+-- the rules for the ids' numbers
+abbrev pub rules : Naming → Rules
+rules n = record {
+  text = λ x k. n.text (id_at n x) k;
+  goes_on = n.goes_on;
+  stays = λ x. stays n.keeps (slice_get n.ids x);
+  preserved = n.preserved;
+  occurs = λ s x. n.occurs s (id_at n x);
+  counts = n.counts;
+}
+
+-- a table from numbers to texts, as a function
+abbrev pub text_at : BTreeMap ℕ (List ℕ) → ℕ → Option (List ℕ)
+text_at = get nat_cmp
+
+-- an id is to get a name if it has none, and does not keep its text
+abbrev pub IsNamable : (Id → Bool) → List Id → BTreeMap ℕ (List ℕ) → ℕ → Option (Bor Id) → Type 0
+IsNamable keeps ids texts number found = MatchOption found
+    ((stays keeps (slice_get ids number) ≡ true) ⊎ (is_some (text_at texts number) ≡ true))
+    (λ id. (slice_get ids number ≡ Some id.now) × ((keeps_text keeps id.now ≡ false) × (text_at texts number ≡ None)))
+
+-- what is taken at a scope
+abbrev pub taken_at : (List ℕ → Bool) → (ℕ → Id → Bool) → ReverseMap → ℕ → Test
+taken_at preserved occurs given scope text = preserved text || list_any (occurs scope) (ids_of given text)
+
+-- the counter from which an id of a scope starts
+abbrev pub next_at : Bool → Names → ℕ → ℕ
+next_at goes_on names scope = if goes_on && (names.scope == scope) then names.next else 0
+
+-- a text was put down for the id of a number, and the counter after it
+pub record IsKept (text : List ℕ) (id : Id) (site : Site) (after : ℕ) (was is : Names) (given_was given_is : ReverseMap) : Type 0 where
+  pub texts : (x : ℕ) → text_at is.texts x ≡ (if site.1 == x then Some text else text_at was.texts x)
+  pub scope : is.scope ≡ site.0
+  pub next : is.next ≡ after
+  pub pushed : IsPushed text id given_was given_is
+
+-- an id got the text of the least counter from its start on that is free, and it was put down
+pub record IsNameGiven (text : Texts) (taken : Test) (start : ℕ) (id : Id) (site : Site) (was is : Names) (given_was given_is : ReverseMap) : Type 0 where
+  pub counter : ℕ
+  pub least : IsLeastFree text taken start counter
+  pub kept : IsKept (text counter) id site (counter + 1) was is given_was given_is
+
+-- the map has the ids of the choices whose scopes count at a scope
+abbrev pub Holds : Naming → ℕ → List Choice → ReverseMap → Type 0
+Holds n s choices given = (x : List ℕ) (f : Id → Bool) → list_any f (ids_of given x) ≡ list_any (λ c. n.counts c.0.0 s && (bytes_eq (chosen_text (rules n) c) x && f (id_at n c.0.1))) choices
+
+-- the ids of the sites that are done were named in order, and texts and counter are those of the choices
+pub record Stands (n : Naming) (done : List Site) (choices : List Choice) (names : Names) : Type 0 where
+  pub chosen : AreChosen (rules n) done choices
+  pub texts : (x : ℕ) → text_at names.texts x ≡ name_in (rules n) choices x
+  pub counter : (u : ℕ) → (if names.scope == u then names.next else 0) ≡ past u (last_or None choices)
+
+-- one site more is done, with a choice of its scope or none
+pub record IsDone (n : Naming) (done : List Site) (choices : List Choice) (site : Site) (is : Names) (given : ReverseMap) : Type 0 where
+  pub more : List Choice
+  pub own : AllByRecursion (λ c. c.0.0 ≡ site.0) more
+  pub stands : Stands n (done ++ site ∷ []) (choices ++ more) is
+  pub holds : Holds n site.0 (choices ++ more) given
+
+abbrev pub IsSiteDone : Naming → Site → Names → Names → ReverseMap → ReverseMap → Type 0
+IsSiteDone n site was is given_was given_is = (done : List Site) (choices : List Choice) → Stands n done choices was → Holds n site.0 choices given_was → n.counts site.0 site.0 ≡ true → IsDone n done choices site is given_is
+
+abbrev pub IsSiteRefused : Naming → Site → Names → ReverseMap → PassError → Type 0
+IsSiteRefused n site was given_was e = (done after : List Site) (choices : List Choice) → Stands n done choices was → Holds n site.0 choices given_was → IsRefused (rules n) (done ++ site ∷ after) e
