@@ -4,3 +4,4 @@ pub mod Order
 pub mod Preserved
 pub mod Named
 pub mod Laws
+pub mod Walk
