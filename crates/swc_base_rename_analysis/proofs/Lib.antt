@@ -1,3 +1,4 @@
 pub mod InOrder
 pub mod OneMap
 pub mod Layers
+pub mod Numbered

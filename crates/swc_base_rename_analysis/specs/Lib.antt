@@ -5,3 +5,4 @@ pub mod Preserved
 pub mod Named
 pub mod Laws
 pub mod Walk
+pub mod Numbers

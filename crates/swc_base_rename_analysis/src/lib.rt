@@ -6,6 +6,7 @@
 #![tactic(auto)]
 
 mod layout;
+mod numbers;
 mod own_names;
 mod scopes;
 mod walk;
