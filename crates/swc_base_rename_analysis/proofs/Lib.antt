@@ -2,3 +2,4 @@ pub mod InOrder
 pub mod OneMap
 pub mod Layers
 pub mod Numbered
+pub mod ReadOff

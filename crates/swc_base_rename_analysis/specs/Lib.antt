@@ -6,3 +6,4 @@ pub mod Named
 pub mod Laws
 pub mod Walk
 pub mod Numbers
+pub mod Read

@@ -25,8 +25,11 @@ abbrev pub known_ids : Entries → List Known
 known_ids es = map known_of es.entries.items
 
 -- ids of the text `arguments` are passed over
+abbrev pub is_analysed_text : List ℕ → Bool
+is_analysed_text x = not (bytes_eq x (codes "arguments"))
+
 abbrev pub is_analysed : Id → Bool
-is_analysed x = not (bytes_eq x.0 (codes "arguments"))
+is_analysed x = is_analysed_text x.0
 
 abbrev pub same_id : Id → Id → Bool
 same_id x y = bytes_eq x.0 y.0 && bytes_eq x.1 y.1

@@ -1,13 +1,13 @@
 //! Ids by number.
 ghost use Rattle.std.specs.Prelude.{◌≡◌, Some, [], IfOk, OnOk, map};
 ghost use Rattle.std.specs.BTreeMap.{get_by};
-ghost use Rattle.swc_base_rename_analysis.specs.Numbers.{IsTable, id_met, is_analysed as is_id_analysed, known_by, known_ids, known_of, number_in, seen, with_id, with_met};
+ghost use Rattle.swc_base_rename_analysis.specs.Numbers.{IsTable, id_met, is_analysed_text as is_text_analysed, known_by, known_ids, known_of, number_in, seen, with_id, with_met};
 ghost use Rattle.swc_base_rename_analysis.specs.Walk.{met_of};
 
 use crate::layout::Name;
 use std::alloc::{AllocError, Global};
 use std::collections::BTreeMap;
-use swc_tree_marks::{Id, Ident, NoMemory, SyntaxContext};
+use swc_tree_marks::{Id, Ident, JsWord, NoMemory, SyntaxContext};
 use swc_tree_scoping::{is_binding, is_reference};
 
 /// What is known of an id.
@@ -22,11 +22,11 @@ pub struct Entry {
     pub stands_outside: bool,
 }
 
-// Ids of the text `arguments` are passed over.
-fn is_analysed(id: &Id) -> bool
-    ensures { result ≡ is_id_analysed id.now }
+/// Whether ids of the text are not passed over, as those of `arguments` are.
+pub fn is_analysed(text: &JsWord) -> bool
+    ensures { result ≡ is_text_analysed text.now }
 {
-    id.0.as_str() != "arguments"
+    text.as_str() != "arguments"
 }
 
 impl Entry {
@@ -35,7 +35,7 @@ impl Entry {
         ensures { OnOk result (known_of self.new ≡ seen position (met_of name.now) (known_of self.old)) }
     {
         let standing = name.standing;
-        if (is_binding(standing) || is_reference(standing)) && is_analysed(&self.id) {
+        if (is_binding(standing) || is_reference(standing)) && is_analysed(&self.id.0) {
             self.positions.push(position)?;
         }
         self.is_bound = self.is_bound || is_binding(standing);
