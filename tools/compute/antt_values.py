@@ -99,6 +99,7 @@ STANDARD = {
     'unwrap_or': (2, '(lambda o, d: d if o is None else o[0])({0}, {1})'),
     'option_map': (2, '(lambda f, o: None if o is None else (f(o[0]),))({0}, {1})'),
     'option_map_or': (3, '(lambda f, o, d: d if o is None else f(o[0]))({0}, {1}, {2})'),
+    'option_or': (2, '(lambda a, b: b if a is None else a)({0}, {1})'),
     'option_and_then': (2, '(lambda f, o: None if o is None else f(o[0]))({0}, {1})'),
     'Some': (1, '({0},)'),
 }

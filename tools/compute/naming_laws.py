@@ -275,3 +275,57 @@ def hygiene_settles(t):
     answer = with_hygiene(scoping.resolved(D.all, t, 1, 2))
     again = with_hygiene(scoping.resolved(D.all, answer, 1, 2))
     return answer == again or Bad('first:', answer, 'then:', again)
+
+
+def layout_scopes(t):
+    """the paths of all nodes that open a scope of the analysis, in the order in which they are entered"""
+    found = []
+    for p, (place, node) in t.program.at.items():
+        if node[0] == 'Tree':
+            for_body = bool(p) and t.A.is_for_body(t.program.at[p[:-1]][1], p[-1])
+            kind = t.A.body_kind(for_body, t.A.own_kind(place, node[1], t.program.P.has_own_name(node[2])))
+            if kind is not None:
+                found.append((t.key((p, ()))[0], p))
+    return [p for _, p in sorted(found)]
+
+
+@law(few_names)
+def layout_has_scopes_names_and_uses(t):
+    """one walk lays out the scopes in their order, each with its parent, and the names so that those of a scope are a stretch"""
+    analysis = Analysis(D.all, t)
+    laid = D.all.swc_base_rename_analysis.Walk.laid_out(t)
+    return layout_fault(analysis, laid)
+
+
+def layout_fault(t, laid):
+    paths = layout_scopes(t)
+    number = {p: n for n, p in enumerate(paths)}
+    if len(laid.regions) != len(paths):
+        return Bad('number of scopes', repr((len(laid.regions), paths)))
+    for n, (p, region) in enumerate(zip(paths, laid.regions)):
+        around = [number[s] for s, _ in t.around[p]]
+        if region.parent != (tuple(around[:1]) or None):
+            return Bad('parent of', repr((n, p, region.parent, around)))
+    names = sorted(((t.key(((), p))[1], p, r, x) for p, r, x in t.ids if t.P.is_name_or_label(r)))
+    declared, occurs, loose, bound = [], set(), set(), set()
+    for k, m in enumerate(laid.names):
+        x = (m.ident.sym, m.ident.ctxt)
+        if t.program.S.is_binding(m.standing):
+            bound.add(x)
+            scope = m.scope
+            if scope is not None and not t.A.takes(laid.regions[scope[0]].kind, m.standing):
+                scope = laid.regions[scope[0]].function
+            if scope is not None and naming.IsAnalysed(x):
+                declared.append((scope[0], x))
+        if naming.is_name(t, m.standing) and naming.IsAnalysed(x):
+            occurs |= {(n, x) for n, region in enumerate(laid.regions) if region.start <= k < region.end}
+        if not m.exported and x[1] != ():
+            loose.add(x)
+    wanted = sorted(t.declares, key=lambda row: t.key((row[0], row[1])))
+    if sorted(declared, key=lambda row: row[0]) != [(number[s], x) for s, _, x in wanted]:
+        return Bad('sites', repr((declared, wanted)))
+    if occurs != {(number[s], x) for s, x in t.occurs}:
+        return Bad('occurrences', repr(occurs ^ {(number[s], x) for s, x in t.occurs}))
+    if {x for x in loose if x not in bound} != {x for _, _, x in t.ids if naming.IsLoose(t, x)}:
+        return Bad('loose', '')
+    return True if names else None

@@ -5,3 +5,6 @@ pub mod Spent
 pub mod Cost
 pub mod Kept
 pub mod Added
+pub mod Layers
+pub mod Numbered
+pub mod ReadOff

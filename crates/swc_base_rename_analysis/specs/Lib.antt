@@ -4,3 +4,6 @@ pub mod Order
 pub mod Preserved
 pub mod Named
 pub mod Laws
+pub mod Walk
+pub mod Numbers
+pub mod Read

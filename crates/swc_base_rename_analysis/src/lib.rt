@@ -2,15 +2,24 @@
 //!
 //! They are definitions, in `specs/`: `Analysis` says which scopes a renamer tells apart, which of them declares an id
 //! and where an id occurs, `Order` in which order ids get their names, `Preserved` which texts no new name may be,
-//! `Named` which new names they get. `Laws` is what is proved of them: each law is the contract of a function that does
-//! nothing.
+//! `Named` which new names they get, `Walk` how one walk lays out a tree's scopes and names, `Numbers` and `Read` what
+//! is read off that. `Laws` is what is proved of the definitions: each law is the contract of a function that does nothing.
 #![tactic(auto)]
 
+mod analysis;
+mod layout;
+mod numbers;
+mod own_names;
 mod scopes;
+mod walk;
 
 ghost use Rattle.swc_base_rename_analysis.specs.Laws.{AddsFew, CostIsOne, EachTreesSitesAreInOrder, KeepsScopes, NamedFixesTheMap, NamedIsNotSpent};
 
+pub use analysis::{Analysis, Site, analyse};
+pub use layout::{Layout, Name, Region};
+pub use numbers::Entry;
 pub use scopes::ScopeKind;
+pub use walk::lay_out;
 
 /// A tree and a renamer leave one map, where all names count, and where only those of a scope and of the scopes round it do.
 pub fn named_fixes_the_map()

@@ -1,0 +1,96 @@
+-- The walk at each form of a node.
+use Rattle.std.proofs.Common.{◌≡◌, ℕ, zero, suc, ◌+◌, add-one, Option, Some, None, List, [], ◌∷◌, length, refl, sym, ap, ◌∙◌}
+use Rattle.std.specs.List.{slice_get}
+use Rattle.std.specs.Option.{option_or}
+use Rattle.swc_tree_marks.specs.declared.ident.Ident.{Ident}
+use Rattle.swc_tree_node.specs.declared.kind.Kind.{Kind}
+use Rattle.swc_tree_node.specs.declared.node.Node.{Node, List as Many, Identifier, Tree, out-Node}
+use Rattle.swc_tree_node.specs.declared.node.Node.TheVariants.{outs-List, outs-Identifier, outs-Tree}
+use Rattle.swc_tree_node.specs.declared.node.Node.TheOpen.{Node-F}
+use Rattle.swc_tree_scoping.specs.declared.places.Place.{Place}
+use Rattle.swc_tree_scoping.specs.declared.places.Scope.{Scope}
+use Rattle.swc_tree_scoping.specs.declared.below.PlacesBelow.{PlacesBelow}
+use Rattle.swc_tree_scoping.specs.declared.below.PlacesBelow.TheVariants as below
+use Rattle.swc_tree_scoping.specs.Folds.{each_in}
+use Rattle.swc_tree_scoping.specs.Places.{children_in, place_below}
+use Rattle.swc_tree_scoping.specs.Below.{fields_are, places_of, scope_of_fields}
+use Rattle.swc_tree_scoping.proofs.Under.{fold_in_place_out}
+use Rattle.swc_tree_scoping.proofs.Children.{fields_below, items_below}
+use Rattle.swc_base_rename_analysis.specs.declared.scopes.ScopeKind.{ScopeKind}
+use Rattle.swc_base_rename_analysis.specs.Analysis.{body_kind, key_field}
+use Rattle.swc_base_rename_analysis.specs.Walk.{Laid, Outside, Walk, begin, end, enter, in_turn, kind_opened, name_outside, own_use, walk_fields, walk_in, walk_inside, walk_items, walk_layer, walk_opening, walk_optional, walk_scope, walks_at}
+
+each_at : (places : ℕ → Place) (ts : List Node) (i : ℕ) → slice_get (each_in walk_in places ts) i ≡ walks_at places ts i
+each_at places [] i = refl
+each_at places (t ∷ ts) zero = refl
+each_at places (t ∷ ts) (suc i) = each_at (λ i. places (suc i)) ts i
+
+walk_out : (w : Place) (t : Node) → walk_in w t ≡ walk_layer w (out-Node t) (walks_at (place_below w t) (children_in (out-Node t)))
+walk_out w t =
+    fold_in_place_out (λ w t walks. walk_layer w (out-Node t) (slice_get walks)) w t
+    ∙ ap (walk_layer w (out-Node t)) (λ j i. each_at (place_below w t) (children_in (out-Node t)) i j)
+
+at_layer : (w : Place) (t : Node) (y : Node-F Node) → out-Node t ≡ y → walk_in w t ≡ walk_layer w y (walks_at (place_below w t) (children_in y))
+at_layer w t y e = walk_out w t ∙ ap (λ y. walk_layer w y (walks_at (place_below w t) (children_in y))) e
+
+pub walk_Identifier : (w : Place) (k : Kind) (i : Ident) → walk_in w (Identifier k i) ≡ walk_layer w (Node-F.Identifier k i) (λ i. None)
+walk_Identifier w k i = at_layer w (Identifier k i) (Node-F.Identifier k i) (outs-Identifier k i)
+
+pub walk_List : (w : Place) (ts : List Node) → walk_in w (Many ts) ≡ walk_layer w (Node-F.List ts) (walks_at (places_of (below.Items w) ts) ts)
+walk_List w ts = at_layer w (Many ts) (Node-F.List ts) (outs-List ts) ∙ ap (λ places. walk_layer w (Node-F.List ts) (walks_at places ts)) (sym (items_below w ts))
+
+pub walk_Tree : (w : Place) (k : Kind) (ts : List Node) → walk_in w (Tree k ts) ≡ walk_layer w (Node-F.Tree k ts) (walks_at (places_of (below.Fields (fields_are w k ts)) ts) ts)
+walk_Tree w k ts = at_layer w (Tree k ts) (Node-F.Tree k ts) (outs-Tree k ts) ∙ ap (λ places. walk_layer w (Node-F.Tree k ts) (walks_at places ts)) (sym (fields_below w k ts))
+
+-- at a list, and at a tree, as the code has them
+pub list_walked : (w : Place) (t : Node) (ts : List Node) (p : PlacesBelow) → t ≡ Many ts → p ≡ below.Items w → (o : Outside) (l : Laid)
+    → walk_items (walks_at (places_of p ts) ts) (length ts) o l ≡ walk_in w t o l
+list_walked w t ts p e q o l =
+    ap (λ p. walk_items (walks_at (places_of p ts) ts) (length ts) o l) q
+    ∙ sym (ap (λ f. f o l) (walk_List w ts))
+    ∙ sym (ap (λ t. walk_in w t o l) e)
+
+pub tree_walked : (w : Place) (t : Node) (k : Kind) (ts : List Node) (p : PlacesBelow) → t ≡ Tree k ts → p ≡ below.Fields (fields_are w k ts)
+    → (o : Outside) (l : Laid) (opened : Option Scope) → opened ≡ scope_of_fields p → (s : Option ScopeKind) → s ≡ body_kind o.for_body (kind_opened k opened)
+    → walk_opening s w k ts (walks_at (places_of p ts) ts) o l ≡ walk_in w t o l
+tree_walked w t k ts p e q o l opened is_opened s is_kind =
+    ap (λ s. walk_opening s w k ts (walks_at (places_of p ts) ts) o l) (is_kind ∙ ap (λ c. body_kind o.for_body (kind_opened k c)) (is_opened ∙ ap scope_of_fields q))
+    ∙ ap (λ p. walk_opening (body_kind o.for_body (kind_opened k (scope_of_fields (below.Fields (fields_are w k ts))))) w k ts (walks_at (places_of p ts) ts) o l) q
+    ∙ sym (ap (λ f. f o l) (walk_Tree w k ts))
+    ∙ sym (ap (λ t. walk_in w t o l) e)
+
+-- one turn more
+pub one_turn_more : (f : ℕ → Laid → Laid) (i : ℕ) (a l b : Laid) → l ≡ in_turn f i a → b ≡ f i l → b ≡ in_turn f (i + 1) a
+one_turn_more f i a l b was new = new ∙ ap (f i) was ∙ next
+  where
+    next : f i (in_turn f i a) ≡ in_turn f (i + 1) a
+    next = rw add-one refl
+
+-- the steps of the walk at a node that opens a scope
+pub scope_walked : (s : ScopeKind) (w : Place) (k : Kind) (ts : List Node) (walks : ℕ → Option Walk) (o : Outside) (l : Laid)
+    → (key : Option ℕ) → key ≡ key_field k → (keyed : Laid) → keyed ≡ walk_optional k ts walks key o l
+    → (n : ℕ) → n ≡ length keyed.regions → (entered : Laid) → entered ≡ enter s o.scope keyed
+    → (name : Option ℕ) → name ≡ name_outside w k → (named : Laid) → named ≡ walk_optional k ts walks name o entered
+    → (begun : Laid) → begun ≡ begin n named → (used : Laid) → used ≡ own_use n o o.own_name begun
+    → (but : Option ℕ) → but ≡ option_or key name → (walked : Laid) → walked ≡ walk_fields k ts walks but (record o { scope = Some n }) used
+    → (ended : Laid) → ended ≡ end n walked → ended ≡ walk_scope s w k ts walks o l
+scope_walked s w k ts walks o l key is_key keyed is_keyed n is_n entered is_entered name is_name named is_named begun is_begun used is_used but is_but walked is_walked ended is_ended =
+    is_ended
+    ∙ ap (end n) is_walked
+    ∙ ap (λ m. end n (walk_fields k ts walks but (record o { scope = Some n }) m)) (is_used ∙ ap (own_use n o o.own_name) (is_begun ∙ ap (begin n) all_named))
+    ∙ (λ j. inside (number j) (left_out j))
+  where
+    all_keyed : keyed ≡ walk_optional k ts walks (key_field k) o l
+    all_keyed = is_keyed ∙ ap (λ f. walk_optional k ts walks f o l) is_key
+
+    number : n ≡ length (walk_optional k ts walks (key_field k) o l).regions
+    number = is_n ∙ ap (λ m. length m.regions) all_keyed
+
+    all_named : named ≡ walk_optional k ts walks (name_outside w k) o (enter s o.scope (walk_optional k ts walks (key_field k) o l))
+    all_named = is_named ∙ (λ j. walk_optional k ts walks (is_name j) o ((is_entered ∙ ap (enter s o.scope) all_keyed) j))
+
+    left_out : but ≡ option_or (key_field k) (name_outside w k)
+    left_out = is_but ∙ (λ j. option_or (is_key j) (is_name j))
+
+    inside : ℕ → Option ℕ → Laid
+    inside n but = walk_inside k ts walks but n o (walk_optional k ts walks (name_outside w k) o (enter s o.scope (walk_optional k ts walks (key_field k) o l)))
