@@ -3,7 +3,7 @@ ghost use Rattle.std.specs.Prelude.{◌≡◌, slice_get};
 ghost use Rattle.std.specs.List.{list_any};
 ghost use Rattle.std.specs.Option.{option_copied};
 ghost use Rattle.swc_tree_node.specs.declared.node.Node.{out-Node};
-ghost use Rattle.swc_base_rename_analysis.specs.Analysis.{is_such_parameter as is_such, has_such_parameter as has_such};
+ghost use Rattle.swc_base_rename_analysis.specs.Analysis.{parameter_is_rest_or_default as is_such, function_has_rest_or_default as has_such};
 ghost use Rattle.swc_base_rename_analysis.specs.Walk.{own_name_below};
 
 use swc_tree_marks::Ident;
