@@ -4,3 +4,4 @@ pub mod Tries
 pub mod Choices
 pub mod Stands
 pub mod Inside
+pub mod ByIds

@@ -7,3 +7,4 @@ pub mod Chained
 pub mod InOrder
 pub mod Steps
 pub mod Inside
+pub mod ByIds

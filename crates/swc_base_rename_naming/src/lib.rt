@@ -2,10 +2,12 @@
 //!
 //! A `Renamer` gives an id a text for each counter. All that is proved of names rests on the laws of
 //! the trait, and on nothing of an implementation. `free_text` takes the first text that is free, and
-//! a `ReverseMap` keeps which ids were given a text.
+//! a `ReverseMap` keeps which ids were given a text. `names_in_order` and `names_by_scope` name numbered
+//! ids, by what an `Analysis` says of the program, and `texts_by_id` makes a map of ids of the texts.
 #![tactic(auto)]
 
 mod asked;
+mod by_id;
 mod free;
 mod hygiene;
 mod in_order;
@@ -15,6 +17,7 @@ mod reverse_map;
 mod texts;
 
 pub use asked::{Analysis, Nesting};
+pub use by_id::texts_by_id;
 pub use free::{Taken, free_text};
 pub use hygiene::HygieneRenamer;
 pub use in_order::names_in_order;
