@@ -8,8 +8,10 @@ scope and the path of a binding.
 import scoping
 
 CRATE = 'swc_base_rename_analysis'
-# the relations that this was made from, by digests of their texts, as in scoping.py
+# the relations that this was made from, by digests of their texts, as in scoping.py; those of Between, Numbers and Read
+# speak of what the code answers, and are not transcribed
 SOURCES = {
+    'AreAscending': '64d3aee30e04',
     'Declares': '1e1eddb89f91',
     'EachOnce': '133bf1030c81',
     'FixesTheMap': '0f96e2412c82',
@@ -19,6 +21,7 @@ SOURCES = {
     'IsBound': '7b78bf7853db',
     'IsDeclaredWithin': '39acdf2e3ba3',
     'IsEarlier': '5122b63331ea',
+    'IsFirstFrom': 'e1a42cf44b28',
     'IsFreeText': '86504a02fa5b',
     'IsFromStart': 'b0fdf73a261f',
     'IsLeast': '30d69219570a',
@@ -26,11 +29,16 @@ SOURCES = {
     'IsNamedAt': '1453d9457984',
     'IsOwnName': 'cc4e04f1099b',
     'IsPreserved': '99f2eb33c799',
+    'IsRead': '26c66a0fabc2',
     'IsRound': 'c3152b98607e',
     'IsSpent': 'eb81bd4c1662',
+    'IsTable': 'ac6dd063924d',
     'Named': '6134b8a0371e',
     'NotSpent': 'ba80abc83590',
+    'Occurs': '6696b7971cf1',
     'OccursIn': '548db1287100',
+    'OneBetween': '5eb5a8aba8f8',
+    'PositionsRise': '608b580b6c94',
     'RenameCost': 'e38368e4f7e7',
     'SitesAreInOrder': '00d47712ea7c',
 }

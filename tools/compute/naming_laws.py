@@ -306,26 +306,15 @@ def layout_fault(t, laid):
         around = [number[s] for s, _ in t.around[p]]
         if region.parent != (tuple(around[:1]) or None):
             return Bad('parent of', repr((n, p, region.parent, around)))
-    names = sorted(((t.key(((), p))[1], p, r, x) for p, r, x in t.ids if t.P.is_name_or_label(r)))
-    declared, occurs, loose, bound = [], set(), set(), set()
-    for k, m in enumerate(laid.names):
-        x = (m.ident.sym, m.ident.ctxt)
-        if t.program.S.is_binding(m.standing):
-            bound.add(x)
-            scope = m.scope
-            if scope is not None and not t.A.takes(laid.regions[scope[0]].kind, m.standing):
-                scope = laid.regions[scope[0]].function
-            if scope is not None and naming.IsAnalysed(x):
-                declared.append((scope[0], x))
-        if naming.is_name(t, m.standing) and naming.IsAnalysed(x):
-            occurs |= {(n, x) for n, region in enumerate(laid.regions) if region.start <= k < region.end}
-        if not m.exported and x[1] != ():
-            loose.add(x)
+    read, numbers = D.all.swc_base_rename_analysis.Read, D.all.swc_base_rename_analysis.Numbers
+    known = numbers.known_by(laid.names, len(laid.names))
+    sites = sorted((site.scope, site.position, site.id) for site in read.sites_by(laid.regions, laid.names, len(laid.names)))
     wanted = sorted(t.declares, key=lambda row: t.key((row[0], row[1])))
-    if sorted(declared, key=lambda row: row[0]) != [(number[s], x) for s, _, x in wanted]:
-        return Bad('sites', repr((declared, wanted)))
+    if [(scope, known[i].id) for scope, _, i in sites] != [(number[s], x) for s, _, x in wanted]:
+        return Bad('sites', repr((sites, wanted)))
+    occurs = {(n, e.id) for n, region in enumerate(laid.regions) for e in known for p in e.positions if region.start <= p < region.end}
     if occurs != {(number[s], x) for s, x in t.occurs}:
         return Bad('occurrences', repr(occurs ^ {(number[s], x) for s, x in t.occurs}))
-    if {x for x in loose if x not in bound} != {x for _, _, x in t.ids if naming.IsLoose(t, x)}:
+    if {e.id[0] for e in known if read.is_loose(e)} != naming.preserved_texts(t, ()):
         return Bad('loose', '')
-    return True if names else None
+    return True if laid.names else None

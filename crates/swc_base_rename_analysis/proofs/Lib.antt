@@ -6,5 +6,6 @@ pub mod Cost
 pub mod Kept
 pub mod Added
 pub mod Layers
+pub mod Betweens
 pub mod Numbered
 pub mod ReadOff

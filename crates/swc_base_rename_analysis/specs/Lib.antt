@@ -5,5 +5,6 @@ pub mod Preserved
 pub mod Named
 pub mod Laws
 pub mod Walk
+pub mod Between
 pub mod Numbers
 pub mod Read

@@ -66,7 +66,7 @@ seen_in k m (e ∷ es) = if same_id e.id (id_met m) then seen k m e ∷ es else 
 abbrev pub with_met : ℕ → Met → List Known → List Known
 with_met k m es = seen_in k m (with_id es (id_met m))
 
-abbrev met_next : ℕ → Option Met → List Known → List Known
+abbrev pub met_next : ℕ → Option Met → List Known → List Known
 met_next k None es = es
 met_next k (Some m) es = with_met k m es
 

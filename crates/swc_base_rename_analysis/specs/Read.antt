@@ -11,7 +11,9 @@ use Rattle.swc_tree_scoping.specs.Scopes.{is_binding}
 use Rattle.swc_base_rename_analysis.specs.declared.analysis.Analysis.{Analysis}
 use Rattle.swc_base_rename_analysis.specs.declared.analysis.Site.{Site}
 use Rattle.swc_base_rename_analysis.specs.declared.layout.Region.{Region}
+use Rattle.swc_base_rename_analysis.specs.declared.numbers.Entry.{Entry}
 use Rattle.swc_base_rename_analysis.specs.Analysis.{takes}
+use Rattle.swc_base_rename_analysis.specs.Between.{AreAscending, OneBetween}
 use Rattle.swc_base_rename_analysis.specs.Numbers.{Known, id_met, is_analysed, known_by, known_of, number_in}
 use Rattle.swc_base_rename_analysis.specs.Walk.{Laid, Met}
 
@@ -57,10 +59,19 @@ has_context (m ∷ ms) = true
 abbrev pub is_loose : Known → Bool
 is_loose e = e.stands_outside && (not e.is_bound && has_context e.id.1)
 
+-- the positions of each id rise
+abbrev pub PositionsRise : Analysis → Type 0
+PositionsRise a = (n : ℕ) (e : Entry) → slice_get a.ids.items n ≡ Some e → AreAscending e.positions.items
+
+-- the id of a number occurs in the scope of a number
+abbrev pub Occurs : Analysis → ℕ → ℕ → Type 0
+Occurs a scope id = (r : Region) × (e : Entry) × (slice_get a.regions.items scope ≡ Some r) × (slice_get a.ids.items id ≡ Some e) × OneBetween e.positions.items r.start r.end
+
 -- what is read off a layout
 pub record IsRead (l : Laid) (a : Analysis) : Type 0 where
   pub regions : a.regions.items ≡ l.regions
   pub ids : map known_of a.ids.items ≡ known_by l.names (length l.names)
+  pub rising : PositionsRise a
   pub sites : IsPermutation (sites_by l.regions l.names (length l.names)) a.sites.items
   pub in_order : IsSorted site_order a.sites.items
   pub loose : (x : List ℕ) → contains_text a.loose x ≡ list_any (λ e. is_loose e && bytes_eq e.id.0 x) (known_by l.names (length l.names))

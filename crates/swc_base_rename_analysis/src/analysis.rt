@@ -1,13 +1,14 @@
 //! What a renamer is to know of a tree.
-ghost use Rattle.std.specs.Prelude.{◌≡◌, ℕ, List, IfOk, OnOk, true, length, map, ◌&&◌, ◌++◌, if◌then◌else◌};
+ghost use Rattle.std.specs.Prelude.{◌≡◌, ◌↔◌, ℕ, List, IsTrue, IfOk, OnOk, true, length, map, ◌&&◌, ◌++◌, if◌then◌else◌};
 ghost use Rattle.std.specs.List.{list_any};
 ghost use Rattle.std.specs.Str.{bytes_eq};
 ghost use Rattle.std.specs.BTreeSet.{contains_text};
 ghost use Rattle.swc_base_rename_analysis.specs.Analysis.{takes as is_taken};
 ghost use Rattle.swc_base_rename_analysis.specs.Numbers.{known_by, known_of};
-ghost use Rattle.swc_base_rename_analysis.specs.Read.{IsRead, is_loose as is_id_loose, site_of, sites_by, taken_from, taker as is_taker};
+ghost use Rattle.swc_base_rename_analysis.specs.Read.{IsRead, Occurs, PositionsRise, is_loose as is_id_loose, site_of, sites_by, taken_from, taker as is_taker};
 ghost use Rattle.swc_base_rename_analysis.specs.Walk.{laid_of, laid_out, met_of};
 
+use crate::between::one_between;
 use crate::layout::{Layout, Name, Region};
 use crate::numbers::{Entries, Entry, is_analysed};
 use crate::scopes::ScopeKind;
@@ -37,6 +38,21 @@ pub struct Analysis {
     pub sites: Vec<Site>,
     /// The texts of ids with a context that stand outside of export lists and that nothing binds.
     pub loose: BTreeSet<String>,
+}
+
+impl Analysis {
+    /// Whether an id occurs in a scope, both by their numbers. It costs the logarithm of how often it occurs.
+    pub fn occurs(&self, scope: usize, id: usize) -> bool
+        requires { PositionsRise self.now }
+        ensures { IsTrue result ↔ Occurs self.now scope id }
+    {
+        match (self.regions.get(scope), self.ids.get(id)) {
+            (Some(region), Some(entry)) => {
+                one_between(entry.positions.as_slice(), region.start, region.end)
+            }
+            _ => false,
+        }
+    }
 }
 
 // Whether a scope takes what is bound so.

@@ -7,6 +7,7 @@
 #![tactic(auto)]
 
 mod analysis;
+mod between;
 mod layout;
 mod numbers;
 mod own_names;
