@@ -1,5 +1,5 @@
 //! What is answered to a row.
-use crate::{engine, kinds, programs, units};
+use crate::{analysed, engine, kinds, programs, units};
 use anyhow::Result;
 use std::alloc::Global;
 
@@ -18,6 +18,7 @@ fn answer(alloc: Global, words: &str, input: &str) -> Result<Vec<u8>> {
     match first {
         "kinds" => line(alloc, kinds::answer(alloc)),
         "unit" => line(alloc, units::answer(alloc, rest)),
+        "analysed" => line(alloc, Some(analysed::answer(alloc, rest, input)?)),
         "status" => engine::status(alloc, rest, input),
         "beginnings" => engine::beginnings(alloc, input),
         "pass"

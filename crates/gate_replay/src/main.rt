@@ -5,6 +5,7 @@
 //! that is refused memory (`refuse`).
 #![tactic(auto)]
 
+mod analysed;
 mod answers;
 mod engine;
 mod kinds;
