@@ -5,6 +5,7 @@ import js
 import naming
 import naming_walk
 import scoping
+from antt_values import Rec
 from grammar_laws import is_same
 from lawbook import Bad, D, any_tree, clean_program, identity, is_module, is_name, is_writable, kids, law, normal_form, well_scoped_module
 from naming import Analysis, Naming, Renaming, all_count, hygiene, numbered, outer_count
@@ -318,3 +319,42 @@ def layout_fault(t, laid):
     if {e.id[0] for e in known if read.is_loose(e)} != naming.preserved_texts(t, ()):
         return Bad('loose', '')
     return True if laid.names else None
+
+
+def in_order(analysis, r, counts):
+    """the texts of ids by the definitions of names in order, on a list of sites whose scopes and ids are numbered"""
+    order = D.all.swc_base_rename_naming.InOrder
+    paths = layout_scopes(analysis)
+    number = {p: n for n, p in enumerate(paths)}
+    ids = sorted({x for _, _, x in analysis.declares})
+    rows = sorted(analysis.declares, key=lambda row: analysis.key((row[0], row[1])))
+    sites = tuple((number[s], ids.index(x)) for s, _, x in rows)
+    preserved = naming.preserved_texts(analysis, r.preserves)
+    rules = Rec(
+        text=lambda x: lambda k: r.text(ids[x], k), goes_on=naming.counts_on(r), stays=lambda x: ids[x] in r.preserves or ids[x][0] == naming.EVAL,
+        preserved=lambda text: text in preserved, occurs=lambda s: lambda x: naming.OccursIn(analysis, paths[s], ids[x]),
+        counts=lambda u: lambda s: counts(analysis, paths[u], paths[s]))
+    choices = ()
+    for site in order.named_sites(rules, (), sites):
+        k = order.past(site[0], choices[-1:] or None) if rules.goes_on else 0
+        while order.is_taken(rules, choices, site[0], r.text(ids[site[1]], k)):
+            k += 1
+        choices += ((site, k),)
+    found = {ids[x]: order.name_in(rules, choices, x) for x in range(len(ids))}
+    return {x: text[0] for x, text in found.items() if text is not None}
+
+
+@law(few_names)
+def names_in_order_are_named(t):
+    """on the list of sites with scopes and ids as numbers the relation of lists gives the map that is `Named`, for each setting
+    of the flags, with ids preserved and without, whether all names count or the outer ones"""
+    analysis = Analysis(D.all, t)
+    if not analysis.declares:
+        return None
+    for preserves in ((), some_ids(analysis)):
+        for r in renamings(preserves):
+            for counts in (all_count, outer_count):
+                texts, wanted = in_order(analysis, r, counts), Naming(analysis, r, None, counts).new_texts()
+                if texts != wanted:
+                    return Bad(repr((texts, wanted)))
+    return True
