@@ -86,6 +86,18 @@ ROWS = [
     ('var a#1; export { a#2 };', HYGIENE, FLAT, 'var a; export { a };'),
     ('var a#1; a#2;', HYGIENE, FLAT, 'var a1; a;'),
     ('var a#1; a;', HYGIENE, FLAT, 'var a; a;'),
+    # texts written out, inner scopes of functions and classes, and ids that are left alone
+    ('function f#2(a#3 = 1, f#3) {}', HYGIENE, FLAT, 'function f(a = 1, f1) {}'),
+    ('(function f#2(a#3, ...f#4) {});', HYGIENE, FLAT, '(function f(a, ...f1) {});'),
+    ('import { a#1 } from "m"; import { a#2 } from "n"; a#2;', HYGIENE, FLAT, 'import { a } from "m"; import { a as a1 } from "n"; a1;'),
+    ('let a; { let a#1; { let a#2; a; a#1; a#2; } }', HYGIENE, FLAT, 'let a; { let a1; { let a2; a; a1; a2; } }'),
+    ('(a#1) => { a#1; (a#2) => a#1 + a#2; };', HYGIENE, FLAT, '(a) => { a; (a1) => a + a1; };'),
+    ('let a#1; a#2: for (;;) break a#2;', HYGIENE, FLAT, 'let a1; a: for (;;) break a;'),
+    ('let a#1; let a#2; use({ a#1, a#2 });', HYGIENE, FLAT, 'let a; let a1; use({ a, a: a1 });'),
+    ('let a#1; let b#2, a#2; ({ a#2 = a#1, b#2 } = {});', HYGIENE, FLAT, 'let a; let b, a1; ({ a: a1 = a, b } = {});'),
+    ('class A#1 {} class A#2 extends A#1 {}', HYGIENE, FLAT, 'class A {} class A1 extends A {}'),
+    ('class A#1 { static { let A#2; A#1; } }', HYGIENE, FLAT, 'class A { static { let A1; A; } }'),
+    ('class A#1 { [x#1] = x#1; #x = A#1; } let x#1, x#2;', HYGIENE, FLAT, 'class A { [x] = x; #x = A; } let x, x1;'),
 ]
 
 

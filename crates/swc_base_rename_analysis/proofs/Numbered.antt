@@ -34,10 +34,10 @@ both_so : (a b : Bool) → (a && b) ≡ true → (a ≡ true) × (b ≡ true)
 both_so true b h = (refl, h)
 both_so false b h = absurd (cc)
 
-one_id : (x y : Id) → same_id x y ≡ true → x ≡ y
+pub one_id : (x y : Id) → same_id x y ≡ true → x ≡ y
 one_id x y h = let (e, f) = both_so (bytes_eq x.0 y.0) (bytes_eq x.1 y.1) h in λ j. ((bytes_decides x.0 y.0).0 e j, (bytes_decides x.1 y.1).0 f j)
 
-itself : (x : Id) → same_id x x ≡ true
+pub itself : (x : Id) → same_id x x ≡ true
 itself x = λ j. ((bytes_decides x.0 x.0).1 refl j) && ((bytes_decides x.1 x.1).1 refl j)
 
 ids_total : IsTotalOrder id_cmp
@@ -77,7 +77,7 @@ number_updated m n k v h x = by (same_id (id_in k) x) refl
     by false e = other_entries _ _ _ _ h.3 (is_at (λ b. id_cmp x (id_in b))) (λ a b. (eq_by_cmp_equiv ids_total).congr x (id_in a) (id_in b)) (λ a f. ap (λ z. z) (no_other e a f (is_at (λ b. id_cmp x (id_in b)) a) refl))
 
 -- the number of an id that is put behind the others
-none_here : (b : Bool) (o : Option ℕ) → cond b (Some zero) (option_map (λ n. suc n) o) ≡ None → (b ≡ false) × (o ≡ None)
+pub none_here : (b : Bool) (o : Option ℕ) → cond b (Some zero) (option_map (λ n. suc n) o) ≡ None → (b ≡ false) × (o ≡ None)
 none_here true o h = absurd (cc)
 none_here false None h = (refl, refl)
 none_here false (Some n) h = absurd (cc)
@@ -86,7 +86,7 @@ one_more : (b : Bool) (n : ℕ) (o : Option ℕ) → option_map (λ n. suc n) (c
 one_more true n o = refl
 one_more false n o = refl
 
-number_after : (es : List Known) (y x : Id) → number_in es y ≡ None → number_in (es ++ fresh y ∷ []) x ≡ cond (same_id y x) (Some (length es)) (number_in es x)
+pub number_after : (es : List Known) (y x : Id) → number_in es y ≡ None → number_in (es ++ fresh y ∷ []) x ≡ cond (same_id y x) (Some (length es)) (number_in es x)
 number_after [] y x h = refl
 number_after (e ∷ es) y x h = by (number_after es y x none.1) (same_id e.id x) refl (same_id y x) refl
   where

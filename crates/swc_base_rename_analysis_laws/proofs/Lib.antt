@@ -1,0 +1,9 @@
+pub mod Marked
+pub mod Steps
+pub mod Erased
+pub mod Paths
+pub mod Grown
+pub mod Scoped
+pub mod Items
+pub mod Rounds
+pub mod Known

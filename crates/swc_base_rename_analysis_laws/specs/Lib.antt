@@ -1,0 +1,3 @@
+pub mod Placed
+pub mod Means
+pub mod Laws
