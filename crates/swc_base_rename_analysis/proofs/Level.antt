@@ -58,7 +58,7 @@ undone k = by_key (key_field k)
 apart : (f : ℕ → ℕ) → Undone f → (i j : ℕ) → f i ≡ f j → i ≡ j
 apart f (g, h) i j e = sym (h i) ∙ ap g e ∙ h j
 
-turns_apart : (y : Node-F Node) (i j : ℕ) → turn y i ≡ turn y j → i ≡ j
+pub turns_apart : (y : Node-F Node) (i j : ℕ) → turn y i ≡ turn y j → i ≡ j
 turns_apart (Node-F.Tree k ts) i j e = apart (turn_in k) (undone k) i j e
 turns_apart Node-F.Absent i j e = e
 turns_apart (Node-F.Flag x) i j e = e
@@ -113,7 +113,7 @@ id_reaches t p r x h = at (place_at program_place t p) refl h
     at (Some z) s g = (z, s)
 
 -- level sites
-level_lists : (xs ys : List ℕ) → slice_cmp nat_cmp xs ys ≡ Equal → xs ≡ ys
+pub level_lists : (xs ys : List ℕ) → slice_cmp nat_cmp xs ys ≡ Equal → xs ≡ ys
 level_lists xs ys h = (bytes_decides xs ys).0 (sym (is_eq-slice_cmp xs ys) ∙ ap is_eq h)
 
 second_level : (a b : Ordering) → ordering_then a b ≡ Equal → b ≡ Equal

@@ -7,3 +7,4 @@ pub mod Scoped
 pub mod Items
 pub mod Rounds
 pub mod Known
+pub mod Stretches

@@ -46,6 +46,6 @@ pub record Means (t : Node) (a : Analysis) (scopes places : List Path) : Type 0 
   pub round : (i j : ℕ) (one other : Numbered) (s u : Path) → slice_get a.sites.items i ≡ Some one → slice_get a.sites.items j ≡ Some other → slice_get scopes one.scope ≡ Some s → slice_get scopes other.scope ≡ Some u → IsTrue (surrounds a one.scope other.scope) ↔ IsAtOrAbove t s u
   pub in_preorder : (i j k : ℕ) (one between other : Numbered) → i ≤ j → j ≤ k → slice_get a.sites.items i ≡ Some one → slice_get a.sites.items j ≡ Some between → slice_get a.sites.items k ≡ Some other → IsTrue (surrounds a one.scope other.scope) → IsTrue (surrounds a one.scope between.scope)
 
--- what is read off the layout of a tree means the definitions
+-- what is read off the layout of a tree means the definitions; `in_preorder` is not so of the trees of which `apart` is not
 abbrev pub EachReadingMeans : Type 0
 EachReadingMeans = (t : Node) (a : Analysis) → IsRead (laid_out t) a → (scopes places : List Path) × Means t a scopes places
