@@ -321,6 +321,29 @@ def layout_fault(t, laid):
     return True if laid.names else None
 
 
+@law(few_names)
+def stretches_say_what_is_round(t):
+    """scopes by number are nested or apart, with starts that do not fall; of scopes that declare, numbers and stretches say
+    which is round which; and these are in preorder"""
+    analysis = Analysis(D.all, t)
+    regions = D.all.swc_base_rename_analysis.Walk.laid_out(t).regions
+    for r, q in itertools.combinations(regions, 2):
+        if not (r.start <= q.start and (q.end <= r.end or r.end <= q.start)):
+            return Bad('neither nested nor apart', repr((r, q)))
+    paths = layout_scopes(analysis)
+    number = {p: n for n, p in enumerate(paths)}
+    declaring = sorted({number[s] for s, _, _ in analysis.declares})
+    read = Rec(regions=Rec(items=regions))
+    surrounds = D.all.swc_base_rename_analysis_laws.Means.surrounds
+    inside = {(m, n) for m in declaring for n in declaring if surrounds(read, m, n)}
+    if inside != {(m, n) for m in declaring for n in declaring if naming.IsAtOrAbove(analysis, paths[m], paths[n])}:
+        return Bad('round', repr((inside, paths)))
+    for m, k, n in itertools.combinations(declaring, 3):
+        if (m, n) in inside and (m, k) not in inside:
+            return Bad('not in preorder', repr((m, k, n)))
+    return True if len(declaring) > 1 else None
+
+
 def in_order(analysis, r, counts):
     """the texts of ids by the definitions of names in order, on a list of sites whose scopes and ids are numbered"""
     order = D.all.swc_base_rename_naming.InOrder

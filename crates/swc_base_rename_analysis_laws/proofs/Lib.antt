@@ -8,3 +8,4 @@ pub mod Items
 pub mod Rounds
 pub mod Known
 pub mod Stretches
+pub mod Lowered

@@ -19,7 +19,7 @@ use Rattle.swc_base_rename_analysis.specs.Walk.{Met, Outside, child_at, function
 use Rattle.swc_base_rename_analysis_laws.specs.Placed.{Use}
 use Rattle.swc_base_rename_analysis_laws.proofs.Grown.{got_left}
 use Rattle.swc_base_rename_analysis_laws.proofs.Items.{some_same}
-use Rattle.swc_base_rename_analysis_laws.proofs.Marked.{Marked, MarkedScope, MarkedWalk, below, marked_at_number, marked_begin, marked_but, marked_changed, marked_end, marked_enter, marked_field, marked_fields, marked_goes, marked_in, marked_in_turn, marked_inside, marked_layer, marked_meet, marked_opening, marked_optional, marked_out, marked_own_use, marked_scope, marked_walks_at, regions_of}
+use Rattle.swc_base_rename_analysis_laws.proofs.Marked.{Marked, MarkedScope, MarkedWalk, below, marked_begin, marked_but, marked_changed, marked_end, marked_enter, marked_field, marked_fields, marked_goes, marked_in, marked_in_turn, marked_layer, marked_meet, marked_opening, marked_optional, marked_out, marked_own_use, marked_scope, marked_walks_at, regions_of}
 use Rattle.swc_base_rename_analysis_laws.proofs.Scoped.{got_last}
 use Rattle.swc_base_rename_analysis_laws.proofs.Steps.{marked_at}
 
