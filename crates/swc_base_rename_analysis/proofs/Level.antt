@@ -29,7 +29,7 @@ Undone f = (g : ℕ → ℕ) × ((i : ℕ) → g (f i) ≡ i)
 others_stay : (i : ℕ) → (i ≡ 1 → ⊥) → (i ≡ 2 → ⊥) → body_first i ≡ i
 others_stay i m n = λ j. cond (ne_eqb i 1 m j) 2 (cond (ne_eqb i 2 n j) 1 i)
 
-body_first_twice : (i : ℕ) → body_first (body_first i) ≡ i
+pub body_first_twice : (i : ℕ) → body_first (body_first i) ≡ i
 body_first_twice zero = refl
 body_first_twice (suc zero) = refl
 body_first_twice (suc (suc zero)) = refl

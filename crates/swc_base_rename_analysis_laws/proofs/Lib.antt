@@ -9,3 +9,4 @@ pub mod Rounds
 pub mod Known
 pub mod Stretches
 pub mod Lowered
+pub mod Turns
