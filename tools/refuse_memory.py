@@ -32,7 +32,7 @@ def cases_of(work, command, file):
         words, given, ample = lines[at:at + 3]
         if work == 'pass' and words.startswith('pass '):
             words = words.removeprefix('pass ')
-        elif not words.startswith(('resolve ', 'unparen ', 'fix ')):
+        elif not words.startswith(('resolve ', 'hygiene ', 'unparen ', 'fix ')):
             continue
         if words.startswith(command) and not (work == 'pass' and ample.startswith(('not a tree: ', 'usage: '))):
             cases.setdefault(words, {})[at + 1] = (given, ample.split(', {')[0] if ample.startswith('refused: ') else ample)

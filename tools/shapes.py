@@ -122,6 +122,8 @@ SHAPES = {
     'references below 40 blocks': ('resolve', deep),
     'names that collide': ('resolve', lambda n: body_of(colliding(n))),
     'other names': ('resolve', lambda n: body_of(others(n))),
+    'names that collide, renamed': ('hygiene', lambda n: body_of(colliding(n))),
+    'other names, renamed': ('hygiene', lambda n: body_of(others(n))),
     'calls, 10 in a chain': ('fix', nests(10, called)),
     'calls, 50 in a chain': ('fix', nests(50, called)),
     'operators, 10 on the left': ('fix', nests(10, lambda left: added(left, reference('a')))),

@@ -4,6 +4,7 @@ ghost use Rattle.swc_base_rename_analysis.specs.Read.{PositionsRise};
 use std::alloc::{AllocError, Global};
 use std::fmt::Write;
 use swc_base_rename_analysis::{Analysis, analyse};
+use swc_base_rename_program::rename_cost;
 use swc_tree_marks::NoMemory;
 use swc_tree_node::Node;
 
@@ -58,8 +59,18 @@ fn add_all(text: &mut String, analysis: &Analysis) -> Result<(), AllocError>
     Ok(())
 }
 
-/// Of each scope the ids that occur in it, then the ids that each declares, in the order in which they get names, and last
-/// the texts of loose ids.
+// What it costs to rename each scope.
+fn add_costs(alloc: Global, text: &mut String, analysis: &Analysis) -> Result<(), NoMemory> {
+    text.push_str("; costs:")?;
+    for scope in 0..analysis.regions.len() {
+        let cost = rename_cost(alloc, analysis, scope)?;
+        write!(text, " {cost}")?;
+    }
+    Ok(())
+}
+
+/// Of each scope the ids that occur in it, then the ids that each declares, in the order in which they get names, the
+/// texts of loose ids, and last what it costs to rename each scope.
 ///
 /// # Errors
 ///
@@ -68,5 +79,6 @@ pub fn read_off(alloc: Global, tree: &Node) -> Result<String, NoMemory> {
     let analysis = analyse(alloc, tree)?;
     let mut text = String::new(alloc);
     add_all(&mut text, &analysis)?;
+    add_costs(alloc, &mut text, &analysis)?;
     Ok(text)
 }

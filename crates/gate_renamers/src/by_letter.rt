@@ -4,7 +4,7 @@ ghost use Rattle.gate_renamers.specs.ByLetter.{by_letter, differ-by_letter, iden
 
 use std::alloc::Global;
 use std::collections::HashSet;
-use swc_base_rename_naming::{Renamer, numbered};
+use swc_base_rename::{Renamer, numbered};
 use swc_tree_marks::{Id, JsWord, NoMemory, PassError};
 use swc_tree_modules::{Module, Script};
 

@@ -7,7 +7,7 @@ ghost use Rattle.swc_base_rename_naming.specs.TextLaws.{differ-decimal, identifi
 
 use std::alloc::Global;
 use std::collections::HashSet;
-use swc_base_rename_naming::Renamer;
+use swc_base_rename::Renamer;
 use swc_tree_items::Text;
 use swc_tree_marks::{Id, JsWord, NoMemory, PassError};
 use swc_tree_modules::{Module, Script};

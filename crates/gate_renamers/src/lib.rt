@@ -4,6 +4,7 @@
 mod analysed;
 mod by_letter;
 mod by_number;
+mod large;
 mod name_rows;
 mod rows;
 

@@ -1,38 +1,44 @@
 //! Whether names are given as they must be.
-ghost use Rattle.std.specs.Prelude.{◌≡◌, ◌==◌, ◌&&◌, IfOk};
-ghost use Rattle.std.specs.List.{list_any};
+ghost use Rattle.std.specs.Prelude.{◌≡◌, ◌==◌, ◌&&◌};
+ghost use Rattle.std.specs.List.{list_any, slice_get};
 ghost use Rattle.swc_base_rename_substitution.specs.Names.{same_id};
 ghost use Rattle.gate_renamers.specs.Flat.{round, round-own, round-same, round-through};
 
-use crate::Numbered;
 use std::alloc::Global;
 use std::collections::BTreeMap;
 use std::fmt::Write;
-use swc_base_rename_naming::{Analysis, HygieneRenamer, Nesting, names_by_scope, names_in_order};
+use swc_base_rename_naming::{Asked, HygieneTexts, Nesting, names_by_scope, names_in_order};
 use swc_tree_items::Text;
 use swc_tree_marks::{Id, JsWord, Mark, SyntaxContext};
 
-// Which ids occur at which scopes or below them, which keep their texts, and which text nobody may get. All scopes lie in the
-// first.
+// The ids by number, at which scopes or below them which occur, which keep their texts, and which text nobody may get. All scopes
+// lie in the first.
 #[derive(Clone, Copy)]
 struct Places<'a> {
-    occurrences: &'a [(usize, Id)],
+    ids: &'a [Id],
+    occurrences: &'a [(usize, usize)],
     kept: &'a [Id],
     preserved: &'a str,
 }
 
-impl Analysis for Places<'_> {
+impl Asked for Places<'_> {
     ghost use Rattle.std.specs.Str.{bytes_eq};
 
-    ghost occurs = { λ places s x. list_any (λ o. o.0 == s && same_id o.1 x) places.occurrences.now };
+    ghost id_of = { λ places k. slice_get places.ids.now k };
+
+    ghost occurs = { λ places s x. list_any (λ o. o.0 == s && o.1 == x) places.occurrences.now };
 
     ghost keeps = { λ places x. list_any (λ id. same_id id x) places.kept.now };
 
     ghost preserved = { λ places text. bytes_eq text places.preserved.now };
 
-    fn occurs(&self, scope: usize, id: &Id) -> bool {
+    fn id(&self, number: usize) -> Option<&Id> {
+        self.ids.get(number)
+    }
+
+    fn occurs(&self, scope: usize, id: usize) -> bool {
         for occurrence in self.occurrences {
-            if occurrence.0 == scope && occurrence.1 == *id {
+            if occurrence.0 == scope && occurrence.1 == id {
                 return true;
             }
         }
@@ -84,21 +90,6 @@ fn ids_of(alloc: Global, names: &[(&str, u32)]) -> Option<Vec<Id>> {
     Some(ids)
 }
 
-// Each of the ids at each of the scopes where it occurs, or below which.
-fn occurrences_of(
-    alloc: Global,
-    ids: &[Id],
-    places: &[(usize, usize)],
-) -> Option<Vec<(usize, Id)>> {
-    let mut occurrences = Vec::new(alloc);
-    for (scope, number) in places {
-        let id = ids.get(*number)?;
-        let id = (id.0.clone().ok()?, id.1.clone().ok()?);
-        occurrences.push((*scope, id)).ok()?;
-    }
-    Some(occurrences)
-}
-
 // Whether these are the texts, each with the number of its id.
 fn are(alloc: Global, texts: &BTreeMap<usize, JsWord>, wanted: &str) -> Option<bool> {
     let mut found = String::new(alloc);
@@ -111,7 +102,7 @@ fn are(alloc: Global, texts: &BTreeMap<usize, JsWord>, wanted: &str) -> Option<b
 // `var b#1; var b1#3; { const b#2; const b1#4; { b1#3; b#2; b#1; b1#4; } }`
 fn hygiene(alloc: Global) -> Option<bool> {
     let ids = ids_of(alloc, &[("b", 1), ("b1", 3), ("b", 2), ("b1", 4)])?;
-    let places = [
+    let occurrences = [
         (0, 0),
         (0, 1),
         (0, 2),
@@ -121,55 +112,53 @@ fn hygiene(alloc: Global) -> Option<bool> {
         (1, 2),
         (1, 3),
     ];
-    let occurrences = occurrences_of(alloc, ids.as_slice(), &places)?;
-    let analysis = Places {
-        occurrences: occurrences.as_slice(),
+    let places = Places {
+        ids: ids.as_slice(),
+        occurrences: &occurrences,
         kept: &[],
         preserved: "x",
     };
     let sites = [(0, 0), (0, 1), (1, 2), (1, 3), (1, 0)];
-    let texts = names_in_order(alloc, &HygieneRenamer, &analysis, ids.as_slice(), &sites).ok()?;
+    let texts = names_in_order(alloc, &HygieneTexts, &places, false, &sites).ok()?;
     are(alloc, &texts, "0 b 1 b1 2 b2 3 b11 ")
 }
 
 // `var foo#1; { let foo#2; } foo#1`, where the block has no foo#1, and with `foo` preserved
 fn apart(alloc: Global) -> Option<bool> {
     let ids = ids_of(alloc, &[("foo", 1), ("foo", 2), ("eval", 1)])?;
-    let occurrences = occurrences_of(alloc, ids.as_slice(), &[(0, 0), (0, 1), (1, 1)])?;
-    let analysis = Places {
-        occurrences: occurrences.as_slice(),
+    let kept = ids_of(alloc, &[("foo", 1)])?;
+    let places = Places {
+        ids: ids.as_slice(),
+        occurrences: &[(0, 0), (0, 1), (1, 1)],
         kept: &[],
         preserved: "x",
     };
-    let kept = ids_of(alloc, &[("foo", 1)])?;
     let preserving = Places {
-        occurrences: occurrences.as_slice(),
         kept: kept.as_slice(),
         preserved: "foo",
+        ..places
     };
     let sites = [(0, 0), (1, 1), (1, 2)];
-    let texts = names_in_order(alloc, &HygieneRenamer, &analysis, ids.as_slice(), &sites).ok()?;
-    let others = names_in_order(alloc, &HygieneRenamer, &preserving, ids.as_slice(), &sites).ok()?;
+    let texts = names_in_order(alloc, &HygieneTexts, &places, false, &sites).ok()?;
+    let others = names_in_order(alloc, &HygieneTexts, &preserving, false, &sites).ok()?;
     Some(are(alloc, &texts, "0 foo 1 foo ")? && are(alloc, &others, "1 foo1 ")?)
 }
 
-// `let a#1; { let b#2; a#1; } { let c#3; }`, where scopes may share texts, and where they may not.
+// Three scopes, the second and the third beside one another, where scopes may share texts, and where they may not: an id of the
+// second occurs in the third.
 #[tactic(auto, using(crate::proofs::Order::in_order))]
 fn scopes(alloc: Global) -> Option<bool> {
-    let ids = ids_of(alloc, &[("a", 1), ("b", 2), ("c", 3)])?;
-    let places = [(0, 0), (0, 1), (0, 2), (1, 0), (1, 1), (2, 2)];
-    let occurrences = occurrences_of(alloc, ids.as_slice(), &places)?;
-    let analysis = Places {
-        occurrences: occurrences.as_slice(),
+    let ids = ids_of(alloc, &[("a", 1), ("a", 2), ("a", 3)])?;
+    let places = Places {
+        ids: ids.as_slice(),
+        occurrences: &[(0, 0), (0, 1), (0, 2), (1, 1), (2, 1), (2, 2)],
         kept: &[],
         preserved: "x",
     };
     let sites = [(0, 0), (1, 1), (2, 2)];
-    let renamer = Numbered::<true, false>::new(Vec::new(alloc));
-    let texts = names_by_scope(alloc, &renamer, &analysis, ids.as_slice(), &sites).ok()?;
-    let resetting = Numbered::<false, true>::new(Vec::new(alloc));
-    let others = names_in_order(alloc, &resetting, &analysis, ids.as_slice(), &sites).ok()?;
-    Some(are(alloc, &texts, "0 v0 1 v1 2 v0 ")? && are(alloc, &others, "0 v0 1 v1 2 v0 ")?)
+    let texts = names_by_scope(alloc, &HygieneTexts, &places, true, &sites).ok()?;
+    let others = names_in_order(alloc, &HygieneTexts, &places, true, &sites).ok()?;
+    Some(are(alloc, &texts, "0 a 1 a 2 a ")? && are(alloc, &others, "0 a 1 a 2 a1 ")?)
 }
 
 /// Whether what the words name is as it must be; nothing where memory is refused, or the words name nothing.

@@ -1,13 +1,13 @@
 //! Whether renamers, and maps from texts to ids, answer as they must.
-ghost use Rattle.std.specs.Prelude.{◌≡◌};
+ghost use Rattle.std.specs.Prelude.{◌≡◌, ◌==◌};
 ghost use Rattle.std.specs.List.{list_any};
 ghost use Rattle.swc_base_rename_naming.specs.Chained.{ids_of};
-ghost use Rattle.swc_base_rename_substitution.specs.Names.{same_id};
 
 use crate::{Letters, Numbered, Refusing};
 use std::alloc::Global;
 use std::fmt::Write;
-use swc_base_rename_naming::{HygieneRenamer, Iter, Renamer, ReverseMap, Taken, free_text};
+use swc_base_rename::{HygieneRenamer, Renamer};
+use swc_base_rename_naming::{HygieneTexts, Iter, ReverseMap, Taken, free_text};
 use swc_tree_items::Text;
 use swc_tree_marks::{Id, Mark, PassError, SyntaxContext};
 
@@ -19,22 +19,21 @@ fn id(alloc: Global, text: &str, mark: u32) -> Option<Id> {
     Some((Text::new(alloc, text).ok()?, context))
 }
 
-// Whether these are the ids, each with its last mark.
+// Whether these are the numbers of the ids.
 fn are(alloc: Global, ids: Iter<'_>, wanted: &str) -> Option<bool> {
     let mut found = String::new(alloc);
     for id in ids {
-        let (text, mark) = (&id.0, id.1.outer().as_u32());
-        write!(found, "{text}#{mark} ").ok()?;
+        write!(found, "{id} ").ok()?;
     }
     Some(found.as_str() == wanted)
 }
 
-// Whether a text was given to an id.
-fn is_given(map: &ReverseMap<'_>, text: &str, id: &Id) -> bool
-    ensures { result ≡ list_any (same_id id.now) (ids_of map.now text.now) }
+// Whether a text was given to the id of a number.
+fn is_given(map: &ReverseMap<'_>, text: &str, id: usize) -> bool
+    ensures { result ≡ list_any (λ x. x == id) (ids_of map.now text.now) }
 {
     for other in map.get(text) {
-        if *id == *other {
+        if *other == id {
             return true;
         }
     }
@@ -43,18 +42,16 @@ fn is_given(map: &ReverseMap<'_>, text: &str, id: &Id) -> bool
 
 fn chains(alloc: Global) -> Option<bool> {
     let mut map = ReverseMap::new(alloc);
-    for text in ["a", "b"] {
-        let given = Text::new(alloc, "x").ok()?;
-        map.push_entry(given, id(alloc, text, 1)?).ok()?;
+    for id in [1, 2] {
+        map.push_entry(Text::new(alloc, "x").ok()?, id).ok()?;
     }
     let mut child = map.next(alloc);
-    let given = Text::new(alloc, "x").ok()?;
-    child.push_entry(given, id(alloc, "c", 2)?).ok()?;
-    let of_child = are(alloc, child.get("x"), "c#2 a#1 b#1 ")?;
+    child.push_entry(Text::new(alloc, "x").ok()?, 3).ok()?;
+    let of_child = are(alloc, child.get("x"), "3 1 2 ")?;
     let of_none = are(alloc, child.get("y"), "")?;
-    let of_parent = are(alloc, map.get("x"), "a#1 b#1 ")?;
-    let is_outer = is_given(&child, "x", &id(alloc, "b", 1)?);
-    let is_inner = is_given(&map, "x", &id(alloc, "c", 2)?);
+    let of_parent = are(alloc, map.get("x"), "1 2 ")?;
+    let is_outer = is_given(&child, "x", 2);
+    let is_inner = is_given(&map, "x", 3);
     Some(of_child && of_none && of_parent && is_outer && !is_inner)
 }
 
@@ -132,10 +129,10 @@ impl Taken for Two<'_> {
 fn free(alloc: Global) -> Option<bool> {
     let mut n = 0;
     let id = id(alloc, "b", 2)?;
-    let name = free_text(alloc, &HygieneRenamer, &id, &Two("b", "b1"), &mut n).ok()?;
+    let name = free_text(alloc, &HygieneTexts, &id, &Two("b", "b1"), &mut n).ok()?;
     let mut last = usize::MAX - 1;
     let taken = Two("b18446744073709551614", "b");
-    let error = free_text(alloc, &HygieneRenamer, &id, &taken, &mut last).err()?;
+    let error = free_text(alloc, &HygieneTexts, &id, &taken, &mut last).err()?;
     Some(name.as_str() == "b2" && n == 3 && error == PassError::CounterSpent)
 }
 
@@ -147,6 +144,9 @@ pub fn holds(alloc: Global, words: &str) -> Option<bool> {
         "letters are given" => letters(alloc),
         "numbers are given" => numbers(alloc),
         "the first free text is found" => free(alloc),
-        _ => crate::name_rows::holds(alloc, words),
+        _ => match crate::name_rows::holds(alloc, words) {
+            None => crate::large::holds(alloc, words),
+            held => held,
+        },
     }
 }

@@ -27,6 +27,9 @@ fn answer(alloc: Global, words: &str, input: &str) -> Result<Vec<u8>> {
         | "items"
         | "rename"
         | "remap"
+        | "letters"
+        | "refusing"
+        | "numbered"
         | "unparen_comments"
         | "fix_comments" => Ok(programs::answer(alloc, words, input)?.into_bytes()),
         _ => engine::written(alloc, words, input),

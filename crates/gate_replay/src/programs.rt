@@ -1,7 +1,7 @@
 //! Rows of passes over `Module` and `Script`: the program before, and what is left after.
 //!
 //! The input is an envelope. `rename` and `remap` find the ids that are given anew under its key `names`, and
-//! `unparen_comments` and `fix_comments` how many moves are granted under `room`. What is wanted is the envelope of what is left, behind the
+//! `unparen_comments` and `fix_comments` how many moves are granted under `room`; `letters`, `refusing` and `numbered` are renamers. What is wanted is the envelope of what is left, behind the
 //! moves that were asked for and the name of a refusal. Behind `twice` the same pass is run on the program two times, and
 //! what is left the second time is wanted. `fold` hands the program by value to the pass that does nothing, and `items`
 //! asks a check whether there are items.
@@ -10,6 +10,7 @@ mod names;
 mod notes;
 mod passes;
 mod program;
+mod renamers;
 
 use anyhow::{Result, bail};
 pub use passes::{Pass, class_of};

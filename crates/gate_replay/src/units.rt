@@ -29,8 +29,8 @@ fn gives_back(alloc: Global) -> Option<bool> {
 // (`tools/shapes.py` says why).
 const COLLIDING: &str = "GTRUmMvIgEGsoszMKsqImMGL";
 
-fn add_names(text: &mut String, before: &str, after: &str) -> Option<()> {
-    for i in 10_000_000u32..10_002_000 {
+fn add_names(text: &mut String, end: u32, before: &str, after: &str) -> Option<()> {
+    for i in 10_000_000..end {
         if i > 10_000_000 {
             text.push_str(",").ok()?;
         }
@@ -39,8 +39,8 @@ fn add_names(text: &mut String, before: &str, after: &str) -> Option<()> {
     Some(())
 }
 
-// A script that declares such names and refers to each.
-fn script_of_colliding_names(alloc: Global) -> Option<String> {
+// A script that declares such names, with numbers below the end, and refers to each.
+fn script_of_colliding_names(alloc: Global, end: u32) -> Option<String> {
     let mut text = String::new(alloc);
     text.push_str(
         r#"{"marks":[[1,0],[2,0]],"unresolved":1,"top":2,"tree":{"type":"Script","span":[0,0],"body":["#,
@@ -49,19 +49,19 @@ fn script_of_colliding_names(alloc: Global) -> Option<String> {
         .ok()?;
     let declarator =
         r#"{"type":"VarDeclarator","span":[0,0],"name":{"type":"BindingIdent","span":[0,0],"ctxt":[],"sym":""#;
-    add_names(&mut text, declarator, r#""}}"#)?;
+    add_names(&mut text, end, declarator, r#""}}"#)?;
     text.push_str("]},").ok()?;
     let statement =
         r#"{"type":"ExprStmt","span":[0,0],"expr":{"type":"Ident","span":[0,0],"ctxt":[],"sym":""#;
-    add_names(&mut text, statement, r#""}}"#)?;
+    add_names(&mut text, end, statement, r#""}}"#)?;
     text.push_str("]}}").ok()?;
     Some(text)
 }
 
-fn resolves_colliding_names(alloc: Global) -> Option<bool> {
-    let script = script_of_colliding_names(alloc)?;
-    let resolved = run(alloc, Command::Resolve, Kind::Script, script.as_bytes());
-    Some(resolved.is_ok())
+fn takes_colliding_names(alloc: Global, command: Command, end: u32) -> Option<bool> {
+    let script = script_of_colliding_names(alloc, end)?;
+    let taken = run(alloc, command, Kind::Script, script.as_bytes());
+    Some(taken.is_ok())
 }
 
 // Marks of known parents, of the root and of one that is not known.
@@ -143,7 +143,13 @@ fn holds(alloc: Global, word: &str) -> Option<bool> {
     match word {
         "ancestors are found" => finds_ancestors(alloc),
         "lists change" => changes(alloc),
-        "colliding names are resolved" => resolves_colliding_names(alloc),
+        "colliding names are resolved" => takes_colliding_names(
+            alloc,
+            Command::Resolve,
+            10_002_000,
+        ),
+        // Were it quadratic, so many would take the program past the time that it has.
+        "colliding names are renamed" => takes_colliding_names(alloc, Command::Hygiene, 10_060_000),
         "marks are made" => makes_marks(alloc),
         "words become kinds" => Some(converts()),
         "texts are given back" => gives_back(alloc),

@@ -7,6 +7,7 @@ use Rattle.jsbase_engine.specs.declared.arguments.Kind.TheVariants as kind
 
 abbrev pub command_word : Command → List ℕ
 command_word command.Resolve = codes "resolve"
+command_word command.Hygiene = codes "hygiene"
 command_word command.Unparen = codes "unparen"
 command_word command.Fix = codes "fix"
 

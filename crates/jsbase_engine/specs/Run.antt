@@ -13,6 +13,7 @@ use Rattle.swc_tree_grammar.specs.Blocks.{with_blocks}
 use Rattle.swc_tree_grammar.specs.Stripped.{stripped}
 use Rattle.swc_tree_grammar.specs.Targets.{all_bare}
 use Rattle.swc_base_fixer_program.specs.Answers.{answer_to}
+use Rattle.swc_base_rename_program.specs.Renamed.{IsHygienic, IsRenameRefusal, hygiene_renaming}
 use Rattle.jsbase_form.specs.Reads.{Path, path_text}
 use Rattle.jsbase_reader.specs.declared.envelope.Envelope.{Envelope}
 use Rattle.jsbase_reader.specs.declared.error.ReadError.{ReadError}
@@ -39,6 +40,12 @@ pub record IsResolved (envelope : Envelope) (output : List ℕ) : Type 0 where
   pub well_formed : IsTable table
   pub written : output ≡ envelope_text table envelope.top answer envelope.unresolved
 
+-- the output is the envelope of the tree whose names are given anew and whose contexts are empty
+pub record IsMadeHygienic (envelope : Envelope) (output : List ℕ) : Type 0 where
+  pub answer : Node
+  pub hygienic : IsHygienic envelope.keep_class_names envelope.tree answer
+  pub written : output ≡ envelope_text envelope.globals envelope.top answer envelope.unresolved
+
 -- the output is the envelope of the tree without parentheses, whose parenthesised targets may be assigned to
 pub record IsUnparened (envelope : Envelope) (output : List ℕ) : Type 0 where
   pub assignable : all_bare envelope.tree ≡ true
@@ -52,6 +59,7 @@ pub record IsFixed (envelope : Envelope) (output : List ℕ) : Type 0 where
 -- what the command is to make of an envelope
 abbrev pub Does : Command → Envelope → List ℕ → Type 0
 Does command.Resolve envelope output = IsResolved envelope output
+Does command.Hygiene envelope output = IsMadeHygienic envelope output
 Does command.Unparen envelope output = IsUnparened envelope output
 Does command.Fix envelope output = IsFixed envelope output
 
@@ -59,6 +67,8 @@ Does command.Fix envelope output = IsFixed envelope output
 abbrev pub IsRefusalOf : Command → Envelope → PassError → Type 0
 IsRefusalOf command.Resolve envelope refusal.MarksSpent = 4294967295 < greatest envelope.globals + (scope_count program_place envelope.tree - 1)
 IsRefusalOf command.Resolve envelope _ = ⊥
+IsRefusalOf command.Hygiene envelope refusal.CounterSpent = IsRenameRefusal hygiene_renaming envelope.tree refusal.CounterSpent
+IsRefusalOf command.Hygiene envelope _ = ⊥
 IsRefusalOf command.Unparen envelope refusal.NotAssignable = all_bare envelope.tree ≡ false
 IsRefusalOf command.Unparen envelope _ = ⊥
 IsRefusalOf command.Fix envelope refusal.NotAssignable = all_bare envelope.tree ≡ false

@@ -11,6 +11,8 @@ use crate::fault::Fault;
 pub enum Command {
     /// Each identifier gets the mark of its scope.
     Resolve,
+    /// Names are given anew where ids of one text would meet, and contexts are cleared.
+    Hygiene,
     /// Parentheses are taken off, and with them what is idle in sequences and classes.
     Unparen,
     /// Parentheses are set anew: those that are due, and no other.
@@ -30,6 +32,7 @@ fn command_named(word: &str) -> Option<Command>
 {
     match word {
         "resolve" => Some(Command::Resolve),
+        "hygiene" => Some(Command::Hygiene),
         "unparen" => Some(Command::Unparen),
         "fix" => Some(Command::Fix),
         _ => None,

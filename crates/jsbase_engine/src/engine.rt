@@ -3,7 +3,7 @@ ghost use Rattle.std.specs.Prelude.{◌≡◌, ◌≢◌, Some, MatchResult, str
 ghost use Rattle.swc_tree_scoping.specs.declared.places.Scope.TheVariants as scope;
 ghost use Rattle.swc_tree_scoping.specs.Places.{opened, program_place};
 ghost use Rattle.swc_base_resolver_program.specs.Marked.{MarksOk};
-ghost use Rattle.jsbase_engine.specs.Run.{class_of as class_in, Answers, Does, IsFaultOf, IsResolved, IsFixed, IsUnparened, IsRefusedFor, IsReadFault};
+ghost use Rattle.jsbase_engine.specs.Run.{class_of as class_in, Answers, Does, IsFaultOf, IsMadeHygienic, IsResolved, IsFixed, IsUnparened, IsRefusedFor, IsReadFault};
 
 use crate::arguments::{Command, Kind};
 use crate::fault::Fault;
@@ -12,6 +12,8 @@ use jsbase_writer::write_envelope;
 use std::alloc::Global;
 use swc_base_fixer_program::fix_parens;
 use swc_base_fixer_unparen::remove_parens;
+use swc_base_rename_program::hygiene_program;
+use swc_base_rename_substitution::Config;
 use swc_base_resolver_program::resolve_program;
 use swc_tree_comments::NoComments;
 use swc_tree_marks::PassError;
@@ -68,6 +70,7 @@ fn answer(alloc: Global, command: Command, envelope: Envelope) -> Result<String,
 {
     match command {
         Command::Resolve => resolve(alloc, envelope),
+        Command::Hygiene => hygiene(alloc, envelope),
         Command::Unparen => unparen(alloc, envelope),
         Command::Fix => fix(alloc, envelope),
     }
@@ -88,6 +91,29 @@ fn resolve(alloc: Global, envelope: Envelope) -> Result<String, PassError>
     } = envelope;
     let resolved = resolve_program(alloc, &mut globals, unresolved, top, tree)?;
     let text = write_envelope(alloc, &globals, top, &resolved, unresolved)?;
+    Ok(text)
+}
+
+// Gives the names of the program of an envelope anew, and clears its contexts.
+fn hygiene(alloc: Global, envelope: Envelope) -> Result<String, PassError>
+    ensures { MatchResult result (λ text. IsMadeHygienic envelope (string_bytes text)) (IsRefusedFor Command.Hygiene envelope) }
+{
+    let Envelope {
+        globals,
+        unresolved,
+        top,
+        keep_class_names,
+        ignore_eval,
+        tree,
+    } = envelope;
+    let config = Config {
+        keep_class_names,
+        safari_10: false,
+        top_level_mark: top,
+        ignore_eval,
+    };
+    let renamed = hygiene_program(alloc, &config, tree)?;
+    let text = write_envelope(alloc, &globals, top, &renamed, unresolved)?;
     Ok(text)
 }
 

@@ -1,1 +1,3 @@
 pub mod Visits
+pub mod Hygiene
+pub mod Renamers

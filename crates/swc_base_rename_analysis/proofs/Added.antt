@@ -16,7 +16,7 @@ use Rattle.swc_tree_scoping.specs.declared.places.View.TheVariants as view
 use Rattle.swc_tree_scoping.specs.Places.{Path, child, given, has_own_name, is_at, is_inside, opened_as, opened_in, place_at, place_below, program_place, view_from}
 use Rattle.swc_tree_scoping.specs.Scopes.{rounds, seen_as, view_in}
 use Rattle.swc_base_rename_analysis.specs.declared.scopes.ScopeKind.{ScopeKind}
-use Rattle.swc_base_rename_analysis.specs.Analysis.{Around, body_kind, is_for_body, is_outside, kind_of, opened_here, opened_round, own_kind, scopes_below}
+use Rattle.swc_base_rename_analysis.specs.Analysis.{Around, body_kind, has_identifier, is_for_body, is_outside, kind_of, opened_here, opened_round, own_kind, scopes_below}
 use Rattle.swc_base_rename_analysis.specs.Laws.{AddsFew, is_body_at}
 use Rattle.swc_base_rename_analysis.proofs.Kept.{from_map, impossible, lower, none_there, some_same, to_map, under}
 
@@ -38,16 +38,16 @@ parameters true = refl
 parameters false = refl
 
 -- of what stands in such a scope the language sees a part too
-seen_too : (w : Place) (k : Kind) (b : Bool) (i : ℕ) (a : ScopeKind) → own_kind w k b ≡ Some a → is_outside w k i ≡ false → (k ≡ kind.ClassExpr) ⊎ (is_inside (view_from k i) ≡ true)
-seen_too w kind.Constructor b i a e n = inr (ap (λ o. is_inside (cond o view.Outside (cond (is_at (Some 2) i) view.Parameters view.Whole))) n ∙ parameters (is_at (Some 2) i))
-seen_too w kind.GetterProp b i a e n = inr (ap (λ o. is_inside (cond o view.Outside view.Whole)) n)
-seen_too w kind.SetterProp b i a e n = inr (ap (λ o. is_inside (cond o view.Outside (cond (is_at (Some 2) i) view.Parameters view.Whole))) n ∙ parameters (is_at (Some 2) i))
-seen_too w kind.SwitchStmt b i a e n = absurd (cc)
-seen_too w kind.ClassExpr b i a e n = inl refl
-seen_too w kind.Function b i a e n = inr (parameters (is_at (Some 1) i))
-seen_too w kind.ArrowExpr b i a e n = inr (parameters (is_at (Some 1) i))
-seen_too w kind.CatchClause b i a e n = inr (parameters (is_at (Some 1) i))
-seen_too w _ b i a e n = inr refl
+seen_too : (w : Place) (k : Kind) (b named : Bool) (i : ℕ) (a : ScopeKind) → own_kind w k b ≡ Some a → is_outside w k named i ≡ false → (k ≡ kind.ClassExpr) ⊎ (is_inside (view_from k i) ≡ true)
+seen_too w kind.Constructor b named i a e n = inr (ap (λ o. is_inside (cond o view.Outside (cond (is_at (Some 2) i) view.Parameters view.Whole))) n ∙ parameters (is_at (Some 2) i))
+seen_too w kind.GetterProp b named i a e n = inr (ap (λ o. is_inside (cond o view.Outside view.Whole)) n)
+seen_too w kind.SetterProp b named i a e n = inr (ap (λ o. is_inside (cond o view.Outside (cond (is_at (Some 2) i) view.Parameters view.Whole))) n ∙ parameters (is_at (Some 2) i))
+seen_too w kind.SwitchStmt b named i a e n = absurd (cc)
+seen_too w kind.ClassExpr b named i a e n = inl refl
+seen_too w kind.Function b named i a e n = inr (parameters (is_at (Some 1) i))
+seen_too w kind.ArrowExpr b named i a e n = inr (parameters (is_at (Some 1) i))
+seen_too w kind.CatchClause b named i a e n = inr (parameters (is_at (Some 1) i))
+seen_too w _ b named i a e n = inr refl
 
 seen_in : (z : Scope) (v : View) → is_inside v ≡ true → (whole : Bool) × Contains (seen_as (Some z) v) ([], whole)
 seen_in z view.Outside h = impossible h
@@ -71,12 +71,12 @@ Told f w t s p k = ((whole : Bool) × Contains (rounds w t p) (s, whole)) ⊎ ((
 abbrev Here : Bool → Place → Kind → List Node → ℕ → Type 0
 Here f w k ts i = ((whole : Bool) × Contains (seen_as (opened_as w k (has_own_name ts)) (view_from k i)) ([], whole)) ⊎ ((k ≡ kind.ClassExpr) ⊎ (f ≡ true))
 
-told_here : (f : Bool) (w : Place) (k : Kind) (ts : List Node) (i : ℕ) (a : ScopeKind) → is_outside w k i ≡ false → body_kind f (own_kind w k (has_own_name ts)) ≡ Some a → Here f w k ts i
+told_here : (f : Bool) (w : Place) (k : Kind) (ts : List Node) (i : ℕ) (a : ScopeKind) → is_outside w k (has_identifier ts) i ≡ false → body_kind f (own_kind w k (has_own_name ts)) ≡ Some a → Here f w k ts i
 told_here f w k ts i a n e = by (body_or_own f (own_kind w k (has_own_name ts)) a e)
   where
     by : (f ≡ true) ⊎ (own_kind w k (has_own_name ts) ≡ Some a) → Here f w k ts i
     by (inl h) = inr (inr h)
-    by (inr h) = both (own_of_language w k (has_own_name ts) a h) (seen_too w k (has_own_name ts) i a h n)
+    by (inr h) = both (own_of_language w k (has_own_name ts) a h) (seen_too w k (has_own_name ts) (has_identifier ts) i a h n)
       where
         both : (k ≡ kind.ClassExpr) ⊎ ((z : Scope) × (opened_as w k (has_own_name ts) ≡ Some z)) → (k ≡ kind.ClassExpr) ⊎ (is_inside (view_from k i) ≡ true) → Here f w k ts i
         both (inl c) v = inr (inl c)
@@ -95,7 +95,7 @@ told (i ∷ p) f w t s a v k ts h there = ⊎_elim (below (child t i) refl (λ c
       where
         at : (y : Node-F Node) → out-Node t ≡ y → Contains (opened_round f w y i) (s, a) → Told f w t s (i ∷ p) k
         at (Node-F.Tree l us) e c =
-            let (n, m, r) = opened_is (is_outside w l i) (body_kind f (own_kind w l (has_own_name us))) s a c in
+            let (n, m, r) = opened_is (is_outside w l (has_identifier us) i) (body_kind f (own_kind w l (has_own_name us))) s a c in
             by r l us (told_here f w l us i a n m) e
           where
             by : s ≡ [] → (l : Kind) (us : List Node) → Here f w l us i → out-Node t ≡ Node-F.Tree l us → Told f w t s (i ∷ p) k

@@ -20,7 +20,7 @@ use Rattle.swc_tree_scoping.specs.Places.{Path, block_scope, child, given, has_o
 use Rattle.swc_tree_scoping.specs.Scopes.{Round, rounds, seen_as, view_in}
 use Rattle.swc_base_rename_analysis.specs.declared.scopes.ScopeKind.{ScopeKind}
 use Rattle.swc_base_rename_analysis.specs.declared.scopes.ScopeKind.TheVariants.{Block, Fn}
-use Rattle.swc_base_rename_analysis.specs.Analysis.{Around, body_kind, is_default_export, is_for_body, is_outside, key_field, kind_of, opened_here, opened_round, own_kind, scopes_below}
+use Rattle.swc_base_rename_analysis.specs.Analysis.{Around, body_kind, has_identifier, is_default_export, is_for_body, is_outside, key_field, kind_of, opened_here, opened_round, own_kind, scopes_below}
 use Rattle.swc_base_rename_analysis.specs.Laws.{KeepsScopes, is_left_out}
 
 pub some_same : {A : Type 0} {a b : A} → Some a ≡ Some b → a ≡ b
@@ -97,9 +97,9 @@ not_true : (b : Bool) → (b ≡ true → ⊥) → b ≡ false
 not_true true n = absurd (n refl)
 not_true false n = refl
 
-not_outside : (w : Place) (k : Kind) (b : Bool) (s : Scope) (i : ℕ) → opened_as w k b ≡ Some s → is_inside (view_from k i) ≡ true → is_outside w k i ≡ false
-not_outside w kind.ClassExpr b s i e v = ap (λ d. d && i == 0) (name_scope_same w.standing b scope.ClassName s e).1
-not_outside w k b s i e v = not_true (is_at (key_field k) i) (λ h. impossible (sym (key_seen k i h) ∙ v))
+not_outside : (w : Place) (k : Kind) (b named : Bool) (s : Scope) (i : ℕ) → opened_as w k b ≡ Some s → is_inside (view_from k i) ≡ true → is_outside w k named i ≡ false
+not_outside w kind.ClassExpr b named s i e v = ap (λ d. d && (named && i == 0)) (name_scope_same w.standing b scope.ClassName s e).1
+not_outside w k b named s i e v = not_true (is_at (key_field k) i) (λ h. impossible (sym (key_seen k i h) ∙ v))
 
 body_some : (f : Bool) (a : ScopeKind) → body_kind f (Some a) ≡ Some a
 body_some true a = refl
@@ -109,7 +109,7 @@ opens_here : (f : Bool) (w : Place) (k : Kind) (ts : List Node) (s : Scope) (i :
     → (a : ScopeKind) × (opened_round f w (Node-F.Tree k ts) i ≡ ([], a) ∷ [])
 opens_here f w k ts s i e v n =
     let (a, own) = own_there w k (has_own_name ts) s e n in
-    (a, (λ j. if not_outside w k (has_own_name ts) s i e v j then [] else opened_here (body_kind f (own j))) ∙ ap opened_here (body_some f a))
+    (a, (λ j. if not_outside w k (has_own_name ts) (has_identifier ts) s i e v j then [] else opened_here (body_kind f (own j))) ∙ ap opened_here (body_some f a))
 
 -- what is seen of a scope
 seen_here : (o : Option Scope) (v : View) (s : Path) (whole : Bool) → Contains (seen_as o v) (s, whole) → (z : Scope) × (o ≡ Some z) × (is_inside v ≡ true) × (s ≡ [])

@@ -17,7 +17,7 @@ use Rattle.swc_tree_scoping.specs.Below.{fields_are, places_of, scope_of_fields}
 use Rattle.swc_tree_scoping.proofs.Under.{fold_in_place_out}
 use Rattle.swc_tree_scoping.proofs.Children.{fields_below, items_below}
 use Rattle.swc_base_rename_analysis.specs.declared.scopes.ScopeKind.{ScopeKind}
-use Rattle.swc_base_rename_analysis.specs.Analysis.{body_kind, key_field}
+use Rattle.swc_base_rename_analysis.specs.Analysis.{body_kind, has_identifier, key_field}
 use Rattle.swc_base_rename_analysis.specs.Walk.{Laid, Outside, Walk, begin, end, enter, in_turn, kind_opened, name_outside, own_use, walk_fields, walk_in, walk_inside, walk_items, walk_layer, walk_opening, walk_optional, walk_scope, walks_at}
 
 each_at : (places : ℕ → Place) (ts : List Node) (i : ℕ) → slice_get (each_in walk_in places ts) i ≡ walks_at places ts i
@@ -70,7 +70,7 @@ one_turn_more f i a l b was new = new ∙ ap (f i) was ∙ next
 pub scope_walked : (s : ScopeKind) (w : Place) (k : Kind) (ts : List Node) (walks : ℕ → Option Walk) (o : Outside) (l : Laid)
     → (key : Option ℕ) → key ≡ key_field k → (keyed : Laid) → keyed ≡ walk_optional k ts walks key o l
     → (n : ℕ) → n ≡ length keyed.regions → (entered : Laid) → entered ≡ enter s o.scope keyed
-    → (name : Option ℕ) → name ≡ name_outside w k → (named : Laid) → named ≡ walk_optional k ts walks name o entered
+    → (name : Option ℕ) → name ≡ name_outside w k (has_identifier ts) → (named : Laid) → named ≡ walk_optional k ts walks name o entered
     → (begun : Laid) → begun ≡ begin n named → (used : Laid) → used ≡ own_use n o o.own_name begun
     → (but : Option ℕ) → but ≡ option_or key name → (walked : Laid) → walked ≡ walk_fields k ts walks but (record o { scope = Some n }) used
     → (ended : Laid) → ended ≡ end n walked → ended ≡ walk_scope s w k ts walks o l
@@ -86,11 +86,11 @@ scope_walked s w k ts walks o l key is_key keyed is_keyed n is_n entered is_ente
     number : n ≡ length (walk_optional k ts walks (key_field k) o l).regions
     number = is_n ∙ ap (λ m. length m.regions) all_keyed
 
-    all_named : named ≡ walk_optional k ts walks (name_outside w k) o (enter s o.scope (walk_optional k ts walks (key_field k) o l))
+    all_named : named ≡ walk_optional k ts walks (name_outside w k (has_identifier ts)) o (enter s o.scope (walk_optional k ts walks (key_field k) o l))
     all_named = is_named ∙ (λ j. walk_optional k ts walks (is_name j) o ((is_entered ∙ ap (enter s o.scope) all_keyed) j))
 
-    left_out : but ≡ option_or (key_field k) (name_outside w k)
+    left_out : but ≡ option_or (key_field k) (name_outside w k (has_identifier ts))
     left_out = is_but ∙ (λ j. option_or (is_key j) (is_name j))
 
     inside : ℕ → Option ℕ → Laid
-    inside n but = walk_inside k ts walks but n o (walk_optional k ts walks (name_outside w k) o (enter s o.scope (walk_optional k ts walks (key_field k) o l)))
+    inside n but = walk_inside k ts walks but n o (walk_optional k ts walks (name_outside w k (has_identifier ts)) o (enter s o.scope (walk_optional k ts walks (key_field k) o l)))

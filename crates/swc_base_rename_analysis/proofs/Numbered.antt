@@ -1,5 +1,5 @@
 -- Numbers of ids: a table to which one was added, and what is known of an id that was met.
-use Rattle.std.proofs.Common.{◌≡◌, ℕ, zero, suc, ◌<◌, Bool, true, false, ◌&&◌, Option, Some, None, List, [], ◌∷◌, ◌++◌, Vec, Global, Bor, length, map, cond, refl, sym, ap, ◌∙◌, slice_set, arith}
+use Rattle.std.proofs.Common.{◌≡◌, ℕ, zero, suc, ◌<◌, Bool, true, false, ◌&&◌, Option, Some, None, List, [], ◌∷◌, ◌++◌, Bor, length, map, cond, refl, sym, ap, ◌∙◌, slice_set, arith}
 use Rattle.std.specs.Option.{option_map, is_some}
 use Rattle.std.specs.List.{slice_get}
 use Rattle.std.specs.Cmp.{IsTotalOrder}
@@ -51,10 +51,10 @@ not_same x y z n e f = sym n ∙ ap (λ z. same_id z y) (one_id x z e) ∙ ap (�
 
 -- the keys of the table
 abbrev pub Key : Type 0
-Key = Bor (List ℕ) × Vec ℕ Global
+Key = Bor (List ℕ) × Bor (List ℕ)
 
 abbrev pub id_in : Key → Id
-id_in k = (k.0.now, k.1.items)
+id_in k = (k.0.now, k.1.now)
 
 abbrev pub found : BTreeMap Key ℕ → Id → Option ℕ
 found m x = get_by (λ k. id_cmp x (id_in k)) m

@@ -1,7 +1,7 @@
 -- The scopes that a renamer tells apart, which of them declares an id, and where an id occurs. They are coarser than the
 -- scopes of the language (ECMA-262, 9.1): parameters and body of a function are one, a `switch` has none, and a function
 -- in a block is declared where a `var` there would be.
-use Rattle.std.specs.Prelude.{◌≡◌, ◌≢◌, ◌↔◌, ℕ, Bool, true, false, ◌&&◌, ◌⊎◌, IsTrue, Option, Some, None, option_and_then, slice_get, List, [], ◌∷◌, ◌++◌, map, length, Contains, codes, ◌==◌, if◌then◌else◌}
+use Rattle.std.specs.Prelude.{◌≡◌, ◌≢◌, ◌↔◌, ℕ, Bool, true, false, ◌&&◌, ◌⊎◌, IsTrue, Option, Some, None, option_and_then, slice_get, List, [], ◌∷◌, ◌++◌, map, length, Contains, codes, ◌==◌, if◌then◌else◌, is_some}
 use Rattle.std.specs.List.{list_any}
 use Rattle.swc_tree_node.specs.declared.fields.functions.class_expr.TheConstants as class_expr
 use Rattle.swc_tree_node.specs.declared.fields.functions.constructor.TheConstants as constructor
@@ -25,7 +25,7 @@ use Rattle.swc_tree_scoping.specs.declared.places.Scope.{Scope}
 use Rattle.swc_tree_scoping.specs.declared.places.Scope.TheVariants as scope
 use Rattle.swc_tree_scoping.specs.Places.{Path, child, given, has_own_name, is_at, items_of, opened_as, place_at, place_below, program_place}
 use Rattle.swc_tree_scoping.specs.Scopes.{is_binding, is_name}
-use Rattle.swc_tree_scoping.specs.BoundNames.{Id}
+use Rattle.swc_tree_scoping.specs.BoundNames.{Id, name_of}
 use Rattle.swc_base_rename_analysis.specs.declared.scopes.ScopeKind.{ScopeKind}
 use Rattle.swc_base_rename_analysis.specs.declared.scopes.ScopeKind.TheVariants.{Block, Fn}
 use Rattle.swc_base_rename_analysis.specs.Ids.{id_at}
@@ -74,10 +74,13 @@ abbrev pub is_default_export : Standing → Bool
 is_default_export standing.DefaultExport = true
 is_default_export _ = false
 
--- and so does the name of a class that is the default export
-abbrev pub is_outside : Place → Kind → ℕ → Bool
-is_outside w kind.ClassExpr i = is_default_export w.standing && i == class_expr.IDENT
-is_outside w k i = is_at (key_field k) i
+abbrev pub has_identifier : List Node → Bool
+has_identifier ts = is_some (name_of (slice_get ts class_expr.IDENT))
+
+-- and so does the identifier that names a class that is the default export
+abbrev pub is_outside : Place → Kind → Bool → ℕ → Bool
+is_outside w kind.ClassExpr named i = is_default_export w.standing && (named && i == class_expr.IDENT)
+is_outside w k named i = is_at (key_field k) i
 
 -- a scope round a path: the path of the node that opens it, and its kind
 abbrev pub Around : Type 0
@@ -89,7 +92,7 @@ opened_here (Some s) = ([], s) ∷ []
 
 -- the scope that a node opens, if one of its children stands in it; `for_body` says that the node is the body of a `for`
 abbrev pub opened_round : Bool → Place → Node-F Node → ℕ → List Around
-opened_round for_body w (Node-F.Tree k ts) i = if is_outside w k i then [] else opened_here (body_kind for_body (own_kind w k (has_own_name ts)))
+opened_round for_body w (Node-F.Tree k ts) i = if is_outside w k (has_identifier ts) i then [] else opened_here (body_kind for_body (own_kind w k (has_own_name ts)))
 opened_round for_body w _ i = []
 
 -- the scopes round a path, the innermost first

@@ -77,7 +77,7 @@ known_by ms (suc n) = met_next n (slice_get ms n) (known_by ms n)
 
 -- the table of numbers, as the code keeps it
 abbrev pub number_of : Entries → Id → Option ℕ
-number_of es x = get_by (λ k. ordering_then (slice_cmp nat_cmp x.0 k.0.now) (slice_cmp nat_cmp x.1 k.1.items)) es.numbers
+number_of es x = get_by (λ k. ordering_then (slice_cmp nat_cmp x.0 k.0.now) (slice_cmp nat_cmp x.1 k.1.now)) es.numbers
 
 abbrev pub IsTable : Entries → Type 0
 IsTable es = (x : Id) → number_of es x ≡ number_in (known_ids es) x

@@ -24,7 +24,7 @@ use Rattle.swc_base_rename_analysis.specs.declared.layout.Region.{Region}
 use Rattle.swc_base_rename_analysis.specs.declared.layout.Name.{Name}
 use Rattle.swc_base_rename_analysis.specs.declared.layout.Layout.{Layout}
 use Rattle.swc_base_rename_analysis.specs.declared.walk.Around.{Around}
-use Rattle.swc_base_rename_analysis.specs.Analysis.{body_field, body_kind, is_default_export, key_field, kind_of, uses_own_name}
+use Rattle.swc_base_rename_analysis.specs.Analysis.{body_field, body_kind, has_identifier, is_default_export, key_field, kind_of, uses_own_name}
 use Rattle.swc_base_rename_analysis.specs.Order.{body_first}
 use Rattle.swc_base_rename_analysis.specs.Preserved.{is_name_or_label}
 
@@ -34,10 +34,10 @@ kind_opened kind.ClassExpr s = Some Fn
 kind_opened kind.FnDecl s = None
 kind_opened k s = option_and_then kind_of s
 
--- the field of the name of a class that is the default export
-abbrev pub name_outside : Place → Kind → Option ℕ
-name_outside w kind.ClassExpr = if is_default_export w.standing then Some class_expr.IDENT else None
-name_outside w k = None
+-- the field of the identifier that names a class that is the default export
+abbrev pub name_outside : Place → Kind → Bool → Option ℕ
+name_outside w kind.ClassExpr named = if is_default_export w.standing && named then Some class_expr.IDENT else None
+name_outside w k named = None
 
 -- the name of the function in a field, where it counts as using it
 abbrev pub own_name_below : Kind → List Node → ℕ → Option Ident
@@ -162,10 +162,10 @@ abbrev pub walk_inside : Kind → List Node → (ℕ → Option Walk) → Option
 walk_inside k ts walks but n o l = end n (walk_fields k ts walks but (record o { scope = Some n }) (own_use n o o.own_name (begin n l)))
 
 abbrev pub walk_entered : Place → Kind → List Node → (ℕ → Option Walk) → ℕ → Walk
-walk_entered w k ts walks n o l = walk_inside k ts walks (option_or (key_field k) (name_outside w k)) n o (walk_optional k ts walks (name_outside w k) o l)
+walk_entered w k ts walks n o l = walk_inside k ts walks (option_or (key_field k) (name_outside w k (has_identifier ts))) n o (walk_optional k ts walks (name_outside w k (has_identifier ts)) o l)
 
--- a key comes before the scope that its node opens, and the name of a class that is the default export before the names
--- in it
+-- a key comes before the scope that its node opens, and the identifier of a class that is the default export before the
+-- names in it
 abbrev pub walk_scope : ScopeKind → Place → Kind → List Node → (ℕ → Option Walk) → Walk
 walk_scope s w k ts walks o l =
     walk_entered w k ts walks (length (walk_optional k ts walks (key_field k) o l).regions) o (enter s o.scope (walk_optional k ts walks (key_field k) o l))

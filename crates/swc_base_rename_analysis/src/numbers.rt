@@ -49,19 +49,16 @@ impl Entry {
 /// A look-up costs the logarithm of how many there are, whatever the ids.
 #[derive(Drop)]
 pub struct Entries<'a> {
-    numbers: BTreeMap<(&'a str, Vec<u32>), usize>,
+    numbers: BTreeMap<(&'a JsWord, &'a SyntaxContext), usize>,
     pub entries: Vec<Entry>,
 }
 
-// The numbers of the marks of a context.
-fn marks_of(alloc: Global, context: &SyntaxContext) -> Result<Vec<u32>, AllocError>
-    ensures { IfOk result (λ marks. marks.items ≡ context.now) }
+// How the id of an identifier is looked up.
+fn key_of<'a>(ident: &'a Ident) -> (&'a JsWord, &'a SyntaxContext)
+    ensures text { result.0.now ≡ ident.now.sym }
+    ensures context { result.1.now ≡ ident.now.ctxt }
 {
-    let mut numbers = Vec::new(alloc);
-    for mark in context.marks() {
-        numbers.push(mark.as_u32())?;
-    }
-    Ok(numbers)
+    (&ident.sym, &ident.ctxt)
 }
 
 impl<'a> Entries<'a> {
@@ -83,7 +80,7 @@ impl<'a> Entries<'a> {
         ensures ids { OnOk result (known_ids self.new ≡ with_id (known_ids self.old) (ident.now.sym, ident.now.ctxt)) }
         ensures number { IfOk result (λ number. Some number ≡ number_in (known_ids self.new) (ident.now.sym, ident.now.ctxt)) }
     {
-        let key = (ident.sym.as_str(), marks_of(alloc, &ident.ctxt)?);
+        let key = key_of(ident);
         match self.numbers.get(&key) {
             Some(number) => Ok(*number),
             None => {

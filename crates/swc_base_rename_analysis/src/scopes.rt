@@ -1,13 +1,13 @@
 //! The scopes that a renamer tells apart.
 ghost use Rattle.std.specs.Prelude.{◌≡◌};
 ghost use Rattle.swc_tree_scoping.specs.Places.{is_at};
-ghost use Rattle.swc_base_rename_analysis.specs.Analysis.{body_field as body_field_of, body_kind, key_field as key_field_of, kind_of as kind_of_scope};
+ghost use Rattle.swc_base_rename_analysis.specs.Analysis.{body_field as body_field_of, body_kind, has_identifier, key_field as key_field_of, kind_of as kind_of_scope};
 ghost use Rattle.swc_base_rename_analysis.specs.Walk.{kind_opened, name_outside as is_name_outside};
 
-use swc_tree_node::Kind;
 use swc_tree_node::fields::{
     class_expr, constructor, for_in_stmt, for_of_stmt, for_stmt, getter_prop, setter_prop,
 };
+use swc_tree_node::{Kind, Node};
 use swc_tree_scoping::{Place, Scope, Standing};
 
 /// What a scope takes of the names that are bound in it.
@@ -89,12 +89,14 @@ pub fn key_field(kind: Kind) -> Option<usize>
     }
 }
 
-/// The field of the name of a class that is the default export: it stands outside of the class's scope.
-pub fn name_outside(place: Place, kind: Kind) -> Option<usize>
-    ensures { result ≡ is_name_outside place kind }
+/// The field of the identifier that names a class that is the default export: it stands outside of the class's scope.
+pub fn name_outside(place: Place, kind: Kind, fields: &[Node]) -> Option<usize>
+    ensures { result ≡ is_name_outside place kind (has_identifier fields.now) }
 {
-    match (kind, place.standing) {
-        (Kind::ClassExpr, Standing::DefaultExport) => Some(class_expr::IDENT),
+    match (kind, place.standing, fields.get(class_expr::IDENT)) {
+        (Kind::ClassExpr, Standing::DefaultExport, Some(Node::Identifier(..))) => {
+            Some(class_expr::IDENT)
+        }
         _ => None,
     }
 }

@@ -109,7 +109,7 @@ fn walk_items<'a>(
     Ok(())
 }
 
-// A key comes before the scope that its node opens, and the name of a class that is the default export before the names in it.
+// A key comes before the scope that its node opens, and the identifier of a class that is the default export before the names in it.
 #[cycle(walk)]
 fn walk_scope<'a>(
     scope: ScopeKind,
@@ -125,7 +125,7 @@ fn walk_scope<'a>(
     let key = key_field(kind);
     walk_optional(kind, fields, key, places, around, layout)?;
     let number = layout.enter(scope, around.scope)?;
-    let name = name_outside(place, kind);
+    let name = name_outside(place, kind, fields);
     walk_optional(kind, fields, name, places, around, layout)?;
     layout.begin(number);
     use_own_name(number, around, layout)?;

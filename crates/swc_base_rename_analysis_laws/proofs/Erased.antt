@@ -14,7 +14,7 @@ use Rattle.swc_tree_scoping.specs.Places.{Path, children_in, has_own_name, is_at
 use Rattle.swc_tree_scoping.proofs.Under.{by_children}
 use Rattle.swc_base_rename_analysis.specs.declared.scopes.ScopeKind.{ScopeKind}
 use Rattle.swc_base_rename_analysis.specs.declared.layout.Region.{Region}
-use Rattle.swc_base_rename_analysis.specs.Analysis.{body_kind, key_field}
+use Rattle.swc_base_rename_analysis.specs.Analysis.{body_kind, has_identifier, key_field}
 use Rattle.swc_base_rename_analysis.specs.Preserved.{is_name_or_label}
 use Rattle.swc_base_rename_analysis.specs.Walk.{Laid, Met, Outside, Walk, begin, child_at, end, enter, function_at, goes, in_turn, kind_opened, laid_out, meet, name_outside, outside_all, own_use, round_field, round_item, walk_but, walk_entered, walk_field, walk_fields, walk_in, walk_inside, walk_layer, walk_opening, walk_optional, walk_scope, walks_at}
 use Rattle.swc_base_rename_analysis_laws.specs.Placed.{Use}
@@ -100,8 +100,8 @@ module _ (k : Kind) (ts : List Node) (walks : ℕ → Option Walk) (marks : ℕ 
       (λ j. walk_entered w k ts walks (length (keyed j).regions) o (enter s o.scope (keyed j)))
       ∙ ap (λ n. walk_entered w k ts walks n o (enter s o.scope (erased key))) (length-map key.scopes (λ s. s.region))
       ∙ ap (λ l. walk_entered w k ts walks (length key.scopes) o l) (entered_too h s o.scope key)
-      ∙ ap (λ l. walk_inside k ts walks (option_or (key_field k) (name_outside w k)) (length key.scopes) o l) (optional_too (name_outside w k) h o (marked_enter h s o.scope key))
-      ∙ inside_too (option_or (key_field k) (name_outside w k)) (length key.scopes) h o _
+      ∙ ap (λ l. walk_inside k ts walks (option_or (key_field k) (name_outside w k (has_identifier ts))) (length key.scopes) o l) (optional_too (name_outside w k (has_identifier ts)) h o (marked_enter h s o.scope key))
+      ∙ inside_too (option_or (key_field k) (name_outside w k (has_identifier ts))) (length key.scopes) h o _
     where
       key : Marked
       key = marked_optional k ts marks (key_field k) h o m

@@ -12,7 +12,7 @@ use Rattle.swc_tree_scoping.specs.Places.{Path, children_in, has_own_name, is_at
 use Rattle.swc_tree_scoping.proofs.Under.{by_children}
 use Rattle.swc_base_rename_analysis.specs.declared.scopes.ScopeKind.{ScopeKind}
 use Rattle.swc_base_rename_analysis.specs.declared.layout.Region.{Region}
-use Rattle.swc_base_rename_analysis.specs.Analysis.{body_kind, key_field}
+use Rattle.swc_base_rename_analysis.specs.Analysis.{body_kind, has_identifier, key_field}
 use Rattle.swc_base_rename_analysis.specs.Preserved.{is_name_or_label}
 use Rattle.swc_base_rename_analysis.specs.Walk.{Met, Outside, child_at, kind_opened, name_outside, round_field, round_item}
 use Rattle.swc_base_rename_analysis_laws.specs.Placed.{Use}
@@ -111,7 +111,7 @@ module _ (k : Kind) (ts : List Node) (walks : ℕ → Option MarkedWalk) (adds :
 
   pub scope_grows : (s : ScopeKind) (w : Place) (h : Path) (o : Outside) (m : Marked) → Grows m (marked_scope s w k ts walks h o m)
   scope_grows s w h o m =
-      grows_on (optional_grows (key_field k) h o m) (grows_on (enters h s o.scope _) (grows_on (optional_grows (name_outside w k) h o _) (inside_grows (option_or (key_field k) (name_outside w k)) _ h o _)))
+      grows_on (optional_grows (key_field k) h o m) (grows_on (enters h s o.scope _) (grows_on (optional_grows (name_outside w k (has_identifier ts)) h o _) (inside_grows (option_or (key_field k) (name_outside w k (has_identifier ts))) _ h o _)))
 
   pub opening_grows : (s : Option ScopeKind) (w : Place) (h : Path) (o : Outside) (m : Marked) → Grows m (marked_opening s w k ts walks h o m)
   opening_grows None w h o m = fields_grow None h o m

@@ -19,7 +19,7 @@ one_known ms zero x = fresh x
 one_known ms (suc n) x = one_known_next n (slice_get ms n) x (one_known ms n x)
 
 -- each entry is what is known of its id, and ids are different
-abbrev AllKnown : (Id → Known) → List Known → Type 0
+abbrev pub AllKnown : (Id → Known) → List Known → Type 0
 AllKnown f [] = Unit {0}
 AllKnown f (e ∷ es) = (e ≡ f e.id) × AllKnown f es
 
@@ -27,10 +27,10 @@ abbrev pub AllApart : List Known → Type 0
 AllApart [] = Unit {0}
 AllApart (e ∷ es) = (number_in es e.id ≡ None) × AllApart es
 
-record IsKnown (f : Id → Known) (es : List Known) : Type 0 where
-  all : AllKnown f es
-  apart : AllApart es
-  absent : (x : Id) → number_in es x ≡ None → f x ≡ fresh x
+pub record IsKnown (f : Id → Known) (es : List Known) : Type 0 where
+  pub all : AllKnown f es
+  pub apart : AllApart es
+  pub absent : (x : Id) → number_in es x ≡ None → f x ≡ fresh x
 
 turned : (x y : Id) → same_id x y ≡ false → same_id y x ≡ false
 turned x y h = by (same_id y x) refl
@@ -114,7 +114,7 @@ next_known : (f : Id → Known) (es : List Known) (k : ℕ) (o : Option Met) →
 next_known f es k None known = known
 next_known f es k (Some m) known = let (n, there) = has_number es (id_met m) in one_seen f (with_id es (id_met m)) k m n there (with_one f es (id_met m) known)
 
-all_known : (ms : List Met) (n : ℕ) → IsKnown (one_known ms n) (known_by ms n)
+pub all_known : (ms : List Met) (n : ℕ) → IsKnown (one_known ms n) (known_by ms n)
 all_known ms zero = record { all = tt; apart = tt; absent = λ x h. refl }
 all_known ms (suc n) = next_known (one_known ms n) (known_by ms n) n (slice_get ms n) (all_known ms n)
 
@@ -128,7 +128,7 @@ number_at (f ∷ es) (n, a) (suc k) e h = by (number_at es a k e h) (same_id f.i
     by there true s = let both : Some k ≡ None = sym there ∙ ap (number_in es) (sym (one_id f.id e.id s)) ∙ n in absurd (cc)
     by there false s = ap (option_map (λ n. suc n)) there
 
-abbrev IsEntryAt : List Known → Id → ℕ → Type 0
+abbrev pub IsEntryAt : List Known → Id → ℕ → Type 0
 IsEntryAt es x k = (e : Known) × (slice_get es k ≡ Some e) × (e.id ≡ x)
 
 one_behind : (o : Option ℕ) (k : ℕ) → option_map (λ n. suc n) o ≡ Some (suc k) → o ≡ Some k
@@ -152,7 +152,7 @@ entry_at (f ∷ es) x (suc k) h = by (λ g. entry_at es x k g) (same_id f.id x) 
     by more true h = let same : zero ≡ suc k = some_same h in absurd (omega (arith, same))
     by more false h = more (one_behind (number_in es x) k h)
 
-known_at : (f : Id → Known) (es : List Known) → AllKnown f es → (k : ℕ) (e : Known) → slice_get es k ≡ Some e → e ≡ f e.id
+pub known_at : (f : Id → Known) (es : List Known) → AllKnown f es → (k : ℕ) (e : Known) → slice_get es k ≡ Some e → e ≡ f e.id
 known_at f [] a k e h = absurd (cc)
 known_at f (g ∷ es) (b, a) zero e h = subst (λ e. e ≡ f e.id) (some_same h) b
 known_at f (g ∷ es) (b, a) (suc k) e h = known_at f es a k e h

@@ -12,7 +12,7 @@ use Rattle.swc_tree_scoping.specs.Folds.{fold_in_place}
 use Rattle.swc_tree_scoping.specs.Places.{Path, has_own_name, is_at, opened_as, program_place}
 use Rattle.swc_base_rename_analysis.specs.declared.scopes.ScopeKind.{ScopeKind}
 use Rattle.swc_base_rename_analysis.specs.declared.layout.Region.{Region}
-use Rattle.swc_base_rename_analysis.specs.Analysis.{body_kind, key_field}
+use Rattle.swc_base_rename_analysis.specs.Analysis.{body_kind, has_identifier, key_field}
 use Rattle.swc_base_rename_analysis.specs.Preserved.{is_name_or_label}
 use Rattle.swc_base_rename_analysis.specs.Walk.{Laid, Met, Outside, child_at, function_at, kind_opened, name_outside, outside_all, round_field, round_item}
 use Rattle.swc_base_rename_analysis_laws.specs.Placed.{Use, at_path, own_at}
@@ -99,7 +99,7 @@ abbrev pub marked_inside : Kind → List Node → (ℕ → Option MarkedWalk) �
 marked_inside k ts walks but n h o m = marked_end n (marked_fields k ts walks but h (record o { scope = Some n }) (marked_own_use n h o o.own_name (marked_begin n m)))
 
 abbrev pub marked_entered : Place → Kind → List Node → (ℕ → Option MarkedWalk) → ℕ → MarkedWalk
-marked_entered w k ts walks n h o m = marked_inside k ts walks (option_or (key_field k) (name_outside w k)) n h o (marked_optional k ts walks (name_outside w k) h o m)
+marked_entered w k ts walks n h o m = marked_inside k ts walks (option_or (key_field k) (name_outside w k (has_identifier ts))) n h o (marked_optional k ts walks (name_outside w k (has_identifier ts)) h o m)
 
 abbrev pub marked_scope : ScopeKind → Place → Kind → List Node → (ℕ → Option MarkedWalk) → MarkedWalk
 marked_scope s w k ts walks h o m =

@@ -133,7 +133,7 @@ turns_on end (i ∷ h) q v t w n e = at (child t i) refl e (λ c. turns_on end h
         ∙ sym (ap (λ o. (turn (out-Node t) i ∷ given o [] (λ c. steps c h)) ++ turns end n q) s)
 
 -- the order of two lists is that of what follows where they part
-same_number : (n : ℕ) → nat_cmp n n ≡ Equal
+pub same_number : (n : ℕ) → nat_cmp n n ≡ Equal
 same_number n = by (nat_cmp n n) (ranks n n)
   where
     by : (o : Ordering) → MatchOrdering o (n < n) (n ≡ n) (n < n) → o ≡ Equal

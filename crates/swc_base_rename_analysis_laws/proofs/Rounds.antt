@@ -14,7 +14,7 @@ use Rattle.swc_tree_scoping.specs.declared.places.Standing.{Standing}
 use Rattle.swc_tree_scoping.specs.declared.places.Place.{Place}
 use Rattle.swc_tree_scoping.specs.Places.{Path, child, given, has_own_name, is_at, place_below, program_place}
 use Rattle.swc_base_rename_analysis.specs.declared.scopes.ScopeKind.{ScopeKind}
-use Rattle.swc_base_rename_analysis.specs.Analysis.{Around, IsRound, body_kind, first_taking, is_for_body, is_outside, key_field, opened_here, opened_round, own_kind, scopes_below, scopes_round, takes}
+use Rattle.swc_base_rename_analysis.specs.Analysis.{Around, IsRound, body_kind, first_taking, has_identifier, is_for_body, is_outside, key_field, opened_here, opened_round, own_kind, scopes_below, scopes_round, takes}
 use Rattle.swc_base_rename_analysis.specs.Order.{entry, key_first, turn, turn_in, turns}
 use Rattle.swc_base_rename_analysis.proofs.Kept.{from_map, lower, none_there, to_map}
 use Rattle.swc_base_rename_analysis_laws.proofs.Items.{some_same}
@@ -39,7 +39,7 @@ opens_itself false (Some b) s k (zero, l, e) = ap (λ z. z.0) e
 opens_itself false (Some b) s k (suc n, l, e) = absurd (omega (arith, l))
 
 opened_root : (f : Bool) (w : Place) (y : Node-F Node) (i : ℕ) (s : Path) (k : ScopeKind) → Contains (opened_round f w y i) (s, k) → [] ≡ s
-opened_root f w (Node-F.Tree l ts) i s k h = opens_itself (is_outside w l i) (body_kind f (own_kind w l (has_own_name ts))) s k h
+opened_root f w (Node-F.Tree l ts) i s k h = opens_itself (is_outside w l (has_identifier ts) i) (body_kind f (own_kind w l (has_own_name ts))) s k h
 opened_root f w Node-F.Absent i s k h = none_there h
 opened_root f w (Node-F.Flag x) i s k h = none_there h
 opened_root f w (Node-F.Word x) i s k h = none_there h
@@ -57,7 +57,7 @@ first_of x y xs ys e = cc
 rest_of : (x y : ℕ) (xs ys : List ℕ) → (x ∷ xs) ≡ (y ∷ ys) → xs ≡ ys
 rest_of x y xs ys e = cc
 
-step_by_step : (p s : Path) (f : Bool) (w : Place) (t : Node) (k : ScopeKind) → Contains (scopes_below f w t p) (s, k) → IsRoundIn f w t s p
+pub step_by_step : (p s : Path) (f : Bool) (w : Place) (t : Node) (k : ScopeKind) → Contains (scopes_below f w t p) (s, k) → IsRoundIn f w t s p
 step_by_step [] s f w t k h = none_there h
 step_by_step (i ∷ p) s f w t k h = ⊎_elim (below (child t i) refl (λ c s k. step_by_step p s (is_for_body (out-Node t) i) (place_below w t i) c k)) (here s) (Contains-append_cases _ _ (s, k) h)
   where
@@ -77,7 +77,7 @@ step_by_step (i ∷ p) s f w t k h = ⊎_elim (below (child t i) refl (λ c s k.
         let (r, g, same) = from_map (lower i) (scopes_below (is_for_body (out-Node t) i) (place_below w t i) d p) (s, k) (subst (λ o. Contains (map (lower i) (given o [] (λ c. scopes_below (is_for_body (out-Node t) i) (place_below w t i) c p))) (s, k)) e c) in
         lowered d e s r.0 (ap (λ z. z.0) same) (more d r.0 r.1 g)
 
-all_steps : (p s : Path) (f : Bool) (w : Place) (t : Node) → IsRoundIn f w t s p → IsBelow f w t s p
+pub all_steps : (p s : Path) (f : Bool) (w : Place) (t : Node) → IsRoundIn f w t s p → IsBelow f w t s p
 all_steps [] s f w t h = absurd h
 all_steps (i ∷ p) [] f w t (k, c) = (k, Contains-append_right _ _ ([], k) c)
 all_steps (i ∷ p) (j ∷ s) f w t (e, (c, there, h)) = by (all_steps p s (is_for_body (out-Node t) i) (place_below w t i) c h)
@@ -128,9 +128,9 @@ nested (i ∷ p) (j ∷ s) (l ∷ u) f w t (d, (c, there, h)) (e, (b, here, g)) 
     by (inr (inr q)) = inr (inr (subst (λ k. IsRoundIn f w t (l ∷ u) (k ∷ s)) (sym same) (at_child l (sym e) u s q)))
 
 -- what stands in the scope of a node comes after its entry
-not_key : (w : Place) (k : Kind) (i : ℕ) → is_outside w k i ≡ false → is_at (key_field k) i ≡ false
-not_key w kind.ClassExpr i h = refl
-not_key w k i h = h
+pub not_key : (w : Place) (k : Kind) (named : Bool) (i : ℕ) → is_outside w k named i ≡ false → is_at (key_field k) i ≡ false
+not_key w kind.ClassExpr named i h = refl
+not_key w k named i h = h
 
 turn_is : (k : Kind) (i : ℕ) → is_some (key_field k) ≡ true → turn_in k i ≡ key_first k i
 turn_is kind.CatchClause i h = absurd (cc)
@@ -144,7 +144,7 @@ one_before i xs ys = by (nat_cmp 1 (i + 2)) (ranks 1 (i + 2))
     by Equal e = absurd (omega (arith, e))
     by Greater l = absurd (omega (arith, l))
 
-entered_first : (k : Kind) (ts : List Node) (i : ℕ) (rest : List ℕ) → is_at (key_field k) i ≡ false → slice_cmp nat_cmp (entry (Node-F.Tree k ts)) (turn (Node-F.Tree k ts) i ∷ rest) ≡ Less
+pub entered_first : (k : Kind) (ts : List Node) (i : ℕ) (rest : List ℕ) → is_at (key_field k) i ≡ false → slice_cmp nat_cmp (entry (Node-F.Tree k ts)) (turn (Node-F.Tree k ts) i ∷ rest) ≡ Less
 entered_first k ts i rest n = by (is_some (key_field k)) refl
   where
     by : (b : Bool) → is_some (key_field k) ≡ b → slice_cmp nat_cmp (cond b (1 ∷ []) []) (turn_in k i ∷ rest) ≡ Less
@@ -152,11 +152,11 @@ entered_first k ts i rest n = by (is_some (key_field k)) refl
     by false e = refl
 
 stands_in : (f : Bool) (w : Place) (y : Node-F Node) (i : ℕ) (k : ScopeKind) → Contains (opened_round f w y i) ([], k) → (rest : List ℕ) → slice_cmp nat_cmp (entry y) (turn y i ∷ rest) ≡ Less
-stands_in f w (Node-F.Tree l ts) i k h rest = by (is_outside w l i) refl h
+stands_in f w (Node-F.Tree l ts) i k h rest = by (is_outside w l (has_identifier ts) i) refl h
   where
-    by : (b : Bool) → is_outside w l i ≡ b → Contains (if b then [] else opened_here (body_kind f (own_kind w l (has_own_name ts)))) ([], k) → slice_cmp nat_cmp (entry (Node-F.Tree l ts)) (turn (Node-F.Tree l ts) i ∷ rest) ≡ Less
+    by : (b : Bool) → is_outside w l (has_identifier ts) i ≡ b → Contains (if b then [] else opened_here (body_kind f (own_kind w l (has_own_name ts)))) ([], k) → slice_cmp nat_cmp (entry (Node-F.Tree l ts)) (turn (Node-F.Tree l ts) i ∷ rest) ≡ Less
     by true e c = none_there c
-    by false e c = entered_first l ts i rest (not_key w l i e)
+    by false e c = entered_first l ts i rest (not_key w l (has_identifier ts) i e)
 stands_in f w Node-F.Absent i k h rest = none_there h
 stands_in f w (Node-F.Flag x) i k h rest = none_there h
 stands_in f w (Node-F.Word x) i k h rest = none_there h

@@ -35,7 +35,7 @@ abbrev pub surrounds : Analysis → ℕ → ℕ → Bool
 surrounds a m n = m == n || (nat_le m n && holds_stretch (slice_get a.regions.items m) (slice_get a.regions.items n))
 
 -- the sites that are read off are those that declare, in the order in which ids get names; ids are by numbers; ids occur and
--- are loose as the definitions say; and of two scopes that declare, numbers and stretches say which is round which
+-- are loose as the definitions say; and numbers and stretches say which scopes are round one that declares
 pub record Means (t : Node) (a : Analysis) (scopes places : List Path) : Type 0 where
   pub each_site : (i : ℕ) (site : Numbered) → slice_get a.sites.items i ≡ Some site → (s p : Path) × (x : Id) × IsSiteOf a scopes places site s p x × Declares t s p x
   pub all_sites : (s p : Path) (x : Id) → Declares t s p x → (i : ℕ) × (site : Numbered) × (slice_get a.sites.items i ≡ Some site) × IsSiteOf a scopes places site s p x
@@ -43,9 +43,9 @@ pub record Means (t : Node) (a : Analysis) (scopes places : List Path) : Type 0 
   pub apart : (j k : ℕ) (x : Id) → IsIdOf a j x → IsIdOf a k x → j ≡ k
   pub occurs : (n k : ℕ) (s : Path) (x : Id) → slice_get scopes n ≡ Some s → IsIdOf a k x → Occurs a n k ↔ OccursIn t s x
   pub loose : (text : List ℕ) → IsTrue (contains_text a.loose text) ↔ ((x : Id) × (x.0 ≡ text) × IsLoose t x)
-  pub round : (i j : ℕ) (one other : Numbered) (s u : Path) → slice_get a.sites.items i ≡ Some one → slice_get a.sites.items j ≡ Some other → slice_get scopes one.scope ≡ Some s → slice_get scopes other.scope ≡ Some u → IsTrue (surrounds a one.scope other.scope) ↔ IsAtOrAbove t s u
+  pub round : (m j : ℕ) (other : Numbered) (s u : Path) → slice_get scopes m ≡ Some s → slice_get a.sites.items j ≡ Some other → slice_get scopes other.scope ≡ Some u → IsTrue (surrounds a m other.scope) ↔ IsAtOrAbove t s u
   pub in_preorder : (i j k : ℕ) (one between other : Numbered) → i ≤ j → j ≤ k → slice_get a.sites.items i ≡ Some one → slice_get a.sites.items j ≡ Some between → slice_get a.sites.items k ≡ Some other → IsTrue (surrounds a one.scope other.scope) → IsTrue (surrounds a one.scope between.scope)
 
--- what is read off the layout of a tree means the definitions; `in_preorder` is not so of the trees of which `apart` is not
+-- what is read off the layout of a tree means the definitions
 abbrev pub EachReadingMeans : Type 0
 EachReadingMeans = (t : Node) (a : Analysis) → IsRead (laid_out t) a → (scopes places : List Path) × Means t a scopes places

@@ -75,7 +75,6 @@ pub record IsPlaced (t : Node) (l : Laid) (scopes : List Path) (uses : List Use)
   pub bounds : (n : ℕ) (r : Region) → slice_get l.regions n ≡ Some r → (r.start ≤ r.end) × (r.end ≤ length l.names)
   pub apart : (m n : ℕ) (r q : Region) → m < n → slice_get l.regions m ≡ Some r → slice_get l.regions n ≡ Some q → (r.start ≤ q.start) × ((q.end ≤ r.end) ⊎ (r.end ≤ q.start))
 
--- the layout of a tree is placed; `apart` is not so where the name of a class that is the default export is no identifier:
--- an arrow there, which no tree that fits has, stands outside of the class's scope and is entered behind it
+-- the layout of each tree is placed
 abbrev pub EachLayoutIsPlaced : Type 0
 EachLayoutIsPlaced = (t : Node) → (scopes : List Path) × (uses : List Use) × IsPlaced t (laid_out t) scopes uses

@@ -1,10 +1,11 @@
 -- Drawings as the definitions of naming see them.
-use Rattle.std.proofs.Common.{◌≡◌, ℕ, Bool, true, false, IsTrue, Option, Some, None, List, [], ◌∷◌, ◌++◌, map, codes, refl, sym, ap, ◌∙◌, subst}
+use Rattle.std.proofs.Common.{◌≡◌, ℕ, Bool, true, false, IsTrue, Option, Some, None, List, [], ◌∷◌, ◌++◌, map, codes, is_some, slice_get, refl, sym, ap, ◌∙◌, subst}
 use Rattle.std.specs.Prelude.{if◌then◌else◌}
 use Rattle.std.specs.Option.{option_and_then, option_map}
 use Rattle.std.specs.declared.cmp.Ordering.{Ordering}
 use Rattle.std.specs.Ordering.{nat_cmp, ordering_then}
 use Rattle.std.specs.Cmp.Lexicographic.{slice_cmp}
+use Rattle.swc_tree_node.specs.declared.fields.functions.class_expr.TheConstants as class_expr
 use Rattle.swc_tree_node.specs.declared.fields.functions.fn_expr.TheConstants as fn_expr
 use Rattle.swc_tree_node.specs.declared.node.Node.{Node, out-Node}
 use Rattle.swc_tree_node.specs.declared.node.Node.TheOpen.{Node-F}
@@ -12,8 +13,8 @@ use Rattle.swc_tree_scoping.specs.declared.places.Standing.{Standing}
 use Rattle.swc_tree_scoping.specs.declared.places.Place.{Place}
 use Rattle.swc_tree_scoping.specs.Places.{Path, child, given, place_below, program_place}
 use Rattle.swc_tree_scoping.specs.Scopes.{is_binding}
-use Rattle.swc_tree_scoping.specs.BoundNames.{Id, name_in}
-use Rattle.swc_tree_scoping_rows.proofs.Drawn.{Drawing, Drawing.none, Drawing.flag, Drawing.word, Drawing.span, Drawing.many, Drawing.name, Drawing.tree, as_drawn, child_is, draw, drawn_or, get, inner, layer, out_draw, place_drawn, place_is, stands_drawn, stands_is, there, there_at}
+use Rattle.swc_tree_scoping.specs.BoundNames.{Id, name_in, name_of}
+use Rattle.swc_tree_scoping_rows.proofs.Drawn.{Drawing, Drawings, draws, get_is, Drawing.none, Drawing.flag, Drawing.word, Drawing.span, Drawing.many, Drawing.name, Drawing.tree, as_drawn, child_is, draw, drawn_or, get, inner, layer, out_draw, place_drawn, place_is, stands_drawn, stands_is, there, there_at}
 use Rattle.swc_tree_scoping_rows.proofs.Names.{Every, every_name, names_in, stands_there}
 use Rattle.swc_base_rename_analysis.specs.Analysis.{Around, Declares, body_kind, first_taking, is_for_body, is_outside, opened_here, opened_round, own_kind, scopes_below, scopes_round}
 use Rattle.swc_base_rename_analysis.specs.Ids.{id_at}
@@ -24,13 +25,25 @@ pub fits_child : {B : Type 0} (b : B) (f : Node → B) (g : Drawing → B) (o : 
 fits_child b f g None h = refl
 fits_child b f g (Some c) h = h c
 
+-- whether a drawing is of an identifier
+abbrev pub identified : Option Drawing → Bool
+identified None = false
+identified (Some d) = is_some (name_in (layer d))
+
+identified_is : (o : Option Drawing) → is_some (name_of (option_map draw o)) ≡ identified o
+identified_is None = refl
+identified_is (Some d) = ap (λ y. is_some (name_in y)) (out_draw d)
+
+identified_at : (ds : Drawings) (i : ℕ) → is_some (name_of (slice_get (draws ds) i)) ≡ identified (get ds i)
+identified_at ds i = ap (λ o. is_some (name_of o)) (get_is ds i) ∙ identified_is (get ds i)
+
 -- the scopes round a path
 abbrev pub round_drawn : Bool → Place → Drawing → ℕ → List Around
-round_drawn for_body w (tree k ds) i = if is_outside w k i then [] else opened_here (body_kind for_body (own_kind w k (there (get ds fn_expr.IDENT))))
+round_drawn for_body w (tree k ds) i = if is_outside w k (identified (get ds class_expr.IDENT)) i then [] else opened_here (body_kind for_body (own_kind w k (there (get ds fn_expr.IDENT))))
 round_drawn for_body w _ i = []
 
 round_is : (for_body : Bool) (w : Place) (d : Drawing) (i : ℕ) → opened_round for_body w (layer d) i ≡ round_drawn for_body w d i
-round_is f w (tree k ds) i = ap (λ b. if is_outside w k i then [] else opened_here (body_kind f (own_kind w k b))) (there_at ds fn_expr.IDENT)
+round_is f w (tree k ds) i = λ j. if is_outside w k (identified_at ds class_expr.IDENT j) i then [] else opened_here (body_kind f (own_kind w k (there_at ds fn_expr.IDENT j)))
 round_is f w none i = refl
 round_is f w (flag x) i = refl
 round_is f w (word x) i = refl

@@ -8,7 +8,7 @@ use Rattle.std.proofs.lemmas.List.Folds.{list_any-append}
 use Rattle.swc_base_rename_naming.specs.Chained.{IsChild, ids_of, outer_ids}
 use Rattle.swc_base_rename_naming.specs.InOrder.{Choice, Site, chosen_text}
 use Rattle.swc_base_rename_naming.specs.Inside.{IsInPreorder, IsOver, IsScopeDone, IsSettled, MayBegin, scope_at}
-use Rattle.swc_base_rename_naming.specs.Steps.{Holds, IsDone, Naming, Stands, id_at, rules}
+use Rattle.swc_base_rename_naming.specs.Steps.{Holds, IsDone, Naming, Stands, rules}
 use Rattle.swc_base_rename_naming.specs.declared.reverse_map.ReverseMap.{ReverseMap}
 use Rattle.swc_base_rename_naming.specs.declared.in_order.Names.{Names}
 use Rattle.swc_base_rename_naming.proofs.Stands.{next_taken}
@@ -106,7 +106,7 @@ child_begins n sites from at choices names given laws within round half =
     record {
       stands = half.stands;
       holds = λ x f. half.holds x f ∙ any_same _ _ (choices ++ half.more)
-          (all_map _ _ (choices ++ half.more) (λ c settled. ap (λ b. b && (bytes_eq (chosen_text (rules n) c) x && f (id_at n c.0.1))) (counts_alike n.counts sites at s c laws within round settled)) half.settled);
+          (all_map _ _ (choices ++ half.more) (λ c settled. ap (λ b. b && (bytes_eq (chosen_text (rules n) c) x && f c.0.1)) (counts_alike n.counts sites at s c laws within round settled)) half.settled);
       settled = all_map _ _ (choices ++ half.more) (λ c settled. elim settled [ inl h ↦ inl (laws.through c.0.0 s v h round) | inr over ↦ inr over ]) half.settled;
     }
 
@@ -138,9 +138,9 @@ half_child n sites from at to choices was is given laws order later round other 
       more = half.more ++ done.more;
       stands = rw (sym all) done.stands;
       holds = rw (sym all) (λ x f. half.holds x f
-          ∙ or_false (list_any _ (choices ++ half.more)) _ (any_none (λ c. n.counts c.0.0 s && (bytes_eq (chosen_text (rules n) c) x && f (id_at n c.0.1))) done.more
-          (all_map _ _ done.more (λ c inside. ap (λ b. b && (bytes_eq (chosen_text (rules n) c) x && f (id_at n c.0.1))) (not_outside n s v c laws round other inside)) done.inside))
-          ∙ sym (list_any-append (λ c. n.counts c.0.0 s && (bytes_eq (chosen_text (rules n) c) x && f (id_at n c.0.1))) (choices ++ half.more) done.more));
+          ∙ or_false (list_any _ (choices ++ half.more)) _ (any_none (λ c. n.counts c.0.0 s && (bytes_eq (chosen_text (rules n) c) x && f c.0.1)) done.more
+          (all_map _ _ done.more (λ c inside. ap (λ b. b && (bytes_eq (chosen_text (rules n) c) x && f c.0.1)) (not_outside n s v c laws round other inside)) done.inside))
+          ∙ sym (list_any-append (λ c. n.counts c.0.0 s && (bytes_eq (chosen_text (rules n) c) x && f c.0.1)) (choices ++ half.more) done.more));
       settled = rw (sym all) (all_append _ (choices ++ half.more) done.more
           (all_map _ _ (choices ++ half.more) (λ c. settled_later n.counts sites at to s c later) half.settled)
           (all_map _ _ done.more (λ c inside. inr (over_in n sites at to c laws order later done.ended inside)) done.inside));
@@ -157,8 +157,8 @@ pub root_begins : (n : Naming) (sites : List Site) (at : ℕ) (names : Names) (o
     → at < length sites → ((x : List ℕ) → ids_of outer x ≡ []) → (whole : Whole n sites at names) → MayBegin n sites at whole.choices names outer
 root_begins n sites at names outer within empty whole = record {
   stands = whole.stands;
-  holds = λ x f. ap (list_any f) (empty x) ∙ sym (any_none (λ c. n.counts c.0.0 (scope_at sites at) && (bytes_eq (chosen_text (rules n) c) x && f (id_at n c.0.1))) whole.choices
-      (all_map _ _ whole.choices (λ c over. ap (λ b. b && (bytes_eq (chosen_text (rules n) c) x && f (id_at n c.0.1))) (over at (omega arith) within)) whole.over));
+  holds = λ x f. ap (list_any f) (empty x) ∙ sym (any_none (λ c. n.counts c.0.0 (scope_at sites at) && (bytes_eq (chosen_text (rules n) c) x && f c.0.1)) whole.choices
+      (all_map _ _ whole.choices (λ c over. ap (λ b. b && (bytes_eq (chosen_text (rules n) c) x && f c.0.1)) (over at (omega arith) within)) whole.over));
   settled = all_map _ _ whole.choices (λ c over. inr over) whole.over;
 }
 

@@ -1,7 +1,7 @@
 -- What stands while ids are named site by site.
 use Rattle.std.proofs.Common.{◌≡◌, ℕ, ◌+◌, ◌==◌, ◌⊎◌, Bool, true, false, ◌&&◌, ◌||◌, Some, None, List, [], ◌∷◌, ◌++◌, refl, sym, ◌∙◌, ap, inl, inr, suc, ◌<◌, length, take, drop, get_or, arith, append_assoc}
 use Rattle.std.specs.Prelude.{is_some, if◌then◌else◌}
-use Rattle.std.specs.List.{list_any, last_or, slice_get}
+use Rattle.std.specs.List.{list_any, last_or}
 use Rattle.std.specs.Str.{bytes_eq}
 use Rattle.std.proofs.Math.Seq.{take-suc}
 use Rattle.std.proofs.lemmas.List.{append-nil, take-append-drop}
@@ -13,7 +13,7 @@ use Rattle.swc_base_rename_naming.specs.Chained.{IsPushed, ids_of, outer_ids, ow
 use Rattle.swc_base_rename_naming.specs.Counters.{greatest}
 use Rattle.swc_base_rename_naming.specs.Free.{AllTaken, IsLeastFree, IsSearchRefusal, Test, Texts}
 use Rattle.swc_base_rename_naming.specs.InOrder.{Choice, IsRefused, Rules, Site, chosen_text, is_taken, name_in, past, start}
-use Rattle.swc_base_rename_naming.specs.Steps.{Holds, IsDone, IsNameGiven, Naming, Stands, id_at, id_or, keeps_text, next_at, rules, stays, taken_at, text_at}
+use Rattle.swc_base_rename_naming.specs.Steps.{Holds, IsDone, IsNameGiven, Naming, Stands, id_or, keeps_text, next_at, rules, stays, taken_at, text_at}
 use Rattle.swc_base_rename_naming.specs.declared.reverse_map.ReverseMap.{ReverseMap}
 use Rattle.swc_base_rename_naming.specs.declared.in_order.Names.{Names}
 use Rattle.swc_base_rename_naming.proofs.Choices.{is_next, is_passed, last-append, no_room, one_chosen, one_name, one_passed}
@@ -44,7 +44,7 @@ or_none : (b : Bool) → b ≡ (b || false)
 or_none true = refl
 or_none false = refl
 
-any_pushed : (f : Id → Bool) (b : Bool) (own outer : List Id) (id : Id) → list_any f ((if b then own ++ id ∷ [] else own) ++ outer) ≡ (list_any f (own ++ outer) || (b && f id))
+any_pushed : (f : ℕ → Bool) (b : Bool) (own outer : List ℕ) (id : ℕ) → list_any f ((if b then own ++ id ∷ [] else own) ++ outer) ≡ (list_any f (own ++ outer) || (b && f id))
 any_pushed f true own outer id =
     list_any-append f (own ++ id ∷ []) outer
     ∙ ap (λ b. b || list_any f outer) (list_any-append f own (id ∷ []))
@@ -53,12 +53,12 @@ any_pushed f true own outer id =
 any_pushed f false own outer id = or_none (list_any f (own ++ outer))
 
 -- whether a choice counts, has the text and passes the test
-abbrev counted : Naming → ℕ → List ℕ → (Id → Bool) → Choice → Bool
-counted n s x f c = n.counts c.0.0 s && (bytes_eq (chosen_text (rules n) c) x && f (id_at n c.0.1))
+abbrev counted : Naming → ℕ → List ℕ → (ℕ → Bool) → Choice → Bool
+counted n s x f c = n.counts c.0.0 s && (bytes_eq (chosen_text (rules n) c) x && f c.0.1)
 
 -- one id more
-pub holds_more : (n : Naming) (s : ℕ) (choices : List Choice) (c : Choice) (was is : ReverseMap) (text : List ℕ) (id : Id)
-    → Holds n s choices was → n.counts c.0.0 s ≡ true → text ≡ chosen_text (rules n) c → id ≡ id_at n c.0.1 → IsPushed text id was is → Holds n s (choices ++ c ∷ []) is
+pub holds_more : (n : Naming) (s : ℕ) (choices : List Choice) (c : Choice) (was is : ReverseMap) (text : List ℕ) (id : ℕ)
+    → Holds n s choices was → n.counts c.0.0 s ≡ true → text ≡ chosen_text (rules n) c → id ≡ c.0.1 → IsPushed text id was is → Holds n s (choices ++ c ∷ []) is
 holds_more n s choices c was is text id before counts texts ids pushed x f =
     ap (λ own. list_any f (own ++ outer_ids is x)) (pushed.own x)
     ∙ ap (λ outer. list_any f ((if bytes_eq text x then own_ids was x ++ id ∷ [] else own_ids was x) ++ outer)) (pushed.outer x)
@@ -66,7 +66,7 @@ holds_more n s choices c was is text id before counts texts ids pushed x f =
     ∙ ap (λ b. b || (bytes_eq text x && f id)) (before x f)
     ∙ ap (λ t. list_any (counted n s x f) choices || (bytes_eq t x && f id)) texts
     ∙ ap (λ y. list_any (counted n s x f) choices || (bytes_eq (chosen_text (rules n) c) x && f y)) ids
-    ∙ ap (λ b. list_any (counted n s x f) choices || (b && (bytes_eq (chosen_text (rules n) c) x && f (id_at n c.0.1)))) (sym counts)
+    ∙ ap (λ b. list_any (counted n s x f) choices || (b && (bytes_eq (chosen_text (rules n) c) x && f c.0.1))) (sym counts)
     ∙ ap (λ b. list_any (counted n s x f) choices || b) (or_none _)
     ∙ sym (list_any-append (counted n s x f) choices (c ∷ []))
 
@@ -81,7 +81,7 @@ same_search P text text' taken taken' n n' e f g h =
     rw (sym e, sym same, sym g) h
 
 pub by_choices : (n : Naming) (P : Texts → Test → ℕ → Type 0) (done : List Site) (choices : List Choice) (names : Names) (given : ReverseMap) (site : Site) (id : Id)
-    → Stands n done choices names → Holds n site.0 choices given → slice_get n.ids site.1 ≡ Some id
+    → Stands n done choices names → Holds n site.0 choices given → n.id_of site.1 ≡ Some id
     → P (n.text id) (taken_at n.preserved n.occurs given site.0) (next_at n.goes_on names site.0)
     → P (Rules.text (rules n) site.1) (is_taken (rules n) choices site.0) (start (rules n) choices site.0)
 by_choices n P done choices names given site id stands holds found h =
@@ -91,14 +91,14 @@ by_choices n P done choices names given site id stands holds found h =
     (same_start (rules n) n.goes_on names choices site.0 (stands.counter site.0))
     h
 
-pub stays_not : (n : Naming) (x : ℕ) (id : Id) → slice_get n.ids x ≡ Some id → keeps_text n.keeps id ≡ false → Rules.stays (rules n) x ≡ false
+pub stays_not : (n : Naming) (x : ℕ) (id : Id) → n.id_of x ≡ Some id → keeps_text n.keeps id ≡ false → Rules.stays (rules n) x ≡ false
 stays_not n x id found changes = ap (stays n.keeps) found ∙ changes
 
 -- a site at which an id got its name
 one_more : (n : Naming) (done : List Site) (choices : List Choice) (site : Site) (id : Id) (was is : Names) (given_was given_is : ReverseMap)
     → Stands n done choices was → Holds n site.0 choices given_was
-    → slice_get n.ids site.1 ≡ Some id → keeps_text n.keeps id ≡ false → text_at was.texts site.1 ≡ None
-    → (g : IsNameGiven (n.text id) (taken_at n.preserved n.occurs given_was site.0) (next_at n.goes_on was site.0) id site was is given_was given_is)
+    → n.id_of site.1 ≡ Some id → keeps_text n.keeps id ≡ false → text_at was.texts site.1 ≡ None
+    → (g : IsNameGiven (n.text id) (taken_at n.preserved n.occurs given_was site.0) (next_at n.goes_on was site.0) site was is given_was given_is)
     → Stands n (done ++ site ∷ []) (choices ++ (site, g.counter) ∷ []) is
 one_more n done choices site id was is given_was given_is stands holds found changes none g =
     let r = rules n in
@@ -117,20 +117,20 @@ one_more n done choices site id was is given_was given_is stands holds found cha
     }
 
 pub done_named : (n : Naming) (done : List Site) (choices : List Choice) (site : Site) (id : Id) (was is : Names) (given_was given_is : ReverseMap)
-    → slice_get n.ids site.1 ≡ Some id → keeps_text n.keeps id ≡ false → text_at was.texts site.1 ≡ None
-    → IsNameGiven (n.text id) (taken_at n.preserved n.occurs given_was site.0) (next_at n.goes_on was site.0) id site was is given_was given_is
+    → n.id_of site.1 ≡ Some id → keeps_text n.keeps id ≡ false → text_at was.texts site.1 ≡ None
+    → IsNameGiven (n.text id) (taken_at n.preserved n.occurs given_was site.0) (next_at n.goes_on was site.0) site was is given_was given_is
     → Stands n done choices was → Holds n site.0 choices given_was → n.counts site.0 site.0 ≡ true
     → IsDone n done choices site is given_is
 done_named n done choices site id was is given_was given_is found changes none g stands holds counts = record {
   more = (site, g.counter) ∷ [];
   own = (refl, tt);
   stands = one_more n done choices site id was is given_was given_is stands holds found changes none g;
-  holds = holds_more n site.0 choices (site, g.counter) given_was given_is (n.text id g.counter) id holds counts (ap (λ o. n.text (id_or o) g.counter) (sym found)) (ap id_or (sym found)) g.kept.pushed;
+  holds = holds_more n site.0 choices (site, g.counter) given_was given_is (n.text id g.counter) site.1 holds counts (ap (λ o. n.text (id_or o) g.counter) (sym found)) refl g.kept.pushed;
 }
 
 -- a site at which none did
 pub done_passed : (n : Naming) (done : List Site) (choices : List Choice) (site : Site) (names : Names) (given : ReverseMap)
-    → (stays n.keeps (slice_get n.ids site.1) ≡ true) ⊎ (is_some (text_at names.texts site.1) ≡ true)
+    → (stays n.keeps (n.id_of site.1) ≡ true) ⊎ (is_some (text_at names.texts site.1) ≡ true)
     → Stands n done choices names → Holds n site.0 choices given → IsDone n done choices site names given
 done_passed n done choices site names given why stands holds =
     let r = rules n in
@@ -157,7 +157,7 @@ split_at sites i within =
 
 -- why names are refused
 pub refused_at : (n : Naming) (done after : List Site) (choices : List Choice) (site : Site) (id : Id) (names : Names) (given : ReverseMap) (e : PassError)
-    → slice_get n.ids site.1 ≡ Some id → keeps_text n.keeps id ≡ false → text_at names.texts site.1 ≡ None
+    → n.id_of site.1 ≡ Some id → keeps_text n.keeps id ≡ false → text_at names.texts site.1 ≡ None
     → IsSearchRefusal (n.text id) (taken_at n.preserved n.occurs given site.0) (next_at n.goes_on names site.0) e
     → Stands n done choices names → Holds n site.0 choices given
     → IsRefused (rules n) (done ++ site ∷ after) e

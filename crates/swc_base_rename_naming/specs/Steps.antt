@@ -2,7 +2,7 @@
 use Rattle.std.specs.Prelude.{◌≡◌, ℕ, ◌+◌, ◌==◌, ◌⊎◌, Bool, true, false, ◌&&◌, ◌||◌, Option, Some, None, is_some, List, ◌∷◌, ◌++◌, codes, MatchOption, unwrap_or, [], if◌then◌else◌}
 use Rattle.std.specs.Borrow.{Bor}
 use Rattle.std.specs.Ordering.{nat_cmp}
-use Rattle.std.specs.List.{AllByRecursion, last_or, list_any, slice_get}
+use Rattle.std.specs.List.{AllByRecursion, last_or, list_any}
 use Rattle.std.specs.Option.{option_map_or}
 use Rattle.std.specs.BTreeMap.{BTreeMap, get}
 use Rattle.std.specs.Str.{bytes_eq}
@@ -30,38 +30,38 @@ abbrev pub all_count : ℕ → ℕ → Bool
 all_count u s = true
 
 -- what names go by: the texts of ids, whether the counter goes on within a scope, which ids keep their texts, which texts
--- nobody may get, which ids occur at a scope or below it, whether names of one scope count at another, and the ids by number
+-- nobody may get, which ids occur at a scope or below it, whether names of one scope count at another, and the id of a number
 pub record Naming : Type 0 where
   pub text : Id → ℕ → List ℕ
   pub goes_on : Bool
   pub keeps : Id → Bool
   pub preserved : List ℕ → Bool
-  pub occurs : ℕ → Id → Bool
+  pub occurs : ℕ → ℕ → Bool
   pub counts : ℕ → ℕ → Bool
-  pub ids : List Id
+  pub id_of : ℕ → Option Id
 
-abbrev pub naming : (Id → ℕ → List ℕ) → Bool → (Id → Bool) → (List ℕ → Bool) → (ℕ → Id → Bool) → (ℕ → ℕ → Bool) → List Id → Naming
-naming text goes_on keeps preserved occurs counts ids = record {
+abbrev pub naming : (Id → ℕ → List ℕ) → Bool → (Id → Bool) → (List ℕ → Bool) → (ℕ → ℕ → Bool) → (ℕ → ℕ → Bool) → (ℕ → Option Id) → Naming
+naming text goes_on keeps preserved occurs counts id_of = record {
   text = text;
   goes_on = goes_on;
   keeps = keeps;
   preserved = preserved;
   occurs = occurs;
   counts = counts;
-  ids = ids;
+  id_of = id_of;
 }
 
 abbrev pub id_at : Naming → ℕ → Id
-id_at n x = id_or (slice_get n.ids x)
+id_at n x = id_or (n.id_of x)
 
 -- the rules for the ids' numbers
 abbrev pub rules : Naming → Rules
 rules n = record {
   text = λ x k. n.text (id_at n x) k;
   goes_on = n.goes_on;
-  stays = λ x. stays n.keeps (slice_get n.ids x);
+  stays = λ x. stays n.keeps (n.id_of x);
   preserved = n.preserved;
-  occurs = λ s x. n.occurs s (id_at n x);
+  occurs = n.occurs;
   counts = n.counts;
 }
 
@@ -70,13 +70,13 @@ abbrev pub text_at : BTreeMap ℕ (List ℕ) → ℕ → Option (List ℕ)
 text_at = get nat_cmp
 
 -- an id is to get a name if it has none, and does not keep its text
-abbrev pub IsNamable : (Id → Bool) → List Id → BTreeMap ℕ (List ℕ) → ℕ → Option (Bor Id) → Type 0
-IsNamable keeps ids texts number found = MatchOption found
-    ((stays keeps (slice_get ids number) ≡ true) ⊎ (is_some (text_at texts number) ≡ true))
-    (λ id. (slice_get ids number ≡ Some id.now) × ((keeps_text keeps id.now ≡ false) × (text_at texts number ≡ None)))
+abbrev pub IsNamable : (Id → Bool) → (ℕ → Option Id) → BTreeMap ℕ (List ℕ) → ℕ → Option (Bor Id) → Type 0
+IsNamable keeps id_of texts number found = MatchOption found
+    ((stays keeps (id_of number) ≡ true) ⊎ (is_some (text_at texts number) ≡ true))
+    (λ id. (id_of number ≡ Some id.now) × ((keeps_text keeps id.now ≡ false) × (text_at texts number ≡ None)))
 
 -- what is taken at a scope
-abbrev pub taken_at : (List ℕ → Bool) → (ℕ → Id → Bool) → ReverseMap → ℕ → Test
+abbrev pub taken_at : (List ℕ → Bool) → (ℕ → ℕ → Bool) → ReverseMap → ℕ → Test
 taken_at preserved occurs given scope text = preserved text || list_any (occurs scope) (ids_of given text)
 
 -- the counter from which an id of a scope starts
@@ -84,21 +84,21 @@ abbrev pub next_at : Bool → Names → ℕ → ℕ
 next_at goes_on names scope = if goes_on && (names.scope == scope) then names.next else 0
 
 -- a text was put down for the id of a number, and the counter after it
-pub record IsKept (text : List ℕ) (id : Id) (site : Site) (after : ℕ) (was is : Names) (given_was given_is : ReverseMap) : Type 0 where
+pub record IsKept (text : List ℕ) (site : Site) (after : ℕ) (was is : Names) (given_was given_is : ReverseMap) : Type 0 where
   pub texts : (x : ℕ) → text_at is.texts x ≡ (if site.1 == x then Some text else text_at was.texts x)
   pub scope : is.scope ≡ site.0
   pub next : is.next ≡ after
-  pub pushed : IsPushed text id given_was given_is
+  pub pushed : IsPushed text site.1 given_was given_is
 
 -- an id got the text of the least counter from its start on that is free, and it was put down
-pub record IsNameGiven (text : Texts) (taken : Test) (start : ℕ) (id : Id) (site : Site) (was is : Names) (given_was given_is : ReverseMap) : Type 0 where
+pub record IsNameGiven (text : Texts) (taken : Test) (start : ℕ) (site : Site) (was is : Names) (given_was given_is : ReverseMap) : Type 0 where
   pub counter : ℕ
   pub least : IsLeastFree text taken start counter
-  pub kept : IsKept (text counter) id site (counter + 1) was is given_was given_is
+  pub kept : IsKept (text counter) site (counter + 1) was is given_was given_is
 
 -- the map has the ids of the choices whose scopes count at a scope
 abbrev pub Holds : Naming → ℕ → List Choice → ReverseMap → Type 0
-Holds n s choices given = (x : List ℕ) (f : Id → Bool) → list_any f (ids_of given x) ≡ list_any (λ c. n.counts c.0.0 s && (bytes_eq (chosen_text (rules n) c) x && f (id_at n c.0.1))) choices
+Holds n s choices given = (x : List ℕ) (f : ℕ → Bool) → list_any f (ids_of given x) ≡ list_any (λ c. n.counts c.0.0 s && (bytes_eq (chosen_text (rules n) c) x && f c.0.1)) choices
 
 -- the ids of the sites that are done were named in order, and texts and counter are those of the choices
 pub record Stands (n : Naming) (done : List Site) (choices : List Choice) (names : Names) : Type 0 where

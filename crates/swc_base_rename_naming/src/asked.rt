@@ -2,13 +2,16 @@
 
 use swc_tree_marks::Id;
 
-/// What naming asks of a program, whose scopes are numbered.
-pub trait Analysis {
-    ghost use Rattle.std.specs.Prelude.{◌≡◌, ℕ, Bool, List};
+/// What naming asks of a program, whose ids and scopes are numbered.
+pub trait Asked {
+    ghost use Rattle.std.specs.Prelude.{◌≡◌, ℕ, Bool, List, Option, Some, None, MatchOption};
     ghost use Rattle.swc_base_rename_substitution.specs.Names.{Id};
 
-    /// Whether an id occurs at a scope or below it.
-    ghost occurs: { Self → ℕ → Id → Bool };
+    /// The id of a number.
+    ghost id_of: { Self → ℕ → Option Id };
+
+    /// Whether the id of a number occurs at a scope or below it.
+    ghost occurs: { Self → ℕ → ℕ → Bool };
 
     /// Whether an id keeps its text.
     ghost keeps: { Self → Id → Bool };
@@ -16,9 +19,13 @@ pub trait Analysis {
     /// Whether no id may get a text.
     ghost preserved: { Self → List ℕ → Bool };
 
-    /// Whether an id occurs at a scope or below it.
-    fn occurs(&self, scope: usize, id: &Id) -> bool
-        ensures { result ≡ occurs self.now scope id.now };
+    /// The id of a number.
+    fn id(&self, number: usize) -> Option<&Id>
+        ensures { MatchOption result (id_of self.now number ≡ None) (λ id. id_of self.now number ≡ Some id.now) };
+
+    /// Whether the id of a number occurs at a scope or below it.
+    fn occurs(&self, scope: usize, id: usize) -> bool
+        ensures { result ≡ occurs self.now scope id };
 
     /// Whether an id keeps its text.
     fn keeps(&self, id: &Id) -> bool

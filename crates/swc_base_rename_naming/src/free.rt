@@ -3,7 +3,7 @@ ghost use Rattle.std.specs.Prelude.{◌≡◌, ℕ, List, ◌+◌, ◌≤◌, le
 ghost use Rattle.swc_base_rename_naming.specs.Counters.{greatest};
 ghost use Rattle.swc_base_rename_naming.specs.Free.{Covers, FindsFree, IsSearchRefusal};
 
-use crate::lawful::Renamer;
+use crate::new_texts::NewTexts;
 use std::alloc::Global;
 use swc_tree_marks::{Id, JsWord, PassError};
 
@@ -27,20 +27,20 @@ pub trait Taken {
 ///
 /// `CounterSpent` where no counter from `n` on and below the greatest `usize` has a free text, so that as many texts are taken
 /// as there are such counters; and `NoMemory`.
-pub fn free_text<R: Renamer, T: Taken>(
+pub fn free_text<N: NewTexts, T: Taken>(
     alloc: Global,
-    renamer: &R,
+    texts: &N,
     id: &Id,
     taken: &T,
     n: &mut usize,
 ) -> Result<JsWord, PassError>
-    ensures found { IfOk result (FindsFree (R.text renamer.now id.now) (T.taken taken.now) n.old n.new) }
-    ensures tries { OnOk result ((texts : List (List ℕ)) → Covers texts (T.taken taken.now) → n.new ≤ n.old + length texts + 1) }
-    ensures crowded { IfErr result (λ e. e ≡ PassError.CounterSpent → (texts : List (List ℕ)) → Covers texts (T.taken taken.now) → greatest ≤ n.old + length texts) }
-    ensures refused { IfErr result (IsSearchRefusal (R.text renamer.now id.now) (T.taken taken.now) n.old) }
+    ensures found { IfOk result (FindsFree (N.text texts.now id.now) (T.taken taken.now) n.old n.new) }
+    ensures tries { OnOk result ((those : List (List ℕ)) → Covers those (T.taken taken.now) → n.new ≤ n.old + length those + 1) }
+    ensures crowded { IfErr result (λ e. e ≡ PassError.CounterSpent → (those : List (List ℕ)) → Covers those (T.taken taken.now) → greatest ≤ n.old + length those) }
+    ensures refused { IfErr result (IsSearchRefusal (N.text texts.now id.now) (T.taken taken.now) n.old) }
 {
     loop {
-        let text = renamer.new_name_for(alloc, id, n)?;
+        let text = texts.new_text(alloc, id, n)?;
         if !taken.is_taken(text.as_str()) {
             return Ok(text);
         }

@@ -1,44 +1,52 @@
 //! Names for ids, one after the other.
-ghost use Rattle.std.specs.Prelude.{◌≡◌, ◌||◌, not, ℕ, Bool, None, IfOk, IfErr, OnOk};
+ghost use Rattle.std.specs.Prelude.{◌≡◌, ◌||◌, ℕ, Bool, None, IfOk, IfErr, OnOk};
 ghost use Rattle.std.specs.List.{list_any};
 ghost use Rattle.swc_base_rename_naming.specs.Chained.{ids_of};
 ghost use Rattle.swc_base_rename_naming.specs.Free.{FindsFree, IsSearchRefusal};
 ghost use Rattle.swc_base_rename_naming.specs.InOrder.{IsRefused, NamedInOrder};
 ghost use Rattle.swc_base_rename_naming.specs.Steps.{IsKept, IsNamable, IsNameGiven, all_count, next_at as is_next_at, naming, rules, taken_at, text_at, IsSiteDone, IsSiteRefused};
 
-use crate::asked::Analysis;
+use crate::asked::Asked;
 use crate::free::{Taken, free_text};
-use crate::lawful::Renamer;
+use crate::new_texts::NewTexts;
 use crate::reverse_map::ReverseMap;
 use std::alloc::Global;
 use std::collections::BTreeMap;
 use swc_tree_marks::{Id, JsWord, NoMemory, PassError};
 
+// What does not change while names are given: the texts, the program, and whether the counter goes on from id to id in a scope.
+#[derive(Clone, Copy)]
+pub struct Plan<'a, N, A> {
+    pub texts: &'a N,
+    pub asked: &'a A,
+    pub goes_on: bool,
+}
+
 // What is taken at a scope: texts that nobody may get, and those of ids that occur there or below.
 #[derive(Clone, Copy)]
 struct AtScope<'a, 'b, A> {
-    analysis: &'a A,
+    asked: &'a A,
     given: &'a ReverseMap<'b>,
     scope: usize,
 }
 
 // Whether one of the ids that a text was given to occurs at a scope or below it.
-fn any_occurs<A: Analysis>(analysis: &A, given: &ReverseMap<'_>, scope: usize, text: &str) -> bool
-    ensures { result ≡ list_any (A.occurs analysis.now scope) (ids_of given.now text.now) }
+fn any_occurs<A: Asked>(asked: &A, given: &ReverseMap<'_>, scope: usize, text: &str) -> bool
+    ensures { result ≡ list_any (A.occurs asked.now scope) (ids_of given.now text.now) }
 {
     for id in given.get(text) {
-        if analysis.occurs(scope, id) {
+        if asked.occurs(scope, *id) {
             return true;
         }
     }
     false
 }
 
-impl<A: Analysis> Taken for AtScope<'_, '_, A> {
-    ghost taken = { λ at. taken_at (A.preserved at.analysis.now) (A.occurs at.analysis.now) at.given.now at.scope };
+impl<A: Asked> Taken for AtScope<'_, '_, A> {
+    ghost taken = { λ at. taken_at (A.preserved at.asked.now) (A.occurs at.asked.now) at.given.now at.scope };
 
     fn is_taken(&self, text: &str) -> bool {
-        self.analysis.is_preserved(text) || any_occurs(self.analysis, self.given, self.scope, text)
+        self.asked.is_preserved(text) || any_occurs(self.asked, self.given, self.scope, text)
     }
 }
 
@@ -71,33 +79,25 @@ impl Names {
 }
 
 // The id of a number, if it is to get a name: it has none yet, and does not keep its text.
-fn namable<'a, A: Analysis>(
-    analysis: &A,
-    ids: &'a [Id],
+fn namable<'a, A: Asked>(
+    asked: &'a A,
     texts: &BTreeMap<usize, JsWord>,
     number: usize,
 ) -> Option<&'a Id>
-    ensures { IsNamable (A.keeps analysis.now) ids.now texts.now number result }
+    ensures { IsNamable (A.keeps asked.now) (A.id_of asked.now) texts.now number result }
 {
-    let id = ids.get(number)?;
-    if texts.contains_key(&number) || analysis.keeps(id) || id.0.as_str() == "eval" {
+    let id = asked.id(number)?;
+    if texts.contains_key(&number) || asked.keeps(id) || id.0.as_str() == "eval" {
         return None;
     }
     Some(id)
 }
 
-// Whether the counter goes on from id to id within a scope.
-fn goes_on<R: Renamer>() -> bool
-    ensures { result ≡ (R.MANGLE || not R.RESET_N) }
-{
-    R::MANGLE || !R::RESET_N
-}
-
 // The counter from which an id of a scope starts.
-fn next_at<R: Renamer>(names: &Names, scope: usize) -> usize
-    ensures { result ≡ is_next_at (R.MANGLE || not R.RESET_N) names.now scope }
+fn next_at(goes_on: bool, names: &Names, scope: usize) -> usize
+    ensures { result ≡ is_next_at goes_on names.now scope }
 {
-    if goes_on::<R>() && names.scope == scope {
+    if goes_on && names.scope == scope {
         names.next
     } else {
         0
@@ -105,38 +105,36 @@ fn next_at<R: Renamer>(names: &Names, scope: usize) -> usize
 }
 
 // The first text of an id that is free at a scope.
-fn free_at<R: Renamer, A: Analysis>(
+fn free_at<N: NewTexts, A: Asked>(
     alloc: Global,
-    renamer: &R,
-    analysis: &A,
+    plan: &Plan<'_, N, A>,
     id: &Id,
     scope: usize,
     given: &ReverseMap<'_>,
     next: &mut usize,
 ) -> Result<JsWord, PassError>
-    ensures found { IfOk result (FindsFree (R.text renamer.now id.now) (taken_at (A.preserved analysis.now) (A.occurs analysis.now) given.now scope) next.old next.new) }
-    ensures refused { IfErr result (IsSearchRefusal (R.text renamer.now id.now) (taken_at (A.preserved analysis.now) (A.occurs analysis.now) given.now scope) next.old) }
+    ensures found { IfOk result (FindsFree (N.text plan.now.texts.now id.now) (taken_at (A.preserved plan.now.asked.now) (A.occurs plan.now.asked.now) given.now scope) next.old next.new) }
+    ensures refused { IfErr result (IsSearchRefusal (N.text plan.now.texts.now id.now) (taken_at (A.preserved plan.now.asked.now) (A.occurs plan.now.asked.now) given.now scope) next.old) }
 {
     let taken = AtScope {
-        analysis,
+        asked: plan.asked,
         given,
         scope,
     };
-    free_text(alloc, renamer, id, &taken, next)
+    free_text(alloc, plan.texts, id, &taken, next)
 }
 
-// Puts a text down for an id, and the counter after it.
+// Puts a text down for the id of a site, and the counter after it.
 fn keep(
     text: JsWord,
-    id: &Id,
     site: (usize, usize),
     next: usize,
     given: &mut ReverseMap<'_>,
     names: &mut Names,
 ) -> Result<(), NoMemory>
-    ensures { OnOk result (IsKept text id.now site next names.old names.new given.old given.new) }
+    ensures { OnOk result (IsKept text site next names.old names.new given.old given.new) }
 {
-    given.push_entry(text.clone()?, (id.0.clone()?, id.1.clone()?))?;
+    given.push_entry(text.clone()?, site.1)?;
     names.texts.insert(site.1, text)?;
     names.scope = site.0;
     names.next = next;
@@ -144,65 +142,68 @@ fn keep(
 }
 
 // Gives an id its name at a site.
-fn give_name<R: Renamer, A: Analysis>(
+fn give_name<N: NewTexts, A: Asked>(
     alloc: Global,
-    renamer: &R,
-    analysis: &A,
+    plan: &Plan<'_, N, A>,
     id: &Id,
     site: (usize, usize),
     given: &mut ReverseMap<'_>,
     names: &mut Names,
 ) -> Result<(), PassError>
-    ensures named { OnOk result (IsNameGiven (R.text renamer.now id.now) (taken_at (A.preserved analysis.now) (A.occurs analysis.now) given.old site.0) (is_next_at (R.MANGLE || not R.RESET_N) names.old site.0) id.now site names.old names.new given.old given.new) }
-    ensures refused { IfErr result (IsSearchRefusal (R.text renamer.now id.now) (taken_at (A.preserved analysis.now) (A.occurs analysis.now) given.old site.0) (is_next_at (R.MANGLE || not R.RESET_N) names.old site.0)) }
+    ensures named { OnOk result (IsNameGiven (N.text plan.now.texts.now id.now) (taken_at (A.preserved plan.now.asked.now) (A.occurs plan.now.asked.now) given.old site.0) (is_next_at plan.now.goes_on names.old site.0) site names.old names.new given.old given.new) }
+    ensures refused { IfErr result (IsSearchRefusal (N.text plan.now.texts.now id.now) (taken_at (A.preserved plan.now.asked.now) (A.occurs plan.now.asked.now) given.old site.0) (is_next_at plan.now.goes_on names.old site.0)) }
 {
-    let mut next = next_at::<R>(names, site.0);
-    let text = free_at(alloc, renamer, analysis, id, site.0, given, &mut next)?;
-    keep(text, id, site, next, given, names)?;
+    let mut next = next_at(plan.goes_on, names, site.0);
+    let text = free_at(alloc, plan, id, site.0, given, &mut next)?;
+    keep(text, site, next, given, names)?;
     Ok(())
 }
 
 /// Gives the id of a site its name, if it is to get one.
-pub fn name_site<R: Renamer, A: Analysis>(
+pub fn name_site<N: NewTexts, A: Asked>(
     alloc: Global,
-    renamer: &R,
-    analysis: &A,
-    ids: &[Id],
+    plan: &Plan<'_, N, A>,
     site: (usize, usize),
     given: &mut ReverseMap<'_>,
     names: &mut Names,
 ) -> Result<(), PassError>
-    ensures named { OnOk result ((counts : ℕ → ℕ → Bool) → IsSiteDone (naming (R.text renamer.now) (R.MANGLE || not R.RESET_N) (A.keeps analysis.now) (A.preserved analysis.now) (A.occurs analysis.now) counts ids.now) site names.old names.new given.old given.new) }
-    ensures refused { IfErr result (λ e. (counts : ℕ → ℕ → Bool) → IsSiteRefused (naming (R.text renamer.now) (R.MANGLE || not R.RESET_N) (A.keeps analysis.now) (A.preserved analysis.now) (A.occurs analysis.now) counts ids.now) site names.old given.old e) }
+    ensures named { OnOk result ((counts : ℕ → ℕ → Bool) → IsSiteDone (naming (N.text plan.now.texts.now) plan.now.goes_on (A.keeps plan.now.asked.now) (A.preserved plan.now.asked.now) (A.occurs plan.now.asked.now) counts (A.id_of plan.now.asked.now)) site names.old names.new given.old given.new) }
+    ensures refused { IfErr result (λ e. (counts : ℕ → ℕ → Bool) → IsSiteRefused (naming (N.text plan.now.texts.now) plan.now.goes_on (A.keeps plan.now.asked.now) (A.preserved plan.now.asked.now) (A.occurs plan.now.asked.now) counts (A.id_of plan.now.asked.now)) site names.old given.old e) }
 {
-    match namable(analysis, ids, &names.texts, site.1) {
-        Some(id) => give_name(alloc, renamer, analysis, id, site, given, names),
+    match namable(plan.asked, &names.texts, site.1) {
+        Some(id) => give_name(alloc, plan, id, site, given, names),
         None => Ok(()),
     }
 }
 
-/// The texts of the ids that are declared at these sites, by the ids' numbers.
+/// The texts of the ids that are declared at these sites, by the ids' numbers; a site has the number of its scope and that of
+/// its id.
 ///
 /// The ids get them in the order of the sites: each the first that is free, at the first site that declares it. An id that keeps
-/// its text gets none.
+/// its text gets none. `goes_on` says whether the counter goes on from id to id within a scope, or starts at 0 for each.
 ///
 /// # Errors
 ///
 /// `CounterSpent` where for an id no counter from its start and below the greatest `usize` has a free text, and `NoMemory`.
-pub fn names_in_order<R: Renamer, A: Analysis>(
+pub fn names_in_order<N: NewTexts, A: Asked>(
     alloc: Global,
-    renamer: &R,
-    analysis: &A,
-    ids: &[Id],
+    texts: &N,
+    asked: &A,
+    goes_on: bool,
     sites: &[(usize, usize)],
 ) -> Result<BTreeMap<usize, JsWord>, PassError>
-    ensures named { IfOk result (λ texts. NamedInOrder (rules (naming (R.text renamer.now) (R.MANGLE || not R.RESET_N) (A.keeps analysis.now) (A.preserved analysis.now) (A.occurs analysis.now) all_count ids.now)) sites.now (text_at texts)) }
-    ensures refused { IfErr result (IsRefused (rules (naming (R.text renamer.now) (R.MANGLE || not R.RESET_N) (A.keeps analysis.now) (A.preserved analysis.now) (A.occurs analysis.now) all_count ids.now)) sites.now) }
+    ensures named { IfOk result (λ found. NamedInOrder (rules (naming (N.text texts.now) goes_on (A.keeps asked.now) (A.preserved asked.now) (A.occurs asked.now) all_count (A.id_of asked.now))) sites.now (text_at found)) }
+    ensures refused { IfErr result (IsRefused (rules (naming (N.text texts.now) goes_on (A.keeps asked.now) (A.preserved asked.now) (A.occurs asked.now) all_count (A.id_of asked.now))) sites.now) }
 {
+    let plan = Plan {
+        texts,
+        asked,
+        goes_on,
+    };
     let mut given = ReverseMap::new(alloc);
     let mut names = Names::new(alloc);
     for site in sites {
-        name_site(alloc, renamer, analysis, ids, *site, &mut given, &mut names)?;
+        name_site(alloc, &plan, *site, &mut given, &mut names)?;
     }
     Ok(names.into_texts())
 }

@@ -1,4 +1,4 @@
-//! Which ids were given a text.
+//! Which ids were given a text, by their numbers.
 ghost use Rattle.std.specs.Prelude.{◌≡◌, ℕ, List, [], OnOk, OnErr, MatchOption, ◌∷◌, ◌++◌, string_bytes, if◌then◌else◌};
 ghost use Rattle.std.specs.Str.{bytes_eq};
 ghost use Rattle.std.specs.Iterator.{YieldsFirstRef, item_count};
@@ -6,15 +6,15 @@ ghost use Rattle.swc_base_rename_naming.specs.Chained.{IsAsBefore, IsChild, IsGi
 
 use std::alloc::{AllocError, Global};
 use std::collections::BTreeMap;
-use swc_tree_marks::{Id, JsWord, NoMemory};
+use swc_tree_marks::{JsWord, NoMemory};
 
-/// The ids that each text was given to, in the order in which it was.
+/// The numbers of the ids that each text was given to, in the order in which it was.
 ///
 /// A look-up costs the logarithm of how many texts there are, whatever the texts: a hash of a seed that is fixed would let a
 /// program choose names that all collide.
 #[derive(Drop)]
 struct Given {
-    ids: BTreeMap<String, Vec<Id>>,
+    ids: BTreeMap<String, Vec<usize>>,
 }
 
 impl Given {
@@ -26,7 +26,7 @@ impl Given {
         }
     }
 
-    fn get(&self, text: &str) -> &[Id]
+    fn get(&self, text: &str) -> &[usize]
         ensures { result.now ≡ given_ids self.now text.now }
     {
         match self.ids.get(text) {
@@ -36,7 +36,7 @@ impl Given {
     }
 
     // Gives a text to one id more. Where memory is refused, each text has the ids that it had.
-    fn push(&mut self, text: JsWord, id: Id) -> Result<(), NoMemory>
+    fn push(&mut self, text: JsWord, id: usize) -> Result<(), NoMemory>
         ensures pushed { OnOk result (IsGiven text id self.old self.new) }
         ensures refused { OnErr result (IsAsBefore self.old self.new) }
     {
@@ -46,7 +46,7 @@ impl Given {
 }
 
 // Gives a text to one id more. Where memory is refused, each text has the ids that it had.
-fn give(given: &mut BTreeMap<String, Vec<Id>>, text: String, id: Id) -> Result<(), AllocError>
+fn give(given: &mut BTreeMap<String, Vec<usize>>, text: String, id: usize) -> Result<(), AllocError>
     ensures pushed { OnOk result ((x : List ℕ) → ids_in given.new x ≡ (if bytes_eq (string_bytes text) x then ids_in given.old x ++ id ∷ [] else ids_in given.old x)) }
     ensures refused { OnErr result ((x : List ℕ) → ids_in given.new x ≡ ids_in given.old x) }
 {
@@ -96,7 +96,7 @@ impl ReverseMap<'_> {
     /// # Errors
     ///
     /// `NoMemory` where memory is refused. Each text has then the ids that it had.
-    pub fn push_entry(&mut self, text: JsWord, id: Id) -> Result<(), NoMemory>
+    pub fn push_entry(&mut self, text: JsWord, id: usize) -> Result<(), NoMemory>
         ensures pushed { OnOk result (IsPushed text id self.old self.new) }
         ensures refused { OnErr result ((x : List ℕ) → ids_of self.new x ≡ ids_of self.old x) }
     {
@@ -119,7 +119,7 @@ impl ReverseMap<'_> {
 #[derive(Clone, Copy)]
 pub struct Iter<'a> {
     text: &'a str,
-    own: &'a [Id],
+    own: &'a [usize],
     parents: Parents<'a>,
 }
 
@@ -127,9 +127,9 @@ pub struct Iter<'a> {
 #[tactic(auto, using(crate::proofs::Chains::parents_nobody, crate::proofs::Chains::parents_out))]
 fn first_left<'a>(
     text: &str,
-    own: &'a [Id],
+    own: &'a [usize],
     parents: &Parents<'a>,
-) -> Option<(&'a Id, &'a [Id], Parents<'a>)>
+) -> Option<(&'a usize, &'a [usize], Parents<'a>)>
     ensures { MatchOption result (own.now ++ parents_ids parents.now text.now ≡ []) (λ left. own.now ++ parents_ids parents.now text.now ≡ left.0.now ∷ (left.1.now ++ parents_ids left.2 text.now)) }
 {
     match own.split_first() {
@@ -142,13 +142,13 @@ fn first_left<'a>(
 }
 
 impl<'a> Iterator for Iter<'a> {
-    type Item = &'a Id;
+    type Item = &'a usize;
 
     ghost next_gives = { YieldsFirstRef ids_left };
 
     ghost remaining = { item_count ids_left };
 
-    fn next(&mut self) -> Option<&'a Id> {
+    fn next(&mut self) -> Option<&'a usize> {
         let (first, own, parents) = first_left(self.text, self.own, &self.parents)?;
         self.own = own;
         self.parents = parents;

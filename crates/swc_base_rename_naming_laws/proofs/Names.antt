@@ -47,7 +47,7 @@ between_from : (r : Region) (xs : List ℕ) → OneBetween xs r.start r.end → 
 between_from r xs (k, l, from, to) =
     any_at (is_between r) xs k (get_or xs k 0) (slice_get-get_or xs k 0 l) (and_from (nat_le r.start (get_or xs k 0)) (nat_lt (get_or xs k 0) r.end) (le-leb r.start (get_or xs k 0) from) (lt-ltb (get_or xs k 0) r.end to))
 
-occurs_to : (a : Analysis) (m k : ℕ) → occurs_at a m k ≡ true → Occurs a m k
+pub occurs_to : (a : Analysis) (m k : ℕ) → occurs_at a m k ≡ true → Occurs a m k
 occurs_to a m k h = by (slice_get a.regions.items m) refl (slice_get a.ids.items k) refl h
   where
     by : (o : Option Region) → slice_get a.regions.items m ≡ o → (u : Option Entry) → slice_get a.ids.items k ≡ u → occurs_between o u ≡ true → Occurs a m k
@@ -57,6 +57,11 @@ occurs_to a m k h = by (slice_get a.regions.items m) refl (slice_get a.ids.items
 
 occurs_from : (a : Analysis) (m k : ℕ) → Occurs a m k → occurs_at a m k ≡ true
 occurs_from a m k (r, e, f, g, h) = (λ j. occurs_between (f j) (g j)) ∙ between_from r e.positions.items h
+
+-- a test for whether an id occurs
+pub occurs_is : (a : Analysis) (m k : ℕ) (b : Bool) → IsTrue b ↔ Occurs a m k → b ≡ occurs_at a m k
+occurs_is a m k true h = sym (occurs_from a m k (h.0 refl))
+occurs_is a m k false h = sym (false_from_ne_true (occurs_at a m k) (λ e. true_is_false (sym (h.1 (occurs_to a m k e)))))
 
 -- ids that change
 changes_to : (r : Renaming) (o : Option Entry) (x : Id) → (e : Entry) × (o ≡ Some e) × (e.id ≡ x) → stays_as r o ≡ false → (¬ IsTrue (r.preserves x)) × (x.0 ≢ codes "eval")
@@ -98,7 +103,7 @@ module _ (t : Node) (r : Renaming) (a : Analysis) (scopes places : List Path) (m
       (λ h. (means.occurs m k s x at is).0 (occurs_to a m k h)),
       (λ h. occurs_from a m k ((means.occurs m k s x at is).1 h)),
     );
-    counted = λ i j one other s u f g h l. counted_by r.mangles one.scope other.scope s u (means.round i j one other s u f g h l);
+    counted = λ i j one other s u f g h l. counted_by r.mangles one.scope other.scope s u (means.round one.scope j other s u h g l);
   }
 
   abbrev Wanted : Rules

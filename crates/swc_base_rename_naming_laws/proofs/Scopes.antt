@@ -12,7 +12,7 @@ use Rattle.swc_tree_scoping.specs.declared.places.Standing.{Standing}
 use Rattle.swc_tree_scoping.specs.Places.{Path, child, given, has_own_name, is_at, place_below, program_place}
 use Rattle.swc_tree_scoping.specs.BoundNames.{Id}
 use Rattle.swc_base_rename_analysis.specs.declared.scopes.ScopeKind.{ScopeKind}
-use Rattle.swc_base_rename_analysis.specs.Analysis.{Around, Declares, body_kind, first_taking, is_for_body, is_outside, key_field, opened_here, opened_round, own_kind, scopes_below, scopes_round, takes}
+use Rattle.swc_base_rename_analysis.specs.Analysis.{Around, Declares, body_kind, first_taking, has_identifier, is_for_body, is_outside, key_field, opened_here, opened_round, own_kind, scopes_below, scopes_round, takes}
 use Rattle.swc_base_rename_analysis.specs.Order.{IsBefore, Site, entry, turn, turn_in, turns}
 use Rattle.swc_base_rename_analysis.proofs.Level.{level_lists, turns_apart}
 use Rattle.swc_base_rename_naming_laws.proofs.Lists.{cons_head, cons_tail, contains_here, contains_later, mapped_from, none_in, none_is_some, same_some}
@@ -77,7 +77,7 @@ opened_unless true o s c = none_in c
 opened_unless false o s c = opened_empty o s c
 
 opened_at : (f : Bool) (w : Place) (y : Node-F Node) (i : ℕ) (s : Around) → Contains (opened_round f w y i) s → s.0 ≡ []
-opened_at f w (Node-F.Tree k ts) i s c = opened_unless (is_outside w k i) (body_kind f (own_kind w k (has_own_name ts))) s c
+opened_at f w (Node-F.Tree k ts) i s c = opened_unless (is_outside w k (has_identifier ts) i) (body_kind f (own_kind w k (has_own_name ts))) s c
 opened_at f w Node-F.Absent i s c = none_in c
 opened_at f w (Node-F.Flag x) i s c = none_in c
 opened_at f w (Node-F.Word x) i s c = none_in c

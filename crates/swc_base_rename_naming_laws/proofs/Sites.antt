@@ -135,8 +135,8 @@ module _ (t : Node) (a : Analysis) (scopes places : List Path) (means : Means t 
   -- scopes are one where their paths are
   pub one_number : (i j : ℕ) (one other : Numbered) (b c : Site) (x y : Id) → IsAt i one b x → IsAt j other c y → b.0 ≡ c.0 → one.scope ≡ other.scope
   one_number i j one other b c x y h g e = surrounds_same a one.scope other.scope
-      ((means.round i j one other b.0 c.0 h.found g.found h.is.scope g.is.scope).1 (inl e))
-      ((means.round j i other one c.0 b.0 g.found h.found g.is.scope h.is.scope).1 (inl (sym e)))
+      ((means.round one.scope j other b.0 c.0 h.is.scope g.found g.is.scope).1 (inl e))
+      ((means.round other.scope i one c.0 b.0 g.is.scope h.found h.is.scope).1 (inl (sym e)))
 
   pub one_path : (i j : ℕ) (one other : Numbered) (b c : Site) (x y : Id) → IsAt i one b x → IsAt j other c y → one.scope ≡ other.scope → b.0 ≡ c.0
   one_path i j one other b c x y h g e = same_some (sym h.is.scope ∙ ap (slice_get scopes) e ∙ g.is.scope)

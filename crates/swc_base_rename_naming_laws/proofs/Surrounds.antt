@@ -1,5 +1,5 @@
 -- How the scopes of an analysis lie in one another, by their numbers and stretches.
-use Rattle.std.proofs.Common.{◌≡◌, ℕ, ◌<◌, ◌≤◌, ◌==◌, ◌⊎◌, inl, inr, Bool, true, false, ◌||◌, nat_le, Option, Some, None, List, length, get_or, map, refl, sym, ap, eq-eqb, eqb-true, le-leb, leb-true, ◌∙◌, arith}
+use Rattle.std.proofs.Common.{◌≡◌, ℕ, ◌<◌, ◌≤◌, ◌==◌, ◌⊎◌, inl, inr, Bool, true, false, ◌||◌, nat_le, Option, Some, None, option_map, List, length, get_or, refl, sym, ap, eq-eqb, eqb-true, le-leb, leb-true, ◌∙◌, arith}
 use Rattle.std.specs.List.{slice_get}
 use Rattle.std.proofs.lemmas.Bool.{and_from, and_parts, or_cases, false_from_ne_true}
 use Rattle.std.proofs.lemmas.Option.{slice_get-get_or}
@@ -9,14 +9,15 @@ use Rattle.swc_tree_scoping.specs.Places.{Path}
 use Rattle.swc_tree_scoping.specs.BoundNames.{Id}
 use Rattle.swc_base_rename_analysis.specs.declared.analysis.Analysis.{Analysis}
 use Rattle.swc_base_rename_analysis.specs.declared.layout.Region.{Region}
+use Rattle.swc_base_rename_analysis.specs.declared.numbers.Entry.{Entry}
 use Rattle.swc_base_rename_analysis.specs.Numbers.{same_id}
 use Rattle.swc_base_rename_analysis_laws.specs.Means.{Means, holds_stretch, surrounds}
 use Rattle.swc_base_rename_naming.specs.ByIds.{AreApart}
 use Rattle.swc_base_rename_naming.specs.Inside.{IsInPreorder}
-use Rattle.swc_base_rename_naming_laws.specs.Rules.{numbered_sites}
-use Rattle.swc_base_rename_naming_laws.proofs.Lists.{from_mapped_at}
+use Rattle.swc_base_rename_naming_laws.specs.Rules.{id_in, numbered_sites}
+use Rattle.swc_base_rename_naming_laws.proofs.Lists.{from_mapped_at, none_is_some, same_some}
 
-is_either : (x y : Bool) → (x ≡ true) ⊎ (y ≡ true) → (x || y) ≡ true
+pub is_either : (x y : Bool) → (x ≡ true) ⊎ (y ≡ true) → (x || y) ≡ true
 is_either true y h = refl
 is_either false y h = elim h [ inl e ↦ absurd (cc) | inr e ↦ e ]
 
@@ -35,6 +36,10 @@ stretch_through (Some a) (Some b) (Some c) h g =
 
 pub one_id : (x y : Id) → same_id x y ≡ true → x ≡ y
 one_id x y h = let (e, f) = and_parts _ _ h in λ j. ((bytes_eq-Decides x.0 y.0).0 e j, (bytes_eq-Decides x.1 y.1).0 f j)
+
+pub numbered_at : (o : Option Entry) (x : Id) → option_map (λ e. e.id) o ≡ Some x → (e : Entry) × (o ≡ Some e) × (e.id ≡ x)
+numbered_at None x h = none_is_some h
+numbered_at (Some e) x h = (e, refl, same_some h)
 
 module _ (a : Analysis) where
   abbrev Lies : ℕ → ℕ → Type 0
@@ -83,8 +88,6 @@ module _ (a : Analysis) where
         (λ n. surrounds a (sym e n).0 (sym f n).0) ∙ means.in_preorder i j k one between other l m x y z ((λ n. surrounds a (e n).0 (g n).0) ∙ h)
 
     -- no two numbers are of one id
-    pub ids_are_apart : AreApart (map (λ e. e.id) a.ids.items)
+    pub ids_are_apart : AreApart (id_in a)
     ids_are_apart j k x y other one two =
-        let (e, at, same) = from_mapped_at (λ e. e.id) a.ids.items j x one in
-        let (f, there, is) = from_mapped_at (λ e. e.id) a.ids.items k y two in
-        false_from_ne_true (same_id x y) (λ h. other (means.apart j k y (e, at, same ∙ one_id x y h) (f, there, is)))
+        false_from_ne_true (same_id x y) (λ h. other (means.apart j k y (numbered_at (slice_get a.ids.items j) y (one ∙ ap Some (one_id x y h))) (numbered_at (slice_get a.ids.items k) y two)))

@@ -1,7 +1,6 @@
 -- The rules by which the ids of a tree get their names, as they follow from what is read off the tree.
-use Rattle.std.specs.Prelude.{◌≡◌, ◌↔◌, ℕ, Bool, true, false, IsTrue, ◌&&◌, ◌||◌, ◌⊎◌, nat_le, nat_lt, Option, Some, None, List, [], map, codes, if◌then◌else◌}
+use Rattle.std.specs.Prelude.{◌≡◌, ◌↔◌, ℕ, Bool, true, false, IsTrue, ◌&&◌, ◌⊎◌, nat_le, nat_lt, Option, Some, None, option_map, List, map, if◌then◌else◌}
 use Rattle.std.specs.List.{list_any, slice_get}
-use Rattle.std.specs.Str.{bytes_eq}
 use Rattle.std.specs.BTreeSet.{contains_text}
 use Rattle.swc_tree_node.specs.declared.node.Node.{Node}
 use Rattle.swc_tree_scoping.specs.BoundNames.{Id}
@@ -11,6 +10,7 @@ use Rattle.swc_base_rename_analysis.specs.declared.numbers.Entry.{Entry}
 use Rattle.swc_base_rename_analysis.specs.Named.{Counting, Renaming, all_count, counts_on, outer_count}
 use Rattle.swc_base_rename_analysis_laws.specs.Means.{IsIdOf, surrounds}
 use Rattle.swc_base_rename_naming.specs.InOrder.{Rules, Site}
+use Rattle.swc_base_rename_naming.specs.Steps.{id_or, stays}
 
 abbrev pub occurs_between : Option Region → Option Entry → Bool
 occurs_between (Some r) (Some e) = list_any (λ k. nat_le r.start k && nat_lt k r.end) e.positions.items
@@ -20,14 +20,16 @@ occurs_between _ _ = false
 abbrev pub occurs_at : Analysis → ℕ → ℕ → Bool
 occurs_at a n k = occurs_between (slice_get a.regions.items n) (slice_get a.ids.items k)
 
+-- the id of a number
+abbrev pub id_in : Analysis → ℕ → Option Id
+id_in a k = option_map (λ e. e.id) (slice_get a.ids.items k)
+
 abbrev pub text_of : Renaming → Option Entry → ℕ → List ℕ
-text_of r None n = []
-text_of r (Some e) n = r.text e.id n
+text_of r o n = r.text (id_or (option_map (λ e. e.id) o)) n
 
 -- it keeps its text; what has no id does too
 abbrev pub stays_as : Renaming → Option Entry → Bool
-stays_as r None = true
-stays_as r (Some e) = r.preserves e.id || bytes_eq e.id.0 (codes "eval")
+stays_as r o = stays r.preserves (option_map (λ e. e.id) o)
 
 -- whether names of one scope count at another: all do, or where scopes beside one another may share texts those of a scope
 -- round it

@@ -3,7 +3,7 @@ ghost use Rattle.std.specs.Prelude.{◌≡◌, IfOk, is_some};
 ghost use Rattle.swc_base_rename_substitution.specs.Names.{new_id};
 
 use std::alloc::Global;
-use std::collections::HashMap;
+use std::collections::{BTreeMap, HashMap};
 use swc_tree_marks::{Id, JsWord, NoMemory, SyntaxContext};
 
 /// The new names of ids.
@@ -11,6 +11,8 @@ use swc_tree_marks::{Id, JsWord, NoMemory, SyntaxContext};
 pub enum Names<'a> {
     /// New texts, each of which gets the empty context.
     Texts(&'a HashMap<Id, JsWord>),
+    /// The same from a table that is in order: a look-up costs the logarithm of its length, whatever the ids.
+    Ordered(&'a BTreeMap<Id, JsWord>),
     /// New texts with their contexts.
     Ids(&'a HashMap<Id, Id>),
 }
@@ -39,6 +41,13 @@ impl Names<'_> {
                 ))),
                 _ => Ok(None),
             },
+            Names::Ordered(map) => match map.get(id) {
+                Some(text) if *text != id.0 => Ok(Some((
+                    text.clone()?,
+                    SyntaxContext::empty(alloc),
+                ))),
+                _ => Ok(None),
+            },
             Names::Ids(map) => match map.get(id) {
                 Some(new) if new.0 != id.0 => Ok(Some(copy(new)?)),
                 _ => Ok(None),
@@ -52,6 +61,10 @@ impl Names<'_> {
     {
         match self {
             Names::Texts(map) => match map.get(id) {
+                Some(text) => *text != id.0,
+                None => false,
+            },
+            Names::Ordered(map) => match map.get(id) {
                 Some(text) => *text != id.0,
                 None => false,
             },

@@ -6,7 +6,7 @@ use std::marker::Model;
 ///
 /// Contracts see a mark as its number. Marks form a tree under the root, which is 0; a `Globals` keeps
 /// the parent of each.
-#[derive(Clone, Copy, Debug, Default, PartialEq, Eq, Hash)]
+#[derive(Clone, Copy, Debug, Default, PartialEq, Eq, PartialOrd, Ord, Hash)]
 pub struct Mark {
     number: u32,
 }

@@ -58,6 +58,21 @@ fn put_ids(alloc: Global, input: &str, ids: &mut HashMap<Id, Id>) -> Option<()> 
     Some(())
 }
 
+fn add_preserved(alloc: Global, input: &str, ids: &mut Vec<Id>) -> Option<()> {
+    let value = Value::from_str(alloc, input).ok()?;
+    for name in value.get("preserved")?.as_array()? {
+        ids.push(id(alloc, name, 0)?).ok()?;
+    }
+    Some(())
+}
+
+/// The ids under the key `preserved`, of each a text and the marks of its context.
+pub fn preserved(alloc: Global, input: &str) -> Option<Vec<Id>> {
+    let mut ids = Vec::new(alloc);
+    add_preserved(alloc, input, &mut ids)?;
+    Some(ids)
+}
+
 /// The new texts of ids.
 pub fn texts(alloc: Global, input: &str) -> Option<HashMap<Id, JsWord>> {
     let mut texts = HashMap::new(alloc);

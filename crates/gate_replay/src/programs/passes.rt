@@ -2,12 +2,13 @@
 use crate::programs::names;
 use crate::programs::notes::{Notes, room};
 use crate::programs::program::Given;
+use crate::programs::renamers::Renaming;
 use crate::texts::text_each;
 use anyhow::{Result, bail};
 use std::alloc::{AllocError, Global};
 use std::collections::HashMap;
 use swc_base_fixer::{NoComments, fixer, paren_remover};
-use swc_base_rename::{Config, remap, rename, rename_with_config};
+use swc_base_rename::{Config, hygiene, hygiene_with_config, remap, rename, rename_with_config};
 use swc_base_resolver::{Resolver, marks_ok, resolver};
 use swc_tree::{Id, JsPass, JsWord, PassError};
 use swc_tree_node::Class;
@@ -31,6 +32,8 @@ pub enum Pass {
     FixComments(Notes),
     Rename(HashMap<Id, JsWord>, Config),
     Remap(HashMap<Id, Id>, Config),
+    Renamer(Renaming, Config),
+    Hygiene(Config),
 }
 
 // The resolver of a program's marks, where they are known and neither is the root.
@@ -51,7 +54,7 @@ fn config_of(given: &Given) -> Config {
 }
 
 // Runs one pass on each of some programs, up to the first that is refused.
-fn visit_each<P: JsPass>(
+pub fn visit_each<P: JsPass>(
     pass: &mut P,
     alloc: Global,
     programs: &mut [Given],
@@ -91,6 +94,7 @@ impl Pass {
             },
             "unparen" => Ok(Pass::Unparen),
             "fix" => Ok(Pass::Fix),
+            "hygiene" => Ok(Pass::Hygiene(config_of(given))),
             "rename" => {
                 let texts = text_each(alloc, given.program.items())?;
                 Ok(Pass::Rename(texts, config_of(given)))
@@ -99,7 +103,7 @@ impl Pass {
         }
     }
 
-    // The pass of a row with names or comments, if it is one.
+    // The pass of a row with names, comments or a renamer, if it is one.
     fn of_input(alloc: Global, word: &str, input: &str, given: &Given) -> Option<Pass> {
         match word {
             "rename" => Some(Pass::Rename(names::texts(alloc, input)?, config_of(given))),
@@ -109,7 +113,10 @@ impl Pass {
                 room(alloc, input)?,
             ))),
             "fix_comments" => Some(Pass::FixComments(Notes::new(alloc, room(alloc, input)?))),
-            _ => None,
+            _ => {
+                let renaming = Renaming::of_words(alloc, word, input)?;
+                Some(Pass::Renamer(renaming, config_of(given)))
+            }
         }
     }
 
@@ -140,6 +147,11 @@ impl Pass {
             }
             Pass::Rename(texts, _) => visit_each(&mut rename(texts), alloc, programs),
             Pass::Remap(ids, config) => visit_each(&mut remap(ids, *config), alloc, programs),
+            Pass::Renamer(renaming, config) => renaming.visit(*config, alloc, programs),
+            Pass::Hygiene(config) if config.keep_class_names => {
+                visit_each(&mut hygiene_with_config(*config), alloc, programs)
+            }
+            Pass::Hygiene(_) => visit_each(&mut hygiene(), alloc, programs),
         }
     }
 

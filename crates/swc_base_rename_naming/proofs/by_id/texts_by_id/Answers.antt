@@ -1,24 +1,16 @@
-use Rattle.std.proofs.Common.{◌≡◌, ◌≤◌, ◌<◌, Some, length, refl, sym, arith}
-use Rattle.std.specs.List.{slice_get}
-use Rattle.std.proofs.lemmas.Option.{slice_get_read}
+use Rattle.std.proofs.Common.{◌≡◌, suc, ◌+◌, true, sym, ◌∙◌, subst, arith}
 use Rattle.swc_base_rename_naming.specs.Steps.{text_at}
-use Rattle.swc_base_rename_naming.proofs.ByIds.{all_texts, no_text, one_text, same_as_itself}
+use Rattle.swc_base_rename_naming.proofs.ByIds.{IsMade, made_with, made_without}
 use Rattle.swc_base_rename_naming.proofs.by_id.texts_by_id.Goals as goal
-use Rattle.swc_base_rename_naming.proofs.by_id.texts_by_id.Goals.{in-Some+in_ok-put, in_default}
+use Rattle.swc_base_rename_naming.proofs.by_id.texts_by_id.Goals.{then-ne+in_ok-put, else-ne}
 
 pub loop-number-preserved : goal.loop-number-preserved
-loop-number-preserved c =
-    let ids = c.args.ids.now in
-    let i = c.loop-number.number-counter in
-    let id = c.index-ids-number.result in
-    let within : i < length ids = omega arith in
-    let at : slice_get ids i ≡ Some id = slice_get_read ids (length ids) i id refl within c.index-ids-number.is in
-    elim c.match-get.branch [
-      | in-Some+in_ok-put w ↦ rw w.by_id-is (one_text ids (text_at c.args.texts.now) i c.loop-number.by_id w.put.new.texts id w.in-Some.text.now c.requires (same_as_itself id) at (sym w.in-Some.ensures.value) w.in_ok-put.ensures c.loop-number.invariant)
-      | in_default w ↦ rw w.by_id-is (no_text ids (text_at c.args.texts.now) i c.loop-number.by_id id c.requires at (sym w.in_default.ensures.value) c.loop-number.invariant)
+loop-number-preserved g c =
+    let id_of = g.A.Asked.id_of c.args.asked.now in
+    let texts = text_at c.args.texts.now in
+    let n = c.loop-number.number-counter in
+    let next : suc n ≡ n + 1 = omega arith in
+    elim c.if-ne.branch [
+      | then-ne+in_ok-put w ↦ rw w.by_id-is (subst (λ k. IsMade id_of texts k true w.put.new.texts) next (made_with id_of texts n c.loop-number.any c.loop-number.by_id c.in-Some.id.now c.in-Some-get.text.now c.loop-number.invariant c.in-Some.ensures (sym c.in-Some-get.ensures.value) w.put.new.texts (sym c.ne.ensures ∙ w.if-ne.true) w.in_ok-put.ensures))
+      | else-ne w ↦ rw w.by_id-is (subst (λ k. IsMade id_of texts k true c.loop-number.by_id) next (made_without id_of texts n c.loop-number.any c.loop-number.by_id c.in-Some.id.now c.in-Some-get.text.now c.loop-number.invariant c.in-Some.ensures (sym c.in-Some-get.ensures.value) c.requires (sym c.ne.ensures ∙ w.if-ne.false)))
     ]
-
-pub returns : goal.returns
-returns c =
-    let all : length c.args.ids.now ≤ c.loop-number.number-counter = omega arith in
-    all_texts c.args.ids.now (text_at c.args.texts.now) c.loop-number.number-counter c.loop-number.by_id all c.loop-number.invariant

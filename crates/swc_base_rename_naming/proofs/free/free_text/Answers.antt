@@ -8,10 +8,10 @@ use Rattle.swc_base_rename_naming.proofs.free.free_text.Goals as goal
 -- the counters up to the one that is found have texts that are taken
 pub returns-then-not-is_taken-clause-tries : goal.returns-then-not-is_taken-clause-tries
 returns-then-not-is_taken-clause-tries g c = λ texts covers.
-    let text = g.R.Renamer.text c.args.renamer.now c.args.id.now in
+    let text = g.N.NewTexts.text c.args.texts.now c.args.id.now in
     let count = c.loop-text.n - c.args.n.now in
     let counted = c.in_ok-text.ensures.counted in
-    let differ : DifferBelow text (c.args.n.now + count) = λ m n p q same. g.met.R.Renamer.differ c.args.renamer.now c.args.id.now m n (omega arith) (omega arith) same in
+    let differ : DifferBelow text (c.args.n.now + count) = λ m n p q same. g.met.N.NewTexts.differ c.args.texts.now c.args.id.now m n (omega arith) (omega arith) same in
     let bound : count ≤ length texts = tries text _ c.args.n.now count texts differ (λ k from below. c.loop-text.invariant.taken k from (omega arith)) covers in
     omega arith
 
@@ -19,11 +19,11 @@ returns-then-not-is_taken-clause-tries g c = λ texts covers.
 pub returns-in_err-text-clause-crowded : goal.returns-in_err-text-clause-crowded
 returns-in_err-text-clause-crowded g c =
     let refused = err_from_is_err_and c.from_residual.result c.from_residual.ensures.1 in
-    let Refusal : PassError → Type 0 = λ e. IsRefusal e c.loop-text.n c.new_name_for.new.n in
+    let Refusal : PassError → Type 0 = λ e. IsRefusal e c.loop-text.n c.new_text.new.n in
     rw refused.1 (λ spent texts covers.
-    let at_end : IsSpent c.loop-text.n c.new_name_for.new.n = subst Refusal (sym refused.2 ∙ spent) c.in_err-text.ensures.refused in
-    let text = g.R.Renamer.text c.args.renamer.now c.args.id.now in
+    let at_end : IsSpent c.loop-text.n c.new_text.new.n = subst Refusal (sym refused.2 ∙ spent) c.in_err-text.ensures.refused in
+    let text = g.N.NewTexts.text c.args.texts.now c.args.id.now in
     let count = c.loop-text.n - c.args.n.now in
-    let differ : DifferBelow text (c.args.n.now + count) = λ m n p q same. g.met.R.Renamer.differ c.args.renamer.now c.args.id.now m n (omega arith) (omega arith) same in
+    let differ : DifferBelow text (c.args.n.now + count) = λ m n p q same. g.met.N.NewTexts.differ c.args.texts.now c.args.id.now m n (omega arith) (omega arith) same in
     let bound : count ≤ length texts = tries text _ c.args.n.now count texts differ (λ k from below. c.loop-text.invariant.taken k from (omega arith)) covers in
     omega arith)

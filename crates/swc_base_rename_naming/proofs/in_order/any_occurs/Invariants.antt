@@ -5,4 +5,4 @@ use Rattle.swc_base_rename_naming.proofs.in_order.any_occurs.Given as goal
 
 -- whether one occurs is settled by those that are left
 abbrev pub invariant-loop-id : goal.invariant-loop-id
-invariant-loop-id g l = list_any (g.A.Analysis.occurs l.analysis l.scope) (ids_left l.id-iterator) ≡ list_any (g.A.Analysis.occurs l.analysis l.scope) (ids_of l.fn.given l.text)
+invariant-loop-id g l = list_any (g.A.Asked.occurs l.asked l.scope) (ids_left l.id-iterator) ≡ list_any (g.A.Asked.occurs l.asked l.scope) (ids_of l.fn.given l.text)

@@ -1,4 +1,4 @@
-use Rattle.std.proofs.Common.{ℕ, ◌||◌, Bool, not}
+use Rattle.std.proofs.Common.{ℕ, Bool}
 use Rattle.std.proofs.lemmas.Result.{MatchResult-weaker, on_ok_weaker}
 use Rattle.swc_base_rename_naming.specs.Steps.{Naming, naming}
 use Rattle.swc_base_rename_naming.proofs.Stands.{done_named, done_passed, refused_at}
@@ -6,7 +6,7 @@ use Rattle.swc_base_rename_naming.proofs.in_order.name_site.Goals as goal
 
 pub returns-in-Some-clause-named : goal.returns-in-Some-clause-named
 returns-in-Some-clause-named g c =
-    let n : (ℕ → ℕ → Bool) → Naming = λ counts. naming (g.R.Renamer.text c.args.renamer.now) (g.R.Renamer.MANGLE || not g.R.Renamer.RESET_N) (g.A.Analysis.keeps c.args.analysis.now) (g.A.Analysis.preserved c.args.analysis.now) (g.A.Analysis.occurs c.args.analysis.now) counts c.args.ids.now in
+    let n : (ℕ → ℕ → Bool) → Naming = λ counts. naming (g.N.NewTexts.text c.args.plan.now.texts.now) c.args.plan.now.goes_on (g.A.Asked.keeps c.args.plan.now.asked.now) (g.A.Asked.preserved c.args.plan.now.asked.now) (g.A.Asked.occurs c.args.plan.now.asked.now) counts (g.A.Asked.id_of c.args.plan.now.asked.now) in
     let found = c.in-Some.ensures in
     on_ok_weaker c.give_name.result
     (λ given counts done choices. done_named (n counts) done choices c.args.site c.in-Some.id.now c.args.names.now c.give_name.new.names c.args.given.now c.give_name.new.given found.0 found.1.0 found.1.1 given)
@@ -14,7 +14,7 @@ returns-in-Some-clause-named g c =
 
 pub returns-in-Some-clause-refused : goal.returns-in-Some-clause-refused
 returns-in-Some-clause-refused g c =
-    let n : (ℕ → ℕ → Bool) → Naming = λ counts. naming (g.R.Renamer.text c.args.renamer.now) (g.R.Renamer.MANGLE || not g.R.Renamer.RESET_N) (g.A.Analysis.keeps c.args.analysis.now) (g.A.Analysis.preserved c.args.analysis.now) (g.A.Analysis.occurs c.args.analysis.now) counts c.args.ids.now in
+    let n : (ℕ → ℕ → Bool) → Naming = λ counts. naming (g.N.NewTexts.text c.args.plan.now.texts.now) c.args.plan.now.goes_on (g.A.Asked.keeps c.args.plan.now.asked.now) (g.A.Asked.preserved c.args.plan.now.asked.now) (g.A.Asked.occurs c.args.plan.now.asked.now) counts (g.A.Asked.id_of c.args.plan.now.asked.now) in
     let found = c.in-Some.ensures in
     MatchResult-weaker c.give_name.result c.give_name.ensures.refused (λ x h. h)
     (λ e why counts done after choices. refused_at (n counts) done after choices c.args.site c.in-Some.id.now c.args.names.now c.args.given.now e found.0 found.1.0 found.1.1 why)

@@ -1,4 +1,4 @@
-use Rattle.std.proofs.Common.{[], ◌++◌, ◌+◌, ◌||◌, ◌<◌, drop, length, not, arith, refl}
+use Rattle.std.proofs.Common.{[], ◌++◌, ◌+◌, ◌<◌, drop, length, arith, refl}
 use Rattle.std.proofs.lemmas.Result.{err_from_is_err_and}
 use Rattle.swc_base_rename_naming.specs.Steps.{Naming, all_count, naming}
 use Rattle.swc_base_rename_naming.proofs.Stands.{holds_first, next_taken, split_at, stands_first}
@@ -6,7 +6,7 @@ use Rattle.swc_base_rename_naming.proofs.in_order.names_in_order.Goals as goal
 
 pub loop-site-init : goal.loop-site-init
 loop-site-init g c =
-    let n : Naming = naming (g.R.Renamer.text c.args.renamer.now) (g.R.Renamer.MANGLE || not g.R.Renamer.RESET_N) (g.A.Analysis.keeps c.args.analysis.now) (g.A.Analysis.preserved c.args.analysis.now) (g.A.Analysis.occurs c.args.analysis.now) all_count c.args.ids.now in
+    let n : Naming = naming (g.N.NewTexts.text c.args.texts.now) c.args.goes_on (g.A.Asked.keeps c.args.asked.now) (g.A.Asked.preserved c.args.asked.now) (g.A.Asked.occurs c.args.asked.now) all_count (g.A.Asked.id_of c.args.asked.now) in
     ([], stands_first n c.new-names.result c.new-names.ensures.texts c.new-names.ensures.next, holds_first n 0 c.new-given.result c.new-given.ensures)
 
 pub returns-in_err-name_site-clause-refused : goal.returns-in_err-name_site-clause-refused

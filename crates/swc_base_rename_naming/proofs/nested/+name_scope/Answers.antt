@@ -1,4 +1,4 @@
-use Rattle.std.proofs.Common.{true, ◌≡◌, ◌||◌, ◌++◌, ◌+◌, ◌<◌, ◌≤◌, drop, length, not, take, arith, refl, sym}
+use Rattle.std.proofs.Common.{true, ◌≡◌, ◌++◌, ◌+◌, ◌<◌, ◌≤◌, drop, length, take, arith, refl, sym}
 use Rattle.std.proofs.lemmas.Result.{err_from_is_err_and}
 use Rattle.swc_base_rename_naming.specs.Inside.{scope_at}
 use Rattle.swc_base_rename_naming.specs.Steps.{Naming, naming}
@@ -8,8 +8,8 @@ use Rattle.swc_base_rename_naming.proofs.nested.+name_scope.Goals as goal
 
 pub loop-at-init : goal.loop-at-init
 loop-at-init g t c =
-    let n : Naming = naming (g.R.Renamer.text c.args.plan.now.renamer.now) (g.R.Renamer.MANGLE || not g.R.Renamer.RESET_N) (g.A.Analysis.keeps c.args.plan.now.analysis.now) (g.A.Analysis.preserved c.args.plan.now.analysis.now) (g.A.Analysis.occurs c.args.plan.now.analysis.now) (g.A.Nesting.surrounds c.args.plan.now.analysis.now) c.args.plan.now.ids.now in
-    let sites = c.args.plan.now.sites.now in
+    let n : Naming = naming (g.N.NewTexts.text c.args.plan.now.texts.now) c.args.plan.now.goes_on (g.A.Asked.keeps c.args.plan.now.asked.now) (g.A.Asked.preserved c.args.plan.now.asked.now) (g.A.Asked.occurs c.args.plan.now.asked.now) (g.A.Nesting.surrounds c.args.plan.now.asked.now) (g.A.Asked.id_of c.args.plan.now.asked.now) in
+    let sites = c.args.sites.now in
     record {
       begun = omega arith;
       fits = omega (arith, c.requires.within);
@@ -19,8 +19,8 @@ loop-at-init g t c =
 
 pub returns-in_err-name_site-clause-refused : goal.returns-in_err-name_site-clause-refused
 returns-in_err-name_site-clause-refused g t c =
-    let n : Naming = naming (g.R.Renamer.text c.args.plan.now.renamer.now) (g.R.Renamer.MANGLE || not g.R.Renamer.RESET_N) (g.A.Analysis.keeps c.args.plan.now.analysis.now) (g.A.Analysis.preserved c.args.plan.now.analysis.now) (g.A.Analysis.occurs c.args.plan.now.analysis.now) (g.A.Nesting.surrounds c.args.plan.now.analysis.now) c.args.plan.now.ids.now in
-    let sites = c.args.plan.now.sites.now in
+    let n : Naming = naming (g.N.NewTexts.text c.args.plan.now.texts.now) c.args.plan.now.goes_on (g.A.Asked.keeps c.args.plan.now.asked.now) (g.A.Asked.preserved c.args.plan.now.asked.now) (g.A.Asked.occurs c.args.plan.now.asked.now) (g.A.Nesting.surrounds c.args.plan.now.asked.now) (g.A.Asked.id_of c.args.plan.now.asked.now) in
+    let sites = c.args.sites.now in
     let at = c.loop-at.at in
     let within : at < length sites = omega arith in
     let stood = c.loop-at.invariant in
@@ -33,9 +33,9 @@ returns-in_err-name_site-clause-refused g t c =
 
 pub loop-at-preserved-then-site-scope : goal.loop-at-preserved-then-site-scope
 loop-at-preserved-then-site-scope g t c =
-    let n : Naming = naming (g.R.Renamer.text c.args.plan.now.renamer.now) (g.R.Renamer.MANGLE || not g.R.Renamer.RESET_N) (g.A.Analysis.keeps c.args.plan.now.analysis.now) (g.A.Analysis.preserved c.args.plan.now.analysis.now) (g.A.Analysis.occurs c.args.plan.now.analysis.now) (g.A.Nesting.surrounds c.args.plan.now.analysis.now) c.args.plan.now.ids.now in
-    let sites = c.args.plan.now.sites.now in
-    let laws : Laws (g.A.Nesting.surrounds c.args.plan.now.analysis.now) = record { own = g.met.A.Nesting.own c.args.plan.now.analysis.now; through = g.met.A.Nesting.through c.args.plan.now.analysis.now; same = g.met.A.Nesting.same c.args.plan.now.analysis.now } in
+    let n : Naming = naming (g.N.NewTexts.text c.args.plan.now.texts.now) c.args.plan.now.goes_on (g.A.Asked.keeps c.args.plan.now.asked.now) (g.A.Asked.preserved c.args.plan.now.asked.now) (g.A.Asked.occurs c.args.plan.now.asked.now) (g.A.Nesting.surrounds c.args.plan.now.asked.now) (g.A.Asked.id_of c.args.plan.now.asked.now) in
+    let sites = c.args.sites.now in
+    let laws : Laws (g.A.Nesting.surrounds c.args.plan.now.asked.now) = record { own = g.met.A.Nesting.own c.args.plan.now.asked.now; through = g.met.A.Nesting.through c.args.plan.now.asked.now; same = g.met.A.Nesting.same c.args.plan.now.asked.now } in
     let at = c.loop-at.at in
     let within : at < length sites = omega arith in
     let stood = c.loop-at.invariant in
@@ -52,9 +52,9 @@ loop-at-preserved-then-site-scope g t c =
 
 pub returns-in_err-at-clause-refused : goal.returns-in_err-at-clause-refused
 returns-in_err-at-clause-refused g t c =
-    let n : Naming = naming (g.R.Renamer.text c.args.plan.now.renamer.now) (g.R.Renamer.MANGLE || not g.R.Renamer.RESET_N) (g.A.Analysis.keeps c.args.plan.now.analysis.now) (g.A.Analysis.preserved c.args.plan.now.analysis.now) (g.A.Analysis.occurs c.args.plan.now.analysis.now) (g.A.Nesting.surrounds c.args.plan.now.analysis.now) c.args.plan.now.ids.now in
-    let sites = c.args.plan.now.sites.now in
-    let laws : Laws (g.A.Nesting.surrounds c.args.plan.now.analysis.now) = record { own = g.met.A.Nesting.own c.args.plan.now.analysis.now; through = g.met.A.Nesting.through c.args.plan.now.analysis.now; same = g.met.A.Nesting.same c.args.plan.now.analysis.now } in
+    let n : Naming = naming (g.N.NewTexts.text c.args.plan.now.texts.now) c.args.plan.now.goes_on (g.A.Asked.keeps c.args.plan.now.asked.now) (g.A.Asked.preserved c.args.plan.now.asked.now) (g.A.Asked.occurs c.args.plan.now.asked.now) (g.A.Nesting.surrounds c.args.plan.now.asked.now) (g.A.Asked.id_of c.args.plan.now.asked.now) in
+    let sites = c.args.sites.now in
+    let laws : Laws (g.A.Nesting.surrounds c.args.plan.now.asked.now) = record { own = g.met.A.Nesting.own c.args.plan.now.asked.now; through = g.met.A.Nesting.through c.args.plan.now.asked.now; same = g.met.A.Nesting.same c.args.plan.now.asked.now } in
     let at = c.loop-at.at in
     let within : at < length sites = omega arith in
     let stood = c.loop-at.invariant in
@@ -66,9 +66,9 @@ returns-in_err-at-clause-refused g t c =
 
 pub loop-at-preserved : goal.loop-at-preserved
 loop-at-preserved g t c =
-    let n : Naming = naming (g.R.Renamer.text c.args.plan.now.renamer.now) (g.R.Renamer.MANGLE || not g.R.Renamer.RESET_N) (g.A.Analysis.keeps c.args.plan.now.analysis.now) (g.A.Analysis.preserved c.args.plan.now.analysis.now) (g.A.Analysis.occurs c.args.plan.now.analysis.now) (g.A.Nesting.surrounds c.args.plan.now.analysis.now) c.args.plan.now.ids.now in
-    let sites = c.args.plan.now.sites.now in
-    let laws : Laws (g.A.Nesting.surrounds c.args.plan.now.analysis.now) = record { own = g.met.A.Nesting.own c.args.plan.now.analysis.now; through = g.met.A.Nesting.through c.args.plan.now.analysis.now; same = g.met.A.Nesting.same c.args.plan.now.analysis.now } in
+    let n : Naming = naming (g.N.NewTexts.text c.args.plan.now.texts.now) c.args.plan.now.goes_on (g.A.Asked.keeps c.args.plan.now.asked.now) (g.A.Asked.preserved c.args.plan.now.asked.now) (g.A.Asked.occurs c.args.plan.now.asked.now) (g.A.Nesting.surrounds c.args.plan.now.asked.now) (g.A.Asked.id_of c.args.plan.now.asked.now) in
+    let sites = c.args.sites.now in
+    let laws : Laws (g.A.Nesting.surrounds c.args.plan.now.asked.now) = record { own = g.met.A.Nesting.own c.args.plan.now.asked.now; through = g.met.A.Nesting.through c.args.plan.now.asked.now; same = g.met.A.Nesting.same c.args.plan.now.asked.now } in
     let at = c.loop-at.at in
     let within : at < length sites = omega arith in
     let stood = c.loop-at.invariant in

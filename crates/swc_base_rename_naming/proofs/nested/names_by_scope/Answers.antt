@@ -1,4 +1,4 @@
-use Rattle.std.proofs.Common.{◌||◌, ◌<◌, ◌≤◌, [], length, not, arith}
+use Rattle.std.proofs.Common.{◌<◌, ◌≤◌, [], length, arith}
 use Rattle.std.proofs.lemmas.Result.{err_from_is_err_and}
 use Rattle.swc_base_rename_naming.specs.Steps.{Naming, naming}
 use Rattle.swc_base_rename_naming.proofs.Inside.{Laws, root_begins, root_done}
@@ -7,13 +7,13 @@ use Rattle.swc_base_rename_naming.proofs.nested.names_by_scope.Goals as goal
 
 pub loop-at-init : goal.loop-at-init
 loop-at-init g c =
-    let n : Naming = naming (g.R.Renamer.text c.args.renamer.now) (g.R.Renamer.MANGLE || not g.R.Renamer.RESET_N) (g.A.Analysis.keeps c.args.analysis.now) (g.A.Analysis.preserved c.args.analysis.now) (g.A.Analysis.occurs c.args.analysis.now) (g.A.Nesting.surrounds c.args.analysis.now) c.args.ids.now in
+    let n : Naming = naming (g.N.NewTexts.text c.args.texts.now) c.args.goes_on (g.A.Asked.keeps c.args.asked.now) (g.A.Asked.preserved c.args.asked.now) (g.A.Asked.occurs c.args.asked.now) (g.A.Nesting.surrounds c.args.asked.now) (g.A.Asked.id_of c.args.asked.now) in
     let sites = c.args.sites.now in
     record { fits = omega arith; whole = record { choices = []; stands = stands_first n c.new-names.result c.new-names.ensures.texts c.new-names.ensures.next; over = tt } }
 
 pub returns-in_err-at-clause-refused : goal.returns-in_err-at-clause-refused
 returns-in_err-at-clause-refused g c =
-    let n : Naming = naming (g.R.Renamer.text c.args.renamer.now) (g.R.Renamer.MANGLE || not g.R.Renamer.RESET_N) (g.A.Analysis.keeps c.args.analysis.now) (g.A.Analysis.preserved c.args.analysis.now) (g.A.Analysis.occurs c.args.analysis.now) (g.A.Nesting.surrounds c.args.analysis.now) c.args.ids.now in
+    let n : Naming = naming (g.N.NewTexts.text c.args.texts.now) c.args.goes_on (g.A.Asked.keeps c.args.asked.now) (g.A.Asked.preserved c.args.asked.now) (g.A.Asked.occurs c.args.asked.now) (g.A.Nesting.surrounds c.args.asked.now) (g.A.Asked.id_of c.args.asked.now) in
     let sites = c.args.sites.now in
     let within : c.loop-at.at < length sites = omega arith in
     let whole = c.loop-at.invariant.whole in
@@ -22,9 +22,9 @@ returns-in_err-at-clause-refused g c =
 
 pub loop-at-preserved : goal.loop-at-preserved
 loop-at-preserved g c =
-    let n : Naming = naming (g.R.Renamer.text c.args.renamer.now) (g.R.Renamer.MANGLE || not g.R.Renamer.RESET_N) (g.A.Analysis.keeps c.args.analysis.now) (g.A.Analysis.preserved c.args.analysis.now) (g.A.Analysis.occurs c.args.analysis.now) (g.A.Nesting.surrounds c.args.analysis.now) c.args.ids.now in
+    let n : Naming = naming (g.N.NewTexts.text c.args.texts.now) c.args.goes_on (g.A.Asked.keeps c.args.asked.now) (g.A.Asked.preserved c.args.asked.now) (g.A.Asked.occurs c.args.asked.now) (g.A.Nesting.surrounds c.args.asked.now) (g.A.Asked.id_of c.args.asked.now) in
     let sites = c.args.sites.now in
-    let laws : Laws (g.A.Nesting.surrounds c.args.analysis.now) = record { own = g.met.A.Nesting.own c.args.analysis.now; through = g.met.A.Nesting.through c.args.analysis.now; same = g.met.A.Nesting.same c.args.analysis.now } in
+    let laws : Laws (g.A.Nesting.surrounds c.args.asked.now) = record { own = g.met.A.Nesting.own c.args.asked.now; through = g.met.A.Nesting.through c.args.asked.now; same = g.met.A.Nesting.same c.args.asked.now } in
     let within : c.loop-at.at < length sites = omega arith in
     let whole = c.loop-at.invariant.whole in
     let done = c.in_ok-at.ensures.named in

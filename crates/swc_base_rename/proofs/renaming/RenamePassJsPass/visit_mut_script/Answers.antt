@@ -1,0 +1,31 @@
+use Rattle.std.proofs.Common.{◌≡◌, ap, refl, sym, ◌∙◌}
+use Rattle.std.proofs.lemmas.Result.{err_from_is_err_and}
+use Rattle.swc_tree_modules.specs.Nodes.{script_node}
+use Rattle.swc_base_rename_naming.specs.Ids.{HasJust}
+use Rattle.swc_base_rename.proofs.Renamed.{refused_by, renamed_by}
+use Rattle.swc_base_rename.proofs.renaming.RenamePassJsPass.visit_mut_script.Goals as goal
+
+pub returns-in_err-answer-clause-cause : goal.returns-in_err-answer-clause-cause
+returns-in_err-answer-clause-cause g c =
+    let t = script_node c.args.program.now in
+    let before : c.in_ok-node.node ≡ t = c.in_ok-node.ensures.0 ∙ ap script_node c.replace-script.ensures.value in
+    let just : HasJust (g.R.Renamer.preserved c.args.self.now.renamer t) c.in_ok-preserved.preserved = λ x. c.in_ok-preserved.ensures.just x ∙ ap (λ p. g.R.Renamer.preserved c.args.self.now.renamer (script_node p) x) c.replace-script.ensures.value in
+    let refused = err_from_is_err_and c.from_residual-in_err-answer.result c.from_residual-in_err-answer.ensures.1 in
+    rw (refused.1, refused.2) (record {
+      refusal = refused_by (g.R.Renamer.text c.preserved_ids_for_script.new.self) c.mode_of-mode.result (record { mangles = g.R.Renamer.MANGLE; resets = g.R.Renamer.RESET_N }) c.in_ok-preserved.preserved
+          (g.R.Renamer.preserved c.args.self.now.renamer t) c.mode_of-mode.ensures just c.in_ok-node.node t c.in_err-answer.field-0.0 before c.in_err-answer.ensures.refused;
+      same = refl;
+      marks = refl;
+    })
+
+pub returns-clause-done : goal.returns-clause-done
+returns-clause-done g c =
+    let t = script_node c.args.program.now in
+    let before : c.in_ok-node.node ≡ t = c.in_ok-node.ensures.0 ∙ ap script_node c.replace-script.ensures.value in
+    let just : HasJust (g.R.Renamer.preserved c.args.self.now.renamer t) c.in_ok-preserved.preserved = λ x. c.in_ok-preserved.ensures.just x ∙ ap (λ p. g.R.Renamer.preserved c.args.self.now.renamer (script_node p) x) c.replace-script.ensures.value in
+    record {
+      renamed = renamed_by (g.R.Renamer.text c.preserved_ids_for_script.new.self) c.mode_of-mode.result (record { mangles = g.R.Renamer.MANGLE; resets = g.R.Renamer.RESET_N }) c.in_ok-preserved.preserved
+          (g.R.Renamer.preserved c.args.self.now.renamer t) c.mode_of-mode.ensures just c.args.self.now.config.keep_class_names c.in_ok-node.node t c.in_ok-answer.answer (script_node c.from_node.result) before (sym c.from_node.ensures) c.in_ok-answer.ensures.renamed;
+      same = refl;
+      marks = refl;
+    }

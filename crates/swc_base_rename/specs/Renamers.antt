@@ -1,0 +1,26 @@
+-- What a renamer's pass makes of a program.
+use Rattle.std.specs.Prelude.{◌≡◌, ℕ, Bool, List}
+use Rattle.swc_tree_marks.specs.declared.error.PassError.{PassError}
+use Rattle.swc_tree_marks.specs.Globals.{Table}
+use Rattle.swc_tree_node.specs.declared.node.Node.{Node}
+use Rattle.swc_tree_scoping.specs.BoundNames.{Id}
+use Rattle.swc_base_rename_analysis.specs.Named.{Renaming}
+use Rattle.swc_base_rename_program.specs.Renamed.{IsRenameRefusal, IsRenamed}
+use Rattle.swc_base_rename.specs.declared.renaming.RenamePass.{RenamePass}
+
+module _ {X : Type 0} (text : X → Id → ℕ → List ℕ) (preserved : X → Node → Id → Bool) (mangles resets : Bool) where
+  -- the texts are those of the renamer as its call for the preserved ids left it, and these those that it said then
+  abbrev pub renaming_in : X → X → Node → Renaming
+  renaming_in was is program = record { text = text is; mangles = mangles; resets = resets; preserves = preserved was program }
+
+  -- names are given as the renamer has them; the configuration and the table of marks are as they were
+  pub record RenamesNames (pass : RenamePass X) (old : Table) (before : Node) (kept : RenamePass X) (new : Table) (after : Node) : Type 0 where
+    pub renamed : IsRenamed (renaming_in pass.renamer kept.renamer before) pass.config.keep_class_names before after
+    pub same : kept.config ≡ pass.config
+    pub marks : new ≡ old
+
+  -- a program is refused for want of memory, and where the counters are spent; configuration and table are as they were
+  pub record RefusesNames (pass : RenamePass X) (old : Table) (before : Node) (kept : RenamePass X) (new : Table) (e : PassError) : Type 0 where
+    pub refusal : IsRenameRefusal (renaming_in pass.renamer kept.renamer before) before e
+    pub same : kept.config ≡ pass.config
+    pub marks : new ≡ old

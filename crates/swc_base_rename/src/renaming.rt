@@ -1,0 +1,125 @@
+//! The pass that gives names anew as a renamer has them.
+ghost use Rattle.std.specs.Prelude.{◌≡◌, OnOk, OnErr, IfErr};
+ghost use Rattle.swc_tree.specs.Passes.{IsEmptied, IsEmptiedScript, IsExtended};
+ghost use Rattle.swc_tree_modules.specs.Nodes.{module_node, script_node};
+ghost use Rattle.swc_base_rename.specs.Renamers.{RefusesNames, RenamesNames};
+
+use crate::lawful::Renamer;
+use std::alloc::Global;
+use std::mem;
+use swc_base_rename_naming::NewTexts;
+use swc_base_rename_program::{Mode, rename_program};
+use swc_base_rename_substitution::Config;
+use swc_tree::{JsPass, empty_module, empty_script};
+use swc_tree_handle::Opened;
+use swc_tree_marks::{Globals, Id, JsWord, PassError};
+use swc_tree_modules::{Module, Script};
+
+// The texts of a renamer.
+#[derive(Clone, Copy)]
+struct Texts<'a, R> {
+    renamer: &'a R,
+}
+
+impl<R: Renamer> NewTexts for Texts<'_, R> {
+    ghost text = { λ texts x n. R.text texts.renamer.now x n };
+
+    fn new_text(&self, alloc: Global, id: &Id, n: &mut usize) -> Result<JsWord, PassError> {
+        self.renamer.new_name_for(alloc, id, n)
+    }
+
+    ghost differ = { λ texts x m n. R.differ texts.renamer.now x m n };
+}
+
+// The settings of a renamer.
+fn mode_of<R: Renamer>() -> Mode
+    ensures { result ≡ record { mangles = R.MANGLE; resets = R.RESET_N } }
+{
+    Mode {
+        mangles: R::MANGLE,
+        resets: R::RESET_N,
+    }
+}
+
+/// Gives the names of a program anew, as a renamer has them.
+#[derive(Clone, Copy)]
+pub struct RenamePass<R> {
+    config: Config,
+    renamer: R,
+}
+
+/// The pass that gives each id that a program declares the first text that the renamer has for it and that is free where
+/// the id stands. Until direct `eval` is looked for, `ignore_eval` counts as set.
+pub fn renamer<R: Renamer>(config: Config, renamer: R) -> RenamePass<R>
+    ensures { result ≡ record { config = config; renamer = renamer } }
+{
+    RenamePass { config, renamer }
+}
+
+impl<R: Renamer> JsPass for RenamePass<R> {
+    ghost visits = { λ pass old before kept new after. RenamesNames R.text R.preserved R.MANGLE R.RESET_N pass old (module_node before) kept new (module_node after) };
+
+    ghost visits_script = { λ pass old before kept new after. RenamesNames R.text R.preserved R.MANGLE R.RESET_N pass old (script_node before) kept new (script_node after) };
+
+    ghost refuses = { λ pass old before kept new e. RefusesNames R.text R.preserved R.MANGLE R.RESET_N pass old (module_node before) kept new e };
+
+    ghost refuses_script = { λ pass old before kept new e. RefusesNames R.text R.preserved R.MANGLE R.RESET_N pass old (script_node before) kept new e };
+
+    /// Gives the names of a program anew. The renamer is asked first for the ids that keep their texts, and then goes by what
+    /// that call made of it. The table of marks stays as it is.
+    ///
+    /// # Errors
+    ///
+    /// `CounterSpent` where for an id no counter from its start and below the greatest `usize` gives a free text, and
+    /// `NoMemory`. The program is then empty, with its span and no `#!` line.
+    fn visit_mut_module(
+        &mut self,
+        alloc: Global,
+        globals: &mut Globals,
+        program: &mut Module,
+    ) -> Result<(), PassError>
+        ensures done { OnOk result (RenamesNames R.text R.preserved R.MANGLE R.RESET_N self.old globals.old (module_node program.old) self.new globals.new (module_node program.new)) }
+        ensures refused { OnErr result (IsEmptied program.old program.new) }
+        ensures marks { IsExtended globals.old globals.new }
+        ensures cause { IfErr result (RefusesNames R.text R.preserved R.MANGLE R.RESET_N self.old globals.old (module_node program.old) self.new globals.new) }
+    {
+        let module = mem::replace(program, empty_module(alloc, program.span));
+        let preserved = self.renamer.preserved_ids_for_module(alloc, &module)?;
+        let node = module.into_node(alloc)?;
+        let texts = Texts {
+            renamer: &self.renamer,
+        };
+        let mode = mode_of::<R>();
+        let answer = rename_program(alloc, &texts, mode, &preserved, &self.config, node)?;
+        *program = Module::from_node(answer);
+        Ok(())
+    }
+
+    /// Gives the names of a program of the goal Script anew, as `visit_mut_module` those of a module.
+    ///
+    /// # Errors
+    ///
+    /// Those of `visit_mut_module`.
+    fn visit_mut_script(
+        &mut self,
+        alloc: Global,
+        globals: &mut Globals,
+        program: &mut Script,
+    ) -> Result<(), PassError>
+        ensures done { OnOk result (RenamesNames R.text R.preserved R.MANGLE R.RESET_N self.old globals.old (script_node program.old) self.new globals.new (script_node program.new)) }
+        ensures refused { OnErr result (IsEmptiedScript program.old program.new) }
+        ensures marks { IsExtended globals.old globals.new }
+        ensures cause { IfErr result (RefusesNames R.text R.preserved R.MANGLE R.RESET_N self.old globals.old (script_node program.old) self.new globals.new) }
+    {
+        let script = mem::replace(program, empty_script(alloc, program.span));
+        let preserved = self.renamer.preserved_ids_for_script(alloc, &script)?;
+        let node = script.into_node(alloc)?;
+        let texts = Texts {
+            renamer: &self.renamer,
+        };
+        let mode = mode_of::<R>();
+        let answer = rename_program(alloc, &texts, mode, &preserved, &self.config, node)?;
+        *program = Script::from_node(answer);
+        Ok(())
+    }
+}

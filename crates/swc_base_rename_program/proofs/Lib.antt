@@ -1,0 +1,5 @@
+pub mod Costs
+pub mod Fitting
+pub mod Maps
+pub mod Ruled
+pub mod Beside
