@@ -17,8 +17,8 @@ use Rattle.swc_tree_scoping.proofs.Under.{by_children}
 use Rattle.swc_base_rename_substitution.specs.declared.place.Place.{Place}
 use Rattle.swc_base_rename_substitution.specs.declared.place.Place.TheVariants as place
 use Rattle.swc_base_rename_substitution.specs.declared.names.Names.{Names}
-use Rattle.swc_base_rename_substitution.specs.declared.names.Names.TheVariants.{Texts, Ids}
-use Rattle.swc_base_rename_substitution.specs.Names.{Id, by_id, by_text, if_other_text, new_id, same_id, same_text}
+use Rattle.swc_base_rename_substitution.specs.declared.names.Names.TheVariants.{Texts, Ordered, Ids}
+use Rattle.swc_base_rename_substitution.specs.Names.{Id, by_id, by_order, by_text, found_in, if_other_text, new_id, same_id, same_text}
 use Rattle.swc_base_rename_substitution.specs.Identifiers.{Changes, changed, identifier_at, identifier_to, written_out_if}
 use Rattle.swc_base_rename_substitution.specs.Classes.{kept_class}
 use Rattle.swc_base_rename_substitution.specs.Exports.{export_list, exported_ids, items_for, with_exports}
@@ -151,6 +151,11 @@ keeping (Texts m) h x = at (get same_id m.now x) refl
     at : (o : Option (List ℕ)) → get same_id m.now x ≡ o → by_text m.now x ≡ None
     at None e = rw e refl
     at (Some text) e = rw e (same_text_none x (text, []) (h x text e))
+keeping (Ordered m) h x = at (found_in m.now x) refl
+  where
+    at : (o : Option (List ℕ)) → found_in m.now x ≡ o → by_order m.now x ≡ None
+    at None e = rw e refl
+    at (Some text) e = rw e (same_text_none x (text, []) (h x text e))
 keeping (Ids m) h x = at (get same_id m.now x) refl
   where
     at : (o : Option Id) → get same_id m.now x ≡ o → by_id m.now x ≡ None
@@ -159,6 +164,7 @@ keeping (Ids m) h x = at (get same_id m.now x) refl
 
 keeps : (names : Names) → IsEmpty names → KeepsTexts names
 keeps (Texts m) h = λ x text e. let z : None ≡ Some text = sym (h x) ∙ e in absurd (cc)
+keeps (Ordered m) h = λ x text e. let z : None ≡ Some text = sym (h x) ∙ e in absurd (cc)
 keeps (Ids m) h = λ x y e. let z : None ≡ Some y = sym (h x) ∙ e in absurd (cc)
 
 pub kept_texts_change_nothing : KeptTextsChangeNothing

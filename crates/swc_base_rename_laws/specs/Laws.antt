@@ -13,8 +13,8 @@ use Rattle.swc_tree_grammar.specs.Writable.{is_bindable, is_writable}
 use Rattle.swc_tree_grammar.specs.Normal.{normal_form, same_id as same_identifier}
 use Rattle.swc_tree_grammar.specs.Same.{same_tree}
 use Rattle.swc_base_rename_substitution.specs.declared.names.Names.{Names}
-use Rattle.swc_base_rename_substitution.specs.declared.names.Names.TheVariants.{Texts, Ids}
-use Rattle.swc_base_rename_substitution.specs.Names.{Id, new_id, same_id}
+use Rattle.swc_base_rename_substitution.specs.declared.names.Names.TheVariants.{Texts, Ordered, Ids}
+use Rattle.swc_base_rename_substitution.specs.Names.{Id, found_in, new_id, same_id}
 use Rattle.swc_base_rename_substitution.specs.Identifiers.{Changes, id_of}
 use Rattle.swc_base_rename_substitution.specs.Substituted.{Substituted}
 use Rattle.swc_base_rename_laws.specs.Texts.{outer_texts}
@@ -22,11 +22,13 @@ use Rattle.swc_base_rename_laws.specs.Texts.{outer_texts}
 -- the map has nothing for any id
 abbrev pub IsEmpty : Names → Type 0
 IsEmpty (Texts m) = (x : Id) → get same_id m.now x ≡ None
+IsEmpty (Ordered m) = (x : Id) → found_in m.now x ≡ None
 IsEmpty (Ids m) = (x : Id) → get same_id m.now x ≡ None
 
 -- the map gives no id another text than its own
 abbrev pub KeepsTexts : Names → Type 0
 KeepsTexts (Texts m) = (x : Id) (text : List ℕ) → get same_id m.now x ≡ Some text → text ≡ x.0
+KeepsTexts (Ordered m) = (x : Id) (text : List ℕ) → found_in m.now x ≡ Some text → text ≡ x.0
 KeepsTexts (Ids m) = (x y : Id) → get same_id m.now x ≡ Some y → y.0 ≡ x.0
 
 -- where classes don't keep their names, an empty map changes nothing
