@@ -19,6 +19,7 @@ TOPS = (0, 1, 4)
 CONTEXTS = ((), (1,), (1,), (2,), (3,), (4,), (4,), (5,), (5,), (6,), (3, 4), (4, 3), (9,))
 UNITS = ('ArrowExpr', 'FnExpr', 'MethodProp', 'GetterProp', 'SetterProp', 'ClassMethod', 'PrivateMethod', 'Constructor', 'FnDecl', 'ClassDecl',
          'ObjectLit', 'ClassExpr', 'ExportDefaultDecl')
+FUNCTIONS = {'Function', 'BlockFunction', 'SloppyFunction'}
 ONE_EXPRESSION, ONE_STATEMENT = ('One', ('Node', 'Expr')), ('One', ('Node', 'Stmt'))
 
 
@@ -181,7 +182,8 @@ def unit_is_analysed_as_at_its_place(t):
 
 @law(reading_tree)
 def standings_in_a_unit_name_alike(t):
-    """what stands as a binding or a reference in a unit stands so in the unit as a tree of its own, and is taken by scopes alike"""
+    """identifiers stand in a unit as in the unit as a tree of its own, but for the names of function declarations, which leave
+    blocks in either way: the unit alone does not say whether its code is strict"""
     if not reads(t):
         return None
     whole, found = scoping.Program(D.all, t), False
@@ -189,7 +191,7 @@ def standings_in_a_unit_name_alike(t):
         program = scoping.Program(D.all, u)
         for p in program.identifiers:
             found, one, other = True, program.standing(p), whole.standing(path + p)
-            if one != other and {one, other} != {'SloppyFunction', 'BlockFunction'}:
+            if one != other and not {one, other} <= FUNCTIONS:
                 return Bad('at', repr(path + p), one, other)
     return True if found else None
 
