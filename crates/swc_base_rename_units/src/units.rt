@@ -1,8 +1,8 @@
 //! Units: functions and classes whose names may be given apart from those round them.
-ghost use Rattle.std.specs.Prelude.{◌≡◌, ◌∷◌, [], IfOk, IfErr};
+ghost use Rattle.std.specs.Prelude.{◌≡◌, IfOk, IfErr};
 ghost use Rattle.swc_tree_node.specs.declared.node.Node.{out-Node};
 ghost use Rattle.swc_base_rename_substitution.specs.Room.{FitsAs};
-ghost use Rattle.swc_base_rename_units.specs.Units.{HasUnits, RefusesUnit, is_unit_below, is_unit_kind as is_kind_of_unit};
+ghost use Rattle.swc_base_rename_units.specs.Units.{HasUnits, RefusesUnit, is_unit_kind as is_kind_of_unit};
 ghost use Rattle.swc_base_rename_units.specs.Walk.{EachBecomes, IsChildNamed, RefusesChild, RefusesEach, is_unit_at as is_unit_there};
 
 use crate::eval::has_eval;
@@ -76,8 +76,8 @@ fn is_unit(above: Above, index: usize, child: &Node) -> bool
 
 /// A tree in which each outermost unit without a direct `eval` and `with` has its names, and nothing else changed.
 ///
-/// A unit is looked through for those as often as units lie round it that have one: in all it costs the size of the tree times
-/// how deep such units lie in one another, beside what the units cost alone.
+/// A unit is looked through for those once, and once more for each unit round it that has one: in all it costs the size of the
+/// tree times how deep such units lie in one another, beside what the units cost alone.
 ///
 /// # Errors
 ///
