@@ -1,13 +1,9 @@
 -- Names are the same by two ways to say which texts are preserved.
-use Rattle.std.proofs.Common.{◌≡◌, ◌↔◌, ℕ, Option, List}
-use Rattle.swc_tree_marks.specs.declared.error.PassError.{PassError}
-use Rattle.swc_tree_marks.specs.declared.error.PassError.TheVariants as pass
+use Rattle.std.proofs.Common.{◌↔◌, ℕ, Option, List}
 use Rattle.swc_tree_node.specs.declared.node.Node.{Node}
 use Rattle.swc_tree_scoping.specs.BoundNames.{Id}
 use Rattle.swc_base_rename_analysis.specs.Named.{Counting, IsFreeText, IsLeast, IsSpent, Named, Renaming}
 use Rattle.swc_base_rename_analysis.specs.Order.{Site}
-use Rattle.swc_base_rename_program.specs.NewTexts.{AreNewTexts, IsNameRefusal}
-use Rattle.swc_base_rename_program.specs.Renamed.{HasNames}
 
 free_alike : {P Q : List ℕ → Type 0} → ((text : List ℕ) → Q text → P text) → (t : Node) (r : Renaming) (counts : Counting) (taken : Id → ℕ) (a : Site) (text : List ℕ)
     → IsFreeText t r P counts taken a text → IsFreeText t r Q counts taken a text

@@ -1,5 +1,5 @@
 -- How far a mark's ancestors are looked for.
-use Rattle.std.proofs.Common.{◌≡◌, ◌↔◌, ℕ, zero, suc, ◌≤◌, ◌==◌, Bool, true, false, ◌||◌, inl, inr, refl, sym, ap, ◌∙◌, subst, eq-eqb, eqb-true, arith}
+use Rattle.std.proofs.Common.{◌≡◌, ◌↔◌, ℕ, zero, suc, ◌≤◌, ◌==◌, Bool, true, false, ◌||◌, inl, inr, refl, sym, ◌∙◌, subst, eq-eqb, eqb-true, arith}
 use Rattle.std.proofs.lemmas.Bool.{or_cases}
 use Rattle.swc_tree_marks.specs.Globals.{IsDescendant, IsTable, Table, parent_in}
 use Rattle.swc_tree_marks.proofs.Ancestors.{IsDescendant-up, only_root_above_root, parent_in-below}
@@ -26,9 +26,9 @@ descends_by t ok zero mark ancestor l d =
     eq-eqb mark ancestor (root ∙ sym top)
 descends_by t ok (suc n) mark ancestor l d =
     either (mark == ancestor) (descends_within n t (parent_in t mark) ancestor) (λ other.
-        let not_root : mark ≡ 0 → ⊥ = λ root. false_apart mark ancestor other (root ∙ sym (only_root_above_root t ok ancestor (subst (λ m. IsDescendant t m ancestor) root d))) in
-        let less = parent_in-below t ok mark not_root in
-        descends_by t ok n (parent_in t mark) ancestor (omega (arith, less, l)) ((IsDescendant-up t mark ancestor (false_apart mark ancestor other)).0 d))
+    let not_root : mark ≡ 0 → ⊥ = λ root. false_apart mark ancestor other (root ∙ sym (only_root_above_root t ok ancestor (subst (λ m. IsDescendant t m ancestor) root d))) in
+    let less = parent_in-below t ok mark not_root in
+    descends_by t ok n (parent_in t mark) ancestor (omega (arith, less, l)) ((IsDescendant-up t mark ancestor (false_apart mark ancestor other)).0 d))
 
 pub descends_is : (t : Table) → IsTable t → (mark ancestor : ℕ) → (descends_within mark t mark ancestor ≡ true) ↔ IsDescendant t mark ancestor
 descends_is t ok mark ancestor = (descends_to t mark mark ancestor, descends_by t ok mark mark ancestor (omega arith))

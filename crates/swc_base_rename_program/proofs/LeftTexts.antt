@@ -1,5 +1,5 @@
 -- The texts that no name may be are those of the definitions.
-use Rattle.std.proofs.Common.{◌≡◌, ◌↔◌, ℕ, Bool, true, ◌&&◌, ◌||◌, ◌⊎◌, IsTrue, inl, inr, Some, List, length, map, refl, sym, ap, ◌∙◌, subst}
+use Rattle.std.proofs.Common.{◌≡◌, ◌↔◌, ℕ, Bool, true, ◌&&◌, ◌⊎◌, IsTrue, inl, inr, Some, List, length, refl, sym, ap, ◌∙◌}
 use Rattle.std.specs.Prelude.{String}
 use Rattle.std.specs.List.{list_any, slice_get}
 use Rattle.std.specs.Str.{bytes_eq}

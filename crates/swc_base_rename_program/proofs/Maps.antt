@@ -1,23 +1,17 @@
 -- Sets and maps of ids.
-use Rattle.std.proofs.Common.{◌≡◌, ℕ, ◌≤◌, Bool, true, false, IsTrue, ◌&&◌, ◌||◌, ◌⊎◌, nat_eq, inl, inr, Option, Some, None, option_map, List, [], length, cond, refl, sym, ap, ◌∙◌, subst, arith}
-use Rattle.std.specs.List.{list_any, slice_get}
-use Rattle.std.specs.Str.{bytes_eq}
-use Rattle.std.specs.Prelude.{String}
-use Rattle.std.specs.BTreeSet.{BTreeSet, contains_text}
+use Rattle.std.proofs.Common.{◌≡◌, ℕ, ◌≤◌, Bool, true, false, ◌&&◌, nat_eq, Option, Some, None, option_map, List, [], length, cond, refl, sym, ap, ◌∙◌, subst, arith}
+use Rattle.std.specs.List.{slice_get}
 use Rattle.std.specs.Cmp.{IsEquivalence}
 use Rattle.std.specs.BTreeMap.{BTreeMap}
-use Rattle.std.specs.HashSet.{HashSet, contains, keys}
-use Rattle.std.proofs.lemmas.Bool.{and_from, or_cases, false_from_ne_true}
+use Rattle.std.proofs.lemmas.Bool.{and_from, false_from_ne_true}
 use Rattle.std.proofs.lemmas.Cmp.{nat_list_eq_equiv}
 use Rattle.std.specs.Cmp.Lexicographic.{pointwise}
-use Rattle.std.proofs.lemmas.Map.Views.{hash_set_contains_iff}
 use Rattle.std.proofs.lemmas.Option.{slice_get_within}
-use Rattle.std.proofs.lemmas.Slice.Eq.{bytes_eq-Decides}
 use Rattle.swc_tree_scoping.specs.BoundNames.{Id}
 use Rattle.swc_base_rename_analysis.specs.declared.analysis.Analysis.{Analysis}
 use Rattle.swc_base_rename_naming.specs.ByIds.{AreChanged, AreTexts, if_other, text_below}
 use Rattle.swc_base_rename_naming.proofs.ByIds.{none_has, some_has}
-use Rattle.swc_base_rename_naming_laws.proofs.Surrounds.{is_either, numbered_at, one_id}
+use Rattle.swc_base_rename_naming_laws.proofs.Surrounds.{numbered_at, one_id}
 use Rattle.swc_base_rename_naming_laws.specs.Rules.{IsByIds, id_in}
 use Rattle.swc_base_rename_substitution.specs.Names.{by_order, if_other_text, same_id}
 use Rattle.swc_base_rename_substitution.specs.Substituted.{Substituted}

@@ -49,7 +49,8 @@ fn is_top_context(context: &SyntaxContext, top: Mark) -> bool
 fn leaves_text(top: Mark, analysis: &Analysis, entry: &Entry) -> bool
     ensures { result ≡ is_leaving_text top analysis.now entry.now }
 {
-    (entry.is_bound && is_top_context(&entry.id.1, top)) || analysis.loose.contains(entry.id.0.as_str())
+    (entry.is_bound && is_top_context(&entry.id.1, top))
+        || analysis.loose.contains(entry.id.0.as_str())
 }
 
 /// The texts that no name may be where something reads names: those of preserved ids, of loose ids, and of ids that are bound

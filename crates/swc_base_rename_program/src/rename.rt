@@ -80,7 +80,15 @@ fn rename_by_units<T: NewTexts>(
     ensures refused { IfErr result (IsUnitsRefusal globals.now config.now.top_level_mark (renaming (T.text texts.now) mode (contains same_id preserved.now)) tree) }
     ensures fits { IfOk result (FitsAs tree) }
 {
-    let (table, left) = top_names(alloc, texts, mode, preserved, config.top_level_mark, globals, &tree)?;
+    let (table, left) = top_names(
+        alloc,
+        texts,
+        mode,
+        preserved,
+        config.top_level_mark,
+        globals,
+        &tree,
+    )?;
     let apart = Apart {
         texts,
         mode,
@@ -138,6 +146,14 @@ pub fn hygiene_program(
         resets: true,
     };
     let preserved = HashSet::new(alloc);
-    let tree = rename_program(alloc, &HygieneTexts, mode, &preserved, config, globals, tree)?;
+    let tree = rename_program(
+        alloc,
+        &HygieneTexts,
+        mode,
+        &preserved,
+        config,
+        globals,
+        tree,
+    )?;
     Ok(clear_contexts(alloc, tree))
 }

@@ -1,8 +1,7 @@
-use Rattle.std.proofs.Common.{◌≡◌, Bool, true, false, IsTrue, ◌↔◌, refl, sym, ◌∙◌}
+use Rattle.std.proofs.Common.{refl}
 use Rattle.std.specs.HashSet.{contains}
 use Rattle.std.proofs.lemmas.Result.{err_from_is_err_and}
 use Rattle.swc_base_rename_substitution.specs.Names.{same_id}
-use Rattle.swc_base_rename_units.specs.Eval.{HasEval}
 use Rattle.swc_base_rename_program.specs.Renamed.{IsRead, renaming}
 use Rattle.swc_base_rename_program.proofs.Given.{names_alike, whole_refused}
 use Rattle.swc_base_rename_program.proofs.LeftTexts.{left_is_preserved}

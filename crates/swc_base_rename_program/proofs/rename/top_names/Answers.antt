@@ -30,8 +30,8 @@ returns-clause-named g c =
     let text = g.T.NewTexts.text c.args.texts.now in
     let keeps = contains same_id c.args.preserved.now in
     let are : AreLeftTexts c.args.top keeps t left = λ x.
-        let (scopes, places, means) = reading_means t a c.in_ok-analysis.ensures in
-        subst (λ b. IsTrue b ↔ IsPreservedByTop c.args.top t keeps x) (sym (c.in_ok-left.ensures x)) (left_means c.args.top t a scopes places c.in_ok-analysis.ensures means c.args.preserved.now x) in
+    let (scopes, places, means) = reading_means t a c.in_ok-analysis.ensures in
+    subst (λ b. IsTrue b ↔ IsPreservedByTop c.args.top t keeps x) (sym (c.in_ok-left.ensures x)) (left_means c.args.top t a scopes places c.in_ok-analysis.ensures means c.args.preserved.now x) in
     let by_table = subst (λ m. AreNamedTexts (program_rules text c.args.mode a (λ x. keeps x || descends_from c.new.result.globals.now m x) left) a c.in_ok-table.table) c.new.ensures.mark c.in_ok-table.ensures.named in
     let by_top = subst (λ g. AreNamedTexts (program_rules text c.args.mode a (λ x. keeps x || descends_from g c.args.top x) left) a c.in_ok-table.table) c.new.ensures.table by_table in
     top_named c.args.globals.now c.new.ensures.well_formed c.args.top text c.args.mode keeps t a c.in_ok-analysis.ensures left are c.in_ok-table.table by_top
@@ -45,8 +45,8 @@ returns-in_err-table-clause-refused g c =
     let keeps = contains same_id c.args.preserved.now in
     let e = c.in_err-table.field-0.0 in
     let are : AreLeftTexts c.args.top keeps t left = λ x.
-        let (scopes, places, means) = reading_means t a c.in_ok-analysis.ensures in
-        subst (λ b. IsTrue b ↔ IsPreservedByTop c.args.top t keeps x) (sym (c.in_ok-left.ensures x)) (left_means c.args.top t a scopes places c.in_ok-analysis.ensures means c.args.preserved.now x) in
+    let (scopes, places, means) = reading_means t a c.in_ok-analysis.ensures in
+    subst (λ b. IsTrue b ↔ IsPreservedByTop c.args.top t keeps x) (sym (c.in_ok-left.ensures x)) (left_means c.args.top t a scopes places c.in_ok-analysis.ensures means c.args.preserved.now x) in
     let by_table = subst (λ m. IsRefused (program_rules text c.args.mode a (λ x. keeps x || descends_from c.new.result.globals.now m x) left) (numbered_sites a) e) c.new.ensures.mark c.in_err-table.ensures.refused in
     let by_top = subst (λ g. IsRefused (program_rules text c.args.mode a (λ x. keeps x || descends_from g c.args.top x) left) (numbered_sites a) e) c.new.ensures.table by_table in
     let refused = err_from_is_err_and c.from_residual-in_err-table.result c.from_residual-in_err-table.ensures.1 in

@@ -2,7 +2,6 @@ use Rattle.std.proofs.Common.{subst}
 use Rattle.std.specs.HashSet.{contains}
 use Rattle.std.proofs.lemmas.Result.{err_from_is_err_and}
 use Rattle.swc_base_rename_substitution.specs.Names.{same_id}
-use Rattle.swc_base_rename_program.specs.Kept.{is_kept}
 use Rattle.swc_base_rename_program.specs.NewTexts.{AreNewTexts, IsLeft, IsNameRefusal}
 use Rattle.swc_base_rename_program.specs.Renamed.{renaming}
 use Rattle.swc_base_rename_program.proofs.Given.{just_preserved, named_texts, refused_texts, well_read}

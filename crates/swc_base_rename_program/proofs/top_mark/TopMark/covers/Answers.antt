@@ -1,4 +1,4 @@
-use Rattle.std.proofs.Common.{◌≡◌, true, IsTrue, ◌↔◌, subst}
+use Rattle.std.proofs.Common.{IsTrue, ◌↔◌, subst}
 use Rattle.swc_tree_marks.specs.Contexts.{outer_of}
 use Rattle.swc_tree_marks.specs.Globals.{IsDescendant}
 use Rattle.swc_base_rename_program.specs.Descends.{descends_from}
