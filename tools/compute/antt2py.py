@@ -31,7 +31,8 @@ from antt_writer import Writer, flat_name, mangled
 
 __all__ = ['CRATES', 'Rec', 'Translation', 'load']
 CRATES = ['swc_tree_node', 'swc_tree_grammar', 'swc_tree_scoping', 'swc_base_rename_substitution',
-          'swc_base_rename_analysis', 'swc_tree_ext', 'swc_tree_marks', 'swc_base_resolver_program', 'swc_base_fixer_unparen']
+          'swc_base_rename_analysis', 'swc_base_rename_units', 'swc_tree_ext', 'swc_tree_marks', 'swc_base_resolver_program',
+          'swc_base_fixer_unparen']
 NODE = 'Rattle.swc_tree_node.specs.declared.node.Node'
 
 
@@ -103,7 +104,7 @@ class Translation:
         own = None if rest else self.own_meaning(module, name)
         if own:
             return own
-        if name == '[]':
+        if name in ('[]', 'tt'):
             return ('value', '()')
         if first == 'Unit':
             return ('type',)

@@ -18,7 +18,7 @@ TOKEN = re.compile(r'(?P<space>\s+)|(?P<text>"(?:[^"\\]|\\.)*")|(?P<name>%s(?:\.
                    r'|(?P<sign>∷|\+\+|&&|\|\||==|→|\[\]|[^\s\w])' % (NAME, NAME))
 WORDS = {'then', 'else', 'in', 'if', 'let', 'where', 'of', 'case', 'do', 'with'}
 # which operators stand side by side without parentheses, the loosest first; all else is refused
-LEVELS = [['||', '&&'], ['∷', '++'], ['==', '<'], ['+', '-'], ['*'], ['^']]
+LEVELS = [['||'], ['&&'], ['∷', '++'], ['==', '<'], ['+', '-'], ['*'], ['^']]
 
 
 def tokens(text, line, path):
@@ -139,7 +139,7 @@ class Parser:
         used = {items[i] for i in here}
         if len(used) > 1 and used != {'∷', '++'} or len(here) > 1 and used & {'==', '<', '-', '^'}:
             self.fail('operators without parentheses (%s)' % ' '.join(sorted(used)))
-        if level == 0 and {items[i] for i in range(1, len(items), 2)} & {'∷', '++'}:
+        if level < 2 and {items[i] for i in range(1, len(items), 2)} & {'∷', '++'}:
             self.fail('a list beside `&&` or `||`')
         i = here[0]                                       # all group to the right
         return ('operator', items[i], self.grouped(items[:i], level + 1), self.grouped(items[i + 1:], level))

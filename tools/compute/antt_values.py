@@ -94,6 +94,7 @@ STANDARD = {
     'find': (2, 'find({0}, {1})'), 'position': (2, 'position({0}, {1})'),
     'slice_get': (2, '({0}[{1}:{1} + 1] or None)'), 'slice_set': (3, 'slice_set({0}, {1}, {2})'),
     'slice_index_or': (3, '(lambda xs, i, d: xs[i] if i < len(xs) else d)({0}, {1}, {2})'),
+    'get_or': (3, '(lambda xs, i, d: xs[i] if i < len(xs) else d)({0}, {1}, {2})'),
     'range_with_len': (2, 'tuple(range({0}, {0} + {1}))'),
     'is_some': (1, '({0} is not None)'), 'is_none': (1, '({0} is None)'),
     'unwrap_or': (2, '(lambda o, d: d if o is None else o[0])({0}, {1})'),

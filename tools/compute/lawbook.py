@@ -9,9 +9,10 @@ import naming
 import scoping
 import random_trees
 import trees
+import units
 from trees import at, paths
 
-CRATES = ['swc_tree_node', 'swc_tree_grammar', 'swc_tree_scoping', 'swc_base_rename_substitution', 'swc_base_rename_analysis', 'swc_base_rename_analysis_laws', 'swc_base_rename_naming', 'swc_tree_ext', 'swc_tree_marks']
+CRATES = ['swc_tree_node', 'swc_tree_grammar', 'swc_tree_scoping', 'swc_base_rename_substitution', 'swc_base_rename_analysis', 'swc_base_rename_analysis_laws', 'swc_base_rename_naming', 'swc_base_rename_units', 'swc_tree_ext', 'swc_tree_marks']
 
 
 class Definitions:
@@ -28,7 +29,7 @@ def load(checkout):
     D.node, D.grammar, D.scoping = D.all.swc_tree_node, D.all.swc_tree_grammar, D.all.swc_tree_scoping
     D.substitution, D.ext, D.marks = D.all.swc_base_rename_substitution, D.all.swc_tree_ext, D.all.swc_tree_marks
     random_trees.setup(D.all)
-    return scoping.check_sources(checkout) + naming.check_sources(checkout)
+    return scoping.check_sources(checkout) + naming.check_sources(checkout) + units.check_sources(checkout)
 
 
 def definition(*paths):

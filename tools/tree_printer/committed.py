@@ -6,7 +6,7 @@ import tempfile
 
 
 def crates_of(files):
-    return sorted({os.path.join(*path.split('/')[:2]) for path in files})
+    return sorted({os.path.join(*path.split('/')[:2]) for path in files if path.startswith('crates/')})
 
 
 def write(root, files):

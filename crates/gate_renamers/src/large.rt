@@ -4,7 +4,7 @@ use std::collections::BTreeSet;
 use swc_base_rename_program::hygiene_program;
 use swc_base_rename_substitution::Config;
 use swc_tree_items::{Boxed, Items, Text};
-use swc_tree_marks::{DUMMY_SP, Ident, Mark, SyntaxContext};
+use swc_tree_marks::{DUMMY_SP, Globals, Ident, Mark, SyntaxContext};
 use swc_tree_node::{Kind, Node, Word};
 
 fn list(alloc: Global, nodes: Vec<Node>) -> Node {
@@ -108,7 +108,8 @@ fn reads_all<'a>(nodes: &'a [Node], texts: &mut BTreeSet<&'a str>) -> Option<boo
 
 // Whether hygiene tells apart this many ids.
 fn tells_apart(alloc: Global, program: Node, count: usize) -> Option<bool> {
-    let program = hygiene_program(alloc, &Config::default(), program).ok()?;
+    let globals = Globals::new(alloc);
+    let program = hygiene_program(alloc, &Config::default(), &globals, program).ok()?;
     let mut texts = BTreeSet::new(alloc);
     Some(reads(&program, &mut texts)? && texts.len() == count)
 }

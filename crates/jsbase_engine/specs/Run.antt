@@ -13,6 +13,7 @@ use Rattle.swc_tree_grammar.specs.Blocks.{with_blocks}
 use Rattle.swc_tree_grammar.specs.Stripped.{stripped}
 use Rattle.swc_tree_grammar.specs.Targets.{all_bare}
 use Rattle.swc_base_fixer_program.specs.Answers.{answer_to}
+use Rattle.swc_base_rename_substitution.specs.declared.config.Config.{Config}
 use Rattle.swc_base_rename_program.specs.Renamed.{IsHygienic, IsRenameRefusal, hygiene_renaming}
 use Rattle.jsbase_form.specs.Reads.{Path, path_text}
 use Rattle.jsbase_reader.specs.declared.envelope.Envelope.{Envelope}
@@ -40,10 +41,19 @@ pub record IsResolved (envelope : Envelope) (output : List ℕ) : Type 0 where
   pub well_formed : IsTable table
   pub written : output ≡ envelope_text table envelope.top answer envelope.unresolved
 
+-- what hygiene goes by
+abbrev pub config_of : Envelope → Config
+config_of envelope = record {
+  keep_class_names = envelope.keep_class_names;
+  safari_10 = false;
+  top_level_mark = envelope.top;
+  ignore_eval = envelope.ignore_eval;
+}
+
 -- the output is the envelope of the tree whose names are given anew and whose contexts are empty
 pub record IsMadeHygienic (envelope : Envelope) (output : List ℕ) : Type 0 where
   pub answer : Node
-  pub hygienic : IsHygienic envelope.keep_class_names envelope.tree answer
+  pub hygienic : IsHygienic envelope.globals (config_of envelope) envelope.tree answer
   pub written : output ≡ envelope_text envelope.globals envelope.top answer envelope.unresolved
 
 -- the output is the envelope of the tree without parentheses, whose parenthesised targets may be assigned to
@@ -67,7 +77,7 @@ Does command.Fix envelope output = IsFixed envelope output
 abbrev pub IsRefusalOf : Command → Envelope → PassError → Type 0
 IsRefusalOf command.Resolve envelope refusal.MarksSpent = 4294967295 < greatest envelope.globals + (scope_count program_place envelope.tree - 1)
 IsRefusalOf command.Resolve envelope _ = ⊥
-IsRefusalOf command.Hygiene envelope refusal.CounterSpent = IsRenameRefusal hygiene_renaming envelope.tree refusal.CounterSpent
+IsRefusalOf command.Hygiene envelope refusal.CounterSpent = IsRenameRefusal envelope.globals (config_of envelope) hygiene_renaming envelope.tree refusal.CounterSpent
 IsRefusalOf command.Hygiene envelope _ = ⊥
 IsRefusalOf command.Unparen envelope refusal.NotAssignable = all_bare envelope.tree ≡ false
 IsRefusalOf command.Unparen envelope _ = ⊥

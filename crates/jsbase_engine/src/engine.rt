@@ -112,7 +112,7 @@ fn hygiene(alloc: Global, envelope: Envelope) -> Result<String, PassError>
         top_level_mark: top,
         ignore_eval,
     };
-    let renamed = hygiene_program(alloc, &config, tree)?;
+    let renamed = hygiene_program(alloc, &config, &globals, tree)?;
     let text = write_envelope(alloc, &globals, top, &renamed, unresolved)?;
     Ok(text)
 }

@@ -8,12 +8,12 @@ use Rattle.swc_base_rename.specs.declared.hygienic.Hygiene.{Hygiene}
 
 -- names are given and contexts are empty; the pass and the table of marks are as they were
 pub record MakesHygienic (pass : Hygiene) (old : Table) (before : Node) (kept : Hygiene) (new : Table) (after : Node) : Type 0 where
-  pub hygienic : IsHygienic pass.config.keep_class_names before after
+  pub hygienic : IsHygienic old pass.config before after
   pub same : kept ≡ pass
   pub marks : new ≡ old
 
 -- a program is refused for want of memory, and where the counters are spent; the pass and the table are as they were
 pub record RefusesHygiene (pass : Hygiene) (old : Table) (before : Node) (kept : Hygiene) (new : Table) (e : PassError) : Type 0 where
-  pub refusal : IsRenameRefusal hygiene_renaming before e
+  pub refusal : IsRenameRefusal old pass.config hygiene_renaming before e
   pub same : kept ≡ pass
   pub marks : new ≡ old

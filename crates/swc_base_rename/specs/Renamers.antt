@@ -5,7 +5,7 @@ use Rattle.swc_tree_marks.specs.Globals.{Table}
 use Rattle.swc_tree_node.specs.declared.node.Node.{Node}
 use Rattle.swc_tree_scoping.specs.BoundNames.{Id}
 use Rattle.swc_base_rename_analysis.specs.Named.{Renaming}
-use Rattle.swc_base_rename_program.specs.Renamed.{IsRenameRefusal, IsRenamed}
+use Rattle.swc_base_rename_program.specs.Renamed.{IsRenameRefusal, IsRenamedBy}
 use Rattle.swc_base_rename.specs.declared.renaming.RenamePass.{RenamePass}
 
 module _ {X : Type 0} (text : X → Id → ℕ → List ℕ) (preserved : X → Node → Id → Bool) (mangles resets : Bool) where
@@ -15,12 +15,12 @@ module _ {X : Type 0} (text : X → Id → ℕ → List ℕ) (preserved : X → 
 
   -- names are given as the renamer has them; the configuration and the table of marks are as they were
   pub record RenamesNames (pass : RenamePass X) (old : Table) (before : Node) (kept : RenamePass X) (new : Table) (after : Node) : Type 0 where
-    pub renamed : IsRenamed (renaming_in pass.renamer kept.renamer before) pass.config.keep_class_names before after
+    pub renamed : IsRenamedBy old pass.config (renaming_in pass.renamer kept.renamer before) before after
     pub same : kept.config ≡ pass.config
     pub marks : new ≡ old
 
   -- a program is refused for want of memory, and where the counters are spent; configuration and table are as they were
   pub record RefusesNames (pass : RenamePass X) (old : Table) (before : Node) (kept : RenamePass X) (new : Table) (e : PassError) : Type 0 where
-    pub refusal : IsRenameRefusal (renaming_in pass.renamer kept.renamer before) before e
+    pub refusal : IsRenameRefusal old pass.config (renaming_in pass.renamer kept.renamer before) before e
     pub same : kept.config ≡ pass.config
     pub marks : new ≡ old

@@ -11,7 +11,7 @@ pub fn hygiene() -> Hygiene
     hygiene_with_config(Config::default())
 }
 
-/// The same, going by a configuration. Until direct `eval` is looked for, `ignore_eval` counts as set.
+/// The same, going by a configuration.
 pub fn hygiene_with_config(config: Config) -> Hygiene
     ensures { result.config ≡ config }
 {

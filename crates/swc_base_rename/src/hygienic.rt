@@ -38,7 +38,9 @@ impl JsPass for Hygiene {
     ghost refuses_script = { λ pass old before kept new e. RefusesHygiene pass old (script_node before) kept new e };
 
     /// Gives each id that a program declares its own text, or where that is taken its text with the first number behind it
-    /// that makes it free, and then clears every context. The pass and the table of marks stay as they are.
+    /// that makes it free, and then clears every context. Where a direct `eval` or a `with` stands in the program, unless
+    /// `ignore_eval` is set, ids whose outer mark descends from the top mark keep their texts, but each outermost function or
+    /// class without one gets its names alone. The pass and the table of marks stay as they are.
     ///
     /// # Errors
     ///
@@ -57,7 +59,7 @@ impl JsPass for Hygiene {
     {
         let module = mem::replace(program, empty_module(alloc, program.span));
         let node = module.into_node(alloc)?;
-        let answer = hygiene_program(alloc, &self.config, node)?;
+        let answer = hygiene_program(alloc, &self.config, globals, node)?;
         *program = Module::from_node(answer);
         Ok(())
     }
@@ -80,7 +82,7 @@ impl JsPass for Hygiene {
     {
         let script = mem::replace(program, empty_script(alloc, program.span));
         let node = script.into_node(alloc)?;
-        let answer = hygiene_program(alloc, &self.config, node)?;
+        let answer = hygiene_program(alloc, &self.config, globals, node)?;
         *program = Script::from_node(answer);
         Ok(())
     }

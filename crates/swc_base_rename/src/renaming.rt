@@ -49,7 +49,8 @@ pub struct RenamePass<R> {
 }
 
 /// The pass that gives each id that a program declares the first text that the renamer has for it and that is free where
-/// the id stands. Until direct `eval` is looked for, `ignore_eval` counts as set.
+/// the id stands. Where a direct `eval` or a `with` stands in the program, unless `ignore_eval` is set, ids whose outer mark
+/// descends from the top mark keep their texts, but each outermost function or class without one is renamed alone.
 pub fn renamer<R: Renamer>(config: Config, renamer: R) -> RenamePass<R>
     ensures { result ≡ record { config = config; renamer = renamer } }
 {
@@ -90,7 +91,7 @@ impl<R: Renamer> JsPass for RenamePass<R> {
             renamer: &self.renamer,
         };
         let mode = mode_of::<R>();
-        let answer = rename_program(alloc, &texts, mode, &preserved, &self.config, node)?;
+        let answer = rename_program(alloc, &texts, mode, &preserved, &self.config, globals, node)?;
         *program = Module::from_node(answer);
         Ok(())
     }
@@ -118,7 +119,7 @@ impl<R: Renamer> JsPass for RenamePass<R> {
             renamer: &self.renamer,
         };
         let mode = mode_of::<R>();
-        let answer = rename_program(alloc, &texts, mode, &preserved, &self.config, node)?;
+        let answer = rename_program(alloc, &texts, mode, &preserved, &self.config, globals, node)?;
         *program = Script::from_node(answer);
         Ok(())
     }

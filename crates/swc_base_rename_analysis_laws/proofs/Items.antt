@@ -37,3 +37,8 @@ pub from_mapped : {X Y : Type 0} (f : X → Y) (xs : List X) (i : ℕ) (y : Y) �
 from_mapped f [] i y h = absurd (cc)
 from_mapped f (a ∷ xs) zero y h = (a, refl, some_same h)
 from_mapped f (a ∷ xs) (suc i) y h = from_mapped f xs i y h
+
+pub unmapped : {X Y : Type 0} (f : X → Y) (xs : List X) (i : ℕ) (y : Y) → slice_get (map f xs) i ≡ Some y → (x : X) × (slice_get xs i ≡ Some x) × (f x ≡ y)
+unmapped f [] i y h = absurd (cc)
+unmapped f (x ∷ xs) zero y h = (x, refl, some_same h)
+unmapped f (x ∷ xs) (suc i) y h = unmapped f xs i y h

@@ -1,5 +1,5 @@
--- What is read off a layout says of loose ids what the definition does: the texts are theirs.
-use Rattle.std.proofs.Common.{◌≡◌, ◌↔◌, ℕ, zero, suc, Bool, true, false, IsTrue, ◌&&◌, ◌||◌, Some, List, [], ◌∷◌, length, refl, sym, ap, ◌∙◌}
+-- What is read off a layout says of loose and of bound ids what the definitions do.
+use Rattle.std.proofs.Common.{◌≡◌, ◌↔◌, ℕ, zero, suc, Bool, true, false, IsTrue, ◌&&◌, ◌||◌, Some, List, [], ◌∷◌, length, refl, sym, ap, ◌∙◌, subst}
 use Rattle.std.specs.Prelude.{not}
 use Rattle.std.specs.List.{list_any, slice_get}
 use Rattle.std.specs.Str.{bytes_eq}
@@ -12,15 +12,16 @@ use Rattle.swc_tree_scoping.specs.Scopes.{is_binding}
 use Rattle.swc_tree_scoping.specs.BoundNames.{Id}
 use Rattle.swc_base_rename_analysis.specs.declared.analysis.Analysis.{Analysis}
 use Rattle.swc_base_rename_analysis.specs.Ids.{IsBound}
-use Rattle.swc_base_rename_analysis.specs.Numbers.{Known, id_met, known_by}
+use Rattle.swc_base_rename_analysis.specs.Numbers.{Known, id_met, known_by, known_of}
 use Rattle.swc_base_rename_analysis.specs.Preserved.{IsLoose}
 use Rattle.swc_base_rename_analysis.specs.Read.{IsRead, is_loose}
 use Rattle.swc_base_rename_analysis.specs.Walk.{Laid}
 use Rattle.swc_base_rename_analysis_laws.specs.Placed.{IsMetAs, IsMetAt, IsPlaced, Use, at_path}
-use Rattle.swc_base_rename_analysis_laws.proofs.Items.{some_same}
+use Rattle.swc_base_rename_analysis_laws.specs.Means.{IsToldBound}
+use Rattle.swc_base_rename_analysis_laws.proofs.Items.{some_same, unmapped}
 use Rattle.swc_base_rename_analysis_laws.proofs.Known.{all_known, entry_at, is_numbered, known_at, one_known}
 use Rattle.swc_base_rename_analysis_laws.proofs.OneKnown.{Binds, IsBoundIn, IsOutsideIn, SomeMet, StandsOutside, bound_told, id_stays, is_known, outside_told, was_met}
-use Rattle.swc_base_rename_analysis_laws.proofs.IdsRead.{binding_names, both_so, is_not, met_use, names_or_labels, not_so, of_that_id, so_both, stands_once, use_met}
+use Rattle.swc_base_rename_analysis_laws.proofs.IdsRead.{binding_names, both_so, entry_known, is_not, met_use, names_or_labels, not_so, of_that_id, so_both, stands_once, use_met}
 
 -- a list that has an item which is so
 any_at : {X : Type 0} (p : X → Bool) (xs : List X) → list_any p xs ≡ true → (i : ℕ) × (x : X) × (slice_get xs i ≡ Some x) × (p x ≡ true)
@@ -147,3 +148,22 @@ module _ (t : Node) (a : Analysis) (l : Laid) (scopes : List Path) (uses : List 
 
   pub loose_so : (text : List ℕ) → IsTrue (contains_text a.loose text) ↔ ((x : Id) × (x.0 ≡ text) × IsLoose t x)
   loose_so text = (text_from text, text_to text)
+
+  -- an id is told to be bound where it is
+  told_from : (x : Id) → IsToldBound a x → IsBound t x
+  told_from x (k, e, there, same, told) = bound_from t l scopes uses placed x (subst IsBoundIn (entry_known l a read k e there ∙ ap (one_known l.names (length l.names)) same) told)
+
+  told_to : (x : Id) → IsBound t x → IsToldBound a x
+  told_to x b =
+      let (p, r, stands, binds) = b in
+      let m = use_met t l scopes uses placed (at_path p) (placed.all_met p r x stands (names_or_labels r (binding_names r binds))) in
+      let met : IsMetAt t scopes l.regions p m.name = m.met in
+      let (_, of_id) = stands_once t p m.name.standing r (id_met m.name) x met.stands stands in
+      let (k, number) = is_numbered l.names (length l.names) m.position m.name (slice_get_within l.names m.position m.name m.name_there) m.name_there in
+      let (f, there, same) = entry_at (known_by l.names (length l.names)) (id_met m.name) k number in
+      let (e, entry, known) = unmapped known_of a.ids.items k f (ap (λ es. slice_get es k) read.ids ∙ there) in
+      let of_x : e.id ≡ x = ap (λ (f : Known). f.id) known ∙ same ∙ of_id in
+      (k, e, entry, of_x, subst IsBoundIn (sym (entry_known l a read k e entry ∙ ap (one_known l.names (length l.names)) of_x)) (bound_to t l scopes uses placed x b))
+
+  pub bound_so : (x : Id) → IsToldBound a x ↔ IsBound t x
+  bound_so x = (told_from x, told_to x)

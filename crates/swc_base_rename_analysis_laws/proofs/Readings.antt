@@ -9,7 +9,7 @@ use Rattle.swc_base_rename_analysis_laws.specs.Means.{Means}
 use Rattle.swc_base_rename_analysis_laws.specs.Placed.{Use}
 use Rattle.swc_base_rename_analysis_laws.proofs.Added.{uses_in}
 use Rattle.swc_base_rename_analysis_laws.proofs.IdsRead.{ids_apart, occurs_so}
-use Rattle.swc_base_rename_analysis_laws.proofs.LooseRead.{loose_so}
+use Rattle.swc_base_rename_analysis_laws.proofs.LooseRead.{bound_so, loose_so}
 use Rattle.swc_base_rename_analysis_laws.proofs.Marked.{marked_out}
 use Rattle.swc_base_rename_analysis_laws.proofs.Placings.{placed}
 use Rattle.swc_base_rename_analysis_laws.proofs.Scoped.{paths_of}
@@ -31,6 +31,7 @@ module _ (t : Node) (a : Analysis) (read : IsRead (laid_out t) a) where
     apart = ids_apart (laid_out t) a read;
     occurs = occurs_so t a (laid_out t) scopes uses (placed t) read;
     loose = loose_so t a (laid_out t) scopes uses (placed t) read;
+    bound = bound_so t a (laid_out t) scopes uses (placed t) read;
     round = round t a (laid_out t) scopes uses (placed t) read;
     in_preorder = in_preorder t a (laid_out t) scopes uses (placed t) read;
   }

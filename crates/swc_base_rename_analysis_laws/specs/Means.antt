@@ -10,6 +10,7 @@ use Rattle.swc_base_rename_analysis.specs.declared.analysis.Site.{Site as Number
 use Rattle.swc_base_rename_analysis.specs.declared.layout.Region.{Region}
 use Rattle.swc_base_rename_analysis.specs.declared.numbers.Entry.{Entry}
 use Rattle.swc_base_rename_analysis.specs.Analysis.{Declares, IsAtOrAbove, OccursIn}
+use Rattle.swc_base_rename_analysis.specs.Ids.{IsBound}
 use Rattle.swc_base_rename_analysis.specs.Order.{IsBefore}
 use Rattle.swc_base_rename_analysis.specs.Preserved.{IsLoose}
 use Rattle.swc_base_rename_analysis.specs.Read.{IsRead, Occurs}
@@ -25,6 +26,10 @@ pub record IsSiteOf (a : Analysis) (scopes places : List Path) (site : Numbered)
   pub place : slice_get places site.position ≡ Some p
   pub id : IsIdOf a site.id x
 
+-- what is read off tells that an identifier binds the id
+abbrev pub IsToldBound : Analysis → Id → Type 0
+IsToldBound a x = (k : ℕ) × (e : Entry) × (slice_get a.ids.items k ≡ Some e) × (e.id ≡ x) × IsTrue e.is_bound
+
 -- the second of two stretches lies in the first
 abbrev pub holds_stretch : Option Region → Option Region → Bool
 holds_stretch (Some r) (Some q) = nat_le r.start q.start && nat_le q.end r.end
@@ -34,8 +39,8 @@ holds_stretch _ _ = false
 abbrev pub surrounds : Analysis → ℕ → ℕ → Bool
 surrounds a m n = m == n || (nat_le m n && holds_stretch (slice_get a.regions.items m) (slice_get a.regions.items n))
 
--- the sites that are read off are those that declare, in the order in which ids get names; ids are by numbers; ids occur and
--- are loose as the definitions say; and numbers and stretches say which scopes are round one that declares
+-- the sites that are read off are those that declare, in the order in which ids get names; ids are by numbers; ids occur, are
+-- loose and are bound as the definitions say; and numbers and stretches say which scopes are round one that declares
 pub record Means (t : Node) (a : Analysis) (scopes places : List Path) : Type 0 where
   pub each_site : (i : ℕ) (site : Numbered) → slice_get a.sites.items i ≡ Some site → (s p : Path) × (x : Id) × IsSiteOf a scopes places site s p x × Declares t s p x
   pub all_sites : (s p : Path) (x : Id) → Declares t s p x → (i : ℕ) × (site : Numbered) × (slice_get a.sites.items i ≡ Some site) × IsSiteOf a scopes places site s p x
@@ -43,6 +48,7 @@ pub record Means (t : Node) (a : Analysis) (scopes places : List Path) : Type 0 
   pub apart : (j k : ℕ) (x : Id) → IsIdOf a j x → IsIdOf a k x → j ≡ k
   pub occurs : (n k : ℕ) (s : Path) (x : Id) → slice_get scopes n ≡ Some s → IsIdOf a k x → Occurs a n k ↔ OccursIn t s x
   pub loose : (text : List ℕ) → IsTrue (contains_text a.loose text) ↔ ((x : Id) × (x.0 ≡ text) × IsLoose t x)
+  pub bound : (x : Id) → IsToldBound a x ↔ IsBound t x
   pub round : (m j : ℕ) (other : Numbered) (s u : Path) → slice_get scopes m ≡ Some s → slice_get a.sites.items j ≡ Some other → slice_get scopes other.scope ≡ Some u → IsTrue (surrounds a m other.scope) ↔ IsAtOrAbove t s u
   pub in_preorder : (i j k : ℕ) (one between other : Numbered) → i ≤ j → j ≤ k → slice_get a.sites.items i ≡ Some one → slice_get a.sites.items j ≡ Some between → slice_get a.sites.items k ≡ Some other → IsTrue (surrounds a one.scope other.scope) → IsTrue (surrounds a one.scope between.scope)
 

@@ -1,5 +1,5 @@
 -- The names that ids get in order, by the numbers that are read off a tree, are those that the definitions give them.
-use Rattle.std.proofs.Common.{◌≡◌, ◌≢◌, ◌↔◌, ℕ, ◌<◌, ◌≤◌, inl, inr, Bool, true, false, IsTrue, ◌&&◌, nat_le, nat_lt, Option, Some, None, List, ◌∷◌, codes, length, map, get_or, take, refl, sym, ap, ◌∙◌, subst, arith}
+use Rattle.std.proofs.Common.{◌≡◌, ◌≢◌, ◌↔◌, ℕ, ◌<◌, ◌≤◌, Bool, true, false, IsTrue, ◌&&◌, nat_le, nat_lt, Option, Some, None, List, ◌∷◌, codes, length, map, get_or, take, refl, sym, ap, ◌∙◌, subst, arith}
 use Rattle.std.specs.Prelude.{if◌then◌else◌}
 use Rattle.std.specs.List.{list_any, slice_get}
 use Rattle.std.specs.Str.{bytes_eq}
@@ -18,12 +18,11 @@ use Rattle.swc_base_rename_analysis.specs.Between.{OneBetween}
 use Rattle.swc_base_rename_analysis.specs.Named.{IsFreeText, IsLeast, IsNamedAt, Named, Renaming, IsSpent as IsSpentAt}
 use Rattle.swc_base_rename_analysis.specs.Numbers.{known_of, number_in}
 use Rattle.swc_base_rename_analysis.specs.Order.{Site}
-use Rattle.swc_base_rename_analysis.specs.Preserved.{IsPreserved}
 use Rattle.swc_base_rename_analysis.specs.Read.{Occurs}
 use Rattle.swc_base_rename_analysis_laws.specs.Means.{IsIdOf, Means, surrounds}
 use Rattle.swc_base_rename_naming.specs.Counters.{greatest}
 use Rattle.swc_base_rename_naming.specs.InOrder.{AreChosen, IsSpent, NamedInOrder, Rules, is_named, is_taken, start}
-use Rattle.swc_base_rename_naming_laws.specs.Rules.{IsByIds, IsPreservedTest, counting, counting_by, numbered_sites, occurs_at, occurs_between, rules_of, stays_as, text_of}
+use Rattle.swc_base_rename_naming_laws.specs.Rules.{IsAmong, IsByIds, counting, counting_by, numbered_sites, occurs_at, occurs_between, rules_of, stays_as, text_of}
 use Rattle.swc_base_rename_naming_laws.proofs.Chosen.{NamedAt, choice_of, true_is_false}
 use Rattle.swc_base_rename_naming_laws.proofs.Counted.{choice_named, name_is}
 use Rattle.swc_base_rename_naming_laws.proofs.Least.{agree_by, each_least, free_from, start_to, taken_by}
@@ -76,29 +75,20 @@ changes_from r o x (e, at, is) (changes, other) =
     (false_from_ne_true (r.preserves e.id) (λ p. changes (ap r.preserves (sym is) ∙ p)))
     (false_from_ne_true (bytes_eq e.id.0 (codes "eval")) (λ p. other (sym (ap (λ x. x.0) is) ∙ (bytes_eq-Decides e.id.0 (codes "eval")).0 p)))
 
-module _ (t : Node) (r : Renaming) (a : Analysis) (scopes places : List Path) (means : Means t a scopes places) (preserved : List ℕ → Bool) (test : IsPreservedTest r a preserved) where
-  preserved_to : (text : List ℕ) → preserved text ≡ true → IsPreserved t r.preserves text
-  preserved_to text h = elim ((test text).0 h) [
-    | inl loose ↦ (let (x, is, l) = (means.loose text).0 loose in (x, is, inl l))
-    | inr kept ↦ (let (x, is, k) = kept in (x, is, inr k))
-  ]
-
-  preserved_from : (text : List ℕ) → IsPreserved t r.preserves text → preserved text ≡ true
-  preserved_from text (x, is, why) = elim why [
-    | inl loose ↦ (test text).1 (inl ((means.loose text).1 (x, is, loose)))
-    | inr kept ↦ (test text).1 (inr (x, is, kept))
-  ]
+module _ (t : Node) (r : Renaming) (a : Analysis) (scopes places : List Path) (means : Means t a scopes places) (preserved : List ℕ → Bool) where
+  abbrev Preserved : List ℕ → Type 0
+  Preserved = IsAmong preserved
 
   counted_by : (b : Bool) (m n : ℕ) (s u : Path) → (IsTrue (surrounds a m n) ↔ IsAtOrAbove t s u) → ((if b then surrounds a m n else true) ≡ true) ↔ counting_by b t s u
   counted_by true m n s u h = h
   counted_by false m n s u h = ((λ _. tt), (λ _. refl))
 
-  rules_fit : Fits t r a scopes (IsPreserved t r.preserves) (counting t r) (rules_of r a preserved)
+  rules_fit : Fits t r a scopes Preserved (counting t r) (rules_of r a preserved)
   rules_fit = record {
     text = λ k x m is. (let (e, at, same) = is in ap (λ o. text_of r o m) at ∙ ap (λ x. r.text x m) same);
     goes_on = refl;
     changes = λ k x is. (changes_to r (slice_get a.ids.items k) x is, changes_from r (slice_get a.ids.items k) x is);
-    preserved_text = λ text. (preserved_to text, preserved_from text);
+    preserved_text = λ text. ((λ h. h), (λ h. h));
     occurs = λ m k s x at is. (
       (λ h. (means.occurs m k s x at is).0 (occurs_to a m k h)),
       (λ h. occurs_from a m k ((means.occurs m k s x at is).1 h)),
@@ -113,11 +103,11 @@ module _ (t : Node) (r : Renaming) (a : Analysis) (scopes places : List Path) (m
     whole : AreChosen Wanted (take (length (numbered_sites a)) (numbered_sites a)) named.choices
     whole = subst (λ l. AreChosen Wanted l named.choices) (sym (whole_taken (numbered_sites a))) named.chosen
 
-    each_named : (b : Site) (x : Id) → IsNamedAt t r b x → IsLeast t r (IsPreserved t r.preserves) (counting t r) (taken_by a named.choices) b x × (new_texts x ≡ Some (r.text x (taken_by a named.choices x)))
+    each_named : (b : Site) (x : Id) → IsNamedAt t r b x → IsLeast t r Preserved (counting t r) (taken_by a named.choices) b x × (new_texts x ≡ Some (r.text x (taken_by a named.choices x)))
     each_named b x h =
         let (j, one, at) = index_of t a scopes places means b x h.declared in
         let l = within (numbered_sites a) j (numbers_of t a scopes places means one) (there t a scopes places means j one at.found) in
-        let (c, is, same, least, took) = each_least t r a scopes places means (IsPreserved t r.preserves) (counting t r) Wanted rules_fit (length (numbered_sites a)) j one b x named.choices whole l at h in
+        let (c, is, same, least, took) = each_least t r a scopes places means Preserved (counting t r) Wanted rules_fit (length (numbered_sites a)) j one b x named.choices whole l at h in
         let id : IsIdOf a c.0.1 x = renumbered a one.id c.0.1 x (ap (λ z. z.1) (sym same)) at.is.id in (
           least,
           by_ids.each c.0.1 x id ∙ named.names c.0.1 ∙ name_is Wanted (numbered_sites a) named.choices j c is ∙ ap Some (rules_fit.text c.0.1 x c.1 id ∙ ap (r.text x) (sym took)),
@@ -130,7 +120,7 @@ module _ (t : Node) (r : Renaming) (a : Analysis) (scopes places : List Path) (m
         let (one, b, y, stands, d, e) = declared_at t a scopes places means j c.0 is.named.stands in
         let number : one.id ≡ k = ap (λ z. z.1) e ∙ same in
         let one_id : y ≡ x = one_of a k y x (renumbered a one.id k y number stands.is.id) id in
-        (b, subst (IsNamedAt t r b) one_id (named_from t a scopes places means r (IsPreserved t r.preserves) (counting t r) Wanted rules_fit j one b y stands d (subst (NamedAt Wanted (numbered_sites a) j) (sym e) is.named)))
+        (b, subst (IsNamedAt t r b) one_id (named_from t a scopes places means r Preserved (counting t r) Wanted rules_fit j one b y stands d (subst (NamedAt Wanted (numbered_sites a) j) (sym e) is.named)))
 
     no_other : (x : Id) (text : List ℕ) → new_texts x ≡ Some text → (b : Site) × IsNamedAt t r b x
     no_other x text h = by (number_in (map known_of a.ids.items) x) refl
@@ -139,7 +129,7 @@ module _ (t : Node) (r : Renaming) (a : Analysis) (scopes places : List Path) (m
         by None e = none_is_some (sym (by_ids.no_other x (λ k is. (let (f, at, same) = is in none_numbered a.ids.items x k f e at same))) ∙ h)
         by (Some k) e = one_named x text k (number_found a.ids.items x k e) h
 
-    is_named_by : Named t r (IsPreserved t r.preserves) (counting t r) new_texts
+    is_named_by : Named t r Preserved (counting t r) new_texts
     is_named_by = record { taken = taken_by a named.choices; each = each_named; no_other = no_other }
 
   module _ (spent : IsSpent (rules_of r a preserved) (numbered_sites a)) where
@@ -162,33 +152,33 @@ module _ (t : Node) (r : Renaming) (a : Analysis) (scopes places : List Path) (m
     taken_all one e m from below =
         subst (λ z. start Wanted spent.choices z.0 ≤ m → is_taken Wanted spent.choices z.0 (Wanted.text z.1 m) ≡ true) (sym e) (λ starts. spent.none_free m starts below) from
 
-    is_spent_at : (one : Numbered) (b : Site) (x : Id) → IsAt t a scopes places means Index one b x → Declares t b.0 b.1 x → numbers_of t a scopes places means one ≡ spent.site → IsSpentAt t r (IsPreserved t r.preserves) (counting t r) greatest
-    is_spent_at one b x at d e = let agree = agree_by t r a scopes places means (IsPreserved t r.preserves) (counting t r) Wanted rules_fit Index spent.choices chosen in record {
+    is_spent_at : (one : Numbered) (b : Site) (x : Id) → IsAt t a scopes places means Index one b x → Declares t b.0 b.1 x → numbers_of t a scopes places means one ≡ spent.site → IsSpentAt t r Preserved (counting t r) greatest
+    is_spent_at one b x at d e = let agree = agree_by t r a scopes places means Preserved (counting t r) Wanted rules_fit Index spent.choices chosen in record {
       taken = taken_by a spent.choices;
       site = b;
       id = x;
-      named = named_from t a scopes places means r (IsPreserved t r.preserves) (counting t r) Wanted rules_fit Index one b x at d (subst (NamedAt Wanted (numbered_sites a) Index) (sym e) named_spent);
+      named = named_from t a scopes places means r Preserved (counting t r) Wanted rules_fit Index one b x at d (subst (NamedAt Wanted (numbered_sites a) Index) (sym e) named_spent);
       earlier = λ c y h.
           let (j, other, g) = index_of t a scopes places means c y h.named.declared in
           let l = index_before t a scopes places means j Index other one c b y x g at h.before in
-          let (z, is, same, least, took) = each_least t r a scopes places means (IsPreserved t r.preserves) (counting t r) Wanted rules_fit Index j other c y spent.choices chosen l g h.named in
+          let (z, is, same, least, took) = each_least t r a scopes places means Preserved (counting t r) Wanted rules_fit Index j other c y spent.choices chosen l g h.named in
           least;
       none_free = λ m below from free.
-          let starts = start_to t r a scopes places means (IsPreserved t r.preserves) (counting t r) Wanted rules_fit Index one b x at spent.choices chosen (taken_by a spent.choices) agree m from in
-          let is_free = free_from t r a scopes places means (IsPreserved t r.preserves) (counting t r) Wanted rules_fit Index one b x at spent.choices chosen (taken_by a spent.choices) agree (Wanted.text one.id m)
-          (subst (IsFreeText t r (IsPreserved t r.preserves) (counting t r) (taken_by a spent.choices) b) (sym (rules_fit.text one.id x m at.is.id)) free) in
+          let starts = start_to t r a scopes places means Preserved (counting t r) Wanted rules_fit Index one b x at spent.choices chosen (taken_by a spent.choices) agree m from in
+          let is_free = free_from t r a scopes places means Preserved (counting t r) Wanted rules_fit Index one b x at spent.choices chosen (taken_by a spent.choices) agree (Wanted.text one.id m)
+          (subst (IsFreeText t r Preserved (counting t r) (taken_by a spent.choices) b) (sym (rules_fit.text one.id x m at.is.id)) free) in
           true_is_false (sym (taken_all one e m starts below) ∙ is_free);
     }
 
-    is_spent_by : IsSpentAt t r (IsPreserved t r.preserves) (counting t r) greatest
+    is_spent_by : IsSpentAt t r Preserved (counting t r) greatest
     is_spent_by = let (one, b, x, at, d, e) = declared_at t a scopes places means Index spent.site spent_there in is_spent_at one b x at d e
 
 -- the map that names by numbers have is that of the definitions
-pub names_in_order_are_named : (t : Node) (r : Renaming) (a : Analysis) (scopes places : List Path) → Means t a scopes places → (preserved : List ℕ → Bool) → IsPreservedTest r a preserved
-    → (texts : ℕ → Option (List ℕ)) → NamedInOrder (rules_of r a preserved) (numbered_sites a) texts → (new_texts : Id → Option (List ℕ)) → IsByIds a texts new_texts → Named t r (IsPreserved t r.preserves) (counting t r) new_texts
-names_in_order_are_named t r a scopes places means preserved test texts named new_texts by_ids = is_named_by t r a scopes places means preserved test texts named new_texts by_ids
+pub names_in_order_are_named : (t : Node) (r : Renaming) (a : Analysis) (scopes places : List Path) → Means t a scopes places → (preserved : List ℕ → Bool)
+    → (texts : ℕ → Option (List ℕ)) → NamedInOrder (rules_of r a preserved) (numbered_sites a) texts → (new_texts : Id → Option (List ℕ)) → IsByIds a texts new_texts → Named t r (IsAmong preserved) (counting t r) new_texts
+names_in_order_are_named t r a scopes places means preserved texts named new_texts by_ids = is_named_by t r a scopes places means preserved texts named new_texts by_ids
 
 -- where the counters are spent by numbers, they are by the definitions
-pub spent_in_order_is_spent : (t : Node) (r : Renaming) (a : Analysis) (scopes places : List Path) → Means t a scopes places → (preserved : List ℕ → Bool) → IsPreservedTest r a preserved
-    → IsSpent (rules_of r a preserved) (numbered_sites a) → IsSpentAt t r (IsPreserved t r.preserves) (counting t r) greatest
-spent_in_order_is_spent t r a scopes places means preserved test spent = is_spent_by t r a scopes places means preserved test spent
+pub spent_in_order_is_spent : (t : Node) (r : Renaming) (a : Analysis) (scopes places : List Path) → Means t a scopes places → (preserved : List ℕ → Bool)
+    → IsSpent (rules_of r a preserved) (numbered_sites a) → IsSpentAt t r (IsAmong preserved) (counting t r) greatest
+spent_in_order_is_spent t r a scopes places means preserved spent = is_spent_by t r a scopes places means preserved spent

@@ -1,7 +1,6 @@
 -- The rules by which the ids of a tree get their names, as they follow from what is read off the tree.
-use Rattle.std.specs.Prelude.{◌≡◌, ◌↔◌, ℕ, Bool, true, false, IsTrue, ◌&&◌, ◌⊎◌, nat_le, nat_lt, Option, Some, None, option_map, List, map, if◌then◌else◌}
+use Rattle.std.specs.Prelude.{◌≡◌, ℕ, Bool, true, false, IsTrue, ◌&&◌, nat_le, nat_lt, Option, Some, None, option_map, List, map, if◌then◌else◌}
 use Rattle.std.specs.List.{list_any, slice_get}
-use Rattle.std.specs.BTreeSet.{contains_text}
 use Rattle.swc_tree_node.specs.declared.node.Node.{Node}
 use Rattle.swc_tree_scoping.specs.BoundNames.{Id}
 use Rattle.swc_base_rename_analysis.specs.declared.analysis.Analysis.{Analysis}
@@ -50,9 +49,9 @@ rules_of r a preserved = record {
 abbrev pub numbered_sites : Analysis → List Site
 numbered_sites a = map (λ s. (s.scope, s.id)) a.sites.items
 
--- the texts that nobody may get: those of loose ids, and those of ids that the renamer preserves
-abbrev pub IsPreservedTest : Renaming → Analysis → (List ℕ → Bool) → Type 0
-IsPreservedTest r a preserved = (text : List ℕ) → IsTrue (preserved text) ↔ (IsTrue (contains_text a.loose text) ⊎ ((x : Id) × (x.0 ≡ text) × IsTrue (r.preserves x)))
+-- no new name may be the text
+abbrev pub IsAmong : (List ℕ → Bool) → List ℕ → Type 0
+IsAmong preserved text = IsTrue (preserved text)
 
 -- whose names count by the paths: those of a scope round it or of itself, where scopes beside one another may share texts,
 -- else all

@@ -1,5 +1,9 @@
+pub mod Alike
 pub mod Costs
+pub mod Descends
 pub mod Fitting
+pub mod Given
+pub mod LeftTexts
 pub mod Maps
 pub mod Ruled
 pub mod Beside

@@ -1,32 +1,23 @@
 -- Sets and maps of ids.
-use Rattle.std.proofs.Common.{◌≡◌, ℕ, ◌≤◌, Bool, true, false, IsTrue, ◌&&◌, ◌||◌, ◌⊎◌, nat_eq, inl, inr, Option, Some, None, option_map, List, [], length, cond, refl, sym, ap, ◌∙◌, subst, arith}
-use Rattle.std.specs.List.{list_any, slice_get}
-use Rattle.std.specs.Str.{bytes_eq}
-use Rattle.std.specs.Prelude.{String}
-use Rattle.std.specs.BTreeSet.{BTreeSet, contains_text}
+use Rattle.std.proofs.Common.{◌≡◌, ℕ, ◌≤◌, Bool, true, false, ◌&&◌, nat_eq, Option, Some, None, option_map, List, [], length, cond, refl, sym, ap, ◌∙◌, subst, arith}
+use Rattle.std.specs.List.{slice_get}
 use Rattle.std.specs.Cmp.{IsEquivalence}
 use Rattle.std.specs.BTreeMap.{BTreeMap}
-use Rattle.std.specs.HashSet.{HashSet, contains, keys}
-use Rattle.std.proofs.lemmas.Bool.{and_from, or_cases, false_from_ne_true}
+use Rattle.std.proofs.lemmas.Bool.{and_from, false_from_ne_true}
 use Rattle.std.proofs.lemmas.Cmp.{nat_list_eq_equiv}
 use Rattle.std.specs.Cmp.Lexicographic.{pointwise}
-use Rattle.std.proofs.lemmas.Map.Views.{hash_set_contains_iff}
 use Rattle.std.proofs.lemmas.Option.{slice_get_within}
-use Rattle.std.proofs.lemmas.Slice.Eq.{bytes_eq-Decides}
 use Rattle.swc_tree_scoping.specs.BoundNames.{Id}
 use Rattle.swc_base_rename_analysis.specs.declared.analysis.Analysis.{Analysis}
 use Rattle.swc_base_rename_naming.specs.ByIds.{AreChanged, AreTexts, if_other, text_below}
 use Rattle.swc_base_rename_naming.proofs.ByIds.{none_has, some_has}
-use Rattle.swc_base_rename_naming_laws.proofs.Lists.{any_contained, any_in}
-use Rattle.swc_base_rename_naming_laws.proofs.Surrounds.{is_either, numbered_at, one_id}
-use Rattle.swc_base_rename_naming_laws.specs.Rules.{IsByIds, IsPreservedTest, id_in}
+use Rattle.swc_base_rename_naming_laws.proofs.Surrounds.{numbered_at, one_id}
+use Rattle.swc_base_rename_naming_laws.specs.Rules.{IsByIds, id_in}
 use Rattle.swc_base_rename_substitution.specs.Names.{by_order, if_other_text, same_id}
 use Rattle.swc_base_rename_substitution.specs.Substituted.{Substituted}
 use Rattle.swc_tree_node.specs.declared.node.Node.{Node}
-use Rattle.swc_base_rename_program.specs.Asked.{is_preserved_text}
 use Rattle.swc_base_rename_program.specs.NewTexts.{IsTableOf}
-use Rattle.swc_base_rename_program.specs.Renamed.{IsGiven, renaming}
-use Rattle.swc_base_rename_program.specs.declared.mode.Mode.{Mode}
+use Rattle.swc_base_rename_program.specs.Renamed.{IsGiven}
 
 itself : (x : Id) → same_id x x ≡ true
 itself x = and_from (pointwise nat_eq x.0 x.0) (pointwise nat_eq x.1 x.1) (nat_list_eq_equiv.refl x.0) (nat_list_eq_equiv.refl x.1)
@@ -37,28 +28,6 @@ ids_equivalent = record {
   symm = λ x y j. nat_list_eq_equiv.symm x.0 y.0 j && nat_list_eq_equiv.symm x.1 y.1 j;
   congr = λ x y z h. ap (λ w. same_id w z) (one_id x y h);
 }
-
--- the texts that no new name may be, where those of the ids that keep theirs are given
-pub preserved_test : {S Z : Type 0} (text : Id → ℕ → List ℕ) (mode : Mode) (a : Analysis) (ids : HashSet Id S) (texts : BTreeSet (String Z))
-    → ((x : List ℕ) → contains_text texts x ≡ list_any (λ id. bytes_eq id.0 x) (keys ids))
-    → IsPreservedTest (renaming text mode (contains same_id ids)) a (is_preserved_text a texts)
-preserved_test text mode a ids texts has x = (to, from)
-  where
-    to : (contains_text a.loose x || contains_text texts x) ≡ true → (IsTrue (contains_text a.loose x) ⊎ ((y : Id) × (y.0 ≡ x) × IsTrue (contains same_id ids y)))
-    to h = elim (or_cases (contains_text a.loose x) (contains_text texts x) h) [
-      | inl e ↦ inl e
-      | inr e ↦
-          let (y, at, held) = any_contained (λ id. bytes_eq id.0 x) (keys ids) (sym (has x) ∙ e) in
-          inr (y, (bytes_eq-Decides y.0 x).0 held, (hash_set_contains_iff ids_equivalent one_id ids y).1 at)
-    ]
-
-    from : (IsTrue (contains_text a.loose x) ⊎ ((y : Id) × (y.0 ≡ x) × IsTrue (contains same_id ids y))) → (contains_text a.loose x || contains_text texts x) ≡ true
-    from h = elim h [
-      | inl e ↦ ap (λ b. b || contains_text texts x) e
-      | inr k ↦
-          let (y, is, p) = k in
-          is_either (contains_text a.loose x) (contains_text texts x) (inr (has x ∙ any_in (λ id. bytes_eq id.0 x) (keys ids) y ((hash_set_contains_iff ids_equivalent one_id ids y).0 p) ((bytes_eq-Decides y.0 x).1 is)))
-    ]
 
 -- the texts of ids, where they were by number
 pub texts_are_by_ids : (a : Analysis) (count : ℕ) (texts : ℕ → Option (List ℕ)) (new_texts : Id → Option (List ℕ)) → length a.ids.items ≤ count → AreTexts (id_in a) count texts new_texts

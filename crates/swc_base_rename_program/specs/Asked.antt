@@ -1,13 +1,16 @@
 -- What naming asks of a program, by what was read off it.
-use Rattle.std.specs.Prelude.{ℕ, Bool, ◌||◌, List}
+use Rattle.std.specs.Prelude.{ℕ, ◌≤◌, Bool, ◌||◌, Option, List, length}
+use Rattle.std.specs.BTreeMap.{BTreeMap}
 use Rattle.std.specs.BTreeSet.{BTreeSet, contains_text}
-use Rattle.std.specs.HashSet.{HashSet, contains}
 use Rattle.std.specs.Prelude.{String}
 use Rattle.swc_tree_scoping.specs.BoundNames.{Id}
 use Rattle.swc_base_rename_analysis.specs.declared.analysis.Analysis.{Analysis}
-use Rattle.swc_base_rename_naming.specs.InOrder.{Rules}
-use Rattle.swc_base_rename_naming_laws.specs.Rules.{rules_of}
-use Rattle.swc_base_rename_substitution.specs.Names.{same_id}
+use Rattle.swc_base_rename_analysis.specs.Read.{PositionsRise}
+use Rattle.swc_base_rename_analysis_laws.specs.Means.{surrounds}
+use Rattle.swc_base_rename_naming.specs.ByIds.{AreApart, AreChanged}
+use Rattle.swc_base_rename_naming.specs.Inside.{IsInPreorder}
+use Rattle.swc_base_rename_naming.specs.InOrder.{NamedInOrder, Rules}
+use Rattle.swc_base_rename_naming_laws.specs.Rules.{id_in, numbered_sites, rules_of}
 use Rattle.swc_base_rename_program.specs.declared.mode.Mode.{Mode}
 use Rattle.swc_base_rename_program.specs.Renamed.{renaming}
 
@@ -16,5 +19,19 @@ abbrev pub is_preserved_text : {S : Type 0} → Analysis → BTreeSet (String S)
 is_preserved_text a texts x = contains_text a.loose x || contains_text texts x
 
 -- the rules by which the ids of a program get their names
-abbrev pub program_rules : {S Z : Type 0} → (Id → ℕ → List ℕ) → Mode → Analysis → HashSet Id S → BTreeSet (String Z) → Rules
-program_rules text mode a preserved texts = rules_of (renaming text mode (contains same_id preserved)) a (is_preserved_text a texts)
+abbrev pub program_rules : {S : Type 0} → (Id → ℕ → List ℕ) → Mode → Analysis → (Id → Bool) → BTreeSet (String S) → Rules
+program_rules text mode a keeps texts = rules_of (renaming text mode keeps) a (is_preserved_text a texts)
+
+-- what was read off a tree is such that names can be given by it
+pub record IsWellRead (a : Analysis) : Type 0 where
+  pub in_preorder : IsInPreorder (surrounds a) (numbered_sites a)
+  pub apart : AreApart (id_in a)
+  pub rising : PositionsRise a
+
+-- the table is of the texts that the rules give to the ids by their numbers
+pub record AreNamedTexts (rules : Rules) (a : Analysis) (table : Option (BTreeMap Id (List ℕ))) : Type 0 where
+  pub texts : ℕ → Option (List ℕ)
+  pub named : NamedInOrder rules (numbered_sites a) texts
+  pub count : ℕ
+  pub enough : length a.ids.items ≤ count
+  pub is_table : AreChanged (id_in a) count texts table

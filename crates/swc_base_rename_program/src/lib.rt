@@ -6,13 +6,17 @@
 //! definitions.
 #![tactic(auto)]
 
+mod alone;
 mod cost;
+mod kept;
+mod left;
 mod mode;
 mod named;
 mod program;
 mod rename;
 mod spans;
 mod surrounding;
+mod top_mark;
 
 pub use cost::{costs_are_those_of_the_definitions, rename_cost};
 pub use mode::Mode;

@@ -1,28 +1,28 @@
 //! A program, as naming asks of it.
 ghost use Rattle.std.specs.Prelude.{◌≡◌, ◌||◌};
 ghost use Rattle.std.specs.BTreeSet.{contains_text};
-ghost use Rattle.std.specs.HashSet.{contains};
 ghost use Rattle.swc_base_rename_analysis.specs.Read.{PositionsRise};
 ghost use Rattle.swc_base_rename_analysis_laws.specs.Means.{surrounds as is_surrounding};
 ghost use Rattle.swc_base_rename_naming_laws.proofs.Surrounds.{surrounds_own, surrounds_same, surrounds_through};
 ghost use Rattle.swc_base_rename_naming_laws.specs.Rules.{id_in, occurs_at};
-ghost use Rattle.swc_base_rename_substitution.specs.Names.{same_id};
+ghost use Rattle.swc_base_rename_program.specs.Kept.{is_kept};
 ghost use Rattle.swc_base_rename_program.specs.Asked.{is_preserved_text};
 ghost use Rattle.swc_base_rename_program.specs.Spans.{spans as spans_in};
 
+use crate::kept::Kept;
 use crate::spans::{Span, is_apart};
 use crate::surrounding::surrounds;
-use std::collections::{BTreeSet, HashSet};
+use std::collections::BTreeSet;
 use swc_base_rename_analysis::Analysis;
 use swc_base_rename_naming::{Asked, Nesting};
 use swc_tree_marks::Id;
 
-/// What was read off a program, the ids that keep their texts, and the texts of these.
+/// What was read off a program, the ids that keep their texts, and texts that no name may be beside those of loose ids.
 #[derive(Clone, Copy)]
 pub struct Program<'a> {
     pub analysis: &'a Analysis,
-    pub preserved: &'a HashSet<Id>,
-    pub preserved_texts: &'a BTreeSet<String>,
+    pub kept: &'a Kept<'a>,
+    pub left: &'a BTreeSet<String>,
     /// The first and the last position of each id.
     pub spans: &'a [Span],
     ghost spanned: { spans.now ≡ spans_in analysis.now.ids.items },
@@ -34,9 +34,9 @@ impl Asked for Program<'_> {
 
     ghost occurs = { λ p s k. occurs_at p.analysis.now s k };
 
-    ghost keeps = { λ p x. contains same_id p.preserved.now x };
+    ghost keeps = { λ p x. is_kept p.kept.now x };
 
-    ghost preserved = { λ p text. is_preserved_text p.analysis.now p.preserved_texts.now text };
+    ghost preserved = { λ p text. is_preserved_text p.analysis.now p.left.now text };
 
     fn id(&self, number: usize) -> Option<&Id> {
         match self.analysis.ids.get(number) {
@@ -54,11 +54,11 @@ impl Asked for Program<'_> {
     }
 
     fn keeps(&self, id: &Id) -> bool {
-        self.preserved.contains(id)
+        self.kept.keeps(id)
     }
 
     fn is_preserved(&self, text: &str) -> bool {
-        self.analysis.loose.contains(text) || self.preserved_texts.contains(text)
+        self.analysis.loose.contains(text) || self.left.contains(text)
     }
 }
 

@@ -33,7 +33,8 @@ pub enum Pass {
     Rename(HashMap<Id, JsWord>, Config),
     Remap(HashMap<Id, Id>, Config),
     Renamer(Renaming, Config),
-    Hygiene(Config),
+    Hygiene,
+    HygieneWith(Config),
 }
 
 // The resolver of a program's marks, where they are known and neither is the root.
@@ -49,7 +50,9 @@ fn resolver_of(given: &Given) -> Option<Resolver> {
 fn config_of(given: &Given) -> Config {
     Config {
         keep_class_names: given.keep_class_names,
-        ..Config::default()
+        safari_10: false,
+        top_level_mark: given.top,
+        ignore_eval: given.ignore_eval,
     }
 }
 
@@ -94,7 +97,8 @@ impl Pass {
             },
             "unparen" => Ok(Pass::Unparen),
             "fix" => Ok(Pass::Fix),
-            "hygiene" => Ok(Pass::Hygiene(config_of(given))),
+            "hygiene" => Ok(Pass::Hygiene),
+            "hygiene_with_config" => Ok(Pass::HygieneWith(config_of(given))),
             "rename" => {
                 let texts = text_each(alloc, given.program.items())?;
                 Ok(Pass::Rename(texts, config_of(given)))
@@ -131,8 +135,8 @@ impl Pass {
         }
     }
 
-    /// Runs the pass on programs, one after the other. The configuration of a renaming pass counts only where it says more
-    /// than the default.
+    /// Runs the pass on programs, one after the other. The configuration of `rename` counts only where it says more than the
+    /// default.
     pub fn visit(&mut self, alloc: Global, programs: &mut [Given]) -> Result<(), PassError> {
         match self {
             Pass::Resolve(resolver) => visit_each(resolver, alloc, programs),
@@ -148,10 +152,10 @@ impl Pass {
             Pass::Rename(texts, _) => visit_each(&mut rename(texts), alloc, programs),
             Pass::Remap(ids, config) => visit_each(&mut remap(ids, *config), alloc, programs),
             Pass::Renamer(renaming, config) => renaming.visit(*config, alloc, programs),
-            Pass::Hygiene(config) if config.keep_class_names => {
+            Pass::Hygiene => visit_each(&mut hygiene(), alloc, programs),
+            Pass::HygieneWith(config) => {
                 visit_each(&mut hygiene_with_config(*config), alloc, programs)
             }
-            Pass::Hygiene(_) => visit_each(&mut hygiene(), alloc, programs),
         }
     }
 

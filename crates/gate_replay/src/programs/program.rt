@@ -25,6 +25,7 @@ pub struct Given {
     pub top: Mark,
     pub unresolved: Mark,
     pub keep_class_names: bool,
+    pub ignore_eval: bool,
     pub program: Program,
 }
 
@@ -41,6 +42,7 @@ pub fn read(alloc: Global, class: Class, line: &str) -> Result<Given> {
         top: envelope.top,
         unresolved: envelope.unresolved,
         keep_class_names: envelope.keep_class_names,
+        ignore_eval: envelope.ignore_eval,
         program,
     })
 }

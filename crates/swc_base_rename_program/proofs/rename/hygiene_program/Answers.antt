@@ -6,7 +6,7 @@ use Rattle.swc_tree_scoping.specs.BoundNames.{Id}
 use Rattle.swc_base_rename_analysis.specs.Named.{Renaming}
 use Rattle.swc_base_rename_naming.specs.Texts.{numbered}
 use Rattle.swc_base_rename_substitution.specs.Names.{same_id}
-use Rattle.swc_base_rename_program.specs.Renamed.{IsRenameRefusal, IsRenamed, hygiene_renaming, renaming}
+use Rattle.swc_base_rename_program.specs.Renamed.{IsRenameRefusal, IsRenamedBy, hygiene_renaming, renaming}
 use Rattle.swc_base_rename_program.proofs.Fitting.{by_texts_fits}
 use Rattle.swc_base_rename_program.proofs.rename.hygiene_program.Goals as goal
 
@@ -25,13 +25,13 @@ pub returns-in_err-tree-clause-refused : goal.returns-in_err-tree-clause-refused
 unfolding by_test
 returns-in_err-tree-clause-refused c =
     let refused = err_from_is_err_and c.from_residual.result c.from_residual.ensures.1 in
-    rw (refused.1, refused.2) (subst (λ r. IsRenameRefusal r c.args.tree c.in_err-tree.field-0.0) (none_preserved (contains same_id c.new-preserved.result) (empty_set c.new-preserved.result c.new-preserved.ensures.empty)) c.in_err-tree.ensures.refused)
+    rw (refused.1, refused.2) (subst (λ r. IsRenameRefusal c.args.globals.now c.args.config.now r c.args.tree c.in_err-tree.field-0.0) (none_preserved (contains same_id c.new-preserved.result) (empty_set c.new-preserved.result c.new-preserved.ensures.empty)) c.in_err-tree.ensures.refused)
 
 pub returns-clause-hygienic : goal.returns-clause-hygienic
 unfolding by_test
 returns-clause-hygienic c = (
   c.in_ok-tree.tree,
-  subst (λ r. IsRenamed r c.args.config.now.keep_class_names c.args.tree c.in_ok-tree.tree) (none_preserved (contains same_id c.new-preserved.result) (empty_set c.new-preserved.result c.new-preserved.ensures.empty)) c.in_ok-tree.ensures.renamed,
+  subst (λ r. IsRenamedBy c.args.globals.now c.args.config.now r c.args.tree c.in_ok-tree.tree) (none_preserved (contains same_id c.new-preserved.result) (empty_set c.new-preserved.result c.new-preserved.ensures.empty)) c.in_ok-tree.ensures.renamed,
   c.clear_contexts.ensures,
 )
 

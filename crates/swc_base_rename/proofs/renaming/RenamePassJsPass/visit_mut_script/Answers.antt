@@ -13,7 +13,7 @@ returns-in_err-answer-clause-cause g c =
     let refused = err_from_is_err_and c.from_residual-in_err-answer.result c.from_residual-in_err-answer.ensures.1 in
     rw (refused.1, refused.2) (record {
       refusal = refused_by (g.R.Renamer.text c.preserved_ids_for_script.new.self) c.mode_of-mode.result (record { mangles = g.R.Renamer.MANGLE; resets = g.R.Renamer.RESET_N }) c.in_ok-preserved.preserved
-          (g.R.Renamer.preserved c.args.self.now.renamer t) c.mode_of-mode.ensures just c.in_ok-node.node t c.in_err-answer.field-0.0 before c.in_err-answer.ensures.refused;
+          (g.R.Renamer.preserved c.args.self.now.renamer t) c.mode_of-mode.ensures just c.args.globals.now c.args.self.now.config c.in_ok-node.node t c.in_err-answer.field-0.0 before c.in_err-answer.ensures.refused;
       same = refl;
       marks = refl;
     })
@@ -25,7 +25,7 @@ returns-clause-done g c =
     let just : HasJust (g.R.Renamer.preserved c.args.self.now.renamer t) c.in_ok-preserved.preserved = λ x. c.in_ok-preserved.ensures.just x ∙ ap (λ p. g.R.Renamer.preserved c.args.self.now.renamer (script_node p) x) c.replace-script.ensures.value in
     record {
       renamed = renamed_by (g.R.Renamer.text c.preserved_ids_for_script.new.self) c.mode_of-mode.result (record { mangles = g.R.Renamer.MANGLE; resets = g.R.Renamer.RESET_N }) c.in_ok-preserved.preserved
-          (g.R.Renamer.preserved c.args.self.now.renamer t) c.mode_of-mode.ensures just c.args.self.now.config.keep_class_names c.in_ok-node.node t c.in_ok-answer.answer (script_node c.from_node.result) before (sym c.from_node.ensures) c.in_ok-answer.ensures.renamed;
+          (g.R.Renamer.preserved c.args.self.now.renamer t) c.mode_of-mode.ensures just c.args.globals.now c.args.self.now.config c.in_ok-node.node t c.in_ok-answer.answer (script_node c.from_node.result) before (sym c.from_node.ensures) c.in_ok-answer.ensures.renamed;
       same = refl;
       marks = refl;
     }

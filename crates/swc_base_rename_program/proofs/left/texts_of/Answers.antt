@@ -1,26 +1,22 @@
-use Rattle.std.proofs.Common.{rules, ◌≡◌, true, false, ◌||◌, Bool, ◌∷◌, [], List, map, string_bytes, cond, refl, sym, ap, ◌∙◌}
+use Rattle.std.proofs.Common.{rules, ◌≡◌, ◌||◌, false, Bool, true, ◌∷◌, [], List, map, refl, sym, ap, ◌∙◌}
 use Rattle.std.specs.List.{list_any}
 use Rattle.std.specs.BTreeSet.{contains_text}
 use Rattle.std.specs.Str.{bytes_eq}
 use Rattle.std.proofs.lemmas.List.Folds.{list_any-append}
 use Rattle.std.proofs.lemmas.Map.Iter.{iter_end}
-use Rattle.std.proofs.lemmas.Map.Text.{btree_set_updates_text}
 use Rattle.std.specs.Map.Iter.{deref}
 use Rattle.std.specs.HashSet.{keys}
-use Rattle.swc_base_rename_program.proofs.named.texts_of.Goals as goal
+use Rattle.swc_base_rename_program.proofs.left.texts_of.Goals as goal
 
-behind : (b c : Bool) → cond b true c ≡ (c || (b || false))
-behind true true = refl
-behind true false = refl
+behind : (b c : Bool) → (b || c) ≡ (b || (c || false))
+behind true c = refl
 behind false true = refl
 behind false false = refl
 
 pub loop-id-preserved : goal.loop-id-preserved
-loop-id-preserved c =
-    let text : string_bytes c.in_ok-text.text ≡ c.in-Some.id.now.0 = c.in_ok-text.ensures.ok ∙ c.as_str.ensures in
-    λ x. btree_set_updates_text (string_bytes c.in_ok-text.text) c.loop-id.texts c.insert.new.self true c.in_ok-insert.ensures.updates x
-    ∙ ap (λ t. cond (bytes_eq t x) true (contains_text c.loop-id.texts x)) text
-    ∙ behind (bytes_eq c.in-Some.id.now.0 x) (contains_text c.loop-id.texts x)
+loop-id-preserved c = λ x.
+    c.in_ok-add_text.ensures x
+    ∙ behind (contains_text c.loop-id.texts x) (bytes_eq c.in-Some.id.now.0 x)
     ∙ ap (λ b. b || (bytes_eq c.in-Some.id.now.0 x || false)) (c.loop-id.invariant x)
     ∙ sym (list_any-append (λ id. bytes_eq id.now.0 x) c.loop-id.yielded (c.in-Some.id ∷ []))
 

@@ -1,0 +1,5 @@
+pub mod Readers
+pub mod Outermost
+pub mod Lifted
+pub mod Fitting
+pub mod Steps
