@@ -5,7 +5,8 @@ export function h() {}
 export async function* i() {}
 export class J {}
 export {};
-export { a as k, b as default, c as 'quoted name', e };
+export { a as k, b as default, c as 'quoted name', x, x as y };
+let x;
 export * from 'l';
 export * as m from 'n';
 export * as 'quoted' from 'o';
