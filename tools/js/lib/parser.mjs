@@ -55,8 +55,8 @@ function lastUpTo(numbers, limit) {
   return numbers[low];
 }
 
-// Acorn leaves out two things that our tree has: where the brackets of a computed key stand, and whether an import has a
-// `with` that lists nothing.
+// Acorn leaves out two things that our tree has: where the brackets of a computed key stand, and whether an import has
+// a `with` that lists nothing.
 function extended(acorn) {
   return class extends acorn.Parser {
     openBrackets = [];

@@ -1,5 +1,5 @@
-// The kinds of our tree. They are read from tools/tree.txt, from which the Rust and docs/JSON.md are printed as well, so
-// that there is one list of them.
+// The kinds of our tree. They are read from tools/tree.txt, from which the Rust and docs/JSON.md are printed as well,
+// so that there is one list of them.
 import { readFileSync } from 'node:fs';
 
 const FILE = new URL('../../tree.txt', import.meta.url);
