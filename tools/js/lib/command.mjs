@@ -1,7 +1,7 @@
 // What the commands share: arguments, input and how they end.
 import { readFileSync } from 'node:fs';
 import { parseArgs } from 'node:util';
-import { Missing, Problem, Usage } from './problems.mjs';
+import { Missing, Usage, problemOf } from './problems.mjs';
 
 /** How the kind of a text is asked for. */
 export const KIND_OPTIONS = { module: { type: 'boolean' }, script: { type: 'boolean' } };
@@ -57,10 +57,11 @@ export function main(command, argv) {
   try {
     process.stdout.write(answer(command, argv));
   } catch (error) {
-    if (!(error instanceof Problem)) {
+    const problem = problemOf(error);
+    if (!problem) {
       throw error;
     }
-    process.stderr.write(error instanceof Usage ? `${command.name}: ${error.message}\n` : `${error.message}\n`);
-    process.exitCode = error.status;
+    process.stderr.write(`${problem instanceof Usage ? `${command.name}: ` : ''}${problem.message}\n`);
+    process.exitCode = problem.status;
   }
 }

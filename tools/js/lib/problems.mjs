@@ -1,7 +1,8 @@
 // Why a command ends without an answer, and its exit status then.
 export const STATUS = { usage: 2, notTree: 3, leftOut: 4, syntax: 5 };
 
-class Problem extends Error {
+/** Why there is no answer: a message and an exit status. */
+export class Problem extends Error {
   constructor(message, status) {
     super(message);
     this.status = status;
@@ -53,10 +54,13 @@ export function located(error, file, source) {
   if (error instanceof LeftOut) {
     return new Problem(`${file}:${lineAndColumn(source, error.pos)}: ${error.message}`, STATUS.leftOut);
   }
-  if (error instanceof RangeError) {
-    return new Problem(`${file}: left out: it nests too deeply for node (${error.message})`, STATUS.leftOut);
-  }
   return error;
 }
 
-export { Problem };
+/** What ended a command as a problem, where it is one. */
+export function problemOf(error) {
+  if (error instanceof RangeError) {
+    return new Problem(`it nests too deeply for node: ${error.message}`, STATUS.leftOut);
+  }
+  return error instanceof Problem ? error : null;
+}

@@ -15,7 +15,7 @@ means something else, or none.
   -         standard input, as where no file is given
 
 Exit status: 0; 2 wrong usage, or something can't be read; 3 no tree: standard error has
-the path of the first thing that is wrong.
+the path of the first thing that is wrong; 4 it nests too deeply for node.
 `;
 
 export const tree2js = {

@@ -73,6 +73,10 @@ const JS2TREE = {
     const head = '-:1:6: left out of the tree: `using` at the head of a `for` with semicolons\n';
     expect(js2tree(['-'], 'for (using a = b; ; ) ;'), 4, { stderr: head });
   },
+  'says what nests too deeply': () => {
+    const deep = `${'['.repeat(20000)}${']'.repeat(20000)}`;
+    expect(js2tree(['-'], deep), 4, { stderr: /^it nests too deeply for node: / });
+  },
   'refuses wrong usage': () => {
     const usage = 'js2tree: usage: js2tree [--module | --script] FILE|-\n';
     expect(js2tree([]), 2, { stderr: usage });
@@ -88,7 +92,7 @@ const JS2TREE = {
     const hidden = ['--import', 'data:text/javascript,process.binding=()=>({})'];
     const done = run('js2tree', ['-'], 'a', { node: hidden });
     if (existsSync('/usr/share/nodejs/acorn')) {
-      expect(done, 0, { stdout: /"type":"Script"/ });
+      expect(done, 0, { stdout: /"type":"Script"/ }); // Debian's is taken
     } else {
       expect(done, 2, { stderr: /apt-get install node-acorn\n$/ });
     }
