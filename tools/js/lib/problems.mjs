@@ -1,5 +1,5 @@
 // Why a command ends without an answer, and its exit status then.
-export const STATUS = { usage: 2, notTree: 3, leftOut: 4, syntax: 5 };
+const STATUS = { usage: 2, notTree: 3, leftOut: 4, syntax: 5 };
 
 /** Why there is no answer: a message and an exit status. */
 export class Problem extends Error {
