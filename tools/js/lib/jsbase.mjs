@@ -1,0 +1,91 @@
+// The command jsbase: JavaScript through the proved program of that name, and back.
+import { spawnSync } from 'node:child_process';
+import { existsSync } from 'node:fs';
+import { constants } from 'node:os';
+import { fileURLToPath } from 'node:url';
+import { KIND_OPTIONS, kindOf, read } from './command.mjs';
+import { print } from './print.mjs';
+import { Missing, Problem } from './problems.mjs';
+import { envelopeOf, treeIn, treeOf } from './tree.mjs';
+
+const HELP = `usage: jsbase COMMAND [--marks] [--module | --script] [--program PATH] FILE|-
+
+Parses FILE, runs the program \`jsbase COMMAND module|script\` on its tree, and writes the
+answer as JavaScript on standard output. COMMAND is one of the program's: resolve, hygiene,
+unparen or fix. Names of a parsed text have no contexts, so for hygiene the program is
+first run as \`jsbase resolve\`, and hygiene is given what that answers.
+
+  --marks              names with their contexts: a#2, or a#2.3 where there are two marks
+  --module, --script   what the text is, as for js2tree
+  --program PATH       the program; left out, it is $JSBASE, or else
+                       crates/jsbase/out/jsbase in this repository
+  --help               this text
+  -                    standard input
+
+What unparen answers is no JavaScript any more where a pair was needed.
+
+Exit status: as js2tree (0, 2, 4, 5), and if the program refuses, its own, with its
+message: 1 refused, 2 no such command, 3 not a tree, 4 can't read or write.
+`;
+
+const BUILT = fileURLToPath(new URL('../../../crates/jsbase/out/jsbase', import.meta.url));
+/** The program reads JSON to this depth. */
+const DEEPEST = 127;
+
+/** Where the program is; the first place that is named counts. */
+export function programAt(path) {
+  const program = path ?? (process.env.JSBASE || BUILT);
+  if (!existsSync(program)) {
+    const build = 'cd crates/jsbase && rt run -- resolve module < stdin';
+    throw new Missing(`no program at ${program}; this proves and builds it: ${build}`);
+  }
+  return program;
+}
+
+function depth(value) {
+  if (value === null || typeof value !== 'object') {
+    return 0;
+  }
+  return 1 + Object.values(value).reduce((most, item) => Math.max(most, depth(item)), 0);
+}
+
+function refusal({ error, signal, status, stderr }, envelope) {
+  // EPIPE: it ended, and said why, before it had read its input.
+  if (error && error.code !== 'EPIPE') {
+    return new Missing(error.message);
+  }
+  if (signal) {
+    return new Problem(`the program was ended by ${signal}`, 128 + constants.signals[signal]);
+  }
+  const levels = depth(JSON.parse(envelope));
+  const why = levels > DEEPEST ? `the tree nests ${levels} deep, and ${DEEPEST} levels are read` : '';
+  return new Problem([stderr.trim(), why].filter((line) => line).join('\n'), status);
+}
+
+/** What the program answers to an envelope: an envelope. */
+function pass(program, command, kind, envelope) {
+  const done = spawnSync(program, [command, kind], { input: envelope, encoding: 'utf8', maxBuffer: Infinity });
+  if (done.status !== 0) {
+    throw refusal(done, envelope);
+  }
+  return done.stdout;
+}
+
+export const jsbase = {
+  name: 'jsbase',
+  help: HELP,
+  options: { ...KIND_OPTIONS, marks: { type: 'boolean' }, program: { type: 'string' } },
+  positionals: [2, 2],
+  run(values, [command, file]) {
+    const kind = kindOf(values);
+    const program = programAt(values.program);
+    const tree = treeOf(read(file), kind, file);
+    const goal = tree.type.toLowerCase();
+    const steps = command === 'hygiene' ? ['resolve', command] : [command];
+    const answer = steps.reduce(
+      (envelope, step) => pass(program, step, goal, envelope),
+      JSON.stringify(envelopeOf(tree)),
+    );
+    return print(treeIn(answer), values);
+  },
+};

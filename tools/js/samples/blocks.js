@@ -1,0 +1,5 @@
+;
+{}
+{ let a; { var b; } function c() {} }
+debugger;
+if (a) function d() {}

@@ -1,0 +1,2 @@
+use(a?.b, a?.[b], a?.(b), a?.b.c, a?.b?.c, a?.b(c), a?.b[c](...d), a.b?.c.d, (a?.b).c, (a?.b)(c), a()?.b);
+use(delete a?.b, a?.b ? a ? .5 : 1 : a?.5:1);

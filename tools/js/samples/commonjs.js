@@ -1,0 +1,4 @@
+const fs = require('fs');
+if (!fs) return;
+module.exports = { fs };
+return fs

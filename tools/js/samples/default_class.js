@@ -1,0 +1,1 @@
+export default class extends Base { a = 1; }

@@ -1,0 +1,1 @@
+export default class Named { static a = Named; }

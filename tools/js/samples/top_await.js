@@ -1,0 +1,3 @@
+let a = await b;
+for await (const c of await d) use(await c);
+export { a };

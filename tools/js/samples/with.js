@@ -1,0 +1,2 @@
+with (a) b;
+with (a, c) { with (d) e(); }
