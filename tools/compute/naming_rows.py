@@ -101,25 +101,28 @@ ROWS = [
 ]
 
 
-def faults():
-    """the rows that come out otherwise"""
-    for text, r, options, wanted in ROWS:
-        answer = renamed(js.module(text), r, **options)
+def faults(rows, made):
+    """the rows that come out otherwise; `made` is what a renamer makes of a tree"""
+    for text, r, options, wanted in rows:
+        options = dict(options)
+        read = options.pop('read', js.module)
+        answer = made(read(text), r, **options)
         if r is HYGIENE:
             answer = cleared(answer)
-        if js.text(answer) != js.text(js.module(wanted)):
+        if js.text(answer) != js.text(read(wanted)):
             yield '%s\n    becomes %s\n    wanted  %s' % (text, js.text(answer), wanted)
 
 
-def main(words):
+def tried(words, usage, rows, made):
+    """tries the rows by the definitions of the checkout that the words name; the status of the program"""
     if len(words) != 1:
-        print(__doc__)
+        print(usage)
         return 2
     load(words[0])
-    found = list(faults())
-    print('\n'.join(found + ['%d rows, %d come out otherwise' % (len(ROWS), len(found))]))
+    found = list(faults(rows, made))
+    print('\n'.join(found + ['%d rows, %d come out otherwise' % (len(rows), len(found))]))
     return 1 if found else 0
 
 
 if __name__ == '__main__':
-    sys.exit(main(sys.argv[1:]))
+    sys.exit(tried(sys.argv[1:], __doc__, ROWS, renamed))

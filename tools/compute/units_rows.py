@@ -8,12 +8,12 @@ import sys
 
 import js
 import units
-from lawbook import D, load
-from naming import hygiene, numbered
-from naming_rows import cleared
+from lawbook import D
+from naming import numbered
+from naming_rows import HYGIENE, tried
 
 TABLE = ((1, 0), (2, 0), (3, 0), (4, 1), (5, 1))
-HYGIENE, MANGLED = hygiene(), numbered()
+MANGLED = numbered()
 PLAIN, ROOT, KEEPS, KEEPS_AT_ROOT = dict(), dict(top=0), dict(keeps=True), dict(keeps=True, top=0)
 IGNORES, SCRIPT = dict(ignore_eval=True), dict(read=js.script)
 
@@ -90,27 +90,5 @@ ROWS = [
 ]
 
 
-def faults():
-    """the rows that come out otherwise"""
-    for text, r, options, wanted in ROWS:
-        options = dict(options)
-        read = options.pop('read', js.module)
-        answer = renamed(read(text), r, **options)
-        if r is HYGIENE:
-            answer = cleared(answer)
-        if js.text(answer) != js.text(read(wanted)):
-            yield '%s\n    becomes %s\n    wanted  %s' % (text, js.text(answer), wanted)
-
-
-def main(words):
-    if len(words) != 1:
-        print(__doc__)
-        return 2
-    load(words[0])
-    found = list(faults())
-    print('\n'.join(found + ['%d rows, %d come out otherwise' % (len(ROWS), len(found))]))
-    return 1 if found else 0
-
-
 if __name__ == '__main__':
-    sys.exit(main(sys.argv[1:]))
+    sys.exit(tried(sys.argv[1:], __doc__, ROWS, renamed))
