@@ -1,0 +1,13 @@
+mod Blank
+mod Same
+mod Strict
+mod Lists
+mod Fitting
+mod ExportLists
+mod Names
+mod Declared
+mod OneScope
+mod FreeIds
+mod Exported
+mod Redeclared
+pub mod Whole
