@@ -70,6 +70,10 @@ declared_taker t standing.SloppyFunction p s x n h = absurd (n refl)
 declared_taker t standing.Variable p s x n h = h
 declared_taker t _ p s x n h = h
 
+-- a binding has the mark of the scope that takes it
+abbrev pub HasTakersMark : (Path → ℕ) → Node → Path → Standing → List ℕ → Type 0
+HasTakersMark marks t p r c = (s : Path) × (taker r t p ≡ Some s) × (c ≡ marks s ∷ [])
+
 or_left : (a b : Bool) → IsTrue a → IsTrue (a || b)
 or_left true b h = refl
 or_left false b h = absurd (cc)
@@ -342,6 +346,14 @@ module _ (A R : Node) (m : List ℕ → List ℕ) (same : SameScopes A R) (clear
         reference p r x at refers o (subst (λ ss. First (DeclaresFor R (m x)) ss o) (sym (same.rounds_same p)) f),
         e ∙ ap (λ o. mark_in marks unresolved o ∷ []) (own_meaning_is module_only (m x) o),
       )
+
+      pub taken_by : (p : Path) (r : Standing) (x c : List ℕ) → Stands A p r x → HasTakersMark marks R p r c → HasOwner x c
+      taken_by p r x c at (s, e, is) =
+          let there : taker r A p ≡ Some s = taken_same r p ∙ e in (
+            Some s,
+            record { path = p; standing = r; binds = record { at = at; binds = binding_at r p s A there }; declared = as_declared r p s x (no_sloppy p r x at) there },
+            is,
+          )
 
       -- a binding is declared by the scope that takes it, and no catch clause between has a parameter of its text
       declared_by : (p : Path) (r : Standing) (x c : List ℕ) → Stands A p r x → HasDeclarersMark marks R p r (m x) c → HasOwner x c

@@ -1,0 +1,17 @@
+pub mod Kept
+pub mod Sequences
+pub mod Loose
+pub mod Found
+pub mod Round
+pub mod Transport
+pub mod Apart
+pub mod Whole
+pub mod Leaves
+pub mod Pending
+pub mod Entries
+pub mod Marked
+pub mod Marks
+pub mod Owners
+pub mod Owned
+pub mod Captures
+pub mod Laws
