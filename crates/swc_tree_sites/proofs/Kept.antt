@@ -56,7 +56,7 @@ fewer_both a b c d h g = record {
   sets = sub_append a.sets b.sets c.sets d.sets h.sets g.sets;
 }
 
-abbrev AllFewer : List Sites → List Sites → Type 0
+abbrev pub AllFewer : List Sites → List Sites → Type 0
 AllFewer [] [] = Unit {0}
 AllFewer [] (d ∷ ds) = ⊥
 AllFewer (c ∷ cs) [] = ⊥
@@ -121,7 +121,7 @@ each_in_one w places (t ∷ ts) h = ap (λ v. S v t ∷ each_in S (λ i. places 
 pub item_place : (w : Place) (ts : List Node) (i : ℕ) → binds_patterns w.standing ≡ false → place_in w (Node-F.List ts) i ≡ w
 item_place w ts i h = ap (λ b. record w { standing = cond (b && is_identifier_expression (slice_get ts i)) standing.Reference w.standing }) h
 
-out_step : (w : Place) (t : Node) (y : Node-F Node) → out-Node t ≡ y → S w t ≡ sites_in w y (opened_in w y) (view_in y) (each_in S (place_in w y) (children_in y))
+pub out_step : (w : Place) (t : Node) (y : Node-F Node) → out-Node t ≡ y → S w t ≡ sites_in w y (opened_in w y) (view_in y) (each_in S (place_in w y) (children_in y))
 out_step w t y o = fold_in_place_out sites_step w t ∙ ap (λ y. sites_in w y (opened_in w y) (view_in y) (each_in S (place_in w y) (children_in y))) o
 
 pub of_list : (w : Place) (ts : List Node) → binds_patterns w.standing ≡ false → S w (Many ts) ≡ all w ts

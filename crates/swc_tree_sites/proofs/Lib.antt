@@ -15,3 +15,8 @@ pub mod Owners
 pub mod Owned
 pub mod Captures
 pub mod Laws
+pub mod Expressions
+pub mod Stripping
+pub mod Parts
+pub mod StrippedFewer
+pub mod LeftStripped

@@ -71,7 +71,7 @@ plain_binds_not kind.ExportDefaultDecl i = at (i == 1)
     at false = refl
 plain_binds_not _ i = refl
 
-keyword_cases : (ts : List Node) → (by_keyword ts ≡ standing.Variable) ⊎ (by_keyword ts ≡ standing.Lexical)
+pub keyword_cases : (ts : List Node) → (by_keyword ts ≡ standing.Variable) ⊎ (by_keyword ts ≡ standing.Lexical)
 keyword_cases [] = inr refl
 keyword_cases (t ∷ ts) = at (out-Node t) (keyword_cases ts)
   where
@@ -259,7 +259,7 @@ two_at (s ∷ ss) [] i c h e = absurd h
 two_at (s ∷ ss) (t ∷ ts) zero c h e = let same : t ≡ c = cc in (s, refl, subst (λ c. Fits c s) same h.0)
 two_at (s ∷ ss) (t ∷ ts) (suc i) c h e = two_at ss ts i c h.1 e
 
-field_at : (fs : List Field) (ts : List Node) (i : ℕ) (c : Node) → FieldsFit (map (λ f. f.1) fs) ts → slice_get ts i ≡ Some c → (f : Field) × (slice_get fs i ≡ Some f) × Fits c f.1
+pub field_at : (fs : List Field) (ts : List Node) (i : ℕ) (c : Node) → FieldsFit (map (λ f. f.1) fs) ts → slice_get ts i ≡ Some c → (f : Field) × (slice_get fs i ≡ Some f) × Fits c f.1
 field_at [] [] i c h e = absurd (cc)
 field_at [] (t ∷ ts) i c h e = absurd h
 field_at (f ∷ fs) [] i c h e = absurd h
