@@ -1,0 +1,27 @@
+-- What is kept in what is left of a tree.
+use Rattle.std.specs.Prelude.{ℕ, IsTrue, List}
+use Rattle.swc_tree_node.specs.declared.kind.Class.TheVariants as class
+use Rattle.swc_tree_node.specs.declared.slot.Content.TheVariants as content
+use Rattle.swc_tree_node.specs.declared.slot.Slot.TheVariants as slot
+use Rattle.swc_tree_node.specs.declared.node.Node.{Node}
+use Rattle.swc_tree_node.specs.Fits.{Fits}
+use Rattle.swc_tree_scoping.specs.Places.{program_place}
+use Rattle.swc_tree_scoping.specs.WellScoped.{EachInOneScope}
+use Rattle.swc_tree_renaming.specs.Apart.{CapturesNone}
+use Rattle.swc_tree_grammar.specs.Stripped.{stripped}
+use Rattle.swc_tree_grammar.specs.Targets.{all_bare}
+use Rattle.swc_tree_sites.specs.Sites.{sites_of}
+use Rattle.swc_tree_sites.specs.Smaller.{Fewer, IsLeftOf, IsPlain}
+
+-- where each name of a tree has one scope, each name of what is left has one
+abbrev pub OneScopeStays : Type 0
+OneScopeStays = (t n : Node) → IsPlain t → IsPlain n → IsLeftOf n t → EachInOneScope t → EachInOneScope n
+
+-- ... and where new texts capture nothing in the tree, they capture nothing in what is left
+abbrev pub NoCaptureStays : Type 0
+NoCaptureStays = (t n : Node) (text : List ℕ → List ℕ) → IsPlain t → IsPlain n → IsLeftOf n t → EachInOneScope t → CapturesNone t text → CapturesNone n text
+
+-- a module that is stripped, of which each parenthesised target can stand bare, has fewer names, with the same round
+-- them, and its scopes take what they took
+abbrev pub StrippedHasFewer : Type 0
+StrippedHasFewer = (t : Node) → Fits t (slot.One (content.Node class.Module)) → IsTrue (all_bare t) → Fewer (sites_of program_place (stripped t)) (sites_of program_place t)
