@@ -13,7 +13,7 @@ use Rattle.swc_tree_scoping.specs.Readings.{by_ids, id_name}
 use Rattle.swc_tree_scoping.specs.Resolved.{mark_in}
 use Rattle.swc_tree_scoping.specs.WellScoped.{FreeApart, IsFree, Stands}
 use Rattle.swc_tree_scoping.proofs.Remarked.{identifier_is}
-use Rattle.swc_base_resolver_laws.proofs.Blank.{layer, out_is, place_at_same}
+use Rattle.swc_tree_renaming.proofs.Blank.{layer, out_is, place_at_same}
 use Rattle.swc_base_resolver_laws.proofs.Lists.{found}
 use Rattle.swc_base_resolver_laws.proofs.Names.{Resolving, by_id, contexts, marks, name_apart, name_is, name_of, reference_context, stands_back, stands_forth, taken_bound, text_at}
 use Rattle.swc_base_resolver_laws.proofs.Declared.{bound_mark, declares_bound, stands_of}

@@ -1,6 +1,4 @@
-mod Blank
 mod Same
-mod Strict
 mod Lists
 mod Fitting
 mod ExportLists

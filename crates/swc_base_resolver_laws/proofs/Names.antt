@@ -28,10 +28,12 @@ use Rattle.swc_tree_scoping.specs.Resolved.{Contexts, HasContext, Resolved, is_g
 use Rattle.swc_tree_scoping.specs.WellScoped.{IsClean, NoEarlyErrorOfNames, NoRedeclaration, Stands}
 use Rattle.swc_tree_scoping.proofs.First.{last_round, round_opens}
 use Rattle.swc_tree_scoping.proofs.Remarked.{each_remarked, identifier_is, list_is, remarked-Identifier, remarked-List, remarked-Tree, remarked-leaf, tree_is}
-use Rattle.swc_base_resolver_laws.proofs.Blank.{layer, out_is, place_at_same, rounds_same, scope_at_same}
-use Rattle.swc_base_resolver_laws.proofs.Same.{by_text, clean_stays, impossible, place_at_remarked, some_same, texts_stay}
-use Rattle.swc_base_resolver_laws.proofs.Strict.{no_sloppy_in_modules}
-use Rattle.swc_base_resolver_laws.proofs.Lists.{each_at, first_in, row_of, taken_binds, taken_there}
+use Rattle.swc_tree_renaming.proofs.Blank.{layer, out_is, place_at_same, rounds_same, scope_at_same}
+use Rattle.swc_base_resolver_laws.proofs.Same.{by_text, clean_stays, impossible, some_same, texts_stay}
+use Rattle.swc_tree_renaming.proofs.Shape.{place_at_remarked}
+use Rattle.swc_tree_renaming.proofs.Core.{first_in, taken_binds}
+use Rattle.swc_tree_renaming.proofs.Strict.{no_sloppy_in_modules}
+use Rattle.swc_base_resolver_laws.proofs.Lists.{each_at, row_of, taken_there}
 use Rattle.swc_base_resolver_laws.proofs.Fitting.{module_layer}
 
 -- a clean module without early errors of names, and what it is resolved to

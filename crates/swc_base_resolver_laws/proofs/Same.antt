@@ -1,5 +1,5 @@
 -- Contexts given anew: the texts stay, and so does what stands at each path, but for the contexts of identifiers.
-use Rattle.std.proofs.Common.{◌≡◌, ℕ, zero, suc, true, false, Option, Some, None, List, [], ◌∷◌, ◌++◌, map, refl, sym, ap, ◌∙◌}
+use Rattle.std.proofs.Common.{◌≡◌, ℕ, zero, suc, true, false, Some, List, [], ◌∷◌, map, refl, sym, ap, ◌∙◌}
 use Rattle.std.specs.List.{slice_get}
 use Rattle.std.specs.Option.{option_map}
 use Rattle.swc_tree_marks.specs.declared.ident.Ident.{Ident}
@@ -8,12 +8,12 @@ use Rattle.swc_tree_node.specs.declared.node.Node.{Node, Identifier, out-Node, r
 use Rattle.swc_tree_node.specs.declared.node.Node.TheOpen.{Node-F}
 use Rattle.swc_tree_node.specs.declared.node.Node.TheVariants.{outs-Identifier, outs-List, outs-Tree}
 use Rattle.swc_tree_scoping.specs.declared.places.Place.{Place}
-use Rattle.swc_tree_scoping.specs.Places.{Path, children_in, child, place_below, given, place_at}
+use Rattle.swc_tree_scoping.specs.Places.{Path, children_in, child, place_below, place_at}
 use Rattle.swc_tree_scoping.specs.Readings.{by_texts}
 use Rattle.swc_tree_scoping.specs.Resolved.{Contexts, remarked}
 use Rattle.swc_tree_scoping.proofs.Under.{by_children, place_under}
-use Rattle.swc_tree_scoping.proofs.Remarked.{each_remarked, is_leaf, remarked-List, remarked-Tree, remarked-Identifier, remarked-leaf, list_is, tree_is, identifier_is}
-use Rattle.swc_base_resolver_laws.proofs.Blank.{layer, out_is, place_same}
+use Rattle.swc_tree_scoping.proofs.Remarked.{each_remarked, remarked-List, remarked-Tree, remarked-Identifier, remarked-leaf, list_is, tree_is, identifier_is}
+use Rattle.swc_tree_renaming.proofs.Blank.{layer, out_is}
 
 pub some_same : {X : Type 0} (a b : X) → Some a ≡ Some b → a ≡ b
 some_same a b e = cc
@@ -60,49 +60,6 @@ alike t below (Node-F.Span x) o c = ap by_texts (remarked-leaf c t _ o refl)
 
 pub texts_stay : (c : Contexts) (t : Node) → by_texts (remarked c t) ≡ by_texts t
 texts_stay c t = by_children Alike (λ t below. alike t below (out-Node t) refl) t c
-
--- what stands at a path
-each_at : (ts : List Node) (c : ℕ → Contexts) (i : ℕ) → slice_get (each_remarked c ts) i ≡ option_map (remarked (c i)) (slice_get ts i)
-each_at [] c i = refl
-each_at (t ∷ ts) c zero = refl
-each_at (t ∷ ts) c (suc i) = each_at ts (λ i. c (suc i)) i
-
-leaf_child : (c : Contexts) (t : Node) (i : ℕ) (y : Node-F Node) → out-Node t ≡ y → is_leaf y ≡ true → children_in y ≡ [] → child (remarked c t) i ≡ option_map (remarked (λ p. c (i ∷ p))) (child t i)
-leaf_child c t i y o l none =
-    let nothing : child t i ≡ None = ap (λ y. slice_get (children_in y) i) o ∙ ap (λ ts. slice_get ts i) none in
-    ap (λ t. child t i) (remarked-leaf c t y o l) ∙ nothing ∙ ap (option_map (remarked (λ p. c (i ∷ p)))) (sym nothing)
-
-child_remarked : (c : Contexts) (t : Node) (i : ℕ) (y : Node-F Node) → out-Node t ≡ y → child (remarked c t) i ≡ option_map (remarked (λ p. c (i ∷ p))) (child t i)
-child_remarked c t i (Node-F.List ts) o =
-    ap (λ t. child (remarked c t) i) (list_is t ts o) ∙ ap (λ t. child t i) (remarked-List c ts) ∙ ap (λ y. slice_get (children_in y) i) (outs-List (each_remarked (λ i p. c (i ∷ p)) ts))
-    ∙ each_at ts (λ i p. c (i ∷ p)) i ∙ ap (λ y. option_map (remarked (λ p. c (i ∷ p))) (slice_get (children_in y) i)) (sym o)
-child_remarked c t i (Node-F.Tree k ts) o =
-    ap (λ t. child (remarked c t) i) (tree_is t k ts o) ∙ ap (λ t. child t i) (remarked-Tree c k ts) ∙ ap (λ y. slice_get (children_in y) i) (outs-Tree k (each_remarked (λ i p. c (i ∷ p)) ts))
-    ∙ each_at ts (λ i p. c (i ∷ p)) i ∙ ap (λ y. option_map (remarked (λ p. c (i ∷ p))) (slice_get (children_in y) i)) (sym o)
-child_remarked c t i (Node-F.Identifier k j) o =
-    ap (λ t. child (remarked c t) i) (identifier_is t k j o) ∙ ap (λ t. child t i) (remarked-Identifier c k j) ∙ ap (λ y. slice_get (children_in y) i) (outs-Identifier k (record j { ctxt = c [] }))
-    ∙ ap (λ y. option_map (remarked (λ p. c (i ∷ p))) (slice_get (children_in y) i)) (sym o)
-child_remarked c t i Node-F.Absent o = leaf_child c t i _ o refl refl
-child_remarked c t i (Node-F.Flag x) o = leaf_child c t i _ o refl refl
-child_remarked c t i (Node-F.Word w) o = leaf_child c t i _ o refl refl
-child_remarked c t i (Node-F.Text x) o = leaf_child c t i _ o refl refl
-child_remarked c t i (Node-F.Span x) o = leaf_child c t i _ o refl refl
-
-place_remarked : (c : Contexts) (w : Place) (t : Node) (i : ℕ) → place_below w (remarked c t) i ≡ place_below w t i
-place_remarked c w t i = sym (place_same by_text w (remarked c t) i) ∙ ap (λ t. place_below w t i) (texts_stay c t) ∙ place_same by_text w t i
-
-pub place_at_remarked : (p : Path) (c : Contexts) (w : Place) (t : Node) → place_at w (remarked c t) p ≡ option_map (λ (q : Place × Node). (q.0, remarked (λ r. c (p ++ r)) q.1)) (place_at w t p)
-place_at_remarked [] c w t = refl
-place_at_remarked (i ∷ p) c w t =
-    ap (λ o. given o None (λ d. place_at (place_below w (remarked c t) i) d p)) (child_remarked c t i (out-Node t) refl)
-    ∙ ap (λ v. given (option_map (remarked (λ p. c (i ∷ p))) (child t i)) None (λ d. place_at v d p)) (place_remarked c w t i)
-    ∙ at (λ v d. place_at_remarked p (λ p. c (i ∷ p)) v d) (child t i)
-  where
-    at : ((v : Place) (d : Node) → place_at v (remarked (λ p. c (i ∷ p)) d) p ≡ option_map (λ (q : Place × Node). (q.0, remarked (λ r. c (i ∷ (p ++ r))) q.1)) (place_at v d p)) → (o : Option Node)
-        → given (option_map (remarked (λ p. c (i ∷ p))) o) None (λ d. place_at (place_below w t i) d p)
-        ≡ option_map (λ (q : Place × Node). (q.0, remarked (λ r. c (i ∷ (p ++ r))) q.1)) (given o None (λ d. place_at (place_below w t i) d p))
-    at below None = refl
-    at below (Some d) = below (place_below w t i) d
 
 -- where no identifier has a context, the tree is read by texts as it is
 abbrev CleanAt : Place → Node → Type 0

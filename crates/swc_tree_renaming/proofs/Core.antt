@@ -24,10 +24,10 @@ head_in x xs = (0, omega arith, refl)
 pub tail_in : {X : Type 0} (x y : X) (xs : List X) → Contains xs y → Contains (x ∷ xs) y
 tail_in x y xs h = Contains-append_right (x ∷ []) xs y h
 
-none_in : {X : Type 0} (x : X) → Contains [] x → ⊥
+pub none_in : {X : Type 0} (x : X) → Contains [] x → ⊥
 none_in x (k, l, e) = absurd (omega arith)
 
-cases_in : {X : Type 0} (x y : X) (xs : List X) → Contains (x ∷ xs) y → (x ≡ y) ⊎ Contains xs y
+pub cases_in : {X : Type 0} (x y : X) (xs : List X) → Contains (x ∷ xs) y → (x ≡ y) ⊎ Contains xs y
 cases_in x y xs h = ⊎_elim (λ a. ⊎_elim (λ n. absurd (none_in y n)) inl (Contains-push_cases [] x y a)) inr (Contains-append_cases (x ∷ []) xs y h)
 
 -- the first that passes a test is one of the list and passes it
