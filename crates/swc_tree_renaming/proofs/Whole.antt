@@ -57,14 +57,14 @@ module_layer t h = at (out-Node t) refl
     at (Node-F.List x) o = let g = rw o at h in absurd (cc)
     at (Node-F.Identifier k x) o = let g = rw o at h in absurd (cc)
 
-no_script : (t : Node) (ts : List Node) → out-Node t ≡ Node-F.Tree kind.Module ts → is_script t ≡ false
+pub no_script : (t : Node) (ts : List Node) → out-Node t ≡ Node-F.Tree kind.Module ts → is_script t ≡ false
 no_script t ts o = rw o refl
 
 module_opens : (t : Node) (ts : List Node) → out-Node t ≡ Node-F.Tree kind.Module ts → opened program_place t ≡ Some scope.Program
 module_opens t ts o = ap (opened_in program_place) o
 
 -- what has the shape of a module is one
-module_too : (t u : Node) (ts : List Node) → nameless t ≡ nameless u → out-Node t ≡ Node-F.Tree kind.Module ts → (us : List Node) × (out-Node u ≡ Node-F.Tree kind.Module us)
+pub module_too : (t u : Node) (ts : List Node) → nameless t ≡ nameless u → out-Node t ≡ Node-F.Tree kind.Module ts → (us : List Node) × (out-Node u ≡ Node-F.Tree kind.Module us)
 module_too t u ts shape o = at (out-Node u) refl
   where
     same : layer (λ i. no_name) (out-Node u) ≡ Node-F.Tree kind.Module (map nameless ts)
@@ -101,10 +101,10 @@ in_program t ts o [] r x s n = absurd (not_root t r x s n)
 in_program t ts o (i ∷ p) r x s n = program_round t ts o i p
 
 -- an identifier, as it is read by ids
-abbrev by_id : Ident → Ident
+abbrev pub by_id : Ident → Ident
 by_id i = record i { sym = id_name i; ctxt = [] }
 
-with_identifier : (f : Ident → Ident) (k : Kind) (i : Ident) → with_identifiers f (Identifier k i) ≡ Identifier k (f i)
+pub with_identifier : (f : Ident → Ident) (k : Kind) (i : Ident) → with_identifiers f (Identifier k i) ≡ Identifier k (f i)
 with_identifier f k i =
     let o = out_is f (Identifier k i) ∙ ap (layer f) (outs-Identifier k i) in
     identifier_is (with_identifiers f (Identifier k i)) k (f i) o
@@ -112,11 +112,11 @@ with_identifier f k i =
 pub stands_by_id : (t : Node) (p : Path) (w : Place) (k : Kind) (i : Ident) → place_at program_place t p ≡ Some (w, Identifier k i) → place_at program_place (by_ids t) p ≡ Some (w, Identifier k (by_id i))
 stands_by_id t p w k i h = place_at_same by_id p program_place t ∙ ap (option_map {U = Place × Node} (λ (q : Place × Node). (q.0, by_ids q.1))) h ∙ ap (λ c. Some (w, c)) (with_identifier by_id k i)
 
-identifier_same : (k l : Kind) (i j : Ident) → Identifier k i ≡ Identifier l j → i ≡ j
+pub identifier_same : (k l : Kind) (i j : Ident) → Identifier k i ≡ Identifier l j → i ≡ j
 identifier_same k l i j e = let o = sym (outs-Identifier k i) ∙ ap out-Node e ∙ outs-Identifier l j in cc
 
 -- what is read by ids stands there
-from_ids : (t : Node) (p : Path) (w : Place) (k : Kind) (i : Ident) → place_at program_place (by_ids t) p ≡ Some (w, Identifier k i) → (l : Kind) × (j : Ident) × (place_at program_place t p ≡ Some (w, Identifier l j)) × (i ≡ by_id j)
+pub from_ids : (t : Node) (p : Path) (w : Place) (k : Kind) (i : Ident) → place_at program_place (by_ids t) p ≡ Some (w, Identifier k i) → (l : Kind) × (j : Ident) × (place_at program_place t p ≡ Some (w, Identifier l j)) × (i ≡ by_id j)
 from_ids t p w k i h =
     let same = same_scopes t (by_ids t) (sym (nameless_by_ids t)) in
     let (l, j, e) = same.back p w k i h in

@@ -12,11 +12,12 @@ use Rattle.swc_tree_scoping.specs.Scopes.{view_in}
 use Rattle.swc_tree_scoping.specs.Folds.{each_in}
 use Rattle.swc_tree_scoping.proofs.Under.{by_children, no_place_under, place_under}
 use Rattle.swc_tree_sites.specs.Sites.{Binding, Sites, in_scope, joined, set_of, sites_in}
-use Rattle.swc_tree_sites.proofs.Loose.{S, in_left, in_right, is_no_identifier, kids, plain_is, step_is}
-use Rattle.swc_tree_sites.proofs.Found.{map_in, taken_at, taken_in}
+use Rattle.swc_tree_sites.proofs.Loose.{S, in_left, in_right, is_no_identifier, plain_is, step_is}
+use Rattle.swc_tree_sites.proofs.Found.{map_in}
 use Rattle.swc_tree_sites.proofs.Round.{taken_by, taken_there}
 use Rattle.swc_tree_sites.proofs.Transport.{flat_to, sub_in}
 use Rattle.swc_tree_sites.specs.Smaller.{In, Sub}
+use Rattle.swc_tree_sites.specs.Sites.{kids, taken_at, taken_in}
 
 -- all pairs of a list
 abbrev pub EachIn : {X : Type 0} → (X → Type 0) → List X → Type 0

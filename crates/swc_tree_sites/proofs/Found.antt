@@ -15,17 +15,10 @@ use Rattle.swc_tree_scoping.specs.Places.{Path, child, children_in, given, place
 use Rattle.swc_tree_scoping.specs.Scopes.{view_in, is_name}
 use Rattle.swc_tree_scoping.proofs.Remarked.{identifier_is}
 use Rattle.swc_tree_scoping.proofs.Under.{no_place_under, by_children, each_in-at, place_under}
-use Rattle.swc_tree_sites.specs.Sites.{Binding, Entry, Site, Sites, in_scope, counted, joined, pushed, seen_in, sites_in, sites_seen, taken_of}
-use Rattle.swc_tree_sites.proofs.Loose.{S, each_in_from, in_cases, in_left, in_right, is_no_identifier, kids, plain_is, some_same, step_is}
+use Rattle.swc_tree_sites.specs.Sites.{Binding, Entry, Site, Sites, in_scope, counted, joined, pushed, seen_in, sites_in, sites_seen}
+use Rattle.swc_tree_sites.proofs.Loose.{S, each_in_from, in_cases, in_left, in_right, is_no_identifier, plain_is, some_same, step_is}
 use Rattle.swc_tree_sites.specs.Smaller.{In}
-
--- what the scope of a node takes, if it opens one
-abbrev pub taken_in : Place → Node → Option Scope → List Binding
-taken_in w t None = []
-taken_in w t (Some s) = taken_of s (view_in (out-Node t)) (kids w t)
-
-abbrev pub taken_at : Place → Node → List Binding
-taken_at w t = taken_in w t (opened w t)
+use Rattle.swc_tree_sites.specs.Sites.{kids, taken_at, taken_in}
 
 -- what the scopes round a path take, as they are seen from there
 abbrev pub env_at : Place → Node → Path → List Entry

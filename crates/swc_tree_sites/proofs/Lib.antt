@@ -20,3 +20,4 @@ pub mod Stripping
 pub mod Parts
 pub mod StrippedFewer
 pub mod LeftStripped
+pub mod LeftIds

@@ -18,6 +18,7 @@ use Rattle.swc_tree_scoping.proofs.Remarked.{identifier_is}
 use Rattle.swc_tree_scoping.proofs.Under.{no_place_under, by_children, fold_in_place_out, each_in-at, lower, place_under, rounds_under, scope_under}
 use Rattle.swc_tree_sites.specs.Sites.{Binding, Sites, in_scope, joined, pending_where, sites_in, sites_of, sites_step, taken_of}
 use Rattle.swc_tree_sites.specs.Smaller.{In}
+use Rattle.swc_tree_sites.specs.Sites.{kids}
 
 abbrev pub S : Place → Node → Sites
 S = sites_of
@@ -211,10 +212,6 @@ to_child w t b o m n g = at g.path g.stands g.taken
 
 abbrev Pends : Node → Type 0
 Pends t = (w : Place) (b : Binding) → In b (S w t).pending ↔ Below w t b None
-
--- the children, as they stand
-abbrev pub kids : Place → Node → List Sites
-kids w t = each_in S (place_below w t) (children_in (out-Node t))
 
 module _ (w : Place) (t : Node) (below : (j : ℕ) (c : Node) → child t j ≡ Some c → Pends c) (b : Binding) where
   kid_from : (j : ℕ) (a : Sites) (o : Option Path) → slice_get (kids w t) j ≡ Some a → In b a.pending → own (opened w t) (view_in (out-Node t) j) b.0 ≡ o → Below w t b o

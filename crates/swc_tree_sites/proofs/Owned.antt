@@ -22,7 +22,7 @@ use Rattle.swc_tree_sites.specs.Smaller.{AreKept, IsPlain}
 module _ (A n : Node) (text : List ℕ → List ℕ) (shape : SameScopes A n) (clear : IsClean A) (cleared : IsClean n) (texts : HasTexts A text n) (settled : HasNoSloppy A) (one : EachInOneScope A) (apart : CapturesNone A text)
     (v u m : Node) (marks : Path → ℕ) (unresolved : ℕ) (is : IsMarked v u marks unresolved) (plain : IsPlain n) (same : SameScopes n m) (kept_texts : HasTexts n (λ x. x) m)
     (kept : AreKept (S program_place m).sites (S program_place u).sites) (no_script : is_script v ≡ false) (none : is_script n ≡ false) where
-  met : (p : Path) (x : List ℕ) → Stands n p standing.Variable x → IsUncaught n p x
+  pub met : (p : Path) (x : List ℕ) → Stands n p standing.Variable x → IsUncaught n p x
   met p x at = let (s, e) = plain.takes p standing.Variable x (record { at = at; binds = refl }) in uncaught A n text shape clear cleared texts settled one apart p s x at e
 
   abbrev pub Owns : List ℕ → List ℕ → Type 0

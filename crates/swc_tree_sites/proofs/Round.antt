@@ -17,8 +17,9 @@ use Rattle.swc_tree_sites.specs.Sites.{Binding, Entry, entry, seen_in}
 use Rattle.swc_tree_node.specs.declared.node.Node.TheOpen.{Node-F}
 use Rattle.swc_tree_sites.proofs.Loose.{Below, is_no_identifier, own, or_else, lowered, pends, taken_from, taken_to, taker_in, test, taker_under}
 use Rattle.swc_tree_scoping.specs.Places.{opened_in, is_inside}
-use Rattle.swc_tree_sites.proofs.Found.{env_at, env_under, taken_at, taken_in}
+use Rattle.swc_tree_sites.proofs.Found.{env_at, env_under}
 use Rattle.swc_tree_sites.specs.Smaller.{In}
+use Rattle.swc_tree_sites.specs.Sites.{taken_at, taken_in}
 
 -- what the scope at a path takes
 abbrev pub taken_there : Option (Place × Node) → List Binding

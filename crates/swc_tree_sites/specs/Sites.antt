@@ -10,9 +10,9 @@ use Rattle.swc_tree_scoping.specs.declared.places.Place.{Place}
 use Rattle.swc_tree_scoping.specs.declared.places.Scope.{Scope}
 use Rattle.swc_tree_scoping.specs.declared.places.View.{View}
 use Rattle.swc_tree_scoping.specs.declared.places.View.TheVariants as view
-use Rattle.swc_tree_scoping.specs.Places.{opened, is_inside}
+use Rattle.swc_tree_scoping.specs.Places.{children_in, is_inside, opened, place_below}
 use Rattle.swc_tree_scoping.specs.Scopes.{takes, view_in, is_binding, is_name}
-use Rattle.swc_tree_scoping.specs.Folds.{fold_in_place}
+use Rattle.swc_tree_scoping.specs.Folds.{each_in, fold_in_place}
 
 -- a binding: as what it stands, and its identifier
 abbrev pub Binding : Type 0
@@ -96,3 +96,15 @@ sites_step w t cs = sites_in w (out-Node t) (opened w t) (view_in (out-Node t)) 
 
 abbrev pub sites_of : Place → Node → Sites
 sites_of = fold_in_place sites_step
+
+-- the children of a node, as they stand
+abbrev pub kids : Place → Node → List Sites
+kids w t = each_in sites_of (place_below w t) (children_in (out-Node t))
+
+-- what the scope of a node takes, if it opens one
+abbrev pub taken_in : Place → Node → Option Scope → List Binding
+taken_in w t None = []
+taken_in w t (Some s) = taken_of s (view_in (out-Node t)) (kids w t)
+
+abbrev pub taken_at : Place → Node → List Binding
+taken_at w t = taken_in w t (opened w t)
