@@ -58,3 +58,9 @@ searched texts text rising (Err at) within parted = (
         | inr after ↦ absurd (greater_not_equal (around.1 k text after there) equal)
       ],
 )
+
+-- a text of a list, by the list of texts
+pub text_at : (texts : List (Bor (List ℕ))) (k : ℕ) (d : Bor (List ℕ)) → (slice_index_or texts k d).now ≡ slice_index_or (map (λ text. text.now) texts) k d.now
+text_at [] k d = refl
+text_at (text ∷ rest) zero d = refl
+text_at (text ∷ rest) (suc k) d = text_at rest k d
