@@ -4,3 +4,4 @@ pub mod Fitting
 pub mod MembersFit
 pub mod BroughtFit
 pub mod AloneFit
+pub mod Strictness

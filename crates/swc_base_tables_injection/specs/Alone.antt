@@ -27,6 +27,11 @@ opening false = Tree kind.EmptyStmt (nowhere ∷ [])
 abbrev pub alone : Kind → Bool → List Node → Node
 alone k strict ts = Tree k (nowhere ∷ Many (opening strict ∷ ts) ∷ Absent ∷ [])
 
+-- a script is strict just if it is said to be, and a module always is
+pub record IsOfStrictness (k : Kind) (strict : Bool) (t : Node) : Type 0 where
+  pub script : k ≡ kind.Script → is_strict_program t ≡ strict
+  pub module_ : k ≡ kind.Module → is_strict_program t ≡ true
+
 -- `after` are the statements `before`, resolved in such a program: the helper mark is that of the program's scope, and
 -- free names have the global mark
 abbrev pub ResolvedAlone : ℕ → ℕ → Table → Table → Kind → Bool → List Node → List Node → Type 0

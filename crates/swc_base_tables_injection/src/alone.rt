@@ -9,7 +9,7 @@ ghost use Rattle.swc_tree_scoping.specs.Scopes.{scope_count};
 ghost use Rattle.swc_tree_scoping.specs.declared.places.Scope.TheVariants as scope;
 ghost use Rattle.swc_base_resolver_program.specs.Marked.{IsRefusal, MarksOk, OnlyContexts};
 ghost use Rattle.swc_base_tables_injection.specs.Brought.{string as is_string};
-ghost use Rattle.swc_base_tables_injection.specs.Alone.{MarkedAlone, ResolvedAlone, all_bodies, alone as is_alone, is_strict_program as is_strictly, opening as is_opening, statements_of as are_statements_of};
+ghost use Rattle.swc_base_tables_injection.specs.Alone.{IsOfStrictness, MarkedAlone, ResolvedAlone, all_bodies, alone as is_alone, is_strict_program as is_strictly, opening as is_opening, statements_of as are_statements_of};
 
 use crate::brought::{string, tree};
 use std::alloc::Global;
@@ -76,7 +76,8 @@ fn alone(
     strict: bool,
     bodies: Items<Items<Node>>,
 ) -> Result<Node, NoMemory>
-    ensures { IfOk result (λ node. node ≡ is_alone kind strict (all_bodies bodies)) }
+    ensures alone { IfOk result (λ node. node ≡ is_alone kind strict (all_bodies bodies)) }
+    ensures strictness { IfOk result (IsOfStrictness kind strict) }
 {
     let first = opening(alloc, strict)?;
     let stmts = with_bodies(alloc, first, bodies)?;
