@@ -1,3 +1,4 @@
+pub mod Found
 pub mod Paths
 pub mod Rewriting
 pub mod Walked
