@@ -1,0 +1,3 @@
+mod Numbered
+mod Changed
+pub mod StaysWritable

@@ -1,0 +1,4 @@
+pub mod Cleared
+pub mod ClearedStripped
+pub mod ClearedSound
+pub mod TextsLaws
