@@ -16,14 +16,13 @@ use Rattle.swc_tree_scoping.specs.Scopes.{is_binding, is_name, is_reference, is_
 use Rattle.swc_tree_scoping.specs.BoundNames.{Id}
 use Rattle.swc_tree_scoping.specs.Declares.{Bound, Declares as DeclaresIt}
 use Rattle.swc_tree_scoping.specs.Readings.{by_ids, by_texts, id_name, with_identifiers}
-use Rattle.swc_tree_scoping.specs.WellScoped.{Binds, InExportList, IsDeclared, IsFree, WellScoped, is_module}
+use Rattle.swc_tree_scoping.specs.WellScoped.{InExportList, IsDeclared, IsFree, WellScoped, is_module}
 use Rattle.swc_tree_scoping.proofs.Remarked.{identifier_is, tree_is}
 use Rattle.swc_tree_scoping.proofs.Under.{no_place_under}
 use Rattle.swc_tree_renaming.specs.Apart.{DeclaredIn, FreeApartFromDeclared, DeclaredApart, IsAtOrAbove, IsRound, NamesApart, OccursIn}
 use Rattle.swc_tree_renaming.proofs.Blank.{layer, out_is, place_at_same}
 use Rattle.swc_tree_renaming.proofs.Core.{declared_taker, first_in, taken_binds}
 use Rattle.swc_tree_renaming.proofs.Shape.{some_same}
-use Rattle.swc_tree_renaming.proofs.Strict.{no_sloppy_in_modules}
 use Rattle.swc_tree_renaming.proofs.Whole.{module_layer}
 use Rattle.swc_tree_sites.proofs.Loose.{lowered, or_else}
 use Rattle.swc_base_rename_analysis.specs.Analysis.{Declares, IsRound as IsAround, OccursIn as Occurs, first_taking, is_for_body, opened_round, scopes_round}
@@ -39,6 +38,7 @@ use Rattle.swc_base_rename_analysis_laws.proofs.Rounds.{taken_is_round}
 use Rattle.swc_base_rename_scoped_laws.specs.Laws.{HasNewTexts, NoBodyDeclares, PreservesNone}
 use Rattle.swc_base_rename_scoped_laws.proofs.Around.{IsSeen, seen, seen_from, surrounds}
 use Rattle.swc_base_rename_scoped_laws.proofs.ByIds.{IsAt, by_id, from_id, from_ids, id_of, one_id, one_name, rounds_by_ids, taker_by_ids, to_id, to_ids}
+use Rattle.swc_base_rename_scoped_laws.proofs.Homes.{declared, home, settled}
 use Rattle.swc_base_rename_scoped_laws.proofs.Takers.{IsHeld, analysed_in, analysed_under, takers_held}
 
 -- nothing in an export list stands as the body of a function
@@ -132,24 +132,6 @@ module _ (t : Node) (s : Slot) (fit : Fits t s) (is_one : IsTrue (is_module t)) 
   abbrev A : Node
   A = by_ids t
 
-  settled : (p : Path) (r : Standing) (i : Ident) → IsAt t p r i → r ≢ standing.SloppyFunction
-  settled p r i a e = let (ts, o) = module_layer t is_one in no_sloppy_in_modules t ts o p a.place (Identifier a.kind i) a.stands (a.stands_so ∙ e)
-
-  declared : (p : Path) (r : Standing) (i : Ident) → IsAt t p r i → IsTrue (is_binding r) → IsDeclared A (id_name i)
-  declared p r i a b = (p, r, record { at = to_ids t p r i a; binds = b })
-
-  -- the scope of the language that declares an id
-  abbrev IsHome : Path → Ident → Type 0
-  IsHome u i = (p : Path) (r : Standing) (j : Ident) → id_name j ≡ id_name i → IsAt t p r j → IsTrue (is_binding r) → taker r t p ≡ Some u
-
-  named_so : (p : Path) (r : Standing) (j : Ident) (x : List ℕ) → id_name j ≡ x → IsAt t p r j → IsTrue (is_binding r) → Binds A p r x
-  named_so p r j x e a b = subst (λ x. Binds A p r x) e (record { at = to_ids t p r j a; binds = b })
-
-  home : (p : Path) (r : Standing) (i : Ident) → IsAt t p r i → IsTrue (is_binding r) → (u : Path) × IsHome u i
-  home p r i a b =
-      let one = scoped.each_in_one_scope (id_name i) (declared p r i a b) in
-      (one.scope, λ q v j e c d. sym (taker_by_ids t v q) ∙ declared_taker A v q one.scope (id_name i) (settled q v j c) (one.bindings q v (named_so q v j (id_name i) e c d)))
-
   -- what stands in it stands in the scope of the analysis that declares the id
   inside : (u p q : Path) (r : Standing) (i : Ident) (home_is : Path) → IsAt t p r i → IsTrue (is_binding r) → taker r t p ≡ Some home_is → first_taking r (scopes_round t p) ≡ Some u → IsSeen t home_is q
       → IsAround t u q
@@ -203,10 +185,10 @@ module _ (t : Node) (s : Slot) (fit : Fits t s) (is_one : IsTrue (is_module t)) 
 
   -- what declares an id is declared
   declared_id : (i : Ident) (u p : Path) → Declares t u p (id_of i) → IsDeclared A (id_name i)
-  declared_id i u p d = let (j, a, e) = from_id t p d.standing (id_of i) d.stands in subst (IsDeclared A) (one_name j i e) (declared p d.standing j a d.binds)
+  declared_id i u p d = let (j, a, e) = from_id t p d.standing (id_of i) d.stands in subst (IsDeclared A) (one_name j i e) (declared t p d.standing j a d.binds)
 
   bound_id : (i : Ident) → IsBound t (id_of i) → IsDeclared A (id_name i)
-  bound_id i (p, r, h, b) = let (j, a, e) = from_id t p r (id_of i) h in subst (IsDeclared A) (one_name j i e) (declared p r j a b)
+  bound_id i (p, r, h, b) = let (j, a, e) = from_id t p r (id_of i) h in subst (IsDeclared A) (one_name j i e) (declared t p r j a b)
 
   module _ (r : Renaming) (new_texts : Id → Option (List ℕ)) (text : List ℕ → List ℕ) (keeps_none : PreservesNone r) (named : Named t r (IsPreserved t r.preserves) all_count new_texts) (texts : HasNewTexts new_texts text) (lists : NoBodyExported t) where
     preserves_not : (x : Id) → IsTrue (r.preserves x) → ⊥
@@ -255,8 +237,8 @@ module _ (t : Node) (s : Slot) (fit : Fits t s) (is_one : IsTrue (is_module t)) 
         round =
             let (q, at_q, name_q) = from_ids t d.path d.standing x d.binds.at in
             let (k, at_k, same) = from_id t a.1 n.declared.standing (id_of i) n.declared.stands in
-            let (v, is_home) = home d.path d.standing q at_q d.binds.binds in
-            let one : v ≡ u = some_path (sym (is_home d.path d.standing q refl at_q d.binds.binds) ∙ sym (taker_by_ids t d.standing d.path) ∙ declared_taker A d.standing d.path u x (settled d.path d.standing q at_q) d.declared) in
+            let (v, is_home, sees) = home t is_one scoped d.path d.standing q at_q d.binds.binds in
+            let one : v ≡ u = some_path (sym (is_home d.path d.standing q refl at_q d.binds.binds) ∙ sym (taker_by_ids t d.standing d.path) ∙ declared_taker A d.standing d.path u x (settled t is_one d.path d.standing q at_q) d.declared) in
             let taken : taker n.declared.standing t a.1 ≡ Some u = is_home a.1 n.declared.standing k (one_name k i same ∙ name_i ∙ sym name_q) at_k n.declared.binds ∙ ap (λ v. Some v) one in
             inside a.0 a.1 o.path n.declared.standing k u at_k n.declared.binds taken n.declared.taken seen_here
 
@@ -311,7 +293,7 @@ module _ (t : Node) (s : Slot) (fit : Fits t s) (is_one : IsTrue (is_module t)) 
             undeclared h = n (subst (IsDeclared A) name_i h)
 
             reference : IsTrue (is_reference o.standing)
-            reference = refers o.standing o.names (λ b. undeclared (declared o.path o.standing i at_i b))
+            reference = refers o.standing o.names (λ b. undeclared (declared t o.path o.standing i at_i b))
 
             free : IsFree t i
             free = record { path = o.path; place = at_i.place; kind = at_i.kind; stands = at_i.stands; refers = subst (λ r. IsTrue (is_reference r)) (sym at_i.stands_so) reference; undeclared = undeclared }

@@ -5,3 +5,6 @@ pub mod Around
 pub mod ByIds
 pub mod Apart
 pub mod Exports
+pub mod Homes
+pub mod Bodies
+pub mod Chained

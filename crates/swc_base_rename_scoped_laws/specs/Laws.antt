@@ -1,5 +1,5 @@
 -- Laws of the names that ids get in well-scoped trees.
-use Rattle.std.specs.Prelude.{◌≡◌, ℕ, true, false, IsTrue, Option, Some, List, [], ◌∷◌, ◌++◌, unwrap_or}
+use Rattle.std.specs.Prelude.{◌≡◌, ◌↔◌, ℕ, true, false, IsTrue, Option, Some, List, [], ◌∷◌, ◌++◌, unwrap_or}
 use Rattle.swc_tree_marks.specs.declared.ident.Ident.{Ident}
 use Rattle.swc_tree_node.specs.declared.kind.Class.TheVariants as class
 use Rattle.swc_tree_node.specs.declared.slot.Content.TheVariants as content
@@ -16,7 +16,7 @@ use Rattle.swc_tree_scoping.specs.BoundNames.{Id}
 use Rattle.swc_tree_scoping.specs.Readings.{id_name}
 use Rattle.swc_tree_scoping.specs.WellScoped.{WellScoped, is_module}
 use Rattle.swc_tree_renaming.specs.Apart.{NamesApart}
-use Rattle.swc_base_rename_analysis.specs.Named.{Named, Renaming, all_count}
+use Rattle.swc_base_rename_analysis.specs.Named.{Named, Renaming, all_count, outer_count}
 use Rattle.swc_base_rename_analysis.specs.Preserved.{IsPreserved}
 
 -- the new text of an id, or its own where the map has none
@@ -43,3 +43,9 @@ GetsNamesApart t = (r : Renaming) (new_texts : Id → Option (List ℕ)) (text :
 -- so are those of a well-scoped module in which no body of a `for` statement declares
 abbrev pub NamesAreApartWhereNoBodyDeclares : Type 0
 NamesAreApartWhereNoBodyDeclares = (t : Node) → Fits t (slot.One (content.Node class.Module)) → IsTrue (is_module t) → WellScoped t → NoBodyDeclares t → GetsNamesApart t
+
+-- on a well-scoped module it is one whether all earlier names count at a scope, or only those of the scope and of the scopes
+-- round it
+abbrev pub ChainedIsFlat : Type 0
+ChainedIsFlat = (t : Node) (r : Renaming) (new_texts : Id → Option (List ℕ)) → Fits t (slot.One (content.Node class.Module)) → IsTrue (is_module t) → WellScoped t
+    → Named t r (IsPreserved t r.preserves) all_count new_texts ↔ Named t r (IsPreserved t r.preserves) (outer_count t) new_texts
