@@ -1,7 +1,6 @@
 -- The laws, of what is left of a tree.
-use Rattle.swc_tree_sites.specs.Laws.{NoCaptureStays, OneScopeStays, StrippedHasFewer}
+use Rattle.swc_tree_sites.specs.Laws.{NoCaptureStays, OneScopeStays}
 use Rattle.swc_tree_sites.proofs.Captures.{captures_none}
-use Rattle.swc_tree_sites.proofs.LeftStripped.{module_fewer}
 use Rattle.swc_tree_sites.proofs.Whole.{one_taker, one_taker_of_fewer, scopes_of_kept}
 
 pub one_scope_stays : OneScopeStays
@@ -9,6 +8,3 @@ one_scope_stays t n whole plain left each = scopes_of_kept t n whole plain left.
 
 pub no_capture_stays : NoCaptureStays
 no_capture_stays t n text whole plain left each none = captures_none t n text whole plain left.names (one_taker_of_fewer t n left.scopes (one_taker t whole each)) each none
-
-pub stripped_has_fewer : StrippedHasFewer
-stripped_has_fewer = module_fewer

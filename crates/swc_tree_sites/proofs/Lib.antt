@@ -15,9 +15,3 @@ pub mod Owners
 pub mod Owned
 pub mod Captures
 pub mod Laws
-pub mod Expressions
-pub mod Stripping
-pub mod Parts
-pub mod StrippedFewer
-pub mod LeftStripped
-pub mod LeftIds

@@ -4,7 +4,7 @@
 //! `specs/Laws.antt` states what is kept. Each law is the contract of a function that does nothing, so that it is proved.
 #![tactic(auto)]
 
-ghost use Rattle.swc_tree_sites.specs.Laws.{LeftKeepsIds, NoCaptureStays, OneScopeStays, StrippedHasFewer};
+ghost use Rattle.swc_tree_sites.specs.Laws.{NoCaptureStays, OneScopeStays};
 
 /// Where each name of a tree has one scope, each name of what is left of it has one.
 pub fn one_scope_stays()
@@ -14,15 +14,4 @@ pub fn one_scope_stays()
 /// Where new texts capture nothing in a tree, they capture nothing in what is left of it.
 pub fn no_capture_stays()
     ensures { NoCaptureStays }
-{}
-
-/// A module that is stripped has fewer names, and what is round them stays.
-pub fn stripped_has_fewer()
-    ensures { StrippedHasFewer }
-{}
-
-/// What is left of a program and of its resolved answer has one id at two places in the one exactly if in the other,
-/// where the new texts capture nothing.
-pub fn left_keeps_ids()
-    ensures { LeftKeepsIds }
 {}

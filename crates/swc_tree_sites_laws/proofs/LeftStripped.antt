@@ -36,15 +36,15 @@ use Rattle.swc_tree_sites.specs.Smaller.{Fewer}
 use Rattle.swc_tree_sites.proofs.Kept.{AllFewer, E, S, in_scope_fewer, joined_fewer, out_step}
 use Rattle.swc_tree_sites.proofs.Leaves.{Field}
 use Rattle.swc_tree_sites.proofs.Pending.{field_at}
-use Rattle.swc_tree_sites.proofs.Expressions.{P, is_part}
-use Rattle.swc_tree_sites.proofs.Stripping.{is_pair, is_pair_kind, looks, pair_in}
+use Rattle.swc_tree_sites_laws.proofs.Expressions.{P, is_part}
+use Rattle.swc_tree_sites_laws.proofs.Stripping.{is_pair, is_pair_kind, looks, pair_in}
 use Rattle.swc_tree_grammar.specs.Shapes.{items_of}
 use Rattle.swc_tree_grammar.specs.Stripped.{is_member, parts, sequence, settled, target, target_in, is_empty_in}
 use Rattle.swc_tree_grammar.proofs.Items.{items_of_list, listed}
 use Rattle.swc_tree_sites.proofs.Kept.{Q, all, both_nothing, of_list, of_seq}
-use Rattle.swc_tree_sites.proofs.Expressions.{alike, of_identifier}
-use Rattle.swc_tree_sites.proofs.Parts.{Answers, answer_by, field_pair, field_part, has_parts, is_part_kind, part_answers, part_belongs, part_by, part_part, parts_in, same_answers, single_content}
-use Rattle.swc_tree_sites.proofs.StrippedFewer.{fewer_is, fewer_trans, of_absent, of_leaf, sequence_left}
+use Rattle.swc_tree_sites_laws.proofs.Expressions.{alike, of_identifier}
+use Rattle.swc_tree_sites_laws.proofs.Parts.{Answers, answer_by, field_pair, field_part, has_parts, is_part_kind, part_answers, part_belongs, part_by, part_part, parts_in, same_answers, single_content}
+use Rattle.swc_tree_sites_laws.proofs.StrippedFewer.{fewer_is, fewer_trans, of_absent, of_leaf, sequence_left}
 
 abbrev Claim : Node → Type 0
 Claim t = (p q : Standing) (n : Bool) (s : Slot) → Fits t s → IsTrue (all_bare t) → (has_parts s ≡ true → is_part p ≡ true) → Answers (is_pair t) p q (Some (stripped t)) → Fewer (S (P q n) (stripped t)) (S (P p n) t)

@@ -26,8 +26,8 @@ use Rattle.swc_tree_grammar.proofs.Places.{Stands, stands}
 use Rattle.swc_tree_grammar.proofs.Stripped.{stripped_of_list}
 use Rattle.swc_tree_sites.proofs.Leaves.{Field}
 use Rattle.swc_tree_sites.proofs.Pending.{keyword_cases}
-use Rattle.swc_tree_sites.proofs.Expressions.{P, is_part}
-use Rattle.swc_tree_sites.proofs.Stripping.{is_pair, is_pair_kind, pair_in, tree_stays}
+use Rattle.swc_tree_sites_laws.proofs.Expressions.{P, is_part}
+use Rattle.swc_tree_sites_laws.proofs.Stripping.{is_pair, is_pair_kind, pair_in, tree_stays}
 
 -- as what a node stands, and as what what it is stripped to does: a pair's content stands as a part of the pattern that
 -- the pair is a part of

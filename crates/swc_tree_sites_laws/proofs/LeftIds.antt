@@ -24,7 +24,7 @@ use Rattle.swc_tree_renaming.proofs.Core.{HasOwner, declared_taker, same_ids, ta
 use Rattle.swc_tree_renaming.proofs.Shape.{nameless_by_ids, nameless_remarked, place_at_remarked, same_scopes, some_same}
 use Rattle.swc_tree_renaming.proofs.Strict.{no_sloppy_in_modules}
 use Rattle.swc_tree_renaming.proofs.Whole.{by_id, from_ids, id_name_apart, id_name_same, identifier_same, in_program, module_layer, module_too, no_script, stands_by_id}
-use Rattle.swc_tree_sites.specs.Laws.{LeftKeepsIds}
+use Rattle.swc_tree_sites_laws.specs.Laws.{LeftKeepsIds}
 use Rattle.swc_tree_sites.specs.Sites.{Binding, taken_at}
 use Rattle.swc_tree_sites.specs.Smaller.{In, IsLeftOf, IsPlain}
 use Rattle.swc_tree_sites.proofs.Captures.{captures_none}

@@ -1,0 +1,6 @@
+pub mod Expressions
+pub mod Stripping
+pub mod Parts
+pub mod StrippedFewer
+pub mod LeftStripped
+pub mod LeftIds

@@ -1,0 +1,17 @@
+//! What is left of a module that is stripped, and what ids what is left has.
+//!
+//! `specs/Laws.antt` states the laws. Each is the contract of a function that does nothing, so that it is proved.
+#![tactic(auto)]
+
+ghost use Rattle.swc_tree_sites_laws.specs.Laws.{LeftKeepsIds, StrippedHasFewer};
+
+/// A module that is stripped has fewer names, and what is round them stays.
+pub fn stripped_has_fewer()
+    ensures { StrippedHasFewer }
+{}
+
+/// What is left of a program and of its resolved answer has one id at two places in the one exactly if in the other,
+/// where the new texts capture nothing.
+pub fn left_keeps_ids()
+    ensures { LeftKeepsIds }
+{}
