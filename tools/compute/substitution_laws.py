@@ -4,6 +4,7 @@ import scoping
 from lawbook import (Bad, D, any_tree, declaration_ids, declared_ids, definition, expressions_as_names, fits_place, identifiers, ids_of, identity,
                      is_name, is_writable, kind, law, normal_form, writable_tree)
 from grammar_laws import exports, is_same
+import trees
 from trees import at, paths
 
 
@@ -50,6 +51,48 @@ def renamed_keeps_normal_form(t):
         changed = tuple(js.REC(span=js.REC(lo=0, hi=0), ctxt=ctxt, sym=sym) for sym, ctxt in new_ids)
         if not D.grammar.Same.same_tree(changed, before, after):
             return Bad('becomes', answer, 'normal forms:', before, '--', after)
+    return True
+
+
+def renamed_at_names(changes, t):
+    """the tree with the new id for each identifier at a binding or reference place, and without spans"""
+    program = scoping.Program(D.all, t)
+
+    def renamed(path, node):
+        if node[0] == 'Identifier':
+            i = node[2]
+            new = changes(identity(i)) if is_name(program.standing(path)) else None
+            sym, ctxt = new[0] if new else identity(i)
+            return ('Identifier', node[1], js.REC(span=None, ctxt=ctxt, sym=sym))
+        if node[0] == 'Span':
+            return ('Span', None)
+        if node[0] in ('List', 'Tree'):
+            return trees.with_kids(node, [renamed(path + (n,), c) for n, c in enumerate(trees.kids(node))])
+        return node
+    return renamed((), t)
+
+
+def any_maps(t):
+    """fresh maps; and maps to ids that the tree has, to one id for all, and to one id for every second"""
+    yield from fresh_maps(t)
+    ids = ids_of(t)
+    if len(ids) > 1:
+        yield {i: ids[(number + 1) % len(ids)] for number, i in enumerate(ids)}
+        yield {i: (ids[0][0], (7,)) for i in ids}
+        yield {i: ids[0] for number, i in enumerate(ids) if number % 2}
+
+
+@law(writable_tree)
+def renamed_normal_form_has_new_names(t):
+    """a writable tree whose ids get any new ids has its own normal form with these ids at names, but for spans"""
+    if not is_writable(t):
+        return None
+    for new_ids in any_maps(t):
+        for changes in (changes_of(new_ids), lambda i, new_ids=new_ids: (new_ids[i],) if i in new_ids else None):
+            answer = substituted(changes, t)
+            before, after = normal_form(t), normal_form(answer)
+            if renamed_at_names(changes, before) != renamed_at_names(lambda i: None, after):
+                return Bad('becomes', answer, 'normal forms:', before, '--', after)
     return True
 
 

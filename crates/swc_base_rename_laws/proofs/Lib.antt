@@ -1,4 +1,6 @@
 pub mod NormalFormStays
+pub mod NormalFormNames
+pub mod Outline
 pub mod NormalFormDeclared
 pub mod NormalFormSound
 pub mod NormalFormModule

@@ -152,7 +152,7 @@ module _ (m : Changes) (declared : Node → List Id) where
 
   alike_by : (i j : Ident) (o : Option Id) → m (id_of i) ≡ o → option_map (with_id i) o ≡ Some j → Alike m true i j
   alike_by i j None e h = absurd (cc)
-  alike_by i j (Some y) e h = inr (refl, ap is_some e)
+  alike_by i j (Some y) e h = inr (refl, e ∙ ap (option_map id_of) h)
 
   changed_alike : (p : Place) (b : Bool) (i j : Ident) → is_plain p ≡ true → is_name p ≡ b → changed m p i ≡ Some j → Alike m b i j
   changed_alike place.Name b i j h n e = subst (λ b. Alike m b i j) n (alike_by i j (m (id_of i)) refl e)
@@ -161,13 +161,25 @@ module _ (m : Changes) (declared : Node → List Id) where
   changed_alike place.ClassName b i j h n e = absurd (cc)
   changed_alike place.Shorthand b i j h n e = absurd (cc)
 
+  none_by : (i : Ident) (o : Option Id) → option_map (with_id i) o ≡ None → o ≡ None
+  none_by i None h = refl
+  none_by i (Some y) h = absurd (cc)
+
+  -- a name that doesn't change there
+  stays_alike : (p : Place) (b : Bool) (i : Ident) → is_plain p ≡ true → is_name p ≡ b → changed m p i ≡ None → Alike m b i i
+  stays_alike place.Name b i h n e = subst (λ b. Alike m b i i) n (inl (refl, none_by i (m (id_of i)) e))
+  stays_alike place.Other b i h n e = subst (λ b. Alike m b i i) n (inl (refl, refl))
+  stays_alike place.Exported b i h n e = subst (λ b. Alike m b i i) n (inl (refl, refl))
+  stays_alike place.ClassName b i h n e = absurd (cc)
+  stays_alike place.Shorthand b i h n e = absurd (cc)
+
   name_by : (g : Bool) (p : Place) (b : Bool) (k : Kind) (i : Ident) (o : Option Ident) → is_plain p ≡ true → is_name p ≡ b → changed m p i ≡ o → B g (part b) (Identifier k i) (identifier_to p k i o)
-  name_by g p b k i None h n e = to g (part b) _ _ _ (kept_at p k i h) (Becomes.name g (part b) k i i (inl refl))
+  name_by g p b k i None h n e = to g (part b) _ _ _ (kept_at p k i h) (Becomes.name g (part b) k i i (stays_alike p b i h n e))
   name_by g p b k i (Some j) h n e = to g (part b) _ _ _ (changed_at p k i j h) (Becomes.name g (part b) k i j (changed_alike p b i j h n e))
 
   short_by : (k : Kind) (i : Ident) (o : Option Id) → m (id_of i) ≡ o → B true property (Identifier k i) (identifier_to place.Shorthand k i (option_map (with_id i) o))
-  short_by k i None e = Becomes.name true property k i i (inl refl)
-  short_by k i (Some y) e = Becomes.short true k i (with_id i y) (inr (refl, ap is_some e))
+  short_by k i None e = Becomes.name true property k i i (refl, e)
+  short_by k i (Some y) e = Becomes.short true k i (with_id i y) (inr (refl, e))
 
   here : (g : Bool) (s : Spot) (t u : Node) → B g s t u → g ≡ true → is_absent_in (out-Node u) ≡ false
   here g s t u (Becomes.absent _) e = absurd (cc)
@@ -334,7 +346,7 @@ module _ (m : Changes) (declared : Node → List Id) where
       → B g (part b) (Tree kind.AssignPatProp (a ∷ Identifier kind.BindingIdent i ∷ v ∷ []))
       (written_out_if kind.AssignPatProp (if is_some o then Some i else None) (c ∷ identifier_to q kind.BindingIdent i o ∷ u ∷ []))
   key_by g b q a c i v u None h n e l k =
-      to g (part b) _ _ _ (ap (λ t. Tree kind.AssignPatProp (c ∷ t ∷ u ∷ [])) (kept_at q kind.BindingIdent i h)) (Becomes.tree g (part b) _ _ _ _ (Trees.key_stays b a c i v u l (whole_value v u k)))
+      to g (part b) _ _ _ (ap (λ t. Tree kind.AssignPatProp (c ∷ t ∷ u ∷ [])) (kept_at q kind.BindingIdent i h)) (Becomes.tree g (part b) _ _ _ _ (Trees.key_stays b a c i v u (stays_alike q b i h n e) l (whole_value v u k)))
   key_by g b q a c i v u (Some j) h n e l k =
       to g (part b) _ _ _ (ap (λ t. Tree kind.KeyValuePatProp (key_of i ∷ default_in i t u (out-Node u) ∷ [])) (changed_at q kind.BindingIdent i j h))
       (key_changes g b a i j v u (changed_alike q b i j h n e) k)
@@ -368,8 +380,11 @@ module _ (m : Changes) (declared : Node → List Id) where
   abbrev pub Others : Kind → Type 0
   Others k = (j : Ident) (us : List Node) → written_out k j us ≡ Tree k (with_other j us)
 
-  same_name : (g b : Bool) (l : Kind) (i : Ident) → B g (part b) (Identifier l i) (Identifier l i)
-  same_name g b l i = Becomes.name g (part b) l i i (inl refl)
+  same_text : (g : Bool) (l : Kind) (i : Ident) → B g (part false) (Identifier l i) (Identifier l i)
+  same_text g l i = Becomes.name g (part false) l i i (inl (refl, refl))
+
+  same_name : (g : Bool) (l : Kind) (i : Ident) → changed m place.Name i ≡ None → B g (part true) (Identifier l i) (Identifier l i)
+  same_name g l i e = Becomes.name g (part true) l i i (stays_alike place.Name true i refl refl e)
 
   both_absent : (g : Bool) (s : Spot) (F G : Node → Node) (v u : Node) → v ≡ Absent → u ≡ Absent → B g s (F Absent) (G Absent) → B g s (F v) (G u)
   both_absent g s F G v u e f h = subst (λ u. B g s (F v) (G u)) (sym f) (subst (λ v. B g s (F v) (G Absent)) (sym e) h)
@@ -378,8 +393,8 @@ module _ (m : Changes) (declared : Node → List Id) where
       → B g s (Tree k (a ∷ Identifier l i ∷ v ∷ [])) (written_out_if k (if is_some o then Some i else None) (c ∷ identifier_to place.Name l i o ∷ u ∷ []))
   double_by g s k l a c i v u None d w e h (inl x) =
       both_absent g s (λ v. Tree k (a ∷ Identifier l i ∷ v ∷ [])) (λ u. Tree k (c ∷ Identifier l i ∷ u ∷ [])) v u x.0 x.1
-      (Becomes.tree g s _ _ _ _ (Trees.one_stays s k a c _ _ d h (same_name true true l i) (same_name true false l i)))
-  double_by g s k l a c i v u None d w e h (inr x) = Becomes.tree g s _ _ _ _ (Trees.both_names s k a c _ _ v u d h (same_name true true l i) x)
+      (Becomes.tree g s _ _ _ _ (Trees.one_stays s k a c _ _ d h (same_name true l i e) (same_text true l i)))
+  double_by g s k l a c i v u None d w e h (inr x) = Becomes.tree g s _ _ _ _ (Trees.both_names s k a c _ _ v u d h (same_name true l i e) x)
   double_by g s k l a c i v u (Some j) d w e h (inl x) =
       both_absent g s (λ v. Tree k (a ∷ Identifier l i ∷ v ∷ [])) (λ u. written_out k i (c ∷ Identifier l j ∷ u ∷ [])) v u x.0 x.1
       (to g s _ _ _ (w i (c ∷ Identifier l j ∷ Absent ∷ []) ∙ ap (λ y. Tree k (c ∷ Identifier l j ∷ kept_in i Absent y ∷ [])) outs-Absent)

@@ -104,9 +104,9 @@ module _ (m : Changes) where
   patterns_like b ts us (Likes.none _) = Likes.none b
   patterns_like b ts us (Likes.more _ t u ts0 us0 h l) = Likes.more b _ _ _ _ (pattern_like b t u h) (patterns_like b ts0 us0 l)
 
-  plain_alike : (b : Bool) (i j : Ident) → Alike m false i j → Like m b (plain_name i) (plain_name j)
-  plain_alike b i j (inl e) = Like.name b kind.Ident _ _ (inl (ap (λ x. (x.0, [])) e))
-  plain_alike b i j (inr h) = absurd (cc (h.0))
+  plain_alike : (i j : Ident) → Alike m false i j → Like m false (plain_name i) (plain_name j)
+  plain_alike i j (inl e) = Like.name false kind.Ident _ _ (inl (ap (λ x. (x.0, [])) e.0, refl))
+  plain_alike i j (inr h) = absurd (cc (h.0))
 
   -- a name that stays is known by the same text
   pub again_like : (t u : Node) → Like m false t u → Like m false (again_in t (out-Node t)) (again_in u (out-Node u))
@@ -115,7 +115,7 @@ module _ (m : Changes) where
   again_like t u (Like.a_word _ x) = moved false _ _ _ _ (ap (again_in (Word x)) (outs-Word x)) (ap (again_in (Word x)) (outs-Word x)) (Like.a_word false x)
   again_like t u (Like.a_text _ x) = moved false _ _ _ _ (ap (again_in (Text x)) (outs-Text x)) (ap (again_in (Text x)) (outs-Text x)) (Like.a_text false x)
   again_like t u (Like.a_span _ x y) = moved false _ _ _ _ (ap (again_in (Span x)) (outs-Span x)) (ap (again_in (Span y)) (outs-Span y)) (Like.a_span false x y)
-  again_like t u (Like.name _ k i j a) = moved false _ _ _ _ (ap (again_in (Identifier k i)) (outs-Identifier k i)) (ap (again_in (Identifier k j)) (outs-Identifier k j)) (plain_alike false i j a)
+  again_like t u (Like.name _ k i j a) = moved false _ _ _ _ (ap (again_in (Identifier k i)) (outs-Identifier k i)) (ap (again_in (Identifier k j)) (outs-Identifier k j)) (plain_alike i j a)
   again_like t u (Like.list _ ts us l) = moved false _ _ _ _ (ap (again_in (Many ts)) (outs-List ts)) (ap (again_in (Many us)) (outs-List us)) (Like.list false ts us l)
   again_like t u (Like.tree _ k ts us e l) = moved false _ _ _ _ (ap (again_in (Tree k ts)) (outs-Tree k ts)) (ap (again_in (Tree k us)) (outs-Tree k us)) (Like.tree false k ts us e l)
   again_like t u (Like.exports _ a c ts us d e h l j) =
@@ -208,8 +208,8 @@ module _ (m : Changes) where
   Kept xs ys = Stay xs → ys ≡ xs
 
   own_name : (b : Bool) (k : Kind) (i j : Ident) → Alike m b i j → Kept (own_id k i) (own_id k j)
-  own_name b kind.BindingIdent i j (inl e) n = ap (λ x. x ∷ []) e
-  own_name b kind.BindingIdent i j (inr h) n = let no : true ≡ false = ap (λ b. b || false) (sym h.1) ∙ n in absurd (cc)
+  own_name b kind.BindingIdent i j (inl e) n = ap (λ x. x ∷ []) e.0
+  own_name b kind.BindingIdent i j (inr h) n = let no : true ≡ false = ap (λ o. is_some o || false) (sym h.1) ∙ n in absurd (cc)
   own_name b k i j a n = refl
 
   part_kept : (r : Role) (xs ys : List Id) → Kept xs ys → Kept (in_part r xs) (in_part r ys)
@@ -252,8 +252,8 @@ module _ (m : Changes) where
   name_at t y e = ap (λ y. id_of (name_in y)) e
 
   name_kept : (b : Bool) (t u : Node) → Like m b t u → Kept (id_of (name_of (Some t))) (id_of (name_of (Some u)))
-  name_kept b t u (Like.name _ k i j (inl e)) n = name_at _ _ (outs-Identifier k j) ∙ ap (λ x. x ∷ []) e ∙ sym (name_at _ _ (outs-Identifier k i))
-  name_kept b t u (Like.name _ k i j (inr h)) n = let no : true ≡ false = ap (λ b. b || false) (sym h.1) ∙ ap (list_any (λ x. is_some (m x))) (sym (name_at _ _ (outs-Identifier k i))) ∙ n in absurd (cc)
+  name_kept b t u (Like.name _ k i j (inl e)) n = name_at _ _ (outs-Identifier k j) ∙ ap (λ x. x ∷ []) e.0 ∙ sym (name_at _ _ (outs-Identifier k i))
+  name_kept b t u (Like.name _ k i j (inr h)) n = let no : true ≡ false = ap (λ o. is_some o || false) (sym h.1) ∙ ap (list_any (λ x. is_some (m x))) (sym (name_at _ _ (outs-Identifier k i))) ∙ n in absurd (cc)
   name_kept b t u (Like.absent _) n = refl
   name_kept b t u (Like.a_flag _ x) n = refl
   name_kept b t u (Like.a_word _ x) n = refl

@@ -66,7 +66,7 @@ any_first : (m : Changes) (x : Id) (xs : List Id) (b : Bool) → is_some (m x) �
 any_first m x xs true n h = refl
 any_first m x xs false n h = any_without m x (distinct xs) n ∙ h
 
-any_distinct : (m : Changes) (xs : List Id) → list_any (λ z. is_some (m z)) (distinct xs) ≡ list_any (λ z. is_some (m z)) xs
+pub any_distinct : (m : Changes) (xs : List Id) → list_any (λ z. is_some (m z)) (distinct xs) ≡ list_any (λ z. is_some (m z)) xs
 any_distinct m [] = refl
 any_distinct m (x ∷ xs) = any_first m x xs (is_some (m x)) refl (any_distinct m xs)
 

@@ -1,6 +1,6 @@
 -- A tree beside what it becomes where names are given anew, as the two stay beside one another while pairs of
 -- parentheses go and what is short is written out.
-use Rattle.std.proofs.Common.{◌≡◌, ◌⊎◌, ℕ, Bool, true, false, not, List, [], ◌∷◌, map}
+use Rattle.std.proofs.Common.{◌≡◌, ◌⊎◌, ℕ, Bool, true, false, not, Option, Some, None, List, [], ◌∷◌, map}
 use Rattle.std.specs.Prelude.{is_some}
 use Rattle.std.specs.List.{list_any}
 use Rattle.swc_tree_marks.specs.declared.span.Span.{Span as Range}
@@ -31,12 +31,6 @@ abbrev pub flag : Spot → Bool
 flag (part b) = b
 flag property = true
 flag specifier = true
-
--- whether a name there may change and stay a name alone
-abbrev pub free : Spot → Bool
-free (part b) = b
-free property = false
-free specifier = true
 
 -- whether a field holds names, in a node that does or does not
 abbrev pub flag_below : Bool → Role → Bool
@@ -111,9 +105,20 @@ is_double specifier k = export_at k
 
 -- ---- nodes
 
--- an identifier beside what it becomes: it stays, or its text changes where names stand
+-- the new id where names stand, and none elsewhere
+abbrev pub new_if : Changes → Bool → Id → Option Id
+new_if m true x = m x
+new_if m false x = None
+
+-- an identifier beside what it becomes: it stays, or has its new id where names stand
 abbrev pub Alike : Changes → Bool → Ident → Ident → Type 0
-Alike m b i j = (id_of j ≡ id_of i) ⊎ ((b ≡ true) × (is_some (m (id_of i)) ≡ true))
+Alike m b i j = ((id_of j ≡ id_of i) × (new_if m b (id_of i) ≡ None)) ⊎ ((b ≡ true) × (m (id_of i) ≡ Some (id_of j)))
+
+-- ... and stays a name alone: what changes in an object literal is written out
+abbrev pub AlikeAt : Changes → Spot → Ident → Ident → Type 0
+AlikeAt m (part b) i j = Alike m b i j
+AlikeAt m property i j = (id_of j ≡ id_of i) × (m (id_of i) ≡ None)
+AlikeAt m specifier i j = Alike m true i j
 
 -- `declared` are the names that an exported declaration declares
 mutual
@@ -123,7 +128,7 @@ mutual
     a_word : (g : Bool) (s : Spot) (x : Word') → Becomes m declared g s (Word x) (Word x)
     a_text : (g : Bool) (s : Spot) (x : List ℕ) → Becomes m declared g s (Text x) (Text x)
     a_span : (g : Bool) (s : Spot) (x : Range) → Becomes m declared g s (Span x) (Span x)
-    name : (g : Bool) (s : Spot) (k : Kind) (i j : Ident) → Alike m (free s) i j → Becomes m declared g s (Identifier k i) (Identifier k j)
+    name : (g : Bool) (s : Spot) (k : Kind) (i j : Ident) → AlikeAt m s i j → Becomes m declared g s (Identifier k i) (Identifier k j)
     -- `{ a }` becomes `{ a: a1 }`
     short : (g : Bool) (k : Kind) (i j : Ident) → Alike m true i j → Becomes m declared g property (Identifier k i) (Tree kind.KeyValueProp (shorthand_key i ∷ Identifier k j ∷ []))
     list : (h b : Bool) (ts us : List Node) → All m declared h (part b) ts us → Becomes m declared false (part b) (Many ts) (Many us)
@@ -138,7 +143,7 @@ mutual
     object : (f : Bool) (a b : Node) (ts us : List Node) → Becomes m declared true (part false) a b → All m declared true property ts us
         → Trees m declared (part f) kind.ObjectLit (a ∷ Many ts ∷ []) kind.ObjectLit (b ∷ Many us ∷ [])
     -- `{ a }` in a pattern stays, or becomes `{ a: a1 }`, and `{ a = 1 }` becomes `{ a: a1 = 1 }`
-    key_stays : (f : Bool) (a b : Node) (i : Ident) (t u : Node) → Becomes m declared true (part false) a b → Becomes m declared false (part true) t u
+    key_stays : (f : Bool) (a b : Node) (i : Ident) (t u : Node) → Alike m f i i → Becomes m declared true (part false) a b → Becomes m declared false (part true) t u
         → Trees m declared (part f) kind.AssignPatProp (a ∷ Identifier kind.BindingIdent i ∷ t ∷ []) kind.AssignPatProp (b ∷ Identifier kind.BindingIdent i ∷ u ∷ [])
     key_alone : (f : Bool) (a : Node) (i j : Ident) → Alike m f i j
         → Trees m declared (part f) kind.AssignPatProp (a ∷ Identifier kind.BindingIdent i ∷ Absent ∷ []) kind.KeyValuePatProp (key_of i ∷ Identifier kind.BindingIdent j ∷ [])

@@ -1,5 +1,5 @@
 -- What is beside one another is alike when what is short is written out.
-use Rattle.std.proofs.Common.{◌≡◌, ℕ, Bool, true, false, List, [], ◌∷◌, map, codes, nat_eq, refl, sym, ap, ◌∙◌, subst, rules, inl, inr}
+use Rattle.std.proofs.Common.{◌≡◌, ℕ, Bool, true, false, List, [], ◌∷◌, map, codes, nat_eq, refl, sym, ap, ◌∙◌, subst, rules, inl}
 use Rattle.std.specs.Prelude.{if◌then◌else◌}
 use Rattle.std.specs.Cmp.Lexicographic.{pointwise}
 use Rattle.swc_tree_marks.specs.declared.span.Span.{Span as Range}
@@ -15,7 +15,7 @@ use Rattle.swc_tree_grammar.specs.Shapes.{items_of}
 use Rattle.swc_tree_grammar.specs.Normal.{property as to_property, property_in, specifier as to_specifier, specifier_in, written_out, written_step}
 use Rattle.swc_tree_grammar.proofs.Items.{items_of_list}
 use Rattle.swc_base_rename_substitution.specs.Identifiers.{Changes}
-use Rattle.swc_base_rename_laws.proofs.NormalFormPairs.{Alike, Like, LikeFields, Spot, even_at, flag, flags, free, part, property, specifier}
+use Rattle.swc_base_rename_laws.proofs.NormalFormPairs.{Alike, AlikeAt, Like, LikeFields, Spot, even_at, flag, flags, part, property, specifier}
 use Rattle.swc_base_rename_laws.proofs.NormalFormLike.{items_like, moved, opened_like, pattern_like, patterns_like}
 
 -- ---- leaves
@@ -130,10 +130,9 @@ module _ (m : Changes) where
 
   -- ---- a node in an object literal, or in an export list, or elsewhere
 
-  pub name_done : (s : Spot) (k : Kind) (i j : Ident) → Alike m (free s) i j → L (flag s) (finished s (Identifier k i)) (finished s (Identifier k j))
+  pub name_done : (s : Spot) (k : Kind) (i j : Ident) → AlikeAt m s i j → L (flag s) (finished s (Identifier k i)) (finished s (Identifier k j))
   name_done (part b) k i j a = Like.name b k i j a
-  name_done property k i j (inl e) = moved m true _ _ _ _ (property_of k i) (property_of k j) (pair_like true k i j (ap (λ x. x.0) (sym e)) (inl e))
-  name_done property k i j (inr h) = absurd (cc (h.0))
+  name_done property k i j e = moved m true _ _ _ _ (property_of k i) (property_of k j) (pair_like true k i j (ap (λ x. x.0) (sym e.0)) (inl e))
   name_done specifier k i j a = moved m true _ _ _ _ (ap (specifier_in _) (outs-Identifier k i)) (ap (specifier_in _) (outs-Identifier k j)) (Like.name true k i j a)
 
   pub short_done : (k : Kind) (i j : Ident) → Alike m true i j → L true (to_property (Identifier k i)) (Tree kind.KeyValueProp (shorthand_key i ∷ Identifier k j ∷ []))

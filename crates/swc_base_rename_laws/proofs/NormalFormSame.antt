@@ -84,15 +84,30 @@ held_is : (b : Bool) → spot.is_name (held b) ≡ b
 held_is true = refl
 held_is false = refl
 
-no_source : not (absent_in (out-Node Absent)) ≡ false
+pub no_source : not (absent_in (out-Node Absent)) ≡ false
 no_source = ap (λ y. not (absent_in y)) outs-Absent
 
-a_source : (xs : List Node) → not (absent_in (out-Node (Tree kind.Str xs))) ≡ true
+pub a_source : (xs : List Node) → not (absent_in (out-Node (Tree kind.Str xs))) ≡ true
 a_source xs = ap (λ y. not (absent_in y)) (outs-Tree kind.Str xs)
 
-local_is : (w : ScopingPlace) (ts : List Node) (b : Bool) → has_source ts ≡ b → is_name (place_in w (Node-F.Tree kind.NamedExport ts) 1).standing ≡ not b
+pub local_is : (w : ScopingPlace) (ts : List Node) (b : Bool) → has_source ts ≡ b → is_name (place_in w (Node-F.Tree kind.NamedExport ts) 1).standing ≡ not b
 local_is w ts true e = ap (λ b. is_name (if b then standing.Imported else standing.Reference)) e
 local_is w ts false e = ap (λ b. is_name (if b then standing.Imported else standing.Reference)) e
+
+-- the standing of a field
+pub field_is : (w : ScopingPlace) (k : Kind) (ts : List Node) (b c : Bool) (i : ℕ) → is_left k ≡ true → is_name w.standing ≡ b → slice_get (flags b k) i ≡ Some c
+    → is_name (place_in w (Node-F.Tree k ts) i).standing ≡ c
+field_is w k ts b c i l e h = by_flag b e h
+  where
+    by_flag : (b : Bool) → is_name w.standing ≡ b → slice_get (flags b k) i ≡ Some c → is_name (place_in w (Node-F.Tree k ts) i).standing ≡ c
+    by_flag b e h =
+        let f = flag_at b c (fields_of k) i (no_locals k l) h in
+        sym (role_is (held b) w k ts i (field_role k i) (held_is b ∙ sym e))
+        ∙ below_is (held b) (has_source ts) (field_role k i) f.0
+        ∙ ap (λ b. flag_below b (field_role k i)) (held_is b) ∙ f.1
+
+pub item_is : (w : ScopingPlace) (ts : List Node) (b : Bool) (i : ℕ) → is_name w.standing ≡ b → is_name (place_in w (Node-F.List ts) i).standing ≡ b
+item_is w ts b i e = sym (part_is w.standing (slice_get ts i)) ∙ e
 
 module _ (m : Changes) (changing : List Ident) (named : (i : Ident) → IsTrue (is_some (m (id_of i))) → IsTrue (list_any (same_id i) changing)) where
   abbrev same_at : ScopingPlace → Node → Node → Bool
@@ -122,23 +137,8 @@ module _ (m : Changes) (changing : List Ident) (named : (i : Ident) → IsTrue (
   or_left false b h = absurd (cc)
 
   texts_same : (i j : Ident) (b : Bool) → Alike m b i j → (pointwise nat_eq i.sym j.sym || (b && list_any (same_id i) changing)) ≡ true
-  texts_same i j b (inl e) = or_left _ _ (ap (pointwise nat_eq i.sym) (ap (λ x. x.0) e) ∙ nat_list_eq_equiv.refl i.sym)
-  texts_same i j b (inr h) = or_right _ _ (and_both b _ h.0 (named i h.1))
-
-  -- the standing of a field
-  field_is : (w : ScopingPlace) (k : Kind) (ts : List Node) (b c : Bool) (i : ℕ) → is_left k ≡ true → is_name w.standing ≡ b → slice_get (flags b k) i ≡ Some c
-      → is_name (place_in w (Node-F.Tree k ts) i).standing ≡ c
-  field_is w k ts b c i l e h = by_flag b e h
-    where
-      by_flag : (b : Bool) → is_name w.standing ≡ b → slice_get (flags b k) i ≡ Some c → is_name (place_in w (Node-F.Tree k ts) i).standing ≡ c
-      by_flag b e h =
-          let f = flag_at b c (fields_of k) i (no_locals k l) h in
-          sym (role_is (held b) w k ts i (field_role k i) (held_is b ∙ sym e))
-          ∙ below_is (held b) (has_source ts) (field_role k i) f.0
-          ∙ ap (λ b. flag_below b (field_role k i)) (held_is b) ∙ f.1
-
-  item_is : (w : ScopingPlace) (ts : List Node) (b : Bool) (i : ℕ) → is_name w.standing ≡ b → is_name (place_in w (Node-F.List ts) i).standing ≡ b
-  item_is w ts b i e = sym (part_is w.standing (slice_get ts i)) ∙ e
+  texts_same i j b (inl e) = or_left _ _ (ap (pointwise nat_eq i.sym) (ap (λ x. x.0) e.0) ∙ nat_list_eq_equiv.refl i.sym)
+  texts_same i j b (inr h) = or_right _ _ (and_both b _ h.0 (named i (ap is_some h.1)))
 
   of_list : (w : ScopingPlace) (ts us : List Node) → each_same (each_in same_at (place_in w (Node-F.List ts)) ts) us ≡ true → same_at w (Many ts) (Many us) ≡ true
   of_list w ts us h = opens w (Many ts) (Many us) _ _ (outs-List ts) (outs-List us) h

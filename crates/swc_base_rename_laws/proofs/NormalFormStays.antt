@@ -12,14 +12,14 @@ use Rattle.swc_tree_scoping.specs.Places.{program_place}
 use Rattle.swc_tree_scoping.specs.BoundNames.{Id, declared_ids}
 use Rattle.swc_tree_grammar.specs.Normal.{normal_form, written_out}
 use Rattle.swc_tree_grammar.specs.Stripped.{stripped}
-use Rattle.swc_tree_grammar.specs.Writable.{Round, all_sound, strictly}
+use Rattle.swc_tree_grammar.specs.Writable.{Round, all_sound, is_writable, strictly}
 use Rattle.swc_tree_grammar.proofs.Induction.{Each}
 use Rattle.swc_tree_grammar.proofs.Items.{listed}
 use Rattle.swc_base_rename_substitution.specs.declared.place.Place.TheVariants as place
 use Rattle.swc_base_rename_substitution.specs.Identifiers.{Changes}
-use Rattle.swc_base_rename_substitution.specs.Substituted.{substituted}
+use Rattle.swc_base_rename_substitution.specs.Substituted.{Substituted, substituted}
 use Rattle.swc_base_rename_substitution.specs.Walk.{items_substituted}
-use Rattle.swc_base_rename_laws.specs.Laws.{NormalFormStays}
+use Rattle.swc_base_rename_laws.specs.Laws.{IsProgram, NormalFormStays}
 use Rattle.swc_base_rename_laws.proofs.NormalFormPairs.{Becomes, Items, Like, part}
 use Rattle.swc_base_rename_laws.proofs.NormalFormSame.{same_like}
 use Rattle.swc_base_rename_laws.proofs.NormalFormStripped.{strip_becomes}
@@ -85,6 +85,9 @@ module _ (m : Changes) where
   like : (t : Node) → Stands t → Like m false (normal_form t) (normal_form (substituted m false place.Other t))
   like t h = like_normal t (substituted m false place.Other t) h
 
+pub normal_forms_like : (m : Changes) (tree answer : Node) → IsProgram tree → IsTrue (is_writable tree) → Substituted m false tree answer → Like m false (normal_form tree) (normal_form answer)
+normal_forms_like m tree answer (inl f) w e = rw e (like m tree (module_stands m tree _ f w))
+normal_forms_like m tree answer (inr f) w e = rw e (like m tree (script_becomes m before tree f))
+
 pub normal_form_stays : NormalFormStays
-normal_form_stays m changing tree answer named (inl f) w e = rw e (same_like m changing named false _ _ (like m tree (module_stands m tree _ f w)) program_place refl)
-normal_form_stays m changing tree answer named (inr f) w e = rw e (same_like m changing named false _ _ (like m tree (script_becomes m before tree f)) program_place refl)
+normal_form_stays m changing tree answer named f w e = same_like m changing named false _ _ (normal_forms_like m tree answer f w e) program_place refl

@@ -244,7 +244,7 @@ module _ (m : Changes) (declared : Node → List Id) where
         moved_all m declared true (part true) _ (flat_map effects ts0) _ (flat_map effects us0) (effects_of_sequence a (Many ts0) ∙ effects_of_list ts0) (effects_of_sequence b (Many us0) ∙ effects_of_list us0)
         (all_effects true (part true) ts0 us0 j)
     tree_effects s k l ts us (Trees.object f a b ts0 us0 h j) = bare_whole _ _ _ _ _ refl refl (Trees.object f a b ts0 us0 h j)
-    tree_effects s k l ts us (Trees.key_stays f a b i t u h j) = bare_whole _ _ _ _ _ refl refl (Trees.key_stays f a b i t u h j)
+    tree_effects s k l ts us (Trees.key_stays f a b i t u n h j) = bare_whole _ _ _ _ _ refl refl (Trees.key_stays f a b i t u n h j)
     tree_effects s k l ts us (Trees.key_alone f a i j h) = bare_whole _ _ _ _ _ refl refl (Trees.key_alone f a i j h)
     tree_effects s k l ts us (Trees.key_default f a i j t u h n) = bare_whole _ _ _ _ _ refl refl (Trees.key_default f a i j t u h n)
     tree_effects s k l ts us (Trees.both_names s0 k0 a b o p t u e h i j) = bare_whole s0 k0 k0 _ _ (double_bare s0 k0 e) (double_bare s0 k0 e) (Trees.both_names s0 k0 a b o p t u e h i j)
@@ -336,10 +336,10 @@ module _ (m : Changes) (before after : Node → List Id) (kept : (t : Node) → 
     strip_trees g s k l ts us (Trees.object f a0 a1 ts0 us0 a h) =
         goes g (part f) _ _ _ _ (two kind.ObjectLit a0 (Many ts0) _ _ refl refl (stripped_of_list ts0)) (two kind.ObjectLit a1 (Many us0) _ _ refl refl (stripped_of_list us0))
         (Becomes.tree g (part f) _ _ _ _ (Trees.object f _ _ _ _ (strip_becomes true (part false) a0 a1 a) (strip_all true property ts0 us0 h)))
-    strip_trees g s k l ts us (Trees.key_stays f a0 a1 i t0 u0 a h) =
+    strip_trees g s k l ts us (Trees.key_stays f a0 a1 i t0 u0 n a h) =
         goes g (part f) _ _ _ _ (three kind.AssignPatProp a0 (Identifier kind.BindingIdent i) t0 _ _ _ refl refl (strip-Identifier kind.BindingIdent i) refl)
         (three kind.AssignPatProp a1 (Identifier kind.BindingIdent i) u0 _ _ _ refl refl (strip-Identifier kind.BindingIdent i) refl)
-        (Becomes.tree g (part f) _ _ _ _ (Trees.key_stays f _ _ i _ _ (strip_becomes true (part false) a0 a1 a) (strip_becomes false (part true) t0 u0 h)))
+        (Becomes.tree g (part f) _ _ _ _ (Trees.key_stays f _ _ i _ _ n (strip_becomes true (part false) a0 a1 a) (strip_becomes false (part true) t0 u0 h)))
     strip_trees g s k l ts us (Trees.key_alone f a0 i j a) =
         goes g (part f) _ _ _ _ (three kind.AssignPatProp a0 (Identifier kind.BindingIdent i) Absent _ _ _ refl refl (strip-Identifier kind.BindingIdent i) strip-Absent)
         (two kind.KeyValuePatProp (key_of i) (Identifier kind.BindingIdent j) _ _ refl (strip_key i) (strip-Identifier kind.BindingIdent j))

@@ -64,7 +64,7 @@ module _ (m : Changes) (declared : Node → List Id) where
   kinds_same P e s k ts l us (Trees.pair _ _ _ _ _ _) = refl
   kinds_same P e s k ts l us (Trees.sequence _ _ _ _ _ _) = refl
   kinds_same P e s k ts l us (Trees.object _ _ _ _ _ _ _) = refl
-  kinds_same P e s k ts l us (Trees.key_stays _ _ _ _ _ _ _ _) = refl
+  kinds_same P e s k ts l us (Trees.key_stays _ _ _ _ _ _ _ _ _) = refl
   kinds_same P e s k ts l us (Trees.key_alone _ _ _ _ _) = e
   kinds_same P e s k ts l us (Trees.key_default _ _ _ _ _ _ _ _) = e
   kinds_same P e s k ts l us (Trees.both_names _ _ _ _ _ _ _ _ _ _ _ _) = refl

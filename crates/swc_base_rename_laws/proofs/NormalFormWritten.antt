@@ -1,8 +1,8 @@
 -- What is beside one another is alike when what is short is written out: the whole.
-use Rattle.std.proofs.Common.{◌≡◌, ℕ, Bool, true, false, not, ◌&&◌, Option, Some, None, List, [], ◌∷◌, ◌++◌, map, nat_eq, refl, sym, ap, ◌∙◌, subst, inl, inr}
+use Rattle.std.proofs.Common.{◌≡◌, ℕ, Bool, true, false, not, ◌&&◌, ◌||◌, Option, Some, None, List, [], ◌∷◌, ◌++◌, map, nat_eq, refl, sym, ap, ◌∙◌, subst, inl, inr}
 use Rattle.std.specs.Prelude.{if◌then◌else◌, is_some}
 use Rattle.std.specs.Cmp.Lexicographic.{pointwise}
-use Rattle.std.specs.List.{filter, flat_map}
+use Rattle.std.specs.List.{filter, flat_map, list_any}
 use Rattle.std.proofs.lemmas.Cmp.{nat_list_eq_equiv}
 use Rattle.swc_tree_marks.specs.declared.span.Span.{Span as Range}
 use Rattle.swc_tree_marks.specs.declared.ident.Ident.{Ident}
@@ -26,6 +26,7 @@ use Rattle.swc_base_rename_substitution.specs.Exports as exported
 use Rattle.swc_base_rename_substitution.specs.Exports.{distinct, nowhere, specifier_to, without}
 use Rattle.swc_base_rename_laws.proofs.NormalFormPairs.{All, Alike, Becomes, Fields, Items, Like, LikeFields, Likes, Spot, Trees, flag, flag_below, flags, is_double, is_even, is_left, needed, part, spots, property, specifier}
 use Rattle.swc_base_rename_laws.proofs.NormalFormLike.{absent_same, again_like, declared_kept, moved, moved_all, split_alone}
+use Rattle.swc_base_rename_laws.proofs.NormalFormModule.{any_distinct}
 use Rattle.swc_base_rename_laws.proofs.NormalFormRows.{all_finished, even_row, finished, is_tame, key_like, name_done, out-Absent, out-Flag, out-Word, out-Text, out-Span, out-Identifier, out-List, out-Tree, out_items, out_key, out_shorthand, rolled, setter_row, short_done, tame}
 use Rattle.swc_base_rename_laws.proofs.Impossible.{impossible}
 
@@ -200,13 +201,13 @@ module _ (m : Changes) where
       → L f (Tree kind.AssignPat (Span s ∷ Identifier kind.BindingIdent i ∷ t ∷ [])) (Tree kind.AssignPat (Span s ∷ Identifier kind.BindingIdent j ∷ u ∷ []))
   made_default f s i j t u a h = Like.tree f kind.AssignPat _ _ refl (LikeFields.next false _ _ _ _ _ (span_like false s) (LikeFields.next f _ _ _ _ _ (Like.name f kind.BindingIdent i j a) (LikeFields.next true _ _ _ _ _ h LikeFields.end)))
 
-  default_like : (f : Bool) (i : Ident) (t u : Node) → L true t u → L f (with_default (Span i.span) (Identifier kind.BindingIdent i) t) (with_default (Span i.span) (Identifier kind.BindingIdent i) u)
-  default_like f i t u h = by (is_absent t) (is_absent u) (absent_same m true t u h)
+  default_like : (f : Bool) (i : Ident) (t u : Node) → Alike m f i i → L true t u → L f (with_default (Span i.span) (Identifier kind.BindingIdent i) t) (with_default (Span i.span) (Identifier kind.BindingIdent i) u)
+  default_like f i t u a h = by (is_absent t) (is_absent u) (absent_same m true t u h)
     where
       by : (x y : Bool) → x ≡ y → L f (if x then Identifier kind.BindingIdent i else Tree kind.AssignPat (Span i.span ∷ Identifier kind.BindingIdent i ∷ t ∷ []))
           (if y then Identifier kind.BindingIdent i else Tree kind.AssignPat (Span i.span ∷ Identifier kind.BindingIdent i ∷ u ∷ []))
-      by true true e = Like.name f kind.BindingIdent i i (inl refl)
-      by false false e = made_default f i.span i i t u (inl refl) h
+      by true true e = Like.name f kind.BindingIdent i i a
+      by false false e = made_default f i.span i i t u a h
       by true false e = absurd (cc)
       by false true e = absurd (cc)
 
@@ -222,27 +223,36 @@ module _ (m : Changes) where
 
   -- ---- the export list of an exported declaration
 
-  itself_like : (i : Ident) → L true (exported_as_itself i) (exported_as_itself i)
-  itself_like i = double_like specifier kind.ExportNamedSpecifier _ _ _ _ _ _ refl (span_like false no_span) (Like.name true kind.Ident i i (inl refl)) (Like.name false kind.Ident _ _ (inl refl))
+  itself_like : (x : Id) → m x ≡ None → L true (exported_as_itself (made x)) (exported_as_itself (made x))
+  itself_like x e = double_like specifier kind.ExportNamedSpecifier _ _ _ _ _ _ refl (span_like false no_span) (Like.name true kind.Ident (made x) (made x) (inl (refl, e))) (Like.name false kind.Ident _ _ (inl (refl, refl)))
 
-  themselves_like : (is : List Ident) → Likes m true (map exported_as_itself is) (map exported_as_itself is)
-  themselves_like [] = Likes.none true
-  themselves_like (i ∷ is) = Likes.more true _ _ _ _ (itself_like i) (themselves_like is)
+  stays_first : (o : Option Id) (b : Bool) → (is_some o || b) ≡ false → o ≡ None
+  stays_first None b h = refl
+  stays_first (Some y) b h = absurd (cc)
 
-  list_like : (is : List Ident) → L false (export_list is) (export_list is)
-  list_like is = Like.exports false _ _ _ _ _ _ (span_like false no_span) (themselves_like is) (Like.absent false)
+  stay_rest : (a b : Bool) → (a || b) ≡ false → b ≡ false
+  stay_rest true b h = absurd (cc)
+  stay_rest false b h = h
+
+  themselves_like : (xs : List Id) → list_any (λ x. is_some (m x)) xs ≡ false → Likes m true (map exported_as_itself (map made xs)) (map exported_as_itself (map made xs))
+  themselves_like [] n = Likes.none true
+  themselves_like (x ∷ xs) n = Likes.more true _ _ _ _ (itself_like x (stays_first (m x) _ n)) (themselves_like xs (stay_rest (is_some (m x)) _ n))
+
+  list_like : (xs : List Id) → list_any (λ x. is_some (m x)) xs ≡ false → L false (export_list (each_once (map made xs))) (export_list (each_once (map made xs)))
+  list_like xs n = moved m false _ _ _ _ (ap export_list (once_made xs)) (ap export_list (once_made xs))
+      (Like.exports false _ _ _ _ _ _ (span_like false no_span) (themselves_like (distinct xs) (any_distinct m xs ∙ n)) (Like.absent false))
 
   made_like : (x : Id) (o : Option Id) → m x ≡ o → L true (exported_as_itself (made x)) (to_specifier (written_out (specifier_to x o)))
   made_like x None e = moved m true _ _ _ _ refl (double_is specifier kind.ExportNamedSpecifier nowhere (Identifier kind.Ident (exported.made x)) Absent refl
       ∙ (λ i. Tree kind.ExportNamedSpecifier (out-Span no_span i ∷ out-Identifier kind.Ident (exported.made x) i ∷ again (out-Identifier kind.Ident (exported.made x) i) (out-Absent i) ∷ []))
       ∙ ap (λ t. Tree kind.ExportNamedSpecifier (Span no_span ∷ Identifier kind.Ident (exported.made x) ∷ t ∷ [])) (again_name kind.Ident (exported.made x)))
-      (itself_like (made x))
+      (itself_like x e)
   made_like x (Some y) e =
       let other = Identifier kind.Ident (exported.made (x.0, [])) in
       moved m true _ _ _ _ refl (double_is specifier kind.ExportNamedSpecifier nowhere (Identifier kind.Ident (exported.made y)) other refl
       ∙ (λ i. Tree kind.ExportNamedSpecifier (out-Span no_span i ∷ out-Identifier kind.Ident (exported.made y) i ∷ again (out-Identifier kind.Ident (exported.made y) i) (out-Identifier kind.Ident (exported.made (x.0, [])) i) ∷ []))
       ∙ ap (λ t. Tree kind.ExportNamedSpecifier (Span no_span ∷ Identifier kind.Ident (exported.made y) ∷ t ∷ [])) (again_there (Identifier kind.Ident (exported.made y)) other (ap is_absent_in (outs-Identifier kind.Ident (exported.made (x.0, []))))))
-      (double_like specifier kind.ExportNamedSpecifier _ _ _ _ _ _ refl (span_like false no_span) (Like.name true kind.Ident (made x) (exported.made y) (inr (refl, ap is_some e))) (Like.name false kind.Ident _ _ (inl refl)))
+      (double_like specifier kind.ExportNamedSpecifier _ _ _ _ _ _ refl (span_like false no_span) (Like.name true kind.Ident (made x) (exported.made y) (inr (refl, e))) (Like.name false kind.Ident _ _ (inl (refl, refl))))
 
   all_made_like : (xs : List Id) → Likes m true (map exported_as_itself (map made xs)) (map to_specifier (map written_out (map (exported.specifier m) xs)))
   all_made_like [] = Likes.none true
@@ -338,8 +348,8 @@ module _ (m : Changes) where
         moved m f _ _ _ _ (out-Tree kind.ObjectLit (a0 ∷ Many ts0 ∷ []) ∙ ap (λ l. Tree kind.ObjectLit (written_out a0 ∷ Many (map to_property l) ∷ [])) (out_items ts0))
         (out-Tree kind.ObjectLit (a1 ∷ Many us0 ∷ []) ∙ ap (λ l. Tree kind.ObjectLit (written_out a1 ∷ Many (map to_property l) ∷ [])) (out_items us0))
         (Like.tree f kind.ObjectLit _ _ refl (LikeFields.next false _ _ _ _ _ (written_becomes true (part false) a0 a1 a) (LikeFields.next true _ _ _ _ _ (Like.list true _ _ (written_all true property ts0 us0 h)) LikeFields.end)))
-    written_trees s k l ts us (Trees.key_stays f a0 a1 i t0 u0 a h) =
-        moved m f _ _ _ _ (key_is a0 i t0) (key_is a1 i u0) (value_like f i _ _ (default_like f i _ _ (written_becomes false (part true) t0 u0 h)))
+    written_trees s k l ts us (Trees.key_stays f a0 a1 i t0 u0 n a h) =
+        moved m f _ _ _ _ (key_is a0 i t0) (key_is a1 i u0) (value_like f i _ _ (default_like f i _ _ n (written_becomes false (part true) t0 u0 h)))
     written_trees s k l ts us (Trees.key_alone f a0 i j a) =
         moved m f _ _ _ _
         (key_is a0 i Absent ∙ ap (λ t. Tree kind.KeyValuePatProp (key_of i ∷ with_default (Span i.span) (Identifier kind.BindingIdent i) t ∷ [])) out-Absent
@@ -369,7 +379,7 @@ module _ (m : Changes) where
         ∙ ap (λ t. Tree k0 (written_out a0 ∷ Identifier n i ∷ t ∷ [])) (again_name n i))
         (double_is s0 k0 a1 (Identifier n j) other e ∙ (λ x. Tree k0 (written_out a1 ∷ out-Identifier n j x ∷ again (out-Identifier n j x) (out-Identifier kind.Ident (kept_name i) x) ∷ []))
         ∙ ap (λ t. Tree k0 (written_out a1 ∷ Identifier n j ∷ t ∷ [])) (again_there (Identifier n j) other (ap is_absent_in (outs-Identifier kind.Ident (kept_name i)))))
-        (double_like s0 k0 _ _ _ _ _ _ e (written_becomes true (part false) a0 a1 a) (Like.name true n i j b) (Like.name false kind.Ident _ _ (inl refl)))
+        (double_like s0 k0 _ _ _ _ _ _ e (written_becomes true (part false) a0 a1 a) (Like.name true n i j b) (Like.name false kind.Ident _ _ (inl (refl, refl))))
     written_trees s k l ts us (Trees.exports f a0 a1 ts0 us0 c0 c1 a h c) =
         moved m f _ _ _ _ (exports_are a0 ts0 c0) (exports_are a1 us0 c1) (Like.exports f _ _ _ _ _ _ (written_becomes true (part false) a0 a1 a) (written_all true specifier ts0 us0 h) (written_becomes false (part false) c0 c1 c))
     written_trees s k l ts us (Trees.reexports f a0 a1 ts0 us0 xs ys c0 c1 a h x c) =
@@ -400,7 +410,7 @@ module _ (m : Changes) where
         let same = declared_kept m false _ _ like n in
         likes_append false _ _ _ _
         (moved_all m false _ _ _ _ (exported_is a0 t) (exported_is a1 u ∙ ap (λ xs. written_out u ∷ export_list (each_once (map made xs)) ∷ []) same)
-        (two_likes _ _ _ _ like (list_like (each_once (map made (declared t)))))) (written_items ts0 us0 l)
+        (two_likes _ _ _ _ like (list_like (declared t) n))) (written_items ts0 us0 l)
     written_items ts us (Items.split a0 t u ts0 us0 h l) =
         let like = written_becomes true (part false) t u h in
         let lists = exports_like (declared t) in

@@ -18,6 +18,7 @@ use Rattle.swc_base_rename_substitution.specs.Names.{Id, found_in, new_id, same_
 use Rattle.swc_base_rename_substitution.specs.Identifiers.{Changes, id_of}
 use Rattle.swc_base_rename_substitution.specs.Substituted.{Substituted}
 use Rattle.swc_base_rename_laws.specs.Texts.{outer_texts}
+use Rattle.swc_base_rename_laws.specs.NewNames.{HasNewNames}
 
 -- the map has nothing for any id
 abbrev pub IsEmpty : Names → Type 0
@@ -59,3 +60,8 @@ WritableStays = (m : Changes) (place : Slot) (tree answer : Node) → GivesNames
 abbrev pub NormalFormStays : Type 0
 NormalFormStays = (m : Changes) (changing : List Ident) (tree answer : Node) → ((i : Ident) → IsTrue (is_some (m (id_of i))) → IsTrue (list_any (same_identifier i) changing))
     → IsProgram tree → IsTrue (is_writable tree) → Substituted m false tree answer → IsTrue (same_tree changing (normal_form tree) (normal_form answer))
+
+-- ... which is the one that it had, with the new ids where names are bound or referred to
+abbrev pub NormalFormHasNewNames : Type 0
+NormalFormHasNewNames = (m : Changes) (tree answer : Node) → IsProgram tree → IsTrue (is_writable tree) → Substituted m false tree answer
+    → HasNewNames m (normal_form tree) (normal_form answer)

@@ -1,0 +1,47 @@
+-- Which texts hygiene gives the names of a normal form.
+use Rattle.std.specs.Prelude.{◌≡◌, ℕ, Option, Some, List, [], unwrap_or, if◌then◌else◌}
+use Rattle.swc_tree_marks.specs.declared.ident.Ident.{Ident}
+use Rattle.swc_tree_marks.specs.Globals.{Table}
+use Rattle.swc_tree_node.specs.declared.kind.Kind.{Kind}
+use Rattle.swc_tree_node.specs.declared.kind.Class.TheVariants as class
+use Rattle.swc_tree_node.specs.declared.slot.Content.TheVariants as content
+use Rattle.swc_tree_node.specs.declared.slot.Slot.TheVariants as slot
+use Rattle.swc_tree_node.specs.declared.node.Node.{Node, Identifier}
+use Rattle.swc_tree_node.specs.Fits.{Fits}
+use Rattle.swc_tree_scoping.specs.declared.places.Standing.{Standing}
+use Rattle.swc_tree_scoping.specs.declared.places.Place.{Place}
+use Rattle.swc_tree_scoping.specs.Places.{Path, place_at, program_place}
+use Rattle.swc_tree_scoping.specs.BoundNames.{Id}
+use Rattle.swc_tree_scoping.specs.Scopes.{is_name}
+use Rattle.swc_tree_grammar.specs.Normal.{normal_form}
+use Rattle.swc_tree_grammar.specs.Writable.{Writable}
+use Rattle.swc_base_rename_substitution.specs.declared.config.Config.{Config}
+use Rattle.swc_base_rename_substitution.specs.Identifiers.{id_of}
+use Rattle.swc_base_rename_analysis.specs.Named.{Named}
+use Rattle.swc_base_rename_analysis.specs.Preserved.{IsPreserved}
+use Rattle.swc_base_rename_naming_laws.specs.Rules.{counting}
+use Rattle.swc_base_rename_program.specs.Renamed.{IsHygienic, hygiene_renaming}
+use Rattle.swc_base_rename_laws.specs.NewNames.{outline}
+use Rattle.swc_base_rename_hygiene_laws.specs.Laws.{IsPlain}
+
+-- the text of an identifier that stands so: where it is bound or referred to the one that the map gives, and else its own
+abbrev pub text_anew : (Id → Option (List ℕ)) → Standing → Ident → List ℕ
+text_anew new_texts standing i = if is_name standing then unwrap_or (new_texts (id_of i)) i.sym else i.sym
+
+-- the second tree is the first one but for spans, with the new texts at bindings and references, and without contexts
+pub record HasNewTexts (new_texts : Id → Option (List ℕ)) (t u : Node) : Type 0 where
+  pub shape : outline t ≡ outline u
+  pub texts : (p : Path) (w : Place) (k : Kind) (i : Ident) → place_at program_place t p ≡ Some (w, Identifier k i)
+      → (j : Ident) × (place_at program_place u p ≡ Some (w, Identifier k j)) × (j.sym ≡ text_anew new_texts w.standing i) × (j.ctxt ≡ [])
+
+-- the map that hygiene names in the first program gives the normal form of the second its texts
+pub record HasHygienicTexts (before after : Node) : Type 0 where
+  pub new_texts : Id → Option (List ℕ)
+  pub named : Named before hygiene_renaming (IsPreserved before hygiene_renaming.preserves) (counting before hygiene_renaming) new_texts
+  pub normal : HasNewTexts new_texts (normal_form before) (normal_form after)
+
+-- a module that can be written down has the same normal form but for the names that hygiene gives, which have there just
+-- the texts of its map
+abbrev pub HygieneGivesNormalFormNewTexts : Type 0
+HygieneGivesNormalFormNewTexts = (table : Table) (config : Config) (before after : Node) → IsPlain config before → Fits before (slot.One (content.Node class.Module)) → Writable before
+    → IsHygienic table config before after → HasHygienicTexts before after
