@@ -17,10 +17,10 @@ pub mod OuterTextsForms
 pub mod OuterTextsNames
 pub mod OuterTextsWritten
 pub mod OuterTextsStay
-mod WritableStaysSound
+pub mod WritableStaysSound
 mod WritableStaysShape
 mod WritableStaysForms
-mod WritableStaysNames
+pub mod WritableStaysNames
 mod WritableStaysExports
 mod WritableStaysLists
 mod WritableStaysPatterns

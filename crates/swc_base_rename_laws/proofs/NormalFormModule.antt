@@ -330,7 +330,7 @@ module _ (m : Changes) (declared : Node → List Id) where
   item_of k xs ts us b f e l =
       other_item k xs ts us (ap exported_in (outs-Tree k xs)) (tree_of m declared true false place.Other k xs refl (item_allowed k b refl) f (every xs)) l
 
-  all_items : (ts : List Node) → AllFit (slot.One (content.Node class.ModuleItem)) ts → Each Exported ts → Items m declared ts (items_substituted m false place.Other ts)
+  pub all_items : (ts : List Node) → AllFit (slot.One (content.Node class.ModuleItem)) ts → Each Exported ts → Items m declared ts (items_substituted m false place.Other ts)
   all_items [] f e = Items.nothing
   all_items (t ∷ ts) f e =
       let x = tree_only class.ModuleItem refl refl t f.0 in

@@ -18,21 +18,22 @@ use Rattle.swc_tree_grammar.proofs.Items.{listed}
 use Rattle.swc_base_rename_substitution.specs.declared.place.Place.TheVariants as place
 use Rattle.swc_base_rename_substitution.specs.Identifiers.{Changes}
 use Rattle.swc_base_rename_substitution.specs.Substituted.{substituted}
+use Rattle.swc_base_rename_substitution.specs.Walk.{items_substituted}
 use Rattle.swc_base_rename_laws.specs.Laws.{NormalFormStays}
-use Rattle.swc_base_rename_laws.proofs.NormalFormPairs.{Becomes, Like, part}
+use Rattle.swc_base_rename_laws.proofs.NormalFormPairs.{Becomes, Items, Like, part}
 use Rattle.swc_base_rename_laws.proofs.NormalFormSame.{same_like}
 use Rattle.swc_base_rename_laws.proofs.NormalFormStripped.{strip_becomes}
 use Rattle.swc_base_rename_laws.proofs.NormalFormWritten.{written_becomes}
-use Rattle.swc_base_rename_laws.proofs.NormalFormModule.{Exported, module_becomes, script_becomes, tree_only}
+use Rattle.swc_base_rename_laws.proofs.NormalFormModule.{Exported, all_items, module_becomes, script_becomes, tree_only}
 use Rattle.swc_base_rename_laws.proofs.NormalFormSound.{of, sound, sound_list, sound_tree}
 use Rattle.swc_base_rename_laws.proofs.NormalFormDeclared.{exported_declares}
 use Rattle.swc_base_rename_laws.proofs.Impossible.{impossible}
 
 -- what a declaration declares, pairs taken off, and when all is written out
-abbrev before : Node → List Id
+abbrev pub before : Node → List Id
 before t = declared_ids (written_out (stripped t))
 
-abbrev after : Node → List Id
+abbrev pub after : Node → List Id
 after t = declared_ids (written_out t)
 
 both_left : (a b : Bool) → (a && b) ≡ true → a ≡ true
@@ -50,6 +51,13 @@ module _ (m : Changes) where
   all_exported : (ts : List Node) (r : Round) → AllFit (slot.One (content.Node class.ModuleItem)) ts → all_sound (map of ts) r ≡ true → Each (Exported m before) ts
   all_exported [] r f h = tt
   all_exported (t ∷ ts) r f h = (exported t r f.0 (both_right _ _ (both_left _ _ h)), all_exported ts r f.1 (both_right _ _ h))
+
+  -- the items of a module become those with their names
+  pub items_become : (ts : List Node) (r : Round) → AllFit (slot.One (content.Node class.ModuleItem)) ts → all_sound (map of ts) r ≡ true → Items m before ts (items_substituted m false place.Other ts)
+  items_become ts r f h = all_items m before ts f (all_exported ts r f h)
+
+  pub like_normal : (t u : Node) → Becomes m before true (part false) t u → Like m false (normal_form t) (normal_form u)
+  like_normal t u h = written_becomes m true (part false) _ _ (strip_becomes m before after (λ t. refl) true (part false) t u h)
 
   abbrev Stands : Node → Type 0
   Stands t = Becomes m before true (part false) t (substituted m false place.Other t)
@@ -75,7 +83,7 @@ module _ (m : Changes) where
       subst Stands (sym x.2) (of_kind x.0 x.1 r x.4 x.5 (subst (λ t. sound t r ≡ true) x.2 s))
 
   like : (t : Node) → Stands t → Like m false (normal_form t) (normal_form (substituted m false place.Other t))
-  like t h = written_becomes m true (part false) _ _ (strip_becomes m before after (λ t. refl) true (part false) t (substituted m false place.Other t) h)
+  like t h = like_normal t (substituted m false place.Other t) h
 
 pub normal_form_stays : NormalFormStays
 normal_form_stays m changing tree answer named (inl f) w e = rw e (same_like m changing named false _ _ (like m tree (module_stands m tree _ f w)) program_place refl)

@@ -29,7 +29,7 @@ use Rattle.swc_base_rename_substitution.proofs.Equations.{substituted-Absent, su
 use Rattle.swc_base_rename_laws.specs.Laws.{EmptyMapChangesNothing, IsEmpty, KeepsTexts, KeptTextsChangeNothing}
 
 -- no place is that of a kept class name
-abbrev is_class_name : Place → Bool
+abbrev pub is_class_name : Place → Bool
 is_class_name place.ClassName = true
 is_class_name _ = false
 
@@ -82,7 +82,7 @@ module _ (m : Changes) (none : (x : Id) → m x ≡ None) where
   unchanged_there place.ClassName i = refl
   unchanged_there place.Other i = refl
 
-  abbrev Stays : Node → Type 0
+  abbrev pub Stays : Node → Type 0
   Stays t = (p : Place) → is_class_name p ≡ false → substituted m false p t ≡ t
 
   identifier_stays : (p : Place) (k : Kind) (i : Ident) → is_class_name p ≡ false → identifier_to p k i None ≡ Identifier k i
@@ -116,7 +116,7 @@ module _ (m : Changes) (none : (x : Id) → m x ≡ None) where
   no_name p None = refl
   no_name p (Some i) = ap (λ (j : Option Ident). if is_some j then Some i else None) (unchanged_there p i)
 
-  stays : (t : Node) → Stays t
+  pub stays : (t : Node) → Stays t
   stays = by_children Stays (λ t below p h. at t below (out-Node t) refl p h)
     where
       is : (t : Node) (y : Node-F Node) → out-Node t ≡ y → t ≡ roll-Node y

@@ -30,7 +30,7 @@ use Rattle.swc_base_rename_laws.specs.Laws.{GivesNames, WritableStays}
 use Rattle.swc_base_rename_laws.proofs.WritableStaysSound.{head_tree, in_head, of, sound, sound_list, sound_name, sound_tree}
 use Rattle.swc_base_rename_laws.proofs.WritableStaysShape.{IsNew, changed_new, fields, old_name, plain_tree, tree_is, within_long}
 use Rattle.swc_base_rename_laws.proofs.WritableStaysForms.{plain_same}
-use Rattle.swc_base_rename_laws.proofs.WritableStaysNames.{bindable_text, both_true}
+use Rattle.swc_base_rename_laws.proofs.WritableStaysNames.{bindable_text, both_true, by_round}
 use Rattle.swc_base_rename_laws.proofs.WritableStaysLists.{Le, items_sound}
 use Rattle.swc_base_rename_laws.proofs.WritableStaysPatterns.{same_le}
 use Rattle.swc_base_rename_laws.proofs.WritableStaysParts.{bound_le}
@@ -51,13 +51,20 @@ new_sound kind.BindingIdent j r h = by_round r.assigned r.strict
     by_round false false = both_true (bindable_text true j.sym h) refl
 new_sound k j r h = bindable_text true j.sym h
 
+text_sound : (k : Kind) (i : Ident) (r : Round) → sound_in (Node-F.Identifier k i) r ≡ true → is_identifier_text i.sym ≡ true
+text_sound kind.BindingIdent i r h = by_round r.assigned r.strict i.sym h
+text_sound k i r h = h
+
 old_sound : (k : Kind) (i j : Ident) (r : Round) → j.sym ≡ i.sym → sound_in (Node-F.Identifier k j) r ≡ sound_in (Node-F.Identifier k i) r
 old_sound kind.BindingIdent i j r e = ap (λ x. if r.assigned then is_identifier_text x else is_bindable r.strict x) e
 old_sound k i j r e = ap is_identifier_text e
 
+old_text : (k : Kind) (i : Ident) (r : Round) → sound (Identifier k i) r ≡ true → is_identifier_text i.sym ≡ true
+old_text k i r h = text_sound k i r (sym (sound_name k i r) ∙ h)
+
 renamed_sound : (k : Kind) (i j : Ident) (r : Round) → IsNew i j → Le (sound (Identifier k i) r) (sound (Identifier k j) r)
 renamed_sound k i j r (inl e) h = sound_name k j r ∙ old_sound k i j r e ∙ sym (sound_name k i r) ∙ h
-renamed_sound k i j r (inr e) h = sound_name k j r ∙ new_sound k j r e
+renamed_sound k i j r (inr e) h = sound_name k j r ∙ new_sound k j r (e (old_text k i r h))
 
 -- a key, and a property with it
 key_sound : (i : Ident) (r : Round) → sound (key_of i) r ≡ true
@@ -157,7 +164,7 @@ module _ (m : Changes) (g : GivesNames m) where
   name_le place.Name k i (Some j) e r h = renamed_sound k i j r (inr (changed_new m g place.Name i j e)) h
   name_le place.Exported k i (Some j) e r h = renamed_sound k i j r (inr (changed_new m g place.Exported i j e)) h
   name_le place.Other k i (Some j) e r h = renamed_sound k i j r (inr (changed_new m g place.Other i j e)) h
-  name_le place.Shorthand k i (Some j) e r h = property_sound k i j r (sound_name k j (binding r) ∙ new_sound k j (binding r) (changed_new m g place.Shorthand i j e))
+  name_le place.Shorthand k i (Some j) e r h = property_sound k i j r (sound_name k j (binding r) ∙ new_sound k j (binding r) (changed_new m g place.Shorthand i j e (old_text k i r h)))
 
   no_head_name : (k : Kind) (i : Ident) (r : Round) → in_head (Identifier k i) r ≡ false
   no_head_name k i r = search (rules, the_lemmas)

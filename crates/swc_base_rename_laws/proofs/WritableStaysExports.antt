@@ -104,7 +104,7 @@ module _ (m : Changes) (g : GivesNames m) where
 
   good_specifier : (x : Id) (y : Option Id) → m x ≡ y → is_identifier_text x.0 ≡ true → Good (specifier_to x y)
   good_specifier x None e h = good (made x) Absent h
-  good_specifier x (Some y) e h = good (made y) (Identifier kind.Ident (made (x.0, []))) (bindable_text true y.0 (g (made x) y.0 y.1 e))
+  good_specifier x (Some y) e h = good (made y) (Identifier kind.Ident (made (x.0, []))) (bindable_text true y.0 (g (made x) y.0 y.1 e h))
 
   local_specifiers : (xs : List Id) → all_texts xs ≡ true → list_all (λ t. local_specifier_in (out-Node t)) (map (specifier m) xs) ≡ true
   local_specifiers [] h = refl

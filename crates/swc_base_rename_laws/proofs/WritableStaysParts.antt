@@ -31,7 +31,7 @@ use Rattle.swc_base_rename_laws.specs.Laws.{GivesNames}
 use Rattle.swc_base_rename_laws.proofs.WritableStaysSound.{of, in_head, sound, sound_list}
 use Rattle.swc_base_rename_laws.proofs.WritableStaysShape.{Even, IsNew, even_at, fields, renamed}
 use Rattle.swc_base_rename_laws.proofs.WritableStaysForms.{declares_same, form_same, is_list_in, list_same}
-use Rattle.swc_base_rename_laws.proofs.WritableStaysNames.{both_true}
+use Rattle.swc_base_rename_laws.proofs.WritableStaysNames.{bindable_text, both_true}
 use Rattle.swc_base_rename_laws.proofs.WritableStaysLists.{Le, items_each, no_using_items, unexported, use_strict_items}
 use Rattle.swc_base_rename_laws.proofs.WritableStaysPatterns.{and_le, elements_le, one_bare_le, pattern_le, same_le}
 
@@ -129,7 +129,7 @@ module _ (m : Changes) (g : GivesNames m) where
 
   new_bound : (b : Bool) (i j : Ident) → IsNew i j → is_bindable b i.sym ≡ true → is_bindable b j.sym ≡ true
   new_bound b i j (inl e) h = ap (is_bindable b) e ∙ h
-  new_bound b i j (inr e) h = weaker b j.sym e
+  new_bound b i j (inr e) h = weaker b j.sym (e (bindable_text b i.sym h))
 
   same_name : (b : Bool) (t u : Node) → u ≡ t → Le (name_is b (out-Node t)) (name_is b (out-Node u))
   same_name b t u e = same_le (ap (λ v. name_is b (out-Node v)) e)

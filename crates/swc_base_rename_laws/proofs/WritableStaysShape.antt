@@ -1,6 +1,6 @@
 -- What a node becomes, at each form of it: a name stays a name with a text that can be bound, a tree keeps its kind,
 -- but for what is written out.
-use Rattle.std.proofs.Common.{◌≡◌, ℕ, Bool, true, false, IsTrue, Option, Some, None, List, [], ◌∷◌, refl, sym, ap, ◌∙◌, ◌⊎◌, inl, inr}
+use Rattle.std.proofs.Common.{◌≡◌, ℕ, Bool, true, false, Option, Some, None, List, [], ◌∷◌, refl, sym, ap, ◌∙◌, ◌⊎◌, inl, inr}
 use Rattle.std.specs.Prelude.{if◌then◌else◌, option_map}
 use Rattle.swc_tree_marks.specs.declared.ident.Ident.{Ident}
 use Rattle.swc_tree_node.specs.declared.kind.Kind.{Kind}
@@ -12,7 +12,7 @@ use Rattle.swc_tree_node.specs.declared.node.Node.TheVariants.{outs-Identifier, 
 use Rattle.swc_tree_node.specs.declared.node.Node.TheOpen.{Node-F}
 use Rattle.swc_tree_scoping.specs.Shorthands.{key_of, shorthand_key}
 use Rattle.swc_tree_grammar.specs.Kinds.{is_object}
-use Rattle.swc_tree_grammar.specs.Writable.{is_bindable}
+use Rattle.swc_tree_grammar.specs.Writable.{is_bindable, is_identifier_text}
 use Rattle.swc_tree_grammar.proofs.Induction.{by_children}
 use Rattle.swc_base_rename_substitution.specs.declared.place.Place.{Place}
 use Rattle.swc_base_rename_substitution.specs.declared.place.Place.TheVariants as place
@@ -86,21 +86,25 @@ plain_tree m p k ts h = tree_is m p k ts ∙ not_written k (old_name m p k ts) (
 
 -- ---- names
 
+-- the text may be bound in strict code, where the other is an identifier's
+abbrev pub Binds : Ident → Ident → Type 0
+Binds i j = is_identifier_text i.sym ≡ true → is_bindable true j.sym ≡ true
+
 -- the text is the old one, or may be bound in strict code
 abbrev pub IsNew : Ident → Ident → Type 0
-IsNew i j = (j.sym ≡ i.sym) ⊎ IsTrue (is_bindable true j.sym)
+IsNew i j = (j.sym ≡ i.sym) ⊎ Binds i j
 
 abbrev Renamed : Place → Kind → Ident → Option Ident → Type 0
 Renamed p k i o = (j : Ident) × (identifier_to p k i o ≡ Identifier k j) × IsNew i j
 
-given : (m : Changes) → GivesNames m → (i : Ident) (o : Option Id) → m (id_of i) ≡ o → (j : Ident) → option_map (with_id i) o ≡ Some j → is_bindable true j.sym ≡ true
+given : (m : Changes) → GivesNames m → (i : Ident) (o : Option Id) → m (id_of i) ≡ o → (j : Ident) → option_map (with_id i) o ≡ Some j → Binds i j
 given m g i None e j h = absurd (cc)
-given m g i (Some y) e j h = let same : with_id i y ≡ j = cc in let b : is_bindable true (with_id i y).sym ≡ true = g i y.0 y.1 e in rw (← same) b
+given m g i (Some y) e j h = let same : with_id i y ≡ j = cc in let b : Binds i (with_id i y) = g i y.0 y.1 e in rw (← same) b
 
-new_name : (m : Changes) → GivesNames m → (i : Ident) (j : Ident) → option_map (with_id i) (m (id_of i)) ≡ Some j → is_bindable true j.sym ≡ true
+new_name : (m : Changes) → GivesNames m → (i : Ident) (j : Ident) → option_map (with_id i) (m (id_of i)) ≡ Some j → Binds i j
 new_name m g i j h = given m g i (m (id_of i)) refl j h
 
-pub changed_new : (m : Changes) → GivesNames m → (p : Place) (i j : Ident) → changed m p i ≡ Some j → is_bindable true j.sym ≡ true
+pub changed_new : (m : Changes) → GivesNames m → (p : Place) (i j : Ident) → changed m p i ≡ Some j → Binds i j
 changed_new m g place.Name i j h = new_name m g i j h
 changed_new m g place.Shorthand i j h = new_name m g i j h
 changed_new m g place.Other i j h = absurd (cc)

@@ -9,7 +9,7 @@ use Rattle.swc_tree_node.specs.declared.slot.Slot.{Slot}
 use Rattle.swc_tree_node.specs.declared.slot.Slot.TheVariants as slot
 use Rattle.swc_tree_node.specs.declared.node.Node.{Node}
 use Rattle.swc_tree_node.specs.Fits.{Fits}
-use Rattle.swc_tree_grammar.specs.Writable.{is_bindable, is_writable}
+use Rattle.swc_tree_grammar.specs.Writable.{is_bindable, is_identifier_text, is_writable}
 use Rattle.swc_tree_grammar.specs.Normal.{normal_form, same_id as same_identifier}
 use Rattle.swc_tree_grammar.specs.Same.{same_tree}
 use Rattle.swc_base_rename_substitution.specs.declared.names.Names.{Names}
@@ -47,9 +47,9 @@ IsProgram t = Fits t (slot.One (content.Node class.Module)) ⊎ Fits t (slot.One
 abbrev pub OuterTextsStay : Type 0
 OuterTextsStay = (m : Changes) (keeps : Bool) (tree answer : Node) → IsProgram tree → Substituted m keeps tree answer → outer_texts answer ≡ outer_texts tree
 
--- each new text is an identifier's, and none is `eval` or `arguments`
+-- the new text of what has an identifier's text is one too, and none is `eval` or `arguments`
 abbrev pub GivesNames : Changes → Type 0
-GivesNames m = (i : Ident) (text context : List ℕ) → m (id_of i) ≡ Some (text, context) → IsTrue (is_bindable true text)
+GivesNames m = (i : Ident) (text context : List ℕ) → m (id_of i) ≡ Some (text, context) → IsTrue (is_identifier_text i.sym) → IsTrue (is_bindable true text)
 
 -- a tree that fits some place, as each module and each script does, and can be written down still can
 abbrev pub WritableStays : Type 0

@@ -5,6 +5,9 @@ import { Missing } from './problems.mjs';
 const INSIDE_NODE = 'internal/deps/acorn/acorn/dist/acorn';
 const OF_DEBIAN = '/usr/share/nodejs/acorn';
 
+/** `using` wants this version, and import attributes 8.14. */
+const WHOLE_SYNTAX = [8, 15];
+
 const OPTIONS = {
   ecmaVersion: 'latest',
   preserveParens: true,
@@ -102,6 +105,17 @@ function parser() {
     loaded = extended(acorn);
   }
   return loaded;
+}
+
+/** Why there is no parser that knows the whole syntax, or null where there is one. */
+export function whyNoParser() {
+  const acorn = insideNode() ?? ofDebian();
+  if (!acorn) {
+    return 'no acorn';
+  }
+  const [major, minor] = acorn.version.split('.').map(Number);
+  const isOld = major < WHOLE_SYNTAX[0] || (major === WHOLE_SYNTAX[0] && minor < WHOLE_SYNTAX[1]);
+  return isOld ? `acorn ${acorn.version} is older than ${WHOLE_SYNTAX.join('.')}` : null;
 }
 
 const parseAs = (source, sourceType) => parser().parse(source, { ...OPTIONS, sourceType });

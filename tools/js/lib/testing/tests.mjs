@@ -1,4 +1,5 @@
 // All tests, and how they are told.
+import { whyNoParser } from '../parser.mjs';
 import { COMMANDS, WITH_JSBASE } from './commands.mjs';
 import { ROUND_TRIPS } from './round_trip.mjs';
 
@@ -12,14 +13,31 @@ function passes([name, test]) {
   }
 }
 
-/** Runs every test, and answers the exit status. */
-export function runAll() {
-  const tests = [...ROUND_TRIPS, ...COMMANDS, ...WITH_JSBASE.tests];
+function runThese(tests, skipped, why) {
   const passed = tests.filter(passes).length;
   const failed = tests.length - passed;
-  for (const name of WITH_JSBASE.skipped) {
-    console.log(`skipped, since the program jsbase is not built: ${name}`);
+  for (const name of skipped) {
+    console.log(`skipped, ${why}: ${name}`);
   }
   console.log(`${passed} passed, ${failed} failed`);
   return failed === 0 ? 0 : 1;
+}
+
+/** Runs every test, and answers the exit status. */
+export function runAll() {
+  const { tests, skipped } = WITH_JSBASE;
+  return runThese([...ROUND_TRIPS, ...COMMANDS, ...tests], skipped, 'since the program jsbase is not built');
+}
+
+/** Runs the tests that need no program, or says why it runs none, and answers the exit status. */
+export function runInGate() {
+  const missing = whyNoParser();
+  if (missing) {
+    console.log(`tools/js/test: skipped, ${missing}`);
+    return 0;
+  }
+  console.log('tools/js/test:');
+  const { tests, skipped } = WITH_JSBASE;
+  const names = [...tests.map(([name]) => name), ...skipped];
+  return runThese([...ROUND_TRIPS, ...COMMANDS], names, 'since the gate runs no program by hand');
 }

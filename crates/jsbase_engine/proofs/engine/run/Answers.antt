@@ -4,7 +4,7 @@ use Rattle.swc_tree_node.specs.declared.slot.Slot.TheVariants as slot
 use Rattle.swc_tree_node.specs.Fits.{Fits}
 use Rattle.jsbase_reader.specs.Envelopes.{envelope_in_text}
 use Rattle.jsbase_engine.specs.Run.{Does}
-use Rattle.jsbase_engine.proofs.Marks.{envelope_marks}
+use Rattle.jsbase_programs.proofs.Marks.{envelope_marks}
 use Rattle.jsbase_engine.proofs.Programs.{is_program}
 use Rattle.jsbase_engine.proofs.engine.run.Goals as goal
 

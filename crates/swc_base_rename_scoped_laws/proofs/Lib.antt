@@ -1,0 +1,10 @@
+pub mod Fields
+pub mod Openings
+pub mod Takers
+pub mod Around
+pub mod ByIds
+pub mod Apart
+pub mod Exports
+pub mod Homes
+pub mod Bodies
+pub mod Chained

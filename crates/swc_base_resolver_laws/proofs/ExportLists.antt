@@ -1,0 +1,220 @@
+-- Round what an export list names there is the program alone: an export list is an item of the module, and in it nothing
+-- opens a scope.
+use Rattle.std.proofs.Common.{◌≡◌, ℕ, zero, suc, Bool, true, false, not, ◌&&◌, ◌||◌, ◌==◌, Option, Some, None, List, [], ◌∷◌, ◌++◌, map, refl, sym, ap, ◌∙◌, subst}
+use Rattle.std.specs.List.{list_all, slice_get}
+use Rattle.std.specs.Prelude.{option_map, unwrap_or}
+use Rattle.swc_tree_node.specs.declared.kind.Kind.{Kind}
+use Rattle.swc_tree_node.specs.declared.kind.Kind.TheVariants as kind
+use Rattle.swc_tree_node.specs.declared.kind.Class.TheVariants as class
+use Rattle.swc_tree_node.specs.declared.slot.Content.{Content}
+use Rattle.swc_tree_node.specs.declared.slot.Content.TheVariants as content
+use Rattle.swc_tree_node.specs.declared.slot.Slot.{Slot}
+use Rattle.swc_tree_node.specs.declared.slot.Slot.TheVariants as slot
+use Rattle.swc_tree_node.specs.declared.slot.Role.{Role}
+use Rattle.swc_tree_node.specs.declared.slot.Role.TheVariants as role
+use Rattle.swc_tree_node.specs.declared.node.Node.{Node, Tree, out-Node}
+use Rattle.swc_tree_node.specs.declared.node.Node.TheOpen.{Node-F}
+use Rattle.swc_tree_node.specs.declared.node.Node.TheVariants.{outs-Tree}
+use Rattle.swc_tree_node.specs.Table.{fields_of, kind_number, kinds_of, slots_of}
+use Rattle.swc_tree_node.specs.Fits.{Fits}
+use Rattle.swc_tree_node.proofs.Fit.{both, list_opens, tree_opens}
+use Rattle.swc_tree_scoping.specs.declared.places.Place.{Place}
+use Rattle.swc_tree_scoping.specs.declared.places.Scope.{Scope}
+use Rattle.swc_tree_scoping.specs.declared.places.Scope.TheVariants as scope
+use Rattle.swc_tree_scoping.specs.declared.places.View.{View}
+use Rattle.swc_tree_scoping.specs.Places.{Path, children_in, child, field_role, opened, opened_as, opened_in, place_below, place_at, program_place}
+use Rattle.swc_tree_scoping.specs.Scopes.{rounds, seen_as, view_in}
+use Rattle.swc_tree_scoping.specs.WellScoped.{InExportList}
+use Rattle.swc_tree_scoping.proofs.Remarked.{list_is, tree_is}
+use Rattle.swc_tree_scoping.proofs.Under.{lower, no_place_under, no_rounds_under, place_under, rounds_under}
+use Rattle.swc_base_resolver_laws.proofs.Same.{impossible, some_same}
+use Rattle.swc_base_resolver_laws.proofs.Fitting.{all_at, all_true, among, below_passes, child_passes, field_at, kind_passes, layer_fits, module_fields, module_layer, passes}
+
+-- ---- kinds that stand in an export list: none opens a scope
+
+abbrev listed : ℕ → Bool
+listed n = n == kind_number kind.ExportNamespaceSpecifier || (n == kind_number kind.ExportNamedSpecifier || (n == kind_number kind.Ident || n == kind_number kind.Str))
+
+listed_rows : (k : Kind) → listed (kind_number k) ≡ true → list_all (passes listed) (slots_of k) ≡ true
+listed_rows kind.ExportNamespaceSpecifier h = refl
+listed_rows kind.ExportNamedSpecifier h = refl
+listed_rows kind.Ident h = refl
+listed_rows kind.Str h = refl
+listed_rows _ h = impossible h
+
+listed_opens : (w : Place) (k : Kind) (b : Bool) → listed (kind_number k) ≡ true → opened_as w k b ≡ None
+listed_opens w kind.ExportNamespaceSpecifier b h = refl
+listed_opens w kind.ExportNamedSpecifier b h = refl
+listed_opens w kind.Ident b h = refl
+listed_opens w kind.Str b h = refl
+listed_opens w _ b h = impossible h
+
+nothing_seen : (o : Option Scope) (v : View) → o ≡ None → seen_as o v ≡ []
+nothing_seen o v e = ap (λ o. seen_as o v) e
+
+listed_node : (w : Place) (t : Node) (s : Slot) (y : Node-F Node) → out-Node t ≡ y → Fits t s → passes listed s ≡ true → opened w t ≡ None
+listed_node w t s (Node-F.Tree k ts) o f h = ap (opened_in w) o ∙ listed_opens w k _ (kind_passes listed listed_rows t k ts s o f h)
+listed_node w t s Node-F.Absent o f h = ap (opened_in w) o
+listed_node w t s _ o f h = ap (opened_in w) o
+
+-- of rounds below a node that opens no scope
+rounds_through : (w : Place) (t c : Node) (i : ℕ) (p : Path) → child t i ≡ Some c → opened w t ≡ None → rounds (place_below w t i) c p ≡ [] → rounds w t (i ∷ p) ≡ []
+rounds_through w t c i p h o e = rounds_under w t c i p h ∙ ap (λ l. map (lower i) l ++ seen_as (opened w t) (view_in (out-Node t) i)) e ∙ nothing_seen (opened w t) (view_in (out-Node t) i) o
+
+no_rounds_through : (w : Place) (t : Node) (i : ℕ) (p : Path) → child t i ≡ None → opened w t ≡ None → rounds w t (i ∷ p) ≡ []
+no_rounds_through w t i p h o = no_rounds_under w t i p h ∙ nothing_seen (opened w t) (view_in (out-Node t) i) o
+
+listed_rounds : (p : Path) (w : Place) (t : Node) (s : Slot) → Fits t s → passes listed s ≡ true → rounds w t p ≡ []
+listed_rounds [] w t s f h = refl
+listed_rounds (i ∷ p) w t s f h = at (child t i) refl (λ x c u g z. listed_rounds p x c u g z)
+  where
+    at : (o : Option Node) → child t i ≡ o → ((x : Place) (c : Node) (u : Slot) → Fits c u → passes listed u ≡ true → rounds x c p ≡ []) → rounds w t (i ∷ p) ≡ []
+    at None o below = no_rounds_through w t i p o (listed_node w t s (out-Node t) refl f h)
+    at (Some c) o below =
+        let (u, g, z) = child_passes listed listed_rows t c i s (out-Node t) refl f h o in
+        rounds_through w t c i p o (listed_node w t s (out-Node t) refl f h) (below (place_below w t i) c u g z)
+
+-- ---- a module's items alone are export lists
+
+abbrev inner : ℕ → Bool
+inner n = not (n == kind_number kind.Module) && not (n == kind_number kind.NamedExport)
+
+-- each node below but a module has none of these below it
+inner_fields : (k : Kind) → not (kind_number k == kind_number kind.Module) ≡ true → list_all (passes inner) (slots_of k) ≡ true
+inner_fields kind.Module h = impossible h
+inner_fields _ h = refl
+
+left : (a b : Bool) → (a && b) ≡ true → a ≡ true
+left true b h = refl
+left false b h = h
+
+inner_rows : (k : Kind) → inner (kind_number k) ≡ true → list_all (passes inner) (slots_of k) ≡ true
+inner_rows k h = inner_fields k (left (not (kind_number k == kind_number kind.Module)) (not (kind_number k == kind_number kind.NamedExport)) h)
+
+none_inside : (q : Path) (w v : Place) (t : Node) (ts : List Node) (s : Slot) → Fits t s → passes inner s ≡ true → place_at w t q ≡ Some (v, Tree kind.NamedExport ts) → ⊥
+none_inside q w v t ts s f h e =
+    let (u, g, z) = below_passes inner inner_rows q w v t (Tree kind.NamedExport ts) s f h e in
+    impossible (kind_passes inner inner_rows (Tree kind.NamedExport ts) kind.NamedExport ts u (outs-Tree kind.NamedExport ts) g z)
+
+-- what has children is a tree, where one node is to stand, and a list, where a list is
+only_trees : (t c : Node) (i : ℕ) (x : Content) (y : Node-F Node) → out-Node t ≡ y → Fits t (slot.One x) → child t i ≡ Some c → (k : Kind) × (ts : List Node) × (out-Node t ≡ Node-F.Tree k ts)
+only_trees t c i x (Node-F.Tree k ts) o f e = (k, ts, o)
+only_trees t c i x (Node-F.List ts) o f e = impossible (layer_fits t (Node-F.List ts) (slot.One x) o f)
+only_trees t c i x Node-F.Absent o f e = impossible (layer_fits t Node-F.Absent (slot.One x) o f)
+only_trees t c i x (Node-F.Flag z) o f e = let z : Some c ≡ None = sym e ∙ ap (λ y. slice_get (children_in y) i) o in absurd (cc)
+only_trees t c i x (Node-F.Word z) o f e = let z : Some c ≡ None = sym e ∙ ap (λ y. slice_get (children_in y) i) o in absurd (cc)
+only_trees t c i x (Node-F.Text z) o f e = let z : Some c ≡ None = sym e ∙ ap (λ y. slice_get (children_in y) i) o in absurd (cc)
+only_trees t c i x (Node-F.Span z) o f e = let z : Some c ≡ None = sym e ∙ ap (λ y. slice_get (children_in y) i) o in absurd (cc)
+only_trees t c i x (Node-F.Identifier k z) o f e = let z : Some c ≡ None = sym e ∙ ap (λ y. slice_get (children_in y) i) o in absurd (cc)
+
+only_lists : (t : Node) (x : Content) (y : Node-F Node) → out-Node t ≡ y → Fits t (slot.List x) → (ts : List Node) × (out-Node t ≡ Node-F.List ts)
+only_lists t x (Node-F.List ts) o f = (ts, o)
+only_lists t x (Node-F.Tree k ts) o f = impossible (layer_fits t (Node-F.Tree k ts) (slot.List x) o f)
+only_lists t x (Node-F.Identifier k i) o f = impossible (layer_fits t (Node-F.Identifier k i) (slot.List x) o f)
+only_lists t x Node-F.Absent o f = impossible (layer_fits t Node-F.Absent (slot.List x) o f)
+only_lists t x (Node-F.Flag z) o f = impossible (layer_fits t (Node-F.Flag z) (slot.List x) o f)
+only_lists t x (Node-F.Word z) o f = impossible (layer_fits t (Node-F.Word z) (slot.List x) o f)
+only_lists t x (Node-F.Text z) o f = impossible (layer_fits t (Node-F.Text z) (slot.List x) o f)
+only_lists t x (Node-F.Span z) o f = impossible (layer_fits t (Node-F.Span z) (slot.List x) o f)
+
+abbrev Item : Slot
+Item = slot.One (content.Node class.ModuleItem)
+
+abbrev Items : Slot
+Items = slot.List (content.Node class.ModuleItem)
+
+-- an export list has none below it, nor has another item
+none_in_item : (q : Path) (j : ℕ) (w v : Place) (e : Node) (ts : List Node) → Fits e Item → place_at w e (j ∷ q) ≡ Some (v, Tree kind.NamedExport ts) → ⊥
+none_in_item q j w v e ts f h = at (child e j) refl
+  where
+    at : (o : Option Node) → child e j ≡ o → ⊥
+    at None o = let z : ◌≡◌ {A = Option (Place × Node)} (Some (v, Tree kind.NamedExport ts)) None = sym h ∙ no_place_under w e j q o in absurd (cc)
+    at (Some c) o =
+        let (k, us, is) = only_trees e c j (content.Node class.ModuleItem) (out-Node e) refl f o in
+        let (ident, belong, fields) = tree_opens k us class.ModuleItem (subst (λ e. Fits e Item) (tree_is e k us is) f) in
+        let (u, there, g) = field_at (slots_of k) us j c fields (sym (ap (λ y. slice_get (children_in y) j) is) ∙ o) in
+        let no_module = among (λ n. not (n == kind_number kind.Module)) (kind_number k) (kinds_of class.ModuleItem) belong refl in
+        none_inside q (place_below w e j) v c ts u g (all_true (passes inner) (slots_of k) j u (inner_fields k no_module) there) (sym (place_under w e c j q o) ∙ h)
+
+-- nothing but the program stands round what an export list names
+item_rounds : (w : Place) (e : Node) (ts : List Node) (p : Path) → out-Node e ≡ Node-F.Tree kind.NamedExport ts → Fits e Item → rounds w e (1 ∷ p) ≡ []
+item_rounds w e ts p is f = at (child e 1) refl
+  where
+    at : (o : Option Node) → child e 1 ≡ o → rounds w e (1 ∷ p) ≡ []
+    at None o = no_rounds_through w e 1 p o (ap (opened_in w) is)
+    at (Some c) o =
+        let (ident, belong, fields) = tree_opens kind.NamedExport ts class.ModuleItem (subst (λ e. Fits e Item) (tree_is e kind.NamedExport ts is) f) in
+        let (u, there, g) = field_at (slots_of kind.NamedExport) ts 1 c fields (sym (ap (λ y. slice_get (children_in y) 1) is) ∙ o) in
+        rounds_through w e c 1 p o (ap (opened_in w) is) (listed_rounds p (place_below w e 1) c u g (all_true (passes listed) (slots_of kind.NamedExport) 1 u refl there))
+
+items_rounds : (q p : Path) (w v : Place) (b : Node) (ts : List Node) → Fits b Items → place_at w b q ≡ Some (v, Tree kind.NamedExport ts) → rounds w b (q ++ (1 ∷ p)) ≡ []
+items_rounds [] p w v b ts f h =
+    let is : b ≡ Tree kind.NamedExport ts = ap (λ (z : Place × Node). z.1) (some_same (w, b) (v, Tree kind.NamedExport ts) h) in
+    impossible (layer_fits b (Node-F.Tree kind.NamedExport ts) Items (ap out-Node is ∙ outs-Tree kind.NamedExport ts) f)
+items_rounds (j ∷ q) p w v b ts f h = at (child b j) refl
+  where
+    at : (o : Option Node) → child b j ≡ o → rounds w b (j ∷ (q ++ (1 ∷ p))) ≡ []
+    at None o = let z : ◌≡◌ {A = Option (Place × Node)} (Some (v, Tree kind.NamedExport ts)) None = sym h ∙ no_place_under w b j q o in absurd (cc)
+    at (Some e) o =
+        let (is, l) = only_lists b (content.Node class.ModuleItem) (out-Node b) refl f in
+        let one = all_at Item is j e (list_opens is (content.Node class.ModuleItem) (subst (λ b. Fits b Items) (list_is b is l) f)) (sym (ap (λ y. slice_get (children_in y) j) l) ∙ o) in
+        rounds_through w b e j (q ++ (1 ∷ p)) o (ap (opened_in w) l) (item q one (sym (place_under w b e j q o) ∙ h))
+      where
+        item : (q : Path) → Fits e Item → place_at (place_below w b j) e q ≡ Some (v, Tree kind.NamedExport ts) → rounds (place_below w b j) e (q ++ (1 ∷ p)) ≡ []
+        item [] one h =
+            let is : e ≡ Tree kind.NamedExport ts = ap (λ (z : Place × Node). z.1) (some_same (place_below w b j, e) (v, Tree kind.NamedExport ts) h) in
+            item_rounds (place_below w b j) e ts p (ap out-Node is ∙ outs-Tree kind.NamedExport ts) one
+        item (l ∷ q) one h = absurd (none_in_item q l (place_below w b j) v e ts one h)
+
+module_rounds : (t : Node) (q p : Path) (v : Place) (ts : List Node) → Fits t (slot.One (content.Node class.Module)) → place_at program_place t q ≡ Some (v, Tree kind.NamedExport ts)
+    → rounds program_place t (q ++ (1 ∷ p)) ≡ ([], true) ∷ []
+module_rounds t [] p v ts f h =
+    let is : t ≡ Tree kind.NamedExport ts = ap (λ (z : Place × Node). z.1) (some_same (program_place, t) (v, Tree kind.NamedExport ts) h) in
+    let (us, o) = module_layer t f in
+    let e : Node-F.Tree kind.NamedExport ts ≡ Node-F.Tree kind.Module us = sym (outs-Tree kind.NamedExport ts) ∙ ap out-Node (sym is) ∙ o in
+    absurd (cc)
+module_rounds t (i ∷ q) p v ts f h = at (child t i) refl
+  where
+    at : (o : Option Node) → child t i ≡ o → rounds program_place t (i ∷ (q ++ (1 ∷ p))) ≡ ([], true) ∷ []
+    at None o = let z : ◌≡◌ {A = Option (Place × Node)} (Some (v, Tree kind.NamedExport ts)) None = sym h ∙ no_place_under program_place t i q o in absurd (cc)
+    at (Some b) o =
+        let (us, is) = module_layer t f in
+        let (u, there, g) = field_at (slots_of kind.Module) us i b (module_fields t us is f) (sym (ap (λ y. slice_get (children_in y) i) is) ∙ o) in
+        field i u there g (sym (place_under program_place t b i q o) ∙ h) (rounds_under program_place t b i (q ++ (1 ∷ p)) o)
+        (ap (opened_in program_place) is) (ap (λ y. view_in y i) is)
+      where
+        field : (i : ℕ) (u : Slot) → slice_get (slots_of kind.Module) i ≡ Some u → Fits b u → place_at (place_below program_place t i) b q ≡ Some (v, Tree kind.NamedExport ts)
+            → rounds program_place t (i ∷ (q ++ (1 ∷ p))) ≡ map (lower i) (rounds (place_below program_place t i) b (q ++ (1 ∷ p))) ++ seen_as (opened program_place t) (view_in (out-Node t) i)
+            → opened program_place t ≡ Some scope.Program → view_in (out-Node t) i ≡ view_in (Node-F.Tree kind.Module []) i → rounds program_place t (i ∷ (q ++ (1 ∷ p))) ≡ ([], true) ∷ []
+        field zero u there g h r opens seen = absurd (none_inside q (place_below program_place t 0) v b ts u g (ap (passes inner) (sym (some_same (slot.One content.Span) u there))) h)
+        field (suc zero) u there g h r opens seen =
+            let none = items_rounds q p (place_below program_place t 1) v b ts (subst (λ u. Fits b u) (sym (some_same Items u there)) g) h in
+            r ∙ ap (λ l. map (lower 1) l ++ seen_as (opened program_place t) (view_in (out-Node t) 1)) none ∙ ap (λ o. seen_as o (view_in (out-Node t) 1)) opens ∙ ap (seen_as (Some scope.Program)) seen
+        field (suc (suc zero)) u there g h r opens seen = absurd (none_inside q (place_below program_place t 2) v b ts u g (ap (passes inner) (sym (some_same (slot.Optional content.Text) u there))) h)
+        field (suc (suc (suc i))) u there g h r opens seen = absurd (cc)
+
+-- the field of an export list
+abbrev not_local : Role → Bool
+not_local role.ExportLocal = false
+not_local _ = true
+
+abbrev Row : Type 0
+Row = List ℕ × Slot × Role
+
+local_role : (fs : List Row) (i : ℕ) → list_all (λ (f : Row). not_local f.2) fs ≡ true → unwrap_or (option_map (λ (f : Row). f.2) (slice_get fs i)) role.Plain ≡ role.ExportLocal → ⊥
+local_role [] i h e = absurd (cc)
+local_role (f ∷ fs) zero h e = impossible (sym (ap not_local e) ∙ left (not_local f.2) (list_all (λ (f : Row). not_local f.2) fs) h)
+local_role (f ∷ fs) (suc i) h e = local_role fs i (both (not_local f.2) (list_all (λ (f : Row). not_local f.2) fs) h).1 e
+
+local_field : (k : Kind) (i : ℕ) → field_role k i ≡ role.ExportLocal → (k ≡ kind.NamedExport) × (i ≡ 1)
+local_field kind.NamedExport zero h = absurd (cc)
+local_field kind.NamedExport (suc zero) h = (refl, refl)
+local_field kind.NamedExport (suc (suc zero)) h = absurd (cc)
+local_field kind.NamedExport (suc (suc (suc zero))) h = absurd (cc)
+local_field kind.NamedExport (suc (suc (suc (suc i)))) h = absurd (cc)
+local_field k i h = absurd (local_role (fields_of k) i refl h)
+
+pub export_rounds : (t : Node) (p : Path) → Fits t (slot.One (content.Node class.Module)) → InExportList t p → rounds program_place t p ≡ ([], true) ∷ []
+export_rounds t p f (q, r, i, w, k, ts, e, h, l) =
+    let (is, one) = local_field k i l in
+    ap (rounds program_place t) (e ∙ ap (λ i. q ++ (i ∷ r)) one) ∙ module_rounds t q r w ts f (h ∙ ap (λ k. Some (w, Tree k ts)) is)

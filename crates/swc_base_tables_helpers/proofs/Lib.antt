@@ -1,0 +1,3 @@
+pub mod ClosedSets
+pub mod NameList
+pub mod Unions

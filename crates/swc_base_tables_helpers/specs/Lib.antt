@@ -1,0 +1,4 @@
+pub mod Chosen
+pub mod Closure
+pub mod Sets
+pub mod Table

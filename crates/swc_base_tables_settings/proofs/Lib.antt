@@ -1,0 +1,4 @@
+pub mod Members
+pub mod Parts
+pub mod Search
+pub mod Versions

@@ -1,0 +1,4 @@
+pub mod Assumptions
+pub mod Features
+pub mod Natives
+pub mod Rising

@@ -1,0 +1,3 @@
+pub mod Sites
+pub mod Smaller
+pub mod Laws
