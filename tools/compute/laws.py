@@ -22,12 +22,13 @@ import scoping
 import trees
 from lawbook import LAWS, Bad, D, fits_grammar, fixed, is_writable, load, normal_form, stripped
 import grammar_laws
+import headline_laws
 import naming_laws
 import scoping_laws
 import substitution_laws
 import units_laws
 
-MODULES = (grammar_laws, naming_laws, scoping_laws, substitution_laws, units_laws)
+MODULES = (grammar_laws, headline_laws, naming_laws, scoping_laws, substitution_laws, units_laws)
 # texts that every law tries first, as modules and as scripts
 WRITTEN = [
     '#x, y;', '`${#x}`;', 'export var a#1, a#2;', 'export var { a, b: a };', 'let?.[x];', 'let[x];', '(a?.b).c; a?.b.c;',

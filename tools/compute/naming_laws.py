@@ -229,6 +229,15 @@ def side_by_side(t, u):
         yield from side_by_side(one, other)
 
 
+def keeps_ids(t, answer):
+    """resolved again, the answer's normal form has one id at two names exactly where that of the tree has"""
+    before, after = normal_form(t), normal_form(scoping.resolved(D.all, answer, 1, 1))
+    program, there, back = scoping.Program(D.all, before), {}, {}
+    standings = [program.standing(p) for p in program.identifiers]
+    ids = [(identity(i), identity(j)) for (i, j), standing in zip(side_by_side(before, after), standings) if is_name(standing)]
+    return all(there.setdefault(x, y) == y and back.setdefault(y, x) == x for x, y in ids)
+
+
 @law(well_scoped_module)
 def hygiene_keeps_ids(t):
     """on well-scoped writable modules the answer of hygiene is writable, has no early error of names and the same normal
@@ -242,15 +251,7 @@ def hygiene_keeps_ids(t):
         return Bad('early error:', answer)
     if not is_same(t, answer):
         return Bad('another normal form:', answer)
-    before, there, back = normal_form(t), {}, {}
-    after = normal_form(scoping.resolved(D.all, answer, 1, 1))
-    program = scoping.Program(D.all, before)
-    standings = [program.standing(p) for p in program.identifiers]
-    for (i, j), standing in zip(side_by_side(before, after), standings):
-        x, y = identity(i), identity(j)
-        if is_name(standing) and (there.setdefault(x, y) != y or back.setdefault(y, x) != x):
-            return Bad('hygiene:', answer, '-- resolved:', after)
-    return True
+    return keeps_ids(t, answer) or Bad('hygiene:', answer)
 
 
 @law(well_scoped_module)

@@ -10,6 +10,7 @@ command_word command.Resolve = codes "resolve"
 command_word command.Hygiene = codes "hygiene"
 command_word command.Unparen = codes "unparen"
 command_word command.Fix = codes "fix"
+command_word command.Chain = codes "chain"
 
 abbrev pub kind_word : Kind → List ℕ
 kind_word kind.Module = codes "module"

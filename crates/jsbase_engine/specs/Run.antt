@@ -1,5 +1,5 @@
 -- What the engine answers on an input.
-use Rattle.std.specs.Prelude.{◌≡◌, true, false, ℕ, ◌+◌, ◌-◌, ◌<◌, ◌⊎◌, List, Ok, Err, string_bytes}
+use Rattle.std.specs.Prelude.{◌≡◌, Bool, true, false, ℕ, ◌+◌, ◌-◌, ◌<◌, ◌⊎◌, List, Ok, Err, string_bytes}
 use Rattle.swc_tree_marks.specs.Globals.{Table, IsTable, greatest}
 use Rattle.swc_tree_marks.specs.declared.error.PassError.{PassError}
 use Rattle.swc_tree_marks.specs.declared.error.PassError.TheVariants as refusal
@@ -42,13 +42,11 @@ pub record IsResolved (envelope : Envelope) (output : List ℕ) : Type 0 where
   pub written : output ≡ envelope_text table envelope.top answer envelope.unresolved
 
 -- what hygiene goes by
+abbrev pub config_by : ℕ → Bool → Bool → Config
+config_by top keeps ignores = record { keep_class_names = keeps; safari_10 = false; top_level_mark = top; ignore_eval = ignores }
+
 abbrev pub config_of : Envelope → Config
-config_of envelope = record {
-  keep_class_names = envelope.keep_class_names;
-  safari_10 = false;
-  top_level_mark = envelope.top;
-  ignore_eval = envelope.ignore_eval;
-}
+config_of envelope = config_by envelope.top envelope.keep_class_names envelope.ignore_eval
 
 -- the output is the envelope of the tree whose names are given anew and whose contexts are empty
 pub record IsMadeHygienic (envelope : Envelope) (output : List ℕ) : Type 0 where
@@ -66,16 +64,49 @@ pub record IsFixed (envelope : Envelope) (output : List ℕ) : Type 0 where
   pub assignable : all_bare envelope.tree ≡ true
   pub written : output ≡ envelope_text envelope.globals envelope.top (answer_to envelope.tree) envelope.unresolved
 
+-- the tree of an envelope, resolved
+abbrev pub ResolvesTo : Envelope → Table → Node → Type 0
+ResolvesTo envelope table resolved = Resolved envelope.unresolved envelope.top envelope.globals table envelope.tree resolved
+
+-- the tree of an envelope, resolved, and then with its names given anew and its contexts empty
+pub record IsRenamedWith (envelope : Envelope) (table : Table) (renamed : Node) : Type 0 where
+  pub between : Node
+  pub resolved : ResolvesTo envelope table between
+  pub hygienic : IsHygienic table (config_of envelope) between renamed
+
+-- the output is the envelope of the tree that the three passes lead to, one after the other: resolved, hygienic, fixed
+pub record IsChained (envelope : Envelope) (output : List ℕ) : Type 0 where
+  pub table : Table
+  pub renamed : Node
+  pub is_renamed : IsRenamedWith envelope table renamed
+  pub assignable : all_bare renamed ≡ true
+  pub well_formed : IsTable table
+  pub written : output ≡ envelope_text table envelope.top (answer_to renamed) envelope.unresolved
+
 -- what the command is to make of an envelope
 abbrev pub Does : Command → Envelope → List ℕ → Type 0
 Does command.Resolve envelope output = IsResolved envelope output
 Does command.Hygiene envelope output = IsMadeHygienic envelope output
 Does command.Unparen envelope output = IsUnparened envelope output
 Does command.Fix envelope output = IsFixed envelope output
+Does command.Chain envelope output = IsChained envelope output
+
+-- resolving the tree takes more marks than there are
+abbrev pub TakesTooManyMarks : Envelope → Type 0
+TakesTooManyMarks envelope = 4294967295 < greatest envelope.globals + (scope_count program_place envelope.tree - 1)
+
+-- the counters are spent on the tree, once it is resolved
+abbrev pub IsSpentOnceResolved : Envelope → Type 0
+IsSpentOnceResolved envelope = (table : Table) × (resolved : Node) × ResolvesTo envelope table resolved
+    × IsRenameRefusal table (config_of envelope) hygiene_renaming resolved refusal.CounterSpent
+
+-- a parenthesised target takes no value, once the tree has its names
+abbrev pub IsUnassignableOnceRenamed : Envelope → Type 0
+IsUnassignableOnceRenamed envelope = (table : Table) × (renamed : Node) × IsRenamedWith envelope table renamed × (all_bare renamed ≡ false)
 
 -- why the command may be refused on an envelope, beside want of memory
 abbrev pub IsRefusalOf : Command → Envelope → PassError → Type 0
-IsRefusalOf command.Resolve envelope refusal.MarksSpent = 4294967295 < greatest envelope.globals + (scope_count program_place envelope.tree - 1)
+IsRefusalOf command.Resolve envelope refusal.MarksSpent = TakesTooManyMarks envelope
 IsRefusalOf command.Resolve envelope _ = ⊥
 IsRefusalOf command.Hygiene envelope refusal.CounterSpent = IsRenameRefusal envelope.globals (config_of envelope) hygiene_renaming envelope.tree refusal.CounterSpent
 IsRefusalOf command.Hygiene envelope _ = ⊥
@@ -83,6 +114,10 @@ IsRefusalOf command.Unparen envelope refusal.NotAssignable = all_bare envelope.t
 IsRefusalOf command.Unparen envelope _ = ⊥
 IsRefusalOf command.Fix envelope refusal.NotAssignable = all_bare envelope.tree ≡ false
 IsRefusalOf command.Fix envelope _ = ⊥
+IsRefusalOf command.Chain envelope refusal.MarksSpent = TakesTooManyMarks envelope
+IsRefusalOf command.Chain envelope refusal.CounterSpent = IsSpentOnceResolved envelope
+IsRefusalOf command.Chain envelope refusal.NotAssignable = IsUnassignableOnceRenamed envelope
+IsRefusalOf command.Chain envelope refusal.NoMemory = ⊥
 
 -- memory was refused, or the command's pass for its own cause
 abbrev pub IsRefusedFor : Command → Envelope → PassError → Type 0

@@ -17,6 +17,8 @@ pub enum Command {
     Unparen,
     /// Parentheses are set anew: those that are due, and no other.
     Fix,
+    /// The program is resolved, then made hygienic, then its parentheses are set anew.
+    Chain,
 }
 
 /// The goal symbol of a program (ECMA-262, Script and Module).
@@ -35,6 +37,7 @@ fn command_named(word: &str) -> Option<Command>
         "hygiene" => Some(Command::Hygiene),
         "unparen" => Some(Command::Unparen),
         "fix" => Some(Command::Fix),
+        "chain" => Some(Command::Chain),
         _ => None,
     }
 }

@@ -3,7 +3,7 @@ ghost use Rattle.std.specs.Prelude.{◌≡◌, ◌≢◌, Some, MatchResult, str
 ghost use Rattle.swc_tree_scoping.specs.declared.places.Scope.TheVariants as scope;
 ghost use Rattle.swc_tree_scoping.specs.Places.{opened, program_place};
 ghost use Rattle.swc_base_resolver_program.specs.Marked.{MarksOk};
-ghost use Rattle.jsbase_engine.specs.Run.{class_of as class_in, Answers, Does, IsFaultOf, IsMadeHygienic, IsResolved, IsFixed, IsUnparened, IsRefusedFor, IsReadFault};
+ghost use Rattle.jsbase_engine.specs.Run.{class_of as class_in, config_by, Answers, Does, IsChained, IsFaultOf, IsMadeHygienic, IsResolved, IsFixed, IsUnparened, IsRefusedFor, IsReadFault};
 
 use crate::arguments::{Command, Kind};
 use crate::fault::Fault;
@@ -16,7 +16,7 @@ use swc_base_rename_program::hygiene_program;
 use swc_base_rename_substitution::Config;
 use swc_base_resolver_program::resolve_program;
 use swc_tree_comments::NoComments;
-use swc_tree_marks::PassError;
+use swc_tree_marks::{Mark, PassError};
 use swc_tree_node::Class;
 
 /// What the program writes on an input.
@@ -73,6 +73,7 @@ fn answer(alloc: Global, command: Command, envelope: Envelope) -> Result<String,
         Command::Hygiene => hygiene(alloc, envelope),
         Command::Unparen => unparen(alloc, envelope),
         Command::Fix => fix(alloc, envelope),
+        Command::Chain => chain(alloc, envelope),
     }
 }
 
@@ -94,6 +95,18 @@ fn resolve(alloc: Global, envelope: Envelope) -> Result<String, PassError>
     Ok(text)
 }
 
+// What hygiene goes by.
+fn config(top_level_mark: Mark, keep_class_names: bool, ignore_eval: bool) -> Config
+    ensures { result ≡ config_by top_level_mark keep_class_names ignore_eval }
+{
+    Config {
+        keep_class_names,
+        safari_10: false,
+        top_level_mark,
+        ignore_eval,
+    }
+}
+
 // Gives the names of the program of an envelope anew, and clears its contexts.
 fn hygiene(alloc: Global, envelope: Envelope) -> Result<String, PassError>
     ensures { MatchResult result (λ text. IsMadeHygienic envelope (string_bytes text)) (IsRefusedFor Command.Hygiene envelope) }
@@ -106,12 +119,7 @@ fn hygiene(alloc: Global, envelope: Envelope) -> Result<String, PassError>
         ignore_eval,
         tree,
     } = envelope;
-    let config = Config {
-        keep_class_names,
-        safari_10: false,
-        top_level_mark: top,
-        ignore_eval,
-    };
+    let config = config(top, keep_class_names, ignore_eval);
     let renamed = hygiene_program(alloc, &config, &globals, tree)?;
     let text = write_envelope(alloc, &globals, top, &renamed, unresolved)?;
     Ok(text)
@@ -145,6 +153,28 @@ fn fix(alloc: Global, envelope: Envelope) -> Result<String, PassError>
         ..
     } = envelope;
     let fixed = fix_parens(alloc, None::<&mut NoComments>, tree)?;
+    let text = write_envelope(alloc, &globals, top, &fixed, unresolved)?;
+    Ok(text)
+}
+
+// Resolves the program of an envelope, gives its names anew and clears its contexts, and sets its parentheses anew.
+fn chain(alloc: Global, envelope: Envelope) -> Result<String, PassError>
+    requires program { opened program_place envelope.tree ≡ Some scope.Program }
+    requires marks { MarksOk envelope.globals envelope.unresolved envelope.top }
+    ensures { MatchResult result (λ text. IsChained envelope (string_bytes text)) (IsRefusedFor Command.Chain envelope) }
+{
+    let Envelope {
+        mut globals,
+        unresolved,
+        top,
+        keep_class_names,
+        ignore_eval,
+        tree,
+    } = envelope;
+    let config = config(top, keep_class_names, ignore_eval);
+    let resolved = resolve_program(alloc, &mut globals, unresolved, top, tree)?;
+    let renamed = hygiene_program(alloc, &config, &globals, resolved)?;
+    let fixed = fix_parens(alloc, None::<&mut NoComments>, renamed)?;
     let text = write_envelope(alloc, &globals, top, &fixed, unresolved)?;
     Ok(text)
 }

@@ -12,7 +12,7 @@ const HELP = `usage: jsbase COMMAND [--marks] [--module | --script] [--program P
 
 Parses FILE, runs the program \`jsbase COMMAND module|script\` on its tree, and writes the
 answer as JavaScript on standard output. COMMAND is one of the program's: resolve, hygiene,
-unparen or fix. Names of a parsed text have no contexts, so for hygiene the program is
+unparen, fix or chain, which is resolve, hygiene and fix. Names of a parsed text have no contexts, so for hygiene the program is
 first run as \`jsbase resolve\`, and hygiene is given what that answers.
 
   --marks              names with their contexts: a#2, or a#2.3 where there are two marks
@@ -36,7 +36,7 @@ const DEEPEST = 127;
 export function programAt(path) {
   const program = path ?? (process.env.JSBASE || BUILT);
   if (!existsSync(program)) {
-    const build = 'cd crates/jsbase && rt run -- resolve module < stdin';
+    const build = 'cd crates/jsbase && rt run -- resolve module < ../../docs/sample.json';
     throw new Missing(`no program at ${program}; this proves and builds it: ${build}`);
   }
   return program;

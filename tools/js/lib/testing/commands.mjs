@@ -174,6 +174,10 @@ const WITH_PROGRAM = {
     expect(run('jsbase', ['unparen', '-'], '((a + (b)) * c)'), 0, { stdout: 'a + b * c;\n' });
     expect(run('jsbase', ['fix', '--module', '-'], '((a + (b)) * c)'), 0, { stdout: '(a + b) * c;\n' });
   },
+  chain: () => {
+    const given = 'let x; function g(p = () => x) { var x; }';
+    expect(run('jsbase', ['chain', '--module', '-'], given), 0, { stdout: /var x1;/ });
+  },
   'another command is refused by the program': () => {
     expect(run('jsbase', ['nonsense', '-'], EXAMPLE), 2, { stderr: /^usage: jsbase / });
   },
