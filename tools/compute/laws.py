@@ -24,6 +24,7 @@ from lawbook import LAWS, Bad, D, fits_grammar, fixed, is_writable, load, normal
 import grammar_laws
 import naming_laws
 import scoping_laws
+import sites_laws
 import substitution_laws
 import units_laws
 
