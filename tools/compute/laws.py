@@ -25,6 +25,7 @@ import grammar_laws
 import headline_laws
 import naming_laws
 import scoping_laws
+import sites_laws
 import substitution_laws
 import units_laws
 
