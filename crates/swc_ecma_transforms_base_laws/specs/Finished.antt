@@ -1,0 +1,40 @@
+-- What hygiene and then the fixer keep of a module.
+use Rattle.std.specs.Prelude.{◌≡◌, true}
+use Rattle.swc_tree_marks.specs.Globals.{Table}
+use Rattle.swc_tree_node.specs.declared.kind.Class.TheVariants as class
+use Rattle.swc_tree_node.specs.declared.node.Node.{Node}
+use Rattle.swc_tree_node.specs.declared.slot.Content.TheVariants as content
+use Rattle.swc_tree_node.specs.declared.slot.Slot.TheVariants as slot
+use Rattle.swc_tree_node.specs.Fits.{Fits}
+use Rattle.swc_tree_grammar.specs.Due.{Places}
+use Rattle.swc_tree_grammar.specs.Fixed.{fixed}
+use Rattle.swc_tree_grammar.specs.Grammar.{FitsGrammar}
+use Rattle.swc_tree_grammar.specs.Same.{SameButForBoundNames}
+use Rattle.swc_tree_grammar.specs.Targets.{all_bare}
+use Rattle.swc_tree_grammar.specs.Writable.{Writable}
+use Rattle.swc_base_rename_substitution.specs.declared.config.Config.{Config}
+use Rattle.swc_base_rename_program.specs.Renamed.{IsHygienic}
+use Rattle.swc_base_rename_hygiene_laws.specs.Laws.{IsPlain}
+
+-- a module that can be written down, in which nothing reads names and where classes don't keep theirs
+pub record IsFinishable (config : Config) (t : Node) : Type 0 where
+  pub plain : IsPlain config t
+  pub fits : Fits t (slot.One (content.Node class.Module))
+  pub writable : Writable t
+
+-- the answer can be written down, the grammar derives it, and it has the normal form of the module but for the names that the
+-- module binds
+pub record KeepsModule (before after : Node) : Type 0 where
+  pub writable : Writable after
+  pub derived : FitsGrammar after
+  pub normal_form : SameButForBoundNames before after
+
+-- hygiene and then the fixer keep such a module, wherever the fixer puts its pairs
+abbrev pub FinishingKeepsModules : Type 0
+FinishingKeepsModules = (table : Table) (config : Config) (place : Places) (before middle : Node) → IsFinishable config before → IsHygienic table config before middle
+    → Fits middle (slot.One (content.Node class.Module)) → KeepsModule before (fixed place middle)
+
+-- and the fixer does not refuse what hygiene made of it for a target that takes no value
+abbrev pub FinishingMeetsNoTarget : Type 0
+FinishingMeetsNoTarget = (table : Table) (config : Config) (before middle : Node) → IsFinishable config before → IsHygienic table config before middle
+    → Fits middle (slot.One (content.Node class.Module)) → all_bare middle ≡ true

@@ -1,0 +1,29 @@
+//! Laws of passes that run one after another, on definitions alone: hygiene, and then the fixer.
+//!
+//! `specs/Finished.antt` states the laws. Each is the contract of a function that does nothing but call those of the laws
+//! that it rests on; a caller of the two passes calls it, and then knows the law.
+#![tactic(auto)]
+
+ghost use Rattle.swc_ecma_transforms_base_laws.specs.Finished.{FinishingKeepsModules, FinishingMeetsNoTarget};
+
+use swc_base_fixer_laws::{fixed_fits, normal_form_stays, targets_stand_bare};
+use swc_base_rename_hygiene_laws::{hygiene_keeps_normal_form, hygiene_stays_writable};
+
+/// What hygiene and then the fixer make of a module that can be written down, where nothing reads names and classes don't keep
+/// theirs, can be written down, is derived by the grammar, and has the module's normal form but for the names that it binds.
+pub fn finishing_keeps_modules()
+    ensures { FinishingKeepsModules }
+{
+    hygiene_stays_writable();
+    hygiene_keeps_normal_form();
+    fixed_fits();
+    normal_form_stays();
+}
+
+/// The fixer does not refuse what hygiene made of such a module for an assignment target.
+pub fn finishing_meets_no_target()
+    ensures { FinishingMeetsNoTarget }
+{
+    hygiene_stays_writable();
+    targets_stand_bare();
+}
