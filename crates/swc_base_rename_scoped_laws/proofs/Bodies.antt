@@ -78,7 +78,7 @@ for_opens w _ ts j h = absurd (cc)
 no_for : false ≡ true → ⊥
 no_for h = absurd (cc)
 
-for_form : (y : Node-F Node) (j : ℕ) → is_for_body y j ≡ true → (k : Kind) × (ts : List Node) × (y ≡ Node-F.Tree k ts) × (is_at (body_field k) j ≡ true)
+pub for_form : (y : Node-F Node) (j : ℕ) → is_for_body y j ≡ true → (k : Kind) × (ts : List Node) × (y ≡ Node-F.Tree k ts) × (is_at (body_field k) j ≡ true)
 for_form (Node-F.Tree k ts) j h = (k, ts, refl, h)
 for_form Node-F.Absent j h = absurd (cc)
 for_form _ j h = absurd (cc)
@@ -199,7 +199,7 @@ same_after : (v x y : Path) → v ++ x ≡ v ++ y → x ≡ y
 same_after [] x y e = e
 same_after (i ∷ v) x y e = same_after v x y (cc)
 
-child_of : (o : Option Node) (b : Bool) → given o false (λ c. b) ≡ true → (c : Node) × (o ≡ Some c) × (b ≡ true)
+pub child_of : (o : Option Node) (b : Bool) → given o false (λ c. b) ≡ true → (c : Node) × (o ≡ Some c) × (b ≡ true)
 child_of None b h = absurd (cc)
 child_of (Some c) b h = (c, refl, h)
 

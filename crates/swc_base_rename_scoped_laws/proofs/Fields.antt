@@ -28,12 +28,13 @@ all_at s [] i c h e = absurd (cc)
 all_at s (t ∷ ts) zero c h e = let same : t ≡ c = cc in subst (λ c. Fits c s) same h.0
 all_at s (t ∷ ts) (suc i) c h e = all_at s ts i c h.1 e
 
-two_at : (ss : List Slot) (ts : List Node) (i : ℕ) (c : Node) → FieldsFit ss ts → slice_get ts i ≡ Some c → (s : Slot) × Fits c s
-two_at [] [] i c h e = absurd (cc)
-two_at [] (t ∷ ts) i c h e = absurd h
-two_at (s ∷ ss) [] i c h e = absurd h
-two_at (s ∷ ss) (t ∷ ts) zero c h e = let same : t ≡ c = cc in (s, subst (λ c. Fits c s) same h.0)
-two_at (s ∷ ss) (t ∷ ts) (suc i) c h e = two_at ss ts i c h.1 e
+text_at : (ts : List Node) (i : ℕ) (c : Node) → FieldsFit (slot.One content.Text ∷ slot.One content.Text ∷ []) ts → slice_get ts i ≡ Some c → Fits c (slot.One content.Text)
+text_at [] i c h e = absurd h
+text_at (t ∷ []) i c h e = absurd h.1
+text_at (t ∷ u ∷ []) zero c h e = let same : t ≡ c = cc in subst (λ c. Fits c (slot.One content.Text)) same h.0
+text_at (t ∷ u ∷ []) (suc zero) c h e = let same : u ≡ c = cc in subst (λ c. Fits c (slot.One content.Text)) same h.1.0
+text_at (t ∷ u ∷ []) (suc (suc i)) c h e = absurd (cc)
+text_at (t ∷ u ∷ v ∷ ts) i c h e = absurd h.1.1
 
 field_in : (fs : List Field) (ts : List Node) (i : ℕ) (c : Node) → FieldsFit (map (λ f. f.1) fs) ts → slice_get ts i ≡ Some c → (f : Field) × (slice_get fs i ≡ Some f) × Fits c f.1
 field_in [] [] i c h e = absurd (cc)
@@ -41,6 +42,10 @@ field_in [] (t ∷ ts) i c h e = absurd h
 field_in (f ∷ fs) [] i c h e = absurd h
 field_in (f ∷ fs) (t ∷ ts) zero c h e = let same : t ≡ c = cc in (f, refl, subst (λ c. Fits c f.1) same h.0)
 field_in (f ∷ fs) (t ∷ ts) (suc i) c h e = field_in fs ts i c h.1 e
+
+-- the fields
+pub fields_at : (t : Node) (k : Kind) (ts : List Node) (s : Slot) → out-Node t ≡ Node-F.Tree k ts → Fits t s → FieldsFit (slots_of k) ts
+fields_at t k ts s o h = fields_open (slots_of k) ts (fields_fit k (map fits ts) s (layer t (Node-F.Tree k ts) s o h))
 
 -- a field
 pub field_at : (t c : Node) (k : Kind) (ts : List Node) (s : Slot) (i : ℕ) → out-Node t ≡ Node-F.Tree k ts → Fits t s → child t i ≡ Some c → (f : Field) × (slice_get (fields_of k) i ≡ Some f) × Fits c f.1
@@ -50,16 +55,18 @@ field_at t c k ts s i o h e =
 -- the slots of a list's items
 abbrev pub item_of : Slot → Slot → Type 0
 item_of (slot.List x) u = u ≡ slot.One x
-item_of (slot.One x) u = ⊥
-item_of (slot.Optional x) u = ⊥
-item_of _ u = Unit {0}
+item_of (slot.Holes x) u = u ≡ slot.Optional x
+item_of (slot.OptionalList x) u = u ≡ slot.One x
+item_of slot.Pair u = u ≡ slot.One content.Text
+item_of slot.Pairs u = u ≡ slot.Pair
+item_of _ u = ⊥
 
 item_in : (s : Slot) (ts : List Node) (i : ℕ) (c : Node) → IsTrue (list_fits (map fits ts) s) → slice_get ts i ≡ Some c → (u : Slot) × Fits c u × item_of s u
 item_in (slot.List x) ts i c h e = (slot.One x, all_at (slot.One x) ts i c (all_open (slot.One x) ts h) e, refl)
-item_in (slot.Holes x) ts i c h e = (slot.Optional x, all_at (slot.Optional x) ts i c (all_open (slot.Optional x) ts h) e, tt)
-item_in (slot.OptionalList x) ts i c h e = (slot.One x, all_at (slot.One x) ts i c (all_open (slot.One x) ts h) e, tt)
-item_in slot.Pair ts i c h e = let (u, f) = two_at (slot.One content.Text ∷ slot.One content.Text ∷ []) ts i c (fields_open (slot.One content.Text ∷ slot.One content.Text ∷ []) ts h) e in (u, f, tt)
-item_in slot.Pairs ts i c h e = (slot.Pair, all_at slot.Pair ts i c (all_open slot.Pair ts h) e, tt)
+item_in (slot.Holes x) ts i c h e = (slot.Optional x, all_at (slot.Optional x) ts i c (all_open (slot.Optional x) ts h) e, refl)
+item_in (slot.OptionalList x) ts i c h e = (slot.One x, all_at (slot.One x) ts i c (all_open (slot.One x) ts h) e, refl)
+item_in slot.Pair ts i c h e = (slot.One content.Text, text_at ts i c (fields_open (slot.One content.Text ∷ slot.One content.Text ∷ []) ts h) e, refl)
+item_in slot.Pairs ts i c h e = (slot.Pair, all_at slot.Pair ts i c (all_open slot.Pair ts h) e, refl)
 item_in (slot.One x) ts i c h e = absurd (cc)
 item_in (slot.Optional x) ts i c h e = absurd (cc)
 

@@ -8,3 +8,8 @@ pub mod Exports
 pub mod Homes
 pub mod Bodies
 pub mod Chained
+pub mod Sound
+pub mod Rows
+pub mod Written
+pub mod Leaks
+pub mod Bare

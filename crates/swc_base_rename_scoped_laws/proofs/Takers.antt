@@ -79,7 +79,7 @@ plain_apart e = absurd (cc)
 some_field : {f g : Field} → Some f ≡ Some g → f ≡ g
 some_field e = cc
 
-body_number : (k : Kind) (j : ℕ) (f : Field) (w : Place) (ts : List Node) → is_at (body_field k) j ≡ true → slice_get (fields_of k) j ≡ Some f → (f.1 ≡ slot.One (content.Node class.Stmt)) × (standing_below w k ts j f.2 ≡ standing.Plain)
+pub body_number : (k : Kind) (j : ℕ) (f : Field) (w : Place) (ts : List Node) → is_at (body_field k) j ≡ true → slice_get (fields_of k) j ≡ Some f → (f.1 ≡ slot.One (content.Node class.Stmt)) × (standing_below w k ts j f.2 ≡ standing.Plain)
 body_number kind.ForStmt j f w ts h e = let n : j ≡ 4 = grind arith in at (sym (ap (slice_get (fields_of kind.ForStmt)) n) ∙ e)
   where
     at : slice_get (fields_of kind.ForStmt) 4 ≡ Some f → (f.1 ≡ slot.One (content.Node class.Stmt)) × (standing_below w kind.ForStmt ts j f.2 ≡ standing.Plain)

@@ -15,6 +15,7 @@ use Rattle.swc_tree_node.specs.Fits.{Fits}
 use Rattle.swc_tree_scoping.specs.BoundNames.{Id}
 use Rattle.swc_tree_scoping.specs.Readings.{id_name}
 use Rattle.swc_tree_scoping.specs.WellScoped.{WellScoped, is_module}
+use Rattle.swc_tree_grammar.specs.Writable.{is_writable}
 use Rattle.swc_tree_renaming.specs.Apart.{NamesApart}
 use Rattle.swc_base_rename_analysis.specs.Named.{Named, Renaming, all_count, outer_count}
 use Rattle.swc_base_rename_analysis.specs.Preserved.{IsPreserved}
@@ -43,6 +44,10 @@ GetsNamesApart t = (r : Renaming) (new_texts : Id → Option (List ℕ)) (text :
 -- so are those of a well-scoped module in which no body of a `for` statement declares
 abbrev pub NamesAreApartWhereNoBodyDeclares : Type 0
 NamesAreApartWhereNoBodyDeclares = (t : Node) → Fits t (slot.One (content.Node class.Module)) → IsTrue (is_module t) → WellScoped t → NoBodyDeclares t → GetsNamesApart t
+
+-- so are those of each well-scoped module that can be written down
+abbrev pub NamesAreApart : Type 0
+NamesAreApart = (t : Node) → Fits t (slot.One (content.Node class.Module)) → IsTrue (is_module t) → WellScoped t → IsTrue (is_writable t) → GetsNamesApart t
 
 -- on a well-scoped module it is one whether all earlier names count at a scope, or only those of the scope and of the scopes
 -- round it
