@@ -172,8 +172,8 @@ fn chain(alloc: Global, envelope: Envelope) -> Result<String, PassError>
         tree,
     } = envelope;
     let config = config(top, keep_class_names, ignore_eval);
-    let resolved = resolve_program(alloc, &mut globals, unresolved, top, tree)?;
-    let renamed = hygiene_program(alloc, &config, &globals, resolved)?;
+    let marked = resolve_program(alloc, &mut globals, unresolved, top, tree)?;
+    let renamed = hygiene_program(alloc, &config, &globals, marked)?;
     let fixed = fix_parens(alloc, None::<&mut NoComments>, renamed)?;
     let text = write_envelope(alloc, &globals, top, &fixed, unresolved)?;
     Ok(text)
