@@ -1,17 +1,18 @@
--- On well-scoped modules the names that count at a scope are those of the scope and of the scopes round it.
+-- On well-scoped trees the names that count at a scope are those of the scope and of the scopes round it.
 use Rattle.std.proofs.Common.{◌≡◌, ◌↔◌, ℕ, Bool, false, IsTrue, ◌⊎◌, inl, inr, ⊎_elim, Option, Some, List, ◌++◌, Contains, refl, sym, ap, ◌∙◌, subst}
 use Rattle.swc_tree_marks.specs.declared.ident.Ident.{Ident}
 use Rattle.swc_tree_node.specs.declared.kind.Kind.TheVariants as kind
 use Rattle.swc_tree_node.specs.declared.slot.Slot.{Slot}
 use Rattle.swc_tree_node.specs.declared.fields.statements.fn_decl.TheConstants as fn_decl
-use Rattle.swc_tree_node.specs.declared.node.Node.{Node, out-Node}
+use Rattle.swc_tree_node.specs.declared.node.Node.{Node, Identifier, out-Node}
 use Rattle.swc_tree_node.specs.declared.node.Node.TheOpen.{Node-F}
 use Rattle.swc_tree_node.specs.Fits.{Fits}
+use Rattle.swc_tree_scoping.specs.declared.places.Standing.TheVariants as standing
 use Rattle.swc_tree_scoping.specs.declared.places.Place.{Place}
 use Rattle.swc_tree_scoping.specs.Places.{Path, program_place}
 use Rattle.swc_tree_scoping.specs.Scopes.{taker}
 use Rattle.swc_tree_scoping.specs.BoundNames.{Id}
-use Rattle.swc_tree_scoping.specs.WellScoped.{WellScoped, is_module}
+use Rattle.swc_tree_scoping.specs.WellScoped.{WellScoped}
 use Rattle.swc_base_rename_analysis.specs.Analysis.{Declares, IsAtOrAbove, IsOwnName, IsRound, OccursIn, first_taking, opened_round, scopes_round, uses_own_name}
 use Rattle.swc_base_rename_analysis.specs.Laws.{is_body_at}
 use Rattle.swc_base_rename_analysis.specs.Named.{IsFreeText, IsLeast, Named, Renaming, all_count, outer_count}
@@ -20,9 +21,10 @@ use Rattle.swc_base_rename_analysis_laws.proofs.Paths.{opened_at, scopes_step}
 use Rattle.swc_base_rename_analysis_laws.proofs.Rounds.{one_round_other, round_before, taken_is_round}
 use Rattle.swc_base_rename_scoped_laws.proofs.Around.{IsSeen, surrounds}
 use Rattle.swc_base_rename_scoped_laws.proofs.ByIds.{IsAt, from_id, id_of, one_name}
-use Rattle.swc_base_rename_scoped_laws.proofs.Homes.{IsHome, IsSeenByAll, home, taken_seen}
+use Rattle.swc_base_rename_scoped_laws.proofs.Homes.{IsReached, IsSeenByAll, reached_home, taken_seen}
 use Rattle.swc_base_rename_scoped_laws.proofs.Bodies.{body_comes_last, not_before}
 use Rattle.swc_base_rename_scoped_laws.proofs.Takers.{IsHeld, takers_held}
+use Rattle.swc_base_rename_scoped_laws.proofs.Reached.{as_variable, reaches_held, sloppy_so}
 
 -- a name and the function that uses it stand in the same scopes
 opened_alike : (f : Bool) (w : Place) (y : Node-F Node) (i j : ℕ) → IsTrue (uses_own_name y) → opened_round f w y i ≡ opened_round f w y j
@@ -38,7 +40,10 @@ own_alike t s p (q, w, f, at_p, at_s, there, uses) =
     ∙ sym (scopes_step q fn_decl.FUNCTION false program_place t w f there)
     ∙ ap (scopes_round t) (sym at_s)
 
-module _ (t : Node) (s : Slot) (fit : Fits t s) (is_one : IsTrue (is_module t)) (scoped : WellScoped t) where
+no_variable : {A : Type 0} → standing.Variable ≡ standing.Lexical → A
+no_variable e = absurd (cc)
+
+module _ (t : Node) (s : Slot) (fit : Fits t s) (scoped : WellScoped t) where
   -- what occurs at a scope, and got its name earlier, got it there or further out
   module _ (a b : Site) (y : Id) (d : Declares t b.0 b.1 y) (o : OccursIn t a.0 y) (before : IsBefore t b a) where
     by_round : IsRound t b.0 o.path → IsAtOrAbove t b.0 a.0
@@ -52,20 +57,36 @@ module _ (t : Node) (s : Slot) (fit : Fits t s) (is_one : IsTrue (is_module t)) 
     counts = by (from_id t b.1 d.standing y d.stands) (from_id t o.path o.standing y o.stands)
       where
         by : (i : Ident) × IsAt t b.1 d.standing i × (id_of i ≡ y) → (j : Ident) × IsAt t o.path o.standing j × (id_of j ≡ y) → IsAtOrAbove t b.0 a.0
-        by (i, at_i, name_i) (j, at_j, name_j) = from_home (home t is_one scoped b.1 d.standing i at_i d.binds)
+        by (i, at_i, name_i) (j, at_j, name_j) = from_home (reached_home t scoped b.1 d.standing i at_i d.binds)
           where
-            from_home : (u : Path) × IsHome t u i × IsSeenByAll t u i → IsAtOrAbove t b.0 a.0
-            from_home (v, is_home, sees) = at (subst (λ y. IsHeld t false d.standing (Some v) y) d.taken (subst (λ x. IsHeld t false d.standing x (first_taking d.standing (scopes_round t b.1))) taken (takers_held b.1 false program_place t s (d.standing, i) at_i.place at_i.kind fit (λ e. absurd (cc)) at_i.stands at_i.stands_so d.binds)))
+            from_home : (u : Path) × IsReached t d.standing b.1 u × IsSeenByAll t u i → IsAtOrAbove t b.0 a.0
+            from_home (v, reach, sees) = ⊎_elim by_taker by_reach reach
               where
-                taken : taker d.standing t b.1 ≡ Some v
-                taken = is_home b.1 d.standing i refl at_i d.binds
-
                 there : IsSeen t v o.path
                 there = sees o.path o.standing j (one_name j i (name_j ∙ sym name_i)) at_j o.names
 
-                at : IsHeld t false d.standing (Some v) (Some b.0) → IsAtOrAbove t b.0 a.0
-                at (inl (rest, e)) = by_round (surrounds t b.0 rest b.1 o.path (taken_is_round t d.standing b.0 b.1 d.taken) (subst (λ v. IsSeen t v b.1) e (taken_seen t d.standing b.1 v taken)) (subst (λ v. IsSeen t v o.path) e there))
-                at (inr body) = body_comes_last t s fit v d.standing a b o.path o.standing j at_j body (taken_is_round t d.standing b.0 b.1 d.taken) there o.inside before
+                inner : (rest : Path) → v ≡ b.0 ++ rest → IsSeen t v b.1 → IsAtOrAbove t b.0 a.0
+                inner rest e from = by_round (surrounds t b.0 rest b.1 o.path (taken_is_round t d.standing b.0 b.1 d.taken) (subst (λ v. IsSeen t v b.1) e from) (subst (λ v. IsSeen t v o.path) e there))
+
+                by_taker : taker d.standing t b.1 ≡ Some v → IsAtOrAbove t b.0 a.0
+                by_taker taken = at (subst (λ y. IsHeld t false d.standing (Some v) y) d.taken (subst (λ x. IsHeld t false d.standing x (first_taking d.standing (scopes_round t b.1))) taken (takers_held b.1 false program_place t s (d.standing, i) at_i.place at_i.kind fit (λ e. absurd (cc)) at_i.stands at_i.stands_so d.binds)))
+                  where
+                    at : IsHeld t false d.standing (Some v) (Some b.0) → IsAtOrAbove t b.0 a.0
+                    at (inl (rest, e)) = inner rest e (taken_seen t d.standing b.1 v taken)
+                    at (inr body) = body_comes_last t s fit v d.standing a b o.path o.standing j at_j body (taken_is_round t d.standing b.0 b.1 d.taken) there o.inside before
+
+                by_reach : (d.standing ≡ standing.SloppyFunction) × (taker standing.Variable t b.1 ≡ Some v) → IsAtOrAbove t b.0 a.0
+                by_reach (is, taken) = at (subst (λ y. IsHeld t false standing.Variable (Some v) y) found (subst (λ x. IsHeld t false standing.Variable x (first_taking standing.Variable (scopes_round t b.1))) taken held))
+                  where
+                    held : IsHeld t false standing.Variable (taker standing.Variable t b.1) (first_taking standing.Variable (scopes_round t b.1))
+                    held = reaches_held b.1 false program_place t s fit (λ e. absurd (cc)) (record { place = at_i.place; node = Identifier at_i.kind i; stands = at_i.stands; stands_so = sloppy_so at_i.place.standing (at_i.stands_so ∙ is) })
+
+                    found : first_taking standing.Variable (scopes_round t b.1) ≡ Some b.0
+                    found = sym (as_variable (scopes_round t b.1)) ∙ subst (λ r. first_taking r (scopes_round t b.1) ≡ Some b.0) is d.taken
+
+                    at : IsHeld t false standing.Variable (Some v) (Some b.0) → IsAtOrAbove t b.0 a.0
+                    at (inl (rest, e)) = inner rest e (taken_seen t standing.Variable b.1 v taken)
+                    at (inr (n, at_body, body, l)) = no_variable l
 
   module _ (r : Renaming) (preserved : List ℕ → Type 0) where
     to_outer : (taken : Id → ℕ) (a : Site) (text : List ℕ) → IsFreeText t r preserved all_count taken a text → IsFreeText t r preserved (outer_count t) taken a text

@@ -1,6 +1,7 @@
 pub mod Fields
 pub mod Openings
 pub mod Takers
+pub mod Reached
 pub mod Around
 pub mod ByIds
 pub mod Apart

@@ -35,7 +35,7 @@ use Rattle.swc_base_rename_analysis.specs.Analysis.{has_identifier, is_default_e
 use Rattle.swc_base_rename_scoped_laws.proofs.Fields.{field_at, layer}
 
 -- what the analysis may take at a node of a kind
-abbrev analysed : Kind → Standing → Bool
+abbrev pub analysed : Kind → Standing → Bool
 analysed kind.BlockStmt r = takes_all Block r
 analysed kind.ForStmt r = takes_all Block r
 analysed kind.ForInStmt r = takes_all Block r
@@ -54,7 +54,7 @@ analysed kind.ClassExpr r = true
 analysed _ r = false
 
 -- what the language takes there, of what stands in a field
-abbrev taken_there : Kind → ℕ → Standing → Bool
+abbrev pub taken_there : Kind → ℕ → Standing → Bool
 taken_there kind.Module i r = takes r scope.Program
 taken_there kind.Script i r = takes r scope.Program
 taken_there kind.Function i r = takes r scope.Function
@@ -73,7 +73,7 @@ taken_there kind.ClassExpr zero r = takes r scope.ClassName
 taken_there _ i r = false
 
 -- whether what stands as the field does may be bound so
-abbrev bound_so : Kind → Role → Standing → Bool
+abbrev pub bound_so : Kind → Role → Standing → Bool
 bound_so k role.Plain r = false
 bound_so k role.Reference r = false
 bound_so k role.FunctionBody r = false
@@ -157,7 +157,7 @@ both_so : (a b : Bool) → a ≡ true → b ≡ true → (a && b) ≡ true
 both_so true b h g = g
 both_so false b h g = absurd (cc)
 
-field_taken : (k : Kind) (i : ℕ) (f : Field) (r : Standing) → slice_get (fields_of k) i ≡ Some f → is_binding r ≡ true → analysed k r ≡ true → may (leaves_slot f.1) (bound_so k f.2 r) r ≡ true → taken_there k i r ≡ true
+pub field_taken : (k : Kind) (i : ℕ) (f : Field) (r : Standing) → slice_get (fields_of k) i ≡ Some f → is_binding r ≡ true → analysed k r ≡ true → may (leaves_slot f.1) (bound_so k f.2 r) r ≡ true → taken_there k i r ≡ true
 field_taken k i f r e b a m =
     then_so (analysed k r && may (leaves_slot f.1) (bound_so k f.2 r) r) (taken_there k i r) (first_true (field_test k i r f) (role_test k i r f) (both_tests k i f r e b))
     (both_so (analysed k r) (may (leaves_slot f.1) (bound_so k f.2 r) r) a m)
@@ -231,7 +231,7 @@ field_not_default w k ts i role.Catch r a p = chosen (is_identifier_expression (
 field_not_default w k ts i role.OwnName r a p = name_not_default k w.standing
 field_not_default w k ts i _ r a p = absurd (cc)
 
-may_more : (g : Leaves) (x y : Bool) (r : Standing) → (x ≡ true → y ≡ true) → may g x r ≡ true → may g y r ≡ true
+pub may_more : (g : Leaves) (x y : Bool) (r : Standing) → (x ≡ true → y ≡ true) → may g x r ≡ true → may g y r ≡ true
 may_more g true y r h e = subst (λ z. may g z r ≡ true) (sym (h refl)) e
 may_more g false true r h e = at g.any g.own _ e
   where
@@ -242,7 +242,7 @@ may_more g false true r h e = at g.any g.own _ e
 may_more g false false r h e = e
 
 -- what the node opens
-opens_analysed : (w : Place) (k : Kind) (b : Bool) (a : ScopeKind) (r : Standing) → own_kind w k b ≡ Some a → takes_all a r ≡ true → analysed k r ≡ true
+pub opens_analysed : (w : Place) (k : Kind) (b : Bool) (a : ScopeKind) (r : Standing) → own_kind w k b ≡ Some a → takes_all a r ≡ true → analysed k r ≡ true
 opens_analysed w kind.Module b a r e h = refl
 opens_analysed w kind.Script b a r e h = refl
 opens_analysed w kind.Function b a r e h = refl
@@ -334,7 +334,7 @@ ident_alone kind.Ident h = refl
 ident_alone kind.Module h = absurd (cc)
 ident_alone _ h = absurd (cc)
 
-no_tree : (l : Kind) (us : List Node) → IsTrue (tree_fits l (map fits us) (Some (content.Node class.Ident))) → ⊥
+pub no_tree : (l : Kind) (us : List Node) → IsTrue (tree_fits l (map fits us) (Some (content.Node class.Ident))) → ⊥
 no_tree l us h =
     let p = both (not (is_identifier l)) (belongs l class.Ident && each_fits (slots_of l) (map fits us)) h in
     let q = both (belongs l class.Ident) (each_fits (slots_of l) (map fits us)) p.1 in
@@ -363,7 +363,7 @@ not_exported w kind.FnExpr b a e n h = by w.standing e
     by _ e = refl
 not_exported w _ b a e n h = absurd (cc)
 
-owned : (w : Place) (t : Node) (k : Kind) (ts : List Node) (j : ℕ) (r : Standing) → out-Node t ≡ Node-F.Tree k ts → is_taken r (opened_as w k (has_own_name ts)) ≡ true → is_inside (view_from k j) ≡ true
+pub owned : (w : Place) (t : Node) (k : Kind) (ts : List Node) (j : ℕ) (r : Standing) → out-Node t ≡ Node-F.Tree k ts → is_taken r (opened_as w k (has_own_name ts)) ≡ true → is_inside (view_from k j) ≡ true
     → own (opened w t) (view_in (out-Node t) j) r ≡ Some []
 owned w t k ts j r o taken inside =
     ap (λ y. own (opened_in w y) (view_in y j) r) o

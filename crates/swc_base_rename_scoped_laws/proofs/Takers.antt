@@ -109,7 +109,7 @@ abbrev root : Option Path
 root = Some []
 
 -- what a node's own scopes take
-here_taken : (o : Bool) (m : Option ScopeKind) (r : Standing) → first_taking r (if o then [] else opened_here m) ≡ Some [] → (a : ScopeKind) × (o ≡ false) × (m ≡ Some a) × (takes a r ≡ true)
+pub here_taken : (o : Bool) (m : Option ScopeKind) (r : Standing) → first_taking r (if o then [] else opened_here m) ≡ Some [] → (a : ScopeKind) × (o ≡ false) × (m ≡ Some a) × (takes a r ≡ true)
 here_taken true m r h = absurd (cc)
 here_taken false None r h = absurd (cc)
 here_taken false (Some a) r h = (a, refl, refl, by (takes a r) h)
@@ -127,7 +127,7 @@ here_only false (Some a) r = by (takes a r)
     by true = tt
     by false = tt
 
-taken_here_only : (f : Bool) (w : Place) (y : Node-F Node) (j : ℕ) (r : Standing) → AtMostHere (first_taking r (opened_round f w y j))
+pub taken_here_only : (f : Bool) (w : Place) (y : Node-F Node) (j : ℕ) (r : Standing) → AtMostHere (first_taking r (opened_round f w y j))
 taken_here_only f w (Node-F.Tree k ts) j r = here_only (is_outside w k (has_identifier ts) j) (body_kind f (own_kind w k (has_own_name ts))) r
 taken_here_only f w Node-F.Absent j r = tt
 taken_here_only f w _ j r = tt
@@ -145,7 +145,7 @@ own_only None h = inr refl
 own_only (Some []) h = inl refl
 own_only (Some (i ∷ p)) h = absurd h
 
-own_here : (b : Bool) → AtMostHere (cond b (Some []) None)
+pub own_here : (b : Bool) → AtMostHere (cond b (Some []) None)
 own_here true = tt
 own_here false = tt
 
@@ -180,7 +180,7 @@ same_place f w t c s j b Node-F.Absent o fit body there g h = absurd (cc)
 same_place f w t c s j b _ o fit body there g h = absurd (cc)
 
 -- the scopes of a child and those of the node itself
-combine : (t c : Node) (f : Bool) (r : Standing) (j : ℕ) (x y o q : Option Path) → child t j ≡ Some c → IsHeld c (is_for_body (out-Node t) j) r x y → AtMostHere q → AtMostHere o
+pub combine : (t c : Node) (f : Bool) (r : Standing) (j : ℕ) (x y o q : Option Path) → child t j ≡ Some c → IsHeld c (is_for_body (out-Node t) j) r x y → AtMostHere q → AtMostHere o
     → (x ≡ None → q ≡ Some [] → (o ≡ Some []) ⊎ ((f ≡ true) × (r ≡ standing.Lexical))) → (is_for_body (out-Node t) j ≡ true → r ≡ standing.Lexical → o ≡ Some [])
     → IsHeld t f r (or_else (lowered j x) o) (or_else (lowered j y) q)
 combine t c f r j (Some s) (Some u) o q there (inl (rest, e)) m n here body = inl (rest, ap (λ s. j ∷ s) e)
@@ -204,7 +204,7 @@ combine t c f r j None None o (Some (i ∷ p)) there h m n here body = absurd m
 no_body : false ≡ true → ⊥
 no_body h = absurd (cc)
 
-no_child : {A : Type 0} (t c : Node) (j : ℕ) (y : Node-F Node) → out-Node t ≡ y → slice_get (children_in y) j ≡ None → child t j ≡ Some c → A
+pub no_child : {A : Type 0} (t c : Node) (j : ℕ) (y : Node-F Node) → out-Node t ≡ y → slice_get (children_in y) j ≡ None → child t j ≡ Some c → A
 no_child t c j y o n e = let z : Some c ≡ None = sym e ∙ ap (λ y. slice_get (children_in y) j) o ∙ n in absurd (cc)
 
 pub takers_held : (p : Path) (f : Bool) (w : Place) (t : Node) (s : Slot) (b : Binding) (v : Place) (k : Kind) → Fits t s → (f ≡ true → IsStatement s w) → place_at w t p ≡ Some (v, Identifier k b.1) → v.standing ≡ b.0 → is_binding b.0 ≡ true

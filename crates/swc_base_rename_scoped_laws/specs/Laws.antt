@@ -3,6 +3,7 @@ use Rattle.std.specs.Prelude.{◌≡◌, ◌↔◌, ℕ, true, false, IsTrue, Op
 use Rattle.swc_tree_marks.specs.declared.ident.Ident.{Ident}
 use Rattle.swc_tree_node.specs.declared.kind.Class.TheVariants as class
 use Rattle.swc_tree_node.specs.declared.slot.Content.TheVariants as content
+use Rattle.swc_tree_node.specs.declared.slot.Slot.{Slot}
 use Rattle.swc_tree_node.specs.declared.slot.Slot.TheVariants as slot
 use Rattle.swc_tree_node.specs.declared.node.Node.{Node, Identifier}
 use Rattle.swc_tree_node.specs.declared.kind.Kind.{Kind}
@@ -49,8 +50,8 @@ NamesAreApartWhereNoBodyDeclares = (t : Node) → Fits t (slot.One (content.Node
 abbrev pub NamesAreApart : Type 0
 NamesAreApart = (t : Node) → Fits t (slot.One (content.Node class.Module)) → IsTrue (is_module t) → WellScoped t → IsTrue (is_writable t) → GetsNamesApart t
 
--- on a well-scoped module it is one whether all earlier names count at a scope, or only those of the scope and of the scopes
--- round it
+-- on a well-scoped tree that fits some place, as each module and each script does, it is one whether all earlier names count
+-- at a scope, or only those of the scope and of the scopes round it
 abbrev pub ChainedIsFlat : Type 0
-ChainedIsFlat = (t : Node) (r : Renaming) (new_texts : Id → Option (List ℕ)) → Fits t (slot.One (content.Node class.Module)) → IsTrue (is_module t) → WellScoped t
+ChainedIsFlat = (t : Node) (s : Slot) (r : Renaming) (new_texts : Id → Option (List ℕ)) → Fits t s → WellScoped t
     → Named t r (IsPreserved t r.preserves) all_count new_texts ↔ Named t r (IsPreserved t r.preserves) (outer_count t) new_texts

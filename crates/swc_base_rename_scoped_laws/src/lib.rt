@@ -15,8 +15,8 @@ pub fn names_are_apart()
     ensures { NamesAreApart }
 {}
 
-/// On a well-scoped module the ids get the same names where all earlier names count at a scope, and where only those of the
-/// scope and of the scopes round it do: no other id occurs there.
+/// On a well-scoped tree that fits some place, as each module and each script does, the ids get the same names where all earlier
+/// names count at a scope, and where only those of the scope and of the scopes round it do: no other id occurs there.
 pub fn chained_is_flat()
     ensures { ChainedIsFlat }
 {}
