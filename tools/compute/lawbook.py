@@ -107,6 +107,11 @@ def well_scoped_module(random, size):
     return random.well_scoped(size, True)
 
 
+def well_scoped_program(random, size):
+    """the same, scripts too"""
+    return random.well_scoped(size, random.chance(0.5))
+
+
 # ------------------------------------------------------------------------------------------------ words for trees
 def is_module(t):
     return t[1] == 'Module'

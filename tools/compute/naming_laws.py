@@ -7,7 +7,7 @@ import naming_walk
 import scoping
 from antt_values import Rec
 from grammar_laws import is_same
-from lawbook import Bad, D, any_tree, clean_program, identity, is_module, is_name, is_writable, kids, law, normal_form, well_scoped_module
+from lawbook import Bad, D, any_tree, clean_program, identity, is_module, is_name, is_writable, kids, law, normal_form, well_scoped_module, well_scoped_program
 from naming import Analysis, Naming, Renaming, all_count, hygiene, numbered, outer_count
 from naming_rows import with_hygiene
 
@@ -254,11 +254,11 @@ def hygiene_keeps_ids(t):
     return keeps_ids(t, answer) or Bad('hygiene:', answer)
 
 
-@law(well_scoped_module)
+@law(well_scoped_program)
 def chained_is_flat(t):
-    """on well-scoped modules the names are those where only the names of a scope and of those round it count, in mangle
+    """on well-scoped programs the names are those where only the names of a scope and of those round it count, in mangle
     mode and without"""
-    if not is_module(t) or not scoping.WellScoped(D.all, t):
+    if not scoping.WellScoped(D.all, t):
         return None
     analysis = Analysis(D.all, t)
     for preserves in ((), some_ids(analysis)):
