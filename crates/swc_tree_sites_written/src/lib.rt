@@ -1,0 +1,11 @@
+//! What is left of a module that is written out: the same names with the same scopes round them.
+//!
+//! `specs/Laws.antt` states the laws. Each is the contract of a function that does nothing, so that it is proved.
+#![tactic(auto)]
+
+ghost use Rattle.swc_tree_sites_written.specs.Laws.{WrittenItemKeepsNames};
+
+/// An item of a module, written out, has the names that it had.
+pub fn written_item_keeps_names()
+    ensures { WrittenItemKeepsNames }
+{}
