@@ -7,3 +7,5 @@ pub mod Branches
 pub mod Goes
 pub mod Opened
 pub mod Steps
+pub mod Declared
+pub mod Modules

@@ -65,7 +65,7 @@ span_quiet = quiet_written (slot.One content.Span) (λ k i f. absurd (cc (sym (f
 text_quiet : (w : Place) (t : Node) → Fits t (slot.One content.Text) → S w (written_out t) ≡ nothing
 text_quiet = quiet_written (slot.One content.Text) (λ k i f. absurd (cc (sym (fits-Identifier k i (slot.One content.Text)) ∙ f))) (λ ts f. absurd (cc (sym (fits-List ts (slot.One content.Text)) ∙ f))) (λ k ts f. absurd (cc (sym (fits-Tree k ts (slot.One content.Text)) ∙ f)))
 
-raw_quiet : (w : Place) (t : Node) → Fits t (slot.Optional content.Text) → S w (written_out t) ≡ nothing
+pub raw_quiet : (w : Place) (t : Node) → Fits t (slot.Optional content.Text) → S w (written_out t) ≡ nothing
 raw_quiet = quiet_written (slot.Optional content.Text) (λ k i f. absurd (cc (sym (fits-Identifier k i (slot.Optional content.Text)) ∙ f))) (λ ts f. absurd (cc (sym (fits-List ts (slot.Optional content.Text)) ∙ f)))
     (λ k ts f. absurd (cc (sym (fits-Tree k ts (slot.Optional content.Text)) ∙ f)))
 

@@ -112,7 +112,7 @@ again_quiet r n l u outer quiet = at (is_absent u) refl
 abbrev OuterQuiet : Node → Type 0
 OuterQuiet t = (r : Standing) (n : Bool) → Fits t (one class.ModuleExportName) → is_outer r ≡ true → S (P r n) t ≡ nothing
 
-optional_text : (w : Place) (t : Node) → Fits t (slot.Optional content.Text) → S w t ≡ nothing
+pub optional_text : (w : Place) (t : Node) → Fits t (slot.Optional content.Text) → S w t ≡ nothing
 optional_text w t = by_children (λ t. Fits t (slot.Optional content.Text) → S w t ≡ nothing) (
   λ f. of_absent w,
   λ x f. out_step w (Flag x) _ (outs-Flag x),
