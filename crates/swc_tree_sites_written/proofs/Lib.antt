@@ -9,3 +9,4 @@ pub mod Opened
 pub mod Steps
 pub mod Declared
 pub mod Modules
+pub mod NormalForms

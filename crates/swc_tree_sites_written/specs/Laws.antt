@@ -8,7 +8,9 @@ use Rattle.swc_tree_node.specs.Fits.{Fits}
 use Rattle.swc_tree_scoping.specs.declared.places.Place.{Place}
 use Rattle.swc_tree_scoping.specs.declared.places.Standing.{Standing}
 use Rattle.swc_tree_scoping.specs.Places.{program_place}
-use Rattle.swc_tree_grammar.specs.Normal.{written_out}
+use Rattle.swc_tree_grammar.specs.Normal.{normal_form, written_out}
+use Rattle.swc_tree_grammar.specs.Stripped.{stripped}
+use Rattle.swc_tree_grammar.specs.Targets.{all_bare}
 use Rattle.swc_tree_sites.specs.Sites.{sites_of, taken_at}
 use Rattle.swc_tree_sites.specs.Smaller.{IsLeftOf}
 use Rattle.swc_tree_sites_written.specs.Tame.{is_tame}
@@ -27,3 +29,8 @@ WrittenItemKeepsNames = (t : Node) (r : Standing) (n : Bool) → Fits t (slot.On
 -- program takes the same.
 abbrev pub WrittenOutIsLeft : Type 0
 WrittenOutIsLeft = (t : Node) → Fits t (slot.One (content.Node class.Module)) → IsTrue (is_tame t false) → IsLeftOf (written_out t) t × (taken_at program_place (written_out t) ≡ taken_at program_place t)
+
+-- The normal form of a module is left of the module, where each parenthesised target of it can stand bare and the
+-- stripped module is tame.
+abbrev pub NormalFormIsLeft : Type 0
+NormalFormIsLeft = (t : Node) → Fits t (slot.One (content.Node class.Module)) → IsTrue (all_bare t) → IsTrue (is_tame (stripped t) false) → IsLeftOf (normal_form t) t
