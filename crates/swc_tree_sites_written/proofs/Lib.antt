@@ -1,0 +1,12 @@
+pub mod Lists
+pub mod Written
+pub mod WrittenFields
+pub mod WrittenForms
+pub mod WrittenNames
+pub mod Branches
+pub mod Goes
+pub mod Opened
+pub mod Steps
+pub mod Declared
+pub mod Modules
+pub mod NormalForms
