@@ -1,3 +1,4 @@
+//! The words of the command line.
 ghost use Rattle.std.specs.Prelude.{◌≡◌, ◌≢◌, [], ◌∷◌, map, string_bytes, IfOk, IfErr, IfSome, IfNone};
 ghost use Rattle.jsbase_engine.specs.declared.fault.Fault.TheVariants.{Usage};
 ghost use Rattle.jsbase_engine.specs.declared.arguments.Command.{Command};

@@ -1,3 +1,4 @@
+//! Why there is no answer, and how that is told.
 ghost use Rattle.std.specs.Prelude.{◌≡◌, [], ◌∷◌, ◌++◌, OnOk};
 ghost use Rattle.std.specs.Io.KnownBytes.{Appends};
 ghost use Rattle.jsbase_engine.specs.Faults.{status_of, line_of};
@@ -17,7 +18,7 @@ pub enum Fault {
     NotATree(String),
 }
 
-/// What a fault's line begins with, and what follows.
+// What a fault's line begins with, and what follows.
 fn line_of(fault: &Fault) -> (&str, &str)
     ensures { result.0.now ++ result.1.now ++ 10 ∷ [] ≡ line_of fault.now }
 {

@@ -55,7 +55,7 @@ fn read_pairs(alloc: Global, value: &Value<'_>) -> Result<Items<(u32, u32)>, Rea
     }
 }
 
-/// The table of marks: all its pairs are read before the first of them is checked.
+// The table of marks: all its pairs are read before the first of them is checked.
 #[tactic(auto, using(crate::proofs::Tables::good_table, crate::proofs::Tables::bad_table), unfolding(jsbase_form::specs::Tables::table_at))]
 fn read_globals(alloc: Global, value: &Value<'_>) -> Result<Globals, ReadError>
     ensures { Gives result (table_at (value_view value.now)) }
@@ -68,7 +68,7 @@ fn read_globals(alloc: Global, value: &Value<'_>) -> Result<Globals, ReadError>
     }
 }
 
-/// A flag, or false where there is none.
+// A flag, or false where there is none.
 fn read_option(alloc: Global, value: &Value<'_>) -> Result<bool, ReadError>
     ensures { Gives result (option_at (value_view value.now)) }
 {
@@ -79,7 +79,7 @@ fn read_option(alloc: Global, value: &Value<'_>) -> Result<bool, ReadError>
     }
 }
 
-/// The table of marks of an envelope.
+// The table of marks of an envelope.
 #[tactic(auto, unfolding(jsbase_form::specs::Tables::table_at, jsbase_form::specs::Tables::pairs_at))]
 fn table_in(alloc: Global, object: &Value<'_>) -> Result<Globals, ReadError>
     ensures { Gives result (at (key (codes "marks")) (table_at (value_of (codes "marks") (members_in (value_view object.now))))) }
@@ -90,7 +90,7 @@ fn table_in(alloc: Global, object: &Value<'_>) -> Result<Globals, ReadError>
     }
 }
 
-/// The mark that a key holds.
+// The mark that a key holds.
 #[tactic(auto, unfolding(jsbase_form::specs::Leaves::mark_at, jsbase_form::specs::Leaves::number_at))]
 fn mark_in(
     alloc: Global,
@@ -106,7 +106,7 @@ fn mark_in(
     }
 }
 
-/// The option that a key holds; where it holds none it is false.
+// The option that a key holds; where it holds none it is false.
 fn option_in(alloc: Global, object: &Value<'_>, name: &'static str) -> Result<bool, ReadError>
     ensures { Gives result (at (key name.now) (option_at (value_of name.now (members_in (value_view object.now))))) }
 {
@@ -116,7 +116,7 @@ fn option_in(alloc: Global, object: &Value<'_>, name: &'static str) -> Result<bo
     }
 }
 
-/// The mark of names that no scope declares, and that of the outermost scope.
+// The mark of names that no scope declares, and that of the outermost scope.
 fn read_marks(
     alloc: Global,
     globals: &Globals,
@@ -129,7 +129,7 @@ fn read_marks(
     Ok((unresolved, top))
 }
 
-/// Whether classes keep their names, and whether `eval` is ignored.
+// Whether classes keep their names, and whether `eval` is ignored.
 fn read_options(alloc: Global, object: &Value<'_>) -> Result<(bool, bool), ReadError>
     ensures { Gives result (options_in (members_in (value_view object.now))) }
 {
@@ -138,7 +138,7 @@ fn read_options(alloc: Global, object: &Value<'_>) -> Result<(bool, bool), ReadE
     Ok((keep_class_names, ignore_eval))
 }
 
-/// The tree of an envelope.
+// The tree of an envelope.
 fn read_tree(
     alloc: Global,
     globals: &Globals,
@@ -203,7 +203,7 @@ pub fn read_envelope(alloc: Global, class: Class, value: &Value<'_>) -> Result<E
 /// How deep arrays and objects may nest.
 const MAX_DEPTH: usize = 127;
 
-/// The JSON value of a text.
+// The JSON value of a text.
 fn parse<'a>(
     alloc: Global,
     bytes: &'a [u8],

@@ -38,14 +38,14 @@ impl<T: Drop> From<AllocFailed<T>> for ReadError {
     }
 }
 
-/// A fault of the value itself.
+// A fault of the value itself.
 pub(crate) fn fault<T>(alloc: Global) -> Result<T, ReadError>
     ensures { Gives result (Err []) }
 {
     Err(ReadError::Fault(FaultPath::here(alloc)))
 }
 
-/// What was read of the part that `step` leads to, with a fault as seen from the whole.
+// What was read of the part that `step` leads to, with a fault as seen from the whole.
 pub(crate) fn under<T: Drop>(step: Step, read: Result<T, ReadError>) -> Result<T, ReadError>
     ensures { (r : Read T) → Gives read r → Gives result (at (part_of step) r) }
 {

@@ -14,7 +14,7 @@ use swc_tree_items::Text;
 use swc_tree_marks::{Globals, Mark, Span, SyntaxContext};
 use swc_tree_node::{Word, WordClass, spelling_of, words_of};
 
-/// The whole number of 32 bits that a text of digits alone writes.
+// The whole number of 32 bits that a text of digits alone writes.
 fn whole(text: &str) -> Option<u32>
     ensures { result ≡ whole text.now }
 {
@@ -41,7 +41,7 @@ pub(crate) fn read_number(alloc: Global, value: &Value<'_>) -> Result<u32, ReadE
     }
 }
 
-/// The items of an array.
+// The items of an array.
 pub(crate) fn items_of<'v, 'a>(value: &'v Value<'a>) -> Option<&'v [Value<'a>]>
     ensures { option_map (λ items. items_view items.now) result ≡ as_array (value_view value.now) }
 {
@@ -51,7 +51,7 @@ pub(crate) fn items_of<'v, 'a>(value: &'v Value<'a>) -> Option<&'v [Value<'a>]>
     }
 }
 
-/// Two numbers.
+// Two numbers.
 #[tactic(auto, using(crate::proofs::Tables::no_pair), unfolding(jsbase_form::specs::Tables::pair_at))]
 pub(crate) fn read_pair(alloc: Global, value: &Value<'_>) -> Result<(u32, u32), ReadError>
     ensures { Gives result (pair_at (value_view value.now)) }
@@ -77,7 +77,7 @@ pub(crate) fn read_span(alloc: Global, value: &Value<'_>) -> Result<Span, ReadEr
     Ok(Span { lo, hi })
 }
 
-/// Whether a number is that of a mark of the globals, and not the root's.
+// Whether a number is that of a mark of the globals, and not the root's.
 pub(crate) fn is_marked(globals: &Globals, number: u32) -> bool
     ensures { result ≡ is_marked globals.now number }
 {
@@ -149,7 +149,7 @@ pub(crate) fn read_flag(alloc: Global, value: &Value<'_>) -> Result<bool, ReadEr
     }
 }
 
-/// The word of a list that is spelled so.
+// The word of a list that is spelled so.
 fn spelled(text: &str, words: &[Word]) -> Option<Word>
     ensures { result ≡ spelled text.now words.now }
 {

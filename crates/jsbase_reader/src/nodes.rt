@@ -56,7 +56,7 @@ fn read_null(alloc: Global, slot: Slot) -> Result<Node, ReadError>
     }
 }
 
-/// The value of a key of an object, the last where the key comes twice.
+// The value of a key of an object, the last where the key comes twice.
 pub(crate) fn member<'v, 'a>(object: &'v Value<'a>, key: &str) -> Option<&'v Value<'a>>
     ensures { option_map (λ v. value_view v.now) result
         ≡ get_member key.now (members_in (value_view object.now)) }
@@ -64,7 +64,7 @@ pub(crate) fn member<'v, 'a>(object: &'v Value<'a>, key: &str) -> Option<&'v Val
     object.get(key)
 }
 
-/// The text of a key, if it has one.
+// The text of a key, if it has one.
 fn text_of<'v, 'a>(object: &'v Value<'a>, key: &str) -> Option<&'a str>
     ensures { option_map (λ s. s.now) result
         ≡ option_and_then as_str (get_member key.now (members_in (value_view object.now))) }
@@ -150,7 +150,7 @@ fn read_identifier(
     Ok(Node::Identifier(kind, Boxed::new(alloc, ident)?))
 }
 
-/// Puts what was read of a part behind the nodes that were read before it.
+// Puts what was read of a part behind the nodes that were read before it.
 fn push_read(
     nodes: &mut Items<Node>,
     step: Step,
@@ -163,7 +163,7 @@ fn push_read(
     Ok(())
 }
 
-/// The place of each of so many items of a list, if the place takes a list of so many.
+// The place of each of so many items of a list, if the place takes a list of so many.
 fn item_slot(slot: Slot, count: usize) -> Option<Slot>
     ensures { result ≡ item_slot slot count }
 {
@@ -176,7 +176,7 @@ fn item_slot(slot: Slot, count: usize) -> Option<Slot>
     }
 }
 
-/// The class of the node that a place takes, if it takes one.
+// The class of the node that a place takes, if it takes one.
 fn class_of(slot: Slot) -> Option<Class>
     ensures { result ≡ class_in slot }
 {
@@ -269,7 +269,7 @@ fn read_node(
     }
 }
 
-/// What the value of a key is in a place.
+// What the value of a key is in a place.
 #[cycle(read)]
 fn read_member(
     alloc: Global,

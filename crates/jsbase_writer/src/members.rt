@@ -48,7 +48,7 @@ fn insert<'a>(members: &mut Vec<Member<'a>>, member: Member<'a>) -> Result<(), A
     Ok(())
 }
 
-/// The members of a tree, with the one that names its kind.
+// The members of a tree, with the one that names its kind.
 pub(crate) fn members_of<'a>(
     alloc: Global,
     kind: Kind,

@@ -36,7 +36,7 @@ fn write_ident(out: &mut Writer, kind: Kind, ident: &Ident) -> Result<(), AllocE
     Ok(())
 }
 
-/// The text that was written.
+// The text that was written.
 pub(crate) fn text_of(out: Writer) -> String
     requires { out.before ≡ [] }
     ensures text { string_bytes result ≡ print out.tokens }

@@ -8,7 +8,7 @@ use json::Writer;
 use std::alloc::AllocError;
 use swc_tree_marks::Mark;
 
-/// Writes two numbers as an array.
+// Writes two numbers as an array.
 #[tactic(auto, using(crate::proofs::Tokens::of_pair))]
 pub(crate) fn write_pair(out: &mut Writer, first: u32, second: u32) -> Result<(), AllocError>
     ensures written { OnOk result (out.new.tokens ≡ out.old.tokens ++ tokens_of (numbers_json (first ∷ second ∷ []))) }
@@ -22,7 +22,7 @@ pub(crate) fn write_pair(out: &mut Writer, first: u32, second: u32) -> Result<()
     Ok(())
 }
 
-/// Writes marks as an array.
+// Writes marks as an array.
 pub(crate) fn write_marks(out: &mut Writer, marks: &[Mark]) -> Result<(), AllocError>
     ensures written { OnOk result (out.new.tokens ≡ out.old.tokens ++ tokens_of (numbers_json marks.now)) }
     ensures before { OnOk result (out.new.before ≡ out.old.before) }

@@ -1,3 +1,4 @@
+//! How the pass that sets parentheses is made.
 ghost use Rattle.std.specs.Prelude.{◌≡◌};
 
 use crate::fixing::Fixer;

@@ -58,7 +58,7 @@ pub fn object(in_chain: bool) -> Test
     if in_chain { Test::Link } else { Test::Operand }
 }
 
-/// Whether an expression is `new` without arguments.
+// Whether an expression is `new` without arguments.
 fn is_bare_new(node: &Node) -> bool
     ensures { result ≡ is_bare_new_in node.now }
 {
@@ -71,7 +71,7 @@ fn is_bare_new(node: &Node) -> bool
     }
 }
 
-/// Whether an expression is a `??`.
+// Whether an expression is a `??`.
 fn is_nullish(node: &Node) -> bool
     ensures { result ≡ is_nullish_in node.now }
 {

@@ -1,3 +1,4 @@
+//! The three steps by which due pairs are set, one after the other.
 ghost use Rattle.std.specs.Prelude.{◌≡◌, IfOk};
 ghost use Rattle.swc_tree_grammar.specs.Due.{with_due_pairs};
 ghost use Rattle.swc_base_fixer_due.specs.Record.{place_in};

@@ -26,7 +26,7 @@ pub enum Family {
     Yield,
 }
 
-/// Whether a kind is of a family.
+// Whether a kind is of a family.
 fn belongs(kind: Kind, family: Family) -> bool
     ensures { result ≡ kinds_of family kind }
 {

@@ -35,7 +35,7 @@ pub enum Handing {
 }
 
 impl Handing {
-    /// Whether `in` may stand bare in a field of a node where it may if `with_in` holds.
+    // Whether `in` may stand bare in a field of a node where it may if `with_in` holds.
     fn flag(self, with_in: bool, index: usize) -> bool
         ensures { result ≡ flag_at self with_in index }
     {
@@ -49,7 +49,7 @@ impl Handing {
     }
 }
 
-/// To which fields a node hands on whether `in` may stand bare.
+// To which fields a node hands on whether `in` may stand bare.
 fn handing_of(kind: Kind, fields: &[Node]) -> Handing
     ensures { result ≡ handing_for (Node-F.Tree kind fields.now) }
 {
@@ -85,7 +85,7 @@ fn handing_of(kind: Kind, fields: &[Node]) -> Handing
     }
 }
 
-/// Whether a node is an `in` where none may stand bare.
+// Whether a node is an `in` where none may stand bare.
 fn is_bare_in(with_in: bool, kind: Kind, fields: &[Node]) -> bool
     ensures { result ≡ is_bare_in_of with_in (Node-F.Tree kind fields.now) }
 {
@@ -105,7 +105,7 @@ pub fn holds(node: &Node) -> bool
     }
 }
 
-/// Whether a node is the name `async`.
+// Whether a node is the name `async`.
 fn is_async_name(node: &Node) -> bool
     ensures { result ≡ is_async_name_in node.now }
 {
@@ -115,7 +115,7 @@ fn is_async_name(node: &Node) -> bool
     }
 }
 
-/// An expression in place of a name that stands as a pattern.
+// An expression in place of a name that stands as a pattern.
 fn as_expression(node: Node) -> Node
     ensures { result ≡ as_expression_of node (out-Node node) }
 {
@@ -125,7 +125,7 @@ fn as_expression(node: Node) -> Node
     }
 }
 
-/// What stands before `of`; `with_await` says whether the loop is one of `for await`.
+// What stands before `of`; `with_await` says whether the loop is one of `for await`.
 #[tactic(auto, using(crate::proofs::Heading::by_name))]
 fn of_head(
     alloc: Global,
@@ -153,7 +153,7 @@ fn for_of(alloc: Global, recorded: &Record, mut fields: Items<Node>) -> Result<N
     Ok(Node::Tree(Kind::ForOfStmt, fields))
 }
 
-/// A tree whose fields have their pairs, in a pair if it is an `in` that may not stand bare.
+// A tree whose fields have their pairs, in a pair if it is an `in` that may not stand bare.
 fn headed(
     alloc: Global,
     recorded: &Record,

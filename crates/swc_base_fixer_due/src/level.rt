@@ -8,7 +8,7 @@ ghost use Rattle.swc_base_fixer_due.specs.Least.{least, uncalled};
 use swc_tree_node::fields::{bin_expr, member_expr, new_expr};
 use swc_tree_node::{Kind, Node, Word};
 
-/// The level of an operator of two sides, and 0 of any other word.
+// The level of an operator of two sides, and 0 of any other word.
 fn operator_level(word: Word) -> u8
     ensures value { result ≡ operator_level_of word }
     ensures small { result ≤ 14 }
@@ -64,7 +64,7 @@ pub fn is_absent(node: &Node) -> bool
     matches!(node, Node::Absent)
 }
 
-/// The level of a kind whose fields do not matter.
+// The level of a kind whose fields do not matter.
 fn kind_level(kind: Kind) -> u8
     ensures { result ≡ kind_level_of kind }
 {
@@ -91,9 +91,9 @@ pub fn called_field(kind: Kind, fields: &[Node]) -> Option<usize>
     }
 }
 
-/// Whether the objects and tags on the left of an expression lead to a call.
-///
-/// The time is in step with how many they are.
+// Whether the objects and tags on the left of an expression lead to a call.
+//
+// The time is in step with how many they are.
 fn is_called(node: &Node) -> bool
     ensures { result ≡ is_called_in node.now }
 {
@@ -109,7 +109,7 @@ fn is_called(node: &Node) -> bool
     }
 }
 
-/// The level that a node has at least: its own, but of a member or a tagged template that of a call.
+// The level that a node has at least: its own, but of a member or a tagged template that of a call.
 fn least_level(node: &Node) -> u8
     ensures { result ≡ least node.now }
 {
@@ -133,7 +133,7 @@ fn least_level(node: &Node) -> u8
     }
 }
 
-/// Whether the objects and tags of a member or a tagged template lead to no call.
+// Whether the objects and tags of a member or a tagged template lead to no call.
 fn is_uncalled(node: &Node) -> bool
     ensures { result ≡ uncalled node.now }
 {

@@ -19,7 +19,7 @@ use swc_tree_items::Items;
 use swc_tree_node::fields::{expr_stmt, opt_chain_expr, seq_expr};
 use swc_tree_node::{Kind, Node};
 
-/// The fields, in each of which is settled what the row asks there.
+// The fields, in each of which is settled what the row asks there.
 #[tactic(auto, using(crate::proofs::Rows::nothing_asked))]
 fn settle_fields(
     alloc: Global,
@@ -40,7 +40,7 @@ fn settle_fields(
     Ok(fields)
 }
 
-/// An item before the last of a sequence that is a statement.
+// An item before the last of a sequence that is a statement.
 fn odd_item(alloc: Global, recorded: &Record, expr: Node) -> Result<Node, AllocError>
     ensures { IfOk result (λ t. t ≡ odd_item_of (place_in recorded.now) expr) }
 {
@@ -63,7 +63,7 @@ fn each_odd_item(
     Ok(exprs)
 }
 
-/// The items of a sequence that is a statement.
+// The items of a sequence that is a statement.
 fn odd_items(
     alloc: Global,
     recorded: &Record,
@@ -81,7 +81,7 @@ fn odd_items(
     }
 }
 
-/// The list of the items of a sequence that is a statement.
+// The list of the items of a sequence that is a statement.
 fn odd_list(alloc: Global, recorded: &Record, exprs: Node) -> Result<Node, AllocError>
     ensures { IfOk result (λ t. t ≡ odd_list_of (place_in recorded.now) exprs) }
 {
@@ -104,7 +104,7 @@ fn sequence(alloc: Global, recorded: &Record, mut fields: Items<Node>) -> Result
     Ok(Node::Tree(Kind::SeqExpr, fields))
 }
 
-/// The expression of a statement, where it is a sequence with pairs round the items that the reader's table names.
+// The expression of a statement, where it is a sequence with pairs round the items that the reader's table names.
 fn sequence_statement(alloc: Global, recorded: &Record, expr: Node) -> Result<Node, AllocError>
     ensures { IfOk result (λ t. t ≡ sequence_statement_of (place_in recorded.now) expr (out-Node expr)) }
 {
@@ -117,7 +117,7 @@ fn sequence_statement(alloc: Global, recorded: &Record, expr: Node) -> Result<No
     }
 }
 
-/// Whether a tree is a statement that is an expression.
+// Whether a tree is a statement that is an expression.
 fn is_statement(kind: Kind, fields: &[Node]) -> bool
     ensures { result ≡ is_statement_in (Node-F.Tree kind fields.now) }
 {
@@ -140,7 +140,7 @@ fn statement(
     Ok(Node::Tree(kind, fields))
 }
 
-/// A tree whose fields have their pairs; `in_chain` says whether it is the base of an optional chain.
+// A tree whose fields have their pairs; `in_chain` says whether it is the base of an optional chain.
 fn paired(
     alloc: Global,
     recorded: &Record,
@@ -159,14 +159,14 @@ fn paired(
     Ok(Node::Tree(kind, fields))
 }
 
-/// Whether a tree is an optional chain.
+// Whether a tree is an optional chain.
 fn is_chain(kind: Kind, fields: &[Node]) -> bool
     ensures { result ≡ is_chain_in (Node-F.Tree kind fields.now) }
 {
     matches!(kind, Kind::OptChainExpr) && fields.len() == 3
 }
 
-/// Whether a field of a node is the base of an optional chain; `chain` says whether the node is one.
+// Whether a field of a node is the base of an optional chain; `chain` says whether the node is one.
 fn is_base(chain: bool, index: usize) -> bool
     ensures { result ≡ is_base_of chain index }
 {

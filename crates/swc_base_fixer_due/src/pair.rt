@@ -1,3 +1,4 @@
+//! A pair of parentheses that is set.
 ghost use Rattle.std.specs.Prelude.{◌≡◌, IfOk};
 ghost use Rattle.swc_tree_grammar.specs.Due.{pair as paired, pair_if as paired_if};
 ghost use Rattle.swc_base_fixer_due.specs.Record.{place_in};

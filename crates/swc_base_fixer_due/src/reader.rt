@@ -24,7 +24,7 @@ pub enum Naming {
     YieldIf(bool),
 }
 
-/// Whether a word is `==`, `!=`, `===` or `!==`.
+// Whether a word is `==`, `!=`, `===` or `!==`.
 fn is_equality(word: Option<Word>) -> bool
     ensures { result ≡ is_equality_word word }
 {
@@ -34,14 +34,14 @@ fn is_equality(word: Option<Word>) -> bool
     )
 }
 
-/// Whether a word is `instanceof`.
+// Whether a word is `instanceof`.
 fn is_instance(word: Option<Word>) -> bool
     ensures { result ≡ is_instance_word word }
 {
     matches!(word, Some(Word::InstanceOf))
 }
 
-/// Whether an operator before its operand is odd on the left of an operator of two sides.
+// Whether an operator before its operand is odd on the left of an operator of two sides.
 fn is_odd_unary(op: Option<Word>, unary: Option<Word>) -> bool
     ensures { result ≡ odd_unary_in op unary }
 {
@@ -52,7 +52,7 @@ fn is_odd_unary(op: Option<Word>, unary: Option<Word>) -> bool
     }
 }
 
-/// The operator that stands before its operand, if the node is such an expression.
+// The operator that stands before its operand, if the node is such an expression.
 fn unary_word(node: &Node) -> Option<Word>
     ensures { result ≡ unary_word_in (out-Node node.now) }
 {
@@ -69,7 +69,7 @@ fn unary_word(node: &Node) -> Option<Word>
     }
 }
 
-/// Whether the reader's table names an expression on the left of an operator.
+// Whether the reader's table names an expression on the left of an operator.
 fn is_odd_left(op: Option<Word>, node: &Node) -> bool
     ensures { result ≡ is_odd_left_in op node.now }
 {
@@ -77,7 +77,7 @@ fn is_odd_left(op: Option<Word>, node: &Node) -> bool
         || (is_instance(op) || is_equality(op)) && is_of(node, Family::Object)
 }
 
-/// Whether a node is an assignment to what is of a family.
+// Whether a node is an assignment to what is of a family.
 fn assigns_to(node: &Node, family: Family) -> bool
     ensures { result ≡ is_assigning_to (kinds_of family) node.now }
 {

@@ -55,21 +55,21 @@ impl Row {
     }
 }
 
-/// What is asked in one place, where the reader's table names nothing.
+// What is asked in one place, where the reader's table names nothing.
 fn single(test: Test) -> Ask
     ensures { result ≡ single_of test }
 {
     Ask::Single(test, Naming::Nothing)
 }
 
-/// At least a level.
+// At least a level.
 fn tight(level: u8) -> Ask
     ensures { result ≡ tight_of level }
 {
     single(Test::AtLeast(level))
 }
 
-/// What is asked on the sides of an operator.
+// What is asked on the sides of an operator.
 fn sides(op: Option<Word>) -> Row
     ensures { result ≡ sides_of op }
 {
@@ -82,14 +82,14 @@ fn sides(op: Option<Word>) -> Row
     )
 }
 
-/// What is asked in a place where the reader's table names what is of a family.
+// What is asked in a place where the reader's table names what is of a family.
 fn named(test: Test, family: Family) -> Ask
     ensures { result ≡ named_of test family }
 {
     Ask::Single(test, Naming::Of(family))
 }
 
-/// What is asked in the fields of a part of a statement, of a list, of a class or of a pattern.
+// What is asked in the fields of a part of a statement, of a list, of a class or of a pattern.
 fn part_row(kind: Kind, fields: &[Node]) -> Row
     ensures { result ≡ part_row_of (Node-F.Tree kind fields.now) }
 {
@@ -122,7 +122,7 @@ fn part_row(kind: Kind, fields: &[Node]) -> Row
     }
 }
 
-/// What is asked in the fields of a node that has a key.
+// What is asked in the fields of a node that has a key.
 fn key_row(kind: Kind, fields: &[Node]) -> Row
     ensures { result ≡ key_row_of (Node-F.Tree kind fields.now) }
 {

@@ -24,7 +24,7 @@ use swc_tree_items::Items;
 use swc_tree_node::fields::computed_prop_name;
 use swc_tree_node::{Kind, Node};
 
-/// An expression, in a pair if it is not of at least a level.
+// An expression, in a pair if it is not of at least a level.
 fn to_level(alloc: Global, recorded: &Record, level: u8, expr: Node) -> Result<Node, AllocError>
     ensures { IfOk result (λ t. t ≡ at_level level (place_in recorded.now) expr) }
 {
@@ -48,7 +48,7 @@ fn each_to_level(
     Ok(exprs)
 }
 
-/// A list, each of whose items is of at least a level.
+// A list, each of whose items is of at least a level.
 fn list_to_level(
     alloc: Global,
     recorded: &Record,
@@ -80,7 +80,7 @@ fn computed_key(
     Ok(Node::Tree(Kind::ComputedPropName, fields))
 }
 
-/// A key, whose expression is of level 2 if it is computed.
+// A key, whose expression is of level 2 if it is computed.
 fn key(alloc: Global, recorded: &Record, key: Node) -> Result<Node, AllocError>
     ensures { IfOk result (λ t. t ≡ settled (place_in recorded.now) Key none key) }
 {
@@ -93,7 +93,7 @@ fn key(alloc: Global, recorded: &Record, key: Node) -> Result<Node, AllocError>
     }
 }
 
-/// An expression with a pair round the outermost call of its objects and tags, or round itself where there is none.
+// An expression with a pair round the outermost call of its objects and tags, or round itself where there is none.
 fn call_paired(alloc: Global, recorded: &Record, node: Node) -> Result<Node, AllocError>
     ensures { IfOk result (λ t. t ≡ call_in_pair (place_in recorded.now) node) }
 {
@@ -111,7 +111,7 @@ fn call_paired(alloc: Global, recorded: &Record, node: Node) -> Result<Node, All
     }
 }
 
-/// What `new` calls; `bare` says whether it has no arguments.
+// What `new` calls; `bare` says whether it has no arguments.
 fn new_callee(
     alloc: Global,
     recorded: &Record,
@@ -129,7 +129,7 @@ fn new_callee(
     }
 }
 
-/// One expression, in a pair if it is not what is asked or if the reader's table names it.
+// One expression, in a pair if it is not what is asked or if the reader's table names it.
 #[tactic(auto, using(crate::proofs::Settled::single))]
 fn single(
     alloc: Global,

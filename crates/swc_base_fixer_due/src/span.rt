@@ -1,3 +1,4 @@
+//! Where a node stands in its source text.
 ghost use Rattle.std.specs.Prelude.{◌≡◌, ◌<◌, length, IfSome};
 ghost use Rattle.swc_tree_grammar.specs.Blocks.{span_of as place_of};
 ghost use Rattle.swc_base_fixer_due.specs.Fields.{span_field as span_field_of};
@@ -5,7 +6,7 @@ ghost use Rattle.swc_base_fixer_due.specs.Fields.{span_field as span_field_of};
 use swc_tree_marks::{DUMMY_SP, Span};
 use swc_tree_node::{Kind, Node};
 
-/// The field that says where a node stands, if it has fields.
+// The field that says where a node stands, if it has fields.
 fn span_field(kind: Kind, fields: &[Node]) -> Option<usize>
     ensures field { result ≡ span_field_of kind fields.now }
     ensures within { IfSome result (λ i. i < length fields.now) }

@@ -27,7 +27,7 @@ pub enum Start {
     Other,
 }
 
-/// Whether a node is the name `let`.
+// Whether a node is the name `let`.
 fn is_let(node: &Node) -> bool
     ensures { result ≡ is_let_in (out-Node node.now) }
 {
@@ -37,7 +37,7 @@ fn is_let(node: &Node) -> bool
     }
 }
 
-/// Whether a node is a computed key.
+// Whether a node is a computed key.
 fn is_computed(node: &Node) -> bool
     ensures { result ≡ is_computed_in (out-Node node.now) }
 {
@@ -47,7 +47,7 @@ fn is_computed(node: &Node) -> bool
     }
 }
 
-/// Whether a node is the name `let` with a computed key.
+// Whether a node is the name `let` with a computed key.
 fn is_let_bracket(node: &Node) -> bool
     ensures { result ≡ is_let_bracket_in node.now }
 {
@@ -62,7 +62,7 @@ fn is_let_bracket(node: &Node) -> bool
     }
 }
 
-/// Whether a member of these fields is the name `let` with a computed key.
+// Whether a member of these fields is the name `let` with a computed key.
 fn has_let_bracket(fields: &[Node]) -> bool
     requires { length fields.now ≡ 3 }
     ensures { result ≡ has_let_bracket_in fields.now }
@@ -70,7 +70,7 @@ fn has_let_bracket(fields: &[Node]) -> bool
     is_let(&fields[member_expr::OBJ]) && is_computed(&fields[member_expr::PROP])
 }
 
-/// The field whose start is that of the node, if there is one.
+// The field whose start is that of the node, if there is one.
 fn start_field(kind: Kind, fields: &[Node]) -> Option<usize>
     ensures field { result ≡ start_field_of kind fields.now }
     ensures within { IfSome result (λ i. i < length fields.now) }
@@ -111,7 +111,7 @@ fn start_field(kind: Kind, fields: &[Node]) -> Option<usize>
     }
 }
 
-/// The start of a node of which no field says it.
+// The start of a node of which no field says it.
 fn own_start(kind: Kind, fields: &[Node]) -> Start
     ensures { begins result ≡ own_start_of kind fields.now }
 {
@@ -191,7 +191,7 @@ pub fn leading_field(kind: Kind, fields: &[Node]) -> Option<usize>
     }
 }
 
-/// Whether the pair that is due at the start of an expression stands round an expression in it.
+// Whether the pair that is due at the start of an expression stands round an expression in it.
 #[cycle(leading)]
 fn leads(node: &Node) -> bool
     ensures { (place : Places) → result ≡ leads_of place node.now }

@@ -24,7 +24,7 @@ pub enum Beginning {
     Body,
 }
 
-/// Whether an expression may begin so in a place.
+// Whether an expression may begin so in a place.
 fn may_begin(beginning: Beginning, start: Start) -> bool
     ensures { result ≡ may_begin_with beginning (begins start) }
 {
@@ -35,7 +35,7 @@ fn may_begin(beginning: Beginning, start: Start) -> bool
     }
 }
 
-/// An expression with a pair round the innermost expression that it begins with.
+// An expression with a pair round the innermost expression that it begins with.
 fn first_paired(alloc: Global, recorded: &Record, expr: Node) -> Result<Node, AllocError>
     ensures { IfOk result (λ t. t ≡ first_in_pair (place_in recorded.now) expr) }
 {
@@ -62,7 +62,7 @@ fn first_paired(alloc: Global, recorded: &Record, expr: Node) -> Result<Node, Al
     }
 }
 
-/// An expression as it may begin in a place.
+// An expression as it may begin in a place.
 fn begun(
     alloc: Global,
     recorded: &Record,
@@ -78,7 +78,7 @@ fn begun(
     }
 }
 
-/// The field that is looked at for how it begins, and as what.
+// The field that is looked at for how it begins, and as what.
 fn beginning_of(kind: Kind, fields: &[Node]) -> Option<(usize, Beginning)>
     ensures place { result ≡ beginning_for kind fields.now }
     ensures within { IfSome result (λ b. b.0 < length fields.now) }
@@ -99,7 +99,7 @@ fn beginning_of(kind: Kind, fields: &[Node]) -> Option<(usize, Beginning)>
     }
 }
 
-/// A tree whose fields have their pairs.
+// A tree whose fields have their pairs.
 fn begin(
     alloc: Global,
     recorded: &Record,

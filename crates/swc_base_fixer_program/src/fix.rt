@@ -15,8 +15,8 @@ use swc_tree_grammar::Pair;
 use swc_tree_marks::{NoMemory, PassError};
 use swc_tree_node::Node;
 
-/// The stripped tree with its blocks and due pairs, each where one of the given pairs stood round that content; these
-/// come from the last in the source to the first.
+// The stripped tree with its blocks and due pairs, each where one of the given pairs stood round that content; these
+// come from the last in the source to the first.
 fn set_anew(alloc: Global, pairs: &[Pair], node: Node) -> Result<Node, NoMemory>
     ensures { IfOk result (λ t. t ≡ fixed (recorded (reverse pairs.now)) node) }
 {
@@ -27,7 +27,7 @@ fn set_anew(alloc: Global, pairs: &[Pair], node: Node) -> Result<Node, NoMemory>
     Ok(node)
 }
 
-/// The same with the tree's own pairs.
+// The same with the tree's own pairs.
 fn fix(alloc: Global, node: Node) -> Result<Node, NoMemory>
     ensures { IfOk result (λ t. t ≡ answer_to node) }
 {
@@ -36,7 +36,7 @@ fn fix(alloc: Global, node: Node) -> Result<Node, NoMemory>
     Ok(node)
 }
 
-/// The same, after which the comments of each pair that is not set again are moved to its content.
+// The same, after which the comments of each pair that is not set again are moved to its content.
 fn fix_with<C: Comments>(alloc: Global, comments: &mut C, node: Node) -> Result<Node, NoMemory>
     ensures answer { IfOk result (λ t. t ≡ answer_to node) }
     ensures moved { Moved C.moved comments.old (moves_for node) comments.new result }
@@ -48,7 +48,7 @@ fn fix_with<C: Comments>(alloc: Global, comments: &mut C, node: Node) -> Result<
     Ok(node)
 }
 
-/// The pass on a tree without comments.
+// The pass on a tree without comments.
 fn fix_parens_alone(alloc: Global, node: Node) -> Result<Node, PassError>
     ensures answer { IfOk result (λ t. t ≡ answer_to node) }
     ensures not_assignable { IsErrAnd result (λ e. e ≡ pass.NotAssignable) ↔ (bare node ≡ false) }

@@ -1,3 +1,4 @@
+//! Blocks round first branches of `if` that could take an `else`.
 ghost use Rattle.std.specs.Prelude.{◌≡◌, ◌<◌, length, map, IfOk, IfSome};
 ghost use Rattle.swc_tree_node.specs.declared.kind.Kind.TheVariants as kind;
 ghost use Rattle.swc_tree_node.specs.declared.node.Node.TheOpen.{Node-F};
@@ -10,7 +11,7 @@ use swc_tree_items::Items;
 use swc_tree_node::fields::if_stmt;
 use swc_tree_node::{Kind, Node};
 
-/// The field with the statement that stands last in a statement, if it ends in one.
+// The field with the statement that stands last in a statement, if it ends in one.
 fn last_statement(kind: Kind, fields: &[Node]) -> Option<usize>
     ensures field { result ≡ last_statement_of kind fields.now }
     ensures within { IfSome result (λ i. i < length fields.now) }
@@ -23,7 +24,7 @@ fn last_statement(kind: Kind, fields: &[Node]) -> Option<usize>
     }
 }
 
-/// Whether an `else` right behind the statement would go to an `if` in it.
+// Whether an `else` right behind the statement would go to an `if` in it.
 fn takes_else(statement: &Node) -> bool
     ensures { result ≡ takes_an_else statement.now }
 {
@@ -40,7 +41,7 @@ fn takes_else(statement: &Node) -> bool
     }
 }
 
-/// The statement in a block of its own.
+// The statement in a block of its own.
 fn block(alloc: Global, statement: Node) -> Result<Node, AllocError>
     ensures { IfOk result (λ t. t ≡ block_of statement) }
 {
@@ -53,7 +54,7 @@ fn block(alloc: Global, statement: Node) -> Result<Node, AllocError>
     Ok(Node::Tree(Kind::BlockStmt, fields))
 }
 
-/// The first branch of an `if`, in a block if an `else` could go into it.
+// The first branch of an `if`, in a block if an `else` could go into it.
 fn branch(alloc: Global, statement: Node) -> Result<Node, AllocError>
     ensures { IfOk result (λ t. t ≡ branch_of statement) }
 {
@@ -75,7 +76,7 @@ fn choice(alloc: Global, mut fields: Items<Node>) -> Result<Node, AllocError>
     Ok(Node::Tree(Kind::IfStmt, fields))
 }
 
-/// A tree in whose fields each branch has its block.
+// A tree in whose fields each branch has its block.
 fn blocked(alloc: Global, kind: Kind, fields: Items<Node>) -> Result<Node, AllocError>
     ensures { IfOk result (λ t. t ≡ block_step (Node-F.Tree kind fields)) }
 {

@@ -1,3 +1,4 @@
+//! The comments of pairs that are taken off.
 ghost use Rattle.std.specs.Prelude.{◌≡◌};
 ghost use Rattle.std.specs.List.{flat_map};
 ghost use Rattle.swc_tree_grammar.specs.Pairs.{moves_of};
@@ -7,7 +8,7 @@ use swc_tree_comments::Comments;
 use swc_tree_grammar::Pair;
 use swc_tree_marks::NoMemory;
 
-/// Moves the comments of a pair to its content.
+// Moves the comments of a pair to its content.
 fn move_pair<C: Comments>(comments: &mut C, pair: Pair) -> Result<(), NoMemory>
     ensures { Moved C.moved comments.old (moves_of pair) comments.new result }
 {

@@ -1,3 +1,4 @@
+//! The pairs of a tree, the last of the source first.
 ghost use Rattle.std.specs.Prelude.{◌≡◌, ◌++◌, map, OnOk, IfOk, reverse};
 ghost use Rattle.std.specs.List.{flat_map};
 ghost use Rattle.swc_tree_node.specs.declared.node.Node.TheOpen.{Node-F};
@@ -11,14 +12,14 @@ use swc_tree_items::Items;
 use swc_tree_node::fields::{assign_expr, paren_expr};
 use swc_tree_node::{Kind, Node};
 
-/// Whether the third field is the target of an assignment.
+// Whether the third field is the target of an assignment.
 fn is_assignment(kind: Kind, fields: &[Node]) -> bool
     ensures { result ≡ assigns kind fields.now }
 {
     matches!(kind, Kind::AssignExpr) && fields.len() == 4
 }
 
-/// Adds the pair that the node is, if it is one.
+// Adds the pair that the node is, if it is one.
 #[tactic(auto, using(crate::proofs::Found::own_pair))]
 fn add_own(kind: Kind, fields: &[Node], out: &mut Items<Pair>) -> Result<(), AllocError>
     ensures { OnOk result (out.new ≡ out.old ++ own_of (Node-F.Tree kind (map found fields.now))) }
@@ -32,7 +33,7 @@ fn add_own(kind: Kind, fields: &[Node], out: &mut Items<Pair>) -> Result<(), All
     }
 }
 
-/// Adds the pairs in a node, each before those in it.
+// Adds the pairs in a node, each before those in it.
 #[cycle(pairs)]
 fn add_pairs(node: &Node, out: &mut Items<Pair>) -> Result<(), AllocError>
     ensures { OnOk result (out.new ≡ out.old ++ pairs node.now) }
@@ -49,7 +50,7 @@ fn add_pairs(node: &Node, out: &mut Items<Pair>) -> Result<(), AllocError>
     }
 }
 
-/// Adds the pairs in a target, but for the one that the target is.
+// Adds the pairs in a target, but for the one that the target is.
 #[cycle(pairs)]
 fn add_below(node: &Node, out: &mut Items<Pair>) -> Result<(), AllocError>
     ensures { OnOk result (out.new ≡ out.old ++ pairs_inside node.now) }

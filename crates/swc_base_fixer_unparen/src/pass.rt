@@ -1,3 +1,4 @@
+//! Taking parentheses off a tree, with or without comments.
 ghost use Rattle.std.specs.Prelude.{◌≡◌, ◌↔◌, ◌⊎◌, false, IfOk, IfErr, IsErrAnd, IsTrue};
 ghost use Rattle.swc_tree_marks.specs.declared.error.PassError.TheVariants as pass;
 ghost use Rattle.swc_tree_node.specs.declared.slot.Slot.{Slot};
@@ -19,7 +20,7 @@ use swc_tree_comments::Comments;
 use swc_tree_marks::{NoMemory, PassError};
 use swc_tree_node::Node;
 
-/// The stripped tree with its blocks.
+// The stripped tree with its blocks.
 fn unparen(alloc: Global, node: Node) -> Result<Node, NoMemory>
     ensures { IfOk result (λ t. t ≡ with_blocks (stripped node)) }
 {
@@ -28,7 +29,7 @@ fn unparen(alloc: Global, node: Node) -> Result<Node, NoMemory>
     Ok(node)
 }
 
-/// The same, after which the comments of each pair are moved to its content.
+// The same, after which the comments of each pair are moved to its content.
 fn unparen_with<C: Comments>(alloc: Global, comments: &mut C, node: Node) -> Result<Node, NoMemory>
     ensures answer { IfOk result (λ t. t ≡ with_blocks (stripped node)) }
     ensures moved { Moved C.moved comments.old (moves node) comments.new result }
@@ -39,7 +40,7 @@ fn unparen_with<C: Comments>(alloc: Global, comments: &mut C, node: Node) -> Res
     Ok(node)
 }
 
-/// The pass on a tree without comments.
+// The pass on a tree without comments.
 fn remove_parens_alone(alloc: Global, node: Node) -> Result<Node, PassError>
     ensures answer { IfOk result (λ t. t ≡ with_blocks (stripped node)) }
     ensures fits { (s : Slot) → IsTrue (is_open s) → Fits node s → IfOk result (λ t. Fits t s) }

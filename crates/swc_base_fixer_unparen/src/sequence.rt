@@ -1,3 +1,4 @@
+//! What is left of a sequence.
 ghost use Rattle.std.specs.Prelude.{◌≡◌, ◌++◌, ◌<◌, length, IfOk, OnOk, IfSome};
 ghost use Rattle.std.specs.List.{flat_map, filter, list_all};
 ghost use Rattle.swc_tree_node.specs.declared.kind.Kind.TheVariants as kind;
@@ -21,14 +22,14 @@ pub fn items_of(alloc: Global, node: Node) -> Items<Node>
     }
 }
 
-/// Whether an operator is `void`.
+// Whether an operator is `void`.
 fn is_void(op: &Node) -> bool
     ensures { result ≡ voids op.now }
 {
     matches!(op, Node::Word(Word::Void))
 }
 
-/// Where the value of an expression is dropped: the field with all that is left of it, if that is one.
+// Where the value of an expression is dropped: the field with all that is left of it, if that is one.
 fn field_left(kind: Kind, fields: &[Node]) -> Option<usize>
     ensures field { result ≡ field_left_of kind fields.now }
     ensures within { IfSome result (λ i. i < length fields.now) }
@@ -42,7 +43,7 @@ fn field_left(kind: Kind, fields: &[Node]) -> Option<usize>
     }
 }
 
-/// Whether evaluating an expression does nothing: a function, an arrow or a literal.
+// Whether evaluating an expression does nothing: a function, an arrow or a literal.
 fn is_idle(expr: &Node) -> bool
     ensures { result ≡ idle expr.now }
 {
@@ -62,7 +63,7 @@ fn is_idle(expr: &Node) -> bool
     }
 }
 
-/// Adds what is left of an expression whose value is dropped.
+// Adds what is left of an expression whose value is dropped.
 #[cycle(effects)]
 fn add_effects(expr: Node, out: &mut Items<Node>) -> Result<(), AllocError>
     ensures { OnOk result (out.new ≡ out.old ++ effects expr) }
@@ -88,7 +89,7 @@ fn add_all_effects(mut exprs: Items<Node>, out: &mut Items<Node>) -> Result<(), 
     Ok(())
 }
 
-/// Adds an expression to a sequence: of a sequence in it the items.
+// Adds an expression to a sequence: of a sequence in it the items.
 fn add_parts(alloc: Global, expr: Node, out: &mut Items<Node>) -> Result<(), AllocError>
     ensures { OnOk result (out.new ≡ out.old ++ parts expr) }
 {
@@ -103,7 +104,7 @@ fn add_parts(alloc: Global, expr: Node, out: &mut Items<Node>) -> Result<(), All
     }
 }
 
-/// The expressions with the items of sequences in their place.
+// The expressions with the items of sequences in their place.
 fn flat(alloc: Global, mut exprs: Items<Node>) -> Result<Items<Node>, AllocError>
     ensures { IfOk result (λ r. r ≡ flat_map parts exprs) }
 {
@@ -121,7 +122,7 @@ fn all_idle(exprs: &[Node]) -> bool
     exprs.iter().all(|expr| is_idle(expr))
 }
 
-/// The items before the last without the idle ones, of which the first stays where there is no other.
+// The items before the last without the idle ones, of which the first stays where there is no other.
 fn busy(exprs: Items<Node>) -> Items<Node>
     ensures { result ≡ busy_of exprs }
 {
@@ -135,7 +136,7 @@ fn busy(exprs: Items<Node>) -> Items<Node>
     Items::from_vec(exprs)
 }
 
-/// The items of a sequence that has no sequence among them, without those that do nothing.
+// The items of a sequence that has no sequence among them, without those that do nothing.
 fn settled(alloc: Global, mut exprs: Items<Node>) -> Result<Items<Node>, AllocError>
     ensures { IfOk result (λ r. r ≡ settled_of exprs) }
 {

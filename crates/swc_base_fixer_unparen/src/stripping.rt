@@ -1,3 +1,4 @@
+//! The tree without its pairs, and without what is idle in sequences and classes.
 ghost use Rattle.std.specs.Prelude.{◌≡◌, length, map, IfOk};
 ghost use Rattle.swc_tree_node.specs.declared.kind.Kind.TheVariants as kind;
 ghost use Rattle.swc_tree_node.specs.declared.node.Node.TheOpen.{Node-F};
@@ -9,7 +10,7 @@ use swc_tree_items::Items;
 use swc_tree_node::fields::{assign_expr, paren_expr};
 use swc_tree_node::{Kind, Node};
 
-/// The content of a parenthesised target, as a target.
+// The content of a parenthesised target, as a target.
 fn target(left: Node) -> Node
     ensures { result ≡ target_of left }
 {
@@ -28,7 +29,7 @@ fn assignment(mut fields: Items<Node>) -> Node
     Node::Tree(Kind::AssignExpr, fields)
 }
 
-/// Whether a class member is more than a semicolon.
+// Whether a class member is more than a semicolon.
 fn is_member(member: &Node) -> bool
     ensures { result ≡ defines member.now }
 {
@@ -55,7 +56,7 @@ fn class(alloc: Global, mut fields: Items<Node>) -> Node
     Node::Tree(Kind::Class, fields)
 }
 
-/// A tree whose fields are stripped.
+// A tree whose fields are stripped.
 fn settle(alloc: Global, kind: Kind, mut fields: Items<Node>) -> Result<Node, AllocError>
     ensures { IfOk result (λ t. t ≡ strip_step (Node-F.Tree kind fields)) }
 {

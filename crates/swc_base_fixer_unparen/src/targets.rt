@@ -1,3 +1,4 @@
+//! Parenthesised assignment targets, and whether each takes a value.
 ghost use Rattle.std.specs.Prelude.{◌≡◌, ◌<◌, length, map, IfSome};
 ghost use Rattle.std.specs.List.{list_all};
 ghost use Rattle.swc_tree_node.specs.declared.node.Node.TheOpen.{Node-F};
@@ -7,14 +8,14 @@ ghost use Rattle.swc_base_fixer_unparen.specs.Fields.{content_field as content_f
 use swc_tree_node::fields::assign_expr;
 use swc_tree_node::{Kind, Node};
 
-/// Whether a value can be assigned to an expression of that kind.
+// Whether a value can be assigned to an expression of that kind.
 fn is_simple(kind: Kind) -> bool
     ensures { result ≡ simple kind }
 {
     matches!(kind, Kind::Ident | Kind::MemberExpr | Kind::SuperPropExpr)
 }
 
-/// The field with the content of a pair or with the items of a sequence.
+// The field with the content of a pair or with the items of a sequence.
 fn content_field(kind: Kind, fields: &[Node]) -> Option<usize>
     ensures field { result ≡ content_field_of kind fields.now }
     ensures within { IfSome result (λ i. i < length fields.now) }
@@ -25,8 +26,8 @@ fn content_field(kind: Kind, fields: &[Node]) -> Option<usize>
     }
 }
 
-/// Whether a node is an identifier, a member or a property of `super`, but for pairs and sequences of
-/// one item.
+// Whether a node is an identifier, a member or a property of `super`, but for pairs and sequences of
+// one item.
 #[tactic(auto, using(crate::proofs::Fields::target_in_field, crate::proofs::Fields::target_by_kind, crate::proofs::Fields::only_target, crate::proofs::Fields::no_target))]
 fn is_target(node: &Node) -> bool
     ensures { result ≡ target node.now }
@@ -57,7 +58,7 @@ fn is_pair(node: &Node) -> bool
     }
 }
 
-/// Whether the target of an assignment can stand without its parentheses.
+// Whether the target of an assignment can stand without its parentheses.
 fn is_bare(kind: Kind, fields: &[Node]) -> bool
     ensures { result ≡ bare_in (Node-F.Tree kind (map seen fields.now)) }
 {

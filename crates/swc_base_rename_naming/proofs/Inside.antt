@@ -10,7 +10,7 @@ use Rattle.swc_base_rename_naming.specs.InOrder.{Choice, Site, chosen_text}
 use Rattle.swc_base_rename_naming.specs.Inside.{IsInPreorder, IsOver, IsScopeDone, IsSettled, MayBegin, scope_at}
 use Rattle.swc_base_rename_naming.specs.Steps.{Holds, IsDone, Naming, Stands, rules}
 use Rattle.swc_base_rename_naming.specs.declared.reverse_map.ReverseMap.{ReverseMap}
-use Rattle.swc_base_rename_naming.specs.declared.in_order.Names.{Names}
+use Rattle.swc_base_rename_naming.specs.declared.in_order.GivenTexts.{GivenTexts}
 use Rattle.swc_base_rename_naming.proofs.Stands.{next_taken}
 
 -- what holds of how scopes lie in one another
@@ -40,14 +40,14 @@ or_false true b e = refl
 or_false false b e = sym e
 
 -- what stands within a scope
-pub record Half (n : Naming) (sites : List Site) (from at : ℕ) (choices : List Choice) (names : Names) (given : ReverseMap) : Type 0 where
+pub record Half (n : Naming) (sites : List Site) (from at : ℕ) (choices : List Choice) (names : GivenTexts) (given : ReverseMap) : Type 0 where
   pub more : List Choice
   pub stands : Stands n (take at sites) (choices ++ more) names
   pub holds : Holds n (scope_at sites from) (choices ++ more) given
   pub settled : AllByRecursion (IsSettled n.counts sites at (scope_at sites from)) (choices ++ more)
   pub inside : AllByRecursion (λ c. n.counts (scope_at sites from) c.0.0 ≡ true) more
 
-pub half_first : (n : Naming) (sites : List Site) (from : ℕ) (choices : List Choice) (names : Names) (outer child : ReverseMap)
+pub half_first : (n : Naming) (sites : List Site) (from : ℕ) (choices : List Choice) (names : GivenTexts) (outer child : ReverseMap)
     → IsChild outer child → MayBegin n sites from choices names outer → Half n sites from from choices names child
 half_first n sites from choices names outer child is_child begins =
     let none = append-nil choices in
@@ -66,7 +66,7 @@ settled_later : (surrounds : ℕ → ℕ → Bool) (sites : List Site) (at to s 
 settled_later surrounds sites at to s c later settled = elim settled [ inl h ↦ inl h | inr over ↦ inr (over_later surrounds sites at to c later over) ]
 
 -- a site of the scope itself
-pub half_site : (n : Naming) (sites : List Site) (from at : ℕ) (choices : List Choice) (was is : Names) (given_was given_is : ReverseMap)
+pub half_site : (n : Naming) (sites : List Site) (from at : ℕ) (choices : List Choice) (was is : GivenTexts) (given_was given_is : ReverseMap)
     → Laws n.counts → at < length sites → scope_at sites at ≡ scope_at sites from
     → (half : Half n sites from at choices was given_was)
     → IsDone n (take at sites) (choices ++ half.more) (get_or sites at (0, 0)) is given_is
@@ -96,7 +96,7 @@ counts_alike surrounds sites at s c laws within round settled = elim settled [
       false_from_ne_true (surrounds c.0.0 s) (λ h. let no : true ≡ false = sym (laws.through c.0.0 s (scope_at sites at) h round) ∙ is_over in absurd (cc)) ∙ sym is_over
 ]
 
-pub child_begins : (n : Naming) (sites : List Site) (from at : ℕ) (choices : List Choice) (names : Names) (given : ReverseMap)
+pub child_begins : (n : Naming) (sites : List Site) (from at : ℕ) (choices : List Choice) (names : GivenTexts) (given : ReverseMap)
     → Laws n.counts → at < length sites → n.counts (scope_at sites from) (scope_at sites at) ≡ true
     → (half : Half n sites from at choices names given)
     → MayBegin n sites at (choices ++ half.more) names given
@@ -125,7 +125,7 @@ not_outside n s v c laws round other inside =
     false_from_ne_true (n.counts c.0.0 s) (λ h. other (laws.same v s (laws.through v c.0.0 s inside h) round))
 
 -- the scope in the scope ended
-pub half_child : (n : Naming) (sites : List Site) (from at to : ℕ) (choices : List Choice) (was is : Names) (given : ReverseMap)
+pub half_child : (n : Naming) (sites : List Site) (from at to : ℕ) (choices : List Choice) (was is : GivenTexts) (given : ReverseMap)
     → Laws n.counts → IsInPreorder n.counts sites → at ≤ to → n.counts (scope_at sites from) (scope_at sites at) ≡ true → (scope_at sites at ≡ scope_at sites from → ⊥)
     → (half : Half n sites from at choices was given)
     → IsScopeDone n sites at to (choices ++ half.more) is
@@ -148,12 +148,12 @@ half_child n sites from at to choices was is given laws order later round other 
     }
 
 -- what stands where no scope is open
-pub record Whole (n : Naming) (sites : List Site) (at : ℕ) (names : Names) : Type 0 where
+pub record Whole (n : Naming) (sites : List Site) (at : ℕ) (names : GivenTexts) : Type 0 where
   pub choices : List Choice
   pub stands : Stands n (take at sites) choices names
   pub over : AllByRecursion (IsOver n.counts sites at) choices
 
-pub root_begins : (n : Naming) (sites : List Site) (at : ℕ) (names : Names) (outer : ReverseMap)
+pub root_begins : (n : Naming) (sites : List Site) (at : ℕ) (names : GivenTexts) (outer : ReverseMap)
     → at < length sites → ((x : List ℕ) → ids_of outer x ≡ []) → (whole : Whole n sites at names) → MayBegin n sites at whole.choices names outer
 root_begins n sites at names outer within empty whole = record {
   stands = whole.stands;
@@ -162,7 +162,7 @@ root_begins n sites at names outer within empty whole = record {
   settled = all_map _ _ whole.choices (λ c over. inr over) whole.over;
 }
 
-pub root_done : (n : Naming) (sites : List Site) (at to : ℕ) (was is : Names)
+pub root_done : (n : Naming) (sites : List Site) (at to : ℕ) (was is : GivenTexts)
     → Laws n.counts → IsInPreorder n.counts sites → at ≤ to → (whole : Whole n sites at was) → IsScopeDone n sites at to whole.choices is → Whole n sites to is
 root_done n sites at to was is laws order later whole done = record {
   choices = whole.choices ++ done.more;
@@ -172,6 +172,6 @@ root_done n sites at to was is laws order later whole done = record {
       (all_map _ _ done.more (λ c inside. over_in n sites at to c laws order later done.ended inside) done.inside);
 }
 
-pub half_holds : (n : Naming) (sites : List Site) (from at : ℕ) (choices : List Choice) (names : Names) (given : ReverseMap)
+pub half_holds : (n : Naming) (sites : List Site) (from at : ℕ) (choices : List Choice) (names : GivenTexts) (given : ReverseMap)
     → scope_at sites at ≡ scope_at sites from → (half : Half n sites from at choices names given) → Holds n (scope_at sites at) (choices ++ half.more) given
 half_holds n sites from at choices names given own half = rw own half.holds

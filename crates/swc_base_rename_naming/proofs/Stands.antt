@@ -15,14 +15,14 @@ use Rattle.swc_base_rename_naming.specs.Free.{AllTaken, IsLeastFree, IsSearchRef
 use Rattle.swc_base_rename_naming.specs.InOrder.{Choice, IsRefused, Rules, Site, chosen_text, is_taken, name_in, past, start}
 use Rattle.swc_base_rename_naming.specs.Steps.{Holds, IsDone, IsNameGiven, Naming, Stands, id_or, keeps_text, next_at, rules, stays, taken_at, text_at}
 use Rattle.swc_base_rename_naming.specs.declared.reverse_map.ReverseMap.{ReverseMap}
-use Rattle.swc_base_rename_naming.specs.declared.in_order.Names.{Names}
+use Rattle.swc_base_rename_naming.specs.declared.in_order.GivenTexts.{GivenTexts}
 use Rattle.swc_base_rename_naming.proofs.Choices.{is_next, is_passed, last-append, no_room, one_chosen, one_name, one_passed}
 
 if_zero : (b : Bool) (n : ℕ) → n ≡ 0 → (if b then n else 0) ≡ 0
 if_zero true n e = e
 if_zero false n e = refl
 
-pub stands_first : (n : Naming) (names : Names) → ((x : ℕ) → text_at names.texts x ≡ None) → names.next ≡ 0 → Stands n [] [] names
+pub stands_first : (n : Naming) (names : GivenTexts) → ((x : ℕ) → text_at names.texts x ≡ None) → names.next ≡ 0 → Stands n [] [] names
 stands_first n names empty zero = record {
   chosen = record { their_sites = refl; each = λ before after c e. absurd (no_room before c after e) };
   texts = empty;
@@ -70,7 +70,7 @@ holds_more n s choices c was is text id before counts texts ids pushed x f =
     ∙ ap (λ b. list_any (counted n s x f) choices || b) (or_none _)
     ∙ sym (list_any-append (counted n s x f) choices (c ∷ []))
 
-same_start : (r : Rules) (goes_on : Bool) (names : Names) (choices : List Choice) (s : ℕ) → (if names.scope == s then names.next else 0) ≡ past s (last_or None choices) → next_at goes_on names s ≡ (if goes_on then past s (last_or None choices) else 0)
+same_start : (r : Rules) (goes_on : Bool) (names : GivenTexts) (choices : List Choice) (s : ℕ) → (if names.scope == s then names.next else 0) ≡ past s (last_or None choices) → next_at goes_on names s ≡ (if goes_on then past s (last_or None choices) else 0)
 same_start r true names choices s e = e
 same_start r false names choices s e = refl
 
@@ -80,7 +80,7 @@ same_search P text text' taken taken' n n' e f g h =
     let same : taken ≡ taken' = λ i x. f x i in
     rw (sym e, sym same, sym g) h
 
-pub by_choices : (n : Naming) (P : Texts → Test → ℕ → Type 0) (done : List Site) (choices : List Choice) (names : Names) (given : ReverseMap) (site : Site) (id : Id)
+pub by_choices : (n : Naming) (P : Texts → Test → ℕ → Type 0) (done : List Site) (choices : List Choice) (names : GivenTexts) (given : ReverseMap) (site : Site) (id : Id)
     → Stands n done choices names → Holds n site.0 choices given → n.id_of site.1 ≡ Some id
     → P (n.text id) (taken_at n.preserved n.occurs given site.0) (next_at n.goes_on names site.0)
     → P (Rules.text (rules n) site.1) (is_taken (rules n) choices site.0) (start (rules n) choices site.0)
@@ -95,7 +95,7 @@ pub stays_not : (n : Naming) (x : ℕ) (id : Id) → n.id_of x ≡ Some id → k
 stays_not n x id found changes = ap (stays n.keeps) found ∙ changes
 
 -- a site at which an id got its name
-one_more : (n : Naming) (done : List Site) (choices : List Choice) (site : Site) (id : Id) (was is : Names) (given_was given_is : ReverseMap)
+one_more : (n : Naming) (done : List Site) (choices : List Choice) (site : Site) (id : Id) (was is : GivenTexts) (given_was given_is : ReverseMap)
     → Stands n done choices was → Holds n site.0 choices given_was
     → n.id_of site.1 ≡ Some id → keeps_text n.keeps id ≡ false → text_at was.texts site.1 ≡ None
     → (g : IsNameGiven (n.text id) (taken_at n.preserved n.occurs given_was site.0) (next_at n.goes_on was site.0) site was is given_was given_is)
@@ -116,7 +116,7 @@ one_more n done choices site id was is given_was given_is stands holds found cha
           ∙ ap (past u) (sym (last-append None choices (site, g.counter)));
     }
 
-pub done_named : (n : Naming) (done : List Site) (choices : List Choice) (site : Site) (id : Id) (was is : Names) (given_was given_is : ReverseMap)
+pub done_named : (n : Naming) (done : List Site) (choices : List Choice) (site : Site) (id : Id) (was is : GivenTexts) (given_was given_is : ReverseMap)
     → n.id_of site.1 ≡ Some id → keeps_text n.keeps id ≡ false → text_at was.texts site.1 ≡ None
     → IsNameGiven (n.text id) (taken_at n.preserved n.occurs given_was site.0) (next_at n.goes_on was site.0) site was is given_was given_is
     → Stands n done choices was → Holds n site.0 choices given_was → n.counts site.0 site.0 ≡ true
@@ -129,7 +129,7 @@ done_named n done choices site id was is given_was given_is found changes none g
 }
 
 -- a site at which none did
-pub done_passed : (n : Naming) (done : List Site) (choices : List Choice) (site : Site) (names : Names) (given : ReverseMap)
+pub done_passed : (n : Naming) (done : List Site) (choices : List Choice) (site : Site) (names : GivenTexts) (given : ReverseMap)
     → (stays n.keeps (n.id_of site.1) ≡ true) ⊎ (is_some (text_at names.texts site.1) ≡ true)
     → Stands n done choices names → Holds n site.0 choices given → IsDone n done choices site names given
 done_passed n done choices site names given why stands holds =
@@ -156,7 +156,7 @@ split_at sites i within =
     ∙ append_assoc (take i sites) (get_or sites i (0, 0) ∷ []) (drop (i + 1) sites)
 
 -- why names are refused
-pub refused_at : (n : Naming) (done after : List Site) (choices : List Choice) (site : Site) (id : Id) (names : Names) (given : ReverseMap) (e : PassError)
+pub refused_at : (n : Naming) (done after : List Site) (choices : List Choice) (site : Site) (id : Id) (names : GivenTexts) (given : ReverseMap) (e : PassError)
     → n.id_of site.1 ≡ Some id → keeps_text n.keeps id ≡ false → text_at names.texts site.1 ≡ None
     → IsSearchRefusal (n.text id) (taken_at n.preserved n.occurs given site.0) (next_at n.goes_on names site.0) e
     → Stands n done choices names → Holds n site.0 choices given

@@ -5,7 +5,7 @@ use Rattle.swc_tree_marks.specs.declared.error.PassError.{PassError}
 use Rattle.swc_base_rename_naming.specs.InOrder.{Choice, IsRefused, Site}
 use Rattle.swc_base_rename_naming.specs.Steps.{Holds, Naming, Stands, rules}
 use Rattle.swc_base_rename_naming.specs.declared.reverse_map.ReverseMap.{ReverseMap}
-use Rattle.swc_base_rename_naming.specs.declared.in_order.Names.{Names}
+use Rattle.swc_base_rename_naming.specs.declared.in_order.GivenTexts.{GivenTexts}
 
 -- the scope of a site
 abbrev pub scope_at : List Site → ℕ → ℕ
@@ -24,23 +24,23 @@ abbrev pub IsSettled : (ℕ → ℕ → Bool) → List Site → ℕ → ℕ → 
 IsSettled surrounds sites at s c = (surrounds c.0.0 s ≡ true) ⊎ IsOver surrounds sites at c
 
 -- what stands where a scope begins
-pub record MayBegin (n : Naming) (sites : List Site) (at : ℕ) (choices : List Choice) (names : Names) (outer : ReverseMap) : Type 0 where
+pub record MayBegin (n : Naming) (sites : List Site) (at : ℕ) (choices : List Choice) (names : GivenTexts) (outer : ReverseMap) : Type 0 where
   pub stands : Stands n (take at sites) choices names
   pub holds : Holds n (scope_at sites at) choices outer
   pub settled : AllByRecursion (IsSettled n.counts sites at (scope_at sites at)) choices
 
 -- what stands where it ends: the choices since are of scopes in it, and it does not lie round the next site
-pub record IsScopeDone (n : Naming) (sites : List Site) (from to : ℕ) (choices : List Choice) (is : Names) : Type 0 where
+pub record IsScopeDone (n : Naming) (sites : List Site) (from to : ℕ) (choices : List Choice) (is : GivenTexts) : Type 0 where
   pub more : List Choice
   pub stands : Stands n (take to sites) (choices ++ more) is
   pub inside : AllByRecursion (λ c. n.counts (scope_at sites from) c.0.0 ≡ true) more
   pub ended : to < length sites → n.counts (scope_at sites from) (scope_at sites to) ≡ false
 
 -- the sites of a scope, and of those in it, are done
-pub record IsScopeNamed (n : Naming) (sites : List Site) (from : ℕ) (was is : Names) (outer : ReverseMap) (to : ℕ) : Type 0 where
+pub record IsScopeNamed (n : Naming) (sites : List Site) (from : ℕ) (was is : GivenTexts) (outer : ReverseMap) (to : ℕ) : Type 0 where
   pub further : from < to
   pub fits : to ≤ length sites
   pub done : (choices : List Choice) → MayBegin n sites from choices was outer → IsScopeDone n sites from to choices is
 
-abbrev pub IsScopeRefused : Naming → List Site → ℕ → Names → ReverseMap → PassError → Type 0
+abbrev pub IsScopeRefused : Naming → List Site → ℕ → GivenTexts → ReverseMap → PassError → Type 0
 IsScopeRefused n sites from was outer e = (choices : List Choice) → MayBegin n sites from choices was outer → IsRefused (rules n) sites e

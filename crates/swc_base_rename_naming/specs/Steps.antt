@@ -12,7 +12,7 @@ use Rattle.swc_base_rename_naming.specs.Free.{IsLeastFree, Test, Texts}
 use Rattle.swc_tree_marks.specs.declared.error.PassError.{PassError}
 use Rattle.swc_base_rename_naming.specs.InOrder.{AreChosen, Choice, IsRefused, Rules, Site, chosen_text, name_in, past}
 use Rattle.swc_base_rename_naming.specs.declared.reverse_map.ReverseMap.{ReverseMap}
-use Rattle.swc_base_rename_naming.specs.declared.in_order.Names.{Names}
+use Rattle.swc_base_rename_naming.specs.declared.in_order.GivenTexts.{GivenTexts}
 
 -- an id keeps its text if it is preserved, or is `eval`
 abbrev pub keeps_text : (Id → Bool) → Id → Bool
@@ -80,18 +80,18 @@ abbrev pub taken_at : (List ℕ → Bool) → (ℕ → ℕ → Bool) → Reverse
 taken_at preserved occurs given scope text = preserved text || list_any (occurs scope) (ids_of given text)
 
 -- the counter from which an id of a scope starts
-abbrev pub next_at : Bool → Names → ℕ → ℕ
+abbrev pub next_at : Bool → GivenTexts → ℕ → ℕ
 next_at goes_on names scope = if goes_on && (names.scope == scope) then names.next else 0
 
 -- a text was put down for the id of a number, and the counter after it
-pub record IsKept (text : List ℕ) (site : Site) (after : ℕ) (was is : Names) (given_was given_is : ReverseMap) : Type 0 where
+pub record IsKept (text : List ℕ) (site : Site) (after : ℕ) (was is : GivenTexts) (given_was given_is : ReverseMap) : Type 0 where
   pub texts : (x : ℕ) → text_at is.texts x ≡ (if site.1 == x then Some text else text_at was.texts x)
   pub scope : is.scope ≡ site.0
   pub next : is.next ≡ after
   pub pushed : IsPushed text site.1 given_was given_is
 
 -- an id got the text of the least counter from its start on that is free, and it was put down
-pub record IsNameGiven (text : Texts) (taken : Test) (start : ℕ) (site : Site) (was is : Names) (given_was given_is : ReverseMap) : Type 0 where
+pub record IsNameGiven (text : Texts) (taken : Test) (start : ℕ) (site : Site) (was is : GivenTexts) (given_was given_is : ReverseMap) : Type 0 where
   pub counter : ℕ
   pub least : IsLeastFree text taken start counter
   pub kept : IsKept (text counter) site (counter + 1) was is given_was given_is
@@ -101,20 +101,20 @@ abbrev pub Holds : Naming → ℕ → List Choice → ReverseMap → Type 0
 Holds n s choices given = (x : List ℕ) (f : ℕ → Bool) → list_any f (ids_of given x) ≡ list_any (λ c. n.counts c.0.0 s && (bytes_eq (chosen_text (rules n) c) x && f c.0.1)) choices
 
 -- the ids of the sites that are done were named in order, and texts and counter are those of the choices
-pub record Stands (n : Naming) (done : List Site) (choices : List Choice) (names : Names) : Type 0 where
+pub record Stands (n : Naming) (done : List Site) (choices : List Choice) (names : GivenTexts) : Type 0 where
   pub chosen : AreChosen (rules n) done choices
   pub texts : (x : ℕ) → text_at names.texts x ≡ name_in (rules n) choices x
   pub counter : (u : ℕ) → (if names.scope == u then names.next else 0) ≡ past u (last_or None choices)
 
 -- one site more is done, with a choice of its scope or none
-pub record IsDone (n : Naming) (done : List Site) (choices : List Choice) (site : Site) (is : Names) (given : ReverseMap) : Type 0 where
+pub record IsDone (n : Naming) (done : List Site) (choices : List Choice) (site : Site) (is : GivenTexts) (given : ReverseMap) : Type 0 where
   pub more : List Choice
   pub own : AllByRecursion (λ c. c.0.0 ≡ site.0) more
   pub stands : Stands n (done ++ site ∷ []) (choices ++ more) is
   pub holds : Holds n site.0 (choices ++ more) given
 
-abbrev pub IsSiteDone : Naming → Site → Names → Names → ReverseMap → ReverseMap → Type 0
+abbrev pub IsSiteDone : Naming → Site → GivenTexts → GivenTexts → ReverseMap → ReverseMap → Type 0
 IsSiteDone n site was is given_was given_is = (done : List Site) (choices : List Choice) → Stands n done choices was → Holds n site.0 choices given_was → n.counts site.0 site.0 ≡ true → IsDone n done choices site is given_is
 
-abbrev pub IsSiteRefused : Naming → Site → Names → ReverseMap → PassError → Type 0
+abbrev pub IsSiteRefused : Naming → Site → GivenTexts → ReverseMap → PassError → Type 0
 IsSiteRefused n site was given_was e = (done after : List Site) (choices : List Choice) → Stands n done choices was → Holds n site.0 choices given_was → IsRefused (rules n) (done ++ site ∷ after) e

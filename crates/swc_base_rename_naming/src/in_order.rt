@@ -52,18 +52,18 @@ impl<A: Asked> Taken for AtScope<'_, '_, A> {
 
 /// The texts that ids have got, by the ids' numbers, the scope in which the last one was given, and the counter after it.
 #[derive(Drop)]
-pub struct Names {
+pub struct GivenTexts {
     texts: BTreeMap<usize, JsWord>,
     scope: usize,
     next: usize,
 }
 
-impl Names {
-    pub fn new(alloc: Global) -> Names
+impl GivenTexts {
+    pub fn new(alloc: Global) -> GivenTexts
         ensures texts { (x : ℕ) → text_at result.texts x ≡ None }
         ensures next { result.next ≡ 0 }
     {
-        Names {
+        GivenTexts {
             texts: BTreeMap::new(alloc),
             scope: 0,
             next: 0,
@@ -94,7 +94,7 @@ fn namable<'a, A: Asked>(
 }
 
 // The counter from which an id of a scope starts.
-fn next_at(goes_on: bool, names: &Names, scope: usize) -> usize
+fn next_at(goes_on: bool, names: &GivenTexts, scope: usize) -> usize
     ensures { result ≡ is_next_at goes_on names.now scope }
 {
     if goes_on && names.scope == scope {
@@ -130,7 +130,7 @@ fn keep(
     site: (usize, usize),
     next: usize,
     given: &mut ReverseMap<'_>,
-    names: &mut Names,
+    names: &mut GivenTexts,
 ) -> Result<(), NoMemory>
     ensures { OnOk result (IsKept text site next names.old names.new given.old given.new) }
 {
@@ -148,7 +148,7 @@ fn give_name<N: NewTexts, A: Asked>(
     id: &Id,
     site: (usize, usize),
     given: &mut ReverseMap<'_>,
-    names: &mut Names,
+    names: &mut GivenTexts,
 ) -> Result<(), PassError>
     ensures named { OnOk result (IsNameGiven (N.text plan.now.texts.now id.now) (taken_at (A.preserved plan.now.asked.now) (A.occurs plan.now.asked.now) given.old site.0) (is_next_at plan.now.goes_on names.old site.0) site names.old names.new given.old given.new) }
     ensures refused { IfErr result (IsSearchRefusal (N.text plan.now.texts.now id.now) (taken_at (A.preserved plan.now.asked.now) (A.occurs plan.now.asked.now) given.old site.0) (is_next_at plan.now.goes_on names.old site.0)) }
@@ -165,7 +165,7 @@ pub fn name_site<N: NewTexts, A: Asked>(
     plan: &Plan<'_, N, A>,
     site: (usize, usize),
     given: &mut ReverseMap<'_>,
-    names: &mut Names,
+    names: &mut GivenTexts,
 ) -> Result<(), PassError>
     ensures named { OnOk result ((counts : ℕ → ℕ → Bool) → IsSiteDone (naming (N.text plan.now.texts.now) plan.now.goes_on (A.keeps plan.now.asked.now) (A.preserved plan.now.asked.now) (A.occurs plan.now.asked.now) counts (A.id_of plan.now.asked.now)) site names.old names.new given.old given.new) }
     ensures refused { IfErr result (λ e. (counts : ℕ → ℕ → Bool) → IsSiteRefused (naming (N.text plan.now.texts.now) plan.now.goes_on (A.keeps plan.now.asked.now) (A.preserved plan.now.asked.now) (A.occurs plan.now.asked.now) counts (A.id_of plan.now.asked.now)) site names.old given.old e) }
@@ -201,7 +201,7 @@ pub fn names_in_order<N: NewTexts, A: Asked>(
         goes_on,
     };
     let mut given = ReverseMap::new(alloc);
-    let mut names = Names::new(alloc);
+    let mut names = GivenTexts::new(alloc);
     for site in sites {
         name_site(alloc, &plan, *site, &mut given, &mut names)?;
     }

@@ -5,7 +5,7 @@ ghost use Rattle.swc_base_rename_naming.specs.Inside.{IsInPreorder, IsScopeNamed
 ghost use Rattle.swc_base_rename_naming.specs.Steps.{naming, rules, text_at};
 
 use crate::asked::{Asked, Nesting};
-use crate::in_order::{Names, Plan, name_site};
+use crate::in_order::{GivenTexts, Plan, name_site};
 use crate::new_texts::NewTexts;
 use crate::reverse_map::ReverseMap;
 use std::alloc::Global;
@@ -19,7 +19,7 @@ fn name_scope<N: NewTexts, A: Asked + Nesting>(
     sites: &[(usize, usize)],
     outer: &ReverseMap<'_>,
     from: usize,
-    names: &mut Names,
+    names: &mut GivenTexts,
 ) -> Result<usize, PassError>
     requires within { from < length sites.now }
     requires order { IsInPreorder (A.surrounds plan.now.asked.now) sites.now }
@@ -64,7 +64,7 @@ pub fn names_by_scope<N: NewTexts, A: Asked + Nesting>(
         goes_on,
     };
     let outer = ReverseMap::new(alloc);
-    let mut names = Names::new(alloc);
+    let mut names = GivenTexts::new(alloc);
     let mut at = 0;
     while at < sites.len() {
         at = name_scope(alloc, &plan, sites, &outer, at, &mut names)?;

@@ -1,3 +1,4 @@
+//! The settings of a renamer.
 /// The settings of a renamer.
 #[derive(Clone, Copy, Debug, PartialEq, Eq)]
 pub struct Mode {

@@ -1,3 +1,4 @@
+//! What the renaming passes go by.
 use swc_tree_marks::Mark;
 
 /// What the renaming passes go by.

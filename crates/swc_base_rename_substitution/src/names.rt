@@ -17,7 +17,7 @@ pub enum Names<'a> {
     Ids(&'a HashMap<Id, Id>),
 }
 
-/// A copy of an id.
+// A copy of an id.
 pub(crate) fn copy(id: &Id) -> Result<Id, NoMemory>
     ensures { IfOk result (λ copy. copy ≡ id.now) }
 {
@@ -25,11 +25,11 @@ pub(crate) fn copy(id: &Id) -> Result<Id, NoMemory>
 }
 
 impl Names<'_> {
-    /// The new id, where the map has one of another text. Only then is memory asked for.
-    ///
-    /// # Errors
-    ///
-    /// `NoMemory` where memory is refused.
+    // The new id, where the map has one of another text. Only then is memory asked for.
+    //
+    // # Errors
+    //
+    // `NoMemory` where memory is refused.
     pub(crate) fn new_id(&self, alloc: Global, id: &Id) -> Result<Option<Id>, NoMemory>
         ensures { IfOk result (λ new. new ≡ new_id self.now id.now) }
     {
@@ -55,7 +55,7 @@ impl Names<'_> {
         }
     }
 
-    /// Whether the map has another text for an id.
+    // Whether the map has another text for an id.
     pub(crate) fn changes(&self, id: &Id) -> bool
         ensures { result ≡ is_some (new_id self.now id.now) }
     {

@@ -15,7 +15,7 @@ use Rattle.swc_tree_scoping.proofs.First.{Each, Nested, Opens, has_taker, round_
 use Rattle.swc_base_resolver_program.specs.declared.names.Ways.{Ways}
 use Rattle.swc_base_resolver_program.specs.declared.names.ScopeNames.{ScopeNames}
 use Rattle.swc_base_resolver_program.specs.declared.collect.Stage.TheVariants as stage
-use Rattle.swc_base_resolver_program.specs.declared.lookup.Names.{Names}
+use Rattle.swc_base_resolver_program.specs.declared.lookup.TakenNames.{TakenNames}
 use Rattle.swc_base_resolver_program.specs.Names.{any_way, has_way, ways_in}
 use Rattle.swc_base_resolver_program.specs.Lookup.{Open, Tables, declares_in, hoists_from, hoists_in, meaning_in, meets_in, names_in, otherwise_in, passes_in, same_number, taker_in}
 use Rattle.swc_base_resolver_program.specs.Walks.{Reaches, Takes, has_at, open_round}
@@ -214,7 +214,7 @@ module _ (t : Node) (opens : opened program_place t ≡ Some scope.Program) wher
         at None q e = let none = none_that (MeetsAt x) (λ s. is_taken standing.Variable (scope_at program_place t s.0)) (λ s a. inl a) (rounds program_place t p) q in let z = sym none ∙ h in absurd (cc)
         at (Some m) q e = (m, q, (first_among (MeetsAt x) (λ s. IsOpen s.0) (rounds program_place t p) m q (round_opens p program_place t)).1, e)
 
-    module _ (names : Names) (same_names : names_in names ≡ ways_in bound) (reached : List ScopeNames)
+    module _ (names : TakenNames) (same_names : names_in names ≡ ways_in bound) (reached : List ScopeNames)
         (reaches : Takes reached (Reaches (stage.Settle names) [] 0 program_place t)) where
       -- where the root stands nothing is bound
       standing_of : Option (Place × Node) → Standing → Standing

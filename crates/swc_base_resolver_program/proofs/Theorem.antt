@@ -24,7 +24,7 @@ use Rattle.swc_tree_scoping.specs.Resolved.{HasContext, HasDeclarersMark, HasMea
 use Rattle.swc_tree_scoping.proofs.First.{Opens}
 use Rattle.swc_base_resolver_program.specs.declared.names.ScopeNames.{ScopeNames}
 use Rattle.swc_base_resolver_program.specs.declared.collect.Stage.TheVariants as stage
-use Rattle.swc_base_resolver_program.specs.declared.lookup.Names.{Names}
+use Rattle.swc_base_resolver_program.specs.declared.lookup.TakenNames.{TakenNames}
 use Rattle.swc_base_resolver_program.specs.Names.{ways_in}
 use Rattle.swc_base_resolver_program.specs.Lookup.{Open, Tables, function_owner_in, hoists_in, meaning_in, meets_in, names_in, otherwise_in, owner_of_variable, taker_in, variable_owner_in}
 use Rattle.swc_base_resolver_program.specs.Walks.{Marking, Reaches, Takes, context_at, context_in, context_of, fresh_context, kept_or, mark_at, marks_from, number, open_round, own_number, written}
@@ -114,7 +114,7 @@ module _ (a : Marking) (t : Node) where
   marked None = refl
   marked (Some s) = refl
 
-  module _ (opens : opened program_place t ≡ Some scope.Program) (bound reached : List ScopeNames) (names : Names) (same_names : names_in names ≡ ways_in bound)
+  module _ (opens : opened program_place t ≡ Some scope.Program) (bound reached : List ScopeNames) (names : TakenNames) (same_names : names_in names ≡ ways_in bound)
       (binds : Takes bound (Reaches stage.Bind [] 0 program_place t))
       (reaches : Takes reached (Reaches (stage.Settle names) [] 0 program_place t))
       (tables : a.tables ≡ record { bound = ways_in bound; reached = ways_in reached }) (script : a.is_script ≡ is_script t) where

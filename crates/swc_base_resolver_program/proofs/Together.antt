@@ -12,7 +12,7 @@ use Rattle.swc_tree_scoping.specs.Resolved.{Resolved, is_script, remarked}
 use Rattle.swc_tree_scoping.proofs.Remarked.{fits-remarked}
 use Rattle.swc_base_resolver_program.specs.declared.names.ScopeNames.{ScopeNames}
 use Rattle.swc_base_resolver_program.specs.declared.collect.Stage.TheVariants as stage
-use Rattle.swc_base_resolver_program.specs.declared.lookup.Names.{Names}
+use Rattle.swc_base_resolver_program.specs.declared.lookup.TakenNames.{TakenNames}
 use Rattle.swc_base_resolver_program.specs.Names.{ways_in}
 use Rattle.swc_base_resolver_program.specs.Lookup.{names_in}
 use Rattle.swc_base_resolver_program.specs.Walks.{Marking, Reaches, Takes, marks_from, written}
@@ -30,7 +30,7 @@ module _ (t answer : Node) (a : Marking) (e : answer ≡ remarked (written a [] 
   pub fits_alike : (s : Slot) → fits answer s ≡ fits t s
   fits_alike s = ap (λ t. fits t s) e ∙ fits-remarked (written a [] 0 program_place t) t s
 
-  module _ (bound reached : List ScopeNames) (names : Names) (binds : Takes bound (Reaches stage.Bind [] 0 program_place t))
+  module _ (bound reached : List ScopeNames) (names : TakenNames) (binds : Takes bound (Reaches stage.Bind [] 0 program_place t))
       (reaches : Takes reached (Reaches (stage.Settle names) [] 0 program_place t)) (same_names : names_in names ≡ ways_in bound)
       (tables : a.tables ≡ record { bound = ways_in bound; reached = ways_in reached }) (script : a.is_script ≡ is_script t) where
     pub program_resolved : (old new : Table) (top count : ℕ) → count ≡ scope_count program_place t → a.marks ≡ marks_from top (greatest old + 1) count → new ≡ with_fresh_marks old top (count - 1)

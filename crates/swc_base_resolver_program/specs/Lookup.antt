@@ -8,7 +8,7 @@ use Rattle.swc_tree_scoping.specs.Declares.{is_no_variable, is_parameter, is_set
 use Rattle.swc_base_resolver_program.specs.declared.env.Env.{Env, fold-Env}
 use Rattle.swc_base_resolver_program.specs.declared.env.Env.TheOpen.{Env-F}
 use Rattle.swc_base_resolver_program.specs.declared.env.Layer.{Layer}
-use Rattle.swc_base_resolver_program.specs.declared.lookup.Names.{Names}
+use Rattle.swc_base_resolver_program.specs.declared.lookup.TakenNames.{TakenNames}
 use Rattle.swc_base_resolver_program.specs.declared.lookup.Declarations.{Declarations}
 use Rattle.swc_base_resolver_program.specs.Names.{Bindings, any_way, has_way, ways_in}
 
@@ -56,7 +56,7 @@ pub record Tables : Type 0 where
   pub bound : Bindings
   pub reached : Bindings
 
-abbrev pub names_in : Names → Bindings
+abbrev pub names_in : TakenNames → Bindings
 names_in n = ways_in n.scopes.now
 
 abbrev pub tables_in : Declarations → Tables

@@ -9,7 +9,7 @@ ghost use Rattle.swc_base_resolver_program.specs.Lookup.{layers, same_number};
 ghost use Rattle.swc_base_resolver_program.specs.Walks.{AreBelow, Gains, IsAdded, Reaches, ReachesBelow, ReachesHere, TakeAlike, Takes, is_sought, pick, target_in};
 
 use crate::env::{Env, Layer, hoists, meets, seen, taker, variable_scope};
-use crate::lookup::Names;
+use crate::lookup::TakenNames;
 use crate::names::ScopeNames;
 use std::alloc::{AllocError, Global};
 use swc_tree_marks::Ident;
@@ -26,7 +26,7 @@ pub enum Stage<'a> {
     /// For each plain function of sloppy code in a block, the scope that it is hoisted to; for each variable below
     /// no catch clause whose parameter has its name, the scope that takes it. The names that the scopes take are
     /// given.
-    Settle(Names<'a>),
+    Settle(TakenNames<'a>),
 }
 
 /// The tables of the scopes of a program, the scopes from the front, with just what a walk over it looks for. Up to

@@ -3,7 +3,7 @@ ghost use Rattle.std.specs.Prelude.{◌≡◌};
 ghost use Rattle.swc_base_resolver_program.specs.Lookup.{hoists_from as hoists_from_in, hoists_in, layers, meets_in, names_in, open_of, passes_in, taker_in};
 ghost use Rattle.swc_base_resolver_program.specs.Walks.{pick};
 
-use crate::lookup::Names;
+use crate::lookup::TakenNames;
 use swc_tree_scoping::{Scope, Standing, View, takes};
 
 /// A scope that is open: its number from the front, and whether all its names are seen or only its parameters.
@@ -65,7 +65,7 @@ pub fn variable_scope(env: &Env) -> Option<usize>
 /// these are: no lexical declaration, function or parameter meets it up to the nearest function, static block or
 /// program.
 #[tactic(auto, using(crate::proofs::Open::layers_top, crate::proofs::Open::layers_in))]
-pub fn passes(env: &Env, bound: &Names, name: &str) -> bool
+pub fn passes(env: &Env, bound: &TakenNames, name: &str) -> bool
     ensures { result ≡ passes_in (names_in bound.now) name.now (layers env.now) }
 {
     match env {
@@ -83,7 +83,7 @@ pub fn passes(env: &Env, bound: &Names, name: &str) -> bool
 }
 
 /// Whether the plain functions of the name in a block are declared outside of it; `outer` are the scopes round it.
-pub fn hoists_from(layer: Layer, outer: &Env, bound: &Names, name: &str) -> bool
+pub fn hoists_from(layer: Layer, outer: &Env, bound: &TakenNames, name: &str) -> bool
     ensures { result ≡ hoists_from_in (names_in bound.now) name.now (open_of layer) (layers outer.now) }
 {
     !bound.ways(layer.number, name).stops_in_block() && passes(outer, bound, name)
@@ -92,7 +92,7 @@ pub fn hoists_from(layer: Layer, outer: &Env, bound: &Names, name: &str) -> bool
 /// Whether the plain functions of the name in the innermost scope that takes them are declared outside of it
 /// (ECMA-262, B.3.2).
 #[tactic(auto, using(crate::proofs::Open::layers_top, crate::proofs::Open::layers_in))]
-pub fn hoists(env: &Env, bound: &Names, name: &str) -> bool
+pub fn hoists(env: &Env, bound: &TakenNames, name: &str) -> bool
     ensures { result ≡ hoists_in (names_in bound.now) name.now (layers env.now) }
 {
     match env {
@@ -109,7 +109,7 @@ pub fn hoists(env: &Env, bound: &Names, name: &str) -> bool
 
 /// The number of the innermost scope that is a catch clause whose parameter has the name, or that takes variables.
 #[tactic(auto, using(crate::proofs::Open::layers_top, crate::proofs::Open::layers_in))]
-pub fn meets(env: &Env, bound: &Names, name: &str) -> Option<usize>
+pub fn meets(env: &Env, bound: &TakenNames, name: &str) -> Option<usize>
     ensures { result ≡ meets_in (names_in bound.now) name.now (layers env.now) }
 {
     match env {

@@ -9,16 +9,16 @@ use swc_tree_scoping::Standing;
 
 /// The names that the scopes take, the scopes from the front.
 #[derive(Clone, Copy)]
-pub struct Names<'a> {
+pub struct TakenNames<'a> {
     scopes: &'a [ScopeNames],
 }
 
-impl<'a> Names<'a> {
+impl<'a> TakenNames<'a> {
     /// The names of those scopes.
-    pub fn new(scopes: &'a [ScopeNames]) -> Names<'a>
+    pub fn new(scopes: &'a [ScopeNames]) -> TakenNames<'a>
         ensures { names_in result ≡ ways_in scopes.now }
     {
-        Names { scopes }
+        TakenNames { scopes }
     }
 
     /// The ways in which a scope takes a name.
@@ -36,8 +36,8 @@ impl<'a> Names<'a> {
 /// variables those that stand below no catch clause whose parameter has the name.
 #[derive(Clone, Copy)]
 pub struct Declarations<'a> {
-    pub bound: Names<'a>,
-    pub reached: Names<'a>,
+    pub bound: TakenNames<'a>,
+    pub reached: TakenNames<'a>,
 }
 
 /// The number of the scope that a name means, if one declares it.

@@ -9,7 +9,7 @@ ghost use Rattle.swc_tree_scoping.specs.Resolved.{Resolved};
 ghost use Rattle.swc_base_resolver_program.specs.Marked.{IsRefusal, MarksOk, OnlyContexts};
 
 use crate::collect::{Stage, gather_program};
-use crate::lookup::{Declarations, Names};
+use crate::lookup::{Declarations, TakenNames};
 use crate::marks::marks_of;
 use crate::walk::{Answers, is_script, write_contexts};
 use std::alloc::Global;
@@ -47,10 +47,10 @@ pub fn resolve_program(
     let bound = gather_program(alloc, Stage::Bind, &program, 0)?;
     let bound_names = bound.as_slice();
     let scope_count = bound_names.len();
-    let bound = Names::new(bound_names);
+    let bound = TakenNames::new(bound_names);
     let reached = gather_program(alloc, Stage::Settle(bound), &program, scope_count)?;
     let reached_names = reached.as_slice();
-    let reached = Names::new(reached_names);
+    let reached = TakenNames::new(reached_names);
     let marks = marks_of(alloc, globals, top, scope_count)?;
     let answers = Answers {
         marks: marks.as_slice(),

@@ -111,21 +111,21 @@ static CLOSED: [u128; 100] = [
 ];
 
 impl Helper {
-    /// The set of what this needs: the helper itself, and with each what it depends on.
+    // The set of what this needs: the helper itself, and with each what it depends on.
     pub(crate) fn closed_set(self) -> u128
         ensures { (n : ℕ) → Holds result n ↔ InClosure self n }
     {
         CLOSED[self.number as usize - 1]
     }
 
-    /// The set of the helper alone.
+    // The set of the helper alone.
     pub(crate) fn alone(self) -> u128
         ensures { (n : ℕ) → Holds result n ↔ (n ≡ self) }
     {
         1 << self.number
     }
 
-    /// Whether the helper is in a set.
+    // Whether the helper is in a set.
     pub(crate) fn is_in(self, set: u128) -> bool
         ensures { IsTrue result ↔ Holds set self }
     {

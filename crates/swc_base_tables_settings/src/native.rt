@@ -29,7 +29,7 @@ fn is_from_n_to_z(name: &str) -> bool
     is_from_n(name) || is_from_svg(name) || is_from_svgm(name) || is_from_t(name)
 }
 
-/// Whether a text is among those of a list, which rise in the order of their bytes.
+// Whether a text is among those of a list, which rise in the order of their bytes.
 pub(crate) fn is_among(names: &[&str], name: &str) -> bool
     requires { IsTrue (is_rising (map (λ n. n.now) names.now)) }
     ensures { IsTrue result ↔ Contains (map (λ n. n.now) names.now) name.now }

@@ -1,3 +1,4 @@
+//! Comments, as far as passes move them.
 use swc_tree_marks::{BytePos, NoMemory};
 
 /// The comments of a source text, which a pass moves along with the nodes that they stand at.

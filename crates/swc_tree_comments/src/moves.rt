@@ -1,3 +1,4 @@
+//! Requests to move comments.
 use swc_tree_marks::BytePos;
 
 /// A request to move comments from one position to another.

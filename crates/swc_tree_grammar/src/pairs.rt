@@ -1,3 +1,4 @@
+//! A pair of parentheses, by where it stands.
 use swc_tree_marks::Span;
 
 /// A pair of parentheses that is taken off: where its content stands, and where it stands itself.

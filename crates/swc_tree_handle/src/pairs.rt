@@ -142,7 +142,7 @@ impl Eq for Pairs {
     ghost laws = { all_same_equiv };
 }
 
-/// The texts of a pair.
+// The texts of a pair.
 #[tactic(auto, using(swc_tree_node::proofs::Fit::fitting, swc_tree_node::proofs::Fit::pair_opens))]
 fn to_pair(node: Node) -> (Atom, Atom)
     requires { Fits node Pair }

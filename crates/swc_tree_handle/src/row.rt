@@ -76,7 +76,7 @@ impl<R: Row, A: Place> Row for (R, A) {
     }
 }
 
-/// Takes a node apart into a row.
+// Takes a node apart into a row.
 fn open<K: Syntax, R: Row>(closed: Node, kind: Kind) -> R
     requires closed { Fits closed (One (Of K.class)) }
     requires sole { kinds_of K.class ≡ kind ∷ [] }
@@ -87,7 +87,7 @@ fn open<K: Syntax, R: Row>(closed: Node, kind: Kind) -> R
     R::taken(Tree::<K>::from_node(closed).into_fields(kind))
 }
 
-/// The node of a kind and a row. Where memory is refused, the row is dropped.
+// The node of a kind and a row. Where memory is refused, the row is dropped.
 fn close<K: Syntax, R: Row>(
     alloc: Global,
     kind: Kind,

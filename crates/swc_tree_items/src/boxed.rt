@@ -1,3 +1,4 @@
+//! An owned value on the heap.
 ghost use Rattle.std.specs.Prelude.{◌≡◌, IfOk};
 ghost use Rattle.std.specs.Borrow.{Lends, sem};
 ghost use Rattle.swc_tree_items.specs.contracts.boxed.Boxed.{the_row};

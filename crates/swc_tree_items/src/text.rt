@@ -1,3 +1,4 @@
+//! An owned text.
 ghost use Rattle.std.specs.Prelude.{◌≡◌, IfOk, Some, string_bytes, nat_eq, refl};
 ghost use Rattle.std.specs.Hash as fed;
 ghost use Rattle.std.specs.Cmp.{on_equiv, on_per, partial_equiv_from_equiv};

@@ -1,3 +1,4 @@
+//! Why calls on marks and passes are refused.
 ghost use Rattle.std.specs.Prelude.{◌≡◌};
 ghost use Rattle.swc_tree_marks.specs.Errors.{IsFreshError, IsSameRefusal, name_of};
 ghost use Rattle.swc_tree_marks.specs.declared.error.MarkError.TheVariants as mark;

@@ -1,3 +1,4 @@
+//! The table of marks.
 ghost use Rattle.std.specs.Prelude.{◌≡◌, ℕ, ◌+◌, ◌↔◌, [], ◌∷◌, ◌++◌, ◌<◌, length, Contains, IsTrue, IfOk, IfErr, OnOk, OnErr, IsErrOf, MatchOption, IsNone, IfSome};
 ghost use Rattle.swc_tree_marks.specs.Errors.{IsFreshError};
 ghost use Rattle.swc_tree_marks.specs.Globals.{numbers, greatest, Knows, Follows, IsTable, IsFirstBad, IsPlaceOf, RefusesTable, parent_in, recorded, IsDescendant};

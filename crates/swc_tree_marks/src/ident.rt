@@ -1,3 +1,4 @@
+//! Identifiers, and what an id is.
 ghost use Rattle.std.specs.Prelude.{◌≡◌, IfOk};
 
 use crate::context::SyntaxContext;

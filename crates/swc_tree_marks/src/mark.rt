@@ -1,3 +1,4 @@
+//! Marks.
 ghost use Rattle.std.specs.Prelude.{◌≡◌};
 
 use std::marker::Model;

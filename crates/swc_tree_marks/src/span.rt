@@ -1,3 +1,4 @@
+//! Where a node stands in its source text.
 /// A position in a source text, in bytes.
 pub type BytePos = u32;
 

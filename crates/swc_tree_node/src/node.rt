@@ -1,3 +1,4 @@
+//! The node of the syntax tree.
 use crate::kind::{Kind, Word};
 use swc_tree_items::{Boxed, Items, Text};
 use swc_tree_marks::{Ident, Span};
