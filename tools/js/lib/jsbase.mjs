@@ -1,14 +1,15 @@
-// The command jsbase: JavaScript through the proved program of that name, and back.
+// The command jsbase: JavaScript through the program of that name, and back. The program is the proved one, or with --try
+// the same code without its proofs.
 import { spawnSync } from 'node:child_process';
 import { existsSync } from 'node:fs';
 import { constants } from 'node:os';
 import { fileURLToPath } from 'node:url';
 import { KIND_OPTIONS, kindOf, read } from './command.mjs';
 import { print } from './print.mjs';
-import { Missing, Problem } from './problems.mjs';
+import { Missing, Problem, Usage } from './problems.mjs';
 import { envelopeOf, treeIn, treeOf } from './tree.mjs';
 
-const HELP = `usage: jsbase COMMAND [--marks] [--module | --script] [--program PATH] FILE|-
+const HELP = `usage: jsbase COMMAND [--marks] [--module | --script] [--program PATH | --try] FILE|-
 
 Parses FILE, runs the program \`jsbase COMMAND module|script\` on its tree, and writes the
 answer as JavaScript on standard output. COMMAND is one of the program's: resolve, hygiene,
@@ -19,6 +20,8 @@ first run as \`jsbase resolve\`, and hygiene is given what that answers.
   --module, --script   what the text is, as for js2tree
   --program PATH       the program; left out, it is $JSBASE, or else
                        crates/jsbase/out/jsbase in this repository
+  --try                no program: \`rt try\` runs the same code, with nothing proved,
+                       in about a minute; answers of up to a megabyte
   --help               this text
   -                    standard input
 
@@ -28,7 +31,8 @@ Exit status: as js2tree (0, 2, 4, 5), and if the program refuses, its own, with 
 message: 1 refused, 2 no such command, 3 not a tree, 4 can't read or write.
 `;
 
-const BUILT = fileURLToPath(new URL('../../../crates/jsbase/out/jsbase', import.meta.url));
+const CRATE = fileURLToPath(new URL('../../../crates/jsbase/', import.meta.url));
+const BUILT = `${CRATE}out/jsbase`;
 /** The program reads JSON to this depth. */
 const DEEPEST = 127;
 
@@ -37,10 +41,24 @@ export function programAt(path) {
   const program = path ?? (process.env.JSBASE || BUILT);
   if (!existsSync(program)) {
     const build = 'cd crates/jsbase && rt run -- resolve module < ../../docs/sample.json';
-    throw new Missing(`no program at ${program}; this proves and builds it: ${build}`);
+    throw new Missing(`no program at ${program}; this proves and builds it: ${build}; or try it unproved, with --try`);
   }
   return program;
 }
+
+/** What is run for a command: a program, its arguments before the words, and where. */
+function runner(values) {
+  if (!values.try) {
+    return { program: programAt(values.program), before: [], options: {} };
+  }
+  if (values.program) {
+    throw new Usage('--try and --program exclude each other');
+  }
+  return { program: 'rt', before: ['try', '--'], options: { cwd: CRATE } };
+}
+
+/** What \`rt try\` says of a run, which is not the program's own. */
+const isOfTheTry = (line) => /^(checked: |run=)/.test(line);
 
 function depth(value) {
   if (value === null || typeof value !== 'object') {
@@ -59,12 +77,18 @@ function refusal({ error, signal, status, stderr }, envelope) {
   }
   const levels = depth(JSON.parse(envelope));
   const why = levels > DEEPEST ? `the tree nests ${levels} deep, and ${DEEPEST} levels are read` : '';
-  return new Problem([stderr.trim(), why].filter((line) => line).join('\n'), status);
+  const said = stderr.split('\n').filter((line) => line && !isOfTheTry(line));
+  return new Problem([...said, why].filter((line) => line).join('\n'), status);
 }
 
 /** What the program answers to an envelope: an envelope. */
-function pass(program, command, kind, envelope) {
-  const done = spawnSync(program, [command, kind], { input: envelope, encoding: 'utf8', maxBuffer: Infinity });
+function pass({ program, before, options }, command, kind, envelope) {
+  const done = spawnSync(program, [...before, command, kind], {
+    ...options,
+    input: envelope,
+    encoding: 'utf8',
+    maxBuffer: Infinity,
+  });
   if (done.status !== 0) {
     throw refusal(done, envelope);
   }
@@ -74,16 +98,16 @@ function pass(program, command, kind, envelope) {
 export const jsbase = {
   name: 'jsbase',
   help: HELP,
-  options: { ...KIND_OPTIONS, marks: { type: 'boolean' }, program: { type: 'string' } },
+  options: { ...KIND_OPTIONS, marks: { type: 'boolean' }, program: { type: 'string' }, try: { type: 'boolean' } },
   positionals: [2, 2],
   run(values, [command, file]) {
     const kind = kindOf(values);
-    const program = programAt(values.program);
+    const way = runner(values);
     const tree = treeOf(read(file), kind, file);
     const goal = tree.type.toLowerCase();
     const steps = command === 'hygiene' ? ['resolve', command] : [command];
     const answer = steps.reduce(
-      (envelope, step) => pass(program, step, goal, envelope),
+      (envelope, step) => pass(way, step, goal, envelope),
       JSON.stringify(envelopeOf(tree)),
     );
     return print(treeIn(answer), values);

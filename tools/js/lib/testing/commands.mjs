@@ -154,6 +154,8 @@ const WITHOUT_PROGRAM = {
   },
   'refuses wrong usage': () => {
     expect(run('jsbase', ['resolve']), 2, { stderr: /^jsbase: usage: jsbase COMMAND / });
+    const both = run('jsbase', ['resolve', '--try', '--program', 'x', '-'], 'a');
+    expect(both, 2, { stderr: /^jsbase: --try and --program exclude each other/ });
   },
   'passes on what the program says': () => {
     const sh = ['resolve', '--program', fileURLToPath(new URL('refuses.sh', import.meta.url)), '-'];
