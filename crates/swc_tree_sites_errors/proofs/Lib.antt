@@ -1,0 +1,4 @@
+pub mod Twice
+pub mod TwoBelow
+pub mod Modules
+pub mod Stays
