@@ -2,3 +2,4 @@ pub mod Twice
 pub mod TwoBelow
 pub mod Modules
 pub mod Stays
+pub mod NewTexts
