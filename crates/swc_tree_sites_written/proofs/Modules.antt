@@ -101,9 +101,10 @@ record Held (n t : Sites) : Type 0 where
   pending : n.pending ≡ t.pending
   sets : n.sets ≡ t.sets
   sites : (s : Site) → In s n.sites → KeptSite t s
+  back : (s : Site) → In s t.sites → In s n.sites
 
 held_same : (n t : Sites) → n ≡ t → Held n t
-held_same n t e = record { pending = ap (λ a. a.pending) e; sets = ap (λ a. a.sets) e; sites = λ s h. inl (subst (λ (a : Sites). In s a.sites) e h) }
+held_same n t e = record { pending = ap (λ a. a.pending) e; sets = ap (λ a. a.sets) e; sites = λ s h. inl (subst (λ (a : Sites). In s a.sites) e h); back = λ s h. subst (λ (a : Sites). In s a.sites) (sym e) h }
 
 kept_left : (s : Site) (t u : Sites) → KeptSite t s → KeptSite (both t u) s
 kept_left s t u (inl h) = inl (in_left s t.sites u.sites h)
@@ -118,6 +119,7 @@ held_both n t m u h g = record {
   pending = ap (λ p. p ++ m.pending) h.pending ∙ ap (λ p. t.pending ++ p) g.pending;
   sets = ap (λ p. p ++ m.sets) h.sets ∙ ap (λ p. t.sets ++ p) g.sets;
   sites = λ s i. ⊎_elim (λ i. kept_left s t u (h.sites s i)) (λ i. kept_right s t u (g.sites s i)) (in_cases s n.sites m.sites i);
+  back = λ s i. ⊎_elim (λ i. in_left s n.sites m.sites (h.back s i)) (λ i. in_right s n.sites m.sites (g.back s i)) (in_cases s t.sites u.sites i);
 }
 
 referred_in : (s : Site) (is : List Ident) → In s (map referred is) → (i : Ident) × In i is × (s ≡ referred i)
@@ -136,6 +138,7 @@ held_exports d h = record {
       let z = h x (subst (In x) (same (declared_ids d)) k) in
       inr (j, e, (z.0, z.1, z.2, z.3 ∙ ap (λ (i : Ident). i.sym) m, z.4 ∙ ap (λ (i : Ident). i.ctxt) m)))
       (in_cases s (S Top d).sites (map referred (each_once (map made (declared_ids d)))) i);
+  back = λ s i. in_left s (S Top d).sites (map referred (each_once (map made (declared_ids d)))) i;
 }
   where
     same : (l : List Id) → map (λ x. x) l ≡ l
@@ -271,6 +274,13 @@ around_kept n t h s i =
     at : (l : List Site) → In s (l ++ []) → In s l
     at l i = subst (In s) (append-nil l) i
 
+around_back : (n t : Sites) → Held n t → (s : Site) → In s (seen t) → In s (seen n)
+around_back n t h s i =
+    let same : taken n ≡ taken t = ap (λ p. filter (λ b. takes b.0 scope.Program) (p ++ [])) h.pending in
+    let (r, g, e) = from_map (pushed (entry (taken t) true)) s t.sites (subst (In s) (append-nil (map (pushed (entry (taken t) true)) t.sites)) i) in
+    let f : pushed (entry (taken n) true) r ≡ s = ap (λ l. pushed (entry l true) r) same ∙ e in
+    subst (λ s. In s (seen n)) f (in_left (pushed (entry (taken n) true) r) (map (pushed (entry (taken n) true)) n.sites) [] (to_map (pushed (entry (taken n) true)) r n.sites (h.back r g)))
+
 around_sets : (n t : Sites) → Held n t → (around n).sets ≡ (around t).sets
 around_sets n t h = ap (λ p. set_of (filter (λ b. takes b.0 scope.Program) (p ++ [])) ++ (n.sets ++ [])) h.pending ∙ ap (λ l. set_of (taken t) ++ (l ++ [])) h.sets
 
@@ -300,11 +310,21 @@ module_takes x y z q r =
 abbrev LeftOf : Sites → Sites → Type 0
 LeftOf n t = AreKept n.sites t.sites × Sub n.sets t.sets
 
-abbrev ModuleLeft : Node → Type 0
+abbrev pub ModuleLeft : Node → Type 0
 ModuleLeft t = Fits t (one class.Module) → IsTrue (is_tame t false) → IsLeftOf (written_out t) t × (taken_at program_place (written_out t) ≡ taken_at program_place t)
 
-listed_left : (x z : Node) (ts : List Node) → ModuleLeft (Tree kind.Module (x ∷ Many ts ∷ z ∷ []))
-listed_left x z ts f tame =
+-- ... and loses none of its names
+pub record Whole (t : Node) : Type 0 where
+  pub left : IsLeftOf (written_out t) t
+  pub takes : taken_at program_place (written_out t) ≡ taken_at program_place t
+  pub names : (s : Site) → In s (S program_place t).sites → In s (S program_place (written_out t)).sites
+  pub sets : (S program_place (written_out t)).sets ≡ (S program_place t).sets
+
+abbrev ModuleWhole : Node → Type 0
+ModuleWhole t = Fits t (one class.Module) → IsTrue (is_tame t false) → Whole t
+
+listed_whole : (x z : Node) (ts : List Node) → ModuleWhole (Tree kind.Module (x ∷ Many ts ∷ z ∷ []))
+listed_whole x z ts f tame =
     let fields = (tree_opens kind.Module (x ∷ Many ts ∷ z ∷ []) class.Module f).2 in
     let parts = sym (tame_tree kind.Module (x ∷ Many ts ∷ z ∷ []) false) ∙ tame in
     let items : items_tame false (map of ts) ≡ true = sym (tame_list ts false) ∙ tame_of false (Many ts) (tame_at (field_role kind.Module) false (x ∷ Many ts ∷ z ∷ []) 1 (Many ts) parts refl) in
@@ -322,25 +342,28 @@ listed_left x z ts f tame =
     = subst (λ (a : Sites). AreKept a.sites (S program_place (Tree kind.Module (x ∷ Many ts ∷ z ∷ []))).sites) (sym after)
     (subst (λ (a : Sites). AreKept (around (all Top us)).sites a.sites) (sym before) (around_kept (all Top us) (all Top ts) held)) in
     let sets : (S program_place (written_out (Tree kind.Module (x ∷ Many ts ∷ z ∷ [])))).sets ≡ (S program_place (Tree kind.Module (x ∷ Many ts ∷ z ∷ []))).sets
-    = ap (λ (a : Sites). a.sets) after ∙ around_sets (all Top us) (all Top ts) held ∙ sym (ap (λ (a : Sites). a.sets) before) in (
-      record { names = names; scopes = subst (Sub (S program_place (written_out (Tree kind.Module (x ∷ Many ts ∷ z ∷ [])))).sets) sets (sub_refl (S program_place (written_out (Tree kind.Module (x ∷ Many ts ∷ z ∷ [])))).sets) },
-      ap (taken_at program_place) whole ∙ module_takes (written_out x) (Many us) (written_out z) (span_quiet Top x fields.0) (raw_quiet Top z fields.1.1.0) ∙ ap taken (of_list Top us refl)
+    = ap (λ (a : Sites). a.sets) after ∙ around_sets (all Top us) (all Top ts) held ∙ sym (ap (λ (a : Sites). a.sets) before) in
+    record {
+      left = record { names = names; scopes = subst (Sub (S program_place (written_out (Tree kind.Module (x ∷ Many ts ∷ z ∷ [])))).sets) sets (sub_refl (S program_place (written_out (Tree kind.Module (x ∷ Many ts ∷ z ∷ [])))).sets) };
+      takes = ap (taken_at program_place) whole ∙ module_takes (written_out x) (Many us) (written_out z) (span_quiet Top x fields.0) (raw_quiet Top z fields.1.1.0) ∙ ap taken (of_list Top us refl)
           ∙ ap (λ p. filter (λ b. takes b.0 scope.Program) (p ++ [])) held.pending
-          ∙ sym (module_takes x (Many ts) z (of_leaf Top content.Span x refl fields.0) (optional_text Top z fields.1.1.0) ∙ ap taken (of_list Top ts refl)),
-    )
+          ∙ sym (module_takes x (Many ts) z (of_leaf Top content.Span x refl fields.0) (optional_text Top z fields.1.1.0) ∙ ap taken (of_list Top ts refl));
+      names = λ s i. subst (λ (a : Sites). In s a.sites) (sym after) (around_back (all Top us) (all Top ts) held s (subst (λ (a : Sites). In s a.sites) before i));
+      sets = sets;
+    }
 
-tree_left : (k : Kind) (ts : List Node) → IsTrue (belongs k class.Module) → FieldsFit (slots_of k) ts → ModuleLeft (Tree k ts)
-tree_left kind.Module [] b f = absurd f
-tree_left kind.Module (x ∷ []) b f = absurd f.1
-tree_left kind.Module (x ∷ y ∷ []) b f = absurd f.1.1
-tree_left kind.Module (x ∷ y ∷ z ∷ v ∷ ts) b f = absurd f.1.1.1
-tree_left kind.Module (x ∷ y ∷ z ∷ []) b f =
+tree_whole : (k : Kind) (ts : List Node) → IsTrue (belongs k class.Module) → FieldsFit (slots_of k) ts → ModuleWhole (Tree k ts)
+tree_whole kind.Module [] b f = absurd f
+tree_whole kind.Module (x ∷ []) b f = absurd f.1
+tree_whole kind.Module (x ∷ y ∷ []) b f = absurd f.1.1
+tree_whole kind.Module (x ∷ y ∷ z ∷ v ∷ ts) b f = absurd f.1.1.1
+tree_whole kind.Module (x ∷ y ∷ z ∷ []) b f =
     let l = listed y (content.Node class.ModuleItem) f.1.0 in
-    subst (λ y. ModuleLeft (Tree kind.Module (x ∷ y ∷ z ∷ []))) (sym l.is) (listed_left x z l.items)
-tree_left _ ts b f = absurd (cc)
+    subst (λ y. ModuleWhole (Tree kind.Module (x ∷ y ∷ z ∷ []))) (sym l.is) (listed_whole x z l.items)
+tree_whole _ ts b f = absurd (cc)
 
-pub module_left : (t : Node) → ModuleLeft t
-module_left t = by_children ModuleLeft (
+pub module_whole : (t : Node) → ModuleWhole t
+module_whole t = by_children ModuleWhole (
   λ f. absurd (cc (sym (fits-Absent (one class.Module)) ∙ f)),
   λ x f. absurd (cc (sym (fits-Flag x (one class.Module)) ∙ f)),
   λ v f. absurd (cc (sym (fits-Word v (one class.Module)) ∙ f)),
@@ -349,9 +372,12 @@ module_left t = by_children ModuleLeft (
   λ k i f. absurd (no_name k (both_are (is_identifier k) (belongs k class.Module) (sym (fits-Identifier k i (one class.Module)) ∙ f)).0 (both_are (is_identifier k) (belongs k class.Module) (sym (fits-Identifier k i (one class.Module)) ∙ f)).1),
 )
     (λ ts b f. absurd (cc (sym (fits-List ts (one class.Module)) ∙ f)))
-    (λ k ts b f. tree_left k ts (tree_opens k ts class.Module f).1 (tree_opens k ts class.Module f).2 f) t
+    (λ k ts b f. tree_whole k ts (tree_opens k ts class.Module f).1 (tree_opens k ts class.Module f).2 f) t
   where
     no_name : (k : Kind) → IsTrue (is_identifier k) → IsTrue (belongs k class.Module) → ⊥
     no_name kind.Ident a b = absurd (cc)
     no_name kind.BindingIdent a b = absurd (cc)
     no_name _ a b = absurd (cc)
+
+pub module_left : (t : Node) → ModuleLeft t
+module_left t f tame = let w = module_whole t f tame in (w.left, w.takes)

@@ -11,8 +11,8 @@ use Rattle.swc_tree_scoping.specs.Places.{program_place}
 use Rattle.swc_tree_grammar.specs.Normal.{normal_form, written_out}
 use Rattle.swc_tree_grammar.specs.Stripped.{stripped}
 use Rattle.swc_tree_grammar.specs.Targets.{all_bare}
-use Rattle.swc_tree_sites.specs.Sites.{sites_of, taken_at}
-use Rattle.swc_tree_sites.specs.Smaller.{IsLeftOf}
+use Rattle.swc_tree_sites.specs.Sites.{Site, sites_of, taken_at}
+use Rattle.swc_tree_sites.specs.Smaller.{In, IsLeftOf}
 use Rattle.swc_tree_sites_written.specs.Tame.{is_tame}
 
 -- a place in strict code
@@ -29,6 +29,11 @@ WrittenItemKeepsNames = (t : Node) (r : Standing) (n : Bool) → Fits t (slot.On
 -- program takes the same.
 abbrev pub WrittenOutIsLeft : Type 0
 WrittenOutIsLeft = (t : Node) → Fits t (slot.One (content.Node class.Module)) → IsTrue (is_tame t false) → IsLeftOf (written_out t) t × (taken_at program_place (written_out t) ≡ taken_at program_place t)
+
+-- ... and the module written out has all names of the module, with the same scopes round them, and the same scopes in it.
+abbrev pub WrittenOutLosesNone : Type 0
+WrittenOutLosesNone = (t : Node) → Fits t (slot.One (content.Node class.Module)) → IsTrue (is_tame t false)
+    → ((s : Site) → In s (sites_of program_place t).sites → In s (sites_of program_place (written_out t)).sites) × ((sites_of program_place (written_out t)).sets ≡ (sites_of program_place t).sets)
 
 -- The normal form of a module is left of the module, where each parenthesised target of it can stand bare and the
 -- stripped module is tame.
