@@ -56,7 +56,7 @@ clean_ids : (t : Node) → IsClean (by_ids t)
 clean_ids t p w k i h = let (l, j, e, is) = from_ids t p w k i h in ap (λ (i : Ident). i.ctxt) is
 
 -- an answer with contexts
-stands_there : (v u : Node) (c : Contexts) → u ≡ remarked c v → (p : Path) (w : Place) (l : Kind) (j : Ident) → place_at program_place v p ≡ Some (w, Identifier l j) → place_at program_place u p ≡ Some (w, Identifier l (record j { ctxt = c p }))
+pub stands_there : (v u : Node) (c : Contexts) → u ≡ remarked c v → (p : Path) (w : Place) (l : Kind) (j : Ident) → place_at program_place v p ≡ Some (w, Identifier l j) → place_at program_place u p ≡ Some (w, Identifier l (record j { ctxt = c p }))
 stands_there v u c only p w l j h =
     ap (λ u. place_at program_place u p) only ∙ place_at_remarked p c program_place v
     ∙ ap (option_map {U = Place × Node} (λ (q : Place × Node). (q.0, remarked (λ r. c (p ++ r)) q.1))) h

@@ -1,5 +1,5 @@
 -- A tree that is stripped has fewer names, with the same round them.
-use Rattle.std.proofs.Common.{◌≡◌, ℕ, zero, suc, Bool, true, false, not, IsTrue, Option, Some, None, List, [], ◌∷◌, map, refl, sym, ap, ◌∙◌, subst, cond, rules}
+use Rattle.std.proofs.Common.{◌≡◌, ℕ, zero, suc, Bool, true, false, not, IsTrue, Option, Some, None, List, [], ◌∷◌, ◌++◌, map, refl, sym, ap, ◌∙◌, subst, cond, rules}
 use Rattle.std.specs.List.{filter, flat_map, list_all, slice_get}
 use Rattle.std.specs.Prelude.{unwrap_or, option_map}
 use Rattle.std.proofs.lemmas.Option.{slice_get-map}
@@ -21,7 +21,8 @@ use Rattle.swc_tree_scoping.specs.declared.places.Standing.{Standing}
 use Rattle.swc_tree_scoping.specs.declared.places.Standing.TheVariants as standing
 use Rattle.swc_tree_scoping.specs.declared.places.Place.{Place}
 use Rattle.swc_tree_scoping.specs.declared.places.Scope.TheVariants as scope
-use Rattle.swc_tree_scoping.specs.Places.{absent_in, by_keyword, field_role, has_own_name, is_there, keyword_in, nested_below, opened_as, part_standing, place_in, program_place, standing_below, view_from}
+use Rattle.swc_tree_scoping.specs.Places.{absent_in, by_keyword, children_in, field_role, has_own_name, is_there, keyword_in, nested_below, opened_as, opened_in, part_standing, place_in, program_place, standing_below, view_from}
+use Rattle.swc_tree_scoping.specs.Scopes.{takes, view_in}
 use Rattle.swc_tree_scoping.specs.Folds.{each_in}
 use Rattle.swc_tree_grammar.specs.Stripped.{stripped}
 use Rattle.swc_tree_grammar.specs.Targets.{all_bare, bare_in, seen}
@@ -31,7 +32,7 @@ use Rattle.swc_tree_grammar.proofs.Kept.{stripped_fits}
 use Rattle.swc_tree_grammar.proofs.Places.{Stands, one, stands}
 use Rattle.swc_tree_grammar.proofs.Stripped.{is_other, stripped_of_list, stripped_of_tree, stripped_other}
 use Rattle.swc_tree_grammar.proofs.Walks.{bare_of_list, bare_of_tree}
-use Rattle.swc_tree_sites.specs.Sites.{both, in_scope, joined, nothing}
+use Rattle.swc_tree_sites.specs.Sites.{Binding, Sites, both, in_scope, joined, nothing, taken_at, taken_in, taken_of}
 use Rattle.swc_tree_sites.specs.Smaller.{Fewer}
 use Rattle.swc_tree_sites.proofs.Kept.{AllFewer, E, S, in_scope_fewer, joined_fewer, out_step}
 use Rattle.swc_tree_sites.proofs.Leaves.{Field}
@@ -316,40 +317,71 @@ claim t = by_children Claim (
 )
     list_claim tree_claim t
 
--- a module
-pub module_fewer : (t : Node) → Fits t (one class.Module) → IsTrue (all_bare t) → Fewer (S program_place (stripped t)) (S program_place t)
-module_fewer t = by_children (λ t. Fits t (one class.Module) → IsTrue (all_bare t) → Fewer (S program_place (stripped t)) (S program_place t)) (
-  λ f b. absurd (cc (sym (fits-Absent (one class.Module)) ∙ f)),
-  λ x f b. absurd (cc (sym (fits-Flag x (one class.Module)) ∙ f)),
-  λ v f b. absurd (cc (sym (fits-Word v (one class.Module)) ∙ f)),
-  λ x f b. absurd (cc (sym (fits-Text x (one class.Module)) ∙ f)),
-  λ r f b. absurd (cc (sym (fits-Span r (one class.Module)) ∙ f)),
-  λ k i f b. at_identifier k i (both_are (is_identifier k) (belongs k class.Module) (sym (fits-Identifier k i (one class.Module)) ∙ f)).0 (both_are (is_identifier k) (belongs k class.Module) (sym (fits-Identifier k i (one class.Module)) ∙ f)).1,
+-- a module is one by its fields
+pub on_modules : (P : Node → Type 0) → ((x y z : Node) → FieldsFit (slots_of kind.Module) (x ∷ y ∷ z ∷ []) → P (Tree kind.Module (x ∷ y ∷ z ∷ []))) → (t : Node) → Fits t (one class.Module) → P t
+on_modules P each t = by_children (λ t. Fits t (one class.Module) → P t) (
+  λ f. absurd (cc (sym (fits-Absent (one class.Module)) ∙ f)),
+  λ x f. absurd (cc (sym (fits-Flag x (one class.Module)) ∙ f)),
+  λ v f. absurd (cc (sym (fits-Word v (one class.Module)) ∙ f)),
+  λ x f. absurd (cc (sym (fits-Text x (one class.Module)) ∙ f)),
+  λ r f. absurd (cc (sym (fits-Span r (one class.Module)) ∙ f)),
+  λ k i f. at_identifier k i (both_are (is_identifier k) (belongs k class.Module) (sym (fits-Identifier k i (one class.Module)) ∙ f)).0 (both_are (is_identifier k) (belongs k class.Module) (sym (fits-Identifier k i (one class.Module)) ∙ f)).1,
 )
-    (λ ts h f b. absurd (cc (sym (fits-List ts (one class.Module)) ∙ f)))
-    (λ k ts h f b. at k ts (tree_opens k ts class.Module f).1 (tree_opens k ts class.Module f).2 b) t
+    (λ ts h f. absurd (cc (sym (fits-List ts (one class.Module)) ∙ f)))
+    (λ k ts h f. at k ts (tree_opens k ts class.Module f).1 (tree_opens k ts class.Module f).2) t
   where
-    at_identifier : (k : Kind) (i : Ident) → IsTrue (is_identifier k) → IsTrue (belongs k class.Module) → Fewer (S program_place (stripped (Identifier k i))) (S program_place (Identifier k i))
+    at_identifier : (k : Kind) (i : Ident) → IsTrue (is_identifier k) → IsTrue (belongs k class.Module) → P (Identifier k i)
     at_identifier kind.Ident i a b = absurd (cc)
     at_identifier kind.BindingIdent i a b = absurd (cc)
     at_identifier _ i a b = absurd (cc)
 
-    at : (k : Kind) (ts : List Node) → IsTrue (belongs k class.Module) → FieldsFit (slots_of k) ts → IsTrue (all_bare (Tree k ts)) → Fewer (S program_place (stripped (Tree k ts))) (S program_place (Tree k ts))
-    at kind.Module [] c f b = absurd f
-    at kind.Module (x ∷ []) c f b = absurd f.1
-    at kind.Module (x ∷ y ∷ []) c f b = absurd f.1.1
-    at kind.Module (x ∷ y ∷ z ∷ v ∷ ts) c f b = absurd f.1.1.1
-    at kind.Module (x ∷ y ∷ z ∷ []) c f b =
-        let k = both_are (all_bare x) (list_all all_bare (y ∷ z ∷ [])) (bare_below kind.Module (x ∷ y ∷ z ∷ []) b) in
-        let l = both_are (all_bare y) (list_all all_bare (z ∷ [])) k.1 in
-        let m = both_are (all_bare z) true l.1 in
-        let first = claim x standing.Plain standing.Plain false (slot.One content.Span) f.0 k.0 (λ e. absurd (cc)) (same_answers standing.Plain x refl) in
-        let second = claim y standing.Plain standing.Plain false (slot.List (content.Node class.ModuleItem)) f.1.0 l.0 (λ e. absurd (cc)) (same_answers standing.Plain y refl) in
-        let third = claim z standing.Plain standing.Plain false (slot.Optional content.Text) f.1.1.0 m.0 (λ e. absurd (cc)) (same_answers standing.Plain z refl) in
-        let three : AllFewer (S (Q false) (stripped x) ∷ S (Q false) (stripped y) ∷ S (Q false) (stripped z) ∷ []) (S (Q false) x ∷ S (Q false) y ∷ S (Q false) z ∷ []) = (first, (second, (third, tt))) in
-        subst (λ a. Fewer a (S program_place (Tree kind.Module (x ∷ y ∷ z ∷ []))))
-        (sym (ap (S program_place) (stripped_other kind.Module (x ∷ y ∷ z ∷ []) refl) ∙ out_step program_place (Tree kind.Module (stripped x ∷ stripped y ∷ stripped z ∷ [])) _ (outs-Tree kind.Module (stripped x ∷ stripped y ∷ stripped z ∷ []))))
-        (subst (Fewer (in_scope (Some scope.Program) (view_from kind.Module) (S (Q false) (stripped x) ∷ S (Q false) (stripped y) ∷ S (Q false) (stripped z) ∷ [])))
-        (sym (out_step program_place (Tree kind.Module (x ∷ y ∷ z ∷ [])) _ (outs-Tree kind.Module (x ∷ y ∷ z ∷ []))))
-        (in_scope_fewer (Some scope.Program) (view_from kind.Module) (S (Q false) (stripped x) ∷ S (Q false) (stripped y) ∷ S (Q false) (stripped z) ∷ []) (S (Q false) x ∷ S (Q false) y ∷ S (Q false) z ∷ []) three))
-    at _ ts c f b = absurd (cc)
+    at : (k : Kind) (ts : List Node) → IsTrue (belongs k class.Module) → FieldsFit (slots_of k) ts → P (Tree k ts)
+    at kind.Module [] c f = absurd f
+    at kind.Module (x ∷ []) c f = absurd f.1
+    at kind.Module (x ∷ y ∷ []) c f = absurd f.1.1
+    at kind.Module (x ∷ y ∷ z ∷ v ∷ ts) c f = absurd f.1.1.1
+    at kind.Module (x ∷ y ∷ z ∷ []) c f = each x y z f
+    at _ ts c f = absurd (cc)
+
+-- its fields, stripped
+three_fewer : (x y z : Node) → FieldsFit (slots_of kind.Module) (x ∷ y ∷ z ∷ []) → IsTrue (all_bare (Tree kind.Module (x ∷ y ∷ z ∷ [])))
+    → AllFewer (S (Q false) (stripped x) ∷ S (Q false) (stripped y) ∷ S (Q false) (stripped z) ∷ []) (S (Q false) x ∷ S (Q false) y ∷ S (Q false) z ∷ [])
+three_fewer x y z f b =
+    let k = both_are (all_bare x) (list_all all_bare (y ∷ z ∷ [])) (bare_below kind.Module (x ∷ y ∷ z ∷ []) b) in
+    let l = both_are (all_bare y) (list_all all_bare (z ∷ [])) k.1 in
+    let m = both_are (all_bare z) true l.1 in
+    let first = claim x standing.Plain standing.Plain false (slot.One content.Span) f.0 k.0 (λ e. absurd (cc)) (same_answers standing.Plain x refl) in
+    let second = claim y standing.Plain standing.Plain false (slot.List (content.Node class.ModuleItem)) f.1.0 l.0 (λ e. absurd (cc)) (same_answers standing.Plain y refl) in
+    let third = claim z standing.Plain standing.Plain false (slot.Optional content.Text) f.1.1.0 m.0 (λ e. absurd (cc)) (same_answers standing.Plain z refl) in
+    (first, (second, (third, tt)))
+
+fields_fewer_of : (x y z : Node) → FieldsFit (slots_of kind.Module) (x ∷ y ∷ z ∷ []) → IsTrue (all_bare (Tree kind.Module (x ∷ y ∷ z ∷ []))) → Fewer (S program_place (stripped (Tree kind.Module (x ∷ y ∷ z ∷ [])))) (S program_place (Tree kind.Module (x ∷ y ∷ z ∷ [])))
+fields_fewer_of x y z f b =
+    subst (λ a. Fewer a (S program_place (Tree kind.Module (x ∷ y ∷ z ∷ []))))
+    (sym (ap (S program_place) (stripped_other kind.Module (x ∷ y ∷ z ∷ []) refl) ∙ out_step program_place (Tree kind.Module (stripped x ∷ stripped y ∷ stripped z ∷ [])) _ (outs-Tree kind.Module (stripped x ∷ stripped y ∷ stripped z ∷ []))))
+    (subst (Fewer (in_scope (Some scope.Program) (view_from kind.Module) (S (Q false) (stripped x) ∷ S (Q false) (stripped y) ∷ S (Q false) (stripped z) ∷ [])))
+    (sym (out_step program_place (Tree kind.Module (x ∷ y ∷ z ∷ [])) _ (outs-Tree kind.Module (x ∷ y ∷ z ∷ []))))
+    (in_scope_fewer (Some scope.Program) (view_from kind.Module) (S (Q false) (stripped x) ∷ S (Q false) (stripped y) ∷ S (Q false) (stripped z) ∷ []) (S (Q false) x ∷ S (Q false) y ∷ S (Q false) z ∷ []) (three_fewer x y z f b)))
+
+pub module_fewer : (t : Node) → Fits t (one class.Module) → IsTrue (all_bare t) → Fewer (S program_place (stripped t)) (S program_place t)
+module_fewer = on_modules (λ t. IsTrue (all_bare t) → Fewer (S program_place (stripped t)) (S program_place t)) fields_fewer_of
+
+-- the program takes the same
+module_takes : (ts : List Node) → taken_at program_place (Tree kind.Module ts) ≡ taken_of scope.Program (view_from kind.Module) (each_in S (place_in program_place (Node-F.Tree kind.Module ts)) ts)
+module_takes ts =
+    ap (taken_in program_place (Tree kind.Module ts)) (ap (opened_in program_place) (outs-Tree kind.Module ts))
+    ∙ ap (λ y. taken_of scope.Program (view_in y) (each_in S (place_in program_place y) (children_in y))) (outs-Tree kind.Module ts)
+
+takes_same : (a b c d e f : Sites) → AllFewer (a ∷ b ∷ c ∷ []) (d ∷ e ∷ f ∷ []) → taken_of scope.Program (view_from kind.Module) (a ∷ b ∷ c ∷ []) ≡ taken_of scope.Program (view_from kind.Module) (d ∷ e ∷ f ∷ [])
+takes_same a b c d e f h = ap (filter (λ (b : Binding). takes b.0 scope.Program)) (
+    ap (λ p. p ++ (b.pending ++ (c.pending ++ []))) h.0.pending ∙ ap (λ p. d.pending ++ (p ++ (c.pending ++ []))) h.1.0.pending
+    ∙ ap (λ p. d.pending ++ (e.pending ++ (p ++ []))) h.1.1.0.pending)
+
+fields_take : (x y z : Node) → FieldsFit (slots_of kind.Module) (x ∷ y ∷ z ∷ []) → IsTrue (all_bare (Tree kind.Module (x ∷ y ∷ z ∷ []))) → taken_at program_place (stripped (Tree kind.Module (x ∷ y ∷ z ∷ []))) ≡ taken_at program_place (Tree kind.Module (x ∷ y ∷ z ∷ []))
+fields_take x y z f b =
+    ap (taken_at program_place) (stripped_other kind.Module (x ∷ y ∷ z ∷ []) refl) ∙ module_takes (stripped x ∷ stripped y ∷ stripped z ∷ [])
+    ∙ takes_same (S (Q false) (stripped x)) (S (Q false) (stripped y)) (S (Q false) (stripped z)) (S (Q false) x) (S (Q false) y) (S (Q false) z) (three_fewer x y z f b)
+    ∙ sym (module_takes (x ∷ y ∷ z ∷ []))
+
+pub stripped_takes : (t : Node) → Fits t (one class.Module) → IsTrue (all_bare t) → taken_at program_place (stripped t) ≡ taken_at program_place t
+stripped_takes = on_modules (λ t. IsTrue (all_bare t) → taken_at program_place (stripped t) ≡ taken_at program_place t) fields_take

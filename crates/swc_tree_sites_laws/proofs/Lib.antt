@@ -4,3 +4,4 @@ pub mod Parts
 pub mod StrippedFewer
 pub mod LeftStripped
 pub mod LeftIds
+pub mod LeftByIds

@@ -20,6 +20,14 @@ use Rattle.swc_tree_sites.specs.Smaller.{Fewer, IsLeftOf}
 abbrev pub StrippedHasFewer : Type 0
 StrippedHasFewer = (t : Node) → Fits t (slot.One (content.Node class.Module)) → IsTrue (all_bare t) → Fewer (sites_of program_place (stripped t)) (sites_of program_place t)
 
+-- ... and the program takes what it took
+abbrev pub StrippedTakesTheSame : Type 0
+StrippedTakesTheSame = (t : Node) → Fits t (slot.One (content.Node class.Module)) → IsTrue (all_bare t) → taken_at program_place (stripped t) ≡ taken_at program_place t
+
+-- what is left of a tree is left of it too where both are read by ids
+abbrev pub IdsAreLeft : Type 0
+IdsAreLeft = (n t : Node) → IsLeftOf n t → IsLeftOf (by_ids n) (by_ids t)
+
 -- A program, its answer with new texts, and the answer resolved; and what is left of each, with the same scopes in all
 -- three. Where the ids of the program capture none with their new texts, any two names of what is left have one id in
 -- what is left of the resolved answer exactly if they have one in what is left of the program.
