@@ -3,3 +3,5 @@ pub mod TwoBelow
 pub mod Modules
 pub mod Stays
 pub mod NewTexts
+pub mod Left
+pub mod Named

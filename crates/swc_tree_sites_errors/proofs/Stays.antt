@@ -50,11 +50,11 @@ of_set [] bs h = absurd h
 of_set (x ∷ xs) bs (inl e) = e
 of_set (x ∷ xs) bs (inr h) = absurd h
 
-set_there : (t : Node) (s : Path) (b : Binding) → In b (taken_by PP t s) → In (taken_by PP t s) (S PP t).sets
+pub set_there : (t : Node) (s : Path) (b : Binding) → In b (taken_by PP t s) → In (taken_by PP t s) (S PP t).sets
 set_there t s b h =
     subst (In (taken_by PP t s)) (sym (sets_are t PP)) (flat_to (λ s. set_of (taken_by PP t s)) (taken_by PP t s) s (all_paths t) (leads_in s PP t b h) (set_in b (taken_by PP t s) h))
 
-scope_there : (t : Node) (bs : List Binding) → In bs (S PP t).sets → (f : Path) × (taken_by PP t f ≡ bs)
+pub scope_there : (t : Node) (bs : List Binding) → In bs (S PP t).sets → (f : Path) × (taken_by PP t f ≡ bs)
 scope_there t bs h =
     let (f, i, g) = flat_from (λ s. set_of (taken_by PP t s)) bs (all_paths t) (subst (In bs) (sets_are t PP) h) in (f, of_set (taken_by PP t f) bs g)
 

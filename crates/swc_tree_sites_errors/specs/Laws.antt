@@ -1,13 +1,15 @@
 -- Which trees keep what is no early error of names.
-use Rattle.std.specs.Prelude.{◌≡◌, ℕ, IsTrue, List}
+use Rattle.std.specs.Prelude.{◌≡◌, ℕ, IsTrue, List, []}
 use Rattle.swc_tree_marks.specs.declared.ident.Ident.{Ident}
 use Rattle.swc_tree_node.specs.declared.node.Node.{Node}
 use Rattle.swc_tree_scoping.specs.declared.places.Standing.TheVariants as standing
 use Rattle.swc_tree_scoping.specs.Places.{program_place}
-use Rattle.swc_tree_scoping.specs.WellScoped.{IsClean, NoRedeclaration, is_module}
+use Rattle.swc_tree_scoping.specs.Declares.{Declares}
+use Rattle.swc_tree_scoping.specs.Readings.{with_identifiers}
+use Rattle.swc_tree_scoping.specs.WellScoped.{EachInOneScope, IsClean, IsDeclared, NoRedeclaration, is_module}
 use Rattle.swc_tree_renaming.specs.Apart.{CapturesNone, HasTexts, SameScopes}
 use Rattle.swc_tree_sites.specs.Sites.{Binding, Entry, sites_of, taken_at}
-use Rattle.swc_tree_sites.specs.Smaller.{In}
+use Rattle.swc_tree_sites.specs.Smaller.{In, IsLeftOf}
 
 -- each scope of the one takes what a scope of the other takes, so do the programs, and each variable of the one is a
 -- variable of the other, with the same round it
@@ -23,3 +25,32 @@ NoRedeclarationStays = (t n : Node) → IsTrue (is_module t) → IsTrue (is_modu
 -- ... nor in a module of the same shape whose new texts capture none
 abbrev pub NewTextsRedeclareNone : Type 0
 NewTextsRedeclareNone = (t n : Node) (text : List ℕ → List ℕ) → IsTrue (is_module t) → IsTrue (is_module n) → IsClean t → IsClean n → SameScopes t n → HasTexts t text n → CapturesNone t text → NoRedeclaration t → NoRedeclaration n
+
+-- what is declared in a module that keeps the scopes of another is declared in that one
+abbrev pub DeclaredStays : Type 0
+DeclaredStays = (t n : Node) → IsTrue (is_module t) → IsTrue (is_module n) → IsClean t → IsClean n → KeepsScopes n t → (x : List ℕ) → IsDeclared n x → IsDeclared t x
+
+-- a tree keeps the scopes of another where both are read by other names
+abbrev pub ReadingsKeepScopes : Type 0
+ReadingsKeepScopes = (f : Ident → Ident) (t n : Node) → KeepsScopes n t → KeepsScopes (with_identifiers f n) (with_identifiers f t)
+
+-- A module; what is left of it; the same with new texts, which capture none in the module; and an answer that keeps
+-- the scopes of that.
+pub record Answers (t a n answer : Node) (text : List ℕ → List ℕ) : Type 0 where
+  pub modules : IsTrue (is_module t) × IsTrue (is_module a) × IsTrue (is_module n) × IsTrue (is_module answer)
+  pub clean : IsClean t × IsClean a × IsClean n × IsClean answer
+  pub left : IsLeftOf a t
+  pub program : taken_at program_place a ≡ taken_at program_place t
+  pub one : EachInOneScope t
+  pub apart : CapturesNone t text
+  pub shape : SameScopes a n
+  pub texts : HasTexts a text n
+  pub keeps : KeepsScopes answer n
+
+-- such an answer declares no name against the rules, where the module declares none
+abbrev pub AnswerRedeclaresNone : Type 0
+AnswerRedeclaresNone = (t a n answer : Node) (text : List ℕ → List ℕ) → Answers t a n answer text → NoRedeclaration t → NoRedeclaration answer
+
+-- ... and what the module's program declares, the answer's does by its new text
+abbrev pub AnswerDeclares : Type 0
+AnswerDeclares = (t a n answer : Node) (text : List ℕ → List ℕ) → Answers t a n answer text → (x : List ℕ) → Declares t [] x → Declares answer [] (text x)

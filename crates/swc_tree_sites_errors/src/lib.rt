@@ -3,7 +3,7 @@
 //! `specs/Laws.antt` states the laws. Each is the contract of a function that does nothing, so that it is proved.
 #![tactic(auto)]
 
-ghost use Rattle.swc_tree_sites_errors.specs.Laws.{NewTextsRedeclareNone, NoRedeclarationStays};
+ghost use Rattle.swc_tree_sites_errors.specs.Laws.{AnswerDeclares, AnswerRedeclaresNone, DeclaredStays, NewTextsRedeclareNone, NoRedeclarationStays, ReadingsKeepScopes};
 
 /// Where no name of a module is declared against the rules, none is in a module that keeps its scopes.
 pub fn no_redeclaration_stays()
@@ -13,4 +13,25 @@ pub fn no_redeclaration_stays()
 /// Nor in a module of the same shape whose new texts capture none.
 pub fn new_texts_redeclare_none()
     ensures { NewTextsRedeclareNone }
+{}
+
+/// What is declared in a module that keeps the scopes of another is declared in that one.
+pub fn declared_stays()
+    ensures { DeclaredStays }
+{}
+
+/// A tree keeps the scopes of another where both are read by other names.
+pub fn readings_keep_scopes()
+    ensures { ReadingsKeepScopes }
+{}
+
+/// What is left of a module, with new texts that capture none, declares no name against the rules, where the module
+/// declares none; so does an answer that keeps its scopes.
+pub fn answer_redeclares_none()
+    ensures { AnswerRedeclaresNone }
+{}
+
+/// The program of such an answer declares what the module's does, by its new text.
+pub fn answer_declares()
+    ensures { AnswerDeclares }
 {}
