@@ -43,7 +43,7 @@ use Rattle.swc_tree_scoping.specs.declared.places.Standing.TheVariants as standi
 use Rattle.swc_tree_scoping.specs.declared.places.Scope.TheVariants as scope
 
 -- where the items of a module stand
-abbrev Top : Place
+abbrev pub Top : Place
 Top = P standing.Plain false
 
 abbrev referred : Ident → Site
@@ -83,12 +83,12 @@ filter_was i f (x ∷ xs) h = at (f x) h (filter_was i f xs)
     at true (inr g) rest = inr (rest g)
     at false g rest = inr (rest g)
 
-in_once : (i : Ident) (is : List Ident) → In i (each_once is) → In i is
+pub in_once : (i : Ident) (is : List Ident) → In i (each_once is) → In i is
 in_once i [] h = h
 in_once i (j ∷ is) (inl e) = inl e
 in_once i (j ∷ is) (inr h) = inr (in_once i is (filter_was i (λ k. not (same_id j k)) (each_once is) h))
 
-made_of : (i : Ident) (ids : List Id) → In i (map made ids) → (x : Id) × In x ids × (made x ≡ i)
+pub made_of : (i : Ident) (ids : List Id) → In i (map made ids) → (x : Id) × In x ids × (made x ≡ i)
 made_of i [] h = absurd h
 made_of i (x ∷ ids) (inl e) = (x, inl refl, e)
 made_of i (x ∷ ids) (inr h) = let (y, g, e) = made_of i ids h in (y, inr g, e)
@@ -146,11 +146,11 @@ held_exports d h = record {
     same (x ∷ l) = ap (λ l. x ∷ l) (same l)
 
 -- what is no exported declaration is not split
-abbrev is_export : Kind → Bool
+abbrev pub is_export : Kind → Bool
 is_export kind.ExportDecl = true
 is_export _ = false
 
-step_other : (k : Kind) (ts : List Node) → is_export k ≡ false → (l : Kind) × (us : List Node) × (written_step (Node-F.Tree k ts) ≡ Tree l us) × (is_export l ≡ false)
+pub step_other : (k : Kind) (ts : List Node) → is_export k ≡ false → (l : Kind) × (us : List Node) × (written_step (Node-F.Tree k ts) ≡ Tree l us) × (is_export l ≡ false)
 step_other kind.IfStmt (a ∷ b ∷ c ∷ d ∷ []) x = (_, _, refl, refl)
 step_other kind.ObjectLit (a ∷ b ∷ []) x = (_, _, refl, refl)
 step_other kind.AssignPatProp (a ∷ b ∷ c ∷ []) x = property_tree a b c (out-Node b)
@@ -175,7 +175,7 @@ step_other kind.NamedExport (a ∷ b ∷ c ∷ d ∷ []) x = (_, _, refl, refl)
 step_other kind.Module (a ∷ b ∷ c ∷ []) x = (_, _, refl, refl)
 step_other k ts x = (k, ts, rolls-Tree k ts, x)
 
-not_split : (l : Kind) (us : List Node) (t : Node) → is_export l ≡ false → split_in t (Node-F.Tree l us) ≡ t ∷ []
+pub not_split : (l : Kind) (us : List Node) (t : Node) → is_export l ≡ false → split_in t (Node-F.Tree l us) ≡ t ∷ []
 not_split kind.ExportDecl us t e = absurd (cc)
 not_split kind.Module us t e = refl
 not_split _ us t e = refl
@@ -238,7 +238,7 @@ items_held (t ∷ ts) f h =
 abbrev around : Sites → Sites
 around a = in_scope (Some scope.Program) (view_from kind.Module) (nothing ∷ a ∷ nothing ∷ [])
 
-abbrev taken : Sites → List Binding
+abbrev pub taken : Sites → List Binding
 taken a = taken_of scope.Program (view_from kind.Module) (nothing ∷ a ∷ nothing ∷ [])
 
 abbrev seen : Sites → List Site
@@ -302,7 +302,7 @@ module_sites x y z q r =
     out_step program_place (Tree kind.Module (x ∷ y ∷ z ∷ [])) _ (outs-Tree kind.Module (x ∷ y ∷ z ∷ []))
     ∙ ap (λ a. in_scope (Some scope.Program) (view_from kind.Module) (a ∷ S Top y ∷ S Top z ∷ [])) q ∙ ap (λ a. in_scope (Some scope.Program) (view_from kind.Module) (nothing ∷ S Top y ∷ a ∷ [])) r
 
-module_takes : (x y z : Node) → S Top x ≡ nothing → S Top z ≡ nothing → taken_at program_place (Tree kind.Module (x ∷ y ∷ z ∷ [])) ≡ taken (S Top y)
+pub module_takes : (x y z : Node) → S Top x ≡ nothing → S Top z ≡ nothing → taken_at program_place (Tree kind.Module (x ∷ y ∷ z ∷ [])) ≡ taken (S Top y)
 module_takes x y z q r =
     taken_out program_place (Tree kind.Module (x ∷ y ∷ z ∷ [])) _ (outs-Tree kind.Module (x ∷ y ∷ z ∷ []))
     ∙ ap (λ a. taken_of scope.Program (view_from kind.Module) (a ∷ S Top y ∷ S Top z ∷ [])) q ∙ ap (λ a. taken_of scope.Program (view_from kind.Module) (nothing ∷ S Top y ∷ a ∷ [])) r

@@ -1,0 +1,17 @@
+//! What becomes of the names that a module exports and declares.
+//!
+//! `specs/Exported.antt` says which these are; `specs/Laws.antt` states the laws. Each is the contract of a function that
+//! does nothing, so that it is proved.
+#![tactic(auto)]
+
+ghost use Rattle.swc_tree_exports_laws.specs.Laws.{StrippedExportsTheSame, WrittenOutExports};
+
+/// A stripped module exports the same.
+pub fn stripped_exports_the_same()
+    ensures { StrippedExportsTheSame }
+{}
+
+/// A module that is written out exports what it did, and else only what its program takes.
+pub fn written_out_exports()
+    ensures { WrittenOutExports }
+{}
