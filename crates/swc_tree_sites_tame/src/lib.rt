@@ -1,0 +1,16 @@
+//! A module that can be written down is tame once it is stripped, so its normal form is left of it.
+//!
+//! `specs/Laws.antt` states the laws. Each is the contract of a function that does nothing, so that it is proved.
+#![tactic(auto)]
+
+ghost use Rattle.swc_tree_sites_tame.specs.Laws.{WritableModulesAreTame, WritableNormalFormIsLeft};
+
+/// A module that can be written down is tame once it is stripped.
+pub fn writable_modules_are_tame()
+    ensures { WritableModulesAreTame }
+{}
+
+/// The normal form of a module that can be written down is left of the module.
+pub fn writable_normal_form_is_left()
+    ensures { WritableNormalFormIsLeft }
+{}
