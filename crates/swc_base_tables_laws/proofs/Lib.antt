@@ -12,3 +12,4 @@ pub mod Steps
 pub mod Imported
 pub mod Imports
 pub mod ImportsLaw
+pub mod BodiesLaw
