@@ -1,4 +1,4 @@
-mod Same
+pub mod Same
 mod Lists
 mod Fitting
 mod ExportLists
