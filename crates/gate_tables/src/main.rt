@@ -1,15 +1,19 @@
-//! What the gate asks of the tables: helpers, features of versions, assumptions and native names. It goes over rows of three
+//! What the gate asks of the tables: helpers, also in programs, features of versions, assumptions and native names. It goes over rows of three
 //! lines from standard input, as `gate_replay` does, which would take too long with these as well.
 #![tactic(auto)]
 
 mod helpers;
+mod injection;
 mod settings;
 
 use anyhow::{Result, bail};
 use std::alloc::Global;
 
 fn answer(alloc: Global, words: &str, input: &str) -> Option<String> {
-    match helpers::answer(alloc, words, input) {
+    if let Some(answer) = helpers::answer(alloc, words, input) {
+        return Some(answer);
+    }
+    match injection::answer(alloc, words, input) {
         Some(answer) => Some(answer),
         None => settings::answer(alloc, words, input),
     }

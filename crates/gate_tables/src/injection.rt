@@ -1,0 +1,163 @@
+//! Rows of helpers that are brought into programs. The input is an envelope, and behind a tab, where helpers are written out, the
+//! envelope of a script that is the body of the helper `throw`. The helper mark is 7, and the global mark is the unresolved one.
+ghost use Rattle.swc_tree_node.specs.declared.slot.Slot.TheVariants.{One};
+ghost use Rattle.swc_tree_node.specs.declared.slot.Content.TheVariants.{Node as Of};
+ghost use Rattle.swc_tree_node.specs.Fits.{Fits};
+ghost use Rattle.std.specs.Prelude.{IfOk};
+
+use jsbase_reader::{Envelope, read_bytes};
+use jsbase_writer::{write, write_envelope};
+use std::alloc::Global;
+use swc_base_rename::hygiene;
+use swc_base_tables::{
+    Helper, HelperBodies, Helpers, InjectHelpers, helper, helper_expr, inject_helpers,
+};
+use swc_tree::{DUMMY_SP, Globals, JsPass, Mark, Module, Opened, PassError, Script, Trees, class};
+use swc_tree_node::{Class, Node};
+
+// Helpers with the mark 7, `throw` among them.
+fn helpers(alloc: Global, external: bool) -> Option<Helpers> {
+    let mut globals = Globals::from_table(alloc, &[(6, 0)]).ok()?;
+    let mut helpers = Helpers::new(&mut globals, external).ok()?;
+    helpers.enable(throw()?);
+    Some(helpers)
+}
+
+fn throw() -> Option<Helper> {
+    for helper in Helper::all() {
+        if helper.name() == "throw" {
+            return Some(helper);
+        }
+    }
+    None
+}
+
+fn read(alloc: Global, class: Class, text: &str) -> Option<Envelope> {
+    read_bytes(alloc, class, text.as_bytes()).ok()
+}
+
+// The statements of the script that an envelope holds.
+fn statements(alloc: Global, text: &str) -> Option<Trees<class::Stmt>> {
+    let Envelope { tree, .. } = read(alloc, Class::Script, text)?;
+    let script = Script::from_node(tree);
+    Some(script.body)
+}
+
+fn bodies(alloc: Global, text: Option<&str>) -> Option<HelperBodies> {
+    let mut bodies = HelperBodies::new(alloc);
+    if let Some(text) = text {
+        bodies.insert(throw()?, statements(alloc, text)?).ok()?;
+    }
+    Some(bodies)
+}
+
+// What is run on a program once its helpers are in it.
+#[derive(Clone, Copy)]
+enum Then {
+    Nothing,
+    Hygiene,
+    InjectionAgain,
+}
+
+fn run<P: JsPass>(
+    alloc: Global,
+    pass: &mut P,
+    globals: &mut Globals,
+    class: Class,
+    tree: Node,
+) -> Result<Node, PassError>
+    requires { Fits tree (One (Of class)) }
+    ensures { IfOk result (λ answer. Fits answer (One (Of class))) }
+{
+    match class {
+        Class::Module => {
+            let module = pass.fold_module(alloc, globals, Module::from_node(tree))?;
+            Ok(module.into_node(alloc)?)
+        }
+        Class::Script => {
+            let mut script = Script::from_node(tree);
+            pass.visit_mut_script(alloc, globals, &mut script)?;
+            Ok(script.into_node(alloc)?)
+        }
+        _ => Ok(tree),
+    }
+}
+
+// The program of an input, with the helper in it.
+fn injected(
+    alloc: Global,
+    class: Class,
+    external: bool,
+    then: Then,
+    input: &str,
+) -> Option<String> {
+    let (program, body) = match input.split_once('\t') {
+        Some((program, body)) => (program, Some(body)),
+        None => (input, None),
+    };
+    let envelope = read(alloc, class, program)?;
+    let helpers = helpers(alloc, external)?;
+    let bodies = bodies(alloc, body)?;
+    if !helpers.external() && !bodies.covers(&helpers) {
+        return None;
+    }
+    if envelope.unresolved == Mark::root() {
+        return None;
+    }
+    let mut pass = inject_helpers(envelope.unresolved, &helpers, bodies);
+    let Envelope {
+        mut globals,
+        unresolved,
+        top,
+        tree,
+        ..
+    } = envelope;
+    let tree = run(alloc, &mut pass, &mut globals, class, tree).ok()?;
+    let tree = match then {
+        Then::Nothing => tree,
+        Then::Hygiene => run(alloc, &mut hygiene(), &mut globals, class, tree).ok()?,
+        Then::InjectionAgain => run(alloc, &mut pass, &mut globals, class, tree).ok()?,
+    };
+    let text = write_envelope(alloc, &globals, top, &tree, unresolved).ok()?;
+    String::from_str(alloc, text.as_str().trim_end()).ok()
+}
+
+// The name of `throw` as an expression and as what is called, and whether it is enabled then, on a table with the one mark 1.
+fn names(alloc: Global) -> Option<String> {
+    let mut globals = Globals::from_table(alloc, &[(1, 0)]).ok()?;
+    let second = Mark::new(&mut globals).ok()?.as_u32();
+    let mut helpers = Helpers::new(&mut globals, true).ok()?;
+    let expr = helper_expr(alloc, &mut helpers, DUMMY_SP, throw()?).ok()?;
+    let called = helper(alloc, &mut helpers, DUMMY_SP, throw()?).ok()?;
+    let expr = write(alloc, &expr.into_node(alloc).ok()?).ok()?;
+    let called = write(alloc, &called.into_node(alloc).ok()?).ok()?;
+    let is_enabled = helpers.is_enabled(throw()?);
+    let mark = helpers.mark().as_u32();
+    format!(in alloc; "{second} {mark} {expr} {called} {is_enabled}").ok()
+}
+
+/// What is answered to words about helpers in programs.
+pub fn answer(alloc: Global, words: &str, input: &str) -> Option<String> {
+    match words {
+        "helper names" => names(alloc),
+        "helper of a package in a module" => {
+            injected(alloc, Class::Module, true, Then::Nothing, input)
+        }
+        "helper of a package in a script" => {
+            injected(alloc, Class::Script, true, Then::Nothing, input)
+        }
+        "helper written out in a module" => {
+            injected(alloc, Class::Module, false, Then::Nothing, input)
+        }
+        "helper written out in a script" => {
+            injected(alloc, Class::Script, false, Then::Nothing, input)
+        }
+        "helper written out, then hygiene" => {
+            injected(alloc, Class::Module, false, Then::Hygiene, input)
+        }
+        "helper written out, then injection again" => {
+            injected(alloc, Class::Module, false, Then::InjectionAgain, input)
+        }
+        _ => None,
+    }
+}

@@ -1,0 +1,2 @@
+pub mod Helpers
+pub mod Visits
