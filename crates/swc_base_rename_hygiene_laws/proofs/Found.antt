@@ -1,5 +1,5 @@
 -- Where the ids stand that a declaration declares: as bindings, with no scope on the way to them.
-use Rattle.std.proofs.Common.{◌≡◌, ℕ, zero, suc, Bool, true, false, ◌&&◌, Some, List, [], ◌∷◌, ◌++◌, map, refl, sym, ap, ◌∙◌, subst}
+use Rattle.std.proofs.Common.{◌≡◌, ℕ, zero, suc, Bool, true, false, ◌&&◌, Some, None, List, [], ◌∷◌, ◌++◌, map, refl, sym, ap, ◌∙◌, subst}
 use Rattle.std.specs.Prelude.{slice_get, if◌then◌else◌}
 use Rattle.std.specs.List.{flat_map}
 use Rattle.swc_tree_marks.specs.declared.ident.Ident.{Ident}
@@ -15,11 +15,11 @@ use Rattle.swc_tree_node.specs.declared.node.Node.TheOpen.{Node-F}
 use Rattle.swc_tree_scoping.specs.declared.places.Standing.{Standing}
 use Rattle.swc_tree_scoping.specs.declared.places.Standing.TheVariants as standing
 use Rattle.swc_tree_scoping.specs.declared.places.Place.{Place}
-use Rattle.swc_tree_scoping.specs.Places.{Path, binds_patterns, by_keyword, by_word, child, children_in, field_role, given, is_expression_in, keyword_in, part_standing, place_at, place_below, place_in, standing_below}
-use Rattle.swc_tree_scoping.specs.Scopes.{is_binding}
+use Rattle.swc_tree_scoping.specs.Places.{Path, binds_patterns, by_keyword, by_word, child, children_in, field_role, given, has_own_name, is_expression_in, keyword_in, opened, opened_as, opened_in, part_standing, place_at, place_below, place_in, standing_below, view_from}
+use Rattle.swc_tree_scoping.specs.Scopes.{is_binding, rounds, seen_as, view_in}
 use Rattle.swc_tree_scoping.specs.BoundNames.{Id, own_id, in_part, in_parts, bound_ids, name_in}
 use Rattle.swc_tree_scoping.proofs.BoundNames.{bound-Absent, bound-Flag, bound-Word, bound-Text, bound-Span, bound-Identifier, bound-List, bound-Tree}
-use Rattle.swc_tree_scoping.proofs.Under.{place_under}
+use Rattle.swc_tree_scoping.proofs.Under.{lower, place_under}
 use Rattle.swc_tree_grammar.proofs.Induction.{Each, by_children}
 use Rattle.swc_base_rename_analysis.specs.Analysis.{Around, is_for_body, opened_round, scopes_below}
 use Rattle.swc_base_rename_laws.proofs.Impossible.{impossible}
@@ -36,6 +36,7 @@ pub record Found (w : Place) (t : Node) (x : Id) : Type 0 where
   pub same : (name.sym, name.ctxt) ≡ x
   pub binding : is_binding place.standing ≡ true
   pub alone : scopes_below false w t path ≡ []
+  pub inside : rounds w t path ≡ []
 
 abbrev pub AllOf : (Id → Type 0) → List Id → Type 0
 AllOf P [] = Unit {0}
@@ -53,8 +54,9 @@ abbrev pub lift : ℕ → Around → Around
 lift i s = (i ∷ s.0, s.1)
 
 -- what is below a child is below the node
-pub under : (w : Place) (t : Node) (i : ℕ) (c : Node) (x : Id) → child t i ≡ Some c → is_for_body (out-Node t) i ≡ false → opened_round false w (out-Node t) i ≡ [] → Found (place_below w t i) c x → Found w t x
-under w t i c x e body opens f = record {
+pub under : (w : Place) (t : Node) (i : ℕ) (c : Node) (x : Id) → child t i ≡ Some c → is_for_body (out-Node t) i ≡ false → opened_round false w (out-Node t) i ≡ [] → seen_as (opened w t) (view_in (out-Node t) i) ≡ []
+    → Found (place_below w t i) c x → Found w t x
+under w t i c x e body opens seen f = record {
   path = i ∷ f.path;
   place = f.place;
   node = f.node;
@@ -67,6 +69,9 @@ under w t i c x e body opens f = record {
       ∙ ap (λ b. map (lift i) (scopes_below b (place_below w t i) c f.path) ++ opened_round false w (out-Node t) i) body
       ∙ ap (λ l. map (lift i) l ++ opened_round false w (out-Node t) i) f.alone
       ∙ opens;
+  inside = ap (λ o. map (lower i) (given o [] (λ c. rounds (place_below w t i) c f.path)) ++ seen_as (opened w t) (view_in (out-Node t) i)) e
+      ∙ ap (λ l. map (lower i) l ++ seen_as (opened w t) (view_in (out-Node t) i)) f.inside
+      ∙ seen;
 }
 
 -- ---- places
@@ -149,6 +154,24 @@ opens_none kind.KeyValuePatProp h w ts i = refl
 opens_none kind.ExportNamedSpecifier h w ts i = refl
 opens_none k h w ts i = impossible h
 
+-- ... nor one of the language
+no_scope : (k : Kind) → binds k ≡ true → (w : Place) (ts : List Node) → opened_as w k (has_own_name ts) ≡ None
+no_scope kind.VarDecl h w ts = refl
+no_scope kind.UsingDecl h w ts = refl
+no_scope kind.VarDeclarator h w ts = refl
+no_scope kind.ArrayPat h w ts = refl
+no_scope kind.ObjectPat h w ts = refl
+no_scope kind.RestPat h w ts = refl
+no_scope kind.AssignPat h w ts = refl
+no_scope kind.AssignPatProp h w ts = refl
+no_scope kind.KeyValuePatProp h w ts = refl
+no_scope kind.ExportNamedSpecifier h w ts = refl
+no_scope k h w ts = impossible h
+
+-- where a node opens no scope, none is seen from its fields
+pub none_seen : (w : Place) (k : Kind) (ts : List Node) (i : ℕ) → opened_as w k (has_own_name ts) ≡ None → seen_as (opened w (Tree k ts)) (view_in (out-Node (Tree k ts)) i) ≡ []
+none_seen w k ts i e = ap (λ y. seen_as (opened_in w y) (view_in y i)) (outs-Tree k ts) ∙ ap (λ o. seen_as o (view_from k i)) e
+
 no_body : (k : Kind) → binds k ≡ true → (ts : List Node) (i : ℕ) → is_for_body (Node-F.Tree k ts) i ≡ false
 no_body kind.VarDecl h ts i = refl
 no_body kind.UsingDecl h ts i = refl
@@ -170,7 +193,7 @@ module _ (w : Place) (k : Kind) (ts : List Node) (h : binds k ≡ true) where
   stands_as i = ap (λ y. (place_in w y i).standing) (outs-Tree k ts)
 
   below : (i : ℕ) (c : Node) (x : Id) → slice_get ts i ≡ Some c → Found (place_below w (Tree k ts) i) c x → Found w (Tree k ts) x
-  below i c x e f = under w (Tree k ts) i c x (child_is i c e) (ap (λ y. is_for_body y i) (outs-Tree k ts) ∙ no_body k h ts i) (ap (λ y. opened_round false w y i) (outs-Tree k ts) ∙ opens_none k h w ts i) f
+  below i c x e f = under w (Tree k ts) i c x (child_is i c e) (ap (λ y. is_for_body y i) (outs-Tree k ts) ∙ no_body k h ts i) (ap (λ y. opened_round false w y i) (outs-Tree k ts) ∙ opens_none k h w ts i) (none_seen w k ts i (no_scope k h w ts)) f
 
   field_found : (i : ℕ) (c : Node) → slice_get ts i ≡ Some c → (field_role k i ≡ role.Inherited → binds_patterns w.standing ≡ true) → Patterns c → AllOf (Found (place_below w (Tree k ts) i) c) (in_part (field_role k i) (bound_ids c))
   field_found i c e inherits p =
@@ -185,12 +208,12 @@ module _ (w : Place) (k : Kind) (ts : List Node) (h : binds k ≡ true) where
       (all_parts (Found w (Tree k ts)) (field_role k) ts (λ i c e. all_map (λ x f. below i c x e f) (in_part (field_role k i) (bound_ids c)) (field_found i c e (inherits i) (each_at Patterns ts l i c e))))
 
 name_found : (k : Kind) (i : Ident) (w : Place) → binds_patterns w.standing ≡ true → AllOf (Found w (Identifier k i)) (own_id k i)
-name_found kind.BindingIdent i w h = (record { path = []; place = w; node = Identifier kind.BindingIdent i; there = refl; name = i; named = ap name_in (outs-Identifier kind.BindingIdent i); same = refl; binding = pattern_binding w.standing h; alone = refl }, tt)
+name_found kind.BindingIdent i w h = (record { path = []; place = w; node = Identifier kind.BindingIdent i; there = refl; name = i; named = ap name_in (outs-Identifier kind.BindingIdent i); same = refl; binding = pattern_binding w.standing h; alone = refl; inside = refl }, tt)
 name_found k i w h = tt
 
 list_found : (ts : List Node) → Each Patterns ts → Patterns (Many ts)
 list_found ts l w h = subst (AllOf (Found w (Many ts))) (sym (bound-List ts))
-    (all_items (Found w (Many ts)) ts (λ i c e. all_map (λ x f. under w (Many ts) i c x (ap (λ y. slice_get (children_in y) i) (outs-List ts) ∙ e) (ap (λ y. is_for_body y i) (outs-List ts)) (ap (λ y. opened_round false w y i) (outs-List ts)) f) (bound_ids c)
+    (all_items (Found w (Many ts)) ts (λ i c e. all_map (λ x f. under w (Many ts) i c x (ap (λ y. slice_get (children_in y) i) (outs-List ts) ∙ e) (ap (λ y. is_for_body y i) (outs-List ts)) (ap (λ y. opened_round false w y i) (outs-List ts)) (ap (λ y. seen_as (opened_in w y) (view_in y i)) (outs-List ts)) f) (bound_ids c)
     (part_found (place_below w (Many ts) i) w.standing c h (ap (λ y. (place_in w y i).standing) (outs-List ts) ∙ ap (part_standing w.standing) e) (each_at Patterns ts l i c e))))
 
 pattern_tree : (b : Bool) (k : Kind) (ts : List Node) → binds k ≡ b → Each Patterns ts → Patterns (Tree k ts)

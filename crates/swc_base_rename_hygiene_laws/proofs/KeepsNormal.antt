@@ -57,7 +57,7 @@ use Rattle.swc_base_rename_hygiene_laws.proofs.BindableNames.{all_bindable, decl
 use Rattle.swc_base_rename_hygiene_laws.proofs.Declared.{declared_there}
 use Rattle.swc_base_rename_hygiene_laws.proofs.ExportsApart.{ApartIfKept, exports_apart}
 use Rattle.swc_base_rename_hygiene_laws.proofs.Found.{AllOf, Found}
-use Rattle.swc_base_rename_hygiene_laws.proofs.TopDeclared.{decl_found, decl_place, top_found}
+use Rattle.swc_base_rename_hygiene_laws.proofs.TopDeclared.{decl_found, decl_place, no_own_block, top_found}
 
 left : (a b : Bool) → (a && b) ≡ true → a ≡ true
 left true b h = refl
@@ -67,7 +67,7 @@ right : (a b : Bool) → (a && b) ≡ true → b ≡ true
 right true b h = h
 right false b h = absurd (cc)
 
-both_true : {a b : Bool} → a ≡ true → b ≡ true → (a && b) ≡ true
+pub both_true : {a b : Bool} → a ≡ true → b ≡ true → (a && b) ≡ true
 both_true {a = true} h g = g
 both_true {a = false} h g = absurd (cc)
 
@@ -75,16 +75,16 @@ neither : (a b : Bool) → (a || b) ≡ false → (a ≡ false) × (b ≡ false)
 neither true b h = absurd (cc)
 neither false b h = (refl, h)
 
-each_from : (P : Node → Type 0) (ts : List Node) → ((i : ℕ) (t : Node) → slice_get ts i ≡ Some t → P t) → Each P ts
+pub each_from : (P : Node → Type 0) (ts : List Node) → ((i : ℕ) (t : Node) → slice_get ts i ≡ Some t → P t) → Each P ts
 each_from P [] h = tt
 each_from P (t ∷ ts) h = (h 0 t refl, each_from P ts (λ i u e. h (suc i) u e))
 
-fit_at : (s : Slot) (ts : List Node) → AllFit s ts → (i : ℕ) (t : Node) → slice_get ts i ≡ Some t → Fits t s
+pub fit_at : (s : Slot) (ts : List Node) → AllFit s ts → (i : ℕ) (t : Node) → slice_get ts i ≡ Some t → Fits t s
 fit_at s [] f i t e = absurd (cc)
 fit_at s (u ∷ ts) f zero t e = let same : u ≡ t = cc in subst (λ t. Fits t s) same f.0
 fit_at s (u ∷ ts) f (suc i) t e = fit_at s ts f.1 i t e
 
-sound_at : (r : Round) (ts : List Node) → all_sound (map of ts) r ≡ true → (i : ℕ) (t : Node) → slice_get ts i ≡ Some t → sound t r ≡ true
+pub sound_at : (r : Round) (ts : List Node) → all_sound (map of ts) r ≡ true → (i : ℕ) (t : Node) → slice_get ts i ≡ Some t → sound t r ≡ true
 sound_at r [] h i t e = absurd (cc)
 sound_at r (u ∷ ts) h zero t e = let same : u ≡ t = cc in subst (λ t. sound t r ≡ true) same (right _ _ (left _ _ h))
 sound_at r (u ∷ ts) h (suc i) t e = sound_at r ts (right _ _ h) i t e
@@ -169,7 +169,7 @@ module _ (a : Node) (ts : List Node) (c : Node) where
         let x = tree_only class.Decl refl refl d there.fields.1.0 in
         let inside : sound d strict ≡ true = right (not (is_using d)) _ (sym (sound_tree kind.ExportDecl (b ∷ d ∷ []) strict) ∙ s) in
         let bindable : all_bindable (declared_ids d) ≡ true = ap (λ t. all_bindable (declared_ids t)) x.2 ∙ declared_bindable x.0 x.1 x.5 (ap (λ t. sound t strict) (sym x.2) ∙ inside) in
-        let found : AllOf (Found (decl_place a ts c n b d) d) (declared_ids d) = subst (λ t. AllOf (Found (decl_place a ts c n b d) t) (declared_ids t)) (sym x.2) (decl_found x.0 x.1 x.4 (decl_place a ts c n b d)) in
+        let found : AllOf (Found (decl_place a ts c n b d) d) (declared_ids d) = subst (λ t. AllOf (Found (decl_place a ts c n b d) t) (declared_ids t)) (sym x.2) (decl_found x.0 x.1 x.4 (decl_place a ts c n b d) (no_own_block a ts c n b d)) in
         subst (λ ids. AreApart (map made ids)) (sym same) (apart (declared_ids d) (tops n b d e (declared_ids d) found bindable (sym (ap (list_any changes) same) ∙ k)))
 
     each_apart : AllFit (slot.One (content.Node class.ModuleItem)) ts → all_sound (map of ts) strict ≡ true → Each (ApartIfKept m) ts
@@ -217,7 +217,7 @@ module _ (a : Node) (ts : List Node) (c : Node) where
 
 -- ---- the law
 
-items_sound : (a : Node) (ts : List Node) (c : Node) → sound (Tree kind.Module (a ∷ Many ts ∷ c ∷ [])) (record { strict = false; assigned = false }) ≡ true → all_sound (map of ts) strict ≡ true
+pub items_sound : (a : Node) (ts : List Node) (c : Node) → sound (Tree kind.Module (a ∷ Many ts ∷ c ∷ [])) (record { strict = false; assigned = false }) ≡ true → all_sound (map of ts) strict ≡ true
 items_sound a ts c h = sym (sound_list ts strict) ∙ sym (sound_tree kind.Module (a ∷ Many ts ∷ c ∷ []) (record { strict = false; assigned = false })) ∙ h
 
 abbrev Texts : Node → (Id → Option (List ℕ)) → Type 0

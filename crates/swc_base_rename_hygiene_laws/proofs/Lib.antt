@@ -3,8 +3,8 @@ mod Changed
 mod Declared
 mod Apart
 mod BindableNames
-mod Found
-mod TopDeclared
-mod ExportsApart
+pub mod Found
+pub mod TopDeclared
+pub mod ExportsApart
 pub mod KeepsNormal
 pub mod StaysWritable

@@ -42,7 +42,7 @@ module _ (t u : Node) (g : Resolving t u) where
       let is : name_of x (contexts t u g b.path) ≡ id_name i = ap (name_of x) (bound_mark t u g s r x b) ∙ sym name in
       f.undeclared (b.path, r, record { at = subst (λ n. Stands (by_ids u) b.path r n) is st; binds = taken_bound t u g r b.path s b.taken })
 
-  free_context : (i : Ident) → IsFree u i → i.ctxt ≡ g.unresolved ∷ []
+  pub free_context : (i : Ident) → IsFree u i → i.ctxt ≡ g.unresolved ∷ []
   free_context i f =
       let (m, means, its) = reference_context t u g f.path f.place.standing x (stands_back t u g f.path f.place.standing (id_name i) (free_stands i f)) f.refers in
       at m means its

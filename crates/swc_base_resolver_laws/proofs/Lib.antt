@@ -1,11 +1,11 @@
-mod Same
-mod Lists
-mod Fitting
-mod ExportLists
-mod Names
-mod Declared
-mod OneScope
-mod FreeIds
-mod Exported
-mod Redeclared
+pub mod Same
+pub mod Lists
+pub mod Fitting
+pub mod ExportLists
+pub mod Names
+pub mod Declared
+pub mod OneScope
+pub mod FreeIds
+pub mod Exported
+pub mod Redeclared
 pub mod Whole

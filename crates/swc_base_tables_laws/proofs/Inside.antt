@@ -1,0 +1,158 @@
+-- A tree that stands inside another: its paths become paths there, with the same names at them and the same scopes round them.
+use Rattle.std.proofs.Common.{◌≡◌, ◌≢◌, ℕ, Bool, true, false, inl, inr, ⊎_elim, IsTrue, Option, Some, None, List, [], ◌∷◌, Contains, map, refl, sym, ap, ◌∙◌, subst, cond}
+use Rattle.std.specs.Option.{option_map}
+use Rattle.swc_tree_marks.specs.declared.ident.Ident.{Ident}
+use Rattle.swc_tree_node.specs.declared.kind.Kind.{Kind}
+use Rattle.swc_tree_node.specs.declared.node.Node.{Node, Identifier}
+use Rattle.swc_tree_scoping.specs.declared.places.Standing.{Standing}
+use Rattle.swc_tree_scoping.specs.declared.places.Standing.TheVariants as standing
+use Rattle.swc_tree_scoping.specs.declared.places.Place.{Place}
+use Rattle.swc_tree_scoping.specs.Places.{Path, program_place, place_at}
+use Rattle.swc_tree_scoping.specs.Scopes.{Round, rounds, scope_at, is_taken, taker, first_that, is_binding}
+use Rattle.swc_tree_scoping.specs.Declares.{Bound, DeclaredBy, DeclaresFor, PassesNone}
+use Rattle.swc_tree_scoping.specs.WellScoped.{Stands, Binds, InExportList, InRegion, IsArrowOrMethod, IsClean}
+use Rattle.swc_tree_renaming.specs.Apart.{HasNoSloppy}
+use Rattle.swc_tree_renaming.proofs.Core.{cases_in, first_in, head_in, none_in, tail_in, taken_binds}
+
+abbrev pub moved : (Path → Path) → Round → Round
+moved f s = (f s.0, s.1)
+
+pub record Inside (t u : Node) (f : Path → Path) (In : Path → Type 0) : Type 0 where
+  pub placed : (p : Path) (w : Place) (k : Kind) (i : Ident) → place_at program_place t p ≡ Some (w, Identifier k i) → In p
+  pub kept : (p : Path) (w : Place) (k : Kind) (i : Ident) → place_at program_place t p ≡ Some (w, Identifier k i) → place_at program_place u (f p) ≡ Some (w, Identifier k i)
+  pub rounds_kept : (p : Path) → In p → rounds program_place u (f p) ≡ map (moved f) (rounds program_place t p)
+  pub scopes_kept : (p : Path) → In p → scope_at program_place u (f p) ≡ scope_at program_place t p
+  pub round_in : (p : Path) (s : Round) → In p → Contains (rounds program_place t p) s → In s.0
+  pub one : (p q : Path) → In p → In q → f p ≡ f q → p ≡ q
+  pub top : f [] ≡ []
+  pub root : In []
+  pub listed : (p : Path) → In p → InExportList u (f p) → InExportList t p
+  pub arrows : (p : Path) → In p → IsArrowOrMethod u (f p) → IsArrowOrMethod t p
+
+pub some_same : {X : Type 0} (a b : X) → Some a ≡ Some b → a ≡ b
+some_same a b e = cc
+
+-- what is first in one list is first in the other
+first_moved : (f : Path → Path) (F G : Round → Bool) (ss : List Round) → ((s : Round) → Contains ss s → F (moved f s) ≡ G s) → first_that F (map (moved f) ss) ≡ option_map f (first_that G ss)
+first_moved f F G [] h = refl
+first_moved f F G (s ∷ ss) h =
+    ap (λ b. cond b (Some (f s.0)) (first_that F (map (moved f) ss))) (h s (head_in s ss))
+    ∙ next (G s) (first_moved f F G ss (λ z there. h z (tail_in s z ss there)))
+  where
+    next : (b : Bool) → first_that F (map (moved f) ss) ≡ option_map f (first_that G ss) → cond b (Some (f s.0)) (first_that F (map (moved f) ss)) ≡ option_map f (cond b (Some s.0) (first_that G ss))
+    next true e = refl
+    next false e = e
+
+moved_in : (f : Path → Path) (ss : List Round) (s : Round) → Contains ss s → Contains (map (moved f) ss) (moved f s)
+moved_in f [] s h = absurd (none_in s h)
+moved_in f (z ∷ zs) s h = ⊎_elim
+    (λ (is : z ≡ s). subst (λ s. Contains (map (moved f) (z ∷ zs)) (moved f s)) is (head_in (moved f z) (map (moved f) zs)))
+    (λ later. tail_in (moved f z) (moved f s) (map (moved f) zs) (moved_in f zs s later))
+    (cases_in z s zs h)
+
+-- without plain functions in blocks of sloppy code, the scope that declares a binding is the one that takes it
+pub as_declared : (a : Node) (r : Standing) (p s : Path) (x : List ℕ) → r ≢ standing.SloppyFunction → taker r a p ≡ Some s → DeclaredBy a p r x s
+as_declared a standing.SloppyFunction p s x n h = absurd (n refl)
+as_declared a _ p s x n h = h
+
+pub as_taken : (a : Node) (r : Standing) (p s : Path) (x : List ℕ) → r ≢ standing.SloppyFunction → DeclaredBy a p r x s → taker r a p ≡ Some s
+as_taken a standing.SloppyFunction p s x n h = absurd (n refl)
+as_taken a _ p s x n h = h
+
+pub not_sloppy : (a : Node) → HasNoSloppy a → (p : Path) (r : Standing) (x : List ℕ) → Stands a p r x → r ≢ standing.SloppyFunction
+not_sloppy a settled p r x s e = settled p s.place s.kind s.identifier s.stands (s.stands_so ∙ e)
+
+abbrev pub stands_of : (t : Node) (s : Path) (r : Standing) (x : List ℕ) (b : Bound t s r x) → Stands t b.path r x
+stands_of t s r x b = record { place = b.place; kind = b.kind; identifier = b.identifier; stands = b.stands; stands_so = b.stands_so; named = b.named }
+
+abbrev pub bound_by : (t : Node) → IsClean t → (p s : Path) (r : Standing) (x : List ℕ) → Stands t p r x → taker r t p ≡ Some s → Bound t s r x
+bound_by t clean p s r x st e = record {
+  path = p;
+  place = st.place;
+  kind = st.kind;
+  identifier = st.identifier;
+  stands = st.stands;
+  stands_so = st.stands_so;
+  named = st.named;
+  unmarked = clean p st.place st.kind st.identifier st.stands;
+  taken = e;
+}
+
+pub binding_at : (t : Node) (r : Standing) (p s : Path) → taker r t p ≡ Some s → IsTrue (is_binding r)
+binding_at t r p s e = let (whole, there, h) = first_in (λ s. is_taken r (scope_at program_place t s.0)) (rounds program_place t p) s e in taken_binds r (scope_at program_place t s) h
+
+-- all bindings of the name stand in the tree that is inside
+abbrev pub AllInside : Node → Node → (Path → Path) → List ℕ → Type 0
+AllInside t u f x = (p : Path) (r : Standing) → Binds u p r x → (q : Path) × (p ≡ f q) × Stands t q r x
+
+module _ (t u : Node) (f : Path → Path) (In : Path → Type 0) (inside : Inside t u f In) (clean : IsClean t) (clean_too : IsClean u) (settled : HasNoSloppy t) where
+  pub in_tree : (p : Path) (r : Standing) (x : List ℕ) → Stands t p r x → In p
+  in_tree p r x s = inside.placed p s.place s.kind s.identifier s.stands
+
+  pub taker_in : (p s : Path) (r : Standing) → In p → taker r t p ≡ Some s → In s
+  taker_in p s r i e = let (whole, there, h) = first_in (λ s. is_taken r (scope_at program_place t s.0)) (rounds program_place t p) s e in inside.round_in p (s, whole) i there
+
+  taker_moved : (r : Standing) (p : Path) → In p → taker r u (f p) ≡ option_map f (taker r t p)
+  taker_moved r p i =
+      ap (first_that (λ s. is_taken r (scope_at program_place u s.0))) (inside.rounds_kept p i)
+      ∙ first_moved f (λ s. is_taken r (scope_at program_place u s.0)) (λ s. is_taken r (scope_at program_place t s.0)) (rounds program_place t p)
+      (λ s there. ap (is_taken r) (inside.scopes_kept s.0 (inside.round_in p s i there)))
+
+  pub taker_forth : (r : Standing) (p s : Path) → In p → taker r t p ≡ Some s → taker r u (f p) ≡ Some (f s)
+  taker_forth r p s i e = taker_moved r p i ∙ ap (option_map f) e
+
+  pub taker_back : (r : Standing) (p z : Path) → In p → taker r u (f p) ≡ Some z → (s : Path) × (taker r t p ≡ Some s) × (f s ≡ z)
+  taker_back r p z i e = at (taker r t p) refl (sym (taker_moved r p i) ∙ e)
+    where
+      at : (o : Option Path) → taker r t p ≡ o → option_map f o ≡ Some z → (s : Path) × (taker r t p ≡ Some s) × (f s ≡ z)
+      at None o h = absurd (cc)
+      at (Some s) o h = (s, o, some_same (f s) z h)
+
+  -- the same taker, for a scope of the tree
+  pub taken_back : (r : Standing) (p s : Path) → In p → In s → taker r u (f p) ≡ Some (f s) → taker r t p ≡ Some s
+  taken_back r p s i j e =
+      let (z, there, is) = taker_back r p (f s) i e in
+      there ∙ ap (λ z. Some z) (inside.one z s (taker_in p z r i there) j is)
+
+  pub stands_forth : (p : Path) (r : Standing) (x : List ℕ) → Stands t p r x → Stands u (f p) r x
+  stands_forth p r x s = record { place = s.place; kind = s.kind; identifier = s.identifier; stands = inside.kept p s.place s.kind s.identifier s.stands; stands_so = s.stands_so; named = s.named }
+
+  pub bound_forth : (s : Path) (r : Standing) (x : List ℕ) → Bound t s r x → Bound u (f s) r x
+  bound_forth s r x b =
+      let st = stands_of t s r x b in
+      bound_by u clean_too (f b.path) (f s) r x (stands_forth b.path r x st) (taker_forth r b.path s (in_tree b.path r x st) b.taken)
+
+  none_sloppy : (s : Path) (x : List ℕ) → Bound t s standing.SloppyFunction x → ⊥
+  none_sloppy s x b = settled b.path b.place b.kind b.identifier b.stands b.stands_so
+
+  pub declares_forth : (x : List ℕ) (s : Round) → DeclaresFor t x s → DeclaresFor u x (moved f s)
+  declares_forth x (s, true) (inl (r, ways, b)) = inl (r, ways, bound_forth s r x b)
+  declares_forth x (s, true) (inr (inl (b, h))) = absurd (none_sloppy s x b)
+  declares_forth x (s, true) (inr (inr h)) = absurd (none_sloppy h.block x h.bound)
+  declares_forth x (s, false) (r, ways, b) = (r, ways, bound_forth s r x b)
+
+  pub region_forth : (s p : Path) (r : Standing) (x : List ℕ) → Stands t p r x → InRegion t s x p → InRegion u (f s) x (f p)
+  region_forth s p r x st (whole, there, declares) = (
+    whole,
+    subst (λ l. Contains l (f s, whole)) (sym (inside.rounds_kept p (in_tree p r x st))) (moved_in f (rounds program_place t p) (s, whole) there),
+    declares_forth x (s, whole) declares,
+  )
+
+  module _ (x : List ℕ) (here : AllInside t u f x) where
+    pub bound_back : (s : Path) (r : Standing) → In s → Bound u (f s) r x → Bound t s r x
+    bound_back s r j b =
+        let (q, e, st) = here b.path r (record { at = stands_of u (f s) r x b; binds = binding_at u r b.path (f s) b.taken }) in
+        bound_by t clean q s r x st (taken_back r q s (in_tree q r x st) j (ap (taker r u) (sym e) ∙ b.taken))
+
+    passes_from : (ways : Standing → Bool) (ss : List Round) → ((s : Round) → Contains ss s → In s.0) → PassesNone ways t x ss → PassesNone ways u x (map (moved f) ss)
+    passes_from ways [] i h = tt
+    passes_from ways (s ∷ ss) i (inl taken) = inl (subst (λ o. IsTrue (is_taken standing.Variable o)) (sym (inside.scopes_kept s.0 (i s (head_in s ss)))) taken)
+    passes_from ways (s ∷ ss) i (inr (none, h)) = inr (
+      (λ (r, way, b). none (r, way, bound_back s.0 r (i s (head_in s ss)) b)),
+      passes_from ways ss (λ z there. i z (tail_in s z ss there)) h,
+    )
+
+    pub passes : (ways : Standing → Bool) (p : Path) (r : Standing) → Stands t p r x → PassesNone ways t x (rounds program_place t p) → PassesNone ways u x (rounds program_place u (f p))
+    passes ways p r st h =
+        subst (PassesNone ways u x) (sym (inside.rounds_kept p (in_tree p r x st)))
+        (passes_from ways (rounds program_place t p) (λ s there. inside.round_in p s (in_tree p r x st) there) h)

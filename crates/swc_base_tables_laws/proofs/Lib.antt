@@ -1,0 +1,17 @@
+pub mod Inside
+pub mod Sided
+pub mod Joined
+pub mod Between
+pub mod Modules
+pub mod Within
+pub mod Joining
+pub mod Readings
+pub mod Parts
+pub mod Injected
+pub mod Steps
+pub mod Imported
+pub mod Imports
+pub mod ImportsLaw
+pub mod BodiesLaw
+pub mod Once
+pub mod InjectionLaw
