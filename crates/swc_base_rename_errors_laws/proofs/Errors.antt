@@ -1,5 +1,5 @@
 -- What hygiene and then the fixer answer declares no name against the rules, and neither `eval` nor `arguments`.
-use Rattle.std.proofs.Common.{◌≡◌, ℕ, true, false, IsTrue, Option, Some, List, [], ◌∷◌, codes, drop, take, refl, sym, ap, ◌∙◌, subst}
+use Rattle.std.proofs.Common.{◌≡◌, ℕ, true, false, IsTrue, Option, Some, List, [], ◌∷◌, codes, drop, take, refl, sym, ap, ◌∙◌, subst, map, ⊎_elim, None}
 use Rattle.std.specs.Prelude.{unwrap_or, if◌then◌else◌}
 use Rattle.std.specs.List.{list_any}
 use Rattle.std.specs.Option.{option_map}
@@ -19,14 +19,14 @@ use Rattle.swc_tree_node.specs.Fits.{Fits}
 use Rattle.swc_tree_scoping.specs.declared.places.Place.{Place}
 use Rattle.swc_tree_scoping.specs.declared.places.Standing.TheVariants as standing
 use Rattle.swc_tree_scoping.specs.Places.{Path, place_at, program_place}
-use Rattle.swc_tree_scoping.specs.Scopes.{is_name}
+use Rattle.swc_tree_scoping.specs.Scopes.{first_that, is_name, is_taken, rounds, scope_at, taker}
 use Rattle.swc_tree_scoping.specs.BoundNames.{Id}
 use Rattle.swc_tree_scoping.specs.Readings.{by_ids, by_texts, id_name, with_identifiers}
-use Rattle.swc_tree_scoping.specs.WellScoped.{IsClean, IsDeclared, is_module}
+use Rattle.swc_tree_scoping.specs.WellScoped.{ExportsDeclared, InExportList, IsClean, IsDeclared, NoEarlyErrorOfNames, is_module}
 use Rattle.swc_tree_renaming.specs.Apart.{HasTexts, SameScopes, nameless, no_name}
 use Rattle.swc_tree_renaming.proofs.Shape.{nameless_by_ids, same_scopes, some_same, twice}
-use Rattle.swc_tree_renaming.proofs.Blank.{place_at_same}
-use Rattle.swc_tree_renaming.proofs.Whole.{by_id, from_ids, identifier_same, module_layer, module_too, with_identifier}
+use Rattle.swc_tree_renaming.proofs.Blank.{layer, out_is, place_at_same}
+use Rattle.swc_tree_renaming.proofs.Whole.{by_id, from_ids, id_name_same, identifier_same, module_layer, module_too, with_identifier}
 use Rattle.swc_tree_grammar.specs.Due.{Places}
 use Rattle.swc_tree_grammar.specs.Fixed.{fixed}
 use Rattle.swc_tree_grammar.specs.Normal.{normal_form, written_out}
@@ -35,16 +35,16 @@ use Rattle.swc_tree_grammar.specs.Targets.{all_bare}
 use Rattle.swc_tree_grammar.specs.Writable.{Writable, is_digit}
 use Rattle.swc_tree_grammar.proofs.Kept.{stripped_fits}
 use Rattle.swc_tree_grammar.proofs.Stripped.{stripped_other}
-use Rattle.swc_tree_sites.specs.Sites.{Site, Sites, taken_at}
+use Rattle.swc_tree_sites.specs.Sites.{Binding, Site, Sites, taken_at}
 use Rattle.swc_tree_sites.specs.Smaller.{In, IsLeftOf, IsPlain}
-use Rattle.swc_tree_sites.proofs.Transport.{binding_names}
+use Rattle.swc_tree_sites.proofs.Transport.{binding_names, settled_way, way_declares}
 use Rattle.swc_tree_sites_laws.proofs.LeftByIds.{ids_are_left}
 use Rattle.swc_tree_sites_laws.proofs.LeftStripped.{on_modules, stripped_takes}
 use Rattle.swc_tree_sites_written.proofs.Modules.{module_whole}
 use Rattle.swc_tree_sites_written.proofs.NormalForms.{normal_left}
 use Rattle.swc_tree_sites_written.proofs.Written.{written_tree}
 use Rattle.swc_tree_sites_errors.specs.Laws.{Answers, KeepsScopes}
-use Rattle.swc_tree_sites_errors.proofs.Left.{answer_redeclares_none, declared_stays, left_keeps}
+use Rattle.swc_tree_sites_errors.proofs.Left.{answer_declares, answer_redeclares_none, declared_stays, left_keeps}
 use Rattle.swc_tree_sites_errors.proofs.Modules.{plain_module}
 use Rattle.swc_tree_sites_errors.proofs.Named.{keeps_by}
 use Rattle.swc_tree_sites_tame.proofs.Modules.{modules_tame}
@@ -59,8 +59,17 @@ use Rattle.swc_base_rename_laws.proofs.Outline.{identifiers_alike, rounds_alike,
 use Rattle.swc_base_rename_scoped_laws.specs.Laws.{NamesAreApart, new_text}
 use Rattle.swc_base_rename_hygiene_laws.specs.Laws.{HygieneStaysWritable}
 use Rattle.swc_base_rename_texts_laws.specs.Laws.{HasHygienicTexts, HygieneGivesNormalFormNewTexts}
-use Rattle.swc_base_rename_errors_laws.specs.Laws.{AnswerDeclaresByTheRules, DeclaresByTheRules, IsNameable}
+use Rattle.swc_base_rename_errors_laws.specs.Laws.{AnswerDeclaresByTheRules, AnswerHasNoEarlyErrorOfNames, DeclaresByTheRules, IsNameable}
 use Rattle.swc_base_rename_errors_laws.proofs.Captures.{captures_none}
+use Rattle.swc_base_rename_errors_laws.proofs.Listing.{Local, found}
+use Rattle.swc_tree_exports_laws.specs.Exported.{exported_locals}
+use Rattle.swc_tree_exports_laws.specs.Laws.{ProgramTakes}
+use Rattle.swc_tree_exports_laws.proofs.Paths.{export_lists_are_listed}
+use Rattle.swc_tree_exports_laws.proofs.Written.{stripped_exports_the_same, written_out_exports}
+use Rattle.swc_tree_scoping.specs.declared.places.Scope.{Scope}
+use Rattle.swc_tree_scoping.specs.Declares.{Bound, Declares}
+use Rattle.swc_tree_scoping.proofs.Remarked.{tree_is}
+use Rattle.swc_tree_sites.proofs.Round.{taken_is}
 use Rattle.swc_base_rename_errors_laws.proofs.Texts.{same_word}
 
 abbrev PP : Place
@@ -142,7 +151,64 @@ from_named f t p w k i h =
 clean_texts : (t : Node) → IsClean (by_texts t)
 clean_texts t p w k i h = let (l, j, e, is) = from_named by_text t p w k i h in ap (λ (i : Ident). i.ctxt) is
 
--- a module that keeps the scopes of another, both read by texts
+-- export lists stand there too
+tree_back : (f : Ident → Ident) (c : Node) (l : Kind) (ts : List Node) → with_identifiers f c ≡ Tree l ts → (us : List Node) × (c ≡ Tree l us)
+tree_back f c l ts e = at (out-Node c) refl
+  where
+    layers : (y : Node-F Node) → out-Node c ≡ y → layer f y ≡ Node-F.Tree l ts
+    layers y o = ap (layer f) (sym o) ∙ sym (out_is f c) ∙ ap out-Node e ∙ outs-Tree l ts
+
+    at : (y : Node-F Node) → out-Node c ≡ y → (us : List Node) × (c ≡ Tree l us)
+    at (Node-F.Tree k us) o = let z = layers _ o in let one : k ≡ l = cc in (us, tree_is c l us (o ∙ ap (λ k. Node-F.Tree k us) one))
+    at Node-F.Absent o = let z = layers _ o in absurd (cc)
+    at (Node-F.Flag x) o = let z = layers _ o in absurd (cc)
+    at (Node-F.Word x) o = let z = layers _ o in absurd (cc)
+    at (Node-F.Text x) o = let z = layers _ o in absurd (cc)
+    at (Node-F.Span x) o = let z = layers _ o in absurd (cc)
+    at (Node-F.List x) o = let z = layers _ o in absurd (cc)
+    at (Node-F.Identifier k x) o = let z = layers _ o in absurd (cc)
+
+none_there : (d : Place × Node) → ◌≡◌ {A = Option (Place × Node)} None (Some d) → ⊥
+none_there d e = absurd (cc)
+
+list_back : (f : Ident → Ident) (t : Node) (p : Path) → InExportList (with_identifiers f t) p → InExportList t p
+list_back f t p (q, below, j, v, l, ts, path, there, role_is) = at (place_at PP t q) refl
+  where
+    at : (o : Option (Place × Node)) → place_at PP t q ≡ o → InExportList t p
+    at None z =
+        absurd (none_there (v, Tree l ts) (ap (option_map {U = Place × Node} (λ (q : Place × Node). (q.0, with_identifiers f q.1))) (sym z) ∙ sym (place_at_same f q PP t) ∙ there))
+    at (Some d) z =
+        let pair = some_same (d.0, with_identifiers f d.1) (v, Tree l ts) (ap (option_map {U = Place × Node} (λ (q : Place × Node). (q.0, with_identifiers f q.1))) (sym z) ∙ sym (place_at_same f q PP t) ∙ there) in
+        let (us, is) = tree_back f d.1 l ts (ap (λ (q : Place × Node). q.1) pair) in
+        (q, below, j, d.0, l, us, path, z ∙ ap (λ c. Some (d.0, c)) is, role_is)
+
+tree_forth : (f : Ident → Ident) (k : Kind) (ts : List Node) → with_identifiers f (Tree k ts) ≡ Tree k (map (with_identifiers f) ts)
+tree_forth f k ts = tree_is (with_identifiers f (Tree k ts)) k (map (with_identifiers f) ts) (out_is f (Tree k ts) ∙ ap (layer f) (outs-Tree k ts))
+
+list_forth : (f : Ident → Ident) (t : Node) (p : Path) → InExportList t p → InExportList (with_identifiers f t) p
+list_forth f t p (q, below, j, v, l, ts, path, there, role_is) = (
+  q,
+  below,
+  j,
+  v,
+  l,
+  map (with_identifiers f) ts,
+  path,
+  place_at_same f q PP t ∙ ap (option_map {U = Place × Node} (λ (q : Place × Node). (q.0, with_identifiers f q.1))) there ∙ ap (λ c. Some (v, c)) (tree_forth f l ts),
+  role_is,
+)
+
+-- what the program of a module takes, it declares by its id
+program_declares : (t : Node) → IsPlain (by_ids t) → (b : Binding) → In b (taken_at PP t) → Declares (by_ids t) [] (id_name b.1)
+program_declares t plain b h =
+    let d = (taken_is [] PP t b).0 h in
+    let same = same_scopes t (by_ids t) (sym (nameless_by_ids t)) in
+    let there = stands_named by_id t d.path d.place d.kind b.1 d.stands in
+    let takers : taker b.0 t d.path ≡ taker b.0 (by_ids t) d.path
+    = ap (first_that (λ s. is_taken b.0 (scope_at PP t s.0))) (same.rounds_same d.path) ∙ ap (λ (f : Path → Option Scope). first_that (λ s. is_taken b.0 (f s.0)) (rounds PP (by_ids t) d.path)) (λ i s. same.scopes_same s i) in
+    let bound : Bound (by_ids t) [] b.0 (id_name b.1) = record { path = d.path; place = d.place; kind = d.kind; identifier = by_id b.1; stands = there; stands_so = d.stands_so; named = refl; unmarked = refl; taken = sym takers ∙ d.taken } in
+    way_declares (by_ids t) plain (id_name b.1) [] true b.0 bound (settled_way b.0 (λ e. plain.settled d.path d.place d.kind (by_id b.1) there (d.stands_so ∙ e)))
+
 module _ (apart : NamesAreApart) (texts : HygieneGivesNormalFormNewTexts) (stays : HygieneStaysWritable) (table : Table) (config : Config) (place : Places) (before middle : Node) (first : IsNameable config before) (hygienic : IsHygienic table config before middle)
     (fits_middle : Fits middle module_place) where
   abbrev after : Node
@@ -255,6 +321,38 @@ module _ (apart : NamesAreApart) (texts : HygieneGivesNormalFormNewTexts) (stays
       (keeps_by by_text before N keeps_before) word
       (p, r, record { at = record { place = at.place; kind = k; identifier = by_text i; stands = stands_named by_text N p at.place k i e; stands_so = at.stands_so; named = own }; binds = b.binds })
 
+  -- what the module exports its program declares
+  exported_before : (j : Ident) → In j (exported_locals N) → Declares (by_ids before) [] (id_name j)
+  exported_before j h =
+      let b = bare before first.fits first.writable in
+      ⊎_elim
+      (λ g.
+      let f = found before before j refl (subst (In j) (stripped_exports_the_same before first.fits b) g) in
+      first.scoped.exports_declared f.path (id_name j) (list_forth by_id before f.path f.listed)
+      (record { place = Local; kind = f.kind; identifier = by_id j; stands = stands_named by_id before f.path Local f.kind j f.stands; stands_so = refl; named = refl }))
+      (λ (g : ProgramTakes (stripped before) j).
+      subst (Declares (by_ids before) []) (id_name_same g.0.1 j g.2) (program_declares before ids_plain g.0 (subst (In g.0) (stripped_takes before first.fits b) g.1)))
+      ((written_out_exports (stripped before) (stripped_fits before module_place b refl first.fits) (modules_tame before first.fits first.writable)).gained j h)
+
+  exports_declared : ExportsDeclared (by_texts after)
+  exports_declared p name inside at =
+      let b = bare after fits_after writable_after in
+      let (l, y, e, is) = from_named by_text after p at.place at.kind at.identifier at.stands in
+      let own = export_lists_are_listed after fits_after p at.place l y (list_back by_text after p inside) e at.stands_so in
+      let left_there = subst (In y) (sym (stripped_exports_the_same after fits_after b)) own in
+      let written = (written_out_exports (stripped after) (stripped_fits after module_place b refl fits_after) (modules_tame after fits_after writable_after)).kept y left_there in
+      let f = found K N y (sym given.normal.shape) (subst (λ t. In y (exported_locals t)) same_form written) in
+      let new : y.sym ≡ new_text given.new_texts f.other = named f.path Local Local f.kind f.kind f.other (by_text y) f.there (stands_named by_text K f.path Local f.kind y f.stands) refl in
+      subst (Declares (by_texts after) []) (text_of_id given.new_texts f.other ∙ sym new ∙ ap (λ (i : Ident). i.sym) (sym is) ∙ at.named)
+      (answer_declares (by_ids before) (by_ids N) F (by_texts after) text answers (id_name f.other) (exported_before f.other f.own))
+
+  pub no_early_error : NoEarlyErrorOfNames after
+  no_early_error = record {
+    exports_declared = exports_declared;
+    no_redeclaration = answer_redeclares_none (by_ids before) (by_ids N) F (by_texts after) text answers first.scoped.no_redeclaration;
+    no_eval_or_arguments = ((λ d. first.scoped.no_eval_or_arguments.0 (declared_word (codes "eval") refl d)), (λ d. first.scoped.no_eval_or_arguments.1 (declared_word (codes "arguments") refl d)));
+  }
+
   pub by_the_rules : DeclaresByTheRules after
   by_the_rules = record {
     no_redeclaration = answer_redeclares_none (by_ids before) (by_ids N) F (by_texts after) text answers first.scoped.no_redeclaration;
@@ -263,3 +361,6 @@ module _ (apart : NamesAreApart) (texts : HygieneGivesNormalFormNewTexts) (stays
 
 pub answer_declares_by_the_rules : NamesAreApart → HygieneGivesNormalFormNewTexts → HygieneStaysWritable → AnswerDeclaresByTheRules
 answer_declares_by_the_rules apart texts stays table config place before middle first hygienic fits_middle = by_the_rules apart texts stays table config place before middle first hygienic fits_middle
+
+pub answer_has_no_early_error_of_names : NamesAreApart → HygieneGivesNormalFormNewTexts → HygieneStaysWritable → AnswerHasNoEarlyErrorOfNames
+answer_has_no_early_error_of_names apart texts stays table config place before middle first hygienic fits_middle = no_early_error apart texts stays table config place before middle first hygienic fits_middle

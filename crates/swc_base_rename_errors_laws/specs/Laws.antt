@@ -6,7 +6,7 @@ use Rattle.swc_tree_node.specs.declared.slot.Slot.TheVariants as slot
 use Rattle.swc_tree_node.specs.declared.node.Node.{Node}
 use Rattle.swc_tree_node.specs.Fits.{Fits}
 use Rattle.swc_tree_scoping.specs.Readings.{by_texts}
-use Rattle.swc_tree_scoping.specs.WellScoped.{NoEvalOrArguments, NoRedeclaration, WellScoped}
+use Rattle.swc_tree_scoping.specs.WellScoped.{NoEarlyErrorOfNames, NoEvalOrArguments, NoRedeclaration, WellScoped}
 use Rattle.swc_tree_grammar.specs.Due.{Places}
 use Rattle.swc_tree_grammar.specs.Fixed.{fixed}
 use Rattle.swc_tree_grammar.specs.Writable.{Writable}
@@ -30,3 +30,8 @@ pub record DeclaresByTheRules (answer : Node) : Type 0 where
 abbrev pub AnswerDeclaresByTheRules : Type 0
 AnswerDeclaresByTheRules = (table : Table) (config : Config) (place : Places) (before middle : Node) → IsNameable config before → IsHygienic table config before middle
     → Fits middle (slot.One (content.Node class.Module)) → DeclaresByTheRules (fixed place middle)
+
+-- ... and has no early error of names: what its export lists name is declared, too
+abbrev pub AnswerHasNoEarlyErrorOfNames : Type 0
+AnswerHasNoEarlyErrorOfNames = (table : Table) (config : Config) (place : Places) (before middle : Node) → IsNameable config before → IsHygienic table config before middle
+    → Fits middle (slot.One (content.Node class.Module)) → NoEarlyErrorOfNames (fixed place middle)

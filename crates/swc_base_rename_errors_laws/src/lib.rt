@@ -4,7 +4,7 @@
 //! caller calls it, and then knows the law.
 #![tactic(auto)]
 
-ghost use Rattle.swc_base_rename_errors_laws.specs.Laws.{AnswerDeclaresByTheRules};
+ghost use Rattle.swc_base_rename_errors_laws.specs.Laws.{AnswerDeclaresByTheRules, AnswerHasNoEarlyErrorOfNames};
 
 use swc_base_rename_hygiene_laws::hygiene_stays_writable;
 use swc_base_rename_scoped_laws::names_are_apart;
@@ -14,6 +14,15 @@ use swc_base_rename_texts_laws::hygiene_gives_normal_form_new_texts;
 /// classes don't keep theirs, declares no name against the rules, and neither `eval` nor `arguments`.
 pub fn answer_declares_by_the_rules()
     ensures { AnswerDeclaresByTheRules }
+{
+    names_are_apart();
+    hygiene_gives_normal_form_new_texts();
+    hygiene_stays_writable();
+}
+
+/// The answer has no early error of names: what its export lists name is declared, too.
+pub fn answer_has_no_early_error_of_names()
+    ensures { AnswerHasNoEarlyErrorOfNames }
 {
     names_are_apart();
     hygiene_gives_normal_form_new_texts();
