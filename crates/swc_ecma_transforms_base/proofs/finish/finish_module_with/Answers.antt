@@ -9,4 +9,4 @@ returns-in_err-fix_module-clause-no_target g c = λ f.
     meets_none c.args.globals.now c.args.config (module_node c.args.program.now) f c.from_residual-in_err-fix_module.result (search rules)
 
 pub returns-clause-promises : goal.returns-clause-promises
-returns-clause-promises g c = λ f. promised c.args.globals.now c.args.config (module_node c.args.program.now) f (module_node c.fix_module.new.program) (search rules)
+returns-clause-promises g c = λ f. promised c.args.globals.now c.args.config (module_node c.args.program.now) f c.finishing_keeps_ids.ensures (module_node c.fix_module.new.program) (search rules)
