@@ -1,7 +1,9 @@
-//! What the gate asks of the tables: helpers, also in programs, features of versions, assumptions and native names. It goes over rows of three
-//! lines from standard input, as `gate_replay` does, which would take too long with these as well.
+//! What the gate asks of the tables and of the top crate: helpers, also in programs, features of versions, assumptions, native
+//! names, and passes run one after another. It goes over rows of three lines from standard input, as `gate_replay` does, which
+//! would take too long with these as well.
 #![tactic(auto)]
 
+mod finished;
 mod helpers;
 mod injection;
 mod settings;
@@ -10,6 +12,9 @@ use anyhow::{Result, bail};
 use std::alloc::Global;
 
 fn answer(alloc: Global, words: &str, input: &str) -> Option<String> {
+    if let Some(answer) = finished::answer(alloc, words, input) {
+        return Some(answer);
+    }
     if let Some(answer) = helpers::answer(alloc, words, input) {
         return Some(answer);
     }

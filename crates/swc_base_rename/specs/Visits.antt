@@ -3,9 +3,6 @@ use Rattle.std.specs.Prelude.{◌≡◌}
 use Rattle.swc_tree_marks.specs.declared.error.PassError.{PassError}
 use Rattle.swc_tree_marks.specs.declared.error.PassError.TheVariants as error
 use Rattle.swc_tree_marks.specs.Globals.{Table}
-use Rattle.swc_tree_modules.specs.declared.module_.Module.{Module}
-use Rattle.swc_tree_modules.specs.declared.script.Script.{Script}
-use Rattle.swc_tree_modules.specs.Nodes.{module_node, script_node}
 use Rattle.swc_tree_node.specs.declared.node.Node.{Node}
 use Rattle.swc_base_rename_substitution.specs.Names.{new_id}
 use Rattle.swc_base_rename_substitution.specs.Substituted.{Substituted}
@@ -17,20 +14,8 @@ pub record RenamesNode (pass : RenameWith) (old : Table) (before : Node) (kept :
   pub same : kept ≡ pass
   pub marks : new ≡ old
 
-abbrev pub Renames : RenameWith → Table → Module → RenameWith → Table → Module → Type 0
-Renames pass old before kept new after = RenamesNode pass old (module_node before) kept new (module_node after)
-
-abbrev pub RenamesScript : RenameWith → Table → Script → RenameWith → Table → Script → Type 0
-RenamesScript pass old before kept new after = RenamesNode pass old (script_node before) kept new (script_node after)
-
 -- a program is refused for want of memory alone; the pass and the table of marks are as they were
 pub record RefusesNode (pass : RenameWith) (old : Table) (kept : RenameWith) (new : Table) (e : PassError) : Type 0 where
   pub refusal : e ≡ error.NoMemory
   pub same : kept ≡ pass
   pub marks : new ≡ old
-
-abbrev pub Refuses : RenameWith → Table → Module → RenameWith → Table → PassError → Type 0
-Refuses pass old before kept new e = RefusesNode pass old kept new e
-
-abbrev pub RefusesScript : RenameWith → Table → Script → RenameWith → Table → PassError → Type 0
-RefusesScript pass old before kept new e = RefusesNode pass old kept new e

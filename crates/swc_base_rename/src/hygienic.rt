@@ -1,17 +1,14 @@
 //! The pass after which texts alone tell names apart.
-ghost use Rattle.std.specs.Prelude.{◌≡◌, OnOk, OnErr, IfErr};
-ghost use Rattle.swc_tree.specs.Passes.{IsEmptied, IsEmptiedScript, IsExtended};
-ghost use Rattle.swc_tree_modules.specs.Nodes.{module_node, script_node};
+ghost use Rattle.std.specs.Prelude.{◌≡◌};
+ghost use Rattle.std.proofs.Common.{refl};
 ghost use Rattle.swc_base_rename.specs.Hygiene.{MakesHygienic, RefusesHygiene};
 
 use std::alloc::Global;
-use std::mem;
 use swc_base_rename_program::hygiene_program;
 use swc_base_rename_substitution::Config;
-use swc_tree::{JsPass, empty_module, empty_script};
-use swc_tree_handle::Opened;
+use swc_tree::ProgramPass;
 use swc_tree_marks::{Globals, PassError};
-use swc_tree_modules::{Module, Script};
+use swc_tree_node::Node;
 
 /// Gives names anew where ids of one text would meet, and then clears every context.
 #[derive(Clone, Copy, Debug)]
@@ -28,14 +25,10 @@ impl Hygiene {
     }
 }
 
-impl JsPass for Hygiene {
-    ghost visits = { λ pass old before kept new after. MakesHygienic pass old (module_node before) kept new (module_node after) };
+impl ProgramPass for Hygiene {
+    ghost makes = { MakesHygienic };
 
-    ghost visits_script = { λ pass old before kept new after. MakesHygienic pass old (script_node before) kept new (script_node after) };
-
-    ghost refuses = { λ pass old before kept new e. RefusesHygiene pass old (module_node before) kept new e };
-
-    ghost refuses_script = { λ pass old before kept new e. RefusesHygiene pass old (script_node before) kept new e };
+    ghost declines = { RefusesHygiene };
 
     /// Gives each id that a program declares its own text, or where that is taken its text with the first number behind it
     /// that makes it free, and then clears every context. Where a direct `eval` or a `with` stands in the program, unless
@@ -44,46 +37,15 @@ impl JsPass for Hygiene {
     ///
     /// # Errors
     ///
-    /// `CounterSpent` where for an id no counter below the greatest `usize` gives a free text, and `NoMemory`. The program is
-    /// then empty, with its span and no `#!` line.
-    fn visit_mut_module(
+    /// `CounterSpent` where for an id no counter below the greatest `usize` gives a free text, and `NoMemory`.
+    fn run(
         &mut self,
         alloc: Global,
         globals: &mut Globals,
-        program: &mut Module,
-    ) -> Result<(), PassError>
-        ensures done { OnOk result (MakesHygienic self.old globals.old (module_node program.old) self.new globals.new (module_node program.new)) }
-        ensures refused { OnErr result (IsEmptied program.old program.new) }
-        ensures marks { IsExtended globals.old globals.new }
-        ensures cause { IfErr result (RefusesHygiene self.old globals.old (module_node program.old) self.new globals.new) }
-    {
-        let module = mem::replace(program, empty_module(alloc, program.span));
-        let node = module.into_node(alloc)?;
-        let answer = hygiene_program(alloc, &self.config, globals, node)?;
-        *program = Module::from_node(answer);
-        Ok(())
+        program: Node,
+    ) -> Result<Node, PassError> {
+        hygiene_program(alloc, &self.config, globals, program)
     }
 
-    /// The same for a program of the goal Script.
-    ///
-    /// # Errors
-    ///
-    /// Those of `visit_mut_module`.
-    fn visit_mut_script(
-        &mut self,
-        alloc: Global,
-        globals: &mut Globals,
-        program: &mut Script,
-    ) -> Result<(), PassError>
-        ensures done { OnOk result (MakesHygienic self.old globals.old (script_node program.old) self.new globals.new (script_node program.new)) }
-        ensures refused { OnErr result (IsEmptiedScript program.old program.new) }
-        ensures marks { IsExtended globals.old globals.new }
-        ensures cause { IfErr result (RefusesHygiene self.old globals.old (script_node program.old) self.new globals.new) }
-    {
-        let script = mem::replace(program, empty_script(alloc, program.span));
-        let node = script.into_node(alloc)?;
-        let answer = hygiene_program(alloc, &self.config, globals, node)?;
-        *program = Script::from_node(answer);
-        Ok(())
-    }
+    ghost lacks_memory = { λ pass table program. record { refusal = tt; same = refl; marks = refl } };
 }

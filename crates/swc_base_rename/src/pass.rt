@@ -1,17 +1,15 @@
 //! The pass that gives names anew.
-ghost use Rattle.std.specs.Prelude.{◌≡◌, false, OnOk, OnErr, IfErr};
-ghost use Rattle.swc_tree.specs.Passes.{IsEmptied, IsEmptiedScript, IsExtended};
+ghost use Rattle.std.specs.Prelude.{◌≡◌, false};
+ghost use Rattle.std.proofs.Common.{refl};
 ghost use Rattle.swc_base_rename_substitution.specs.Names.{new_id, by_text, by_id};
-ghost use Rattle.swc_base_rename.specs.Visits.{Refuses, RefusesScript, Renames, RenamesScript};
+ghost use Rattle.swc_base_rename.specs.Visits.{RefusesNode, RenamesNode};
 
 use std::alloc::Global;
 use std::collections::HashMap;
-use std::mem;
 use swc_base_rename_substitution::{Config, Names, substitute};
-use swc_tree::{JsPass, empty_module, empty_script};
-use swc_tree_handle::Opened;
+use swc_tree::ProgramPass;
 use swc_tree_marks::{Globals, Id, JsWord, PassError};
-use swc_tree_modules::{Module, Script};
+use swc_tree_node::Node;
 
 /// Gives the names of a program anew, as a map says. The pass borrows the map.
 #[derive(Clone, Copy)]
@@ -46,61 +44,27 @@ pub fn remap(map: &HashMap<Id, Id>, config: Config) -> RenameWith<'_>
     RenameWith { names, config }
 }
 
-impl JsPass for RenameWith<'_> {
-    ghost visits = { Renames };
+impl ProgramPass for RenameWith<'_> {
+    ghost makes = { RenamesNode };
 
-    ghost visits_script = { RenamesScript };
-
-    ghost refuses = { Refuses };
-
-    ghost refuses_script = { RefusesScript };
+    ghost declines = { λ pass old before kept new e. RefusesNode pass old kept new e };
 
     /// Gives the names of a program anew. What is well-formed stays so, and the pass and the table of marks stay as they
     /// are.
     ///
     /// # Errors
     ///
-    /// `NoMemory` alone. The program is then empty, with its span and no `#!` line.
-    fn visit_mut_module(
+    /// `NoMemory` alone.
+    fn run(
         &mut self,
         alloc: Global,
         globals: &mut Globals,
-        program: &mut Module,
-    ) -> Result<(), PassError>
-        ensures done { OnOk result (Renames self.old globals.old program.old self.new globals.new program.new) }
-        ensures refused { OnErr result (IsEmptied program.old program.new) }
-        ensures marks { IsExtended globals.old globals.new }
-        ensures cause { IfErr result (Refuses self.old globals.old program.old self.new globals.new) }
-    {
+        program: Node,
+    ) -> Result<Node, PassError> {
         let RenameWith { names, config } = *self;
-        let module = mem::replace(program, empty_module(alloc, program.span));
-        let node = module.into_node(alloc)?;
-        let answer = substitute(alloc, &names, &config, node)?;
-        *program = Module::from_node(answer);
-        Ok(())
+        let answer = substitute(alloc, &names, &config, program)?;
+        Ok(answer)
     }
 
-    /// Gives the names of a program of the goal Script anew, as `visit_mut_module` those of a module.
-    ///
-    /// # Errors
-    ///
-    /// `NoMemory` alone. The program is then empty, with its span and no `#!` line.
-    fn visit_mut_script(
-        &mut self,
-        alloc: Global,
-        globals: &mut Globals,
-        program: &mut Script,
-    ) -> Result<(), PassError>
-        ensures done { OnOk result (RenamesScript self.old globals.old program.old self.new globals.new program.new) }
-        ensures refused { OnErr result (IsEmptiedScript program.old program.new) }
-        ensures marks { IsExtended globals.old globals.new }
-        ensures cause { IfErr result (RefusesScript self.old globals.old program.old self.new globals.new) }
-    {
-        let RenameWith { names, config } = *self;
-        let script = mem::replace(program, empty_script(alloc, program.span));
-        let node = script.into_node(alloc)?;
-        let answer = substitute(alloc, &names, &config, node)?;
-        *program = Script::from_node(answer);
-        Ok(())
-    }
+    ghost lacks_memory = { λ pass table program. record { refusal = refl; same = refl; marks = refl } };
 }

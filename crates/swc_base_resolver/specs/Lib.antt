@@ -1,2 +1,3 @@
 pub mod DeclKinds
+pub mod Memory
 pub mod Visits

@@ -3,9 +3,6 @@ use Rattle.std.specs.Prelude.{◌≡◌, ℕ, ◌+◌, ◌-◌, ◌<◌, ◌≤�
 use Rattle.swc_tree_marks.specs.declared.error.PassError.{PassError}
 use Rattle.swc_tree_marks.specs.declared.error.PassError.TheVariants as error
 use Rattle.swc_tree_marks.specs.Globals.{Table, greatest, with_fresh_marks}
-use Rattle.swc_tree_modules.specs.declared.module_.Module.{Module}
-use Rattle.swc_tree_modules.specs.declared.script.Script.{Script}
-use Rattle.swc_tree_modules.specs.Nodes.{module_node, script_node}
 use Rattle.swc_tree_node.specs.declared.node.Node.{Node}
 use Rattle.swc_tree_scoping.specs.Places.{program_place}
 use Rattle.swc_tree_scoping.specs.Resolved.{Resolved}
@@ -20,12 +17,6 @@ pub record ResolvesNode (pass : ℕ × ℕ) (old : Table) (before : Node) (kept 
   pub same : kept ≡ pass
   pub table : new ≡ with_fresh_marks old pass.1 (scope_count program_place before - 1)
 
-abbrev pub Resolves : ℕ × ℕ → Table → Module → ℕ × ℕ → Table → Module → Type 0
-Resolves pass old before kept new after = ResolvesNode pass old (module_node before) kept new (module_node after)
-
-abbrev pub ResolvesScript : ℕ × ℕ → Table → Script → ℕ × ℕ → Table → Script → Type 0
-ResolvesScript pass old before kept new after = ResolvesNode pass old (script_node before) kept new (script_node after)
-
 -- a program is refused for want of memory; or for want of marks, where the table has no room for one to each of its
 -- scopes but itself; the pass is as it was, and the table has no more than the first of those marks more
 pub record RefusesNode (pass : ℕ × ℕ) (old : Table) (before : Node) (kept : ℕ × ℕ) (new : Table) (e : PassError) : Type 0 where
@@ -33,9 +24,3 @@ pub record RefusesNode (pass : ℕ × ℕ) (old : Table) (before : Node) (kept :
   pub spent : e ≡ error.MarksSpent → 4294967295 < greatest old + (scope_count program_place before - 1)
   pub same : kept ≡ pass
   pub table : (fresh : ℕ) × (fresh ≤ scope_count program_place before - 1) × (new ≡ with_fresh_marks old pass.1 fresh)
-
-abbrev pub Refuses : ℕ × ℕ → Table → Module → ℕ × ℕ → Table → PassError → Type 0
-Refuses pass old before kept new e = RefusesNode pass old (module_node before) kept new e
-
-abbrev pub RefusesScript : ℕ × ℕ → Table → Script → ℕ × ℕ → Table → PassError → Type 0
-RefusesScript pass old before kept new e = RefusesNode pass old (script_node before) kept new e

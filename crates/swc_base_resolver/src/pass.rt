@@ -1,21 +1,14 @@
 //! The resolver as a pass.
-ghost use Rattle.std.specs.Prelude.{◌≡◌, ◌≢◌, ◌+◌, ◌-◌, ◌<◌, OnOk, OnErr, IfErr, IsErrOf};
-ghost use Rattle.swc_tree_marks.specs.Globals.{greatest};
-ghost use Rattle.swc_tree_scoping.specs.Places.{program_place};
-ghost use Rattle.swc_tree_scoping.specs.Scopes.{scope_count};
-ghost use Rattle.swc_tree.specs.Passes.{IsEmptied, IsEmptiedScript, IsExtended};
-ghost use Rattle.swc_tree_modules.specs.Nodes.{module_node, script_node};
-ghost use Rattle.swc_base_resolver_program.specs.Marked.{IsRefusal};
-ghost use Rattle.swc_base_resolver.specs.Visits.{Refuses, RefusesScript, Resolves, ResolvesScript};
+ghost use Rattle.std.specs.Prelude.{◌≡◌, ◌≢◌};
+ghost use Rattle.swc_base_resolver.specs.Visits.{RefusesNode, ResolvesNode};
+ghost use Rattle.swc_base_resolver.specs.Memory.{may_lack_memory};
 
 use std::alloc::Global;
 use std::marker::Model;
-use std::mem;
 use swc_base_resolver_program::resolve_program;
-use swc_tree::{JsPass, empty_module, empty_script};
-use swc_tree_handle::Opened;
+use swc_tree::ProgramPass;
 use swc_tree_marks::{Globals, Mark, PassError};
-use swc_tree_modules::{Module, Script};
+use swc_tree_node::Node;
 
 /// The resolver of programs whose top mark and whose mark of names that nothing declares are these. Contracts see
 /// it as the pair of the two, the unresolved mark first; neither is the root.
@@ -49,67 +42,27 @@ impl Resolver {
     }
 }
 
-impl JsPass for Resolver {
-    ghost visits = { Resolves };
+impl ProgramPass for Resolver {
+    ghost makes = { ResolvesNode };
 
-    ghost visits_script = { ResolvesScript };
+    ghost declines = { RefusesNode };
 
-    ghost refuses = { Refuses };
-
-    ghost refuses_script = { RefusesScript };
-
-    /// Resolves a program. Each run is by itself: the resolver stays as it is.
+    /// Resolves the node of a program. Each run is by itself: the resolver stays as it is.
     ///
     /// # Errors
     ///
     /// `MarksSpent` only where the table's greatest number plus the number of scopes in the program is above
-    /// 4294967295; `NoMemory`. The program is then empty, with its span and no `#!` line; the table holds what it
-    /// held, and perhaps the first of the fresh marks.
-    fn visit_mut_module(
+    /// 4294967295; `NoMemory`. The table then holds what it held, and perhaps the first of the fresh marks.
+    fn run(
         &mut self,
         alloc: Global,
         globals: &mut Globals,
-        program: &mut Module,
-    ) -> Result<(), PassError>
-        ensures done { OnOk result (Resolves self.old globals.old program.old self.new globals.new program.new) }
-        ensures refused { OnErr result (IsEmptied program.old program.new) }
-        ensures marks { IsExtended globals.old globals.new }
-        ensures cause { IfErr result (Refuses self.old globals.old program.old self.new globals.new) }
-    {
-        let module = mem::replace(program, empty_module(alloc, program.span));
-        let node = module.into_node(alloc)?;
+        program: Node,
+    ) -> Result<Node, PassError> {
         let (unresolved, top) = (self.unresolved_mark, self.top_level_mark);
-        let answer = resolve_program(alloc, globals, unresolved, top, node)?;
-        *program = Module::from_node(answer);
-        Ok(())
+        let answer = resolve_program(alloc, globals, unresolved, top, program)?;
+        Ok(answer)
     }
 
-    /// Resolves a program of the goal Script, as `visit_mut_module` one of the goal Module.
-    ///
-    /// # Errors
-    ///
-    /// `MarksSpent` only where the table's greatest number plus the number of scopes in the program is above
-    /// 4294967295; `NoMemory`. The program is then empty, with its span and no `#!` line; the table holds what it
-    /// held, and perhaps the first of the fresh marks.
-    fn visit_mut_script(
-        &mut self,
-        alloc: Global,
-        globals: &mut Globals,
-        program: &mut Script,
-    ) -> Result<(), PassError>
-        ensures done { OnOk result (ResolvesScript self.old globals.old program.old self.new globals.new program.new) }
-        ensures refused { OnErr result (IsEmptiedScript program.old program.new) }
-        ensures marks { IsExtended globals.old globals.new }
-        ensures cause { IfErr result (RefusesScript self.old globals.old program.old self.new globals.new) }
-    {
-        let script = mem::replace(program, empty_script(alloc, program.span));
-        let node = script.into_node(alloc)?;
-        let Resolver {
-            unresolved_mark,
-            top_level_mark,
-        } = self;
-        let answer = resolve_program(alloc, globals, *unresolved_mark, *top_level_mark, node)?;
-        *program = Script::from_node(answer);
-        Ok(())
-    }
+    ghost lacks_memory = { may_lack_memory };
 }

@@ -13,3 +13,5 @@ pub mod Imported
 pub mod Imports
 pub mod ImportsLaw
 pub mod BodiesLaw
+pub mod Once
+pub mod InjectionLaw

@@ -33,7 +33,7 @@ layer_is a z body = outs-Tree kind.Module (a ∷ Many body ∷ z ∷ [])
 pub child_is : (a z : Node) (body : List Node) (i : ℕ) → child (module_of a body z) i ≡ slice_get (a ∷ Many body ∷ z ∷ []) i
 child_is a z body i = ap (λ y. slice_get (children_in y) i) (layer_is a z body)
 
-list_place : (a z : Node) (body : List Node) → place_below program_place (module_of a body z) 1 ≡ item_place
+pub list_place : (a z : Node) (body : List Node) → place_below program_place (module_of a body z) 1 ≡ item_place
 list_place a z body = ap (λ y. place_in program_place y 1) (layer_is a z body)
 
 items_place : (body : List Node) (j : ℕ) → place_below item_place (Many body) j ≡ item_place

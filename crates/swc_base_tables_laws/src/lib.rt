@@ -1,8 +1,9 @@
 //! What bringing helpers into a module keeps, said apart from how it is done.
 //!
-//! `specs/Laws.antt` states the laws. Each is the contract of a function that does nothing, so that it is proved.
+//! `specs/Laws.antt` and `specs/Injection.antt` state the laws. Each is the contract of a function that does nothing, so that it is proved.
 #![tactic(auto)]
 
+ghost use Rattle.swc_base_tables_laws.specs.Injection.{InjectionKeepsWellScoped};
 ghost use Rattle.swc_base_tables_laws.specs.Laws.{BodiesKeepWellScoped, ImportsKeepWellScoped};
 
 /// A well-scoped module stays so when an import is put in for each helper that it refers to, whose names have the helper mark
@@ -15,4 +16,9 @@ pub fn imports_keep_a_module_well_scoped()
 /// of its scope.
 pub fn bodies_keep_a_module_well_scoped()
     ensures { BodiesKeepWellScoped }
+{}
+
+/// A well-scoped module stays so once the helpers that it was given are brought in, from a package or written out.
+pub fn injection_keeps_a_module_well_scoped()
+    ensures { InjectionKeepsWellScoped }
 {}

@@ -4,11 +4,20 @@ use Rattle.swc_tree_node.specs.declared.kind.Class.TheVariants as class
 use Rattle.swc_tree_node.specs.declared.slot.Content.TheVariants as content
 use Rattle.swc_tree_node.specs.declared.slot.Slot.{Slot}
 use Rattle.swc_tree_node.specs.declared.slot.Slot.TheVariants as slot
+use Rattle.swc_tree_grammar.specs.Blocks.{with_blocks}
+use Rattle.swc_tree_grammar.specs.Fixed.{fixed}
 use Rattle.swc_tree_grammar.specs.Normal.{normal_form}
 use Rattle.swc_tree_grammar.specs.Same.{declared_names, same_tree}
+use Rattle.swc_tree_grammar.specs.Spanless.{spanless}
+use Rattle.swc_tree_grammar.specs.Stripped.{stripped}
+use Rattle.swc_tree_grammar.proofs.BlocksKept.{blocks_fit}
+use Rattle.swc_tree_grammar.proofs.Kept.{stripped_fits}
 use Rattle.swc_base_fixer_laws.specs.Laws.{FixedFits, NormalFormStays, TargetsStandBare}
+use Rattle.swc_base_fixer_laws.proofs.Answer.{due_fits}
 use Rattle.swc_base_rename_hygiene_laws.specs.Laws.{HygieneKeepsNormalForm, HygieneStaysWritable}
-use Rattle.swc_ecma_transforms_base_laws.specs.Finished.{FinishingKeepsModules, FinishingMeetsNoTarget}
+use Rattle.swc_base_rename_ids_laws.specs.Laws.{HygieneKeepsIds, IsWrittenAs}
+use Rattle.swc_ecma_transforms_base_laws.specs.Finished.{FinishingKeepsIds, FinishingKeepsModules, FinishingMeetsNoTarget}
+use Rattle.swc_ecma_transforms_base_laws.proofs.Clean.{fixed_clean}
 
 abbrev module_place : Slot
 module_place = slot.One (content.Node class.Module)
@@ -25,3 +34,15 @@ keeps_modules stays same fit normal table config place before middle b h f =
 
 pub meets_no_target : HygieneStaysWritable → TargetsStandBare → FinishingMeetsNoTarget
 meets_no_target stays bare table config before middle b h f = bare middle module_place f (stays table config module_place before middle b.plain b.fits b.writable h)
+
+pub keeps_ids : HygieneKeepsIds → HygieneStaysWritable → TargetsStandBare → FixedFits → NormalFormStays → FinishingKeepsIds
+keeps_ids ids stays bare fit normal table config place before middle u unresolved top old new b scoped h f knows r =
+    let writable = stays table config module_place before middle b.plain b.fits b.writable h in
+    let inner = blocks_fit (stripped middle) module_place (stripped_fits middle module_place (bare middle module_place f writable) refl f) in
+    let written : IsWrittenAs middle (fixed place middle) = record {
+      fits = due_fits place (with_blocks (stripped middle)) module_place inner;
+      clean = fixed_clean place middle h.0 module_place h.2 inner;
+      writable = (fit place middle module_place refl f writable).0;
+      normal = ap spanless (normal place middle module_place f);
+    } in
+    ids table config before middle (fixed place middle) u unresolved top old new (record { fits = b.fits; scoped = scoped; writable = b.writable; plain = b.plain }) h written knows r

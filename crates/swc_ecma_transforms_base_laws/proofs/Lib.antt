@@ -1,1 +1,2 @@
+mod Clean
 pub mod Kept

@@ -1,14 +1,18 @@
 -- What hygiene and then the fixer keep of a module.
-use Rattle.std.specs.Prelude.{◌≡◌, true}
+use Rattle.std.specs.Prelude.{◌≡◌, ℕ, true, List}
 use Rattle.swc_tree_marks.specs.Globals.{Table}
 use Rattle.swc_tree_node.specs.declared.kind.Class.TheVariants as class
 use Rattle.swc_tree_node.specs.declared.node.Node.{Node}
 use Rattle.swc_tree_node.specs.declared.slot.Content.TheVariants as content
 use Rattle.swc_tree_node.specs.declared.slot.Slot.TheVariants as slot
 use Rattle.swc_tree_node.specs.Fits.{Fits}
+use Rattle.swc_tree_scoping.specs.Resolved.{Resolved}
+use Rattle.swc_tree_scoping.specs.WellScoped.{WellScoped}
+use Rattle.swc_tree_renaming.specs.Apart.{Knows, SameIds}
 use Rattle.swc_tree_grammar.specs.Due.{Places}
 use Rattle.swc_tree_grammar.specs.Fixed.{fixed}
 use Rattle.swc_tree_grammar.specs.Grammar.{FitsGrammar}
+use Rattle.swc_tree_grammar.specs.Normal.{normal_form}
 use Rattle.swc_tree_grammar.specs.Same.{SameButForBoundNames}
 use Rattle.swc_tree_grammar.specs.Targets.{all_bare}
 use Rattle.swc_tree_grammar.specs.Writable.{Writable}
@@ -38,3 +42,10 @@ FinishingKeepsModules = (table : Table) (config : Config) (place : Places) (befo
 abbrev pub FinishingMeetsNoTarget : Type 0
 FinishingMeetsNoTarget = (table : Table) (config : Config) (before middle : Node) → IsFinishable config before → IsHygienic table config before middle
     → Fits middle (slot.One (content.Node class.Module)) → all_bare middle ≡ true
+
+-- Of a well-scoped module the answer, resolved with any mark that is known for free names, gives two kept names one id exactly
+-- if the module did.
+abbrev pub FinishingKeepsIds : Type 0
+FinishingKeepsIds = (table : Table) (config : Config) (place : Places) (before middle u : Node) (unresolved top : ℕ) (old new : List (ℕ × ℕ)) → IsFinishable config before → WellScoped before
+    → IsHygienic table config before middle → Fits middle (slot.One (content.Node class.Module)) → Knows old unresolved → Resolved unresolved top old new (fixed place middle) u
+    → SameIds (normal_form before) (normal_form u)

@@ -4,10 +4,11 @@
 //! that it rests on; a caller of the two passes calls it, and then knows the law.
 #![tactic(auto)]
 
-ghost use Rattle.swc_ecma_transforms_base_laws.specs.Finished.{FinishingKeepsModules, FinishingMeetsNoTarget};
+ghost use Rattle.swc_ecma_transforms_base_laws.specs.Finished.{FinishingKeepsIds, FinishingKeepsModules, FinishingMeetsNoTarget};
 
 use swc_base_fixer_laws::{fixed_fits, normal_form_stays, targets_stand_bare};
 use swc_base_rename_hygiene_laws::{hygiene_keeps_normal_form, hygiene_stays_writable};
+use swc_base_rename_ids_laws::hygiene_keeps_ids;
 
 /// What hygiene and then the fixer make of a module that can be written down, where nothing reads names and classes don't keep
 /// theirs, can be written down, is derived by the grammar, and has the module's normal form but for the names that it binds.
@@ -26,4 +27,16 @@ pub fn finishing_meets_no_target()
 {
     hygiene_stays_writable();
     targets_stand_bare();
+}
+
+/// Resolved again, what hygiene and then the fixer made of such a well-scoped module gives two kept names one id exactly if the
+/// module did.
+pub fn finishing_keeps_ids()
+    ensures { FinishingKeepsIds }
+{
+    hygiene_keeps_ids();
+    hygiene_stays_writable();
+    targets_stand_bare();
+    fixed_fits();
+    normal_form_stays();
 }

@@ -1,6 +1,8 @@
--- What every pass leaves.
-use Rattle.std.specs.Prelude.{◌≡◌, [], ◌++◌, None}
+-- What a pass is run on, and what every pass leaves.
+use Rattle.std.specs.Prelude.{◌≡◌, ◌⊎◌, List, [], ◌++◌, None}
 use Rattle.swc_tree_marks.specs.Globals.{Table}
+use Rattle.swc_tree_node.specs.declared.kind.Kind.TheVariants as kind
+use Rattle.swc_tree_node.specs.declared.node.Node.{Node, Tree}
 use Rattle.swc_tree_modules.specs.declared.module_.Module.{Module}
 use Rattle.swc_tree_modules.specs.declared.script.Script.{Script}
 
@@ -18,3 +20,7 @@ pub record IsEmptiedScript (before after : Script) : Type 0 where
 -- the table has all that it had, and perhaps more after it
 abbrev pub IsExtended : Table → Table → Type 0
 IsExtended before after = (more : Table) × (after ≡ before ++ more)
+
+-- the tree of a module or of a script
+abbrev pub IsProgram : Node → Type 0
+IsProgram t = (fields : List Node) × ((t ≡ Tree kind.Module fields) ⊎ (t ≡ Tree kind.Script fields))

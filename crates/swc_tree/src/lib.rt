@@ -4,7 +4,7 @@
 //! and each struct and sum of the tree stands here under its name, one level deep: `Tree::open` takes
 //! a node apart, `Opened::close` puts it together, and no ill-formed tree can be made of them. A pass
 //! is a `JsPass`: it takes the items out of a program, works on the nodes in place, and puts them
-//! back. A `Check` looks at a program and says whether it is to be handled. What stands where in the
+//! back. One that works on the node of a whole program is a `ProgramPass`, and so a `JsPass`. A `Check` looks at a program and says whether it is to be handled. What stands where in the
 //! tree is data too, in `table`.
 #![tactic(auto)]
 
@@ -13,14 +13,15 @@ mod empty;
 mod idle;
 mod pass;
 mod passes;
+mod programs;
 pub mod table;
-mod version;
 
 pub use check::{Check, Checked, should_work};
 pub use empty::{empty_module, empty_script};
 pub use idle::Noop;
 pub use pass::JsPass;
 pub use passes::noop;
+pub use programs::ProgramPass;
 pub use swc_tree_comments::{Comments, Move, NoComments};
 pub use swc_tree_ext::{
     AsOptExpr, ExprRefExt, StmtLike, find_pat_ids, is_use_strict, prepend_stmts,
@@ -32,7 +33,7 @@ pub use swc_tree_marks::{
     Span, SyntaxContext,
 };
 pub use swc_tree_node::{Kind, Node};
-pub use version::EsVersion;
+pub use swc_tree_version::EsVersion;
 
 // From here on printed by tools/print_table.py from tools/tree.txt.
 pub use swc_tree_expressions::AssignTarget;

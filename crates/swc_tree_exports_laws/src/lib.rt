@@ -4,7 +4,7 @@
 //! does nothing, so that it is proved.
 #![tactic(auto)]
 
-ghost use Rattle.swc_tree_exports_laws.specs.Laws.{StrippedExportsTheSame, WrittenOutExports};
+ghost use Rattle.swc_tree_exports_laws.specs.Laws.{ExportListsAreListed, StrippedExportsTheSame, WrittenOutExports};
 
 /// A stripped module exports the same.
 pub fn stripped_exports_the_same()
@@ -14,4 +14,9 @@ pub fn stripped_exports_the_same()
 /// A module that is written out exports what it did, and else only what its program takes.
 pub fn written_out_exports()
     ensures { WrittenOutExports }
+{}
+
+/// The references in the export lists of a module are what it exports so.
+pub fn export_lists_are_listed()
+    ensures { ExportListsAreListed }
 {}

@@ -1,6 +1,6 @@
 use Rattle.std.proofs.Common.{◌∙◌}
 use Rattle.swc_base_resolver.proofs.Extended.{with_fresh_marks-extended}
-use Rattle.swc_base_resolver.proofs.pass.ResolverJsPass.visit_mut_module.Goals as goal
+use Rattle.swc_base_resolver.proofs.pass.ResolverProgramPass.run.Goals as goal
 
 pub returns-in_err-answer-clause-marks : goal.returns-in_err-answer-clause-marks
 returns-in_err-answer-clause-marks c =

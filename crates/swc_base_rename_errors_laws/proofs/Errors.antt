@@ -1,0 +1,366 @@
+-- What hygiene and then the fixer answer declares no name against the rules, and neither `eval` nor `arguments`.
+use Rattle.std.proofs.Common.{◌≡◌, ℕ, true, false, IsTrue, Option, Some, List, [], ◌∷◌, codes, drop, take, refl, sym, ap, ◌∙◌, subst, map, ⊎_elim, None}
+use Rattle.std.specs.Prelude.{unwrap_or, if◌then◌else◌}
+use Rattle.std.specs.List.{list_any}
+use Rattle.std.specs.Option.{option_map}
+use Rattle.std.proofs.Math.Seq.{drop-append_seam, take-append_seam}
+use Rattle.swc_tree_marks.specs.Globals.{Table}
+use Rattle.swc_tree_marks.specs.declared.ident.Ident.{Ident}
+use Rattle.swc_tree_node.specs.declared.kind.Kind.{Kind}
+use Rattle.swc_tree_node.specs.declared.kind.Kind.TheVariants as kind
+use Rattle.swc_tree_node.specs.declared.kind.Class.TheVariants as class
+use Rattle.swc_tree_node.specs.declared.slot.Content.TheVariants as content
+use Rattle.swc_tree_node.specs.declared.slot.Slot.{Slot}
+use Rattle.swc_tree_node.specs.declared.slot.Slot.TheVariants as slot
+use Rattle.swc_tree_node.specs.declared.node.Node.{Node, Identifier, Tree, out-Node}
+use Rattle.swc_tree_node.specs.declared.node.Node.TheOpen.{Node-F}
+use Rattle.swc_tree_node.specs.declared.node.Node.TheVariants.{outs-Tree}
+use Rattle.swc_tree_node.specs.Fits.{Fits}
+use Rattle.swc_tree_scoping.specs.declared.places.Place.{Place}
+use Rattle.swc_tree_scoping.specs.declared.places.Standing.TheVariants as standing
+use Rattle.swc_tree_scoping.specs.Places.{Path, place_at, program_place}
+use Rattle.swc_tree_scoping.specs.Scopes.{first_that, is_name, is_taken, rounds, scope_at, taker}
+use Rattle.swc_tree_scoping.specs.BoundNames.{Id}
+use Rattle.swc_tree_scoping.specs.Readings.{by_ids, by_texts, id_name, with_identifiers}
+use Rattle.swc_tree_scoping.specs.WellScoped.{ExportsDeclared, InExportList, IsClean, IsDeclared, NoEarlyErrorOfNames, is_module}
+use Rattle.swc_tree_renaming.specs.Apart.{HasTexts, SameScopes, nameless, no_name}
+use Rattle.swc_tree_renaming.proofs.Shape.{nameless_by_ids, same_scopes, some_same, twice}
+use Rattle.swc_tree_renaming.proofs.Blank.{layer, out_is, place_at_same}
+use Rattle.swc_tree_renaming.proofs.Whole.{by_id, from_ids, id_name_same, identifier_same, module_layer, module_too, with_identifier}
+use Rattle.swc_tree_grammar.specs.Due.{Places}
+use Rattle.swc_tree_grammar.specs.Fixed.{fixed}
+use Rattle.swc_tree_grammar.specs.Normal.{normal_form, written_out}
+use Rattle.swc_tree_grammar.specs.Stripped.{stripped}
+use Rattle.swc_tree_grammar.specs.Targets.{all_bare}
+use Rattle.swc_tree_grammar.specs.Writable.{Writable, is_digit}
+use Rattle.swc_tree_grammar.proofs.Kept.{stripped_fits}
+use Rattle.swc_tree_grammar.proofs.Stripped.{stripped_other}
+use Rattle.swc_tree_sites.specs.Sites.{Binding, Site, Sites, taken_at}
+use Rattle.swc_tree_sites.specs.Smaller.{In, IsLeftOf, IsPlain}
+use Rattle.swc_tree_sites.proofs.Transport.{binding_names, settled_way, way_declares}
+use Rattle.swc_tree_sites_laws.proofs.LeftByIds.{ids_are_left}
+use Rattle.swc_tree_sites_laws.proofs.LeftStripped.{on_modules, stripped_takes}
+use Rattle.swc_tree_sites_written.proofs.Modules.{module_whole}
+use Rattle.swc_tree_sites_written.proofs.NormalForms.{normal_left}
+use Rattle.swc_tree_sites_written.proofs.Written.{written_tree}
+use Rattle.swc_tree_sites_errors.specs.Laws.{Answers, KeepsScopes}
+use Rattle.swc_tree_sites_errors.proofs.Left.{answer_declares, answer_redeclares_none, declared_stays, left_keeps}
+use Rattle.swc_tree_sites_errors.proofs.Modules.{plain_module}
+use Rattle.swc_tree_sites_errors.proofs.Named.{keeps_by}
+use Rattle.swc_tree_sites_tame.proofs.Modules.{modules_tame}
+use Rattle.swc_base_fixer_laws.proofs.AgainNormal.{normal_form_stays}
+use Rattle.swc_base_fixer_laws.proofs.AgainStill.{fits_well}
+use Rattle.swc_base_fixer_laws.proofs.Answer.{answer_fits_table}
+use Rattle.swc_base_fixer_laws.proofs.Fixed.{fixed_fits, targets_stand_bare}
+use Rattle.swc_base_fixer_sites.proofs.Answers.{fits_module, stripping_answers_loses_none}
+use Rattle.swc_base_rename_substitution.specs.declared.config.Config.{Config}
+use Rattle.swc_base_rename_program.specs.Renamed.{IsHygienic, hygiene_renaming}
+use Rattle.swc_base_rename_laws.proofs.Outline.{identifiers_alike, rounds_alike, scopes_alike}
+use Rattle.swc_base_rename_scoped_laws.specs.Laws.{NamesAreApart, new_text}
+use Rattle.swc_base_rename_hygiene_laws.specs.Laws.{HygieneStaysWritable}
+use Rattle.swc_base_rename_texts_laws.specs.Laws.{HasHygienicTexts, HygieneGivesNormalFormNewTexts}
+use Rattle.swc_base_rename_errors_laws.specs.Laws.{AnswerDeclaresByTheRules, AnswerHasNoEarlyErrorOfNames, DeclaresByTheRules, IsNameable}
+use Rattle.swc_base_rename_errors_laws.proofs.Captures.{captures_none}
+use Rattle.swc_base_rename_errors_laws.proofs.Listing.{Local, found}
+use Rattle.swc_tree_exports_laws.specs.Exported.{exported_locals}
+use Rattle.swc_tree_exports_laws.specs.Laws.{ProgramTakes}
+use Rattle.swc_tree_exports_laws.proofs.Paths.{export_lists_are_listed}
+use Rattle.swc_tree_exports_laws.proofs.Written.{stripped_exports_the_same, written_out_exports}
+use Rattle.swc_tree_scoping.specs.declared.places.Scope.{Scope}
+use Rattle.swc_tree_scoping.specs.Declares.{Bound, Declares}
+use Rattle.swc_tree_scoping.proofs.Remarked.{tree_is}
+use Rattle.swc_tree_sites.proofs.Round.{taken_is}
+use Rattle.swc_base_rename_errors_laws.proofs.Texts.{same_word}
+
+abbrev PP : Place
+PP = program_place
+
+abbrev module_place : Slot
+module_place = slot.One (content.Node class.Module)
+
+-- ---- the texts of a map, by the names of ids
+
+abbrev text_by : (Id → Option (List ℕ)) → List ℕ → List ℕ
+text_by new_texts [] = []
+text_by new_texts (n ∷ x) = unwrap_or (new_texts (take n x, drop n x)) (take n x)
+
+text_of_id : (new_texts : Id → Option (List ℕ)) (i : Ident) → text_by new_texts (id_name i) ≡ new_text new_texts i
+text_of_id new_texts i = λ n. unwrap_or (new_texts (take-append_seam i.sym i.ctxt n, drop-append_seam i.sym i.ctxt n)) (take-append_seam i.sym i.ctxt n)
+
+-- ---- modules
+
+layer_module : (t : Node) (ts : List Node) → out-Node t ≡ Node-F.Tree kind.Module ts → IsTrue (is_module t)
+layer_module t ts o = rw o refl
+
+normal_module : (t : Node) → Fits t module_place → IsTrue (is_module (normal_form t))
+normal_module = on_modules (λ t. IsTrue (is_module (normal_form t)))
+    (λ x y z f. layer_module (normal_form (Tree kind.Module (x ∷ y ∷ z ∷ []))) _ (ap (λ t. out-Node (written_out t)) (stripped_other kind.Module (x ∷ y ∷ z ∷ []) refl) ∙ ap out-Node (written_tree kind.Module (stripped x ∷ stripped y ∷ stripped z ∷ [])) ∙ outs-Tree kind.Module _))
+
+nameless_renamed : (f : Ident → Ident) (t : Node) → nameless (with_identifiers f t) ≡ nameless t
+nameless_renamed f t = twice f (λ i. no_name) t
+
+renamed_module : (f : Ident → Ident) (t : Node) → IsTrue (is_module t) → IsTrue (is_module (with_identifiers f t))
+renamed_module f t m =
+    let (ts, o) = module_layer t m in
+    let (us, e) = module_too t (with_identifiers f t) ts (sym (nameless_renamed f t)) o in
+    layer_module (with_identifiers f t) us e
+
+-- ---- trees of one shape
+
+through : (t u v : Node) → SameScopes t u → SameScopes u v → SameScopes t v
+through t u v a b = record {
+  rounds_same = λ p. a.rounds_same p ∙ b.rounds_same p;
+  scopes_same = λ s. a.scopes_same s ∙ b.scopes_same s;
+  forth = λ p w k i h. let (l, j, e) = a.forth p w k i h in b.forth p w l j e;
+  back = λ p w l j h. let (k, i, e) = b.back p w l j h in a.back p w k i e;
+}
+
+one_name : (w v : Place) (k l : Kind) (i j : Ident) (o : Option (Place × Node)) → o ≡ Some (w, Identifier k i) → o ≡ Some (v, Identifier l j) → i ≡ j
+one_name w v k l i j o e g = identifier_same k l i j (ap (λ (q : Place × Node). q.1) (some_same (w, Identifier k i) (v, Identifier l j) (sym e ∙ g)))
+
+-- an identifier without its context, read by texts
+abbrev by_text : Ident → Ident
+by_text i = record i { ctxt = [] }
+
+clean_ids : (t : Node) → IsClean (by_ids t)
+clean_ids t p w k i h = let (l, j, e, is) = from_ids t p w k i h in ap (λ (i : Ident). i.ctxt) is
+
+-- ---- the normal form of a module that can be written down
+
+module _ (t : Node) (fits : Fits t module_place) (writable : Writable t) where
+  bare : all_bare t ≡ true
+  bare = targets_stand_bare t module_place fits writable
+
+  pub left : IsLeftOf (normal_form t) t
+  left = normal_left t fits bare (modules_tame t fits writable)
+
+  pub takes_same : taken_at PP (normal_form t) ≡ taken_at PP t
+  takes_same = (module_whole (stripped t) (stripped_fits t module_place bare refl fits) (modules_tame t fits writable)).takes ∙ stripped_takes t fits bare
+
+-- ---- trees that are read by other names
+
+stands_named : (f : Ident → Ident) (t : Node) (p : Path) (w : Place) (k : Kind) (i : Ident) → place_at PP t p ≡ Some (w, Identifier k i) → place_at PP (with_identifiers f t) p ≡ Some (w, Identifier k (f i))
+stands_named f t p w k i h = place_at_same f p PP t ∙ ap (option_map {U = Place × Node} (λ (q : Place × Node). (q.0, with_identifiers f q.1))) h ∙ ap (λ c. Some (w, c)) (with_identifier f k i)
+
+from_named : (f : Ident → Ident) (t : Node) (p : Path) (w : Place) (k : Kind) (i : Ident) → place_at PP (with_identifiers f t) p ≡ Some (w, Identifier k i) → (l : Kind) × (j : Ident) × (place_at PP t p ≡ Some (w, Identifier l j)) × (i ≡ f j)
+from_named f t p w k i h =
+    let same = same_scopes t (with_identifiers f t) (sym (nameless_renamed f t)) in
+    let (l, j, e) = same.back p w k i h in
+    (l, j, e, one_name w w k l i (f j) (place_at PP (with_identifiers f t) p) h (stands_named f t p w l j e))
+
+clean_texts : (t : Node) → IsClean (by_texts t)
+clean_texts t p w k i h = let (l, j, e, is) = from_named by_text t p w k i h in ap (λ (i : Ident). i.ctxt) is
+
+-- export lists stand there too
+tree_back : (f : Ident → Ident) (c : Node) (l : Kind) (ts : List Node) → with_identifiers f c ≡ Tree l ts → (us : List Node) × (c ≡ Tree l us)
+tree_back f c l ts e = at (out-Node c) refl
+  where
+    layers : (y : Node-F Node) → out-Node c ≡ y → layer f y ≡ Node-F.Tree l ts
+    layers y o = ap (layer f) (sym o) ∙ sym (out_is f c) ∙ ap out-Node e ∙ outs-Tree l ts
+
+    at : (y : Node-F Node) → out-Node c ≡ y → (us : List Node) × (c ≡ Tree l us)
+    at (Node-F.Tree k us) o = let z = layers _ o in let one : k ≡ l = cc in (us, tree_is c l us (o ∙ ap (λ k. Node-F.Tree k us) one))
+    at Node-F.Absent o = let z = layers _ o in absurd (cc)
+    at (Node-F.Flag x) o = let z = layers _ o in absurd (cc)
+    at (Node-F.Word x) o = let z = layers _ o in absurd (cc)
+    at (Node-F.Text x) o = let z = layers _ o in absurd (cc)
+    at (Node-F.Span x) o = let z = layers _ o in absurd (cc)
+    at (Node-F.List x) o = let z = layers _ o in absurd (cc)
+    at (Node-F.Identifier k x) o = let z = layers _ o in absurd (cc)
+
+none_there : (d : Place × Node) → ◌≡◌ {A = Option (Place × Node)} None (Some d) → ⊥
+none_there d e = absurd (cc)
+
+list_back : (f : Ident → Ident) (t : Node) (p : Path) → InExportList (with_identifiers f t) p → InExportList t p
+list_back f t p (q, below, j, v, l, ts, path, there, role_is) = at (place_at PP t q) refl
+  where
+    at : (o : Option (Place × Node)) → place_at PP t q ≡ o → InExportList t p
+    at None z =
+        absurd (none_there (v, Tree l ts) (ap (option_map {U = Place × Node} (λ (q : Place × Node). (q.0, with_identifiers f q.1))) (sym z) ∙ sym (place_at_same f q PP t) ∙ there))
+    at (Some d) z =
+        let pair = some_same (d.0, with_identifiers f d.1) (v, Tree l ts) (ap (option_map {U = Place × Node} (λ (q : Place × Node). (q.0, with_identifiers f q.1))) (sym z) ∙ sym (place_at_same f q PP t) ∙ there) in
+        let (us, is) = tree_back f d.1 l ts (ap (λ (q : Place × Node). q.1) pair) in
+        (q, below, j, d.0, l, us, path, z ∙ ap (λ c. Some (d.0, c)) is, role_is)
+
+tree_forth : (f : Ident → Ident) (k : Kind) (ts : List Node) → with_identifiers f (Tree k ts) ≡ Tree k (map (with_identifiers f) ts)
+tree_forth f k ts = tree_is (with_identifiers f (Tree k ts)) k (map (with_identifiers f) ts) (out_is f (Tree k ts) ∙ ap (layer f) (outs-Tree k ts))
+
+list_forth : (f : Ident → Ident) (t : Node) (p : Path) → InExportList t p → InExportList (with_identifiers f t) p
+list_forth f t p (q, below, j, v, l, ts, path, there, role_is) = (
+  q,
+  below,
+  j,
+  v,
+  l,
+  map (with_identifiers f) ts,
+  path,
+  place_at_same f q PP t ∙ ap (option_map {U = Place × Node} (λ (q : Place × Node). (q.0, with_identifiers f q.1))) there ∙ ap (λ c. Some (v, c)) (tree_forth f l ts),
+  role_is,
+)
+
+-- what the program of a module takes, it declares by its id
+program_declares : (t : Node) → IsPlain (by_ids t) → (b : Binding) → In b (taken_at PP t) → Declares (by_ids t) [] (id_name b.1)
+program_declares t plain b h =
+    let d = (taken_is [] PP t b).0 h in
+    let same = same_scopes t (by_ids t) (sym (nameless_by_ids t)) in
+    let there = stands_named by_id t d.path d.place d.kind b.1 d.stands in
+    let takers : taker b.0 t d.path ≡ taker b.0 (by_ids t) d.path
+    = ap (first_that (λ s. is_taken b.0 (scope_at PP t s.0))) (same.rounds_same d.path) ∙ ap (λ (f : Path → Option Scope). first_that (λ s. is_taken b.0 (f s.0)) (rounds PP (by_ids t) d.path)) (λ i s. same.scopes_same s i) in
+    let bound : Bound (by_ids t) [] b.0 (id_name b.1) = record { path = d.path; place = d.place; kind = d.kind; identifier = by_id b.1; stands = there; stands_so = d.stands_so; named = refl; unmarked = refl; taken = sym takers ∙ d.taken } in
+    way_declares (by_ids t) plain (id_name b.1) [] true b.0 bound (settled_way b.0 (λ e. plain.settled d.path d.place d.kind (by_id b.1) there (d.stands_so ∙ e)))
+
+module _ (apart : NamesAreApart) (texts : HygieneGivesNormalFormNewTexts) (stays : HygieneStaysWritable) (table : Table) (config : Config) (place : Places) (before middle : Node) (first : IsNameable config before) (hygienic : IsHygienic table config before middle)
+    (fits_middle : Fits middle module_place) where
+  abbrev after : Node
+  after = fixed place middle
+
+  abbrev N : Node
+  N = normal_form before
+
+  abbrev K : Node
+  K = normal_form middle
+
+  given : HasHygienicTexts before middle
+  given = texts table config before middle first.plain first.fits first.writable hygienic
+
+  abbrev text : List ℕ → List ℕ
+  text = text_by given.new_texts
+
+  writable_middle : Writable middle
+  writable_middle = stays table config module_place before middle first.plain first.fits first.writable hygienic
+
+  writable_after : Writable after
+  writable_after = (fixed_fits place middle module_place refl fits_middle writable_middle).0
+
+  fits_after : Fits after module_place
+  fits_after = answer_fits_table place (stripped middle) module_place (stripped_fits middle module_place (bare middle fits_middle writable_middle) refl fits_middle)
+
+  same_form : normal_form after ≡ K
+  same_form = normal_form_stays place middle (fits_well middle module_place fits_middle)
+
+  -- ---- the answer keeps the scopes of its normal form
+
+  keeps_form : KeepsScopes after (normal_form after)
+  keeps_form =
+      let b = bare after fits_after writable_after in
+      let w = module_whole (stripped after) (stripped_fits after module_place b refl fits_after) (modules_tame after fits_after writable_after) in
+      let e = stripping_answers_loses_none place middle fits_middle writable_middle in record {
+        variables = λ i env h. w.names (standing.Variable, i, env) (subst (λ (a : Sites). In {X = Site} (standing.Variable, i, env) a.sites) (sym e) h);
+        sets = λ bs h. subst (In bs) (sym w.sets) (subst (λ (a : Sites). In bs a.sets) (sym e) h);
+        program = sym (takes_same after fits_after writable_after);
+      }
+
+  -- ---- the normal forms have one shape
+
+  same_shape : SameScopes N K
+  same_shape = record {
+    rounds_same = λ p. rounds_alike N K given.normal.shape PP p;
+    scopes_same = λ s. scopes_alike N K given.normal.shape PP s;
+    forth = λ p w k i h. let (j, e) = identifiers_alike N K given.normal.shape p PP w k i h in (k, j, e);
+    back = λ p w k i h. let (j, e) = identifiers_alike K N (sym given.normal.shape) p PP w k i h in (k, j, e);
+  }
+
+  -- the answer's, read by texts
+  abbrev F : Node
+  F = by_texts K
+
+  same_by_ids : SameScopes (by_ids N) F
+  same_by_ids = through (by_ids N) N F (same_scopes (by_ids N) N (nameless_by_ids N)) (through N K F same_shape (same_scopes K F (sym (nameless_renamed by_text K))))
+
+  -- what stands there got its text
+  named : (p : Path) (w v : Place) (k l : Kind) (i j : Ident) → place_at PP N p ≡ Some (w, Identifier k i) → place_at PP F p ≡ Some (v, Identifier l j) → IsTrue (is_name w.standing) → j.sym ≡ new_text given.new_texts i
+  named p w v k l i j e g n =
+      let (x, h, sym_is, ctxt_is) = given.normal.texts p w k i e in
+      let (m, y, there, is) = from_named by_text K p v l j g in
+      let same : y ≡ x = one_name v w m k y x (place_at PP K p) there h in
+      ap (λ (i : Ident). i.sym) is ∙ ap (λ (i : Ident). i.sym) same ∙ sym_is ∙ ap (λ b. if b then new_text given.new_texts i else i.sym) n
+
+  new_texts : HasTexts (by_ids N) text F
+  new_texts p w v k l i j e g n =
+      let (c, x, h, is) = from_ids N p w k i e in
+      named p w v c l x j h g n ∙ sym (text_of_id given.new_texts x) ∙ ap (λ (i : Ident). text i.sym) (sym is)
+
+  -- ---- together
+
+  module_before : IsTrue (is_module before)
+  module_before = fits_module before first.fits
+
+  ids_plain : IsPlain (by_ids before)
+  ids_plain = plain_module (by_ids before) (renamed_module by_id before module_before) (clean_ids before)
+
+  keeps_before : KeepsScopes N before
+  keeps_before = left_keeps before N (left before first.fits first.writable) (takes_same before first.fits first.writable)
+
+  keeps_texts : KeepsScopes (by_texts after) F
+  keeps_texts = keeps_by by_text K after (subst (KeepsScopes after) same_form keeps_form)
+
+  answers : Answers (by_ids before) (by_ids N) F (by_texts after) text
+  answers = record {
+    modules = (renamed_module by_id before module_before, renamed_module by_id N (normal_module before first.fits), renamed_module by_text K (normal_module middle fits_middle), renamed_module by_text after (fits_module after fits_after));
+    clean = (clean_ids before, clean_ids N, clean_texts K, clean_texts after);
+    left = ids_are_left N before (left before first.fits first.writable);
+    program = (keeps_by by_id before N keeps_before).program;
+    one = first.scoped.each_in_one_scope;
+    apart = captures_none before text first.scoped ids_plain
+        (apart before first.fits module_before first.scoped first.writable hygiene_renaming given.new_texts text (λ x. refl) given.named (text_of_id given.new_texts));
+    shape = same_by_ids;
+    texts = new_texts;
+    keeps = keeps_texts;
+  }
+
+  -- a word without digits is declared in the answer only where the module declares it
+  declared_word : (word : List ℕ) → list_any is_digit word ≡ false → IsDeclared (by_texts after) word → IsDeclared (by_texts before) word
+  declared_word word none d =
+      let (p, r, b) = declared_stays F (by_texts after) answers.modules.2 answers.modules.3 (clean_texts K) (clean_texts after) keeps_texts word d in
+      let at = b.at in
+      let (m, y, there, is) = from_named by_text K p at.place at.kind at.identifier at.stands in
+      let (k, i, e) = same_shape.back p at.place m y there in
+      let names : IsTrue (is_name at.place.standing) = subst (λ r. IsTrue (is_name r)) (sym at.stands_so) (binding_names r b.binds) in
+      let own : i.sym ≡ word = same_word before _ _ given.new_texts given.named i word none (sym (named p at.place at.place k at.kind i at.identifier e at.stands names) ∙ at.named) in
+      declared_stays (by_texts before) (by_texts N) (renamed_module by_text before module_before) (renamed_module by_text N (normal_module before first.fits)) (clean_texts before) (clean_texts N)
+      (keeps_by by_text before N keeps_before) word
+      (p, r, record { at = record { place = at.place; kind = k; identifier = by_text i; stands = stands_named by_text N p at.place k i e; stands_so = at.stands_so; named = own }; binds = b.binds })
+
+  -- what the module exports its program declares
+  exported_before : (j : Ident) → In j (exported_locals N) → Declares (by_ids before) [] (id_name j)
+  exported_before j h =
+      let b = bare before first.fits first.writable in
+      ⊎_elim
+      (λ g.
+      let f = found before before j refl (subst (In j) (stripped_exports_the_same before first.fits b) g) in
+      first.scoped.exports_declared f.path (id_name j) (list_forth by_id before f.path f.listed)
+      (record { place = Local; kind = f.kind; identifier = by_id j; stands = stands_named by_id before f.path Local f.kind j f.stands; stands_so = refl; named = refl }))
+      (λ (g : ProgramTakes (stripped before) j).
+      subst (Declares (by_ids before) []) (id_name_same g.0.1 j g.2) (program_declares before ids_plain g.0 (subst (In g.0) (stripped_takes before first.fits b) g.1)))
+      ((written_out_exports (stripped before) (stripped_fits before module_place b refl first.fits) (modules_tame before first.fits first.writable)).gained j h)
+
+  exports_declared : ExportsDeclared (by_texts after)
+  exports_declared p name inside at =
+      let b = bare after fits_after writable_after in
+      let (l, y, e, is) = from_named by_text after p at.place at.kind at.identifier at.stands in
+      let own = export_lists_are_listed after fits_after p at.place l y (list_back by_text after p inside) e at.stands_so in
+      let left_there = subst (In y) (sym (stripped_exports_the_same after fits_after b)) own in
+      let written = (written_out_exports (stripped after) (stripped_fits after module_place b refl fits_after) (modules_tame after fits_after writable_after)).kept y left_there in
+      let f = found K N y (sym given.normal.shape) (subst (λ t. In y (exported_locals t)) same_form written) in
+      let new : y.sym ≡ new_text given.new_texts f.other = named f.path Local Local f.kind f.kind f.other (by_text y) f.there (stands_named by_text K f.path Local f.kind y f.stands) refl in
+      subst (Declares (by_texts after) []) (text_of_id given.new_texts f.other ∙ sym new ∙ ap (λ (i : Ident). i.sym) (sym is) ∙ at.named)
+      (answer_declares (by_ids before) (by_ids N) F (by_texts after) text answers (id_name f.other) (exported_before f.other f.own))
+
+  pub no_early_error : NoEarlyErrorOfNames after
+  no_early_error = record {
+    exports_declared = exports_declared;
+    no_redeclaration = answer_redeclares_none (by_ids before) (by_ids N) F (by_texts after) text answers first.scoped.no_redeclaration;
+    no_eval_or_arguments = ((λ d. first.scoped.no_eval_or_arguments.0 (declared_word (codes "eval") refl d)), (λ d. first.scoped.no_eval_or_arguments.1 (declared_word (codes "arguments") refl d)));
+  }
+
+  pub by_the_rules : DeclaresByTheRules after
+  by_the_rules = record {
+    no_redeclaration = answer_redeclares_none (by_ids before) (by_ids N) F (by_texts after) text answers first.scoped.no_redeclaration;
+    no_eval_or_arguments = ((λ d. first.scoped.no_eval_or_arguments.0 (declared_word (codes "eval") refl d)), (λ d. first.scoped.no_eval_or_arguments.1 (declared_word (codes "arguments") refl d)));
+  }
+
+pub answer_declares_by_the_rules : NamesAreApart → HygieneGivesNormalFormNewTexts → HygieneStaysWritable → AnswerDeclaresByTheRules
+answer_declares_by_the_rules apart texts stays table config place before middle first hygienic fits_middle = by_the_rules apart texts stays table config place before middle first hygienic fits_middle
+
+pub answer_has_no_early_error_of_names : NamesAreApart → HygieneGivesNormalFormNewTexts → HygieneStaysWritable → AnswerHasNoEarlyErrorOfNames
+answer_has_no_early_error_of_names apart texts stays table config place before middle first hygienic fits_middle = no_early_error apart texts stays table config place before middle first hygienic fits_middle

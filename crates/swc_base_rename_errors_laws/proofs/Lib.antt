@@ -1,0 +1,4 @@
+pub mod Texts
+pub mod Captures
+pub mod Listing
+pub mod Errors

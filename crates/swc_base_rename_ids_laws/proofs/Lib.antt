@@ -1,0 +1,4 @@
+mod Spans
+mod Exported
+mod Captures
+mod Join

@@ -1,0 +1,3 @@
+mod Chaining
+mod Finishing
+mod Fitting

@@ -1,0 +1,51 @@
+-- What the resolver, hygiene and the fixer make of a program, one after another, and why they refuse one.
+use Rattle.std.specs.Prelude.{◌≡◌, ℕ, ◌+◌, ◌-◌, ◌<◌, ◌≤◌}
+use Rattle.swc_tree_marks.specs.declared.error.PassError.{PassError}
+use Rattle.swc_tree_marks.specs.declared.error.PassError.TheVariants as error
+use Rattle.swc_tree_marks.specs.Globals.{Table, greatest, with_fresh_marks}
+use Rattle.swc_tree_node.specs.declared.node.Node.{Node}
+use Rattle.swc_tree_scoping.specs.Places.{program_place}
+use Rattle.swc_tree_scoping.specs.Resolved.{Resolved}
+use Rattle.swc_tree_scoping.specs.Scopes.{scope_count}
+use Rattle.swc_base_resolver_program.specs.Marked.{MarksOk, OnlyContexts}
+use Rattle.swc_base_rename_substitution.specs.declared.config.Config.{Config}
+use Rattle.swc_base_rename_program.specs.Renamed.{IsHygienic, IsRenameRefusal, hygiene_renaming}
+use Rattle.swc_ecma_transforms_base.specs.Finished.{Finishes, IsUnassignable}
+
+-- how many scopes the program has but itself: so many marks it takes
+abbrev pub marks_for : Node → ℕ
+marks_for t = scope_count program_place t - 1
+
+-- each name has the mark of the scope that it means, where the table has the two marks; whatever they are, only contexts
+-- change, and the table has a fresh mark more for each scope but the program
+pub record IsMarked (unresolved top : ℕ) (old : Table) (before : Node) (new : Table) (after : Node) : Type 0 where
+  pub resolved : MarksOk old unresolved top → Resolved unresolved top old new before after
+  pub contexts : OnlyContexts before after
+  pub table : new ≡ with_fresh_marks old top (marks_for before)
+
+-- the program was resolved, and then finished
+pub record Chains (unresolved top : ℕ) (config : Config) (old : Table) (before : Node) (new : Table) (after : Node) : Type 0 where
+  pub resolved : Node
+  pub marked : IsMarked unresolved top old before new resolved
+  pub finished : Finishes new config resolved after
+
+-- the table has some fresh marks more, under the top mark, and not more than the program takes
+pub record HasFreshMarks (top : ℕ) (old : Table) (before : Node) (new : Table) : Type 0 where
+  pub fresh : ℕ
+  pub enough : fresh ≤ marks_for before
+  pub table : new ≡ with_fresh_marks old top fresh
+
+-- what is so of the program once it is resolved
+pub record OnceMarked (unresolved top : ℕ) (old : Table) (before : Node) (new : Table) (IsSo : Node → Type 0) : Type 0 where
+  pub resolved : Node
+  pub marked : IsMarked unresolved top old before new resolved
+  pub is_so : IsSo resolved
+
+-- memory was refused, or the table had no room for the marks; or, once the program was resolved, the counters of an id were
+-- spent or a target took no value
+abbrev pub IsChainRefusal : ℕ → ℕ → Config → Table → Node → Table → PassError → Type 0
+IsChainRefusal unresolved top config old before new error.NoMemory = Unit {0}
+IsChainRefusal unresolved top config old before new error.MarksSpent = 4294967295 < greatest old + marks_for before
+IsChainRefusal unresolved top config old before new error.CounterSpent =
+    OnceMarked unresolved top old before new (λ t. IsRenameRefusal new config hygiene_renaming t error.CounterSpent)
+IsChainRefusal unresolved top config old before new error.NotAssignable = OnceMarked unresolved top old before new (λ t. IsUnassignable new config t)

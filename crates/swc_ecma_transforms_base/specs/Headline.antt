@@ -1,0 +1,27 @@
+-- What is promised of a module whose names and parentheses are set for a reader.
+use Rattle.std.specs.Prelude.{◌≡◌, ◌⊎◌, ℕ}
+use Rattle.swc_tree_marks.specs.declared.error.PassError.{PassError}
+use Rattle.swc_tree_marks.specs.declared.error.PassError.TheVariants as error
+use Rattle.swc_tree_marks.specs.Globals.{Table}
+use Rattle.swc_tree_node.specs.declared.node.Node.{Node}
+use Rattle.swc_tree_scoping.specs.Resolved.{Resolved}
+use Rattle.swc_tree_scoping.specs.WellScoped.{WellScoped}
+use Rattle.swc_tree_renaming.specs.Apart.{Knows, SameIds}
+use Rattle.swc_tree_grammar.specs.Grammar.{FitsGrammar}
+use Rattle.swc_tree_grammar.specs.Normal.{normal_form}
+use Rattle.swc_tree_grammar.specs.Same.{SameButForBoundNames}
+
+-- however the answer is resolved, where the mark of free names is known, it gives two kept names one id exactly if the module did
+abbrev pub KeepsIds : Node → Node → Type 0
+KeepsIds before after = (unresolved top : ℕ) (old new : Table) (u : Node) → Knows old unresolved → Resolved unresolved top old new after u → SameIds (normal_form before) (normal_form u)
+
+-- the grammar derives the answer, it has the normal form of the module but for the names that the module binds, and where the
+-- module is well-scoped its names mean what they meant
+pub record KeepsItsPromises (before after : Node) : Type 0 where
+  pub derived : FitsGrammar after
+  pub normal_form : SameButForBoundNames before after
+  pub ids : WellScoped before → KeepsIds before after
+
+-- there is no other refusal: neither marks nor targets are to blame
+abbrev pub IsOfMemoryOrCounters : PassError → Type 0
+IsOfMemoryOrCounters e = (e ≡ error.NoMemory) ⊎ (e ≡ error.CounterSpent)

@@ -1,0 +1,4 @@
+pub mod Chained
+pub mod Finished
+pub mod Headline
+pub mod Lent

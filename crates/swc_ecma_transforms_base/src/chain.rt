@@ -1,0 +1,76 @@
+//! The resolver, hygiene and the fixer.
+ghost use Rattle.std.specs.Prelude.{◌≢◌, OnOk, OnErr, IfErr};
+ghost use Rattle.swc_tree.specs.Passes.{IsEmptied, IsEmptiedScript};
+ghost use Rattle.swc_tree_modules.specs.Nodes.{module_node, script_node};
+ghost use Rattle.swc_ecma_transforms_base.specs.Chained.{Chains, HasFreshMarks, IsChainRefusal};
+
+use crate::finish::{finish_module, finish_script};
+use std::alloc::Global;
+use std::mem;
+use swc_base_rename::Config;
+use swc_base_resolver::resolver;
+use swc_tree::{
+    Comments, Globals, JsPass, Mark, Module, PassError, Script, empty_module, empty_script,
+};
+
+/// Resolves a program, makes texts alone tell its names apart, and then sets its parentheses anew. Neither mark may be the
+/// root; which scope each name means is promised where `marks_ok` holds of them.
+///
+/// # Errors
+///
+/// Those of the first of the three passes that is refused: `MarksSpent` where the table has no room for a mark to each scope,
+/// `CounterSpent` where no counter below the greatest `usize` gives an id a free text, `NotAssignable` where a parenthesised
+/// target takes no value, `NoMemory`. The program is then empty, with its span and no `#!` line; the table may have gained
+/// marks.
+pub fn chain_module<C: Comments>(
+    alloc: Global,
+    globals: &mut Globals,
+    unresolved: Mark,
+    top: Mark,
+    config: Config,
+    comments: Option<&mut C>,
+    program: &mut Module,
+) -> Result<(), PassError>
+    requires unresolved { unresolved ≢ 0 }
+    requires top { top ≢ 0 }
+    ensures done { OnOk result (Chains unresolved top config globals.old (module_node program.old) globals.new (module_node program.new)) }
+    ensures refused { OnErr result (IsEmptied program.old program.new) }
+    ensures cause { IfErr result (IsChainRefusal unresolved top config globals.old (module_node program.old) globals.new) }
+    ensures marks { HasFreshMarks top globals.old (module_node program.old) globals.new }
+{
+    let mut module = mem::replace(program, empty_module(alloc, program.span));
+    let mut resolver = resolver(unresolved, top);
+    resolver.visit_mut_module(alloc, globals, &mut module)?;
+    finish_module(alloc, globals, config, comments, &mut module)?;
+    *program = module;
+    Ok(())
+}
+
+/// The same for a program of the goal Script.
+///
+/// # Errors
+///
+/// Those of `chain_module`.
+pub fn chain_script<C: Comments>(
+    alloc: Global,
+    globals: &mut Globals,
+    unresolved: Mark,
+    top: Mark,
+    config: Config,
+    comments: Option<&mut C>,
+    program: &mut Script,
+) -> Result<(), PassError>
+    requires unresolved { unresolved ≢ 0 }
+    requires top { top ≢ 0 }
+    ensures done { OnOk result (Chains unresolved top config globals.old (script_node program.old) globals.new (script_node program.new)) }
+    ensures refused { OnErr result (IsEmptiedScript program.old program.new) }
+    ensures cause { IfErr result (IsChainRefusal unresolved top config globals.old (script_node program.old) globals.new) }
+    ensures marks { HasFreshMarks top globals.old (script_node program.old) globals.new }
+{
+    let mut script = mem::replace(program, empty_script(alloc, program.span));
+    let mut resolver = resolver(unresolved, top);
+    resolver.visit_mut_script(alloc, globals, &mut script)?;
+    finish_script(alloc, globals, config, comments, &mut script)?;
+    *program = script;
+    Ok(())
+}

@@ -1,0 +1,2 @@
+//! Looking into expressions.
+pub use swc_tree::{AsOptExpr, ExprRefExt};

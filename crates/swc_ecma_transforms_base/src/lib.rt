@@ -1,0 +1,25 @@
+//! The passes of swc's `swc_ecma_transforms_base` under its module paths, and the calls that run them one after another.
+//!
+//! `finish_module` runs hygiene and then the fixer, `chain_module` the resolver before them. `specs/Finished.antt` and
+//! `specs/Chained.antt` say what they make of a program and when they refuse one, `specs/Headline.antt` what is promised of the
+//! answer.
+#![tactic(auto)]
+
+pub mod assumptions;
+mod chain;
+pub mod ext;
+pub mod feature;
+mod finish;
+mod fixed;
+pub mod fixer;
+pub mod helpers;
+pub mod hygiene;
+pub mod native;
+pub mod pass;
+pub mod perf;
+pub mod rename;
+pub mod resolver;
+pub mod scope;
+
+pub use chain::{chain_module, chain_script};
+pub use finish::{finish_module, finish_script};

@@ -1,0 +1,2 @@
+//! Passes over programs.
+pub use swc_tree::{JsPass, Noop, noop};

@@ -1,0 +1,6 @@
+use Rattle.swc_ecma_transforms_base_laws.proofs.finishing_keeps_ids.Goals as goal
+use Rattle.swc_ecma_transforms_base_laws.proofs.Kept.{keeps_ids}
+
+-- src/lib.rt
+pub returns : goal.returns
+returns c = keeps_ids c.hygiene_keeps_ids.ensures c.hygiene_stays_writable.ensures c.targets_stand_bare.ensures c.fixed_fits.ensures c.normal_form_stays.ensures

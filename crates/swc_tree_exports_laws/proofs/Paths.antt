@@ -1,0 +1,436 @@
+-- The references in export lists are what is exported so.
+use Rattle.std.proofs.Common.{◌≡◌, ℕ, zero, suc, Bool, true, false, not, ◌||◌, IsTrue, inl, inr, ⊎_elim, Option, Some, None, List, [], ◌∷◌, ◌++◌, map, refl, sym, ap, ◌∙◌, subst, cond}
+use Rattle.std.specs.List.{flat_map, list_all, slice_get}
+use Rattle.std.specs.Prelude.{unwrap_or, option_map}
+use Rattle.swc_tree_marks.specs.declared.ident.Ident.{Ident}
+use Rattle.swc_tree_node.specs.declared.kind.Kind.{Kind}
+use Rattle.swc_tree_node.specs.declared.kind.Kind.TheVariants as kind
+use Rattle.swc_tree_node.specs.declared.kind.Class.TheVariants as class
+use Rattle.swc_tree_node.specs.declared.slot.Content.{Content}
+use Rattle.swc_tree_node.specs.declared.slot.Content.TheVariants as content
+use Rattle.swc_tree_node.specs.declared.slot.Role.{Role}
+use Rattle.swc_tree_node.specs.declared.slot.Role.TheVariants as role
+use Rattle.swc_tree_node.specs.declared.slot.Slot.{Slot}
+use Rattle.swc_tree_node.specs.declared.slot.Slot.TheVariants as slot
+use Rattle.swc_tree_node.specs.declared.node.Node.{Node, List as Many, Identifier, Tree, out-Node}
+use Rattle.swc_tree_node.specs.declared.node.Node.TheOpen.{Node-F}
+use Rattle.swc_tree_node.specs.declared.node.Node.TheVariants.{outs-Identifier, outs-List, outs-Tree}
+use Rattle.swc_tree_node.specs.Table.{fields_of, is_identifier, slots_of}
+use Rattle.swc_tree_node.specs.Fits.{AllFit, FieldsFit, Fits, belongs, fits, list_fits}
+use Rattle.swc_tree_node.proofs.Fit.{all_open, both as both_are, fields_open, fits-Flag, fits-List, fits-Span, fits-Text, fits-Word}
+use Rattle.swc_tree_scoping.specs.declared.places.Place.{Place}
+use Rattle.swc_tree_scoping.specs.declared.places.Standing.TheVariants as standing
+use Rattle.swc_tree_scoping.specs.Places.{Path, absent_in, child, children_in, field_role, is_there, place_at, place_below, place_in, program_place}
+use Rattle.swc_tree_scoping.specs.Scopes.{is_name}
+use Rattle.swc_tree_scoping.specs.WellScoped.{InExportList}
+use Rattle.swc_tree_scoping.proofs.Remarked.{list_is, tree_is}
+use Rattle.swc_tree_scoping.proofs.Under.{by_children, no_place_under, place_under}
+use Rattle.swc_tree_grammar.specs.Levels.{is_absent_in}
+use Rattle.swc_tree_grammar.specs.Places.{content_of}
+use Rattle.swc_tree_grammar.specs.Shapes.{items_of}
+use Rattle.swc_tree_grammar.proofs.Induction.{by_children as by_nodes}
+use Rattle.swc_tree_grammar.proofs.Items.{items_of_list, listed as as_list}
+use Rattle.swc_tree_grammar.proofs.Places.{one, stands, stands_there}
+use Rattle.swc_tree_renaming.proofs.Shape.{some_same}
+use Rattle.swc_tree_sites.specs.Sites.{Entry, Site, Sites, both, counted, nothing}
+use Rattle.swc_tree_sites.specs.Smaller.{In}
+use Rattle.swc_tree_sites.proofs.Found.{env_at, finds}
+use Rattle.swc_tree_sites.proofs.Kept.{S, all, both_nothing, of_list, out_step}
+use Rattle.swc_tree_sites.proofs.Leaves.{Field}
+use Rattle.swc_tree_sites.proofs.Loose.{in_cases, in_left, in_right}
+use Rattle.swc_tree_sites.proofs.Pending.{field_at}
+use Rattle.swc_tree_sites_laws.proofs.Expressions.{P, of_identifier, tree_alike}
+use Rattle.swc_tree_sites_laws.proofs.Parts.{single_content}
+use Rattle.swc_tree_sites_laws.proofs.StrippedFewer.{of_absent, of_leaf}
+use Rattle.swc_tree_sites_written.proofs.WrittenNames.{outer_name, outer_quiet}
+use Rattle.swc_tree_exports_laws.specs.Exported.{exported_locals, listed, module_in, name_in, specified}
+use Rattle.swc_tree_exports_laws.specs.Laws.{ExportListsAreListed}
+use Rattle.swc_tree_exports_laws.proofs.Items.{is_list_kind, listed_tree, no_item_name, of_class, specified_tree}
+
+abbrev Top : Place
+Top = P standing.Plain false
+
+-- ---- where export lists stand
+
+abbrev is_export_role : Role → Bool
+is_export_role role.ExportLocal = true
+is_export_role _ = false
+
+export_fields : (k : Kind) → list_all (λ f. not (is_export_role f.2)) (fields_of k) ≡ not (is_list_kind k)
+export_fields kind.NamedExport = refl
+export_fields kind.Module = refl
+export_fields _ = refl
+
+all_at : (g : Field → Bool) (fs : List Field) (i : ℕ) (f : Field) → list_all g fs ≡ true → slice_get fs i ≡ Some f → g f ≡ true
+all_at g [] i f h e = absurd (cc)
+all_at g (x ∷ fs) zero f h e = let same : x ≡ f = cc in ap g (sym same) ∙ (both_are (g x) (list_all g fs) h).0
+all_at g (x ∷ fs) (suc i) f h e = all_at g fs i f (both_are (g x) (list_all g fs) h).1 e
+
+list_kind : (k : Kind) → is_list_kind k ≡ true → k ≡ kind.NamedExport
+list_kind kind.NamedExport h = refl
+list_kind _ h = absurd (cc)
+
+export_kind : (k : Kind) (i : ℕ) → field_role k i ≡ role.ExportLocal → k ≡ kind.NamedExport
+export_kind k i e = at (is_list_kind k) refl (slice_get (fields_of k) i) refl
+  where
+    at : (b : Bool) → is_list_kind k ≡ b → (o : Option Field) → slice_get (fields_of k) i ≡ o → k ≡ kind.NamedExport
+    at true h o g = list_kind k h
+    at false h None g = let z : role.Plain ≡ role.ExportLocal = sym (ap (λ o. unwrap_or (option_map (λ f. f.2) o) role.Plain) g) ∙ e in absurd (cc)
+    at false h (Some f) g =
+        let r : f.2 ≡ role.ExportLocal = sym (ap (λ o. unwrap_or (option_map (λ f. f.2) o) role.Plain) g) ∙ e in
+        let z = all_at (λ f. not (is_export_role f.2)) (fields_of k) i f (export_fields k ∙ ap not h) g in
+        let y : false ≡ true = sym (ap (λ r. not (is_export_role r)) r) ∙ z in absurd (cc)
+
+export_field : (i : ℕ) → field_role kind.NamedExport i ≡ role.ExportLocal → i ≡ 1
+export_field zero e = absurd (cc)
+export_field (suc zero) e = refl
+export_field (suc (suc zero)) e = absurd (cc)
+export_field (suc (suc (suc zero))) e = absurd (cc)
+export_field (suc (suc (suc (suc i)))) e = absurd (cc)
+
+-- a place that takes export lists, or modules
+abbrev exporting_in : Option Content → Bool
+exporting_in (Some (content.Node c)) = belongs kind.NamedExport c || belongs kind.Module c
+exporting_in _ = false
+
+abbrev exporting : Slot → Bool
+exporting s = exporting_in (content_of s)
+
+abbrev is_module_kind : Kind → Bool
+is_module_kind kind.Module = true
+is_module_kind _ = false
+
+quiet_fields : (k : Kind) → list_all (λ f. not (exporting f.1)) (fields_of k) ≡ not (is_module_kind k)
+quiet_fields kind.Module = refl
+quiet_fields _ = refl
+
+module_kind : (k : Kind) → is_module_kind k ≡ true → k ≡ kind.Module
+module_kind kind.Module h = refl
+module_kind _ h = absurd (cc)
+
+or_left : (a b : Bool) → a ≡ true → (a || b) ≡ true
+or_left true b h = refl
+or_left false b h = absurd (cc)
+
+or_right : (a b : Bool) → b ≡ true → (a || b) ≡ true
+or_right true b h = refl
+or_right false b h = h
+
+texts_fit : (ts : List Node) → FieldsFit (slot.One content.Text ∷ slot.One content.Text ∷ []) ts → AllFit (slot.One content.Text) ts
+texts_fit [] h = tt
+texts_fit (t ∷ []) h = absurd h.1
+texts_fit (t ∷ u ∷ []) h = (h.0, (h.1.0, tt))
+texts_fit (t ∷ u ∷ v ∷ ts) h = absurd h.1.1
+
+list_items : (s : Slot) (ts : List Node) → IsTrue (list_fits (map fits ts) s) → exporting s ≡ false → (u : Slot) × AllFit u ts × (exporting u ≡ false)
+list_items (slot.List c) ts f e = (slot.One c, all_open (slot.One c) ts f, e)
+list_items (slot.OptionalList c) ts f e = (slot.One c, all_open (slot.One c) ts f, e)
+list_items (slot.Holes c) ts f e = (slot.Optional c, all_open (slot.Optional c) ts f, e)
+list_items slot.Pairs ts f e = (slot.Pair, all_open slot.Pair ts f, refl)
+list_items slot.Pair ts f e = (slot.One content.Text, texts_fit ts (fields_open (slot.One content.Text ∷ slot.One content.Text ∷ []) ts f), refl)
+list_items (slot.One c) ts f e = absurd (cc)
+list_items (slot.Optional c) ts f e = absurd (cc)
+
+fit_at : (s : Slot) (ts : List Node) (i : ℕ) (c : Node) → AllFit s ts → slice_get ts i ≡ Some c → Fits c s
+fit_at s [] i c f e = absurd (cc)
+fit_at s (t ∷ ts) zero c f e = let same : t ≡ c = cc in subst (λ c. Fits c s) same f.0
+fit_at s (t ∷ ts) (suc i) c f e = fit_at s ts i c f.1 e
+
+abbrev NoList : Node → Type 0
+NoList t = (s : Slot) → Fits t s → exporting s ≡ false → (v : Place) (q : Path) (w : Place) (ts : List Node) → place_at v t q ≡ Some (w, Tree kind.NamedExport ts) → ⊥
+
+-- no export list stands below what takes none
+no_list : (t : Node) → NoList t
+no_list = by_children NoList (λ t below s f e v q w ts h. at t below s f e v q w ts h)
+  where
+    kind_here : (s : Slot) (k : Kind) (ts : List Node) → Fits (Tree k ts) s → exporting s ≡ false → (is_module_kind k ≡ true → ⊥) × (k ≡ kind.NamedExport → ⊥)
+    kind_here s k ts f e =
+        let w = stands k ts s f in
+        let c : exporting s ≡ (belongs kind.NamedExport w.in_class || belongs kind.Module w.in_class) = ap exporting_in (single_content s (content.Node w.in_class) w.place) in (
+          (λ m. let z = or_right (belongs kind.NamedExport w.in_class) (belongs kind.Module w.in_class) (subst (λ k. IsTrue (belongs k w.in_class)) (module_kind k m) w.belonging) in absurd (cc (sym e ∙ c ∙ z))),
+          (λ m. let z = or_left (belongs kind.NamedExport w.in_class) (belongs kind.Module w.in_class) (subst (λ k. IsTrue (belongs k w.in_class)) m w.belonging) in absurd (cc (sym e ∙ c ∙ z))),
+        )
+
+    here : (t : Node) (s : Slot) → Fits t s → exporting s ≡ false → (v w : Place) (ts : List Node) → ◌≡◌ {A = Option (Place × Node)} (Some (v, t)) (Some (w, Tree kind.NamedExport ts)) → ⊥
+    here t s f e v w ts h =
+        let is : t ≡ Tree kind.NamedExport ts = ap (λ (q : Place × Node). q.1) (some_same (v, t) (w, Tree kind.NamedExport ts) h) in (kind_here s kind.NamedExport ts (subst (λ t. Fits t s) is f) e).1 refl
+
+    at : (t : Node) → ((j : ℕ) (c : Node) → child t j ≡ Some c → NoList c) → (s : Slot) → Fits t s → exporting s ≡ false → (v : Place) (q : Path) (w : Place) (ts : List Node) → place_at v t q ≡ Some (w, Tree kind.NamedExport ts) → ⊥
+    at t below s f e v [] w ts h = here t s f e v w ts h
+    at t below s f e v (j ∷ q) w ts h = by (child t j) refl
+      where
+        field : (k : Kind) (us : List Node) (c : Node) → out-Node t ≡ Node-F.Tree k us → child t j ≡ Some c → (b : Bool) → is_module_kind k ≡ b → ⊥
+        field k us c o z b m =
+            let fit : Fits (Tree k us) s = subst (λ t. Fits t s) (tree_is t k us o) f in
+            let (g, there, inside) = field_at (fields_of k) us j c (stands k us s fit).fields (sym (ap (λ y. slice_get (children_in y) j) o) ∙ z) in
+            at_kind b m fit g there inside
+          where
+            at_kind : (b : Bool) → is_module_kind k ≡ b → Fits (Tree k us) s → (g : Field) → slice_get (fields_of k) j ≡ Some g → Fits c g.1 → ⊥
+            at_kind true m fit g there inside = (kind_here s k us fit e).0 m
+            at_kind false m fit g there inside =
+                let quiet = not_true (exporting g.1) (all_at (λ f. not (exporting f.1)) (fields_of k) j g (quiet_fields k ∙ ap not m) there) in
+                below j c z g.1 inside quiet (place_below v t j) q w ts (sym (place_under v t c j q z) ∙ h)
+              where
+                not_true : (x : Bool) → not x ≡ true → x ≡ false
+                not_true true h = absurd (cc)
+                not_true false h = refl
+
+        item : (us : List Node) (c : Node) → out-Node t ≡ Node-F.List us → child t j ≡ Some c → ⊥
+        item us c o z =
+            let fit : Fits (Many us) s = subst (λ t. Fits t s) (list_is t us o) f in
+            let (u, items, quiet) = list_items s us (sym (fits-List us s) ∙ fit) e in
+            below j c z u (fit_at u us j c items (sym (ap (λ y. slice_get (children_in y) j) o) ∙ z)) quiet (place_below v t j) q w ts (sym (place_under v t c j q z) ∙ h)
+
+        node : (y : Node-F Node) (c : Node) → out-Node t ≡ y → child t j ≡ Some c → ⊥
+        node (Node-F.List us) c o z = item us c o z
+        node (Node-F.Tree k us) c o z = field k us c o z (is_module_kind k) refl
+        node Node-F.Absent c o z = let y : Some c ≡ None = sym z ∙ ap (λ y. slice_get (children_in y) j) o in absurd (cc)
+        node (Node-F.Flag x) c o z = let y : Some c ≡ None = sym z ∙ ap (λ y. slice_get (children_in y) j) o in absurd (cc)
+        node (Node-F.Word x) c o z = let y : Some c ≡ None = sym z ∙ ap (λ y. slice_get (children_in y) j) o in absurd (cc)
+        node (Node-F.Text x) c o z = let y : Some c ≡ None = sym z ∙ ap (λ y. slice_get (children_in y) j) o in absurd (cc)
+        node (Node-F.Span x) c o z = let y : Some c ≡ None = sym z ∙ ap (λ y. slice_get (children_in y) j) o in absurd (cc)
+        node (Node-F.Identifier k x) c o z = let y : Some c ≡ None = sym z ∙ ap (λ y. slice_get (children_in y) j) o in absurd (cc)
+
+        by : (o : Option Node) → child t j ≡ o → ⊥
+        by None z = let y = sym (no_place_under v t j q z) ∙ h in absurd (cc)
+        by (Some c) z = node (out-Node t) c refl z
+
+-- ---- the names of a specifier
+
+optional_outer : (n : Bool) (t : Node) → Fits t (slot.Optional (content.Node class.ModuleExportName)) → S (P standing.Exported n) t ≡ nothing
+optional_outer n t = by_nodes (λ t. Fits t (slot.Optional (content.Node class.ModuleExportName)) → S (P standing.Exported n) t ≡ nothing) (
+  λ f. of_absent (P standing.Exported n),
+  λ x f. absurd (cc (sym (fits-Flag x (slot.Optional (content.Node class.ModuleExportName))) ∙ f)),
+  λ v f. absurd (cc (sym (fits-Word v (slot.Optional (content.Node class.ModuleExportName))) ∙ f)),
+  λ x f. absurd (cc (sym (fits-Text x (slot.Optional (content.Node class.ModuleExportName))) ∙ f)),
+  λ r f. absurd (cc (sym (fits-Span r (slot.Optional (content.Node class.ModuleExportName))) ∙ f)),
+  λ k i f. outer_quiet standing.Exported n k i refl,
+)
+    (λ ts b f. absurd (cc (sym (fits-List ts (slot.Optional (content.Node class.ModuleExportName))) ∙ f)))
+    (λ k ts b f.
+    let w = stands k ts (slot.Optional (content.Node class.ModuleExportName)) f in
+    outer_name (Tree k ts) standing.Exported n (stands_there k ts (one class.ModuleExportName) (record { in_class = w.in_class; place = w.place; no_identifier = w.no_identifier; belonging = w.belonging; fields = w.fields })) refl) t
+
+abbrev refers : Ident → List Entry → Site
+refers i env = (standing.Reference, i, env)
+
+-- the local name of a specifier, where it is a reference
+local_name : (n : Bool) (o : Node) → Fits o (one class.ModuleExportName) → (i : Ident) (env : List Entry) → In (refers i env) (S (P standing.Reference n) o).sites → In i (name_in (out-Node o))
+local_name n o f i env = of_class class.ModuleExportName (λ o. Fits o (one class.ModuleExportName) → In (refers i env) (S (P standing.Reference n) o).sites → In i (name_in (out-Node o)))
+    (λ k j a b f h. subst (λ y. In i (name_in y)) (sym (outs-Identifier k j)) (named k j (subst (λ (a : Sites). In (refers i env) a.sites) (of_identifier (P standing.Reference n) k j) h)))
+    (λ k ts b g f h. absurd (subst (λ (a : Sites). In (refers i env) a.sites) (tree_alike k ts standing.Reference standing.Exported n refl refl (as_expression k b) ∙ outer_name (Tree k ts) standing.Exported n f refl) h)) o f f
+  where
+    named : (k : Kind) (j : Ident) → In (refers i env) ((standing.Reference, j, []) ∷ []) → In i (j ∷ [])
+    named k j (inl e) = inl (ap (λ (s : Site). s.1) e)
+    named k j (inr e) = absurd e
+
+    as_expression : (k : Kind) → IsTrue (belongs k class.ModuleExportName) → IsTrue (belongs k class.Expr)
+    as_expression kind.Str b = refl
+    as_expression kind.Ident b = refl
+    as_expression _ b = absurd (cc)
+
+abbrev Speaks : Node → Type 0
+Speaks u = (n there : Bool) (i : Ident) (env : List Entry) → In (refers i env) (S (P (cond there standing.Imported standing.Reference) n) u).sites → (there ≡ false) × In i (specified u)
+
+speaks : (u : Node) → Fits u (one class.ExportSpecifier) → Speaks u
+speaks = of_class class.ExportSpecifier Speaks (λ k i a b. absurd (no_name k a b)) at
+  where
+    no_name : (k : Kind) → IsTrue (is_identifier k) → IsTrue (belongs k class.ExportSpecifier) → ⊥
+    no_name kind.Ident a b = absurd (cc)
+    no_name kind.BindingIdent a b = absurd (cc)
+    no_name _ a b = absurd (cc)
+
+    named : (q o e : Node) → FieldsFit (slots_of kind.ExportNamedSpecifier) (q ∷ o ∷ e ∷ []) → Speaks (Tree kind.ExportNamedSpecifier (q ∷ o ∷ e ∷ []))
+    named q o e f n true i env h =
+        let is : S (P standing.Imported n) (Tree kind.ExportNamedSpecifier (q ∷ o ∷ e ∷ [])) ≡ nothing
+        = out_step (P standing.Imported n) _ _ (outs-Tree kind.ExportNamedSpecifier (q ∷ o ∷ e ∷ []))
+        ∙ ap (λ x. both x (both (S (P standing.Imported n) o) (both (S (P standing.Exported n) e) nothing))) (of_leaf (P standing.Plain n) content.Span q refl f.0)
+        ∙ ap (λ x. both x (both (S (P standing.Exported n) e) nothing)) (outer_name o standing.Imported n f.1.0 refl) ∙ ap (λ x. both x nothing) (optional_outer n e f.1.1.0) in
+        absurd (subst (λ (a : Sites). In (refers i env) a.sites) is h)
+    named q o e f n false i env h =
+        let is : S (P standing.Reference n) (Tree kind.ExportNamedSpecifier (q ∷ o ∷ e ∷ [])) ≡ S (P standing.Reference n) o
+        = out_step (P standing.Reference n) _ _ (outs-Tree kind.ExportNamedSpecifier (q ∷ o ∷ e ∷ []))
+        ∙ ap (λ x. both x (both (S (P standing.Reference n) o) (both (S (P standing.Exported n) e) nothing))) (of_leaf (P standing.Plain n) content.Span q refl f.0)
+        ∙ ap (λ x. both (S (P standing.Reference n) o) (both x nothing)) (optional_outer n e f.1.1.0) ∙ both_nothing (S (P standing.Reference n) o) in
+        (refl, subst (In i) (sym (specified_tree kind.ExportNamedSpecifier (q ∷ o ∷ e ∷ []))) (local_name n o f.1.0 i env (subst (λ (a : Sites). In (refers i env) a.sites) is h)))
+
+    namespace : (q o : Node) → FieldsFit (slots_of kind.ExportNamespaceSpecifier) (q ∷ o ∷ []) → Speaks (Tree kind.ExportNamespaceSpecifier (q ∷ o ∷ []))
+    namespace q o f n there i env h =
+        let is : S (P (cond there standing.Imported standing.Reference) n) (Tree kind.ExportNamespaceSpecifier (q ∷ o ∷ [])) ≡ nothing
+        = out_step (P (cond there standing.Imported standing.Reference) n) _ _ (outs-Tree kind.ExportNamespaceSpecifier (q ∷ o ∷ []))
+        ∙ ap (λ x. both x (both (S (P standing.Exported n) o) nothing)) (of_leaf (P standing.Plain n) content.Span q refl f.0) ∙ ap (λ x. both x nothing) (outer_name o standing.Exported n f.1.0 refl) in
+        absurd (subst (λ (a : Sites). In (refers i env) a.sites) is h)
+
+    at : (k : Kind) (ts : List Node) → IsTrue (belongs k class.ExportSpecifier) → FieldsFit (slots_of k) ts → Speaks (Tree k ts)
+    at kind.ExportNamedSpecifier (q ∷ o ∷ e ∷ []) b f = named q o e f
+    at kind.ExportNamedSpecifier [] b f = absurd f
+    at kind.ExportNamedSpecifier (q ∷ []) b f = absurd f.1
+    at kind.ExportNamedSpecifier (q ∷ o ∷ []) b f = absurd f.1.1
+    at kind.ExportNamedSpecifier (q ∷ o ∷ e ∷ x ∷ ts) b f = absurd f.1.1.1
+    at kind.ExportNamespaceSpecifier (q ∷ o ∷ []) b f = namespace q o f
+    at kind.ExportNamespaceSpecifier [] b f = absurd f
+    at kind.ExportNamespaceSpecifier (q ∷ []) b f = absurd f.1
+    at kind.ExportNamespaceSpecifier (q ∷ o ∷ x ∷ ts) b f = absurd f.1.1
+    at _ ts b f = absurd (cc)
+
+-- ... of a list
+all_speak : (us : List Node) → AllFit (one class.ExportSpecifier) us → (n there : Bool) (i : Ident) (env : List Entry) → In (refers i env) (all (P (cond there standing.Imported standing.Reference) n) us).sites → (there ≡ false) × In i (flat_map specified us)
+all_speak [] f n there i env h = absurd h
+all_speak (u ∷ us) f n there i env h = ⊎_elim
+    (λ g. let (e, k) = speaks u f.0 n there i env g in (e, in_left i (specified u) (flat_map specified us) k))
+    (λ g. let (e, k) = all_speak us f.1 n there i env g in (e, in_right i (specified u) (flat_map specified us) k))
+    (in_cases (refers i env) (S (P (cond there standing.Imported standing.Reference) n) u).sites (all (P (cond there standing.Imported standing.Reference) n) us).sites h)
+
+no_patterns : (n there : Bool) (us : List Node) → S (P (cond there standing.Imported standing.Reference) n) (Many us) ≡ all (P (cond there standing.Imported standing.Reference) n) us
+no_patterns n true us = of_list (P standing.Imported n) us refl
+no_patterns n false us = of_list (P standing.Reference n) us refl
+
+absent_same : (y : Node-F Node) → not (absent_in y) ≡ false → is_absent_in y ≡ true
+absent_same Node-F.Absent h = refl
+absent_same _ h = absurd (cc)
+
+-- ---- a list of a module
+
+list_speaks : (a b s d : Node) → FieldsFit (slots_of kind.NamedExport) (a ∷ b ∷ s ∷ d ∷ []) → (below : Path) (w : Place) (k : Kind) (i : Ident) → place_at Top (Tree kind.NamedExport (a ∷ b ∷ s ∷ d ∷ [])) (1 ∷ below) ≡ Some (w, Identifier k i) → w.standing ≡ standing.Reference
+    → In i (listed (Tree kind.NamedExport (a ∷ b ∷ s ∷ d ∷ [])))
+list_speaks a b s d f below w k i h r =
+    let there = is_there (Some s) in
+    let l = as_list b (content.Node class.ExportSpecifier) f.1.0 in
+    let place : place_at (P (cond (is_there (Some s)) standing.Imported standing.Reference) false) b below ≡ Some (w, Identifier k i)
+    = ap (λ v. place_at v b below) (sym (ap (λ y. place_in Top y 1) (outs-Tree kind.NamedExport (a ∷ b ∷ s ∷ d ∷ []))))
+    ∙ sym (place_under Top (Tree kind.NamedExport (a ∷ b ∷ s ∷ d ∷ [])) b 1 below (ap (λ y. slice_get (children_in y) 1) (outs-Tree kind.NamedExport (a ∷ b ∷ s ∷ d ∷ [])))) ∙ h in
+    let found = (finds b (P (cond (is_there (Some s)) standing.Imported standing.Reference) false) (refers i (env_at (P (cond (is_there (Some s)) standing.Imported standing.Reference) false) b below))).1
+    (record { path = below; place = w; kind = k; stands = place; stands_so = ap counted r; names = ap is_name r; env = refl }) in
+    let (none, own) = all_speak l.items l.fit false (is_there (Some s)) i (env_at (P (cond (is_there (Some s)) standing.Imported standing.Reference) false) b below)
+    (subst (λ (a : Sites). In (refers i (env_at (P (cond (is_there (Some s)) standing.Imported standing.Reference) false) b below)) a.sites) (ap (S (P (cond (is_there (Some s)) standing.Imported standing.Reference) false)) l.is ∙ no_patterns false (is_there (Some s)) l.items) found) in
+    subst (In i) (sym (listed_tree kind.NamedExport (a ∷ b ∷ s ∷ d ∷ []) ∙ ap (λ z. cond z (flat_map specified (items_of b)) []) (absent_same (out-Node s) none)))
+    (subst (λ us. In i (flat_map specified us)) (sym (ap items_of l.is ∙ items_of_list l.items)) own)
+
+abbrev Listed : Node → Node → Type 0
+Listed t c = (below : Path) (w : Place) (k : Kind) (i : Ident) → place_at Top c (1 ∷ below) ≡ Some (w, Identifier k i) → w.standing ≡ standing.Reference → In i (listed c)
+
+item_speaks : (c : Node) (ts : List Node) → Fits c (one class.ModuleItem) → c ≡ Tree kind.NamedExport ts → Listed c c
+item_speaks c ts f is = subst (λ c. Listed c c) (sym is) (at ts (stands kind.NamedExport ts (one class.ModuleItem) (subst (λ c. Fits c (one class.ModuleItem)) is f)).fields)
+  where
+    at : (ts : List Node) → FieldsFit (slots_of kind.NamedExport) ts → Listed (Tree kind.NamedExport ts) (Tree kind.NamedExport ts)
+    at (a ∷ b ∷ s ∷ d ∷ []) f = list_speaks a b s d f
+    at [] f = absurd f
+    at (a ∷ []) f = absurd f.1
+    at (a ∷ b ∷ []) f = absurd f.1.1
+    at (a ∷ b ∷ c ∷ []) f = absurd f.1.1.1
+    at (a ∷ b ∷ c ∷ d ∷ e ∷ ts) f = absurd f.1.1.1.1
+
+in_flat : (ts : List Node) (n : ℕ) (c : Node) (i : Ident) → slice_get ts n ≡ Some c → In i (listed c) → In i (flat_map listed ts)
+in_flat [] n c i e h = absurd (cc)
+in_flat (t ∷ ts) zero c i e h = let same : t ≡ c = cc in in_left i (listed t) (flat_map listed ts) (subst (λ c. In i (listed c)) (sym same) h)
+in_flat (t ∷ ts) (suc n) c i e h = in_right i (listed t) (flat_map listed ts) (in_flat ts n c i e h)
+
+-- ---- modules
+
+abbrev AreListed : Node → Type 0
+AreListed t = (p : Path) (w : Place) (k : Kind) (i : Ident) → InExportList t p → place_at program_place t p ≡ Some (w, Identifier k i) → w.standing ≡ standing.Reference → In i (exported_locals t)
+
+module _ (x z : Node) (us : List Node) (f : FieldsFit (slots_of kind.Module) (x ∷ Many us ∷ z ∷ [])) (items : AllFit (one class.ModuleItem) us) where
+  abbrev whole : Node
+  whole = Tree kind.Module (x ∷ Many us ∷ z ∷ [])
+
+  abbrev parts : List Node
+  parts = x ∷ Many us ∷ z ∷ []
+
+  child_is : (j : ℕ) → child whole j ≡ slice_get parts j
+  child_is j = ap (λ y. slice_get (children_in y) j) (outs-Tree kind.Module parts)
+
+  place_is : (j : ℕ) → place_below program_place whole j ≡ place_in program_place (Node-F.Tree kind.Module parts) j
+  place_is j = ap (λ y. place_in program_place y j) (outs-Tree kind.Module parts)
+
+  item_child : (n : ℕ) → child (Many us) n ≡ slice_get us n
+  item_child n = ap (λ y. slice_get (children_in y) n) (outs-List us)
+
+  item_place : (n : ℕ) → place_below Top (Many us) n ≡ Top
+  item_place n = ap (λ y. place_in Top y n) (outs-List us)
+
+  -- below the items
+  in_items : (p : Path) → place_at program_place whole (1 ∷ p) ≡ place_at Top (Many us) p
+  in_items p = place_under program_place whole (Many us) 1 p (child_is 1) ∙ ap (λ v. place_at v (Many us) p) (place_is 1)
+
+  in_item : (n : ℕ) (c : Node) (p : Path) → slice_get us n ≡ Some c → place_at Top (Many us) (n ∷ p) ≡ place_at Top c p
+  in_item n c p e = place_under Top (Many us) c n p (item_child n ∙ e) ∙ ap (λ v. place_at v c p) (item_place n)
+
+  -- an export list is an item
+  abbrev IsItem : Path → List Node → Type 0
+  IsItem q ts = (n : ℕ) × (c : Node) × (q ≡ 1 ∷ n ∷ []) × (slice_get us n ≡ Some c) × (c ≡ Tree kind.NamedExport ts)
+
+  below_item : (n : ℕ) (c : Node) (r : Path) (w : Place) (ts : List Node) → slice_get us n ≡ Some c → place_at Top c r ≡ Some (w, Tree kind.NamedExport ts) → IsItem (1 ∷ n ∷ r) ts
+  below_item n c [] w ts e h = (n, c, refl, e, ap (λ (q : Place × Node). q.1) (some_same (Top, c) (w, Tree kind.NamedExport ts) h))
+  below_item n c (j ∷ r) w ts e h = absurd (at (fit_at (one class.ModuleItem) us n c items e))
+    where
+      module_item : (k : Kind) → IsTrue (belongs k class.ModuleItem) → is_module_kind k ≡ false
+      module_item kind.Module b = absurd (cc)
+      module_item _ b = refl
+
+      not_true : (x : Bool) → not x ≡ true → x ≡ false
+      not_true true h = absurd (cc)
+      not_true false h = refl
+
+      at : Fits c (one class.ModuleItem) → ⊥
+      at g = of_class class.ModuleItem (λ c. place_at Top c (j ∷ r) ≡ Some (w, Tree kind.NamedExport ts) → ⊥) (λ k i a b. absurd (no_item_name k a b))
+          (λ k vs b fields h. by k vs b fields h (child (Tree k vs) j) refl) c g h
+        where
+          by : (k : Kind) (vs : List Node) → IsTrue (belongs k class.ModuleItem) → FieldsFit (slots_of k) vs → place_at Top (Tree k vs) (j ∷ r) ≡ Some (w, Tree kind.NamedExport ts) → (o : Option Node) → child (Tree k vs) j ≡ o → ⊥
+          by k vs b fields h None z = let y = sym (no_place_under Top (Tree k vs) j r z) ∙ h in absurd (cc)
+          by k vs b fields h (Some d) z =
+              let (g, there, inside) = field_at (fields_of k) vs j d fields (sym (ap (λ y. slice_get (children_in y) j) (outs-Tree k vs)) ∙ z) in
+              let quiet = not_true (exporting g.1) (all_at (λ f. not (exporting f.1)) (fields_of k) j g (quiet_fields k ∙ ap not (module_item k b)) there) in
+              no_list d g.1 inside quiet (place_below Top (Tree k vs) j) r w ts (sym (place_under Top (Tree k vs) d j r z) ∙ h)
+
+  below_items : (q : Path) (w : Place) (ts : List Node) → place_at Top (Many us) q ≡ Some (w, Tree kind.NamedExport ts) → IsItem (1 ∷ q) ts
+  below_items [] w ts h =
+      let is : Many us ≡ Tree kind.NamedExport ts = ap (λ (q : Place × Node). q.1) (some_same (Top, Many us) (w, Tree kind.NamedExport ts) h) in
+      let z : Node-F.List us ≡ Node-F.Tree kind.NamedExport ts = sym (outs-List us) ∙ ap out-Node is ∙ outs-Tree kind.NamedExport ts in
+      absurd (cc)
+  below_items (n ∷ q) w ts h = by (slice_get us n) refl
+    where
+      by : (o : Option Node) → slice_get us n ≡ o → IsItem (1 ∷ n ∷ q) ts
+      by None z = let y = sym (no_place_under Top (Many us) n q (item_child n ∙ z)) ∙ h in absurd (cc)
+      by (Some c) z = below_item n c q w ts z (sym (in_item n c q z) ∙ h)
+
+  elsewhere : (j : ℕ) (c : Node) (s : Slot) (q : Path) (w : Place) (ts : List Node) → slice_get parts j ≡ Some c → Fits c s → exporting s ≡ false → place_at program_place whole (j ∷ q) ≡ Some (w, Tree kind.NamedExport ts) → ⊥
+  elsewhere j c s q w ts e fit quiet h = no_list c s fit quiet (place_below program_place whole j) q w ts (sym (place_under program_place whole c j q (child_is j ∙ e)) ∙ h)
+
+  is_item : (q : Path) (w : Place) (ts : List Node) → place_at program_place whole q ≡ Some (w, Tree kind.NamedExport ts) → IsItem q ts
+  is_item [] w ts h =
+      let is : whole ≡ Tree kind.NamedExport ts = ap (λ (q : Place × Node). q.1) (some_same (program_place, whole) (w, Tree kind.NamedExport ts) h) in
+      let z : Node-F.Tree kind.Module parts ≡ Node-F.Tree kind.NamedExport ts = sym (outs-Tree kind.Module parts) ∙ ap out-Node is ∙ outs-Tree kind.NamedExport ts in
+      absurd (cc)
+  is_item (zero ∷ q) w ts h = absurd (elsewhere 0 x (slot.One content.Span) q w ts refl f.0 refl h)
+  is_item (suc zero ∷ q) w ts h = below_items q w ts (sym (in_items q) ∙ h)
+  is_item (suc (suc zero) ∷ q) w ts h = absurd (elsewhere 2 z (slot.Optional content.Text) q w ts refl f.1.1.0 refl h)
+  is_item (suc (suc (suc j)) ∷ q) w ts h = let y = sym (no_place_under program_place whole (suc (suc (suc j))) q (child_is (suc (suc (suc j))))) ∙ h in absurd (cc)
+
+  are_listed : AreListed whole
+  are_listed p w k i (q, below, j, v, l, ts, path, there, role_is) h r =
+      let kind_is = export_kind l j role_is in
+      let field_is = export_field j (ap (λ l. field_role l j) (sym kind_is) ∙ role_is) in
+      let (n, c, at, e, is) = is_item q v ts (there ∙ ap (λ l. Some (v, Tree l ts)) kind_is) in
+      let full : p ≡ 1 ∷ n ∷ 1 ∷ below = path ∙ ap (λ q. q ++ (j ∷ below)) at ∙ ap (λ j. 1 ∷ n ∷ j ∷ below) field_is in
+      let inside : place_at Top c (1 ∷ below) ≡ Some (w, Identifier k i) = sym (in_items (n ∷ 1 ∷ below) ∙ in_item n c (1 ∷ below) e) ∙ ap (place_at program_place whole) (sym full) ∙ h in
+      let own = item_speaks c ts (fit_at (one class.ModuleItem) us n c items e) is below w k i inside r in
+      subst (In i) (sym (ap module_in (outs-Tree kind.Module parts) ∙ ap (flat_map listed) (items_of_list us))) (in_flat us n c i e own)
+
+pub export_lists_are_listed : ExportListsAreListed
+export_lists_are_listed = of_class class.Module AreListed (λ k i a b. absurd (no_name k a b)) at
+  where
+    no_name : (k : Kind) → IsTrue (is_identifier k) → IsTrue (belongs k class.Module) → ⊥
+    no_name kind.Ident a b = absurd (cc)
+    no_name kind.BindingIdent a b = absurd (cc)
+    no_name _ a b = absurd (cc)
+
+    at : (k : Kind) (ts : List Node) → IsTrue (belongs k class.Module) → FieldsFit (slots_of k) ts → AreListed (Tree k ts)
+    at kind.Module [] b f = absurd f
+    at kind.Module (x ∷ []) b f = absurd f.1
+    at kind.Module (x ∷ y ∷ []) b f = absurd f.1.1
+    at kind.Module (x ∷ y ∷ z ∷ v ∷ ts) b f = absurd f.1.1.1
+    at kind.Module (x ∷ y ∷ z ∷ []) b f =
+        let l = as_list y (content.Node class.ModuleItem) f.1.0 in
+        subst (λ y. FieldsFit (slots_of kind.Module) (x ∷ y ∷ z ∷ []) → AreListed (Tree kind.Module (x ∷ y ∷ z ∷ []))) (sym l.is) (λ f. are_listed x z l.items f l.fit) f
+    at _ ts b f = absurd (cc)
