@@ -57,8 +57,9 @@ fn given(
 {
     let helpers = Helpers::from_data(held);
     let bodies = bodies.into_bodies();
-    let answer =
-        swc_base_tables_program::inject_helpers(alloc, globals, global, &helpers, bodies, program)?;
+    let answer = swc_base_tables_program::inject_helpers(
+        alloc, globals, global, &helpers, bodies, program,
+    )?;
     Ok(answer)
 }
 
