@@ -1,2 +1,4 @@
-//! The helpers that lowered programs call.
-pub use swc_base_tables_helpers::{Helper, HelperData, Helpers};
+//! The helpers that lowered programs call, and how they come into a program.
+pub use swc_base_tables::{
+    Helper, HelperBodies, HelperData, Helpers, InjectHelpers, helper, helper_expr, inject_helpers,
+};
