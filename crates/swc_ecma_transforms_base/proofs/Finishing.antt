@@ -1,5 +1,5 @@
 -- What finishing promises of a module that can be finished, by what its two passes lead to.
-use Rattle.std.proofs.Common.{◌≡◌, ◌⊎◌, true, false, Result, Ok, Err, OnOk, IfErr, refl, sym, subst, inl, inr}
+use Rattle.std.proofs.Common.{◌≡◌, ◌⊎◌, true, false, Result, Ok, Err, OnErr, IfErr, refl, sym, subst, inl, inr}
 use Rattle.swc_tree_marks.specs.declared.error.PassError.{PassError}
 use Rattle.swc_tree_marks.specs.declared.error.PassError.TheVariants as error
 use Rattle.swc_tree_marks.specs.Globals.{Table}
@@ -14,8 +14,11 @@ use Rattle.swc_tree_grammar.specs.Fixed.{recorded}
 use Rattle.swc_base_fixer_laws.proofs.AgainLaws.{all_normal_form_stays}
 use Rattle.swc_base_fixer_laws.proofs.Fixed.{fixed_fits, targets_stand_bare}
 use Rattle.swc_base_fixer_program.specs.Answers.{answer_to}
+use Rattle.swc_base_fixer.specs.Unparened.{IsRefusal}
 use Rattle.swc_base_rename_substitution.specs.declared.config.Config.{Config}
 use Rattle.swc_base_rename_program.specs.Renamed.{IsHygienic}
+use Rattle.swc_base_rename.specs.declared.hygienic.Hygiene.{Hygiene}
+use Rattle.swc_base_rename.specs.Hygiene.{MakesHygienic}
 use Rattle.swc_base_rename_hygiene_laws.proofs.KeepsNormal.{hygiene_keeps_normal_form}
 use Rattle.swc_base_rename_hygiene_laws.proofs.StaysWritable.{hygiene_stays_writable}
 use Rattle.swc_ecma_transforms_base_laws.specs.Finished.{FinishingKeepsIds, IsFinishable}
@@ -23,6 +26,28 @@ use Rattle.swc_ecma_transforms_base_laws.proofs.Kept.{keeps_modules, meets_no_ta
 use Rattle.swc_ecma_transforms_base.specs.Finished.{Finishes, IsFinishRefusal}
 use Rattle.swc_ecma_transforms_base.specs.Headline.{IsOfMemoryOrCounters, KeepsItsPromises}
 use Rattle.swc_ecma_transforms_base.proofs.Fitting.{hygiene_fits}
+
+pub made_hygienic : (table new : Table) (config : Config) (pass kept : Hygiene) (given before middle : Node) → pass.config ≡ config → given ≡ before → MakesHygienic pass table given kept new middle
+    → IsHygienic table config before middle
+made_hygienic table new config pass kept given before middle h same m =
+    subst (λ t. IsHygienic table config t middle) same (subst (λ k. IsHygienic table k given middle) h m.hygienic)
+
+pub where_refused : {T P : Type 0} (r : Result T PassError) → P → OnErr r P
+where_refused (Ok t) h = tt
+where_refused (Err e) h = h
+
+module _ (table : Table) (config : Config) (before middle : Node) (hygienic : IsHygienic table config before middle) where
+  refused : (e : PassError) → IsRefusal e → (e ≡ error.NotAssignable → all_bare middle ≡ false) → IsFinishRefusal table config before e
+  refused error.NoMemory r bare = tt
+  refused error.NotAssignable r bare = record { between = middle; hygienic = hygienic; unassignable = bare refl }
+  refused error.CounterSpent (inl q) bare = absurd (cc)
+  refused error.CounterSpent (inr q) bare = absurd (cc)
+  refused error.MarksSpent (inl q) bare = absurd (cc)
+  refused error.MarksSpent (inr q) bare = absurd (cc)
+
+  pub refused_by_fixer : {T : Type 0} (r : Result T PassError) → IfErr r IsRefusal → IfErr r (λ e. e ≡ error.NotAssignable → all_bare middle ≡ false) → IfErr r (IsFinishRefusal table config before)
+  refused_by_fixer (Ok t) h bare = tt
+  refused_by_fixer (Err e) h bare = refused e h bare
 
 module _ (table : Table) (config : Config) (before : Node) (finishable : IsFinishable config before) where
   fits : (middle : Node) → IsHygienic table config before middle → Fits middle (slot.One (content.Node class.Module))

@@ -1,12 +1,31 @@
-use Rattle.std.proofs.Common.{rules}
+use Rattle.std.proofs.Common.{ap, inr, rules}
 use Rattle.swc_tree_modules.specs.Nodes.{module_node}
-use Rattle.swc_ecma_transforms_base.proofs.Finishing.{meets_none, promised}
+use Rattle.swc_ecma_transforms_base.proofs.Finishing.{made_hygienic, meets_none, promised, refused_by_fixer, where_refused}
 use Rattle.swc_ecma_transforms_base.proofs.finish.finish_module_with.Goals as goal
 
 -- src/finish.rt
+pub returns-in_err-fix_module-clause-cause : goal.returns-in_err-fix_module-clause-cause
+returns-in_err-fix_module-clause-cause g c =
+    let m = made_hygienic c.args.globals.now c.visit_mut_module.new.globals c.args.config c.hygiene_with_config-hygiene.result c.visit_mut_module.new.self (module_node c.replace-module.result) (module_node c.args.program.now)
+    (module_node c.visit_mut_module.new.program) c.hygiene_with_config-hygiene.ensures (ap module_node c.replace-module.ensures.value) c.in_ok-visit_mut_module.ensures.done in
+    refused_by_fixer c.args.globals.now c.args.config (module_node c.args.program.now) (module_node c.visit_mut_module.new.program) m c.from_residual-in_err-fix_module.result (search rules) (search rules)
+
+pub returns-in_err-fix_module-clause-partly : goal.returns-in_err-fix_module-clause-partly
+returns-in_err-fix_module-clause-partly g c =
+    let m = made_hygienic c.args.globals.now c.visit_mut_module.new.globals c.args.config c.hygiene_with_config-hygiene.result c.visit_mut_module.new.self (module_node c.replace-module.result) (module_node c.args.program.now)
+    (module_node c.visit_mut_module.new.program) c.hygiene_with_config-hygiene.ensures (ap module_node c.replace-module.ensures.value) c.in_ok-visit_mut_module.ensures.done in
+    where_refused c.from_residual-in_err-fix_module.result (inr (module_node c.visit_mut_module.new.program, m, c.in_err-fix_module.ensures.partly))
+
 pub returns-in_err-fix_module-clause-no_target : goal.returns-in_err-fix_module-clause-no_target
-returns-in_err-fix_module-clause-no_target g c = λ f.
-    meets_none c.args.globals.now c.args.config (module_node c.args.program.now) f c.from_residual-in_err-fix_module.result (search rules)
+returns-in_err-fix_module-clause-no_target g c =
+    let m = made_hygienic c.args.globals.now c.visit_mut_module.new.globals c.args.config c.hygiene_with_config-hygiene.result c.visit_mut_module.new.self (module_node c.replace-module.result) (module_node c.args.program.now)
+    (module_node c.visit_mut_module.new.program) c.hygiene_with_config-hygiene.ensures (ap module_node c.replace-module.ensures.value) c.in_ok-visit_mut_module.ensures.done in
+    λ f. meets_none c.args.globals.now c.args.config (module_node c.args.program.now) f c.from_residual-in_err-fix_module.result
+    (refused_by_fixer c.args.globals.now c.args.config (module_node c.args.program.now) (module_node c.visit_mut_module.new.program) m c.from_residual-in_err-fix_module.result (search rules) (search rules))
 
 pub returns-clause-promises : goal.returns-clause-promises
-returns-clause-promises g c = λ f. promised c.args.globals.now c.args.config (module_node c.args.program.now) f c.finishing_keeps_ids.ensures (module_node c.fix_module.new.program) (search rules)
+returns-clause-promises g c =
+    let m = made_hygienic c.args.globals.now c.visit_mut_module.new.globals c.args.config c.hygiene_with_config-hygiene.result c.visit_mut_module.new.self (module_node c.replace-module.result) (module_node c.args.program.now)
+    (module_node c.visit_mut_module.new.program) c.hygiene_with_config-hygiene.ensures (ap module_node c.replace-module.ensures.value) c.in_ok-visit_mut_module.ensures.done in
+    λ f. promised c.args.globals.now c.args.config (module_node c.args.program.now) f c.finishing_keeps_ids.ensures (module_node c.fix_module.new.program)
+    (record { between = module_node c.visit_mut_module.new.program; hygienic = m; assignable = c.in_ok-fix_module.ensures.assignable; paired = c.in_ok-fix_module.ensures.answer })
