@@ -5,7 +5,7 @@ use Rattle.swc_tree_marks.specs.declared.error.PassError.TheVariants as error
 use Rattle.swc_tree_marks.specs.Globals.{Table}
 use Rattle.swc_tree_node.specs.declared.node.Node.{Node}
 use Rattle.swc_tree_scoping.specs.Resolved.{Resolved}
-use Rattle.swc_tree_scoping.specs.WellScoped.{WellScoped}
+use Rattle.swc_tree_scoping.specs.WellScoped.{NoEarlyErrorOfNames, WellScoped}
 use Rattle.swc_tree_renaming.specs.Apart.{Knows, SameIds}
 use Rattle.swc_tree_grammar.specs.Grammar.{FitsGrammar}
 use Rattle.swc_tree_grammar.specs.Normal.{normal_form}
@@ -16,11 +16,12 @@ abbrev pub KeepsIds : Node → Node → Type 0
 KeepsIds before after = (unresolved top : ℕ) (old new : Table) (u : Node) → Knows old unresolved → Resolved unresolved top old new after u → SameIds (normal_form before) (normal_form u)
 
 -- the grammar derives the answer, it has the normal form of the module but for the names that the module binds, and where the
--- module is well-scoped its names mean what they meant
+-- module is well-scoped its names mean what they meant, and no rule for declaring names is broken
 pub record KeepsItsPromises (before after : Node) : Type 0 where
   pub derived : FitsGrammar after
   pub normal_form : SameButForBoundNames before after
   pub ids : WellScoped before → KeepsIds before after
+  pub no_early_error : WellScoped before → NoEarlyErrorOfNames after
 
 -- there is no other refusal: neither marks nor targets are to blame
 abbrev pub IsOfMemoryOrCounters : PassError → Type 0
