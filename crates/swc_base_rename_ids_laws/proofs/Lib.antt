@@ -1,4 +1,4 @@
 mod Spans
-mod Exported
+pub mod Exported
 mod Captures
 mod Join

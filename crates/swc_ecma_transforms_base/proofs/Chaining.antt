@@ -1,13 +1,17 @@
 -- What chaining leads to, by what the resolver and finishing lead to.
-use Rattle.std.proofs.Common.{◌≡◌, ℕ, Result, Ok, Err, IfErr, subst}
+use Rattle.std.proofs.Common.{◌≡◌, ◌≢◌, ℕ, Result, Ok, Err, IfErr, inl, inr, subst, sym, ◌∙◌}
 use Rattle.swc_tree_marks.specs.declared.error.PassError.{PassError}
 use Rattle.swc_tree_marks.specs.declared.error.PassError.TheVariants as error
 use Rattle.swc_tree_marks.specs.Globals.{Table}
 use Rattle.swc_tree_node.specs.declared.node.Node.{Node}
 use Rattle.swc_base_resolver.specs.Visits.{ResolvesNode}
+use Rattle.swc_base_resolver_program.specs.Marked.{IsRefusal, MarksOk}
 use Rattle.swc_base_rename_substitution.specs.declared.config.Config.{Config}
+use Rattle.swc_ecma_transforms_base_laws.specs.Finished.{IsFinishable}
+use Rattle.swc_ecma_transforms_base_laws.specs.Sources.{IsReady, IsSource, ResolvedSourcesAreReady}
 use Rattle.swc_ecma_transforms_base.specs.Chained.{Chains, IsChainRefusal, IsMarked}
 use Rattle.swc_ecma_transforms_base.specs.Finished.{Finishes, IsFinishRefusal}
+use Rattle.swc_ecma_transforms_base.specs.Headline.{IsOfMemoryOrCounters, KeepsItsPromises, KeepsItsSource}
 
 pub marked : (unresolved top : ℕ) (pass kept : ℕ × ℕ) (old new : Table) (given before resolved : Node) → pass ≡ (unresolved, top) → given ≡ before → ResolvesNode pass old given kept new resolved
     → IsMarked unresolved top old before new resolved
@@ -28,3 +32,37 @@ module _ (unresolved top : ℕ) (config : Config) (old : Table) (before : Node) 
   pub refused_later : {T : Type 0} (r : Result T PassError) → IfErr r (IsFinishRefusal new config resolved) → IfErr r (IsChainRefusal unresolved top config old before new)
   refused_later (Ok t) h = tt
   refused_later (Err e) h = refused e h
+
+  ready : ResolvedSourcesAreReady → IsSource config before → MarksOk old unresolved top → IsReady config before resolved
+  ready law s ok = law config before resolved unresolved top old new s ok.0.1 (m.resolved ok)
+
+  pub source_kept : ResolvedSourcesAreReady → (after : Node) → (IsFinishable config resolved → KeepsItsPromises resolved after) → IsSource config before → MarksOk old unresolved top
+      → KeepsItsSource unresolved top old new before after
+  source_kept law after promises s ok =
+      let r = ready law s ok in
+      let kept = promises r.finishable in
+      record {
+        resolved = resolved;
+        meant = m.resolved ok;
+        derived = kept.derived;
+        normal_form = r.same after kept.normal_form;
+        ids = kept.ids r.well_scoped;
+        no_early_error = kept.no_early_error r.well_scoped;
+      }
+
+  not_target : (e : PassError) → IsOfMemoryOrCounters e → e ≢ error.NotAssignable
+  not_target e (inl h) n = absurd (cc (sym h ∙ n))
+  not_target e (inr h) n = absurd (cc (sym h ∙ n))
+
+  pub no_target_later : {T : Type 0} (r : Result T PassError) → ResolvedSourcesAreReady → (IsFinishable config resolved → IfErr r IsOfMemoryOrCounters) → IsSource config before → MarksOk old unresolved top
+      → IfErr r (λ e. e ≢ error.NotAssignable)
+  no_target_later (Ok t) law h s ok = tt
+  no_target_later (Err e) law h s ok = not_target e (h (ready law s ok).finishable)
+
+resolver_blames_none : (e : PassError) → IsRefusal e → e ≢ error.NotAssignable
+resolver_blames_none e (inl h) n = absurd (cc (sym h ∙ n))
+resolver_blames_none e (inr h) n = absurd (cc (sym h ∙ n))
+
+pub no_target_first : {T : Type 0} (r : Result T PassError) → IfErr r IsRefusal → IfErr r (λ e. e ≢ error.NotAssignable)
+no_target_first (Ok t) h = tt
+no_target_first (Err e) h = resolver_blames_none e h

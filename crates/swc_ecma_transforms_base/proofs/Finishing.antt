@@ -1,5 +1,5 @@
 -- What finishing promises of a module that can be finished, by what its two passes lead to.
-use Rattle.std.proofs.Common.{◌≡◌, ◌⊎◌, true, false, Result, Ok, Err, OnErr, IfErr, refl, sym, subst, inl, inr}
+use Rattle.std.proofs.Common.{◌≡◌, true, false, Result, Ok, Err, OnErr, IfErr, refl, sym, subst, inl, inr}
 use Rattle.swc_tree_marks.specs.declared.error.PassError.{PassError}
 use Rattle.swc_tree_marks.specs.declared.error.PassError.TheVariants as error
 use Rattle.swc_tree_marks.specs.Globals.{Table}

@@ -9,7 +9,7 @@ use Rattle.swc_tree_scoping.specs.Resolved.{Resolved}
 use Rattle.swc_tree_scoping.specs.Scopes.{scope_count}
 use Rattle.swc_base_resolver_program.specs.Marked.{MarksOk, OnlyContexts}
 use Rattle.swc_base_rename_substitution.specs.declared.config.Config.{Config}
-use Rattle.swc_base_rename_program.specs.Renamed.{IsHygienic, IsRenameRefusal, hygiene_renaming}
+use Rattle.swc_base_rename_program.specs.Renamed.{IsRenameRefusal, hygiene_renaming}
 use Rattle.swc_ecma_transforms_base.specs.Finished.{Finishes, IsUnassignable}
 
 -- how many scopes the program has but itself: so many marks it takes

@@ -23,6 +23,15 @@ pub record KeepsItsPromises (before after : Node) : Type 0 where
   pub ids : WellScoped before → KeepsIds before after
   pub no_early_error : WellScoped before → NoEarlyErrorOfNames after
 
+-- the same of a source that is resolved first, whose names mean what the resolver found
+pub record KeepsItsSource (unresolved top : ℕ) (old new : Table) (before after : Node) : Type 0 where
+  pub resolved : Node
+  pub meant : Resolved unresolved top old new before resolved
+  pub derived : FitsGrammar after
+  pub normal_form : SameButForBoundNames before after
+  pub ids : KeepsIds resolved after
+  pub no_early_error : NoEarlyErrorOfNames after
+
 -- there is no other refusal: neither marks nor targets are to blame
 abbrev pub IsOfMemoryOrCounters : PassError → Type 0
 IsOfMemoryOrCounters e = (e ≡ error.NoMemory) ⊎ (e ≡ error.CounterSpent)

@@ -1,20 +1,29 @@
 //! The resolver, hygiene and the fixer.
 ghost use Rattle.std.specs.Prelude.{◌≢◌, OnOk, OnErr, IfErr};
+ghost use Rattle.swc_tree_marks.specs.declared.error.PassError.TheVariants as error;
 ghost use Rattle.swc_tree.specs.Passes.{IsEmptied, IsEmptiedScript};
 ghost use Rattle.swc_tree_modules.specs.Nodes.{module_node, script_node};
+ghost use Rattle.swc_base_resolver_program.specs.Marked.{MarksOk};
+ghost use Rattle.swc_ecma_transforms_base_laws.specs.Sources.{IsSource};
 ghost use Rattle.swc_ecma_transforms_base.specs.Chained.{Chains, HasFreshMarks, IsChainRefusal};
+ghost use Rattle.swc_ecma_transforms_base.specs.Headline.{KeepsItsSource};
 
 use crate::finish::{finish_module, finish_script};
 use std::alloc::Global;
 use std::mem;
 use swc_base_rename::Config;
 use swc_base_resolver::resolver;
+use swc_ecma_transforms_base_laws::resolved_sources_are_ready;
 use swc_tree::{
     Comments, Globals, JsPass, Mark, Module, PassError, Script, empty_module, empty_script,
 };
 
 /// Resolves a program, makes texts alone tell its names apart, and then sets its parentheses anew. Neither mark may be the
 /// root; which scope each name means is promised where `marks_ok` holds of them.
+///
+/// A module without contexts and early errors of names that can be written down, in which nothing reads names and where classes don't
+/// keep theirs, becomes one that the grammar derives, with the normal form that it had but for the names that it binds; however
+/// that is resolved, it gives two kept names one id exactly if the resolver gave them one in the source. No target of it is to blame.
 ///
 /// # Errors
 ///
@@ -37,7 +46,10 @@ pub fn chain_module<C: Comments>(
     ensures refused { OnErr result (IsEmptied program.old program.new) }
     ensures cause { IfErr result (IsChainRefusal unresolved top config globals.old (module_node program.old) globals.new) }
     ensures marks { HasFreshMarks top globals.old (module_node program.old) globals.new }
+    ensures promises { IsSource config (module_node program.old) → MarksOk globals.old unresolved top → OnOk result (KeepsItsSource unresolved top globals.old globals.new (module_node program.old) (module_node program.new)) }
+    ensures no_target { IsSource config (module_node program.old) → MarksOk globals.old unresolved top → IfErr result (λ e. e ≢ error.NotAssignable) }
 {
+    resolved_sources_are_ready();
     let mut module = mem::replace(program, empty_module(alloc, program.span));
     let mut resolver = resolver(unresolved, top);
     resolver.visit_mut_module(alloc, globals, &mut module)?;

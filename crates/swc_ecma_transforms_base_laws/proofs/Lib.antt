@@ -1,2 +1,3 @@
 mod Clean
 pub mod Kept
+pub mod Sources

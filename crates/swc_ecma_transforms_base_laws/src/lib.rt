@@ -1,14 +1,18 @@
 //! Laws of passes that run one after another, on definitions alone: hygiene, and then the fixer.
 //!
-//! `specs/Finished.antt` states the laws. Each is the contract of a function that does nothing but call those of the laws
+//! `specs/Finished.antt` and `specs/Sources.antt` state the laws. Each is the contract of a function that does nothing but call those of the laws
 //! that it rests on; a caller of the two passes calls it, and then knows the law.
 #![tactic(auto)]
 
 ghost use Rattle.swc_ecma_transforms_base_laws.specs.Finished.{FinishingKeepsIds, FinishingKeepsModules, FinishingMeetsNoTarget};
+ghost use Rattle.swc_ecma_transforms_base_laws.specs.Sources.{ResolvedSourcesAreReady};
 
 use swc_base_fixer_laws::{fixed_fits, normal_form_stays, targets_stand_bare};
 use swc_base_rename_hygiene_laws::{hygiene_keeps_normal_form, hygiene_stays_writable};
 use swc_base_rename_ids_laws::hygiene_keeps_ids;
+use swc_base_rename_source_laws::{readers_need_no_contexts, sameness_needs_no_contexts};
+use swc_base_resolver_laws::a_clean_module_becomes_well_scoped;
+use swc_tree_grammar_texts::texts_are_as_writable;
 
 /// What hygiene and then the fixer make of a module that can be written down, where nothing reads names and classes don't keep
 /// theirs, can be written down, is derived by the grammar, and has the module's normal form but for the names that it binds.
@@ -39,4 +43,15 @@ pub fn finishing_keeps_ids()
     targets_stand_bare();
     fixed_fits();
     normal_form_stays();
+}
+
+/// A module without contexts and early errors of names that can be written down is, once it is resolved, well-scoped and such that
+/// hygiene and the fixer may finish it; and what is the same as it then, but for bound names, is so to the source.
+pub fn resolved_sources_are_ready()
+    ensures { ResolvedSourcesAreReady }
+{
+    a_clean_module_becomes_well_scoped();
+    texts_are_as_writable();
+    sameness_needs_no_contexts();
+    readers_need_no_contexts();
 }
