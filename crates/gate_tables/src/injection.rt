@@ -3,7 +3,7 @@
 ghost use Rattle.swc_tree_node.specs.declared.slot.Slot.TheVariants.{One};
 ghost use Rattle.swc_tree_node.specs.declared.slot.Content.TheVariants.{Node as Of};
 ghost use Rattle.swc_tree_node.specs.Fits.{Fits};
-ghost use Rattle.std.specs.Prelude.{IfOk};
+ghost use Rattle.std.specs.Prelude.{IfOk, IfSome};
 
 use jsbase_reader::{Envelope, read_bytes};
 use jsbase_writer::{write, write_envelope};
@@ -32,8 +32,13 @@ fn throw() -> Option<Helper> {
     None
 }
 
-fn read(alloc: Global, class: Class, text: &str) -> Option<Envelope> {
-    read_bytes(alloc, class, text.as_bytes()).ok()
+fn read(alloc: Global, class: Class, text: &str) -> Option<Envelope>
+    ensures { IfSome result (λ envelope. Fits envelope.tree (One (Of class))) }
+{
+    let Ok(envelope) = read_bytes(alloc, class, text.as_bytes()) else {
+        return None;
+    };
+    Some(envelope)
 }
 
 // The statements of the script that an envelope holds.
