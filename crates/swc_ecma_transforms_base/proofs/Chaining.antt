@@ -1,5 +1,7 @@
 -- What chaining leads to, by what the resolver and finishing lead to.
 use Rattle.std.proofs.Common.{◌≡◌, ◌≢◌, ℕ, Result, Ok, Err, IfErr, inl, inr, subst, sym, ◌∙◌}
+use Rattle.swc_base_fixer_unparen.specs.Moves.{Moving}
+use Rattle.swc_base_rename_program.specs.Renamed.{IsHygienic}
 use Rattle.swc_tree_marks.specs.declared.error.PassError.{PassError}
 use Rattle.swc_tree_marks.specs.declared.error.PassError.TheVariants as error
 use Rattle.swc_tree_marks.specs.Globals.{Table}
@@ -9,9 +11,10 @@ use Rattle.swc_base_resolver_program.specs.Marked.{IsRefusal, MarksOk}
 use Rattle.swc_base_rename_substitution.specs.declared.config.Config.{Config}
 use Rattle.swc_ecma_transforms_base_laws.specs.Finished.{IsFinishable}
 use Rattle.swc_ecma_transforms_base_laws.specs.Sources.{IsReady, IsSource, ResolvedSourcesAreReady}
-use Rattle.swc_ecma_transforms_base.specs.Chained.{Chains, IsChainRefusal, IsMarked}
+use Rattle.swc_ecma_transforms_base.specs.Chained.{Chains, IsChainRefusal, IsMarked, IsOnceHygienic}
 use Rattle.swc_ecma_transforms_base.specs.Finished.{Finishes, IsFinishRefusal}
 use Rattle.swc_ecma_transforms_base.specs.Headline.{IsOfMemoryOrCounters, KeepsItsPromises, KeepsItsSource}
+use Rattle.swc_ecma_transforms_base.specs.Lent.{MovesFor, MovesPartly}
 
 pub marked : (unresolved top : ℕ) (pass kept : ℕ × ℕ) (old new : Table) (given before resolved : Node) → pass ≡ (unresolved, top) → given ≡ before → ResolvesNode pass old given kept new resolved
     → IsMarked unresolved top old before new resolved
@@ -58,6 +61,16 @@ module _ (unresolved top : ℕ) (config : Config) (old : Table) (before : Node) 
       → IfErr r (λ e. e ≢ error.NotAssignable)
   no_target_later (Ok t) law h s ok = tt
   no_target_later (Err e) law h s ok = not_target e (h (ready law s ok).finishable)
+
+  once_hygienic : (t : Node) → IsHygienic new config resolved t → IsOnceHygienic unresolved top config old before new t
+  once_hygienic t h = record { resolved = resolved; marked = m; is_so = h }
+
+  pub moved_once : {C : Type 0} (R : Moving C) (after : Node) (c d : C) → MovesFor R (IsHygienic new config resolved) after c d → MovesFor R (IsOnceHygienic unresolved top config old before new) after c d
+  moved_once R after c d h = record { given = h.given; is_given = once_hygienic h.given h.is_given; paired = h.paired; moved = h.moved }
+
+  pub moved_partly : {C : Type 0} (R : Moving C) (c d : C) → MovesPartly R (IsHygienic new config resolved) c d → MovesPartly R (IsOnceHygienic unresolved top config old before new) c d
+  moved_partly R c d (inl h) = inl h
+  moved_partly R c d (inr h) = inr (h.0, once_hygienic h.0 h.1, h.2)
 
 resolver_blames_none : (e : PassError) → IsRefusal e → e ≢ error.NotAssignable
 resolver_blames_none e (inl h) n = absurd (cc (sym h ∙ n))

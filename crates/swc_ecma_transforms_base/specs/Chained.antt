@@ -9,7 +9,7 @@ use Rattle.swc_tree_scoping.specs.Resolved.{Resolved}
 use Rattle.swc_tree_scoping.specs.Scopes.{scope_count}
 use Rattle.swc_base_resolver_program.specs.Marked.{MarksOk, OnlyContexts}
 use Rattle.swc_base_rename_substitution.specs.declared.config.Config.{Config}
-use Rattle.swc_base_rename_program.specs.Renamed.{IsRenameRefusal, hygiene_renaming}
+use Rattle.swc_base_rename_program.specs.Renamed.{IsHygienic, IsRenameRefusal, hygiene_renaming}
 use Rattle.swc_ecma_transforms_base.specs.Finished.{Finishes, IsUnassignable}
 
 -- how many scopes the program has but itself: so many marks it takes
@@ -49,3 +49,7 @@ IsChainRefusal unresolved top config old before new error.MarksSpent = 429496729
 IsChainRefusal unresolved top config old before new error.CounterSpent =
     OnceMarked unresolved top old before new (λ t. IsRenameRefusal new config hygiene_renaming t error.CounterSpent)
 IsChainRefusal unresolved top config old before new error.NotAssignable = OnceMarked unresolved top old before new (λ t. IsUnassignable new config t)
+
+-- the program is resolved, and then hygienic: so it is when the fixer is given it
+abbrev pub IsOnceHygienic : ℕ → ℕ → Config → Table → Node → Table → Node → Type 0
+IsOnceHygienic unresolved top config old before new t = OnceMarked unresolved top old before new (λ resolved. IsHygienic new config resolved t)

@@ -1,25 +1,27 @@
 //! The resolver, hygiene and the fixer.
-ghost use Rattle.std.specs.Prelude.{◌≢◌, OnOk, OnErr, IfErr};
+ghost use Rattle.std.specs.Prelude.{◌≡◌, ◌≢◌, OnOk, OnErr, IfErr};
 ghost use Rattle.swc_tree_marks.specs.declared.error.PassError.TheVariants as error;
 ghost use Rattle.swc_tree.specs.Passes.{IsEmptied, IsEmptiedScript};
 ghost use Rattle.swc_tree_modules.specs.Nodes.{module_node, script_node};
 ghost use Rattle.swc_base_resolver_program.specs.Marked.{MarksOk};
 ghost use Rattle.swc_ecma_transforms_base_laws.specs.Sources.{IsSource};
-ghost use Rattle.swc_ecma_transforms_base.specs.Chained.{Chains, HasFreshMarks, IsChainRefusal};
+ghost use Rattle.swc_ecma_transforms_base.specs.Chained.{Chains, HasFreshMarks, IsChainRefusal, IsOnceHygienic};
 ghost use Rattle.swc_ecma_transforms_base.specs.Headline.{KeepsItsSource};
+ghost use Rattle.swc_ecma_transforms_base.specs.Lent.{Became, MovesFor, MovesPartly};
 
-use crate::finish::{finish_module, finish_script};
+use crate::finish::{finish_module_with, finish_script_with};
 use std::alloc::Global;
 use std::mem;
 use swc_base_rename::Config;
 use swc_base_resolver::resolver;
 use swc_ecma_transforms_base_laws::resolved_sources_are_ready;
 use swc_tree::{
-    Comments, Globals, JsPass, Mark, Module, PassError, Script, empty_module, empty_script,
+    Comments, Globals, JsPass, Mark, Module, NoComments, PassError, Script, empty_module,
+    empty_script,
 };
 
-/// Resolves a program, makes texts alone tell its names apart, and then sets its parentheses anew. Neither mark may be the
-/// root; which scope each name means is promised where `marks_ok` holds of them.
+/// Resolves a program, makes texts alone tell its names apart, and then sets its parentheses anew. Comments move along with the
+/// pairs that are not set again. Neither mark may be the root; which scope each name means is promised where `marks_ok` holds of them.
 ///
 /// A module without contexts and early errors of names that can be written down, in which nothing reads names and where classes don't
 /// keep theirs, becomes one that the grammar derives, with the normal form that it had but for the names that it binds; however
@@ -30,7 +32,7 @@ use swc_tree::{
 /// Those of the first of the three passes that is refused: `MarksSpent` where the table has no room for a mark to each scope,
 /// `CounterSpent` where no counter below the greatest `usize` gives an id a free text, `NotAssignable` where a parenthesised
 /// target takes no value, `NoMemory`. The program is then empty, with its span and no `#!` line; the table may have gained
-/// marks.
+/// marks; and no comment has moved, but a beginning of the moves may have been made where the error is `NoMemory`.
 pub fn chain_module<C: Comments>(
     alloc: Global,
     globals: &mut Globals,
@@ -48,14 +50,24 @@ pub fn chain_module<C: Comments>(
     ensures marks { HasFreshMarks top globals.old (module_node program.old) globals.new }
     ensures promises { IsSource config (module_node program.old) → MarksOk globals.old unresolved top → OnOk result (KeepsItsSource unresolved top globals.old globals.new (module_node program.old) (module_node program.new)) }
     ensures no_target { IsSource config (module_node program.old) → MarksOk globals.old unresolved top → IfErr result (λ e. e ≢ error.NotAssignable) }
+    ensures moved { OnOk result (Became (MovesFor C.moved (IsOnceHygienic unresolved top config globals.old (module_node program.old) globals.new) (module_node program.new)) comments.entry comments.exit) }
+    ensures partly { OnErr result (Became (MovesPartly C.moved (IsOnceHygienic unresolved top config globals.old (module_node program.old) globals.new)) comments.entry comments.exit) }
+    ensures unmoved { IfErr result (λ e. e ≢ error.NoMemory → Became (λ c d. d ≡ c) comments.entry comments.exit) }
 {
-    resolved_sources_are_ready();
-    let mut module = mem::replace(program, empty_module(alloc, program.span));
-    let mut resolver = resolver(unresolved, top);
-    resolver.visit_mut_module(alloc, globals, &mut module)?;
-    finish_module(alloc, globals, config, comments, &mut module)?;
-    *program = module;
-    Ok(())
+    match comments {
+        None => chain_module_with(
+            alloc,
+            globals,
+            unresolved,
+            top,
+            config,
+            &mut NoComments,
+            program,
+        ),
+        Some(comments) => {
+            chain_module_with(alloc, globals, unresolved, top, config, comments, program)
+        }
+    }
 }
 
 /// The same for a program of the goal Script.
@@ -78,11 +90,81 @@ pub fn chain_script<C: Comments>(
     ensures refused { OnErr result (IsEmptiedScript program.old program.new) }
     ensures cause { IfErr result (IsChainRefusal unresolved top config globals.old (script_node program.old) globals.new) }
     ensures marks { HasFreshMarks top globals.old (script_node program.old) globals.new }
+    ensures moved { OnOk result (Became (MovesFor C.moved (IsOnceHygienic unresolved top config globals.old (script_node program.old) globals.new) (script_node program.new)) comments.entry comments.exit) }
+    ensures partly { OnErr result (Became (MovesPartly C.moved (IsOnceHygienic unresolved top config globals.old (script_node program.old) globals.new)) comments.entry comments.exit) }
+    ensures unmoved { IfErr result (λ e. e ≢ error.NoMemory → Became (λ c d. d ≡ c) comments.entry comments.exit) }
+{
+    match comments {
+        None => chain_script_with(
+            alloc,
+            globals,
+            unresolved,
+            top,
+            config,
+            &mut NoComments,
+            program,
+        ),
+        Some(comments) => {
+            chain_script_with(alloc, globals, unresolved, top, config, comments, program)
+        }
+    }
+}
+
+// `chain_module` with comments.
+fn chain_module_with<C: Comments>(
+    alloc: Global,
+    globals: &mut Globals,
+    unresolved: Mark,
+    top: Mark,
+    config: Config,
+    comments: &mut C,
+    program: &mut Module,
+) -> Result<(), PassError>
+    requires unresolved { unresolved ≢ 0 }
+    requires top { top ≢ 0 }
+    ensures done { OnOk result (Chains unresolved top config globals.old (module_node program.old) globals.new (module_node program.new)) }
+    ensures refused { OnErr result (IsEmptied program.old program.new) }
+    ensures cause { IfErr result (IsChainRefusal unresolved top config globals.old (module_node program.old) globals.new) }
+    ensures marks { HasFreshMarks top globals.old (module_node program.old) globals.new }
+    ensures promises { IsSource config (module_node program.old) → MarksOk globals.old unresolved top → OnOk result (KeepsItsSource unresolved top globals.old globals.new (module_node program.old) (module_node program.new)) }
+    ensures no_target { IsSource config (module_node program.old) → MarksOk globals.old unresolved top → IfErr result (λ e. e ≢ error.NotAssignable) }
+    ensures moved { OnOk result (MovesFor C.moved (IsOnceHygienic unresolved top config globals.old (module_node program.old) globals.new) (module_node program.new) comments.old comments.new) }
+    ensures partly { OnErr result (MovesPartly C.moved (IsOnceHygienic unresolved top config globals.old (module_node program.old) globals.new) comments.old comments.new) }
+    ensures unmoved { IfErr result (λ e. e ≢ error.NoMemory → comments.new ≡ comments.old) }
+{
+    resolved_sources_are_ready();
+    let mut module = mem::replace(program, empty_module(alloc, program.span));
+    let mut resolver = resolver(unresolved, top);
+    resolver.visit_mut_module(alloc, globals, &mut module)?;
+    finish_module_with(alloc, globals, config, comments, &mut module)?;
+    *program = module;
+    Ok(())
+}
+
+// `chain_script` with comments.
+fn chain_script_with<C: Comments>(
+    alloc: Global,
+    globals: &mut Globals,
+    unresolved: Mark,
+    top: Mark,
+    config: Config,
+    comments: &mut C,
+    program: &mut Script,
+) -> Result<(), PassError>
+    requires unresolved { unresolved ≢ 0 }
+    requires top { top ≢ 0 }
+    ensures done { OnOk result (Chains unresolved top config globals.old (script_node program.old) globals.new (script_node program.new)) }
+    ensures refused { OnErr result (IsEmptiedScript program.old program.new) }
+    ensures cause { IfErr result (IsChainRefusal unresolved top config globals.old (script_node program.old) globals.new) }
+    ensures marks { HasFreshMarks top globals.old (script_node program.old) globals.new }
+    ensures moved { OnOk result (MovesFor C.moved (IsOnceHygienic unresolved top config globals.old (script_node program.old) globals.new) (script_node program.new) comments.old comments.new) }
+    ensures partly { OnErr result (MovesPartly C.moved (IsOnceHygienic unresolved top config globals.old (script_node program.old) globals.new) comments.old comments.new) }
+    ensures unmoved { IfErr result (λ e. e ≢ error.NoMemory → comments.new ≡ comments.old) }
 {
     let mut script = mem::replace(program, empty_script(alloc, program.span));
     let mut resolver = resolver(unresolved, top);
     resolver.visit_mut_script(alloc, globals, &mut script)?;
-    finish_script(alloc, globals, config, comments, &mut script)?;
+    finish_script_with(alloc, globals, config, comments, &mut script)?;
     *program = script;
     Ok(())
 }

@@ -1,34 +1,11 @@
-use Rattle.std.proofs.Common.{ap, rules}
-use Rattle.swc_tree_modules.specs.Nodes.{module_node}
-use Rattle.swc_ecma_transforms_base.proofs.Chaining.{chained, marked, no_target_later, refused_later, source_kept}
 use Rattle.swc_ecma_transforms_base.proofs.chain.chain_module.Goals as goal
 
 -- src/chain.rt
-pub returns-in_err-finish_module-clause-cause : goal.returns-in_err-finish_module-clause-cause
-returns-in_err-finish_module-clause-cause g c =
-    let m = marked c.args.unresolved c.args.top c.resolver-resolver.result c.visit_mut_module.new.self c.args.globals.now c.visit_mut_module.new.globals (module_node c.replace-module.result) (module_node c.args.program.now)
-    (module_node c.visit_mut_module.new.program) c.resolver-resolver.ensures (ap module_node c.replace-module.ensures.value) c.in_ok-visit_mut_module.ensures.done in
-    rw c.finish_module.ensures.marks
-    (refused_later c.args.unresolved c.args.top c.args.config c.args.globals.now (module_node c.args.program.now) c.visit_mut_module.new.globals (module_node c.visit_mut_module.new.program) m c.from_residual-in_err-finish_module.result (search rules))
+pub returns-in-Some-clause-moved : goal.returns-in-Some-clause-moved
+returns-in-Some-clause-moved g c = simp c.in-Some.is c.chain_module_with-in-Some.ensures.moved
 
-pub returns-clause-done : goal.returns-clause-done
-returns-clause-done g c =
-    let m = marked c.args.unresolved c.args.top c.resolver-resolver.result c.visit_mut_module.new.self c.args.globals.now c.visit_mut_module.new.globals (module_node c.replace-module.result) (module_node c.args.program.now)
-    (module_node c.visit_mut_module.new.program) c.resolver-resolver.ensures (ap module_node c.replace-module.ensures.value) c.in_ok-visit_mut_module.ensures.done in
-    rw c.finish_module.ensures.marks
-    (chained c.args.unresolved c.args.top c.args.config c.args.globals.now (module_node c.args.program.now) c.visit_mut_module.new.globals (module_node c.visit_mut_module.new.program) m (module_node c.finish_module.new.program) c.in_ok-finish_module.ensures.done)
+pub returns-in-Some-clause-partly : goal.returns-in-Some-clause-partly
+returns-in-Some-clause-partly g c = simp c.in-Some.is c.chain_module_with-in-Some.ensures.partly
 
-pub returns-in_err-finish_module-clause-no_target : goal.returns-in_err-finish_module-clause-no_target
-returns-in_err-finish_module-clause-no_target g c =
-    let m = marked c.args.unresolved c.args.top c.resolver-resolver.result c.visit_mut_module.new.self c.args.globals.now c.visit_mut_module.new.globals (module_node c.replace-module.result) (module_node c.args.program.now)
-    (module_node c.visit_mut_module.new.program) c.resolver-resolver.ensures (ap module_node c.replace-module.ensures.value) c.in_ok-visit_mut_module.ensures.done in
-    no_target_later c.args.unresolved c.args.top c.args.config c.args.globals.now (module_node c.args.program.now) c.visit_mut_module.new.globals (module_node c.visit_mut_module.new.program) m
-    c.from_residual-in_err-finish_module.result c.resolved_sources_are_ready.ensures (search rules)
-
-pub returns-clause-promises : goal.returns-clause-promises
-returns-clause-promises g c =
-    let m = marked c.args.unresolved c.args.top c.resolver-resolver.result c.visit_mut_module.new.self c.args.globals.now c.visit_mut_module.new.globals (module_node c.replace-module.result) (module_node c.args.program.now)
-    (module_node c.visit_mut_module.new.program) c.resolver-resolver.ensures (ap module_node c.replace-module.ensures.value) c.in_ok-visit_mut_module.ensures.done in
-    rw c.finish_module.ensures.marks
-    (source_kept c.args.unresolved c.args.top c.args.config c.args.globals.now (module_node c.args.program.now) c.visit_mut_module.new.globals (module_node c.visit_mut_module.new.program) m
-    c.resolved_sources_are_ready.ensures (module_node c.finish_module.new.program) c.in_ok-finish_module.ensures.promises)
+pub returns-in-Some-clause-unmoved : goal.returns-in-Some-clause-unmoved
+returns-in-Some-clause-unmoved g c = simp c.in-Some.is c.chain_module_with-in-Some.ensures.unmoved

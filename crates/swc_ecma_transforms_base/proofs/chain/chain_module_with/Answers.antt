@@ -1,0 +1,52 @@
+use Rattle.std.proofs.Common.{ap, rules}
+use Rattle.swc_tree_modules.specs.Nodes.{module_node}
+use Rattle.swc_ecma_transforms_base.proofs.Chaining.{chained, marked, moved_once, moved_partly, no_target_later, refused_later, source_kept}
+use Rattle.swc_ecma_transforms_base.proofs.Finishing.{where_refused}
+use Rattle.swc_ecma_transforms_base.proofs.chain.chain_module_with.Goals as goal
+
+-- src/chain.rt
+pub returns-in_err-finish_module_with-clause-cause : goal.returns-in_err-finish_module_with-clause-cause
+returns-in_err-finish_module_with-clause-cause g c =
+    let m = marked c.args.unresolved c.args.top c.resolver-resolver.result c.visit_mut_module.new.self c.args.globals.now c.visit_mut_module.new.globals (module_node c.replace-module.result) (module_node c.args.program.now)
+    (module_node c.visit_mut_module.new.program) c.resolver-resolver.ensures (ap module_node c.replace-module.ensures.value) c.in_ok-visit_mut_module.ensures.done in
+    rw c.finish_module_with.ensures.marks
+    (refused_later c.args.unresolved c.args.top c.args.config c.args.globals.now (module_node c.args.program.now) c.visit_mut_module.new.globals (module_node c.visit_mut_module.new.program) m c.from_residual-in_err-finish_module_with.result (search rules))
+
+pub returns-clause-done : goal.returns-clause-done
+returns-clause-done g c =
+    let m = marked c.args.unresolved c.args.top c.resolver-resolver.result c.visit_mut_module.new.self c.args.globals.now c.visit_mut_module.new.globals (module_node c.replace-module.result) (module_node c.args.program.now)
+    (module_node c.visit_mut_module.new.program) c.resolver-resolver.ensures (ap module_node c.replace-module.ensures.value) c.in_ok-visit_mut_module.ensures.done in
+    rw c.finish_module_with.ensures.marks
+    (chained c.args.unresolved c.args.top c.args.config c.args.globals.now (module_node c.args.program.now) c.visit_mut_module.new.globals (module_node c.visit_mut_module.new.program) m (module_node c.finish_module_with.new.program) c.in_ok-finish_module_with.ensures.done)
+
+pub returns-in_err-finish_module_with-clause-no_target : goal.returns-in_err-finish_module_with-clause-no_target
+returns-in_err-finish_module_with-clause-no_target g c =
+    let m = marked c.args.unresolved c.args.top c.resolver-resolver.result c.visit_mut_module.new.self c.args.globals.now c.visit_mut_module.new.globals (module_node c.replace-module.result) (module_node c.args.program.now)
+    (module_node c.visit_mut_module.new.program) c.resolver-resolver.ensures (ap module_node c.replace-module.ensures.value) c.in_ok-visit_mut_module.ensures.done in
+    no_target_later c.args.unresolved c.args.top c.args.config c.args.globals.now (module_node c.args.program.now) c.visit_mut_module.new.globals (module_node c.visit_mut_module.new.program) m
+    c.from_residual-in_err-finish_module_with.result c.resolved_sources_are_ready.ensures (search rules)
+
+pub returns-clause-promises : goal.returns-clause-promises
+returns-clause-promises g c =
+    let m = marked c.args.unresolved c.args.top c.resolver-resolver.result c.visit_mut_module.new.self c.args.globals.now c.visit_mut_module.new.globals (module_node c.replace-module.result) (module_node c.args.program.now)
+    (module_node c.visit_mut_module.new.program) c.resolver-resolver.ensures (ap module_node c.replace-module.ensures.value) c.in_ok-visit_mut_module.ensures.done in
+    rw c.finish_module_with.ensures.marks
+    (source_kept c.args.unresolved c.args.top c.args.config c.args.globals.now (module_node c.args.program.now) c.visit_mut_module.new.globals (module_node c.visit_mut_module.new.program) m
+    c.resolved_sources_are_ready.ensures (module_node c.finish_module_with.new.program) c.in_ok-finish_module_with.ensures.promises)
+
+pub returns-clause-moved : goal.returns-clause-moved
+returns-clause-moved g c =
+    let m = marked c.args.unresolved c.args.top c.resolver-resolver.result c.visit_mut_module.new.self c.args.globals.now c.visit_mut_module.new.globals (module_node c.replace-module.result) (module_node c.args.program.now)
+    (module_node c.visit_mut_module.new.program) c.resolver-resolver.ensures (ap module_node c.replace-module.ensures.value) c.in_ok-visit_mut_module.ensures.done in
+    rw c.finish_module_with.ensures.marks
+    (moved_once c.args.unresolved c.args.top c.args.config c.args.globals.now (module_node c.args.program.now) c.visit_mut_module.new.globals (module_node c.visit_mut_module.new.program) m
+    _ (module_node c.finish_module_with.new.program) c.args.comments.now c.finish_module_with.new.comments c.in_ok-finish_module_with.ensures.moved)
+
+pub returns-in_err-finish_module_with-clause-partly : goal.returns-in_err-finish_module_with-clause-partly
+returns-in_err-finish_module_with-clause-partly g c =
+    let m = marked c.args.unresolved c.args.top c.resolver-resolver.result c.visit_mut_module.new.self c.args.globals.now c.visit_mut_module.new.globals (module_node c.replace-module.result) (module_node c.args.program.now)
+    (module_node c.visit_mut_module.new.program) c.resolver-resolver.ensures (ap module_node c.replace-module.ensures.value) c.in_ok-visit_mut_module.ensures.done in
+    rw c.finish_module_with.ensures.marks
+    (where_refused c.from_residual-in_err-finish_module_with.result
+    (moved_partly c.args.unresolved c.args.top c.args.config c.args.globals.now (module_node c.args.program.now) c.visit_mut_module.new.globals (module_node c.visit_mut_module.new.program) m
+    _ c.args.comments.now c.finish_module_with.new.comments c.in_err-finish_module_with.ensures.partly))
