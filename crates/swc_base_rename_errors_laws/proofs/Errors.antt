@@ -22,7 +22,7 @@ use Rattle.swc_tree_scoping.specs.Places.{Path, place_at, program_place}
 use Rattle.swc_tree_scoping.specs.Scopes.{first_that, is_name, is_taken, rounds, scope_at, taker}
 use Rattle.swc_tree_scoping.specs.BoundNames.{Id}
 use Rattle.swc_tree_scoping.specs.Readings.{by_ids, by_texts, id_name, with_identifiers}
-use Rattle.swc_tree_scoping.specs.WellScoped.{ExportsDeclared, InExportList, IsClean, IsDeclared, NoEarlyErrorOfNames, is_module}
+use Rattle.swc_tree_scoping.specs.WellScoped.{ExportsDeclared, InExportList, IsClean, IsDeclared, NoEarlyErrorOfNames, WellScoped, is_module}
 use Rattle.swc_tree_renaming.specs.Apart.{HasTexts, SameScopes, nameless, no_name}
 use Rattle.swc_tree_renaming.proofs.Shape.{nameless_by_ids, same_scopes, some_same, twice}
 use Rattle.swc_tree_renaming.proofs.Blank.{layer, out_is, place_at_same}
@@ -57,9 +57,9 @@ use Rattle.swc_base_rename_substitution.specs.declared.config.Config.{Config}
 use Rattle.swc_base_rename_program.specs.Renamed.{IsHygienic, hygiene_renaming}
 use Rattle.swc_base_rename_laws.proofs.Outline.{identifiers_alike, rounds_alike, scopes_alike}
 use Rattle.swc_base_rename_scoped_laws.specs.Laws.{NamesAreApart, new_text}
-use Rattle.swc_base_rename_hygiene_laws.specs.Laws.{HygieneStaysWritable}
+use Rattle.swc_base_rename_hygiene_laws.specs.Laws.{HygieneStaysWritable, IsFinishable}
 use Rattle.swc_base_rename_texts_laws.specs.Laws.{HasHygienicTexts, HygieneGivesNormalFormNewTexts}
-use Rattle.swc_base_rename_errors_laws.specs.Laws.{AnswerDeclaresByTheRules, AnswerHasNoEarlyErrorOfNames, DeclaresByTheRules, IsNameable}
+use Rattle.swc_base_rename_errors_laws.specs.Laws.{AnswerDeclaresByTheRules, AnswerHasNoEarlyErrorOfNames, DeclaresByTheRules}
 use Rattle.swc_base_rename_errors_laws.proofs.Captures.{captures_none}
 use Rattle.swc_base_rename_errors_laws.proofs.Listing.{Local, found}
 use Rattle.swc_tree_exports_laws.specs.Exported.{exported_locals}
@@ -209,7 +209,7 @@ program_declares t plain b h =
     let bound : Bound (by_ids t) [] b.0 (id_name b.1) = record { path = d.path; place = d.place; kind = d.kind; identifier = by_id b.1; stands = there; stands_so = d.stands_so; named = refl; unmarked = refl; taken = sym takers ∙ d.taken } in
     way_declares (by_ids t) plain (id_name b.1) [] true b.0 bound (settled_way b.0 (λ e. plain.settled d.path d.place d.kind (by_id b.1) there (d.stands_so ∙ e)))
 
-module _ (apart : NamesAreApart) (texts : HygieneGivesNormalFormNewTexts) (stays : HygieneStaysWritable) (table : Table) (config : Config) (place : Places) (before middle : Node) (first : IsNameable config before) (hygienic : IsHygienic table config before middle)
+module _ (apart : NamesAreApart) (texts : HygieneGivesNormalFormNewTexts) (stays : HygieneStaysWritable) (table : Table) (config : Config) (place : Places) (before middle : Node) (first : IsFinishable config before) (scoped : WellScoped before) (hygienic : IsHygienic table config before middle)
     (fits_middle : Fits middle module_place) where
   abbrev after : Node
   after = fixed place middle
@@ -300,9 +300,9 @@ module _ (apart : NamesAreApart) (texts : HygieneGivesNormalFormNewTexts) (stays
     clean = (clean_ids before, clean_ids N, clean_texts K, clean_texts after);
     left = ids_are_left N before (left before first.fits first.writable);
     program = (keeps_by by_id before N keeps_before).program;
-    one = first.scoped.each_in_one_scope;
-    apart = captures_none before text first.scoped ids_plain
-        (apart before first.fits module_before first.scoped first.writable hygiene_renaming given.new_texts text (λ x. refl) given.named (text_of_id given.new_texts));
+    one = scoped.each_in_one_scope;
+    apart = captures_none before text scoped ids_plain
+        (apart before first.fits module_before scoped first.writable hygiene_renaming given.new_texts text (λ x. refl) given.named (text_of_id given.new_texts));
     shape = same_by_ids;
     texts = new_texts;
     keeps = keeps_texts;
@@ -328,7 +328,7 @@ module _ (apart : NamesAreApart) (texts : HygieneGivesNormalFormNewTexts) (stays
       ⊎_elim
       (λ g.
       let f = found before before j refl (subst (In j) (stripped_exports_the_same before first.fits b) g) in
-      first.scoped.exports_declared f.path (id_name j) (list_forth by_id before f.path f.listed)
+      scoped.exports_declared f.path (id_name j) (list_forth by_id before f.path f.listed)
       (record { place = Local; kind = f.kind; identifier = by_id j; stands = stands_named by_id before f.path Local f.kind j f.stands; stands_so = refl; named = refl }))
       (λ (g : ProgramTakes (stripped before) j).
       subst (Declares (by_ids before) []) (id_name_same g.0.1 j g.2) (program_declares before ids_plain g.0 (subst (In g.0) (stripped_takes before first.fits b) g.1)))
@@ -349,18 +349,18 @@ module _ (apart : NamesAreApart) (texts : HygieneGivesNormalFormNewTexts) (stays
   pub no_early_error : NoEarlyErrorOfNames after
   no_early_error = record {
     exports_declared = exports_declared;
-    no_redeclaration = answer_redeclares_none (by_ids before) (by_ids N) F (by_texts after) text answers first.scoped.no_redeclaration;
-    no_eval_or_arguments = ((λ d. first.scoped.no_eval_or_arguments.0 (declared_word (codes "eval") refl d)), (λ d. first.scoped.no_eval_or_arguments.1 (declared_word (codes "arguments") refl d)));
+    no_redeclaration = answer_redeclares_none (by_ids before) (by_ids N) F (by_texts after) text answers scoped.no_redeclaration;
+    no_eval_or_arguments = ((λ d. scoped.no_eval_or_arguments.0 (declared_word (codes "eval") refl d)), (λ d. scoped.no_eval_or_arguments.1 (declared_word (codes "arguments") refl d)));
   }
 
   pub by_the_rules : DeclaresByTheRules after
   by_the_rules = record {
-    no_redeclaration = answer_redeclares_none (by_ids before) (by_ids N) F (by_texts after) text answers first.scoped.no_redeclaration;
-    no_eval_or_arguments = ((λ d. first.scoped.no_eval_or_arguments.0 (declared_word (codes "eval") refl d)), (λ d. first.scoped.no_eval_or_arguments.1 (declared_word (codes "arguments") refl d)));
+    no_redeclaration = answer_redeclares_none (by_ids before) (by_ids N) F (by_texts after) text answers scoped.no_redeclaration;
+    no_eval_or_arguments = ((λ d. scoped.no_eval_or_arguments.0 (declared_word (codes "eval") refl d)), (λ d. scoped.no_eval_or_arguments.1 (declared_word (codes "arguments") refl d)));
   }
 
 pub answer_declares_by_the_rules : NamesAreApart → HygieneGivesNormalFormNewTexts → HygieneStaysWritable → AnswerDeclaresByTheRules
-answer_declares_by_the_rules apart texts stays table config place before middle first hygienic fits_middle = by_the_rules apart texts stays table config place before middle first hygienic fits_middle
+answer_declares_by_the_rules apart texts stays table config place before middle first scoped hygienic fits_middle = by_the_rules apart texts stays table config place before middle first scoped hygienic fits_middle
 
 pub answer_has_no_early_error_of_names : NamesAreApart → HygieneGivesNormalFormNewTexts → HygieneStaysWritable → AnswerHasNoEarlyErrorOfNames
-answer_has_no_early_error_of_names apart texts stays table config place before middle first hygienic fits_middle = no_early_error apart texts stays table config place before middle first hygienic fits_middle
+answer_has_no_early_error_of_names apart texts stays table config place before middle first scoped hygienic fits_middle = no_early_error apart texts stays table config place before middle first scoped hygienic fits_middle

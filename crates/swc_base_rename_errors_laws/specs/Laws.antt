@@ -9,29 +9,21 @@ use Rattle.swc_tree_scoping.specs.Readings.{by_texts}
 use Rattle.swc_tree_scoping.specs.WellScoped.{NoEarlyErrorOfNames, NoEvalOrArguments, NoRedeclaration, WellScoped}
 use Rattle.swc_tree_grammar.specs.Due.{Places}
 use Rattle.swc_tree_grammar.specs.Fixed.{fixed}
-use Rattle.swc_tree_grammar.specs.Writable.{Writable}
 use Rattle.swc_base_rename_substitution.specs.declared.config.Config.{Config}
 use Rattle.swc_base_rename_program.specs.Renamed.{IsHygienic}
-use Rattle.swc_base_rename_hygiene_laws.specs.Laws.{IsPlain}
+use Rattle.swc_base_rename_hygiene_laws.specs.Laws.{IsFinishable}
 
--- a well-scoped module that can be written down, in which nothing reads names and where classes don't keep theirs
-pub record IsNameable (config : Config) (t : Node) : Type 0 where
-  pub scoped : WellScoped t
-  pub fits : Fits t (slot.One (content.Node class.Module))
-  pub writable : Writable t
-  pub plain : IsPlain config t
-
--- what hygiene and then the fixer answer to such a module, read by texts, declares no name against the rules, and neither
+-- what hygiene and then the fixer answer to a well-scoped module that can be finished, read by texts, declares no name against the rules, and neither
 -- `eval` nor `arguments`
 pub record DeclaresByTheRules (answer : Node) : Type 0 where
   pub no_redeclaration : NoRedeclaration (by_texts answer)
   pub no_eval_or_arguments : NoEvalOrArguments answer
 
 abbrev pub AnswerDeclaresByTheRules : Type 0
-AnswerDeclaresByTheRules = (table : Table) (config : Config) (place : Places) (before middle : Node) → IsNameable config before → IsHygienic table config before middle
+AnswerDeclaresByTheRules = (table : Table) (config : Config) (place : Places) (before middle : Node) → IsFinishable config before → WellScoped before → IsHygienic table config before middle
     → Fits middle (slot.One (content.Node class.Module)) → DeclaresByTheRules (fixed place middle)
 
 -- ... and has no early error of names: what its export lists name is declared, too
 abbrev pub AnswerHasNoEarlyErrorOfNames : Type 0
-AnswerHasNoEarlyErrorOfNames = (table : Table) (config : Config) (place : Places) (before middle : Node) → IsNameable config before → IsHygienic table config before middle
+AnswerHasNoEarlyErrorOfNames = (table : Table) (config : Config) (place : Places) (before middle : Node) → IsFinishable config before → WellScoped before → IsHygienic table config before middle
     → Fits middle (slot.One (content.Node class.Module)) → NoEarlyErrorOfNames (fixed place middle)

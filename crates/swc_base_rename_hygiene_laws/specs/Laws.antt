@@ -17,6 +17,12 @@ pub record IsPlain (config : Config) (t : Node) : Type 0 where
   pub renames_classes : config.keep_class_names ≡ false
   pub unread : ¬ IsRead config t
 
+-- a module that can be written down, in which nothing reads names and where classes don't keep theirs
+pub record IsFinishable (config : Config) (t : Node) : Type 0 where
+  pub plain : IsPlain config t
+  pub fits : Fits t (slot.One (content.Node class.Module))
+  pub writable : Writable t
+
 -- a tree that fits some place, as each module and each script does, and can be written down still can
 abbrev pub HygieneStaysWritable : Type 0
 HygieneStaysWritable = (table : Table) (config : Config) (place : Slot) (before after : Node) → IsPlain config before → Fits before place → Writable before → IsHygienic table config before after → Writable after

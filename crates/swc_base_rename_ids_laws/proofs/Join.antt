@@ -20,7 +20,7 @@ use Rattle.swc_tree_scoping.specs.Scopes.{is_name}
 use Rattle.swc_tree_scoping.specs.BoundNames.{Id}
 use Rattle.swc_tree_scoping.specs.Readings.{by_ids, by_texts, id_name}
 use Rattle.swc_tree_scoping.specs.Resolved.{Resolved}
-use Rattle.swc_tree_scoping.specs.WellScoped.{IsClean, is_module}
+use Rattle.swc_tree_scoping.specs.WellScoped.{IsClean, WellScoped, is_module}
 use Rattle.swc_tree_scoping.proofs.Remarked.{fits-remarked}
 use Rattle.swc_tree_renaming.specs.Apart.{HasTexts, Knows, SameId, SameIds, SameScopes, nameless, no_name}
 use Rattle.swc_tree_renaming.proofs.Shape.{nameless_by_ids, same_scopes, some_same, twice}
@@ -47,7 +47,8 @@ use Rattle.swc_base_rename_laws.proofs.Outline.{identifiers_alike, rounds_alike,
 use Rattle.swc_base_rename_scoped_laws.specs.Laws.{NamesAreApart, new_text}
 use Rattle.swc_base_rename_texts_laws.specs.Laws.{HasHygienicTexts, HygieneGivesNormalFormNewTexts}
 use Rattle.swc_base_rename_texts_laws.proofs.Cleared.{bare_there}
-use Rattle.swc_base_rename_ids_laws.specs.Laws.{HygieneKeepsIds, IsRenameable, IsWrittenAs}
+use Rattle.swc_base_rename_hygiene_laws.specs.Laws.{IsFinishable}
+use Rattle.swc_base_rename_ids_laws.specs.Laws.{HygieneKeepsIds, IsWrittenAs}
 use Rattle.swc_base_rename_ids_laws.proofs.Captures.{captures_none}
 use Rattle.swc_base_rename_ids_laws.proofs.Exported.{normal_cleared, texts_again}
 use Rattle.swc_base_rename_ids_laws.proofs.Spans.{one_id, one_outline}
@@ -104,7 +105,7 @@ module _ (apart : NamesAreApart) (texts : HygieneGivesNormalFormNewTexts) (targe
       let b = targets t module_place f w in
       (written (stripped t) (stripped_fits t module_place b refl f) (tame t f w)).1 ∙ stripped_takes t f b
 
-  module _ (table : Table) (config : Config) (before middle answer u : Node) (unresolved top : ℕ) (old new : List (ℕ × ℕ)) (first : IsRenameable config before) (hygienic : IsHygienic table config before middle)
+  module _ (table : Table) (config : Config) (before middle answer u : Node) (unresolved top : ℕ) (old new : List (ℕ × ℕ)) (first : IsFinishable config before) (scoped : WellScoped before) (hygienic : IsHygienic table config before middle)
       (last : IsWrittenAs middle answer) (knows : Knows old unresolved) (r : Resolved unresolved top old new answer u) where
     abbrev N : Node
     N = normal_form before
@@ -177,10 +178,10 @@ module _ (apart : NamesAreApart) (texts : HygieneGivesNormalFormNewTexts) (targe
     pub ids_kept : SameIds N M
     ids_kept =
         left_keeps before N answer L u M text unresolved top old new is_one (normal_is_module before first.fits) (module_is answer last.fits) (normal_is_module answer last.fits)
-        first.scoped.each_in_one_scope
-        (captures_none before text first.scoped is_one (apart before first.fits is_one first.scoped first.writable hygiene_renaming given.new_texts text (λ x. refl) given.named (text_of_id given.new_texts)))
+        scoped.each_in_one_scope
+        (captures_none before text scoped is_one (apart before first.fits is_one scoped first.writable hygiene_renaming given.new_texts text (λ x. refl) given.named (text_of_id given.new_texts)))
         (ids_left N before (left before first.fits first.writable))
         same_by_ids clean_answer new_texts last.clean knows r (left u fits_u writable_u) (normal_takes u fits_u writable_u) same_resolved kept_texts
 
   pub hygiene_keeps_ids : HygieneKeepsIds
-  hygiene_keeps_ids table config before middle answer u unresolved top old new first hygienic last knows r = ids_kept table config before middle answer u unresolved top old new first hygienic last knows r
+  hygiene_keeps_ids table config before middle answer u unresolved top old new first scoped hygienic last knows r = ids_kept table config before middle answer u unresolved top old new first scoped hygienic last knows r

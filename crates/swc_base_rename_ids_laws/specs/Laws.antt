@@ -14,14 +14,7 @@ use Rattle.swc_tree_grammar.specs.Spanless.{SameButForSpans}
 use Rattle.swc_tree_grammar.specs.Writable.{Writable}
 use Rattle.swc_base_rename_substitution.specs.declared.config.Config.{Config}
 use Rattle.swc_base_rename_program.specs.Renamed.{IsHygienic}
-use Rattle.swc_base_rename_hygiene_laws.specs.Laws.{IsPlain}
-
--- a well-scoped module that can be written down, in which nothing reads names and where classes don't keep theirs
-pub record IsRenameable (config : Config) (t : Node) : Type 0 where
-  pub fits : Fits t (slot.One (content.Node class.Module))
-  pub scoped : WellScoped t
-  pub writable : Writable t
-  pub plain : IsPlain config t
+use Rattle.swc_base_rename_hygiene_laws.specs.Laws.{IsFinishable}
 
 -- a module without contexts that can be written down, and that has the normal form of another but for spans
 pub record IsWrittenAs (t answer : Node) : Type 0 where
@@ -30,8 +23,8 @@ pub record IsWrittenAs (t answer : Node) : Type 0 where
   pub writable : Writable answer
   pub normal : SameButForSpans (normal_form answer) (normal_form t)
 
--- Each way to write down what hygiene made of such a module, resolved with any mark that is known for free names, gives
+-- Each way to write down what hygiene made of a well-scoped module that can be finished, resolved with any mark that is known for free names, gives
 -- two kept names one id exactly if the module did.
 abbrev pub HygieneKeepsIds : Type 0
-HygieneKeepsIds = (table : Table) (config : Config) (before middle answer u : Node) (unresolved top : ℕ) (old new : List (ℕ × ℕ)) → IsRenameable config before → IsHygienic table config before middle
+HygieneKeepsIds = (table : Table) (config : Config) (before middle answer u : Node) (unresolved top : ℕ) (old new : List (ℕ × ℕ)) → IsFinishable config before → WellScoped before → IsHygienic table config before middle
     → IsWrittenAs middle answer → Knows old unresolved → Resolved unresolved top old new answer u → SameIds (normal_form before) (normal_form u)

@@ -9,7 +9,7 @@ use Rattle.swc_tree_node.specs.declared.node.Node.{Node}
 use Rattle.swc_base_resolver.specs.Visits.{ResolvesNode}
 use Rattle.swc_base_resolver_program.specs.Marked.{IsRefusal, MarksOk}
 use Rattle.swc_base_rename_substitution.specs.declared.config.Config.{Config}
-use Rattle.swc_ecma_transforms_base_laws.specs.Finished.{IsFinishable}
+use Rattle.swc_base_rename_hygiene_laws.specs.Laws.{IsFinishable}
 use Rattle.swc_ecma_transforms_base_laws.specs.Sources.{IsReady, IsSource, ResolvedSourcesAreReady}
 use Rattle.swc_ecma_transforms_base.specs.Chained.{Chains, IsChainRefusal, IsMarked, IsOnceHygienic}
 use Rattle.swc_ecma_transforms_base.specs.Finished.{Finishes, IsFinishRefusal}

@@ -22,7 +22,8 @@ use Rattle.swc_base_rename.specs.Hygiene.{MakesHygienic}
 use Rattle.swc_base_rename_hygiene_laws.proofs.KeepsNormal.{hygiene_keeps_normal_form}
 use Rattle.swc_base_rename_hygiene_laws.proofs.StaysWritable.{hygiene_stays_writable}
 use Rattle.swc_base_rename_errors_laws.specs.Laws.{AnswerHasNoEarlyErrorOfNames}
-use Rattle.swc_ecma_transforms_base_laws.specs.Finished.{FinishingKeepsIds, IsFinishable}
+use Rattle.swc_ecma_transforms_base_laws.specs.Finished.{FinishingKeepsIds}
+use Rattle.swc_base_rename_hygiene_laws.specs.Laws.{IsFinishable}
 use Rattle.swc_ecma_transforms_base_laws.proofs.Kept.{keeps_modules, meets_no_target}
 use Rattle.swc_ecma_transforms_base.specs.Finished.{Finishes, IsFinishRefusal}
 use Rattle.swc_ecma_transforms_base.specs.Headline.{IsOfMemoryOrCounters, KeepsItsPromises}
@@ -62,7 +63,7 @@ module _ (table : Table) (config : Config) (before : Node) (finishable : IsFinis
         derived = kept.derived;
         normal_form = kept.normal_form;
         ids = λ scoped unresolved top old new u knows r. keeps table config (recorded (pairs middle)) before middle u unresolved top old new finishable scoped hygienic (fits middle hygienic) knows r;
-        no_early_error = λ scoped. errors table config (recorded (pairs middle)) before middle (record { scoped = scoped; fits = finishable.fits; writable = finishable.writable; plain = finishable.plain }) hygienic (fits middle hygienic);
+        no_early_error = λ scoped. errors table config (recorded (pairs middle)) before middle finishable scoped hygienic (fits middle hygienic);
       }
 
   pub promised : FinishingKeepsIds → AnswerHasNoEarlyErrorOfNames → (after : Node) → Finishes table config before after → KeepsItsPromises before after

@@ -4,7 +4,7 @@ ghost use Rattle.swc_tree.specs.Passes.{IsEmptied, IsEmptiedScript};
 ghost use Rattle.swc_tree_marks.specs.declared.error.PassError.TheVariants as error;
 ghost use Rattle.swc_tree_modules.specs.Nodes.{module_node, script_node};
 ghost use Rattle.swc_base_rename_program.specs.Renamed.{IsHygienic};
-ghost use Rattle.swc_ecma_transforms_base_laws.specs.Finished.{IsFinishable};
+ghost use Rattle.swc_base_rename_hygiene_laws.specs.Laws.{IsFinishable};
 ghost use Rattle.swc_ecma_transforms_base.specs.Finished.{Finishes, IsFinishRefusal};
 ghost use Rattle.swc_ecma_transforms_base.specs.Headline.{IsOfMemoryOrCounters, KeepsItsPromises};
 ghost use Rattle.swc_ecma_transforms_base.specs.Lent.{Became, MovesFor, MovesPartly};

@@ -45,4 +45,4 @@ keeps_ids ids stays bare fit normal table config place before middle u unresolve
       writable = (fit place middle module_place refl f writable).0;
       normal = ap spanless (normal place middle module_place f);
     } in
-    ids table config before middle (fixed place middle) u unresolved top old new (record { fits = b.fits; scoped = scoped; writable = b.writable; plain = b.plain }) h written knows r
+    ids table config before middle (fixed place middle) u unresolved top old new b scoped h written knows r

@@ -18,13 +18,7 @@ use Rattle.swc_tree_grammar.specs.Targets.{all_bare}
 use Rattle.swc_tree_grammar.specs.Writable.{Writable}
 use Rattle.swc_base_rename_substitution.specs.declared.config.Config.{Config}
 use Rattle.swc_base_rename_program.specs.Renamed.{IsHygienic}
-use Rattle.swc_base_rename_hygiene_laws.specs.Laws.{IsPlain}
-
--- a module that can be written down, in which nothing reads names and where classes don't keep theirs
-pub record IsFinishable (config : Config) (t : Node) : Type 0 where
-  pub plain : IsPlain config t
-  pub fits : Fits t (slot.One (content.Node class.Module))
-  pub writable : Writable t
+use Rattle.swc_base_rename_hygiene_laws.specs.Laws.{IsFinishable}
 
 -- the answer can be written down, the grammar derives it, and it has the normal form of the module but for the names that the
 -- module binds

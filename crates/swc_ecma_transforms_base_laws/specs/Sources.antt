@@ -11,8 +11,7 @@ use Rattle.swc_tree_scoping.specs.WellScoped.{IsClean, NoEarlyErrorOfNames, Well
 use Rattle.swc_tree_grammar.specs.Same.{SameButForBoundNames}
 use Rattle.swc_tree_grammar.specs.Writable.{Writable}
 use Rattle.swc_base_rename_substitution.specs.declared.config.Config.{Config}
-use Rattle.swc_base_rename_hygiene_laws.specs.Laws.{IsPlain}
-use Rattle.swc_ecma_transforms_base_laws.specs.Finished.{IsFinishable}
+use Rattle.swc_base_rename_hygiene_laws.specs.Laws.{IsFinishable, IsPlain}
 
 -- a module without contexts and early errors of names that can be written down, in which nothing reads names and where classes
 -- don't keep theirs
