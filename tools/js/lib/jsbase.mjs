@@ -81,8 +81,8 @@ function refusal({ error, signal, status, stderr }, envelope) {
   return new Problem([...said, why].filter((line) => line).join('\n'), status);
 }
 
-/** What the program answers to an envelope: an envelope. */
-function pass({ program, before, options }, command, kind, envelope) {
+/** What a program of `runner` answers to an envelope: an envelope. */
+export function pass({ program, before, options }, command, kind, envelope) {
   const done = spawnSync(program, [...before, command, kind], {
     ...options,
     input: envelope,

@@ -118,7 +118,8 @@ export function whyNoParser() {
   return isOld ? `acorn ${acorn.version} is older than ${WHOLE_SYNTAX.join('.')}` : null;
 }
 
-const parseAs = (source, sourceType) => parser().parse(source, { ...OPTIONS, sourceType });
+/** ESTree of a text of a known kind; more options of acorn may be given. */
+export const parseAs = (source, sourceType, more = {}) => parser().parse(source, { ...OPTIONS, sourceType, ...more });
 
 // A text that is no script is tried as a module; where it is neither, that reading counts which came further.
 function parseEither(source) {
