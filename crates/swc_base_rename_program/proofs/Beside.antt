@@ -11,10 +11,10 @@ use Rattle.swc_base_rename_naming_laws.proofs.Names.{occurs_to}
 use Rattle.swc_base_rename_naming_laws.specs.Rules.{occurs_at}
 use Rattle.swc_base_rename_program.specs.Spans.{is_apart, span, spans}
 
-equal_or_before : (i j : ℕ) → i ≤ j → (i ≡ j) ⊎ (i < j)
+pub equal_or_before : (i j : ℕ) → i ≤ j → (i ≡ j) ⊎ (i < j)
 equal_or_before i j l = grind arith
 
-rising_to : (xs : List ℕ) → AreAscending xs → (i j : ℕ) → i ≤ j → j < length xs → get_or xs i 0 ≤ get_or xs j 0
+pub rising_to : (xs : List ℕ) → AreAscending xs → (i j : ℕ) → i ≤ j → j < length xs → get_or xs i 0 ≤ get_or xs j 0
 rising_to xs rise i j l within = elim (equal_or_before i j l) [
   | inl e ↦ let same : get_or xs i 0 ≡ get_or xs j 0 = ap (λ k. get_or xs k 0) e in omega (arith, same)
   | inr less ↦ let more = rise i j less within in omega (arith, more)

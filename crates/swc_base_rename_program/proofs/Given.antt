@@ -1,10 +1,13 @@
 -- What is given by what was read off a tree is what the definitions say.
-use Rattle.std.proofs.Common.{◌≡◌, ◌↔◌, ℕ, Bool, true, false, IsTrue, ◌||◌, ◌⊎◌, inl, inr, Option, List, refl, sym, subst}
+use Rattle.std.proofs.Common.{◌≡◌, ◌↔◌, ℕ, Bool, true, false, IsTrue, ◌||◌, ◌⊎◌, inl, inr, Option, List, refl, sym, ap, ◌∙◌, subst, Less, Equal, Greater, Ordering}
 use Rattle.std.specs.Prelude.{String}
 use Rattle.std.specs.BTreeMap.{BTreeMap}
 use Rattle.std.specs.BTreeSet.{BTreeSet, contains_text}
 use Rattle.std.specs.HashSet.{HashSet, contains, keys}
+use Rattle.std.specs.List.{slice_get}
+use Rattle.std.specs.Ordering.{is_lt, ordering_then}
 use Rattle.std.proofs.lemmas.Bool.{or_cases}
+use Rattle.std.proofs.lemmas.List.Sorted.{IsNonDecreasingBy-from_sort}
 use Rattle.swc_tree_marks.specs.declared.error.PassError.{PassError}
 use Rattle.swc_tree_marks.specs.declared.error.PassError.TheVariants as pass
 use Rattle.swc_tree_marks.specs.Contexts.{outer_of}
@@ -16,6 +19,7 @@ use Rattle.swc_base_rename_analysis.specs.Named.{Renaming}
 use Rattle.swc_base_rename_analysis.specs.Preserved.{IsPreserved}
 use Rattle.swc_base_rename_analysis.specs.Read.{IsRead}
 use Rattle.swc_base_rename_analysis.specs.Walk.{laid_out}
+use Rattle.swc_base_rename_analysis_laws.proofs.Placings.{placed}
 use Rattle.swc_base_rename_analysis_laws.proofs.Readings.{reading_means}
 use Rattle.swc_base_rename_naming.specs.ByIds.{text_below}
 use Rattle.swc_base_rename_naming.specs.InOrder.{IsRefused}
@@ -38,6 +42,12 @@ use Rattle.swc_base_rename_program.proofs.LeftTexts.{left_by_top, left_in_unit, 
 use Rattle.swc_base_rename_program.proofs.Maps.{table_is_of, texts_are_by_ids}
 use Rattle.swc_base_rename_program.proofs.Ruled.{left_test, refusal_means}
 
+-- sites that are in order are in that of their scopes
+first_not_less : (o p : Ordering) → is_lt (ordering_then o p) ≡ false → is_lt o ≡ false
+first_not_less Less p h = absurd (cc)
+first_not_less Equal p h = refl
+first_not_less Greater p h = refl
+
 -- names can be given by what is read off any tree
 pub well_read : (t : Node) (a : Analysis) → IsRead (laid_out t) a → IsWellRead a
 well_read t a read =
@@ -46,6 +56,8 @@ well_read t a read =
       in_preorder = sites_in_preorder a t scopes places means;
       apart = ids_are_apart a t scopes places means;
       rising = read.rising;
+      by_scopes = IsNonDecreasingBy-from_sort (λ s. s.scope) a.sites.items (λ k d from within. first_not_less _ _ (read.in_order k d from within));
+      nested = λ m n r q less e f. (placed t).apart m n r q less (ap (λ rs. slice_get rs m) (sym read.regions) ∙ e) (ap (λ rs. slice_get rs n) (sym read.regions) ∙ f);
     }
 
 module _ {S : Type 0} (text : Id → ℕ → List ℕ) (mode : Mode) (keeps : Id → Bool) (t : Node) (a : Analysis) (read : IsRead (laid_out t) a) (left : BTreeSet (String S)) where

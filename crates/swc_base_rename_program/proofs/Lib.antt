@@ -7,3 +7,5 @@ pub mod LeftTexts
 pub mod Maps
 pub mod Ruled
 pub mod Beside
+pub mod Reach
+pub mod Counting

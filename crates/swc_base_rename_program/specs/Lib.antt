@@ -1,4 +1,5 @@
 pub mod Asked
+pub mod Behind
 pub mod Cost
 pub mod Descends
 pub mod Kept

@@ -7,6 +7,7 @@
 #![tactic(auto)]
 
 mod alone;
+mod behind;
 mod cost;
 mod kept;
 mod left;

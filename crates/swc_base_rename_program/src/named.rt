@@ -1,13 +1,12 @@
 //! The new texts of a program's ids.
 ghost use Rattle.std.specs.Prelude.{◌≡◌, IfOk, IfErr};
-ghost use Rattle.swc_base_rename_analysis_laws.specs.Means.{surrounds as is_surrounding};
-ghost use Rattle.swc_base_rename_naming.specs.Inside.{IsInPreorder};
 ghost use Rattle.swc_base_rename_naming.specs.InOrder.{IsRefused, NamedInOrder};
 ghost use Rattle.swc_base_rename_naming.specs.Steps.{text_at};
 ghost use Rattle.swc_base_rename_naming_laws.specs.Rules.{numbered_sites};
 ghost use Rattle.swc_base_rename_program.specs.Kept.{is_kept};
 ghost use Rattle.swc_base_rename_program.specs.Asked.{AreNamedTexts, IsWellRead, program_rules};
 
+use crate::behind::any_behind;
 use crate::kept::Kept;
 use crate::mode::Mode;
 use crate::program::Program;
@@ -29,14 +28,15 @@ fn sites_of(alloc: Global, analysis: &Analysis) -> Result<Vec<(usize, usize)>, A
     Ok(sites)
 }
 
-// The texts by the numbers of ids: in order, or by scope where scopes beside one another may share texts.
+// The texts by the numbers of ids: by scope where scopes beside one another may share texts, else in order. Where no id occurs
+// behind a scope that declares it, the names of scopes that ended are of no concern, and by scope they are the same.
 fn texts_by_number<T: NewTexts>(
     alloc: Global,
     texts: &T,
     mode: Mode,
     program: &Program<'_>,
 ) -> Result<BTreeMap<usize, JsWord>, PassError>
-    requires { IsInPreorder (is_surrounding program.now.analysis.now) (numbered_sites program.now.analysis.now) }
+    requires { IsWellRead program.now.analysis.now }
     ensures named { IfOk result (λ found. NamedInOrder (program_rules (T.text texts.now) mode program.now.analysis.now (is_kept program.now.kept.now) program.now.left.now) (numbered_sites program.now.analysis.now) (text_at found)) }
     ensures refused { IfErr result (IsRefused (program_rules (T.text texts.now) mode program.now.analysis.now (is_kept program.now.kept.now) program.now.left.now) (numbered_sites program.now.analysis.now)) }
 {
@@ -44,8 +44,10 @@ fn texts_by_number<T: NewTexts>(
     let sites = sites.as_slice();
     if mode.mangles {
         names_by_scope(alloc, texts, program, true, sites)
-    } else {
+    } else if any_behind(program.analysis.regions.as_slice(), program.spans, sites) {
         names_in_order(alloc, texts, program, !mode.resets, sites)
+    } else {
+        names_by_scope(alloc, texts, program, !mode.resets, sites)
     }
 }
 
