@@ -1,34 +1,23 @@
 //! Rows of the calls that run passes one after another, and of hygiene by value. A row is an envelope, and what is left of it.
-use jsbase_reader::read_bytes;
-use jsbase_writer::write_envelope;
+use crate::held::{Given, Held, Program, left};
 use std::alloc::Global;
-use std::fmt::Write;
-use swc_ecma_transforms_base::hygiene::{Config, hygiene_with_config};
+use swc_ecma_transforms_base::hygiene::hygiene_with_config;
 use swc_ecma_transforms_base::pass::JsPass;
 use swc_ecma_transforms_base::resolver::marks_ok;
 use swc_ecma_transforms_base::{chain_module, chain_script, finish_module, finish_script};
-use swc_tree::{Globals, Mark, Module, NoComments, Opened, PassError, Script};
-use swc_tree_node::{Class, Node};
+use swc_tree::{Module, NoComments, Opened, PassError, Script};
+use swc_tree_node::Class;
 
-// What a program came with.
-#[derive(Drop)]
-struct Given {
-    globals: Globals,
-    unresolved: Mark,
-    top: Mark,
-    config: Config,
-}
-
-// What is to be done to a program.
+/// What is to be done to a program.
 #[derive(Clone, Copy)]
-enum Task {
+pub enum Task {
     Finish,
     Chain,
     Fold,
 }
 
-// The task and the class of programs that the words of a row name.
-fn task_of(words: &str) -> Option<(Task, Class)> {
+/// The task and the class of programs that the words of a row name.
+pub fn task_of(words: &str) -> Option<(Task, Class)> {
     let (task, class) = words.split_once(' ')?;
     let task = match task {
         "finish" => Task::Finish,
@@ -43,110 +32,94 @@ fn task_of(words: &str) -> Option<(Task, Class)> {
     }
 }
 
-// What is left of a program, after the refusal if there is one.
-fn left(
+/// Finishes a module, or runs the chain on it where its marks are known.
+pub fn run_module(
     alloc: Global,
-    answer: Result<(), PassError>,
-    globals: &Globals,
-    marks: (Mark, Mark),
-    tree: &Node,
-) -> Option<String> {
-    let (unresolved, top) = marks;
-    let line = write_envelope(alloc, globals, top, tree, unresolved).ok()?;
-    let envelope = line.trim_end();
-    match answer {
-        Ok(()) => format!(in alloc; "{envelope}").ok(),
-        Err(error) => format!(in alloc; "refused: {}, {envelope}", error.name()).ok(),
+    task: Task,
+    given: &mut Given,
+    module: &mut Module,
+) -> Option<Result<(), PassError>> {
+    let (unresolved, top, config) = (given.unresolved, given.top, given.config);
+    let globals = &mut given.globals;
+    let comments = None::<&mut NoComments>;
+    match task {
+        Task::Finish => Some(finish_module(alloc, globals, config, comments, module)),
+        Task::Chain => {
+            if !marks_ok(globals, unresolved, top) {
+                return None;
+            }
+            Some(chain_module(alloc, globals, unresolved, top, config, comments, module))
+        }
+        Task::Fold => None,
     }
 }
 
-fn module(alloc: Global, task: Task, given: Given, mut module: Module) -> Option<String> {
-    let Given {
-        mut globals,
-        unresolved,
-        top,
-        config,
-    } = given;
+/// The same for a program of the goal Script.
+pub fn run_script(
+    alloc: Global,
+    task: Task,
+    given: &mut Given,
+    script: &mut Script,
+) -> Option<Result<(), PassError>> {
+    let (unresolved, top, config) = (given.unresolved, given.top, given.config);
+    let globals = &mut given.globals;
     let comments = None::<&mut NoComments>;
-    let answer = match task {
-        Task::Finish => finish_module(alloc, &mut globals, config, comments, &mut module),
+    match task {
+        Task::Finish => Some(finish_script(alloc, globals, config, comments, script)),
         Task::Chain => {
-            if !marks_ok(&globals, unresolved, top) {
+            if !marks_ok(globals, unresolved, top) {
                 return None;
             }
-            chain_module(
-                alloc,
-                &mut globals,
-                unresolved,
-                top,
-                config,
-                comments,
-                &mut module,
-            )
+            Some(chain_script(alloc, globals, unresolved, top, config, comments, script))
         }
-        Task::Fold => {
-            let mut hygiene = hygiene_with_config(config);
-            module = hygiene.fold_module(alloc, &mut globals, module).ok()?;
-            Ok(())
-        }
-    };
-    let tree = module.into_node(alloc).ok()?;
-    left(alloc, answer, &globals, (unresolved, top), &tree)
+        Task::Fold => None,
+    }
 }
 
-fn script(alloc: Global, task: Task, given: Given, mut script: Script) -> Option<String> {
-    let Given {
-        mut globals,
-        unresolved,
-        top,
-        config,
-    } = given;
-    let comments = None::<&mut NoComments>;
+fn module(alloc: Global, task: Task, mut given: Given, mut module: Module) -> Option<String> {
     let answer = match task {
-        Task::Finish => finish_script(alloc, &mut globals, config, comments, &mut script),
-        Task::Chain => {
-            if !marks_ok(&globals, unresolved, top) {
-                return None;
-            }
-            chain_script(
-                alloc,
-                &mut globals,
-                unresolved,
-                top,
-                config,
-                comments,
-                &mut script,
-            )
-        }
         Task::Fold => {
-            let mut hygiene = hygiene_with_config(config);
-            script = hygiene.fold_script(alloc, &mut globals, script).ok()?;
+            let mut hygiene = hygiene_with_config(given.config);
+            module = hygiene.fold_module(alloc, &mut given.globals, module).ok()?;
             Ok(())
         }
+        task => run_module(alloc, task, &mut given, &mut module)?,
+    };
+    let tree = module.into_node(alloc).ok()?;
+    left(
+        alloc,
+        answer,
+        &given.globals,
+        (given.unresolved, given.top),
+        &tree,
+    )
+}
+
+fn script(alloc: Global, task: Task, mut given: Given, mut script: Script) -> Option<String> {
+    let answer = match task {
+        Task::Fold => {
+            let mut hygiene = hygiene_with_config(given.config);
+            script = hygiene.fold_script(alloc, &mut given.globals, script).ok()?;
+            Ok(())
+        }
+        task => run_script(alloc, task, &mut given, &mut script)?,
     };
     let tree = script.into_node(alloc).ok()?;
-    left(alloc, answer, &globals, (unresolved, top), &tree)
+    left(
+        alloc,
+        answer,
+        &given.globals,
+        (given.unresolved, given.top),
+        &tree,
+    )
 }
 
 /// What is left of the program of a row, if its words name one of these tasks.
 pub fn answer(alloc: Global, words: &str, input: &str) -> Option<String> {
     let (task, class) = task_of(words)?;
-    let envelope = read_bytes(alloc, class, input.as_bytes()).ok()?;
-    let config = Config {
-        keep_class_names: envelope.keep_class_names,
-        safari_10: false,
-        top_level_mark: envelope.top,
-        ignore_eval: envelope.ignore_eval,
-    };
-    let given = Given {
-        globals: envelope.globals,
-        unresolved: envelope.unresolved,
-        top: envelope.top,
-        config,
-    };
-    match class {
-        Class::Module => module(alloc, task, given, Module::from_node(envelope.tree)),
-        Class::Script => script(alloc, task, given, Script::from_node(envelope.tree)),
-        _ => None,
+    let Held { given, program, .. } = Held::read(alloc, class, input)?;
+    match program {
+        Program::Module(program) => module(alloc, task, given, program),
+        Program::Script(program) => script(alloc, task, given, program),
     }
 }

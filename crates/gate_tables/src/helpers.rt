@@ -4,8 +4,8 @@ use std::fmt::Write;
 use swc_base_tables_helpers::{Helper, Helpers};
 use swc_tree_marks::{Globals, Mark};
 
-// The helper of a name.
-fn named(name: &str) -> Option<Helper> {
+/// The helper of a name.
+pub fn named(name: &str) -> Option<Helper> {
     for helper in Helper::all() {
         if helper.name() == name {
             return Some(helper);
@@ -14,8 +14,8 @@ fn named(name: &str) -> Option<Helper> {
     None
 }
 
-// The names of the helpers that a program has.
-fn names(alloc: Global, helpers: &Helpers) -> Option<String> {
+/// The names of the helpers that a program has.
+pub fn names(alloc: Global, helpers: &Helpers) -> Option<String> {
     let mut text = String::new(alloc);
     for helper in Helper::all() {
         if helpers.is_enabled(helper) {

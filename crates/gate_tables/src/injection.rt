@@ -15,15 +15,16 @@ use swc_base_tables::{
 use swc_tree::{DUMMY_SP, Globals, JsPass, Mark, Module, Opened, PassError, Script, Trees, class};
 use swc_tree_node::{Class, Node};
 
-// Helpers with the mark 7, `throw` among them.
-fn helpers(alloc: Global, external: bool) -> Option<Helpers> {
+/// Helpers with the mark 7, `throw` among them.
+pub fn helpers(alloc: Global, external: bool) -> Option<Helpers> {
     let mut globals = Globals::from_table(alloc, &[(6, 0)]).ok()?;
     let mut helpers = Helpers::new(&mut globals, external).ok()?;
     helpers.enable(throw()?);
     Some(helpers)
 }
 
-fn throw() -> Option<Helper> {
+/// The helper `throw`.
+pub fn throw() -> Option<Helper> {
     for helper in Helper::all() {
         if helper.name() == "throw" {
             return Some(helper);
@@ -41,19 +42,49 @@ fn read(alloc: Global, class: Class, text: &str) -> Option<Envelope>
     Some(envelope)
 }
 
-// The statements of the script that an envelope holds.
-fn statements(alloc: Global, text: &str) -> Option<Trees<class::Stmt>> {
+/// The statements of the script that an envelope holds.
+pub fn statements(alloc: Global, text: &str) -> Option<Trees<class::Stmt>> {
     let Envelope { tree, .. } = read(alloc, Class::Script, text)?;
     let script = Script::from_node(tree);
     Some(script.body)
 }
 
+// The bodies that an input gives.
 fn bodies(alloc: Global, text: Option<&str>) -> Option<HelperBodies> {
     let mut bodies = HelperBodies::new(alloc);
     if let Some(text) = text {
         bodies.insert(throw()?, statements(alloc, text)?).ok()?;
     }
     Some(bodies)
+}
+
+/// The envelope of the program of an input.
+pub fn program_of(input: &str) -> &str {
+    match input.split_once('\t') {
+        Some((program, _)) => program,
+        None => input,
+    }
+}
+
+/// The envelope of the body of an input, if it gives one.
+pub fn body_of(input: &str) -> Option<&str> {
+    match input.split_once('\t') {
+        Some((_, body)) => Some(body),
+        None => None,
+    }
+}
+
+/// The pass that brings `throw` into a program, if it has a body where it is written out.
+pub fn pass_of(alloc: Global, global: Mark, external: bool, input: &str) -> Option<InjectHelpers> {
+    let helpers = helpers(alloc, external)?;
+    let bodies = bodies(alloc, body_of(input))?;
+    if !helpers.external() && !bodies.covers(&helpers) {
+        return None;
+    }
+    if global == Mark::root() {
+        return None;
+    }
+    Some(inject_helpers(global, &helpers, bodies))
 }
 
 // What is run on a program once its helpers are in it.
@@ -96,20 +127,8 @@ fn injected(
     then: Then,
     input: &str,
 ) -> Option<String> {
-    let (program, body) = match input.split_once('\t') {
-        Some((program, body)) => (program, Some(body)),
-        None => (input, None),
-    };
-    let envelope = read(alloc, class, program)?;
-    let helpers = helpers(alloc, external)?;
-    let bodies = bodies(alloc, body)?;
-    if !helpers.external() && !bodies.covers(&helpers) {
-        return None;
-    }
-    if envelope.unresolved == Mark::root() {
-        return None;
-    }
-    let mut pass = inject_helpers(envelope.unresolved, &helpers, bodies);
+    let envelope = read(alloc, class, program_of(input))?;
+    let mut pass = pass_of(alloc, envelope.unresolved, external, input)?;
     let Envelope {
         mut globals,
         unresolved,

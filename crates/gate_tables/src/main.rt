@@ -1,15 +1,19 @@
 //! What the gate asks of the tables and of the top crate: helpers, also in programs, features of versions, assumptions, native
 //! names, and passes run one after another. It goes over rows of three lines from standard input, as `gate_replay` does, which
-//! would take too long with these as well.
+//! would take too long with these as well. With arguments it runs a work that is refused memory (`refuse`).
 #![tactic(auto)]
 
 mod finished;
+mod held;
 mod helpers;
 mod injection;
+mod refuse;
 mod settings;
+mod works;
 
 use anyhow::{Result, bail};
 use std::alloc::Global;
+use std::env;
 
 fn answer(alloc: Global, words: &str, input: &str) -> Option<String> {
     if let Some(answer) = finished::answer(alloc, words, input) {
@@ -62,13 +66,34 @@ fn count(rt: &HostRuntime, mut lines: &[String]) -> Result<(u32, u32)> {
     Ok((rows, failed))
 }
 
-fn main(rt: HostRuntime) -> Result<()> {
-    let lines = lines(&rt)?;
-    let (rows, failed) = count(&rt, lines.as_slice())?;
+// Goes over the rows of standard input.
+fn replay(rt: &HostRuntime) -> Result<()> {
+    let lines = lines(rt)?;
+    let (rows, failed) = count(rt, lines.as_slice())?;
     let passed = rows.saturating_sub(failed);
     println!(rt; "{passed} passed, {failed} failed")?;
     if failed > 0 {
         bail!("{failed} rows differ");
     }
     Ok(())
+}
+
+// What comes after the program's name.
+fn arguments(rt: &HostRuntime) -> Result<Vec<String>> {
+    let mut given = Vec::new(rt.alloc());
+    for argument in env::args(rt)?.skip(1) {
+        given.push(argument)?;
+    }
+    Ok(given)
+}
+
+fn main(rt: HostRuntime) -> Result<()> {
+    let arguments = arguments(&rt)?;
+    match arguments.as_slice() {
+        [] => replay(&rt),
+        [word, work, words] if word.as_str() == "refuse" => {
+            refuse::serve(&rt, work.as_str(), words.as_str())
+        }
+        _ => bail!("usage: gate_tables [refuse WORK ROW]"),
+    }
 }

@@ -1,0 +1,281 @@
+//! Works that may be refused memory, each with all that it needs.
+use crate::finished::{Task, run_module, run_script, task_of};
+use crate::held::{Held, Program};
+use crate::helpers::{named, names};
+use crate::injection::{body_of, helpers, pass_of, program_of, statements, throw};
+use jsbase_writer::write;
+use std::alloc::Global;
+use std::fmt::Write;
+use swc_base_tables::{Helper, HelperBodies, Helpers, InjectHelpers, helper, helper_expr};
+use swc_tree::{DUMMY_SP, Globals, Mark, Opened, PassError, Trees, class};
+use swc_tree_node::{Class, Node};
+
+/// A work that may be refused memory.
+pub trait Work: Drop {
+    /// Does it, if it can be done at all.
+    fn run(&mut self, alloc: Global) -> Option<Result<(), PassError>>;
+
+    /// Whether a refusal left what it has to leave.
+    fn is_kept(&mut self, alloc: Global) -> Option<bool>;
+
+    /// Whether what came of it is what a row wants.
+    fn is_ample(self, alloc: Global, answer: Result<(), PassError>, wanted: &str) -> Option<bool>;
+}
+
+/// Helpers that are made on an empty table, and enabled one.
+#[derive(Drop)]
+pub struct Made {
+    globals: Globals,
+    external: bool,
+    helper: Helper,
+    made: Option<Helpers>,
+}
+
+impl Made {
+    /// The work of a row of helpers.
+    pub fn of_row(alloc: Global, words: &str, input: &str) -> Option<Made> {
+        let external = match words {
+            "helpers written out" => false,
+            "helpers of a package" => true,
+            _ => return None,
+        };
+        Some(Made {
+            globals: Globals::new(alloc),
+            external,
+            helper: named(input)?,
+            made: None,
+        })
+    }
+
+    // The helpers, or why they are refused.
+    fn make(&mut self) -> Result<(), PassError> {
+        match Helpers::new(&mut self.globals, self.external) {
+            Ok(mut helpers) => {
+                helpers.enable(self.helper);
+                self.made = Some(helpers);
+                Ok(())
+            }
+            Err(error) => Err(PassError::from_fresh(error)),
+        }
+    }
+}
+
+impl Work for Made {
+    fn run(&mut self, _alloc: Global) -> Option<Result<(), PassError>> {
+        Some(self.make())
+    }
+
+    fn is_kept(&mut self, _alloc: Global) -> Option<bool> {
+        Some(self.globals.table().is_empty() && self.made.is_none())
+    }
+
+    fn is_ample(self, alloc: Global, _answer: Result<(), PassError>, wanted: &str) -> Option<bool> {
+        let names = names(alloc, &self.made?)?;
+        Some(names.as_str() == wanted)
+    }
+}
+
+/// The helper `throw`, named as an expression, and of helpers of their own as what is called. The names are kept closed,
+/// and beside them whether they were given.
+#[derive(Drop)]
+pub struct Named {
+    second: u32,
+    helper: Helper,
+    helpers: Helpers,
+    others: Helpers,
+    is_named: bool,
+    is_called: bool,
+    expr: Option<Node>,
+    called: Option<Node>,
+}
+
+impl Named {
+    /// The work of the row of names.
+    pub fn of_row(alloc: Global, words: &str) -> Option<Named> {
+        if words != "helper names" {
+            return None;
+        }
+        let mut globals = Globals::from_table(alloc, &[(1, 0)]).ok()?;
+        let second = Mark::new(&mut globals).ok()?.as_u32();
+        let helpers = Helpers::new(&mut globals, true).ok()?;
+        let others = Helpers::from_data(helpers.data());
+        Some(Named {
+            second,
+            helper: throw()?,
+            helpers,
+            others,
+            is_named: false,
+            is_called: false,
+            expr: None,
+            called: None,
+        })
+    }
+
+    // Both names.
+    fn name(&mut self, alloc: Global) -> Result<(), PassError> {
+        let expr = helper_expr(alloc, &mut self.helpers, DUMMY_SP, self.helper)?;
+        self.is_named = true;
+        self.expr = Some(expr.into_node(alloc)?);
+        let called = helper(alloc, &mut self.others, DUMMY_SP, self.helper)?;
+        self.is_called = true;
+        self.called = Some(called.into_node(alloc)?);
+        Ok(())
+    }
+}
+
+impl Work for Named {
+    fn run(&mut self, alloc: Global) -> Option<Result<(), PassError>> {
+        Some(self.name(alloc))
+    }
+
+    // Each name enables its helper, and where it is refused, does not.
+    fn is_kept(&mut self, _alloc: Global) -> Option<bool> {
+        let is_first_kept = self.helpers.is_enabled(self.helper) == self.is_named;
+        let is_second_kept = self.others.is_enabled(self.helper) == self.is_called;
+        Some(is_first_kept && is_second_kept)
+    }
+
+    fn is_ample(self, alloc: Global, _answer: Result<(), PassError>, wanted: &str) -> Option<bool> {
+        let expr = write(alloc, &self.expr?).ok()?;
+        let called = write(alloc, &self.called?).ok()?;
+        let is_enabled = self.helpers.is_enabled(self.helper)
+            && self.others.is_enabled(self.helper);
+        let (second, mark) = (self.second, self.helpers.mark().as_u32());
+        let text = format!(in alloc; "{second} {mark} {expr} {called} {is_enabled}").ok()?;
+        Some(text.as_str() == wanted)
+    }
+}
+
+/// The body of `throw`, given to helpers that have none.
+#[derive(Drop)]
+pub struct Inserted {
+    helpers: Helpers,
+    bodies: HelperBodies,
+    body: Option<Trees<class::Stmt>>,
+}
+
+impl Inserted {
+    /// The work of a row of helpers that are written out.
+    pub fn of_row(alloc: Global, input: &str) -> Option<Inserted> {
+        let body = statements(alloc, body_of(input)?)?;
+        Some(Inserted {
+            helpers: helpers(alloc, false)?,
+            bodies: HelperBodies::new(alloc),
+            body: Some(body),
+        })
+    }
+}
+
+impl Work for Inserted {
+    fn run(&mut self, _alloc: Global) -> Option<Result<(), PassError>> {
+        let (helper, body) = (throw()?, self.body.take()?);
+        Some(match self.bodies.insert(helper, body) {
+            Ok(()) => Ok(()),
+            Err(error) => Err(PassError::from(error)),
+        })
+    }
+
+    fn is_kept(&mut self, _alloc: Global) -> Option<bool> {
+        Some(!self.bodies.covers(&self.helpers))
+    }
+
+    fn is_ample(
+        self,
+        _alloc: Global,
+        _answer: Result<(), PassError>,
+        _wanted: &str,
+    ) -> Option<bool> {
+        Some(self.bodies.covers(&self.helpers))
+    }
+}
+
+/// Helpers that are brought into a program.
+#[derive(Drop)]
+pub struct Injected {
+    class: Class,
+    text: String,
+    pass: InjectHelpers,
+    held: Held,
+}
+
+impl Injected {
+    /// The work of a row of helpers in programs.
+    pub fn of_row(alloc: Global, words: &str, input: &str) -> Option<Injected> {
+        let (external, class) = match words {
+            "helper of a package in a module" => (true, Class::Module),
+            "helper of a package in a script" => (true, Class::Script),
+            "helper written out in a module" => (false, Class::Module),
+            "helper written out in a script" => (false, Class::Script),
+            _ => return None,
+        };
+        let held = Held::read(alloc, class, program_of(input))?;
+        let pass = pass_of(alloc, held.unresolved(), external, input)?;
+        Some(Injected {
+            class,
+            text: String::from_str(alloc, program_of(input)).ok()?,
+            pass,
+            held,
+        })
+    }
+
+    // Whether the pass changes no further program.
+    fn is_used_up(&mut self, alloc: Global) -> Option<bool> {
+        let mut further = Held::read(alloc, self.class, self.text.as_str())?;
+        let answer = further.visit(alloc, &mut self.pass);
+        let unchanged = Held::read(alloc, self.class, self.text.as_str())?;
+        Some(further.left(alloc, answer)? == unchanged.left(alloc, Ok(()))?)
+    }
+}
+
+impl Work for Injected {
+    fn run(&mut self, alloc: Global) -> Option<Result<(), PassError>> {
+        Some(self.held.visit(alloc, &mut self.pass))
+    }
+
+    fn is_kept(&mut self, alloc: Global) -> Option<bool> {
+        Some(self.held.is_emptied() && self.is_used_up(alloc)?)
+    }
+
+    fn is_ample(self, alloc: Global, answer: Result<(), PassError>, wanted: &str) -> Option<bool> {
+        Some(self.held.left(alloc, answer)?.as_str() == wanted)
+    }
+}
+
+/// Passes that are run one after another on a program.
+#[derive(Drop)]
+pub struct Finished {
+    task: Task,
+    held: Held,
+}
+
+impl Finished {
+    /// The work of a row of such passes.
+    pub fn of_row(alloc: Global, words: &str, input: &str) -> Option<Finished> {
+        let (task, class) = task_of(words)?;
+        let held = Held::read(alloc, class, input)?;
+        Some(Finished { task, held })
+    }
+}
+
+impl Work for Finished {
+    fn run(&mut self, alloc: Global) -> Option<Result<(), PassError>> {
+        let given = &mut self.held.given;
+        match &mut self.held.program {
+            Program::Module(module) => run_module(alloc, self.task, given, module),
+            Program::Script(script) => run_script(alloc, self.task, given, script),
+        }
+    }
+
+    // The resolver alone makes marks.
+    fn is_kept(&mut self, _alloc: Global) -> Option<bool> {
+        let has_its_marks = match self.task {
+            Task::Chain => true,
+            _ => self.held.has_no_new_mark(),
+        };
+        Some(self.held.is_emptied() && has_its_marks)
+    }
+
+    fn is_ample(self, alloc: Global, answer: Result<(), PassError>, wanted: &str) -> Option<bool> {
+        Some(self.held.left(alloc, answer)?.as_str() == wanted)
+    }
+}
