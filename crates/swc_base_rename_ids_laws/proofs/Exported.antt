@@ -28,9 +28,8 @@ use Rattle.swc_tree_renaming.specs.Apart.{SameScopes, nameless}
 use Rattle.swc_tree_renaming.proofs.Core.{declared_taker}
 use Rattle.swc_tree_renaming.proofs.Shape.{nameless_remarked, same_scopes, some_same}
 use Rattle.swc_tree_renaming.proofs.Strict.{no_sloppy_in_modules}
-use Rattle.swc_tree_renaming.proofs.Whole.{identifier_same, module_layer}
+use Rattle.swc_tree_renaming.proofs.Whole.{identifier_same, module_layer, stands_there}
 use Rattle.swc_base_resolver_laws.proofs.Same.{clean_stays, texts_stay}
-use Rattle.swc_tree_sites_laws.proofs.LeftIds.{stands_there}
 use Rattle.swc_tree_sites_laws.proofs.LeftStripped.{on_modules}
 use Rattle.swc_tree_grammar.specs.Normal.{made, normal_form, same_id}
 use Rattle.swc_tree_grammar.specs.Writable.{Round as Code, all_sound, is_writable}

@@ -8,4 +8,5 @@ pub mod OneScope
 pub mod FreeIds
 pub mod Exported
 pub mod Redeclared
+pub mod Meanings
 pub mod Whole

@@ -15,7 +15,7 @@ use Rattle.swc_tree_scoping.specs.Declares.{Bound, DeclaredBy, DeclaresFor, Firs
 use Rattle.swc_tree_scoping.specs.Resolved.{HasContext, HasDeclarersMark, HasMeantMark, IsCaughtBy, is_global_value, is_script, mark_in, own_meaning}
 use Rattle.swc_tree_scoping.specs.WellScoped.{Stands, IsDeclared, EachInOneScope, IsClean}
 use Rattle.swc_tree_scoping.proofs.First.{Nested, rounds_nested}
-use Rattle.swc_tree_renaming.specs.Apart.{IsRound, IsAtOrAbove, OccursIn, DeclaredIn, IsFreeName, CapturesNone, HasTexts, HasNoSloppy, SameScopes}
+use Rattle.swc_tree_renaming.specs.Apart.{Belongs, IsRound, IsAtOrAbove, OccursIn, DeclaredIn, IsFreeName, CapturesNone, HasTexts, HasNoSloppy, SameScopes}
 
 -- lists
 pub head_in : {X : Type 0} (x : X) (xs : List X) → Contains (x ∷ xs) x
@@ -69,6 +69,25 @@ pub declared_taker : (t : Node) (r : Standing) (p s : Path) (x : List ℕ) → r
 declared_taker t standing.SloppyFunction p s x n h = absurd (n refl)
 declared_taker t standing.Variable p s x n h = h
 declared_taker t _ p s x n h = h
+
+-- ... and the other way round
+pub taker_declares : (t : Node) (r : Standing) (p s : Path) (x : List ℕ) → r ≢ standing.SloppyFunction → taker r t p ≡ Some s → DeclaredBy t p r x s
+taker_declares t standing.SloppyFunction p s x n h = absurd (n refl)
+taker_declares t _ p s x n h = h
+
+-- no binding is a reference
+pub binds_or_refers : (r : Standing) → IsTrue (is_binding r) → IsTrue (is_reference r) → ⊥
+binds_or_refers standing.Reference b h = absurd (cc)
+binds_or_refers standing.Body b h = absurd (cc)
+binds_or_refers _ b h = absurd (cc)
+
+-- a name binds or refers
+pub name_has : (r : Standing) {P : Type 0} → IsTrue (is_name r) → (IsTrue (is_binding r) → P) → (IsTrue (is_reference r) → P) → P
+name_has r h f g = by (is_binding r) (is_reference r) h f g
+  where
+    by : (a b : Bool) {P : Type 0} → IsTrue (a || b) → (IsTrue a → P) → (IsTrue b → P) → P
+    by true b h f g = f refl
+    by false b h f g = g h
 
 -- a binding has the mark of the scope that takes it
 abbrev pub HasTakersMark : (Path → ℕ) → Node → Path → Standing → List ℕ → Type 0
@@ -330,6 +349,27 @@ module _ (A R : Node) (m : List ℕ → List ℕ) (same : SameScopes A R) (clear
             ∙ captured p standing.Variable x y s.0 f at refl d (round s (head_in s ss)) (inr (whole, subst (λ l. Contains l (f, whole)) nested.0 there)) (bound_declared s.0 standing.CatchParameter y a) same
         next false is e (inr (none, z)) later = later e z
 
+    -- a name belongs to the scope that declares it, or to none where it is free
+    pub belongs_to_owner : (p : Path) (r : Standing) (x : List ℕ) (o : Option Path) → Stands A p r x → IsTrue (is_name r) → Belongs R p r (m x) o → Owner x o
+    belongs_to_owner p r x o at n h = name_has r n binding (λ f. reference p r x at f o (subst (λ ss. First (DeclaresFor R (m x)) ss o) (sym (same.rounds_same p)) (h.reference f)))
+      where
+        binding : IsTrue (is_binding r) → Owner x o
+        binding b =
+            let (s, declared, e) = h.binding b in
+            let there : taker r A p ≡ Some s = taken_same r p ∙ declared_taker R r p s (m x) (no_sloppy p r x at) declared in
+            subst (Owner x) (sym e) (record { path = p; standing = r; binds = record { at = at; binds = b }; declared = as_declared r p s x (no_sloppy p r x at) there })
+
+    -- that scope is one, and tells names of one text apart
+    pub one_owner : (x : List ℕ) (o n : Option Path) → Owner x o → Owner x n → o ≡ n
+    one_owner x None None f g = refl
+    one_owner x None (Some s) f d = absurd (f.undeclared (is_declared s x d))
+    one_owner x (Some s) None d f = absurd (f.undeclared (is_declared s x d))
+    one_owner x (Some s) (Some u) d e = ap (λ q. Some q) (one_scope s u x d e)
+
+    pub owner_tells : (x y : List ℕ) (o : Option Path) → Owner x o → Owner y o → m x ≡ m y → x ≡ y
+    owner_tells x y None f g e = apart.frees x y f g e
+    owner_tells x y (Some s) d g e = same_scope_apart s x y d g e
+
     own_meaning_is : is_script R ≡ false → (y : List ℕ) (o : Option Path) → own_meaning R y o ≡ o
     own_meaning_is n y None = refl
     own_meaning_is n y (Some []) = ap (λ b. cond (b && is_global_value y) None (Some [])) n
@@ -368,12 +408,8 @@ module _ (A R : Node) (m : List ℕ → List ℕ) (same : SameScopes A R) (clear
               (ap (first_that IsVariableScope) (same.rounds_same p) ∙ sym (taken_same standing.Variable p) ∙ subst (λ r. taker r A p ≡ Some s) is there)
               (subst (λ ss. First (λ s. IsTrue (IsVariableScope s) ⊎ Bound R s.0 standing.CatchParameter (m x)) ss (Some n)) (sym (same.rounds_same p)) g)
 
-      name_has : (a b : Bool) {P : Type 0} → IsTrue (a || b) → (IsTrue a → P) → (IsTrue b → P) → P
-      name_has true b h f g = f refl
-      name_has false b h f g = g h
-
       pub has_owner : (p : Path) (r : Standing) (x c : List ℕ) → Stands A p r x → IsTrue (is_name r) → HasContext marks unresolved R p (m x) r c → HasOwner x c
-      has_owner p r x c at n h = name_has (is_binding r) (is_reference r) n (λ b. declared_by p r x c at (h.binding b)) (λ b. refers_to p r x c at b (h.reference b))
+      has_owner p r x c at n h = name_has r n (λ b. declared_by p r x c at (h.binding b)) (λ b. refers_to p r x c at b (h.reference b))
 
       -- the marks of scopes are apart, and those of other scopes than the program are not the unresolved mark
       module _ (one_to_one : (s u : Path) (x y : List ℕ) → DeclaredIn A s x → DeclaredIn A u y → marks s ≡ marks u → s ≡ u) (others : (s : Path) (x : List ℕ) → DeclaredIn A s x → s ≢ [] → marks s ≢ unresolved)

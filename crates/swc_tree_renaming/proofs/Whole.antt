@@ -17,7 +17,7 @@ use Rattle.swc_tree_scoping.specs.declared.places.View.TheVariants as view
 use Rattle.swc_tree_scoping.specs.Places.{Path, program_place, place_at, opened, opened_in}
 use Rattle.swc_tree_scoping.specs.Scopes.{IsScope, is_reference, seen_as, view_in, is_name}
 use Rattle.swc_tree_scoping.specs.Readings.{by_ids, id_name, with_identifiers}
-use Rattle.swc_tree_scoping.specs.Resolved.{HasContext, Resolved, is_script, remarked}
+use Rattle.swc_tree_scoping.specs.Resolved.{Contexts, HasContext, Resolved, is_script, remarked}
 use Rattle.swc_tree_scoping.specs.WellScoped.{Stands, IsDeclared, IsFree, WellScoped, is_module, IsClean}
 use Rattle.swc_tree_scoping.proofs.First.{last_round}
 use Rattle.swc_tree_scoping.proofs.Remarked.{remarked-Identifier, tree_is, identifier_is}
@@ -124,6 +124,13 @@ from_ids t p w k i h =
     = ap (λ (q : Place × Node). q.1) (some_same (w, Identifier k i) (w, Identifier l (by_id j)) (sym h ∙ stands_by_id t p w l j e)) in
     (l, j, e, identifier_same k l i (by_id j) node)
 
+-- what stands in a tree with contexts given anew
+pub stands_there : (v u : Node) (c : Contexts) → u ≡ remarked c v → (p : Path) (w : Place) (l : Kind) (j : Ident) → place_at program_place v p ≡ Some (w, Identifier l j) → place_at program_place u p ≡ Some (w, Identifier l (record j { ctxt = c p }))
+stands_there v u c only p w l j h =
+    ap (λ u. place_at program_place u p) only ∙ place_at_remarked p c program_place v
+    ∙ ap (option_map {U = Place × Node} (λ (q : Place × Node). (q.0, remarked (λ r. c (p ++ r)) q.1))) h
+    ∙ ap (λ d. Some (w, d)) (remarked-Identifier (λ r. c (p ++ r)) l j) ∙ ap (λ x. Some (w, Identifier l (record j { ctxt = c x }))) (append-nil p)
+
 module _ (t answer u : Node) (text : List ℕ → List ℕ) (unresolved top : ℕ) (old new : List (ℕ × ℕ)) (scoped : WellScoped t) (is_one : IsTrue (is_module t)) (apart : NamesApart t text)
     (renamed : Renamed (by_ids t) text answer) (knows : Knows old unresolved) (resolved : Resolved unresolved top old new answer u) where
   abbrev A : Node
@@ -195,17 +202,11 @@ module _ (t answer u : Node) (text : List ℕ → List ℕ) (unresolved top : �
   abbrev Owns : List ℕ → List ℕ → Type 0
   Owns = HasOwner A answer text same clear renamed.cleared renamed.texts settled scoped.each_in_one_scope captures_none resolved.marks unresolved script
 
-  stands_resolved : (p : Path) (w : Place) (l : Kind) (j : Ident) → place_at program_place answer p ≡ Some (w, Identifier l j) → place_at program_place u p ≡ Some (w, Identifier l (record j { ctxt = resolved.contexts p }))
-  stands_resolved p w l j h =
-      ap (λ u. place_at program_place u p) resolved.only_contexts ∙ place_at_remarked p resolved.contexts program_place answer
-      ∙ ap (option_map {U = Place × Node} (λ (q : Place × Node). (q.0, remarked (λ r. resolved.contexts (p ++ r)) q.1))) h
-      ∙ ap (λ d. Some (w, d)) (remarked-Identifier (λ r. resolved.contexts (p ++ r)) l j) ∙ ap (λ x. Some (w, Identifier l (record j { ctxt = resolved.contexts x }))) (append-nil p)
-
   read : (p : Path) (i a : Ident) → NameAt t p i → NameAt u p a → (a.sym ≡ text (id_name i)) × Owns (id_name i) a.ctxt
   read p i a (w, k, h, n) (v, l, g, z) =
       let (m, j, e) = same.forth p w k (by_id i) (stands_by_id t p w k i h) in
       let node : Identifier l a ≡ Identifier m (record j { ctxt = resolved.contexts p })
-      = ap (λ (q : Place × Node). q.1) (some_same (v, Identifier l a) (w, Identifier m (record j { ctxt = resolved.contexts p })) (sym g ∙ stands_resolved p w m j e)) in
+      = ap (λ (q : Place × Node). q.1) (some_same (v, Identifier l a) (w, Identifier m (record j { ctxt = resolved.contexts p })) (sym g ∙ stands_there answer u resolved.contexts resolved.only_contexts p w m j e)) in
       let is : a ≡ record j { ctxt = resolved.contexts p } = identifier_same l m a (record j { ctxt = resolved.contexts p }) node in
       let name : j.sym ≡ text (id_name i) = renamed.texts p w w k m (by_id i) j (stands_by_id t p w k i h) e n in
       let context : HasContext resolved.marks unresolved answer p (text (id_name i)) w.standing (resolved.contexts p)

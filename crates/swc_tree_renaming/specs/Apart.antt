@@ -1,5 +1,5 @@
 -- When new texts keep what names mean.
-use Rattle.std.specs.Prelude.{◌≡◌, ◌≢◌, ℕ, Bool, ◌⊎◌, ◌↔◌, IsTrue, Some, List, [], Contains}
+use Rattle.std.specs.Prelude.{◌≡◌, ◌≢◌, ℕ, Bool, ◌⊎◌, ◌↔◌, IsTrue, Option, Some, List, [], Contains}
 use Rattle.swc_tree_marks.specs.declared.ident.Ident.{Ident}
 use Rattle.swc_tree_node.specs.declared.kind.Kind.{Kind}
 use Rattle.swc_tree_node.specs.declared.node.Node.{Node, Identifier}
@@ -7,8 +7,8 @@ use Rattle.swc_tree_scoping.specs.declared.places.Standing.{Standing}
 use Rattle.swc_tree_scoping.specs.declared.places.Standing.TheVariants as standing
 use Rattle.swc_tree_scoping.specs.declared.places.Place.{Place}
 use Rattle.swc_tree_scoping.specs.Places.{Path, program_place, place_at}
-use Rattle.swc_tree_scoping.specs.Scopes.{rounds, scope_at, is_name, is_reference}
-use Rattle.swc_tree_scoping.specs.Declares.{DeclaredBy}
+use Rattle.swc_tree_scoping.specs.Scopes.{rounds, scope_at, is_binding, is_name, is_reference}
+use Rattle.swc_tree_scoping.specs.Declares.{DeclaredBy, Means}
 use Rattle.swc_tree_scoping.specs.Resolved.{Resolved}
 use Rattle.swc_tree_scoping.specs.WellScoped.{Stands, Binds, IsClean, IsDeclared, IsFree, WellScoped, is_module}
 use Rattle.swc_tree_scoping.specs.Readings.{by_ids, id_name, with_identifiers}
@@ -107,6 +107,19 @@ SameId i j = (i.sym ≡ j.sym) × (i.ctxt ≡ j.ctxt)
 -- two bindings or references have one id in one tree exactly if they have one in the other
 abbrev pub SameIds : Node → Node → Type 0
 SameIds t u = (p q : Path) (i j a b : Ident) → NameAt t p i → NameAt t q j → NameAt u p a → NameAt u q b → SameId a b ↔ SameId i j
+
+-- a binding belongs to the scope that declares it, a reference to the one that it means, or to none, where it is free
+pub record Belongs (t : Node) (p : Path) (r : Standing) (name : List ℕ) (o : Option Path) : Type 0 where
+  pub binding : IsTrue (is_binding r) → (s : Path) × DeclaredBy t p r name s × (o ≡ Some s)
+  pub reference : IsTrue (is_reference r) → Means t p name o
+
+-- two names have one text and belong to one scope, or have one text and are both free
+abbrev pub MeanOne : (t : Node) (p q : Path) (i j : Ident) → NameAt t p i → NameAt t q j → Type 0
+MeanOne t p q i j m n = (i.sym ≡ j.sym) × ((o : Option Path) × Belongs t p m.0.standing i.sym o × Belongs t q n.0.standing j.sym o)
+
+-- two bindings or references mean one thing in one tree exactly if they have one id in the other
+abbrev pub MeanTheirIds : Node → Node → Type 0
+MeanTheirIds t u = (p q : Path) (i j a b : Ident) (m : NameAt t p i) (n : NameAt t q j) → NameAt u p a → NameAt u q b → MeanOne t p q i j m n ↔ SameId a b
 
 -- the table knows the mark
 abbrev pub Knows : List (ℕ × ℕ) → ℕ → Type 0

@@ -1,7 +1,5 @@
 -- What is left of a program, of its answer and of the answer resolved has the same ids.
-use Rattle.std.proofs.Common.{◌≡◌, ◌≢◌, ℕ, false, IsTrue, Some, List, [], ◌∷◌, ◌++◌, Contains, refl, sym, ap, ◌∙◌, subst}
-use Rattle.std.specs.Option.{option_map}
-use Rattle.std.proofs.lemmas.List.{append-nil}
+use Rattle.std.proofs.Common.{◌≡◌, ◌≢◌, ℕ, false, IsTrue, Some, List, [], ◌∷◌, Contains, refl, sym, ap, ◌∙◌, subst}
 use Rattle.swc_tree_marks.specs.declared.ident.Ident.{Ident}
 use Rattle.swc_tree_node.specs.declared.kind.Kind.{Kind}
 use Rattle.swc_tree_node.specs.declared.kind.Kind.TheVariants as kind
@@ -15,15 +13,14 @@ use Rattle.swc_tree_scoping.specs.declared.places.Scope.TheVariants as scope
 use Rattle.swc_tree_scoping.specs.Places.{Path, opened, opened_in, place_at, program_place}
 use Rattle.swc_tree_scoping.specs.Scopes.{IsScope, is_binding, taker}
 use Rattle.swc_tree_scoping.specs.Readings.{by_ids, id_name}
-use Rattle.swc_tree_scoping.specs.Resolved.{Contexts, HasContext, Resolved, is_script, remarked}
+use Rattle.swc_tree_scoping.specs.Resolved.{HasContext, Resolved, is_script}
 use Rattle.swc_tree_scoping.specs.WellScoped.{Binds, EachInOneScope, IsClean, Stands, is_module}
 use Rattle.swc_tree_scoping.proofs.First.{has_taker}
-use Rattle.swc_tree_scoping.proofs.Remarked.{remarked-Identifier}
 use Rattle.swc_tree_renaming.specs.Apart.{CapturesNone, DeclaredIn, HasNoSloppy, HasTexts, Knows, NameAt, SameIds, SameScopes, nameless}
 use Rattle.swc_tree_renaming.proofs.Core.{HasOwner, declared_taker, same_ids, taken_same}
-use Rattle.swc_tree_renaming.proofs.Shape.{nameless_by_ids, nameless_remarked, place_at_remarked, same_scopes, some_same}
+use Rattle.swc_tree_renaming.proofs.Shape.{nameless_by_ids, nameless_remarked, same_scopes, some_same}
 use Rattle.swc_tree_renaming.proofs.Strict.{no_sloppy_in_modules}
-use Rattle.swc_tree_renaming.proofs.Whole.{by_id, from_ids, id_name_apart, id_name_same, identifier_same, in_program, module_layer, module_too, no_script, stands_by_id}
+use Rattle.swc_tree_renaming.proofs.Whole.{by_id, from_ids, id_name_apart, id_name_same, identifier_same, in_program, module_layer, module_too, no_script, stands_by_id, stands_there}
 use Rattle.swc_tree_sites_laws.specs.Laws.{LeftKeepsIds}
 use Rattle.swc_tree_sites.specs.Sites.{Binding, taken_at}
 use Rattle.swc_tree_sites.specs.Smaller.{In, IsLeftOf, IsPlain}
@@ -52,15 +49,8 @@ plain_module t ts o clean = record { unmarked = clean; settled = λ p w k i h. n
     takes [] r x b = no_root t r x b
     takes (i ∷ p) r x b = has_taker t p i r (module_opens t ts o) b.binds
 
-clean_ids : (t : Node) → IsClean (by_ids t)
+pub clean_ids : (t : Node) → IsClean (by_ids t)
 clean_ids t p w k i h = let (l, j, e, is) = from_ids t p w k i h in ap (λ (i : Ident). i.ctxt) is
-
--- an answer with contexts
-pub stands_there : (v u : Node) (c : Contexts) → u ≡ remarked c v → (p : Path) (w : Place) (l : Kind) (j : Ident) → place_at program_place v p ≡ Some (w, Identifier l j) → place_at program_place u p ≡ Some (w, Identifier l (record j { ctxt = c p }))
-stands_there v u c only p w l j h =
-    ap (λ u. place_at program_place u p) only ∙ place_at_remarked p c program_place v
-    ∙ ap (option_map {U = Place × Node} (λ (q : Place × Node). (q.0, remarked (λ r. c (p ++ r)) q.1))) h
-    ∙ ap (λ d. Some (w, d)) (remarked-Identifier (λ r. c (p ++ r)) l j) ∙ ap (λ x. Some (w, Identifier l (record j { ctxt = c x }))) (append-nil p)
 
 is_marked : (unresolved top : ℕ) (old new : List (ℕ × ℕ)) (v u : Node) → IsPlain v → (r : Resolved unresolved top old new v u) → IsMarked v u r.marks unresolved
 is_marked unresolved top old new v u plain r = record {
@@ -84,6 +74,29 @@ is_marked unresolved top old new v u plain r = record {
         = ap (λ (q : Place × Node). q.1) (some_same (z, Identifier l j) (w, Identifier k (record i { ctxt = r.contexts p })) (sym g ∙ stands_there v u r.contexts r.only_contexts p w k i e)) in
         identifier_same l k j (record i { ctxt = r.contexts p }) node
 
+ids_module : (b : Node) → IsTrue (is_module b) → (ts : List Node) × (out-Node (by_ids b) ≡ Node-F.Tree kind.Module ts)
+ids_module b h = let (ts, o) = module_layer b h in module_too b (by_ids b) ts (sym (nameless_by_ids b)) o
+
+plain_ids : (b : Node) → IsTrue (is_module b) → IsPlain (by_ids b)
+plain_ids b h = let (ts, o) = ids_module b h in plain_module (by_ids b) ts o (clean_ids b)
+
+pub plain_clean : (b : Node) → IsTrue (is_module b) → IsClean b → IsPlain b
+plain_clean b h clean = let (ts, o) = module_layer b h in plain_module b ts o clean
+
+no_script_of : (b : Node) → IsTrue (is_module b) → is_script b ≡ false
+no_script_of b h = let (ts, o) = module_layer b h in no_script b ts o
+
+-- what is left of a program, read by ids
+module _ (t a : Node) (text : List ℕ → List ℕ) (module_t : IsTrue (is_module t)) (module_a : IsTrue (is_module a)) (each : EachInOneScope (by_ids t)) (none : CapturesNone (by_ids t) text) (left : IsLeftOf (by_ids a) (by_ids t)) where
+  pub one_scope : EachInOneScope (by_ids a)
+  one_scope = scopes_of_kept (by_ids t) (by_ids a) (plain_ids t module_t) (plain_ids a module_a) left.names left.scopes each
+
+  pub captures : CapturesNone (by_ids a) text
+  captures = captures_none (by_ids t) (by_ids a) text (plain_ids t module_t) (plain_ids a module_a) left.names (one_taker_of_fewer (by_ids t) (by_ids a) left.scopes (one_taker (by_ids t) (plain_ids t module_t) each)) each none
+
+pub settled : (a : Node) → IsTrue (is_module a) → HasNoSloppy (by_ids a)
+settled a h = (plain_ids a h).settled
+
 module _ (t a answer n u m : Node) (text : List ℕ → List ℕ) (unresolved top : ℕ) (old new : List (ℕ × ℕ)) (module_t : IsTrue (is_module t)) (module_a : IsTrue (is_module a)) (module_answer : IsTrue (is_module answer)) (module_n : IsTrue (is_module n))
     (each : EachInOneScope (by_ids t)) (none : CapturesNone (by_ids t) text) (left : IsLeftOf (by_ids a) (by_ids t)) (shape : SameScopes (by_ids a) n) (cleared : IsClean n) (texts : HasTexts (by_ids a) text n)
     (clean : IsClean answer) (knows : Knows old unresolved) (r : Resolved unresolved top old new answer u) (left_there : IsLeftOf m u) (program : taken_at program_place m ≡ taken_at program_place u)
@@ -91,40 +104,31 @@ module _ (t a answer n u m : Node) (text : List ℕ → List ℕ) (unresolved to
   abbrev A : Node
   A = by_ids a
 
-  ids_module : (b : Node) → IsTrue (is_module b) → (ts : List Node) × (out-Node (by_ids b) ≡ Node-F.Tree kind.Module ts)
-  ids_module b h = let (ts, o) = module_layer b h in module_too b (by_ids b) ts (sym (nameless_by_ids b)) o
-
-  plain_ids : (b : Node) → IsTrue (is_module b) → IsPlain (by_ids b)
-  plain_ids b h = let (ts, o) = ids_module b h in plain_module (by_ids b) ts o (clean_ids b)
-
   plain_n : IsPlain n
-  plain_n = let (ts, o) = module_layer n module_n in plain_module n ts o cleared
+  plain_n = plain_clean n module_n cleared
 
   marked : IsMarked answer u r.marks unresolved
-  marked = let (ts, o) = module_layer answer module_answer in is_marked unresolved top old new answer u (plain_module answer ts o clean) r
+  marked = is_marked unresolved top old new answer u (plain_clean answer module_answer clean) r
 
-  no_script_of : (b : Node) → IsTrue (is_module b) → is_script b ≡ false
-  no_script_of b h = let (ts, o) = module_layer b h in no_script b ts o
+  each_a : EachInOneScope A
+  each_a = one_scope t a text module_t module_a each none left
 
-  one_scope : EachInOneScope A
-  one_scope = scopes_of_kept (by_ids t) A (plain_ids t module_t) (plain_ids a module_a) left.names left.scopes each
+  none_a : CapturesNone A text
+  none_a = captures t a text module_t module_a each none left
 
-  captures : CapturesNone A text
-  captures = captures_none (by_ids t) A text (plain_ids t module_t) (plain_ids a module_a) left.names (one_taker_of_fewer (by_ids t) A left.scopes (one_taker (by_ids t) (plain_ids t module_t) each)) each none
-
-  settled : HasNoSloppy A
-  settled = (plain_ids a module_a).settled
+  settled_a : HasNoSloppy A
+  settled_a = settled a module_a
 
   abbrev Owns : List ℕ → List ℕ → Type 0
-  Owns = HasOwner A n text shape (clean_ids a) cleared texts settled one_scope captures (marks_of m) unresolved (no_script_of n module_n)
+  Owns = HasOwner A n text shape (clean_ids a) cleared texts settled_a each_a none_a (marks_of m) unresolved (no_script_of n module_n)
 
   -- what the scope takes that declares a name
   taken : (s : Path) (x : List ℕ) → DeclaredIn A s x → (b : Binding) × In b (taken_by program_place m s)
   taken s x d =
       let at = d.binds.at in
-      let here : taker d.standing A d.path ≡ Some s = declared_taker A d.standing d.path s x (λ e. settled d.path at.place at.kind at.identifier at.stands (at.stands_so ∙ e)) d.declared in
+      let here : taker d.standing A d.path ≡ Some s = declared_taker A d.standing d.path s x (λ e. settled_a d.path at.place at.kind at.identifier at.stands (at.stands_so ∙ e)) d.declared in
       let there : taker d.standing m d.path ≡ Some s
-      = sym (taker_same n m plain_n same kept_texts d.standing d.path) ∙ sym (taken_same A n text shape (clean_ids a) cleared texts settled d.standing d.path) ∙ here in
+      = sym (taker_same n m plain_n same kept_texts d.standing d.path) ∙ sym (taken_same A n text shape (clean_ids a) cleared texts settled_a d.standing d.path) ∙ here in
       let (l, j, e) = shape.forth d.path at.place at.kind at.identifier at.stands in
       let (k, i, g) = same.forth d.path at.place l j e in
       ((d.standing, i), (taken_is s program_place m (d.standing, i)).1 (record { path = d.path; place = at.place; kind = k; stands = g; stands_so = at.stands_so; binds = d.binds.binds; taken = there }))
@@ -133,7 +137,7 @@ module _ (t a answer n u m : Node) (text : List ℕ → List ℕ) (unresolved to
   others s h ne e = r.fresh s h ne knows.0 (subst (λ m. Contains old (m, knows.0)) (sym e) knows.1)
 
   uncaught_n : (p : Path) (x : List ℕ) → Stands n p standing.Variable x → IsUncaught n p x
-  uncaught_n = met A n text shape (clean_ids a) cleared texts settled one_scope captures answer u m r.marks unresolved marked plain_n same kept_texts left_there.names (no_script_of answer module_answer) (no_script_of n module_n)
+  uncaught_n = met A n text shape (clean_ids a) cleared texts settled_a each_a none_a answer u m r.marks unresolved marked plain_n same kept_texts left_there.names (no_script_of answer module_answer) (no_script_of n module_n)
 
   one_to_one : (s g : Path) (x y : List ℕ) → DeclaredIn A s x → DeclaredIn A g y → marks_of m s ≡ marks_of m g → s ≡ g
   one_to_one s g x y d e h =
@@ -154,7 +158,7 @@ module _ (t a answer n u m : Node) (text : List ℕ → List ℕ) (unresolved to
       let place : v ≡ w = ap (λ (q : Place × Node). q.0) (some_same (v, Identifier l b) (w, Identifier d y) (sym g ∙ f)) in
       let g_w : place_at program_place m p ≡ Some (w, Identifier l b) = g ∙ ap (λ (v : Place). Some (v, Identifier l b)) place in (
         kept_texts p w w c l j b e g_w names ∙ texts p w w k c (by_id i) j at.stands e names,
-        has_owner A n text shape (clean_ids a) cleared texts settled one_scope captures answer u m r.marks unresolved marked plain_n same kept_texts left_there.names (no_script_of answer module_answer) (no_script_of n module_n) p w l b (id_name i) g_w names at,
+        has_owner A n text shape (clean_ids a) cleared texts settled_a each_a none_a answer u m r.marks unresolved marked plain_n same kept_texts left_there.names (no_script_of answer module_answer) (no_script_of n module_n) p w l b (id_name i) g_w names at,
       )
 
   pub ids_same : SameIds a m
@@ -162,7 +166,7 @@ module _ (t a answer n u m : Node) (text : List ℕ → List ℕ) (unresolved to
       let (tb, ob) = read p i b ni nb in
       let (tc, oc) = read q j c nj nc in
       let (ts, o) = ids_module a module_a in
-      let both = same_ids A n text shape (clean_ids a) cleared texts settled one_scope captures (marks_of m) unresolved (no_script_of n module_n) one_to_one apart_from_unresolved (in_program A ts o) (id_name i) (id_name j) b.ctxt c.ctxt ob oc in (
+      let both = same_ids A n text shape (clean_ids a) cleared texts settled_a each_a none_a (marks_of m) unresolved (no_script_of n module_n) one_to_one apart_from_unresolved (in_program A ts o) (id_name i) (id_name j) b.ctxt c.ctxt ob oc in (
         (λ h. id_name_apart i j (both.0 (sym tb ∙ h.0 ∙ tc, h.1))),
         (λ h. let e = both.1 (id_name_same i j h) in (tb ∙ e.0 ∙ sym tc, e.1)),
       )

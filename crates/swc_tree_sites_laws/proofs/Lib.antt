@@ -4,4 +4,6 @@ pub mod Parts
 pub mod StrippedFewer
 pub mod LeftStripped
 pub mod LeftIds
+pub mod Decided
+pub mod LeftMeanings
 pub mod LeftByIds

@@ -3,7 +3,7 @@
 //! `specs/Laws.antt` states the laws. Each is the contract of a function that does nothing, so that it is proved.
 #![tactic(auto)]
 
-ghost use Rattle.swc_tree_sites_laws.specs.Laws.{IdsAreLeft, LeftKeepsIds, StrippedHasFewer, StrippedTakesTheSame};
+ghost use Rattle.swc_tree_sites_laws.specs.Laws.{IdsAreLeft, LeftKeepsIds, LeftMeanTheirIds, StrippedHasFewer, StrippedTakesTheSame};
 
 /// A module that is stripped has fewer names, and what is round them stays.
 pub fn stripped_has_fewer()
@@ -24,4 +24,10 @@ pub fn ids_are_left()
 /// where the new texts capture nothing.
 pub fn left_keeps_ids()
     ensures { LeftKeepsIds }
+{}
+
+/// Two names of what is left of the answer have one text and one scope, or one text and no scope, exactly if what is left of the
+/// program has one id for them.
+pub fn left_mean_their_ids()
+    ensures { LeftMeanTheirIds }
 {}
