@@ -1,5 +1,5 @@
 -- The names of a module mean the ids that they are given: they have one text and one scope exactly if they get one id.
-use Rattle.std.proofs.Common.{◌≡◌, ℕ, inl, inr, ⊎_elim, IsTrue, Option, Some, None, List, [], ◌∷◌, refl, sym, ap, ◌∙◌, subst, ◌↔◌}
+use Rattle.std.proofs.Common.{◌≡◌, ℕ, true, inl, inr, ⊎_elim, IsTrue, Option, Some, None, List, [], ◌∷◌, refl, sym, ap, ◌∙◌, subst, ◌↔◌}
 use Rattle.swc_tree_marks.specs.declared.ident.Ident.{Ident}
 use Rattle.swc_tree_node.specs.declared.node.Node.{Node, Identifier}
 use Rattle.swc_tree_scoping.specs.declared.places.Standing.{Standing}
@@ -25,7 +25,7 @@ first_one P [] m n f g = f ∙ sym g
 first_one P (s ∷ ss) m n (inl (h, e)) (inl (k, z)) = e ∙ sym z
 first_one P (s ∷ ss) m n (inl (h, e)) (inr (none, g)) = absurd (none h)
 first_one P (s ∷ ss) m n (inr (none, f)) (inl (k, z)) = absurd (none k)
-first_one P (s ∷ ss) m n (inr (none, f)) (inr (no, g)) = first_one P ss m n f g
+first_one P (s ∷ ss) m n (inr (none, f)) (inr (nor, g)) = first_one P ss m n f g
 
 module _ (t u : Node) (g : Resolving t u) where
   abbrev MarkOf : Option Path → List ℕ
@@ -113,7 +113,7 @@ module _ (t u : Node) (g : Resolving t u) where
       ap (λ s. Some s) (one_mark t u g s m (takers_scope t u g y here.path s here.taken) (takers_scope t u g z there.path m there.taken) e)
 
   stands : (p : Path) (i : Ident) (m : NameAt t p i) → Stands t p m.0.standing i.sym
-  stands p i m = record { place = m.0; kind = m.1.0; identifier = i; stands = m.1.1.0; stands_so = refl; named = refl }
+  stands p i m = record { place = m.0; kind = m.1; identifier = i; stands = m.2; stands_so = refl; named = refl }
 
   -- an identifier of the answer is that of the module with its new context
   answered : (p : Path) (i a : Ident) → NameAt t p i → NameAt u p a → a ≡ record i { ctxt = contexts t u g p }
@@ -137,21 +137,21 @@ module _ (t u : Node) (g : Resolving t u) where
       second = answered q j b n y
 
       forth : MeanOne t p q i j m n → SameId a b
-      forth (text, o, h, k) = (
+      forth (text, (o, h, k)) = (
         ap (λ (i : Ident). i.sym) first ∙ text ∙ ap (λ (i : Ident). i.sym) (sym second),
-        ap (λ (i : Ident). i.ctxt) first ∙ mark_of p m.0.standing i.sym o at_p m.1.1.1 h ∙ sym (mark_of q n.0.standing j.sym o at_q n.1.1.1 k) ∙ ap (λ (i : Ident). i.ctxt) (sym second),
+        ap (λ (i : Ident). i.ctxt) first ∙ mark_of p m.0.standing i.sym o at_p m.3 h ∙ sym (mark_of q n.0.standing j.sym o at_q n.3 k) ∙ ap (λ (i : Ident). i.ctxt) (sym second),
       )
 
       back : SameId a b → MeanOne t p q i j m n
       back (text, context) =
           let texts : i.sym ≡ j.sym = ap (λ (i : Ident). i.sym) (sym first) ∙ text ∙ ap (λ (i : Ident). i.sym) second in
-          let here = owned p m.0.standing i.sym at_p m.1.1.1 in
-          let there = owned q n.0.standing j.sym at_q n.1.1.1 in
+          let here = owned p m.0.standing i.sym at_p m.3 in
+          let there = owned q n.0.standing j.sym at_q n.3 in
           let marks_same : MarkOf here.owner ≡ MarkOf there.owner = sym here.marked ∙ ap (λ (i : Ident). i.ctxt) (sym first) ∙ context ∙ ap (λ (i : Ident). i.ctxt) second ∙ there.marked in
           let one : here.owner ≡ there.owner
-          = one_owner p q m.0.standing n.0.standing i.sym here.owner there.owner at_p (subst (Stands t q n.0.standing) (sym texts) at_q) m.1.1.1 n.1.1.1 here.belongs
+          = one_owner p q m.0.standing n.0.standing i.sym here.owner there.owner at_p (subst (Stands t q n.0.standing) (sym texts) at_q) m.3 n.3 here.belongs
           (subst (λ x. Belongs t q n.0.standing x there.owner) (sym texts) there.belongs) marks_same in
-          (texts, here.owner, here.belongs, subst (Belongs t q n.0.standing j.sym) (sym one) there.belongs)
+          (texts, (here.owner, here.belongs, subst (Belongs t q n.0.standing j.sym) (sym one) there.belongs))
 
 pub resolved_names_mean_their_ids : ResolvedNamesMeanTheirIds
 resolved_names_mean_their_ids t u unresolved top old new fitting clean fair known resolved =

@@ -65,7 +65,7 @@ module _ (t a n : Node) (text : List ℕ → List ℕ) (module_t : IsTrue (is_mo
       second = named q j c l y
 
       forth : MeanOne n p q i j m l → SameId b c
-      forth (same, o, h, k) =
+      forth (same, (o, h, k)) =
           id_name_apart b c
           (owner_tells A n text shape (clean_ids a) cleared texts (settled a module_a) each_a none_a (id_name b) (id_name c) o (owner_of p m.0.standing i b o first h) (owner_of q l.0.standing j c o second k)
           (sym first.text ∙ same ∙ second.text))
@@ -78,7 +78,7 @@ module _ (t a n : Node) (text : List ℕ → List ℕ) (module_t : IsTrue (is_mo
           let one : u ≡ o
           = one_owner A n text shape (clean_ids a) cleared texts (settled a module_a) each_a none_a (id_name c) u o (owner_of q l.0.standing j c u second there)
           (subst (λ x. Owns x o) name (owner_of p m.0.standing i b o first here)) in
-          (first.text ∙ ap text name ∙ sym second.text, o, here, subst (Belongs n q l.0.standing j.sym) one there)
+          (first.text ∙ ap text name ∙ sym second.text, (o, here, subst (Belongs n q l.0.standing j.sym) one there))
 
 pub left_mean_their_ids : LeftMeanTheirIds
 left_mean_their_ids t a n text mt ma mn each none left shape cleared texts = mean_their_ids t a n text mt ma mn each none left shape cleared texts
