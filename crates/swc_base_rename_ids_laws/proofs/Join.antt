@@ -22,7 +22,7 @@ use Rattle.swc_tree_scoping.specs.Readings.{by_ids, by_texts, id_name}
 use Rattle.swc_tree_scoping.specs.Resolved.{Resolved}
 use Rattle.swc_tree_scoping.specs.WellScoped.{IsClean, WellScoped, is_module}
 use Rattle.swc_tree_scoping.proofs.Remarked.{fits-remarked}
-use Rattle.swc_tree_renaming.specs.Apart.{HasTexts, Knows, SameId, SameIds, SameScopes, nameless, no_name}
+use Rattle.swc_tree_renaming.specs.Apart.{CapturesNone, HasTexts, Knows, MeanTheirIds, SameId, SameIds, SameScopes, nameless, no_name}
 use Rattle.swc_tree_renaming.proofs.Shape.{nameless_by_ids, same_scopes, some_same, twice}
 use Rattle.swc_tree_renaming.proofs.Whole.{from_ids, identifier_same}
 use Rattle.swc_tree_grammar.specs.Normal.{normal_form, split, written_out}
@@ -35,7 +35,7 @@ use Rattle.swc_tree_grammar_texts.specs.Laws.{TextsAreAsWritable}
 use Rattle.swc_tree_grammar_texts.proofs.Cleared.{bare}
 use Rattle.swc_tree_grammar_texts.proofs.ClearedWritten.{written_of_tree}
 use Rattle.swc_tree_sites.specs.Sites.{taken_at}
-use Rattle.swc_tree_sites_laws.specs.Laws.{IdsAreLeft, LeftKeepsIds, StrippedTakesTheSame}
+use Rattle.swc_tree_sites_laws.specs.Laws.{IdsAreLeft, LeftKeepsIds, LeftMeanTheirIds, StrippedTakesTheSame}
 use Rattle.swc_tree_sites_laws.proofs.LeftStripped.{on_modules}
 use Rattle.swc_tree_sites_written.specs.Laws.{WrittenOutIsLeft}
 use Rattle.swc_tree_sites_tame.specs.Laws.{WritableModulesAreTame, WritableNormalFormIsLeft}
@@ -48,7 +48,7 @@ use Rattle.swc_base_rename_scoped_laws.specs.Laws.{NamesAreApart, new_text}
 use Rattle.swc_base_rename_texts_laws.specs.Laws.{HasHygienicTexts, HygieneGivesNormalFormNewTexts}
 use Rattle.swc_base_rename_texts_laws.proofs.Cleared.{bare_there}
 use Rattle.swc_base_rename_hygiene_laws.specs.Laws.{IsFinishable}
-use Rattle.swc_base_rename_ids_laws.specs.Laws.{HygieneKeepsIds, IsWrittenAs}
+use Rattle.swc_base_rename_ids_laws.specs.Laws.{HygieneKeepsIds, HygieneKeepsMeanings, IsWrittenAs}
 use Rattle.swc_base_rename_ids_laws.proofs.Captures.{captures_none}
 use Rattle.swc_base_rename_ids_laws.proofs.Exported.{normal_cleared, texts_again}
 use Rattle.swc_base_rename_ids_laws.proofs.Spans.{one_id, one_outline}
@@ -97,24 +97,13 @@ one_name w v k l i j o e g = identifier_same k l i j (ap (λ (q : Place × Node)
 
 -- ---- the laws
 
-module _ (apart : NamesAreApart) (texts : HygieneGivesNormalFormNewTexts) (targets : TargetsStandBare) (tame : WritableModulesAreTame) (written : WrittenOutIsLeft) (left : WritableNormalFormIsLeft)
-    (stripped_takes : StrippedTakesTheSame) (ids_left : IdsAreLeft) (as_writable : TextsAreAsWritable) (left_keeps : LeftKeepsIds) where
-  -- the program takes the same in the normal form
-  normal_takes : (t : Node) → Fits t module_place → Writable t → taken_at program_place (normal_form t) ≡ taken_at program_place t
-  normal_takes t f w =
-      let b = targets t module_place f w in
-      (written (stripped t) (stripped_fits t module_place b refl f) (tame t f w)).1 ∙ stripped_takes t f b
-
-  module _ (table : Table) (config : Config) (before middle answer u : Node) (unresolved top : ℕ) (old new : List (ℕ × ℕ)) (first : IsFinishable config before) (scoped : WellScoped before) (hygienic : IsHygienic table config before middle)
-      (last : IsWrittenAs middle answer) (knows : Knows old unresolved) (r : Resolved unresolved top old new answer u) where
+module _ (apart : NamesAreApart) (texts : HygieneGivesNormalFormNewTexts) (left : WritableNormalFormIsLeft) (ids_left : IdsAreLeft) where
+  module _ (table : Table) (config : Config) (before middle answer : Node) (first : IsFinishable config before) (scoped : WellScoped before) (hygienic : IsHygienic table config before middle) (last : IsWrittenAs middle answer) where
     abbrev N : Node
     N = normal_form before
 
     abbrev L : Node
     L = normal_form answer
-
-    abbrev M : Node
-    M = normal_form u
 
     given : HasHygienicTexts before middle
     given = texts table config before middle first.plain first.fits first.writable hygienic
@@ -124,26 +113,6 @@ module _ (apart : NamesAreApart) (texts : HygieneGivesNormalFormNewTexts) (targe
 
     is_one : IsTrue (is_module before)
     is_one = module_is before first.fits
-
-    -- ---- the resolved answer
-
-    fits_u : Fits u module_place
-    fits_u = ap (λ t. fits t module_place) r.only_contexts ∙ fits-remarked r.contexts answer module_place ∙ last.fits
-
-    writable_u : Writable u
-    writable_u = sym (as_writable u) ∙ subst Writable (sym (texts_again answer u r.contexts r.only_contexts last.clean)) last.writable
-
-    cleared : L ≡ by_texts M
-    cleared = normal_cleared unresolved top old new answer u last.clean (module_is answer last.fits) r fits_u writable_u
-
-    same_resolved : SameScopes L M
-    same_resolved = same_scopes L M (ap nameless cleared ∙ nameless_texts M)
-
-    kept_texts : HasTexts L (λ x. x) M
-    kept_texts p w v k l i j e g n =
-        ap (λ (i : Ident). i.sym) (one_name v w l k (bare j) i (place_at program_place L p) (ap (λ t. place_at program_place t p) cleared ∙ bare_there p program_place v M l j g) e)
-
-    -- ---- the answer
 
     shape : outline N ≡ outline L
     shape = given.normal.shape ∙ sym (one_outline L (normal_form middle) last.normal)
@@ -175,13 +144,54 @@ module _ (apart : NamesAreApart) (texts : HygieneGivesNormalFormNewTexts) (targe
         let (c, x, h, is) = from_ids N p w k i e in
         (named p w v c l x j h g).0 n ∙ sym (text_of_id given.new_texts x) ∙ ap (λ (i : Ident). text i.sym) (sym is)
 
-    pub ids_kept : SameIds N M
-    ids_kept =
-        left_keeps before N answer L u M text unresolved top old new is_one (normal_is_module before first.fits) (module_is answer last.fits) (normal_is_module answer last.fits)
-        scoped.each_in_one_scope
-        (captures_none before text scoped is_one (apart before first.fits is_one scoped first.writable hygiene_renaming given.new_texts text (λ x. refl) given.named (text_of_id given.new_texts)))
-        (ids_left N before (left before first.fits first.writable))
-        same_by_ids clean_answer new_texts last.clean knows r (left u fits_u writable_u) (normal_takes u fits_u writable_u) same_resolved kept_texts
+    no_capture : CapturesNone (by_ids before) text
+    no_capture = captures_none before text scoped is_one (apart before first.fits is_one scoped first.writable hygiene_renaming given.new_texts text (λ x. refl) given.named (text_of_id given.new_texts))
 
-  pub hygiene_keeps_ids : HygieneKeepsIds
-  hygiene_keeps_ids table config before middle answer u unresolved top old new first scoped hygienic last knows r = ids_kept table config before middle answer u unresolved top old new first scoped hygienic last knows r
+    pub meanings_kept : LeftMeanTheirIds → MeanTheirIds L N
+    meanings_kept law =
+        law before N L text is_one (normal_is_module before first.fits) (normal_is_module answer last.fits) scoped.each_in_one_scope no_capture (ids_left N before (left before first.fits first.writable)) same_by_ids clean_answer new_texts
+
+  pub hygiene_keeps_meanings : LeftMeanTheirIds → HygieneKeepsMeanings
+  hygiene_keeps_meanings law table config before middle answer first scoped hygienic last = meanings_kept table config before middle answer first scoped hygienic last law
+
+  module _ (targets : TargetsStandBare) (tame : WritableModulesAreTame) (written : WrittenOutIsLeft) (stripped_takes : StrippedTakesTheSame) (as_writable : TextsAreAsWritable) (left_keeps : LeftKeepsIds) where
+    -- the program takes the same in the normal form
+    normal_takes : (t : Node) → Fits t module_place → Writable t → taken_at program_place (normal_form t) ≡ taken_at program_place t
+    normal_takes t f w =
+        let b = targets t module_place f w in
+        (written (stripped t) (stripped_fits t module_place b refl f) (tame t f w)).1 ∙ stripped_takes t f b
+
+    module _ (table : Table) (config : Config) (before middle answer u : Node) (unresolved top : ℕ) (old new : List (ℕ × ℕ)) (first : IsFinishable config before) (scoped : WellScoped before) (hygienic : IsHygienic table config before middle)
+        (last : IsWrittenAs middle answer) (knows : Knows old unresolved) (r : Resolved unresolved top old new answer u) where
+      abbrev M : Node
+      M = normal_form u
+
+      abbrev O : Node
+      O = normal_form answer
+
+      fits_u : Fits u module_place
+      fits_u = ap (λ t. fits t module_place) r.only_contexts ∙ fits-remarked r.contexts answer module_place ∙ last.fits
+
+      writable_u : Writable u
+      writable_u = sym (as_writable u) ∙ subst Writable (sym (texts_again answer u r.contexts r.only_contexts last.clean)) last.writable
+
+      cleared : O ≡ by_texts M
+      cleared = normal_cleared unresolved top old new answer u last.clean (module_is answer last.fits) r fits_u writable_u
+
+      same_resolved : SameScopes O M
+      same_resolved = same_scopes O M (ap nameless cleared ∙ nameless_texts M)
+
+      kept_texts : HasTexts O (λ x. x) M
+      kept_texts p w v k l i j e g n =
+          ap (λ (i : Ident). i.sym) (one_name v w l k (bare j) i (place_at program_place O p) (ap (λ t. place_at program_place t p) cleared ∙ bare_there p program_place v M l j g) e)
+
+      pub ids_kept : SameIds (normal_form before) M
+      ids_kept =
+          left_keeps before (normal_form before) answer O u M (text table config before middle answer first scoped hygienic last) unresolved top old new
+          (module_is before first.fits) (normal_is_module before first.fits) (module_is answer last.fits) (normal_is_module answer last.fits)
+          scoped.each_in_one_scope (no_capture table config before middle answer first scoped hygienic last) (ids_left (normal_form before) before (left before first.fits first.writable))
+          (same_by_ids table config before middle answer first scoped hygienic last) (clean_answer table config before middle answer first scoped hygienic last) (new_texts table config before middle answer first scoped hygienic last)
+          last.clean knows r (left u fits_u writable_u) (normal_takes u fits_u writable_u) same_resolved kept_texts
+
+    pub hygiene_keeps_ids : HygieneKeepsIds
+    hygiene_keeps_ids table config before middle answer u unresolved top old new first scoped hygienic last knows r = ids_kept table config before middle answer u unresolved top old new first scoped hygienic last knows r

@@ -8,7 +8,7 @@ use Rattle.swc_tree_node.specs.declared.node.Node.{Node}
 use Rattle.swc_tree_node.specs.Fits.{Fits}
 use Rattle.swc_tree_scoping.specs.Resolved.{Resolved}
 use Rattle.swc_tree_scoping.specs.WellScoped.{IsClean, WellScoped}
-use Rattle.swc_tree_renaming.specs.Apart.{Knows, SameIds}
+use Rattle.swc_tree_renaming.specs.Apart.{Knows, MeanTheirIds, SameIds}
 use Rattle.swc_tree_grammar.specs.Normal.{normal_form}
 use Rattle.swc_tree_grammar.specs.Spanless.{SameButForSpans}
 use Rattle.swc_tree_grammar.specs.Writable.{Writable}
@@ -28,3 +28,8 @@ pub record IsWrittenAs (t answer : Node) : Type 0 where
 abbrev pub HygieneKeepsIds : Type 0
 HygieneKeepsIds = (table : Table) (config : Config) (before middle answer u : Node) (unresolved top : ℕ) (old new : List (ℕ × ℕ)) → IsFinishable config before → WellScoped before → IsHygienic table config before middle
     → IsWrittenAs middle answer → Knows old unresolved → Resolved unresolved top old new answer u → SameIds (normal_form before) (normal_form u)
+
+-- ... and by the texts and scopes of what is written alone, two kept names mean one thing exactly if the module had one id for them
+abbrev pub HygieneKeepsMeanings : Type 0
+HygieneKeepsMeanings = (table : Table) (config : Config) (before middle answer : Node) → IsFinishable config before → WellScoped before → IsHygienic table config before middle
+    → IsWrittenAs middle answer → MeanTheirIds (normal_form answer) (normal_form before)

@@ -47,9 +47,11 @@ module _ (unresolved top : ℕ) (config : Config) (old : Table) (before : Node) 
       record {
         resolved = resolved;
         meant = m.resolved ok;
+        found = r.found;
         derived = kept.derived;
         normal_form = r.same after kept.normal_form;
         ids = kept.ids r.well_scoped;
+        meanings = kept.meanings r.well_scoped;
         no_early_error = kept.no_early_error r.well_scoped;
       }
 

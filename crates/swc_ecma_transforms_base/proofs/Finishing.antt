@@ -22,7 +22,7 @@ use Rattle.swc_base_rename.specs.Hygiene.{MakesHygienic}
 use Rattle.swc_base_rename_hygiene_laws.proofs.KeepsNormal.{hygiene_keeps_normal_form}
 use Rattle.swc_base_rename_hygiene_laws.proofs.StaysWritable.{hygiene_stays_writable}
 use Rattle.swc_base_rename_errors_laws.specs.Laws.{AnswerHasNoEarlyErrorOfNames}
-use Rattle.swc_ecma_transforms_base_laws.specs.Finished.{FinishingKeepsIds}
+use Rattle.swc_ecma_transforms_base_laws.specs.Finished.{FinishingKeepsIds, FinishingKeepsMeanings}
 use Rattle.swc_base_rename_hygiene_laws.specs.Laws.{IsFinishable}
 use Rattle.swc_ecma_transforms_base_laws.proofs.Kept.{keeps_modules, meets_no_target}
 use Rattle.swc_ecma_transforms_base.specs.Finished.{Finishes, IsFinishRefusal}
@@ -55,19 +55,20 @@ module _ (table : Table) (config : Config) (before : Node) (finishable : IsFinis
   fits : (middle : Node) → IsHygienic table config before middle → Fits middle (slot.One (content.Node class.Module))
   fits middle hygienic = hygiene_fits table config before middle finishable.plain finishable.fits hygienic
 
-  promised_by : FinishingKeepsIds → AnswerHasNoEarlyErrorOfNames → (middle : Node) → IsHygienic table config before middle → KeepsItsPromises before (answer_to middle)
+  promised_by : FinishingKeepsIds → FinishingKeepsMeanings → AnswerHasNoEarlyErrorOfNames → (middle : Node) → IsHygienic table config before middle → KeepsItsPromises before (answer_to middle)
   unfolding answer_to
-  promised_by keeps errors middle hygienic =
+  promised_by keeps means errors middle hygienic =
       let kept = keeps_modules hygiene_stays_writable hygiene_keeps_normal_form fixed_fits all_normal_form_stays table config (recorded (pairs middle)) before middle finishable hygienic (fits middle hygienic) in
       record {
         derived = kept.derived;
         normal_form = kept.normal_form;
         ids = λ scoped unresolved top old new u knows r. keeps table config (recorded (pairs middle)) before middle u unresolved top old new finishable scoped hygienic (fits middle hygienic) knows r;
+        meanings = λ scoped. means table config (recorded (pairs middle)) before middle finishable scoped hygienic (fits middle hygienic);
         no_early_error = λ scoped. errors table config (recorded (pairs middle)) before middle finishable scoped hygienic (fits middle hygienic);
       }
 
-  pub promised : FinishingKeepsIds → AnswerHasNoEarlyErrorOfNames → (after : Node) → Finishes table config before after → KeepsItsPromises before after
-  promised keeps errors after f = subst (λ t. KeepsItsPromises before t) (sym f.paired) (promised_by keeps errors f.between f.hygienic)
+  pub promised : FinishingKeepsIds → FinishingKeepsMeanings → AnswerHasNoEarlyErrorOfNames → (after : Node) → Finishes table config before after → KeepsItsPromises before after
+  promised keeps means errors after f = subst (λ t. KeepsItsPromises before t) (sym f.paired) (promised_by keeps means errors f.between f.hygienic)
 
   bare : (middle : Node) → IsHygienic table config before middle → all_bare middle ≡ true
   bare middle hygienic = meets_no_target hygiene_stays_writable targets_stand_bare table config before middle finishable hygienic (fits middle hygienic)

@@ -6,7 +6,7 @@ use Rattle.swc_tree_marks.specs.Globals.{Table}
 use Rattle.swc_tree_node.specs.declared.node.Node.{Node}
 use Rattle.swc_tree_scoping.specs.Resolved.{Resolved}
 use Rattle.swc_tree_scoping.specs.WellScoped.{NoEarlyErrorOfNames, WellScoped}
-use Rattle.swc_tree_renaming.specs.Apart.{Knows, SameIds}
+use Rattle.swc_tree_renaming.specs.Apart.{Knows, MeanTheirIds, SameIds}
 use Rattle.swc_tree_grammar.specs.Grammar.{FitsGrammar}
 use Rattle.swc_tree_grammar.specs.Normal.{normal_form}
 use Rattle.swc_tree_grammar.specs.Same.{SameButForBoundNames}
@@ -15,21 +15,28 @@ use Rattle.swc_tree_grammar.specs.Same.{SameButForBoundNames}
 abbrev pub KeepsIds : Node → Node → Type 0
 KeepsIds before after = (unresolved top : ℕ) (old new : Table) (u : Node) → Knows old unresolved → Resolved unresolved top old new after u → SameIds (normal_form before) (normal_form u)
 
+-- and with no resolver asked: two kept names have one text and one scope, or one text and no scope, exactly if the module had one id for them
+abbrev pub KeepsMeanings : Node → Node → Type 0
+KeepsMeanings before after = MeanTheirIds (normal_form after) (normal_form before)
+
 -- the grammar derives the answer, it has the normal form of the module but for the names that the module binds, and where the
 -- module is well-scoped its names mean what they meant, and no rule for declaring names is broken
 pub record KeepsItsPromises (before after : Node) : Type 0 where
   pub derived : FitsGrammar after
   pub normal_form : SameButForBoundNames before after
   pub ids : WellScoped before → KeepsIds before after
+  pub meanings : WellScoped before → KeepsMeanings before after
   pub no_early_error : WellScoped before → NoEarlyErrorOfNames after
 
--- the same of a source that is resolved first, whose names mean what the resolver found
+-- the same of a source that is resolved first: its names mean the ids that the resolver found, and so do those of the answer
 pub record KeepsItsSource (unresolved top : ℕ) (old new : Table) (before after : Node) : Type 0 where
   pub resolved : Node
   pub meant : Resolved unresolved top old new before resolved
+  pub found : MeanTheirIds before resolved
   pub derived : FitsGrammar after
   pub normal_form : SameButForBoundNames before after
   pub ids : KeepsIds resolved after
+  pub meanings : KeepsMeanings resolved after
   pub no_early_error : NoEarlyErrorOfNames after
 
 -- there is no other refusal: neither marks nor targets are to blame

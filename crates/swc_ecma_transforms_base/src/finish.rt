@@ -14,7 +14,7 @@ use std::alloc::Global;
 use std::mem;
 use swc_base_rename::{Config, hygiene_with_config};
 use swc_base_rename_errors_laws::answer_has_no_early_error_of_names;
-use swc_ecma_transforms_base_laws::finishing_keeps_ids;
+use swc_ecma_transforms_base_laws::{finishing_keeps_ids, finishing_keeps_meanings};
 use swc_tree::{
     Comments, Globals, JsPass, Module, NoComments, PassError, Script, empty_module, empty_script,
 };
@@ -24,8 +24,8 @@ use swc_tree::{
 ///
 /// A module that can be written down, in which nothing reads names and where classes don't keep theirs, becomes one that the
 /// grammar derives, with the normal form that it had but for the names that it binds; no target of it is to blame then. Where it
-/// is well-scoped, the answer gives two kept names one id exactly if it did, however the answer is resolved, and has no early
-/// error of names.
+/// is well-scoped, the answer gives two kept names one id exactly if it did, however the answer is resolved; by itself it gives
+/// them one text and one scope, or one text and no scope, exactly then; and it has no early error of names.
 ///
 /// # Errors
 ///
@@ -101,6 +101,7 @@ pub(crate) fn finish_module_with<C: Comments>(
     ensures unmoved { IfErr result (λ e. e ≢ error.NoMemory → comments.new ≡ comments.old) }
 {
     finishing_keeps_ids();
+    finishing_keeps_meanings();
     answer_has_no_early_error_of_names();
     let mut module = mem::replace(program, empty_module(alloc, program.span));
     let mut hygiene = hygiene_with_config(config);

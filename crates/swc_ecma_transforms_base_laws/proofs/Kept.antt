@@ -1,5 +1,9 @@
 -- What a module keeps, by the laws of hygiene and of the fixer.
 use Rattle.std.proofs.Common.{refl, ap, ◌∙◌}
+use Rattle.swc_tree_marks.specs.Globals.{Table}
+use Rattle.swc_tree_node.specs.declared.node.Node.{Node}
+use Rattle.swc_tree_node.specs.Fits.{Fits}
+use Rattle.swc_tree_grammar.specs.Due.{Places}
 use Rattle.swc_tree_node.specs.declared.kind.Class.TheVariants as class
 use Rattle.swc_tree_node.specs.declared.slot.Content.TheVariants as content
 use Rattle.swc_tree_node.specs.declared.slot.Slot.{Slot}
@@ -14,9 +18,11 @@ use Rattle.swc_tree_grammar.proofs.BlocksKept.{blocks_fit}
 use Rattle.swc_tree_grammar.proofs.Kept.{stripped_fits}
 use Rattle.swc_base_fixer_laws.specs.Laws.{FixedFits, NormalFormStays, TargetsStandBare}
 use Rattle.swc_base_fixer_laws.proofs.Answer.{due_fits}
-use Rattle.swc_base_rename_hygiene_laws.specs.Laws.{HygieneKeepsNormalForm, HygieneStaysWritable}
-use Rattle.swc_base_rename_ids_laws.specs.Laws.{HygieneKeepsIds, IsWrittenAs}
-use Rattle.swc_ecma_transforms_base_laws.specs.Finished.{FinishingKeepsIds, FinishingKeepsModules, FinishingMeetsNoTarget}
+use Rattle.swc_base_rename_hygiene_laws.specs.Laws.{HygieneKeepsNormalForm, HygieneStaysWritable, IsFinishable}
+use Rattle.swc_base_rename_program.specs.Renamed.{IsHygienic}
+use Rattle.swc_base_rename_substitution.specs.declared.config.Config.{Config}
+use Rattle.swc_base_rename_ids_laws.specs.Laws.{HygieneKeepsIds, HygieneKeepsMeanings, IsWrittenAs}
+use Rattle.swc_ecma_transforms_base_laws.specs.Finished.{FinishingKeepsIds, FinishingKeepsMeanings, FinishingKeepsModules, FinishingMeetsNoTarget}
 use Rattle.swc_ecma_transforms_base_laws.proofs.Clean.{fixed_clean}
 
 abbrev module_place : Slot
@@ -35,14 +41,23 @@ keeps_modules stays same fit normal table config place before middle b h f =
 pub meets_no_target : HygieneStaysWritable → TargetsStandBare → FinishingMeetsNoTarget
 meets_no_target stays bare table config before middle b h f = bare middle module_place f (stays table config module_place before middle b.plain b.fits b.writable h)
 
-pub keeps_ids : HygieneKeepsIds → HygieneStaysWritable → TargetsStandBare → FixedFits → NormalFormStays → FinishingKeepsIds
-keeps_ids ids stays bare fit normal table config place before middle u unresolved top old new b scoped h f knows r =
+-- what the fixer made of the hygienic module is a way to write it down
+written_as : HygieneStaysWritable → TargetsStandBare → FixedFits → NormalFormStays → (table : Table) (config : Config) (place : Places) (before middle : Node) → IsFinishable config before → IsHygienic table config before middle
+    → Fits middle module_place → IsWrittenAs middle (fixed place middle)
+written_as stays bare fit normal table config place before middle b h f =
     let writable = stays table config module_place before middle b.plain b.fits b.writable h in
     let inner = blocks_fit (stripped middle) module_place (stripped_fits middle module_place (bare middle module_place f writable) refl f) in
-    let written : IsWrittenAs middle (fixed place middle) = record {
+    record {
       fits = due_fits place (with_blocks (stripped middle)) module_place inner;
       clean = fixed_clean place middle h.0 module_place h.2 inner;
       writable = (fit place middle module_place refl f writable).0;
       normal = ap spanless (normal place middle module_place f);
-    } in
-    ids table config before middle (fixed place middle) u unresolved top old new b scoped h written knows r
+    }
+
+pub keeps_ids : HygieneKeepsIds → HygieneStaysWritable → TargetsStandBare → FixedFits → NormalFormStays → FinishingKeepsIds
+keeps_ids ids stays bare fit normal table config place before middle u unresolved top old new b scoped h f knows r =
+    ids table config before middle (fixed place middle) u unresolved top old new b scoped h (written_as stays bare fit normal table config place before middle b h f) knows r
+
+pub keeps_meanings : HygieneKeepsMeanings → HygieneStaysWritable → TargetsStandBare → FixedFits → NormalFormStays → FinishingKeepsMeanings
+keeps_meanings meanings stays bare fit normal table config place before middle b scoped h f =
+    meanings table config before middle (fixed place middle) b scoped h (written_as stays bare fit normal table config place before middle b h f)

@@ -15,14 +15,14 @@ use Rattle.swc_base_fixer_sites.proofs.Answers.{fits_module}
 use Rattle.swc_base_rename_ids_laws.proofs.Exported.{normal_cleared, texts_again}
 use Rattle.swc_base_rename_source_laws.specs.Laws.{ReadersNeedNoContexts, SamenessNeedsNoContexts}
 use Rattle.swc_base_rename_units.specs.Eval.{HasEval}
-use Rattle.swc_base_resolver_laws.specs.Laws.{CleanModulesBecomeWellScoped}
+use Rattle.swc_base_resolver_laws.specs.Laws.{CleanModulesBecomeWellScoped, ResolvedNamesMeanTheirIds}
 use Rattle.swc_ecma_transforms_base_laws.specs.Sources.{ResolvedSourcesAreReady}
 
 abbrev module_place : Slot
 module_place = slot.One (content.Node class.Module)
 
-pub sources_ready : CleanModulesBecomeWellScoped → TextsAreAsWritable → SamenessNeedsNoContexts → ReadersNeedNoContexts → ResolvedSourcesAreReady
-sources_ready becomes texts same readers config t u unresolved top old new s known r =
+pub sources_ready : CleanModulesBecomeWellScoped → ResolvedNamesMeanTheirIds → TextsAreAsWritable → SamenessNeedsNoContexts → ReadersNeedNoContexts → ResolvedSourcesAreReady
+sources_ready becomes mean texts same readers config t u unresolved top old new s known r =
     let clear : by_texts u ≡ t = texts_again t u r.contexts r.only_contexts s.clean in
     let fits_u : Fits u module_place = ap (λ t. fits t module_place) r.only_contexts ∙ fits-remarked r.contexts t module_place ∙ s.fits in
     let writable_u : IsTrue (is_writable u) = sym (texts u) ∙ ap is_writable clear ∙ s.writable in
@@ -34,5 +34,6 @@ sources_ready becomes texts same readers config t u unresolved top old new s kno
         writable = writable_u;
       };
       well_scoped = becomes t u unresolved top old new s.fits s.clean s.fair known r;
+      found = mean t u unresolved top old new s.fits s.clean s.fair known r;
       same = λ answer h. subst (λ t. SameButForBoundNames t answer) clear (same u answer normal h);
     }

@@ -8,7 +8,7 @@ use Rattle.swc_tree_node.specs.declared.slot.Slot.TheVariants as slot
 use Rattle.swc_tree_node.specs.Fits.{Fits}
 use Rattle.swc_tree_scoping.specs.Resolved.{Resolved}
 use Rattle.swc_tree_scoping.specs.WellScoped.{WellScoped}
-use Rattle.swc_tree_renaming.specs.Apart.{Knows, SameIds}
+use Rattle.swc_tree_renaming.specs.Apart.{Knows, MeanTheirIds, SameIds}
 use Rattle.swc_tree_grammar.specs.Due.{Places}
 use Rattle.swc_tree_grammar.specs.Fixed.{fixed}
 use Rattle.swc_tree_grammar.specs.Grammar.{FitsGrammar}
@@ -43,3 +43,8 @@ abbrev pub FinishingKeepsIds : Type 0
 FinishingKeepsIds = (table : Table) (config : Config) (place : Places) (before middle u : Node) (unresolved top : ℕ) (old new : List (ℕ × ℕ)) → IsFinishable config before → WellScoped before
     → IsHygienic table config before middle → Fits middle (slot.One (content.Node class.Module)) → Knows old unresolved → Resolved unresolved top old new (fixed place middle) u
     → SameIds (normal_form before) (normal_form u)
+
+-- And by the texts and scopes of the answer alone, two kept names mean one thing exactly if the module had one id for them.
+abbrev pub FinishingKeepsMeanings : Type 0
+FinishingKeepsMeanings = (table : Table) (config : Config) (place : Places) (before middle : Node) → IsFinishable config before → WellScoped before → IsHygienic table config before middle
+    → Fits middle (slot.One (content.Node class.Module)) → MeanTheirIds (normal_form (fixed place middle)) (normal_form before)

@@ -8,6 +8,7 @@ use Rattle.swc_tree_node.specs.declared.node.Node.{Node}
 use Rattle.swc_tree_node.specs.Fits.{Fits}
 use Rattle.swc_tree_scoping.specs.Resolved.{Resolved}
 use Rattle.swc_tree_scoping.specs.WellScoped.{IsClean, NoEarlyErrorOfNames, WellScoped}
+use Rattle.swc_tree_renaming.specs.Apart.{MeanTheirIds}
 use Rattle.swc_tree_grammar.specs.Same.{SameButForBoundNames}
 use Rattle.swc_tree_grammar.specs.Writable.{Writable}
 use Rattle.swc_base_rename_substitution.specs.declared.config.Config.{Config}
@@ -22,10 +23,12 @@ pub record IsSource (config : Config) (t : Node) : Type 0 where
   pub writable : Writable t
   pub plain : IsPlain config t
 
--- a well-scoped module that hygiene and the fixer may finish; what is the same as it but for bound names is so to the source
+-- a well-scoped module that hygiene and the fixer may finish, whose ids are what the names of the source mean; what is the same as it
+-- but for bound names is so to the source
 pub record IsReady (config : Config) (source resolved : Node) : Type 0 where
   pub finishable : IsFinishable config resolved
   pub well_scoped : WellScoped resolved
+  pub found : MeanTheirIds source resolved
   pub same : (answer : Node) → SameButForBoundNames resolved answer → SameButForBoundNames source answer
 
 -- such a source is ready once it is resolved, where the table has the mark of free names

@@ -4,14 +4,14 @@
 //! that it rests on; a caller of the two passes calls it, and then knows the law.
 #![tactic(auto)]
 
-ghost use Rattle.swc_ecma_transforms_base_laws.specs.Finished.{FinishingKeepsIds, FinishingKeepsModules, FinishingMeetsNoTarget};
+ghost use Rattle.swc_ecma_transforms_base_laws.specs.Finished.{FinishingKeepsIds, FinishingKeepsMeanings, FinishingKeepsModules, FinishingMeetsNoTarget};
 ghost use Rattle.swc_ecma_transforms_base_laws.specs.Sources.{ResolvedSourcesAreReady};
 
 use swc_base_fixer_laws::{fixed_fits, normal_form_stays, targets_stand_bare};
 use swc_base_rename_hygiene_laws::{hygiene_keeps_normal_form, hygiene_stays_writable};
-use swc_base_rename_ids_laws::hygiene_keeps_ids;
+use swc_base_rename_ids_laws::{hygiene_keeps_ids, hygiene_keeps_meanings};
 use swc_base_rename_source_laws::{readers_need_no_contexts, sameness_needs_no_contexts};
-use swc_base_resolver_laws::a_clean_module_becomes_well_scoped;
+use swc_base_resolver_laws::{a_clean_module_becomes_well_scoped, resolved_names_mean_their_ids};
 use swc_tree_grammar_texts::texts_are_as_writable;
 
 /// What hygiene and then the fixer make of a module that can be written down, where nothing reads names and classes don't keep
@@ -45,12 +45,26 @@ pub fn finishing_keeps_ids()
     normal_form_stays();
 }
 
+/// In what hygiene and then the fixer made of such a well-scoped module two kept names have one text and one scope, or one text and
+/// no scope, exactly if the module had one id for them.
+pub fn finishing_keeps_meanings()
+    ensures { FinishingKeepsMeanings }
+{
+    hygiene_keeps_meanings();
+    hygiene_stays_writable();
+    targets_stand_bare();
+    fixed_fits();
+    normal_form_stays();
+}
+
 /// A module without contexts and early errors of names that can be written down is, once it is resolved, well-scoped and such that
-/// hygiene and the fixer may finish it; and what is the same as it then, but for bound names, is so to the source.
+/// hygiene and the fixer may finish it; two names of it got one id exactly if they have one text and one scope, or one text and no
+/// scope; and what is the same as it then, but for bound names, is so to the source.
 pub fn resolved_sources_are_ready()
     ensures { ResolvedSourcesAreReady }
 {
     a_clean_module_becomes_well_scoped();
+    resolved_names_mean_their_ids();
     texts_are_as_writable();
     sameness_needs_no_contexts();
     readers_need_no_contexts();

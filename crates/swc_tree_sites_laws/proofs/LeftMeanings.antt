@@ -36,7 +36,7 @@ module _ (t a n : Node) (text : List ℕ → List ℕ) (module_t : IsTrue (is_mo
     name : IsTrue (is_name r)
     at : Stands A p r (id_name j)
     there : Stands n p r i.sym
-    text : i.sym ≡ text (id_name j)
+    renamed : i.sym ≡ text (id_name j)
 
   named : (p : Path) (i j : Ident) (m : NameAt n p i) → NameAt a p j → Named p m.0.standing i j
   named p i j (w, k, h, names) (v, l, g, z) =
@@ -48,12 +48,12 @@ module _ (t a n : Node) (text : List ℕ → List ℕ) (module_t : IsTrue (is_mo
         name = names;
         at = record { place = v; kind = l; identifier = by_id j; stands = stands; stands_so = ap (λ (w : Place). w.standing) place; named = refl };
         there = record { place = w; kind = k; identifier = i; stands = h; stands_so = refl; named = refl };
-        text = texts p v w l k (by_id j) i stands h z;
+        renamed = texts p v w l k (by_id j) i stands h z;
       }
 
   owner_of : (p : Path) (r : Standing) (i j : Ident) (o : Option Path) → Named p r i j → Belongs n p r i.sym o → Owns (id_name j) o
   owner_of p r i j o d h =
-      belongs_to_owner A n text shape (clean_ids a) cleared texts (settled a module_a) each_a none_a p r (id_name j) o d.at d.name (subst (λ x. Belongs n p r x o) d.text h)
+      belongs_to_owner A n text shape (clean_ids a) cleared texts (settled a module_a) each_a none_a p r (id_name j) o d.at d.name (subst (λ x. Belongs n p r x o) d.renamed h)
 
   pub mean_their_ids : MeanTheirIds n a
   mean_their_ids p q i j b c m l x y = (forth, back)
@@ -68,7 +68,7 @@ module _ (t a n : Node) (text : List ℕ → List ℕ) (module_t : IsTrue (is_mo
       forth (same, (o, h, k)) =
           id_name_apart b c
           (owner_tells A n text shape (clean_ids a) cleared texts (settled a module_a) each_a none_a (id_name b) (id_name c) o (owner_of p m.0.standing i b o first h) (owner_of q l.0.standing j c o second k)
-          (sym first.text ∙ same ∙ second.text))
+          (sym first.renamed ∙ same ∙ second.renamed))
 
       back : SameId b c → MeanOne n p q i j m l
       back h =
@@ -78,7 +78,7 @@ module _ (t a n : Node) (text : List ℕ → List ℕ) (module_t : IsTrue (is_mo
           let one : u ≡ o
           = one_owner A n text shape (clean_ids a) cleared texts (settled a module_a) each_a none_a (id_name c) u o (owner_of q l.0.standing j c u second there)
           (subst (λ x. Owns x o) name (owner_of p m.0.standing i b o first here)) in
-          (first.text ∙ ap text name ∙ sym second.text, (o, here, subst (Belongs n q l.0.standing j.sym) one there))
+          (first.renamed ∙ ap text name ∙ sym second.renamed, (o, here, subst (Belongs n q l.0.standing j.sym) one there))
 
 pub left_mean_their_ids : LeftMeanTheirIds
 left_mean_their_ids t a n text mt ma mn each none left shape cleared texts = mean_their_ids t a n text mt ma mn each none left shape cleared texts

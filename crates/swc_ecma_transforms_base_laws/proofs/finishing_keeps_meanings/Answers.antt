@@ -1,0 +1,6 @@
+use Rattle.swc_ecma_transforms_base_laws.proofs.finishing_keeps_meanings.Goals as goal
+use Rattle.swc_ecma_transforms_base_laws.proofs.Kept.{keeps_meanings}
+
+-- src/lib.rt
+pub returns : goal.returns
+returns c = keeps_meanings c.hygiene_keeps_meanings.ensures c.hygiene_stays_writable.ensures c.targets_stand_bare.ensures c.fixed_fits.ensures c.normal_form_stays.ensures
