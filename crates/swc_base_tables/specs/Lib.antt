@@ -1,2 +1,3 @@
 pub mod Helpers
 pub mod Visits
+pub mod Kept

@@ -5,12 +5,14 @@ ghost use Rattle.swc_tree_node.specs.Fits.{Fits};
 ghost use Rattle.swc_tree.specs.Passes.{IsEmptied, IsEmptiedScript, IsExtended};
 ghost use Rattle.swc_tree_modules.specs.Nodes.{module_node, script_node};
 ghost use Rattle.swc_base_tables_program.specs.Given.{Covers};
+ghost use Rattle.swc_base_tables.specs.Kept.{KeepsWellScoped};
 ghost use Rattle.swc_base_tables.specs.Visits.{GetsHelpers, InjectsNode, IsRefusedHelpers, RefusesNode};
 
 use crate::bodies::HelperBodies;
 use std::alloc::Global;
 use std::mem;
 use swc_base_tables_helpers::{HelperData, Helpers};
+use swc_base_tables_laws::injection_keeps_a_module_well_scoped;
 use swc_tree::{JsPass, empty_module, empty_script};
 use swc_tree_handle::Opened;
 use swc_tree_marks::{Globals, Mark, PassError};
@@ -74,7 +76,8 @@ impl JsPass for InjectHelpers {
 
     /// Brings helpers into a program, behind its leading string statements and in the order of the table: from a package
     /// by an import each, else as the statements of their bodies, resolved. Refused or not, this uses the bodies up, and
-    /// later calls leave programs as they are.
+    /// later calls leave programs as they are. A well-scoped module stays so, where what it has in the helper mark's context refers to
+    /// helpers that it gets.
     ///
     /// # Errors
     ///
@@ -88,10 +91,12 @@ impl JsPass for InjectHelpers {
         program: &mut Module,
     ) -> Result<(), PassError>
         ensures done { OnOk result (InjectsNode self.old globals.old (module_node program.old) self.new globals.new (module_node program.new)) }
+        ensures well_scoped { OnOk result (KeepsWellScoped self.old globals.old (module_node program.old) (module_node program.new)) }
         ensures refused { OnErr result (IsEmptied program.old program.new) }
         ensures marks { IsExtended globals.old globals.new }
         ensures cause { IfErr result (RefusesNode self.old globals.old (module_node program.old) self.new globals.new) }
     {
+        injection_keeps_a_module_well_scoped();
         let Some(bodies) = self.bodies.take() else {
             return Ok(());
         };

@@ -26,7 +26,7 @@ pub record HasHelpers (helpers : Chosen) (bodies : Bodies) (global : ℕ) (old n
   pub outside : helpers.external ≡ true → IsBroughtInto helpers.mark global (names_in helpers.enabled) program answer
   pub inside : helpers.external ≡ false → IsInjected (ResolvedAlone helpers.mark global old new kind.Module (is_strict_program program)) (bodies_in bodies helpers.enabled) program answer
 
--- a well-scoped module stays so once its helpers are brought in
+-- a well-scoped module stays so once its helpers are brought in; the table is asked for its marks only where bodies are written out
 abbrev pub InjectionKeepsWellScoped : Type 0
-InjectionKeepsWellScoped = (helpers : Chosen) (bodies : Bodies) (global : ℕ) (old new : Table) (t answer : Node) → (helpers.external ≡ false → AreBodies (bodies_in bodies helpers.enabled)) → Contains (numbers old) global
-    → KnowsContexts old t → IsInjectable helpers.mark global (offered_by helpers bodies) t → HasHelpers helpers bodies global old new t answer → WellScoped answer
+InjectionKeepsWellScoped = (helpers : Chosen) (bodies : Bodies) (global : ℕ) (old new : Table) (t answer : Node) → (helpers.external ≡ false → AreBodies (bodies_in bodies helpers.enabled)) → (helpers.external ≡ false → Contains (numbers old) global)
+    → (helpers.external ≡ false → KnowsContexts old t) → IsInjectable helpers.mark global (offered_by helpers bodies) t → HasHelpers helpers bodies global old new t answer → WellScoped answer
