@@ -26,7 +26,7 @@ use Rattle.swc_tree_scoping.specs.WellScoped.{ExportsDeclared, InExportList, IsC
 use Rattle.swc_tree_renaming.specs.Apart.{HasTexts, SameScopes, nameless, no_name}
 use Rattle.swc_tree_renaming.proofs.Shape.{nameless_by_ids, same_scopes, some_same, twice}
 use Rattle.swc_tree_renaming.proofs.Blank.{layer, out_is, place_at_same}
-use Rattle.swc_tree_renaming.proofs.Whole.{by_id, from_ids, id_name_same, identifier_same, module_layer, module_too, with_identifier}
+use Rattle.swc_tree_renaming.proofs.Whole.{by_id, captures_none, from_ids, id_name_same, identifier_same, module_layer, module_too, with_identifier}
 use Rattle.swc_tree_grammar.specs.Due.{Places}
 use Rattle.swc_tree_grammar.specs.Fixed.{fixed}
 use Rattle.swc_tree_grammar.specs.Normal.{normal_form, written_out}
@@ -58,9 +58,9 @@ use Rattle.swc_base_rename_program.specs.Renamed.{IsHygienic, hygiene_renaming}
 use Rattle.swc_base_rename_laws.proofs.Outline.{identifiers_alike, rounds_alike, scopes_alike}
 use Rattle.swc_base_rename_scoped_laws.specs.Laws.{NamesAreApart, new_text}
 use Rattle.swc_base_rename_hygiene_laws.specs.Laws.{HygieneStaysWritable, IsFinishable}
+use Rattle.swc_base_rename_scoped_laws.proofs.TextsByName.{text_by, text_of_id}
 use Rattle.swc_base_rename_texts_laws.specs.Laws.{HasHygienicTexts, HygieneGivesNormalFormNewTexts}
 use Rattle.swc_base_rename_errors_laws.specs.Laws.{AnswerDeclaresByTheRules, AnswerHasNoEarlyErrorOfNames, DeclaresByTheRules}
-use Rattle.swc_base_rename_errors_laws.proofs.Captures.{captures_none}
 use Rattle.swc_base_rename_errors_laws.proofs.Listing.{Local, found}
 use Rattle.swc_tree_exports_laws.specs.Exported.{exported_locals}
 use Rattle.swc_tree_exports_laws.specs.Laws.{ProgramTakes}
@@ -77,15 +77,6 @@ PP = program_place
 
 abbrev module_place : Slot
 module_place = slot.One (content.Node class.Module)
-
--- ---- the texts of a map, by the names of ids
-
-abbrev text_by : (Id → Option (List ℕ)) → List ℕ → List ℕ
-text_by new_texts [] = []
-text_by new_texts (n ∷ x) = unwrap_or (new_texts (take n x, drop n x)) (take n x)
-
-text_of_id : (new_texts : Id → Option (List ℕ)) (i : Ident) → text_by new_texts (id_name i) ≡ new_text new_texts i
-text_of_id new_texts i = λ n. unwrap_or (new_texts (take-append_seam i.sym i.ctxt n, drop-append_seam i.sym i.ctxt n)) (take-append_seam i.sym i.ctxt n)
 
 -- ---- modules
 
@@ -301,7 +292,7 @@ module _ (apart : NamesAreApart) (texts : HygieneGivesNormalFormNewTexts) (stays
     left = ids_are_left N before (left before first.fits first.writable);
     program = (keeps_by by_id before N keeps_before).program;
     one = scoped.each_in_one_scope;
-    apart = captures_none before text scoped ids_plain
+    apart = captures_none before text scoped module_before
         (apart before first.fits module_before scoped first.writable hygiene_renaming given.new_texts text (λ x. refl) given.named (text_of_id given.new_texts));
     shape = same_by_ids;
     texts = new_texts;

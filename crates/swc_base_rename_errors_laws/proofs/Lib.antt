@@ -1,4 +1,3 @@
 pub mod Texts
-pub mod Captures
 pub mod Listing
 pub mod Errors

@@ -24,7 +24,7 @@ use Rattle.swc_tree_scoping.specs.WellScoped.{IsClean, WellScoped, is_module}
 use Rattle.swc_tree_scoping.proofs.Remarked.{fits-remarked}
 use Rattle.swc_tree_renaming.specs.Apart.{CapturesNone, HasTexts, Knows, MeanTheirIds, SameId, SameIds, SameScopes, nameless, no_name}
 use Rattle.swc_tree_renaming.proofs.Shape.{nameless_by_ids, same_scopes, some_same, twice}
-use Rattle.swc_tree_renaming.proofs.Whole.{from_ids, identifier_same}
+use Rattle.swc_tree_renaming.proofs.Whole.{captures_none, from_ids, identifier_same}
 use Rattle.swc_tree_grammar.specs.Normal.{normal_form, split, written_out}
 use Rattle.swc_tree_grammar.specs.Shapes.{items_of}
 use Rattle.swc_tree_grammar.specs.Stripped.{stripped}
@@ -45,25 +45,16 @@ use Rattle.swc_base_rename_program.specs.Renamed.{IsHygienic, hygiene_renaming}
 use Rattle.swc_base_rename_laws.specs.NewNames.{outline}
 use Rattle.swc_base_rename_laws.proofs.Outline.{identifiers_alike, rounds_alike, scopes_alike}
 use Rattle.swc_base_rename_scoped_laws.specs.Laws.{NamesAreApart, new_text}
+use Rattle.swc_base_rename_scoped_laws.proofs.TextsByName.{text_by, text_of_id}
 use Rattle.swc_base_rename_texts_laws.specs.Laws.{HasHygienicTexts, HygieneGivesNormalFormNewTexts}
 use Rattle.swc_base_rename_texts_laws.proofs.Cleared.{bare_there}
 use Rattle.swc_base_rename_hygiene_laws.specs.Laws.{IsFinishable}
 use Rattle.swc_base_rename_ids_laws.specs.Laws.{HygieneKeepsIds, HygieneKeepsMeanings, IsWrittenAs}
-use Rattle.swc_base_rename_ids_laws.proofs.Captures.{captures_none}
 use Rattle.swc_base_rename_ids_laws.proofs.Exported.{normal_cleared, texts_again}
 use Rattle.swc_base_rename_ids_laws.proofs.Spans.{one_id, one_outline}
 
 abbrev module_place : Slot
 module_place = slot.One (content.Node class.Module)
-
--- ---- the texts of a map, by the names of ids
-
-abbrev text_by : (Id → Option (List ℕ)) → List ℕ → List ℕ
-text_by new_texts [] = []
-text_by new_texts (n ∷ x) = unwrap_or (new_texts (take n x, drop n x)) (take n x)
-
-text_of_id : (new_texts : Id → Option (List ℕ)) (i : Ident) → text_by new_texts (id_name i) ≡ new_text new_texts i
-text_of_id new_texts i = λ n. unwrap_or (new_texts (take-append_seam i.sym i.ctxt n, drop-append_seam i.sym i.ctxt n)) (take-append_seam i.sym i.ctxt n)
 
 -- ---- modules
 

@@ -1,4 +1,3 @@
 mod Spans
 pub mod Exported
-mod Captures
 mod Join

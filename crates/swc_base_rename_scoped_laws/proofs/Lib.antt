@@ -14,3 +14,4 @@ pub mod Rows
 pub mod Written
 pub mod Leaks
 pub mod Bare
+pub mod TextsByName

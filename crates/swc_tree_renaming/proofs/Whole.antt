@@ -21,7 +21,7 @@ use Rattle.swc_tree_scoping.specs.Resolved.{Contexts, HasContext, Resolved, is_s
 use Rattle.swc_tree_scoping.specs.WellScoped.{Stands, IsDeclared, IsFree, WellScoped, is_module, IsClean}
 use Rattle.swc_tree_scoping.proofs.First.{last_round}
 use Rattle.swc_tree_scoping.proofs.Remarked.{remarked-Identifier, tree_is, identifier_is}
-use Rattle.swc_tree_renaming.specs.Apart.{HasNoSloppy, IsFreeName, IsRound, Knows, NameAt, NamesApart, Renamed, RenamingKeepsIds, SameId, SameIds, SameScopes, CapturesNone, DeclaredIn, OccursIn, nameless, no_name}
+use Rattle.swc_tree_renaming.specs.Apart.{HasNoSloppy, HasTexts, IsFreeName, IsRound, Knows, NameAt, NamesApart, Renamed, RenamingKeepsIds, SameId, SameIds, SameScopes, CapturesNone, DeclaredIn, OccursIn, nameless, no_name}
 use Rattle.swc_tree_renaming.proofs.Blank.{layer, out_is, place_at_same}
 use Rattle.swc_tree_renaming.proofs.Shape.{nameless_by_ids, out_nameless, place_at_remarked, same_scopes, some_same}
 use Rattle.swc_tree_renaming.proofs.Strict.{no_sloppy_in_modules}
@@ -131,24 +131,30 @@ stands_there v u c only p w l j h =
     ∙ ap (option_map {U = Place × Node} (λ (q : Place × Node). (q.0, remarked (λ r. c (p ++ r)) q.1))) h
     ∙ ap (λ d. Some (w, d)) (remarked-Identifier (λ r. c (p ++ r)) l j) ∙ ap (λ x. Some (w, Identifier l (record j { ctxt = c x }))) (append-nil p)
 
-module _ (t answer u : Node) (text : List ℕ → List ℕ) (unresolved top : ℕ) (old new : List (ℕ × ℕ)) (scoped : WellScoped t) (is_one : IsTrue (is_module t)) (apart : NamesApart t text)
-    (renamed : Renamed (by_ids t) text answer) (knows : Knows old unresolved) (resolved : Resolved unresolved top old new answer u) where
-  abbrev A : Node
-  A = by_ids t
+-- the texts of ids that are apart in a well-scoped module capture none
+module _ (t : Node) (text : List ℕ → List ℕ) (scoped : WellScoped t) (is_one : IsTrue (is_module t)) (apart : NamesApart t text) where
+  abbrev T : Node
+  T = by_ids t
 
-  same : SameScopes A answer
-  same = same_scopes A answer renamed.shape
+  clean_ids : IsClean T
+  clean_ids p w k i h = let (l, j, e, is) = from_ids t p w k i h in ap (λ (i : Ident). i.ctxt) is
 
-  clear : IsClean A
-  clear p w k i h = let (l, j, e, is) = from_ids t p w k i h in ap (λ (i : Ident). i.ctxt) is
-
-  settled : HasNoSloppy A
-  settled p w k i h =
+  settled_ids : HasNoSloppy T
+  settled_ids p w k i h =
       let (l, j, e, is) = from_ids t p w k i h in
       let (ts, o) = module_layer t is_one in
       no_sloppy_in_modules t ts o p w (Identifier l j) e
 
-  free_id : (x : List ℕ) → IsFreeName A x → (i : Ident) × IsFree t i × (id_name i ≡ x)
+  own_texts : HasTexts T (λ x. x) T
+  own_texts p w v k l i j e g n =
+      let node : Identifier l j ≡ Identifier k i = ap (λ (q : Place × Node). q.1) (some_same (v, Identifier l j) (w, Identifier k i) (sym g ∙ e)) in
+      ap (λ (i : Ident). i.sym) (identifier_same l k j i node)
+
+  occurs : (s : Path) (x : List ℕ) → DeclaredIn T s x → OccursIn T s x
+  occurs s x d = occurs_where_declared T T (λ x. x) (same_scopes T T refl) clean_ids clean_ids own_texts settled_ids s x d
+
+  -- a free name is that of a free id
+  free_id : (x : List ℕ) → IsFreeName T x → (i : Ident) × IsFree t i × (id_name i ≡ x)
   free_id x f =
       let (l, i, e, is) = from_ids t f.path f.at.place f.at.kind f.at.identifier f.at.stands in
       let name : id_name i ≡ x = sym (ap (λ (i : Ident). i.sym) is) ∙ f.at.named in (
@@ -159,27 +165,41 @@ module _ (t answer u : Node) (text : List ℕ → List ℕ) (unresolved top : �
           kind = l;
           stands = e;
           refers = subst (λ r. IsTrue (is_reference r)) (sym f.at.stands_so) f.refers;
-          undeclared = subst (λ x. ¬ IsDeclared A x) (sym name) f.undeclared;
+          undeclared = subst (λ x. ¬ IsDeclared T x) (sym name) f.undeclared;
         },
         name,
       )
 
-  frees_apart : (x y : List ℕ) → IsFreeName A x → IsFreeName A y → text x ≡ text y → x ≡ y
+  frees_apart : (x y : List ℕ) → IsFreeName T x → IsFreeName T y → text x ≡ text y → x ≡ y
   frees_apart x y f g e =
       let (i, a, is) = free_id x f in
       let (j, b, one) = free_id y g in
       let texts : i.sym ≡ j.sym = sym (apart.free_kept i a) ∙ ap text is ∙ e ∙ ap text (sym one) ∙ apart.free_kept j b in
       sym is ∙ id_name_same i j (texts, scoped.free_apart.apart i j a b texts) ∙ one
 
-  occurs : (s : Path) (x : List ℕ) → DeclaredIn A s x → OccursIn A s x
-  occurs s x d = occurs_where_declared A answer text same clear renamed.cleared renamed.texts settled s x d
-
-  captures_none : CapturesNone A text
+  pub captures_none : CapturesNone T text
   captures_none = record {
     declared = λ p r x y s u at names d round above e. apart.declared_apart s u s x y (record { path = p; standing = r; at = at; names = names; inside = round }) (occurs s y e) d e above (inl refl);
     free = λ p r x y s at names undeclared round e. apart.free_apart s x y (record { path = p; standing = r; at = at; names = names; inside = round }) undeclared e;
     frees = frees_apart;
   }
+
+module _ (t answer u : Node) (text : List ℕ → List ℕ) (unresolved top : ℕ) (old new : List (ℕ × ℕ)) (scoped : WellScoped t) (is_one : IsTrue (is_module t)) (apart : NamesApart t text)
+    (renamed : Renamed (by_ids t) text answer) (knows : Knows old unresolved) (resolved : Resolved unresolved top old new answer u) where
+  abbrev A : Node
+  A = by_ids t
+
+  same : SameScopes A answer
+  same = same_scopes A answer renamed.shape
+
+  clear : IsClean A
+  clear = clean_ids t text scoped is_one apart
+
+  settled : HasNoSloppy A
+  settled = settled_ids t text scoped is_one apart
+
+  none : CapturesNone A text
+  none = captures_none t text scoped is_one apart
 
   module_ts : (ts : List Node) × (out-Node t ≡ Node-F.Tree kind.Module ts)
   module_ts = module_layer t is_one
@@ -200,7 +220,7 @@ module _ (t answer u : Node) (text : List ℕ → List ℕ) (unresolved top : �
   others s h ne e = resolved.fresh s h ne knows.0 (subst (λ m. Contains old (m, knows.0)) (sym e) knows.1)
 
   abbrev Owns : List ℕ → List ℕ → Type 0
-  Owns = HasOwner A answer text same clear renamed.cleared renamed.texts settled scoped.each_in_one_scope captures_none resolved.marks unresolved script
+  Owns = HasOwner A answer text same clear renamed.cleared renamed.texts settled scoped.each_in_one_scope none resolved.marks unresolved script
 
   read : (p : Path) (i a : Ident) → NameAt t p i → NameAt u p a → (a.sym ≡ text (id_name i)) × Owns (id_name i) a.ctxt
   read p i a (w, k, h, n) (v, l, g, z) =
@@ -213,14 +233,14 @@ module _ (t answer u : Node) (text : List ℕ → List ℕ) (unresolved top : �
       = subst (λ x. HasContext resolved.marks unresolved answer p x w.standing (resolved.contexts p)) name (resolved.resolved p w m j e (renamed.cleared p w m j e)) in
       let st : Stands A p w.standing (id_name i) = record { place = w; kind = k; identifier = by_id i; stands = stands_by_id t p w k i h; stands_so = refl; named = refl } in
       let owner : Owns (id_name i) (resolved.contexts p)
-      = has_owner A answer text same clear renamed.cleared renamed.texts settled scoped.each_in_one_scope captures_none resolved.marks unresolved script p w.standing (id_name i) (resolved.contexts p) st n context in
+      = has_owner A answer text same clear renamed.cleared renamed.texts settled scoped.each_in_one_scope none resolved.marks unresolved script p w.standing (id_name i) (resolved.contexts p) st n context in
       (ap (λ (i : Ident). i.sym) is ∙ name, subst (Owns (id_name i)) (ap (λ (i : Ident). i.ctxt) (sym is)) owner)
 
   pub ids_same : SameIds t u
   ids_same p q i j a b ni nj na nb =
       let (ta, oa) = read p i a ni na in
       let (tb, ob) = read q j b nj nb in
-      let both = same_ids A answer text same clear renamed.cleared renamed.texts settled scoped.each_in_one_scope captures_none resolved.marks unresolved script (λ s u x y d e h. resolved.one_to_one s u (scoped_there s x d) (scoped_there u y e) h) (λ s x d. others s (scoped_there s x d))
+      let both = same_ids A answer text same clear renamed.cleared renamed.texts settled scoped.each_in_one_scope none resolved.marks unresolved script (λ s u x y d e h. resolved.one_to_one s u (scoped_there s x d) (scoped_there u y e) h) (λ s x d. others s (scoped_there s x d))
       (in_program A module_ids.0 module_ids.1) (id_name i) (id_name j) a.ctxt b.ctxt oa ob in (
         (λ h. id_name_apart i j (both.0 (sym ta ∙ h.0 ∙ tb, h.1))),
         (λ h. let e = both.1 (id_name_same i j h) in (ta ∙ e.0 ∙ sym tb, e.1)),
