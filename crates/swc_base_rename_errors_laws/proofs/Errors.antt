@@ -1,9 +1,8 @@
 -- What hygiene and then the fixer answer declares no name against the rules, and neither `eval` nor `arguments`.
-use Rattle.std.proofs.Common.{◌≡◌, ℕ, true, false, IsTrue, Option, Some, List, [], ◌∷◌, codes, drop, take, refl, sym, ap, ◌∙◌, subst, map, ⊎_elim, None}
-use Rattle.std.specs.Prelude.{unwrap_or, if◌then◌else◌}
+use Rattle.std.proofs.Common.{◌≡◌, ℕ, true, false, IsTrue, Option, Some, List, [], ◌∷◌, codes, refl, sym, ap, ◌∙◌, subst, map, ⊎_elim, None}
+use Rattle.std.specs.Prelude.{if◌then◌else◌}
 use Rattle.std.specs.List.{list_any}
 use Rattle.std.specs.Option.{option_map}
-use Rattle.std.proofs.Math.Seq.{drop-append_seam, take-append_seam}
 use Rattle.swc_tree_marks.specs.Globals.{Table}
 use Rattle.swc_tree_marks.specs.declared.ident.Ident.{Ident}
 use Rattle.swc_tree_node.specs.declared.kind.Kind.{Kind}

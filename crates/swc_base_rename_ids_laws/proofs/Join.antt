@@ -1,8 +1,7 @@
 -- The laws of what hygiene does put together: ids are kept.
-use Rattle.std.proofs.Common.{◌≡◌, ℕ, IsTrue, Option, Some, List, [], ◌∷◌, drop, take, refl, sym, ap, ◌∙◌, subst}
-use Rattle.std.specs.Prelude.{unwrap_or, if◌then◌else◌}
+use Rattle.std.proofs.Common.{◌≡◌, ℕ, IsTrue, Option, Some, List, [], ◌∷◌, refl, sym, ap, ◌∙◌, subst}
+use Rattle.std.specs.Prelude.{if◌then◌else◌}
 use Rattle.std.specs.List.{flat_map}
-use Rattle.std.proofs.Math.Seq.{drop-append_seam, take-append_seam}
 use Rattle.swc_tree_marks.specs.Globals.{Table}
 use Rattle.swc_tree_marks.specs.declared.ident.Ident.{Ident}
 use Rattle.swc_tree_node.specs.declared.kind.Kind.{Kind}
@@ -18,7 +17,7 @@ use Rattle.swc_tree_scoping.specs.declared.places.Place.{Place}
 use Rattle.swc_tree_scoping.specs.Places.{Path, place_at, program_place}
 use Rattle.swc_tree_scoping.specs.Scopes.{is_name}
 use Rattle.swc_tree_scoping.specs.BoundNames.{Id}
-use Rattle.swc_tree_scoping.specs.Readings.{by_ids, by_texts, id_name}
+use Rattle.swc_tree_scoping.specs.Readings.{by_ids, by_texts}
 use Rattle.swc_tree_scoping.specs.Resolved.{Resolved}
 use Rattle.swc_tree_scoping.specs.WellScoped.{IsClean, WellScoped, is_module}
 use Rattle.swc_tree_scoping.proofs.Remarked.{fits-remarked}

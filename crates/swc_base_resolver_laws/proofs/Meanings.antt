@@ -1,5 +1,5 @@
 -- The names of a module mean the ids that they are given: they have one text and one scope exactly if they get one id.
-use Rattle.std.proofs.Common.{◌≡◌, ℕ, true, inl, inr, ⊎_elim, IsTrue, Option, Some, None, List, [], ◌∷◌, refl, sym, ap, ◌∙◌, subst, ◌↔◌}
+use Rattle.std.proofs.Common.{◌≡◌, ℕ, true, inl, inr, IsTrue, Option, Some, None, List, [], ◌∷◌, refl, sym, ap, ◌∙◌, subst}
 use Rattle.swc_tree_marks.specs.declared.ident.Ident.{Ident}
 use Rattle.swc_tree_node.specs.declared.node.Node.{Node, Identifier}
 use Rattle.swc_tree_scoping.specs.declared.places.Standing.{Standing}

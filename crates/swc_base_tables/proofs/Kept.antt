@@ -18,7 +18,7 @@ keeps law pass kept old new before after done bodies is fit =
       outside = gets.outside;
       inside = λ e. gets.inside e kind.Module (is_module_kind before (parts_of before fit.injectable.fitting)) (fit.marks e);
     } in
-    law pass.helpers bodies pass.global old new before after fit.bodies (λ e. (fit.marks e).0.1) fit.contexts fit.injectable has
+    law pass.helpers bodies pass.global old new before after fit.written (λ e. (fit.marks e).0.1) fit.contexts fit.injectable has
 
 pub well_scoped : InjectionKeepsWellScoped → (result : Result Unit PassError) (pass kept : InjectHelpers) (old new : Table) (before after : Node)
     → OnOk result (InjectsNode pass old before kept new after) → OnOk result (KeepsWellScoped pass old before after)

@@ -15,7 +15,7 @@ use Rattle.swc_base_tables.specs.declared.inject.InjectHelpers.{InjectHelpers}
 -- errors of names, and the table has the marks that are about
 pub record IsFitFor (global : ℕ) (helpers : Chosen) (bodies : Bodies) (old : Table) (t : Node) : Type 0 where
   pub injectable : IsInjectable helpers.mark global (offered_by helpers bodies) t
-  pub bodies : helpers.external ≡ false → AreBodies (bodies_in bodies helpers.enabled)
+  pub written : helpers.external ≡ false → AreBodies (bodies_in bodies helpers.enabled)
   pub marks : helpers.external ≡ false → MarksOk old global helpers.mark
   pub contexts : helpers.external ≡ false → KnowsContexts old t
 

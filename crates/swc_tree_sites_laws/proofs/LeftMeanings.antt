@@ -1,17 +1,17 @@
 -- The names of what is left of an answer mean the ids of what is left of the program.
-use Rattle.std.proofs.Common.{◌≡◌, ℕ, IsTrue, Option, Some, List, refl, sym, ap, ◌∙◌, subst, ◌↔◌}
+use Rattle.std.proofs.Common.{◌≡◌, ℕ, IsTrue, Option, List, refl, sym, ap, ◌∙◌, subst}
 use Rattle.swc_tree_marks.specs.declared.ident.Ident.{Ident}
 use Rattle.swc_tree_node.specs.declared.node.Node.{Node, Identifier}
 use Rattle.swc_tree_scoping.specs.declared.places.Standing.{Standing}
 use Rattle.swc_tree_scoping.specs.declared.places.Place.{Place}
-use Rattle.swc_tree_scoping.specs.Places.{Path, place_at, program_place}
+use Rattle.swc_tree_scoping.specs.Places.{Path}
 use Rattle.swc_tree_scoping.specs.Scopes.{is_name}
 use Rattle.swc_tree_scoping.specs.Readings.{by_ids, id_name}
 use Rattle.swc_tree_scoping.specs.WellScoped.{EachInOneScope, IsClean, Stands, is_module}
 use Rattle.swc_tree_renaming.specs.Apart.{Belongs, CapturesNone, HasTexts, MeanOne, MeanTheirIds, NameAt, SameId, SameScopes}
 use Rattle.swc_tree_renaming.proofs.Core.{Owner, belongs_to_owner, one_owner, owner_tells}
 use Rattle.swc_tree_renaming.proofs.Shape.{some_same}
-use Rattle.swc_tree_renaming.proofs.Whole.{by_id, id_name_apart, id_name_same, identifier_same, stands_by_id}
+use Rattle.swc_tree_renaming.proofs.Whole.{by_id, id_name_apart, id_name_same, stands_by_id}
 use Rattle.swc_tree_sites.specs.Smaller.{IsLeftOf}
 use Rattle.swc_tree_sites_laws.specs.Laws.{LeftMeanTheirIds}
 use Rattle.swc_tree_sites_laws.proofs.Decided.{belongs_somewhere}
