@@ -75,6 +75,10 @@ def position(test, items):
     return next(((i,) for i, item in enumerate(items) if test(item)), None)
 
 
+def prefix_len(test, items):
+    return next((i for i, item in enumerate(items) if not test(item)), len(items))
+
+
 def slice_set(items, i, item):
     return items[:i] + (item,) + items[i + 1:] if i < len(items) else items
 
@@ -91,7 +95,7 @@ STANDARD = {
     'list_all': (2, 'all(map({0}, {1}))'), 'list_any': (2, 'any(map({0}, {1}))'),
     'map': (2, 'tuple(map({0}, {1}))'), 'flat_map': (2, 'flat_map({0}, {1})'), 'filter': (2, 'tuple(filter({0}, {1}))'),
     'take': (2, '{1}[:{0}]'), 'drop': (2, '{1}[{0}:]'), 'length': (1, 'len({0})'), 'reverse': (1, '{0}[::-1]'),
-    'find': (2, 'find({0}, {1})'), 'position': (2, 'position({0}, {1})'),
+    'find': (2, 'find({0}, {1})'), 'position': (2, 'position({0}, {1})'), 'prefix_len': (2, 'prefix_len({0}, {1})'),
     'slice_get': (2, '({0}[{1}:{1} + 1] or None)'), 'slice_set': (3, 'slice_set({0}, {1}, {2})'),
     'slice_index_or': (3, '(lambda xs, i, d: xs[i] if i < len(xs) else d)({0}, {1}, {2})'),
     'get_or': (3, '(lambda xs, i, d: xs[i] if i < len(xs) else d)({0}, {1}, {2})'),
@@ -110,4 +114,4 @@ OPERATORS = {
     '||': '({0} or {1})', '&&': '({0} and {1})', '∷': '(({0},) + {1})', '++': '({0} + {1})', '==': '({0} == {1})',
     '<': '({0} < {1})', '+': '({0} + {1})', '-': 'max(0, {0} - {1})', '*': '({0} * {1})', '^': '({0} ** {1})'}
 CALLED = {name: globals()[name] for name in (
-    'Rec', 'updated', 'map_node', 'fold_node', 'pointwise', 'flat_map', 'find', 'position', 'slice_set', 'no_clause')}
+    'Rec', 'updated', 'map_node', 'fold_node', 'pointwise', 'flat_map', 'find', 'position', 'prefix_len', 'slice_set', 'no_clause')}

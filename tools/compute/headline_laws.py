@@ -1,21 +1,41 @@
 """Laws of what hygiene and the fixer answer one after the other, and of a chain that resolves first."""
+import renaming
 import scoping
 from grammar_laws import is_same
-from lawbook import Bad, D, clean_module, fits_grammar, fixed, is_module, is_writable, law, well_scoped_module
+from lawbook import Bad, D, clean_module, fits_grammar, fixed, is_module, is_writable, law, normal_form, well_scoped_module
 from naming_laws import keeps_ids, writable_and_well_scoped
 from naming_rows import with_hygiene
 
 
+def meanings_fault(t, u):
+    """whether the names of a tree mean the ids of another; where they do not, what goes wrong"""
+    return renaming.meanings_fault(scoping.Program(D.all, t), scoping.Program(D.all, u))
+
+
+def names_at(t):
+    return renaming.names_at(scoping.Program(D.all, t))
+
+
 def is_as_promised(t, answer):
     """the answer fits the grammar, has no early error of names and the normal form of the tree but for bound names, and
-    resolved again it gives two kept names one id exactly where the tree does"""
+    resolved again it gives two kept names one id exactly where the tree does; by its texts and scopes alone two kept
+    names mean one thing exactly where the tree has one id for them"""
     if not fits_grammar(answer):
         return Bad('does not fit:', answer)
     if not scoping.NoEarlyErrorOfNames(D.all, answer):
         return Bad('early error:', answer)
     if not is_same(t, answer):
         return Bad('another normal form:', answer)
-    return keeps_ids(t, answer) or Bad('other ids:', answer)
+    if not keeps_ids(t, answer):
+        return Bad('other ids:', answer)
+    before, after = normal_form(t), normal_form(answer)
+    fault = 'names at other paths' if names_at(after) != names_at(before) else meanings_fault(after, before)
+    return Bad(fault, 'in', after, 'of', answer) if fault else True
+
+
+def is_source(t):
+    """a clean module that can be written down, without early errors of names"""
+    return is_module(t) and is_writable(t) and scoping.IsClean(D.all, t) and scoping.NoEarlyErrorOfNames(D.all, t)
 
 
 @law(well_scoped_module)
@@ -26,17 +46,21 @@ def finished_as_promised(t):
 
 @law(clean_module)
 def chained_as_promised(t):
-    """on clean writable modules without early errors of names a resolver, hygiene and the fixer answer what is promised"""
-    if not is_module(t) or not is_writable(t) or not scoping.IsClean(D.all, t) or not scoping.NoEarlyErrorOfNames(D.all, t):
+    """on clean writable modules without early errors of names the ids of what a resolver answers are what the names of the
+    module mean, and a resolver, hygiene and the fixer answer what is promised"""
+    if not is_source(t):
         return None
-    resolved = scoping.resolved(D.all, t, 1, 2)
+    for resolved in (scoping.resolved(D.all, t, 1, 1), scoping.resolved(D.all, t, 1, 2)):
+        fault = meanings_fault(t, resolved)
+        if fault:
+            return Bad(fault, 'in the source of', resolved)
     return is_as_promised(resolved, fixed(with_hygiene(resolved)))
 
 
 @law(clean_module)
 def chained_twice_changes_nothing(t):
     """what a chain answers on such a module, it answers again, spans aside"""
-    if not is_module(t) or not is_writable(t) or not scoping.IsClean(D.all, t) or not scoping.NoEarlyErrorOfNames(D.all, t):
+    if not is_source(t):
         return None
     once = fixed(with_hygiene(scoping.resolved(D.all, t, 1, 2)))
     again = fixed(with_hygiene(scoping.resolved(D.all, once, 1, 2)))

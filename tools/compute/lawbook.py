@@ -8,11 +8,12 @@ import js
 import naming
 import scoping
 import random_trees
+import renaming
 import trees
 import units
 from trees import at, paths
 
-CRATES = ['swc_tree_node', 'swc_tree_grammar', 'swc_tree_scoping', 'swc_base_rename_substitution', 'swc_base_rename_analysis', 'swc_base_rename_analysis_laws', 'swc_base_rename_naming', 'swc_base_rename_units', 'swc_tree_ext', 'swc_tree_marks', 'swc_tree_sites']
+CRATES = ['swc_tree_node', 'swc_tree_grammar', 'swc_tree_scoping', 'swc_base_rename_substitution', 'swc_base_rename_analysis', 'swc_base_rename_analysis_laws', 'swc_base_rename_naming', 'swc_base_rename_units', 'swc_tree_ext', 'swc_tree_marks', 'swc_tree_sites', 'swc_tree_sites_written', 'swc_tree_exports_laws', 'swc_base_tables_injection', 'swc_base_tables_laws']
 
 
 class Definitions:
@@ -27,10 +28,11 @@ def load(checkout):
     """reads the definitions of a checkout, which all laws then use"""
     D.all = antt2py.load(checkout, CRATES)
     D.node, D.grammar, D.scoping = D.all.swc_tree_node, D.all.swc_tree_grammar, D.all.swc_tree_scoping
-    D.sites = D.all.swc_tree_sites
+    D.sites, D.written, D.exports = D.all.swc_tree_sites, D.all.swc_tree_sites_written, D.all.swc_tree_exports_laws
+    D.injection = D.all.swc_base_tables_injection
     D.substitution, D.ext, D.marks = D.all.swc_base_rename_substitution, D.all.swc_tree_ext, D.all.swc_tree_marks
     random_trees.setup(D.all)
-    return scoping.check_sources(checkout) + naming.check_sources(checkout) + units.check_sources(checkout)
+    return [name for made in (scoping, naming, units, renaming) for name in made.check_sources(checkout)]
 
 
 def definition(*paths):
