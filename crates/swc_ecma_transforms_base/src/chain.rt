@@ -24,8 +24,9 @@ use swc_tree::{
 /// pairs that are not set again. Neither mark may be the root; which scope each name means is promised where `marks_ok` holds of them.
 ///
 /// A module without contexts and early errors of names that can be written down, in which nothing reads names and where classes don't
-/// keep theirs, becomes one that the grammar derives, with the normal form that it had but for the names that it binds; however
-/// that is resolved, it gives two kept names one id exactly if the resolver gave them one in the source. No target of it is to blame.
+/// keep theirs, becomes one that the grammar derives, with the normal form that it had but for the names that it binds. Two names
+/// of the source have one text and one scope, or one text and no scope, exactly if the resolver gave them one id; two kept names of the
+/// answer have so exactly then, and exactly then get one id, however the answer is resolved. No target of it is to blame.
 ///
 /// # Errors
 ///
