@@ -4,13 +4,6 @@ use Rattle.swc_tree_node.specs.declared.kind.Kind.{Kind}
 use Rattle.swc_tree_node.specs.declared.kind.Kind.TheVariants as kind
 use Rattle.swc_tree_node.specs.declared.node.Node.{Node}
 
--- the field that says where a node stands
-abbrev pub span_field : Kind → List Node → Option ℕ
-span_field kind.FnExpr (ident ∷ function ∷ []) = Some 1
-span_field kind.ClassExpr (ident ∷ class ∷ []) = Some 1
-span_field k [] = None
-span_field k (t ∷ ts) = Some 0
-
 -- the field with the object of a member or the tag of a template
 abbrev pub called_field : Kind → List Node → Option ℕ
 called_field kind.MemberExpr (span ∷ obj ∷ prop ∷ []) = Some 1

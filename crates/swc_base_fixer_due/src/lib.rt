@@ -21,7 +21,6 @@ mod reader;
 mod record;
 mod row;
 mod settle;
-mod span;
 mod start;
 mod starts;
 

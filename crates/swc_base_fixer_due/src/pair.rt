@@ -4,8 +4,8 @@ ghost use Rattle.swc_tree_grammar.specs.Due.{pair as paired, pair_if as paired_i
 ghost use Rattle.swc_base_fixer_due.specs.Record.{place_in};
 
 use crate::record::Record;
-use crate::span::span_of;
 use std::alloc::{AllocError, Global};
+use swc_tree_grammar::span_of;
 use swc_tree_items::Items;
 use swc_tree_node::{Kind, Node};
 

@@ -5,10 +5,11 @@ use Rattle.swc_tree_node.specs.declared.kind.Kind.{Kind}
 use Rattle.swc_tree_node.specs.declared.kind.Kind.TheVariants as kind
 use Rattle.std.specs.Prelude.{if◌then◌else◌}
 use Rattle.swc_tree_grammar.proofs.Stripped.{effects_of_list, effects_of_tree, effects_of_sequence, effects_of_void, effects_of_other}
-use Rattle.swc_tree_grammar.specs.Blocks.{span_of, no_span, takes_else, branch, block_step}
+use Rattle.swc_tree_grammar.specs.Blocks.{takes_else, branch, block_step}
 use Rattle.swc_tree_grammar.specs.Targets.{is_simple, is_target}
-use Rattle.swc_tree_grammar.proofs.Walks.{span_of_tree, takes_else_of_tree, target_of_tree, target_of_list}
-use Rattle.swc_base_fixer_unparen.specs.Fields.{field_left, last_statement, span_field, content_field}
+use Rattle.swc_tree_grammar.proofs.Fields.{at_fourth, at_second, at_third}
+use Rattle.swc_tree_grammar.proofs.Walks.{takes_else_of_tree, target_of_tree, target_of_list}
+use Rattle.swc_base_fixer_unparen.specs.Fields.{field_left, last_statement, content_field}
 use Rattle.swc_tree_node.specs.declared.node.Node.{Node, Absent, List as Many, Tree}
 use Rattle.swc_tree_node.specs.declared.node.Node.TheOpen.{Node-F}
 use Rattle.swc_tree_grammar.specs.Shapes.{items_of}
@@ -17,9 +18,6 @@ use Rattle.swc_tree_grammar.specs.Stripped.{strip_step, target, is_member, is_id
 -- said once for the kinds that a match leaves: `cc` at each of them is dear
 no_field : {X : Type 0} (i : ℕ) → None ≡ Some i → X
 no_field i h = absurd (cc)
-
-some_field : {X : Type 0} (i : ℕ) → Some i ≡ None → X
-some_field i h = absurd (cc)
 
 assigned_at : (fields : List Node) (left : Node) → length fields ≡ 4 → slice_get fields 2 ≡ Some left
     → Tree kind.AssignExpr (slice_set (slice_set fields 2 Absent) 2 (target left)) ≡ strip_step (Node-F.Tree kind.AssignExpr fields)
@@ -131,15 +129,6 @@ sequence_of_more fields out back exprs es joined items h g a b c more o put =
     let f = two_fields fields exprs h g in
     ap (Tree kind.SeqExpr) (put ∙ ap (λ l. slice_set l 1 (Many items)) o ∙ items_put fields f.0 exprs items f.1) ∙ more_items f.0 items more ∙ stripped_items fields f.0 exprs es joined items f.1 a b c
 
-at_second : (a b : Node) (ts : List Node) (i : ℕ) (e : Node) → Some 1 ≡ Some i → e ≡ get_or (a ∷ b ∷ ts) i e → b ≡ e
-at_second a b ts i e h g = let here : 1 ≡ i = cc in let found = rw (← here) at g in cc
-
-at_third : (a b c : Node) (ts : List Node) (i : ℕ) (e : Node) → Some 2 ≡ Some i → e ≡ get_or (a ∷ b ∷ c ∷ ts) i e → c ≡ e
-at_third a b c ts i e h g = let here : 2 ≡ i = cc in let found = rw (← here) at g in cc
-
-at_fourth : (a b c d : Node) (ts : List Node) (i : ℕ) (e : Node) → Some 3 ≡ Some i → e ≡ get_or (a ∷ b ∷ c ∷ d ∷ ts) i e → d ≡ e
-at_fourth a b c d ts i e h g = let here : 3 ≡ i = cc in let found = rw (← here) at g in cc
-
 at_fifth : (a b c d l : Node) (ts : List Node) (i : ℕ) (e : Node) → Some 4 ≡ Some i → e ≡ get_or (a ∷ b ∷ c ∷ d ∷ l ∷ ts) i e → l ≡ e
 at_fifth a b c d l ts i e h g = let here : 4 ≡ i = cc in let found = rw (← here) at g in cc
 
@@ -177,23 +166,6 @@ pub branched : (fields out back : List Node) (cons new : Node) → length fields
     → Tree kind.IfStmt back ≡ block_step (Node-F.Tree kind.IfStmt fields)
 branched fields out back cons new h g o n b = rw (b, n, o) (branched_at fields cons h g)
 
-first_at : (a : Node) (ts : List Node) (i : ℕ) (e : Node) → Some 0 ≡ Some i → e ≡ get_or (a ∷ ts) i e → a ≡ e
-first_at a ts i e h g = let here : 0 ≡ i = cc in let found = rw (← here) at g in cc
-
-pub span_in_field : (k : Kind) (ts : List Node) (i : ℕ) (e : Node) → span_field k ts ≡ Some i → e ≡ get_or ts i e → span_of (Tree k ts) ≡ span_of e
-span_in_field kind.FnExpr (a ∷ b ∷ []) i e h g = span_of_tree kind.FnExpr (a ∷ b ∷ []) ∙ ap span_of (at_second a b [] i e h g)
-span_in_field kind.ClassExpr (a ∷ b ∷ []) i e h g = span_of_tree kind.ClassExpr (a ∷ b ∷ []) ∙ ap span_of (at_second a b [] i e h g)
-span_in_field k [] i e h g = no_field i h
-span_in_field k (t ∷ ts) i e h g = span_of_tree k (t ∷ ts) ∙ ap span_of (first_at t ts i e h g)
-
-pub no_span_field : (k : Kind) (ts : List Node) → span_field k ts ≡ None → span_of (Tree k ts) ≡ no_span
-no_span_field kind.FnExpr (a ∷ b ∷ []) h = absurd (cc)
-no_span_field kind.ClassExpr (a ∷ b ∷ []) h = absurd (cc)
-no_span_field kind.FnExpr [] h = span_of_tree kind.FnExpr []
-no_span_field kind.ClassExpr [] h = span_of_tree kind.ClassExpr []
-no_span_field k [] h = span_of_tree k []
-no_span_field k (t ∷ ts) h = some_field 0 h
-
 pub target_in_field : (k : Kind) (ts : List Node) (i : ℕ) (e : Node) → content_field k ts ≡ Some i → e ≡ get_or ts i e → is_target (Tree k ts) ≡ is_target e
 target_in_field kind.ParenExpr (a ∷ b ∷ []) i e h g = target_of_tree kind.ParenExpr (a ∷ b ∷ []) ∙ ap is_target (at_second a b [] i e h g)
 target_in_field kind.SeqExpr (a ∷ b ∷ []) i e h g = target_of_tree kind.SeqExpr (a ∷ b ∷ []) ∙ ap is_target (at_second a b [] i e h g)
@@ -213,13 +185,3 @@ pub no_target : (ts : List Node) → length ts ≢ 1 → is_target (Many ts) ≡
 no_target [] h = target_of_list []
 no_target (t ∷ []) h = absurd (h refl)
 no_target (t ∷ u ∷ ts) h = target_of_list (t ∷ u ∷ ts)
-
--- what is said of a node is what is said of one of its fields
-pub by_field : {X : Type 0} (f : Node → X) (g : Kind → List Node → Option ℕ) → ((k : Kind) (ts : List Node) (i : ℕ) (e : Node) → g k ts ≡ Some i → e ≡ get_or ts i e → f (Tree k ts) ≡ f e)
-    → (t : Node) (k : Kind) (ts us : List Node) (i : ℕ) (e : Node) (x : X) → t ≡ Tree k ts → us ≡ ts → Some i ≡ g k us → e ≡ get_or us i e → x ≡ f e → x ≡ f t
-by_field f g law t k ts us i e x is same there here found = found ∙ sym (law k us i e (sym there) here) ∙ ap (λ l. f (Tree k l)) same ∙ ap f (sym is)
-
--- what is said of a node of which no field says it
-pub by_none : {X : Type 0} (f : Node → X) (g : Kind → List Node → Option ℕ) (x : X) → ((k : Kind) (ts : List Node) → g k ts ≡ None → f (Tree k ts) ≡ x)
-    → (t : Node) (k : Kind) (ts us : List Node) → t ≡ Tree k ts → us ≡ ts → None ≡ g k us → x ≡ f t
-by_none f g x law t k ts us is same there = sym (law k us (sym there)) ∙ ap (λ l. f (Tree k l)) same ∙ ap f (sym is)

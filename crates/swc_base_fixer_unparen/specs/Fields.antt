@@ -22,13 +22,6 @@ last_statement kind.ForStmt (span ∷ init ∷ test ∷ update ∷ body ∷ []) 
 last_statement kind.ForOfStmt (span ∷ is_await ∷ left ∷ right ∷ body ∷ []) = Some 4
 last_statement _ _ = None
 
--- the field that says where a node stands
-abbrev pub span_field : Kind → List Node → Option ℕ
-span_field kind.FnExpr (ident ∷ function ∷ []) = Some 1
-span_field kind.ClassExpr (ident ∷ class ∷ []) = Some 1
-span_field k [] = None
-span_field k (t ∷ ts) = Some 0
-
 -- the field with the content of a pair or with the items of a sequence
 abbrev pub content_field : Kind → List Node → Option ℕ
 content_field kind.ParenExpr (span ∷ expr ∷ []) = Some 1

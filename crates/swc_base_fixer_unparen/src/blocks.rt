@@ -5,8 +5,8 @@ ghost use Rattle.swc_tree_node.specs.declared.node.Node.TheOpen.{Node-F};
 ghost use Rattle.swc_tree_grammar.specs.Blocks.{block as block_of, block_step, branch as branch_of, takes_else as takes_an_else, with_blocks};
 ghost use Rattle.swc_base_fixer_unparen.specs.Fields.{last_statement as last_statement_of};
 
-use crate::spans::span_of;
 use std::alloc::{AllocError, Global};
+use swc_tree_grammar::span_of;
 use swc_tree_items::Items;
 use swc_tree_node::fields::if_stmt;
 use swc_tree_node::{Kind, Node};

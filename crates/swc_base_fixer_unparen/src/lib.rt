@@ -6,7 +6,6 @@ mod comments;
 mod pairs;
 mod pass;
 mod sequence;
-mod spans;
 mod stripping;
 mod targets;
 

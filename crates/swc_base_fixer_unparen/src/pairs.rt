@@ -5,9 +5,8 @@ ghost use Rattle.swc_tree_node.specs.declared.node.Node.TheOpen.{Node-F};
 ghost use Rattle.swc_base_fixer_unparen.specs.Fields.{is_assignment as assigns};
 ghost use Rattle.swc_tree_grammar.specs.Pairs.{found, inside_of, own_of, pairs, pairs_inside};
 
-use crate::spans::span_of;
 use std::alloc::{AllocError, Global};
-use swc_tree_grammar::Pair;
+use swc_tree_grammar::{Pair, span_of};
 use swc_tree_items::Items;
 use swc_tree_node::fields::{assign_expr, paren_expr};
 use swc_tree_node::{Kind, Node};

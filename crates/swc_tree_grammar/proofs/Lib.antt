@@ -8,3 +8,4 @@ pub mod Spans
 pub mod Walks
 pub mod Induction
 pub mod Stripped
+pub mod Fields

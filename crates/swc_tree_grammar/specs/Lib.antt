@@ -18,3 +18,4 @@ pub mod Pairs
 pub mod Places
 pub mod Spanless
 pub mod Fixed
+pub mod Spans

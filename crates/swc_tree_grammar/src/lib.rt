@@ -4,7 +4,8 @@
 //!
 //! - `Shapes` names the shapes of nodes, `Kinds` tests of what kind a node is.
 //! - `Stripped` says what is left of a tree without parentheses and idle expressions, `Blocks` which branches get
-//!   a block, `Targets` which assignment targets may stand bare, `Places` where parentheses may go.
+//!   a block, `Targets` which assignment targets may stand bare, `Places` where parentheses may go; `Spans` which field says
+//!   where a node stands.
 //! - `Pairs` says which comments move where parentheses are taken off.
 //! - `Levels`, `Demands`, `Starts` and `Forms` say how tightly an expression binds, what a place asks of it, what it
 //!   begins with, and which statement may stand where; `Grammar` says which trees ECMA-262 derives, `Writable` which
@@ -16,5 +17,7 @@
 #![tactic(auto)]
 
 mod pairs;
+mod span;
 
 pub use pairs::Pair;
+pub use span::span_of;

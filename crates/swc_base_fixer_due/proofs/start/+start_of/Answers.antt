@@ -1,6 +1,6 @@
 use Rattle.swc_tree_grammar.specs.Starts.{start}
 use Rattle.swc_base_fixer_due.specs.Begin.{start_field}
-use Rattle.swc_base_fixer_due.proofs.Fields.{by_field}
+use Rattle.swc_tree_grammar.proofs.Fields.{by_field}
 use Rattle.swc_base_fixer_due.proofs.Begin.{start_in_field, start_by_none}
 use Rattle.swc_base_fixer_due.proofs.start.+start_of.Goals as goal
 

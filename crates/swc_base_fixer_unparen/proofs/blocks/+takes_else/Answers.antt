@@ -1,7 +1,8 @@
 use Rattle.std.proofs.Common.{false}
 use Rattle.swc_tree_grammar.specs.Blocks.{takes_else}
 use Rattle.swc_base_fixer_unparen.specs.Fields.{last_statement}
-use Rattle.swc_base_fixer_unparen.proofs.Fields.{by_field, by_none, else_in_last, no_else}
+use Rattle.swc_tree_grammar.proofs.Fields.{by_field, by_none}
+use Rattle.swc_base_fixer_unparen.proofs.Fields.{else_in_last, no_else}
 use Rattle.swc_base_fixer_unparen.proofs.blocks.+takes_else.Goals as goal
 
 pub returns-in-Some : goal.returns-in-Some

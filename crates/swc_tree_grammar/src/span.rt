@@ -1,7 +1,7 @@
 //! Where a node stands in its source text.
 ghost use Rattle.std.specs.Prelude.{◌≡◌, ◌<◌, length, IfSome};
 ghost use Rattle.swc_tree_grammar.specs.Blocks.{span_of as place_of};
-ghost use Rattle.swc_base_fixer_due.specs.Fields.{span_field as span_field_of};
+ghost use Rattle.swc_tree_grammar.specs.Spans.{span_field as span_field_of};
 
 use swc_tree_marks::{DUMMY_SP, Span};
 use swc_tree_node::{Kind, Node};

@@ -1,7 +1,7 @@
 use Rattle.swc_tree_grammar.specs.Blocks.{span_of, no_span}
-use Rattle.swc_base_fixer_due.specs.Fields.{span_field}
-use Rattle.swc_base_fixer_due.proofs.Fields.{by_field, by_none, span_in_field, no_span_field}
-use Rattle.swc_base_fixer_due.proofs.span.+span_of.Goals as goal
+use Rattle.swc_tree_grammar.specs.Spans.{span_field}
+use Rattle.swc_tree_grammar.proofs.Fields.{by_field, by_none, span_in_field, no_span_field}
+use Rattle.swc_tree_grammar.proofs.span.+span_of.Goals as goal
 
 pub returns-in-Some : goal.returns-in-Some
 returns-in-Some t c =
