@@ -11,10 +11,10 @@ use Rattle.swc_tree_node.specs.Fits.{Fits}
 use Rattle.swc_tree_grammar.specs.Kinds.{has_kind, is_paren}
 use Rattle.swc_tree_grammar.specs.Targets.{all_bare, bare_in, pair_in, seen, is_target}
 use Rattle.swc_tree_grammar.specs.Writable.{Round, sound_in, in_head_in}
+use Rattle.swc_tree_grammar.proofs.Asked.{asked, same as whole, sound}
 use Rattle.swc_tree_grammar.proofs.Induction.{by_children}
 use Rattle.swc_tree_grammar.proofs.Walks.{bare_of_tree, bare_of_list, pair_of_tree}
 use Rattle.swc_tree_grammar_laws.proofs.Levelled.{half}
-use Rattle.swc_tree_grammar_laws.proofs.Derived.{asked, sound, same as whole}
 use Rattle.swc_base_fixer_laws.proofs.Up.{kind_of_tree}
 use Rattle.swc_base_fixer_laws.proofs.Quiet.{is_quiet}
 use Rattle.swc_base_fixer_laws.proofs.Everywhere.{Everywhere, Parts, everywhere}

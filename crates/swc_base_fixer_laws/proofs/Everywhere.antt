@@ -11,11 +11,12 @@ use Rattle.swc_tree_node.specs.Table.{slots_of}
 use Rattle.swc_tree_node.specs.Fits.{Fits, FieldsFit, AllFit}
 use Rattle.swc_tree_grammar.specs.Levels.{is_absent}
 use Rattle.swc_tree_grammar.specs.Writable.{Round, sound_in, in_head_in, all_sound, binding, assigning, strictly, branch, head, declares_in, pattern, constructor_key_in}
+use Rattle.swc_tree_grammar.proofs.Asked.{asked, head_list, same, sound}
 use Rattle.swc_tree_grammar.proofs.Induction.{Each, Leaves, by_children}
 use Rattle.swc_tree_grammar.proofs.Places.{stands}
 use Rattle.swc_tree_grammar_laws.proofs.Levelled.{both, half, also}
 use Rattle.swc_tree_grammar_laws.proofs.Blocked.{no}
-use Rattle.swc_tree_grammar_laws.proofs.Derived.{asked, sound, same, sound_tree, sound_list, in_head_tree, in_head_list}
+use Rattle.swc_tree_grammar_laws.proofs.Derived.{sound_tree, sound_list, in_head_tree}
 use Rattle.swc_base_fixer_laws.specs.Sets.{item}
 use Rattle.swc_base_fixer_laws.proofs.Quiet.{is_quiet, items_fit, quiet, quiet_fields, quiet_slots}
 use Rattle.swc_base_fixer_laws.proofs.Recasts.{tree_looks, list_looks}
@@ -169,7 +170,7 @@ module _ {holds : Node → Bool} {own : Kind → List Node → Bool} (test : Eve
   list_holds : (ts : List Node) → Each Holding ts → Holding (Many ts)
   list_holds ts l s f = record {
     by_sound = λ r h. test.of_list ts ∙ items (item s) ts l (items_fit s ts f) r (sym (sound_list ts r) ∙ h);
-    by_head = λ r h. absurd (no (sym (in_head_list ts r) ∙ h));
+    by_head = λ r h. absurd (no (sym (head_list ts r) ∙ h));
     by_key = λ h. absurd (no (sym (list_looks Bool constructor_key_in ts) ∙ h));
   }
 

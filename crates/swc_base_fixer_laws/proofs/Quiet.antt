@@ -1,6 +1,5 @@
 -- Places in which no expression stands, nor below them, whatever fits there.
-use Rattle.std.proofs.Common.{◌≡◌, ℕ, Bool, true, false, not, ◌&&◌, ◌||◌, ◌==◌, IsTrue, Some, List, [], ◌∷◌, refl, sym, ap, ◌∙◌, arith}
-use Rattle.std.proofs.lemmas.Bool.{eqb-true}
+use Rattle.std.proofs.Common.{◌≡◌, ℕ, Bool, true, not, ◌&&◌, ◌==◌, Some, List, [], ◌∷◌, refl, sym, ap, ◌∙◌}
 use Rattle.std.specs.List.{list_any, list_all}
 use Rattle.swc_tree_node.specs.declared.kind.Kind.{Kind}
 use Rattle.swc_tree_node.specs.declared.kind.Kind.TheVariants as kind
@@ -14,8 +13,8 @@ use Rattle.swc_tree_node.specs.Table.{slots_of, kinds_of, kind_number, is_identi
 use Rattle.swc_tree_node.specs.Fits.{Fits, FieldsFit, AllFit, single}
 use Rattle.swc_tree_node.proofs.Fit.{fits-List}
 use Rattle.swc_tree_grammar.proofs.Induction.{Each, Leaves, by_children}
-use Rattle.swc_tree_grammar.proofs.Places.{stands}
-use Rattle.swc_tree_grammar_laws.proofs.Levelled.{both, half, also}
+use Rattle.swc_tree_grammar.proofs.Places.{among, stands}
+use Rattle.swc_tree_grammar_laws.proofs.Levelled.{half, also}
 use Rattle.swc_base_fixer_laws.specs.Sets.{item}
 use Rattle.swc_base_fixer_laws.proofs.SetsRows.{items_open}
 
@@ -41,16 +40,6 @@ is_quiet (slot.List c) = is_quiet_content c
 is_quiet (slot.Holes c) = is_quiet_content c
 is_quiet (slot.OptionalList c) = is_quiet_content c
 is_quiet _ = true
-
-among_first : (p : ℕ → Bool) (n : ℕ) (k : Kind) (ks : List Kind) (b : Bool) → (n == kind_number k) ≡ b
-    → IsTrue (b || list_any (λ x. n == kind_number x) ks) → IsTrue (p (kind_number k) && list_all (λ k. p (kind_number k)) ks)
-    → (IsTrue (list_any (λ x. n == kind_number x) ks) → IsTrue (list_all (λ k. p (kind_number k)) ks) → IsTrue (p n)) → IsTrue (p n)
-among_first p n k ks true e h g rest = let same : n ≡ kind_number k = eqb-true n (kind_number k) e in rw same ((both (p (kind_number k)) (list_all (λ k. p (kind_number k)) ks) g).0)
-among_first p n k ks false e h g rest = rest h ((both (p (kind_number k)) (list_all (λ k. p (kind_number k)) ks) g).1)
-
-among : (p : ℕ → Bool) (n : ℕ) (ks : List Kind) → IsTrue (list_any (λ x. n == kind_number x) ks) → IsTrue (list_all (λ k. p (kind_number k)) ks) → IsTrue (p n)
-among p n [] h g = absurd (grind arith)
-among p n (k ∷ ks) h g = among_first p n k ks (n == kind_number k) refl h g (among p n ks)
 
 -- the fields of a quiet kind are quiet too
 pub quiet_slots : (k : Kind) → is_quiet_kind k ≡ true → list_all is_quiet (slots_of k) ≡ true

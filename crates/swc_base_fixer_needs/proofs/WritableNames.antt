@@ -11,10 +11,10 @@ use Rattle.swc_tree_node.specs.Table.{slots_of}
 use Rattle.swc_tree_node.specs.Fits.{Fits}
 use Rattle.swc_tree_grammar.specs.Kinds.{has_kind}
 use Rattle.swc_tree_grammar.specs.Writable.{Round, Writable, sound_in, in_head_in, constructor_key_in}
+use Rattle.swc_tree_grammar.proofs.Asked.{asked, same}
 use Rattle.swc_tree_grammar.proofs.Induction.{by_children}
 use Rattle.swc_tree_grammar_laws.proofs.Levelled.{half}
 use Rattle.swc_tree_grammar_laws.proofs.Blocked.{no}
-use Rattle.swc_tree_grammar_laws.proofs.Derived.{asked, same}
 use Rattle.swc_tree_grammar_laws.proofs.Every.{every_tree, every_list}
 use Rattle.swc_base_fixer_laws.proofs.Up.{kind_of_tree}
 use Rattle.swc_base_fixer_laws.proofs.Quiet.{is_quiet}

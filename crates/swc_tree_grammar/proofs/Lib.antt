@@ -6,5 +6,7 @@ pub mod Items
 pub mod Places
 pub mod Spans
 pub mod Walks
+pub mod Wholes
+pub mod Asked
 pub mod Induction
 pub mod Stripped
