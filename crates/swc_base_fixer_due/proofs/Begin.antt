@@ -11,11 +11,11 @@ use Rattle.swc_tree_grammar.specs.Starts.{Begun, Start, is_let_bracket, start, s
 use Rattle.swc_tree_grammar.specs.Starts.Start.{Other}
 use Rattle.swc_tree_grammar.specs.Forms.{holds}
 use Rattle.swc_tree_grammar.specs.Due.{Places, Leading, first_in, first_step, pair}
-use Rattle.swc_tree_grammar.proofs.Induction.{by_children}
-use Rattle.swc_base_fixer_due.specs.Begin.{first_paired, has_let_bracket, leading_field, leads, own_start, start_field}
 use Rattle.swc_tree_grammar.proofs.Fields.{at_fourth, at_second, at_third}
+use Rattle.swc_tree_grammar.proofs.Induction.{by_children}
+use Rattle.swc_tree_grammar.proofs.Wholes.{carried, all_carried}
+use Rattle.swc_base_fixer_due.specs.Begin.{first_paired, has_let_bracket, leading_field, leads, own_start, start_field}
 use Rattle.swc_base_fixer_due.proofs.Fields.{second_is, third_is, fourth_is}
-use Rattle.swc_base_fixer_due.proofs.Wholes.{carried, all_carried}
 
 abbrev begun_of : Node → Begun
 begun_of = fold-Node Begun start_step

@@ -6,5 +6,4 @@ pub mod Heading
 pub mod Least
 pub mod Rows
 pub mod Settled
-pub mod Wholes
 pub mod Recorded

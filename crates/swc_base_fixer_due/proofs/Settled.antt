@@ -12,8 +12,8 @@ use Rattle.swc_base_fixer_due.specs.declared.demand.Test.TheVariants as test
 use Rattle.swc_base_fixer_due.specs.Test.{asked}
 use Rattle.swc_base_fixer_due.specs.Fields.{called_field}
 use Rattle.swc_tree_grammar.proofs.Induction.{by_children}
+use Rattle.swc_tree_grammar.proofs.Wholes.{carried, all_carried}
 use Rattle.swc_base_fixer_due.proofs.Fields.{second_is}
-use Rattle.swc_base_fixer_due.proofs.Wholes.{carried, all_carried}
 
 pub single : (p : Places) (t : Test) (n : Node → Bool) (e : Node) → settled p (asked t) n e ≡ pair_if (n e || not (meets (asked t) e)) p e
 single p (test.AtLeast n) named e = refl

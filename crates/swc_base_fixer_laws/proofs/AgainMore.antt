@@ -16,7 +16,7 @@ use Rattle.swc_tree_grammar.specs.Stripped.{stripped, strip_step}
 use Rattle.swc_tree_grammar.specs.Due.{Places, Callee, alone, pair, pair_if, to_level, key_in, callee_step, callee_in, call_paired, settled, each_settled, odd_items, sequence_statement, paired_in, level_step, paired_by_level}
 use Rattle.swc_tree_grammar.proofs.Induction.{Each, by_children}
 use Rattle.swc_tree_grammar.proofs.Stripped.{stripped_of_tree, stripped_of_list}
-use Rattle.swc_tree_grammar_laws.proofs.Wholes.{carried, all_carried}
+use Rattle.swc_tree_grammar.proofs.Wholes.{carried, all_carried}
 use Rattle.swc_tree_grammar_laws.proofs.Callees.{callee, paired_of}
 use Rattle.swc_tree_grammar_laws.proofs.Levels.{pairing, pairing_tree, pairing_list}
 use Rattle.swc_tree_grammar_laws.proofs.Levelled.{both}

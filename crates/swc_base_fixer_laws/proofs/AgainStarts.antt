@@ -16,7 +16,7 @@ use Rattle.swc_tree_grammar.specs.Fixed.{fixed}
 use Rattle.swc_tree_grammar.specs.Starts.{Start, Begun, start, start_in, start_step, is_let_in, is_computed_in, is_let_bracket, let_bracket_in}
 use Rattle.swc_tree_grammar.specs.Due.{Places, pair, paired_by_level, paired_in_heads, first_in, begun, begin_step, paired_at_starts, with_due_pairs}
 use Rattle.swc_tree_grammar.proofs.Induction.{Each, by_children}
-use Rattle.swc_tree_grammar_laws.proofs.Wholes.{carried}
+use Rattle.swc_tree_grammar.proofs.Wholes.{carried}
 use Rattle.swc_tree_grammar_laws.proofs.Begins.{spined, first_paired, spine_whole, first_of_tree, first_empty, first_of_list, start_tree, start_list, starts_of_tree, starts_of_list}
 use Rattle.swc_base_fixer_laws.proofs.AgainMapped.{is_changed, look}
 use Rattle.swc_base_fixer_laws.proofs.AgainLooks.{kind_mapped, holds_mapped}

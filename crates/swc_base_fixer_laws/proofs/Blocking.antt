@@ -16,13 +16,14 @@ use Rattle.swc_tree_grammar.specs.Blocks.{with_blocks, block_step, branch as bra
 use Rattle.swc_tree_grammar.specs.Forms.{form, is_branch}
 use Rattle.swc_tree_grammar.specs.Forms.Form.{Ordinary}
 use Rattle.swc_tree_grammar.specs.Writable.{Writable, Round, no_private, binding, branch}
+use Rattle.swc_tree_grammar.proofs.Asked.{asked, same as whole, sound}
 use Rattle.swc_tree_grammar.proofs.Induction.{Each, by_children}
 use Rattle.swc_tree_grammar.proofs.Places.{one, stands}
 use Rattle.swc_tree_grammar.proofs.Walks.{blocks_of_tree, blocks_of_list}
 use Rattle.swc_tree_grammar.proofs.BlocksKept.{blocks_fit}
 use Rattle.swc_tree_grammar_laws.proofs.Levelled.{half, also}
 use Rattle.swc_tree_grammar_laws.proofs.Blocked.{no}
-use Rattle.swc_tree_grammar_laws.proofs.Derived.{asked, sound, same as whole, sound_tree, sound_list}
+use Rattle.swc_tree_grammar_laws.proofs.Derived.{sound_tree, sound_list}
 use Rattle.swc_base_fixer_laws.specs.Sets.{item}
 use Rattle.swc_base_fixer_laws.proofs.Up.{kind_of_tree}
 use Rattle.swc_base_fixer_laws.proofs.SetsRows.{items_open}

@@ -30,6 +30,8 @@ pub mod StatementRounds
 pub mod Blocking
 pub mod StrippedItems
 pub mod Stripping
+pub mod Quiet
+pub mod Everywhere
 pub mod BareTargets
 pub mod Fixed
 pub mod NormalKeptBlocks

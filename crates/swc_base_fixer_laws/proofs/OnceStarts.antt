@@ -17,7 +17,7 @@ use Rattle.swc_tree_grammar.specs.Starts.{Start, Begun, start, start_in, start_s
 use Rattle.swc_tree_grammar.specs.Starts.Start.{LetBracket, Other}
 use Rattle.swc_tree_grammar.specs.Due.{Places, pair, first_in, begun, begin_step, paired_by_level, paired_in_heads, paired_at_starts}
 use Rattle.swc_tree_grammar.proofs.Induction.{Each, by_children}
-use Rattle.swc_tree_grammar_laws.proofs.Wholes.{carried}
+use Rattle.swc_tree_grammar.proofs.Wholes.{carried}
 use Rattle.swc_tree_grammar_laws.proofs.Levelled.{both, also_both}
 use Rattle.swc_tree_grammar_laws.proofs.Begins.{spined, first_paired, spine_whole, first_of_tree, first_empty, first_of_list, start_tree, start_list, starts_of_tree, starts_of_list}
 use Rattle.swc_base_fixer_laws.specs.Once.{once_in, paired_once}

@@ -15,12 +15,13 @@ use Rattle.swc_tree_grammar.specs.Shapes.{items_of}
 use Rattle.swc_tree_grammar.specs.Kinds.{has_kind, is_private_name, is_paren, is_chain, is_opt_chain}
 use Rattle.swc_tree_grammar.specs.Stripped.{stripped}
 use Rattle.swc_tree_grammar.specs.Writable.{Round, sound_in, in_head_in, all_sound, binding, is_string, base_goes_on_in}
+use Rattle.swc_tree_grammar.proofs.Asked.{asked, head_list, same as whole, sound}
 use Rattle.swc_tree_grammar.proofs.Induction.{by_children}
 use Rattle.swc_tree_grammar.proofs.Places.{one}
 use Rattle.swc_tree_grammar.proofs.Stripped.{stripped_of_tree}
 use Rattle.swc_tree_grammar_laws.proofs.Levelled.{half}
 use Rattle.swc_tree_grammar_laws.proofs.Blocked.{no}
-use Rattle.swc_tree_grammar_laws.proofs.Derived.{asked, sound, same as whole, sound_tree, sound_list, in_head_tree, in_head_list}
+use Rattle.swc_tree_grammar_laws.proofs.Derived.{sound_tree, sound_list, in_head_tree}
 use Rattle.swc_base_fixer_laws.specs.Sets.{item}
 use Rattle.swc_base_fixer_laws.proofs.Up.{kind_of_tree}
 use Rattle.swc_base_fixer_laws.proofs.Recasts.{Recasts, FieldsRecast, is_special, is_whole, whole_special, of_expression, tree_looks, list_looks, expression_items}
@@ -121,7 +122,7 @@ public_list us = search (rules, the_lemmas)
 list_keeps : {s : Slot} {ts us : List Node} → AllKept s ts us → Keeps (Many ts) (Many us)
 list_keeps {ts = ts} {us = us} x = record {
   keeps = λ r h. sound_list us r ∙ all_kept x r (sym (sound_list ts r) ∙ h);
-  heads = λ r h. absurd (no (sym (in_head_list ts r) ∙ h));
+  heads = λ r h. absurd (no (sym (head_list ts r) ∙ h));
   public = λ r h g. public_list us;
   says = λ r h. list_looks (Option (List ℕ)) statement_in us ∙ sym (list_looks (Option (List ℕ)) statement_in ts);
   strict = λ r h. list_looks Bool strict_in us ∙ sym (list_looks Bool strict_in ts);

@@ -19,9 +19,10 @@ use Rattle.swc_tree_grammar.specs.Stripped.{stripped}
 use Rattle.swc_tree_grammar.specs.Targets.{is_target}
 use Rattle.swc_tree_grammar.specs.Forms.{form, is_body, is_branch, is_using, is_strict, are_named, holds}
 use Rattle.swc_tree_grammar.specs.Writable.{Round, Asked, sound_in, in_head_in, all_sound, no_private, binding, assigning, strictly, bound, name_is, pattern, element, elements, left_side, base_goes_on_in, constructor_key_in, accessor, initialised_in, is_const, is_string, local_specifier_in, loop_body, branch, head, declares_in, one_bare, is_pattern_target, is_plain_assignment}
+use Rattle.swc_tree_grammar.proofs.Asked.{asked, same as whole, sound}
 use Rattle.swc_tree_grammar.proofs.Places.{one}
 use Rattle.swc_tree_grammar_laws.proofs.Levelled.{both, half, also, also_both}
-use Rattle.swc_tree_grammar_laws.proofs.Derived.{asked, sound, same as whole, sound_tree, in_head_tree}
+use Rattle.swc_tree_grammar_laws.proofs.Derived.{sound_tree, in_head_tree}
 use Rattle.swc_base_fixer_laws.proofs.Up.{kind_of_tree}
 use Rattle.swc_base_fixer_laws.proofs.Kept.{not_up}
 use Rattle.swc_base_fixer_laws.proofs.Recasts.{Recasts, AllRecast, FieldsRecast, of_expression, target_up}

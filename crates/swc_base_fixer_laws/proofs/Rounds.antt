@@ -11,11 +11,12 @@ use Rattle.swc_tree_node.specs.Table.{slots_of, is_identifier}
 use Rattle.swc_tree_node.specs.Fits.{Fits, FieldsFit, AllFit, belongs}
 use Rattle.swc_tree_node.proofs.Fit.{fits-Absent, fits-Flag, fits-Word, fits-Text, fits-Span, fits-List, fits-Identifier, fits-Tree, tree_opens, list_opens}
 use Rattle.swc_tree_grammar.specs.Writable.{Round, sound_in, all_sound, binding}
+use Rattle.swc_tree_grammar.proofs.Asked.{asked, sound}
 use Rattle.swc_tree_grammar.proofs.Induction.{Each, by_children}
 use Rattle.swc_tree_grammar.proofs.Places.{one}
 use Rattle.swc_tree_grammar_laws.proofs.Levelled.{half, also}
 use Rattle.swc_tree_grammar_laws.proofs.Blocked.{no}
-use Rattle.swc_tree_grammar_laws.proofs.Derived.{asked, sound, sound_tree, sound_list}
+use Rattle.swc_tree_grammar_laws.proofs.Derived.{sound_tree, sound_list}
 use Rattle.swc_base_fixer_laws.proofs.SetsLevels.{expressions, fields_same}
 use Rattle.swc_base_fixer_laws.specs.Sets.{FieldsSet}
 use Rattle.swc_base_fixer_laws.specs.Sets.FieldsSet.{nil, field}

@@ -15,12 +15,13 @@ use Rattle.swc_tree_node.proofs.Fit.{fits-Absent, fits-Flag, fits-Word, fits-Tex
 use Rattle.swc_tree_grammar.specs.Shapes.{items_of}
 use Rattle.swc_tree_grammar.specs.Stripped.{stripped, target, effects, parts, parts_in, is_idle, is_void, busy, front, end, settled, sequence}
 use Rattle.swc_tree_grammar.specs.Writable.{Round, sound_in, all_sound, binding}
+use Rattle.swc_tree_grammar.proofs.Asked.{asked, same as whole, sound}
 use Rattle.swc_tree_grammar.proofs.Induction.{Each, by_children}
 use Rattle.swc_tree_grammar.proofs.Places.{one}
 use Rattle.swc_tree_grammar.proofs.Stripped.{stripped_of_list, stripped_of_tree, stripped_other, effects_of_list, effects_of_tree, effects_of_sequence, effects_of_void, effects_of_other, effects_of_identifier, effects_of_absent, effects_of_flag, effects_of_word, effects_of_text, effects_of_span}
 use Rattle.swc_tree_grammar_laws.proofs.Levelled.{half}
 use Rattle.swc_tree_grammar_laws.proofs.Blocked.{no}
-use Rattle.swc_tree_grammar_laws.proofs.Derived.{asked, sound, same as whole, sound_tree, sound_list}
+use Rattle.swc_tree_grammar_laws.proofs.Derived.{sound_tree, sound_list}
 use Rattle.swc_base_fixer_laws.specs.Sets.{FieldsSet}
 use Rattle.swc_base_fixer_laws.specs.Sets.FieldsSet.{nil, field}
 use Rattle.swc_base_fixer_laws.proofs.RecastSound.{last_sound, rest_sound}

@@ -15,7 +15,6 @@ use Rattle.swc_tree_grammar.specs.Blocks.{span_of}
 use Rattle.swc_tree_grammar.specs.Due.{Places, Callee, callee_step, callee_in, call_paired, pair, pair_if, to_level, key_in, settled, each_settled}
 use Rattle.swc_tree_grammar.specs.Readers.{none as no_names}
 use Rattle.swc_tree_grammar.proofs.Induction.{Each, by_children}
-use Rattle.swc_tree_grammar_laws.proofs.Wholes.{carried}
 use Rattle.swc_tree_grammar_laws.proofs.Levelled.{both}
 use Rattle.swc_tree_grammar_laws.proofs.Callees.{callee, paired_of}
 use Rattle.swc_base_fixer_laws.specs.Sets.{Sets, AllSet, FieldsSet, pairable, can_pair, takes_pair}
@@ -28,6 +27,7 @@ use Rattle.swc_tree_node.specs.declared.slot.Slot.{Slot}
 use Rattle.swc_tree_node.specs.declared.slot.Slot.TheVariants as slot
 use Rattle.swc_tree_node.specs.Fits.{Fits, FieldsFit}
 use Rattle.swc_tree_node.proofs.Fit.{fits-Absent, fits-Flag, fits-Word, fits-Text, fits-Span, fits-Identifier, fits-Tree}
+use Rattle.swc_tree_grammar.proofs.Wholes.{carried}
 use Rattle.swc_tree_grammar_laws.proofs.Blocked.{no}
 use Rattle.swc_base_fixer_laws.proofs.Up.{at_least_of_tree, called_of_tree, bare_of_tree, nullish_of_tree, kind_of_tree}
 use Rattle.swc_base_fixer_laws.proofs.Kept.{is_single, asks_pair, all_ask, not_false}

@@ -23,11 +23,12 @@ use Rattle.swc_tree_grammar.specs.Stripped.{stripped}
 use Rattle.swc_tree_grammar.specs.Targets.{is_target}
 use Rattle.swc_tree_grammar.specs.Forms.{form, is_body, is_branch, is_using, is_strict, are_named, holds}
 use Rattle.swc_tree_grammar.specs.Writable.{Round, sound_in, in_head_in, all_sound, no_private, binding, assigning, strictly, bound, name_is, pattern, element, elements, left_side, base_goes_on_in, constructor_key_in, accessor, initialised_in, is_const, is_string, local_specifier_in, loop_body, branch, head, declares_in, one_bare, is_identifier_text}
+use Rattle.swc_tree_grammar.proofs.Asked.{asked, head_list, same as whole, sound}
 use Rattle.swc_tree_grammar.proofs.Induction.{by_children}
 use Rattle.swc_tree_grammar.proofs.Places.{one, stands}
 use Rattle.swc_tree_grammar_laws.proofs.Levelled.{both, half, also, also_both}
 use Rattle.swc_tree_grammar_laws.proofs.Begins.{or_right}
-use Rattle.swc_tree_grammar_laws.proofs.Derived.{asked, sound, same as whole, sound_tree, sound_list, in_head_tree, in_head_list}
+use Rattle.swc_tree_grammar_laws.proofs.Derived.{sound_tree, sound_list, in_head_tree}
 use Rattle.swc_base_fixer_laws.specs.Sets.{Sets, AllSet, FieldsSet, pairable, can_pair, is_directive_in}
 use Rattle.swc_base_fixer_laws.specs.Sets.Sets.{same, after, around, named, items, tree}
 use Rattle.swc_base_fixer_laws.specs.Sets.AllSet.{none, more}
@@ -286,7 +287,7 @@ mutual
   keep (named x k i called) f = record { keeps = λ r h. name_sound x k i r h; heads = λ r h. absurd (cc (sym (name_head k i r) ∙ h)) }
   keep {s = s} (items ts us d) f =
       let g = items_open s ts (sym (fits-List ts s) ∙ f) in
-      record { keeps = λ r h. sound_list us r ∙ each d g r (sym (sound_list ts r) ∙ h); heads = λ r h. absurd (cc (sym (in_head_list ts r) ∙ h)) }
+      record { keeps = λ r h. sound_list us r ∙ each d g r (sym (sound_list ts r) ∙ h); heads = λ r h. absurd (cc (sym (head_list ts r) ∙ h)) }
   keep {s = s} (tree k ts us e d) f =
       let w = stands k ts s f in let x = fields_keep d w.fields in
       record { keeps = λ r h. sound_tree k us r ∙ row k e x r (sym (sound_tree k ts r) ∙ h); heads = λ r h. in_head_tree k us r ∙ head_row k x r (sym (in_head_tree k ts r) ∙ h) }

@@ -15,11 +15,12 @@ use Rattle.swc_tree_node.specs.Fits.{Fits, FieldsFit, AllFit, belongs}
 use Rattle.swc_tree_node.proofs.Fit.{fits-Absent, fits-Flag, fits-Word, fits-Text, fits-Span, fits-List, fits-Identifier, fits-Tree, tree_opens, list_opens}
 use Rattle.swc_tree_grammar.specs.Levels.{is_absent}
 use Rattle.swc_tree_grammar.specs.Writable.{Round, sound_in, in_head_in, all_sound, binding, assigning, branch, head, declares_in, pattern}
+use Rattle.swc_tree_grammar.proofs.Asked.{asked, head_list, sound}
 use Rattle.swc_tree_grammar.proofs.Induction.{Each, by_children}
 use Rattle.swc_tree_grammar.proofs.Places.{one}
 use Rattle.swc_tree_grammar_laws.proofs.Levelled.{half, also}
 use Rattle.swc_tree_grammar_laws.proofs.Blocked.{no}
-use Rattle.swc_tree_grammar_laws.proofs.Derived.{asked, sound, sound_tree, sound_list, in_head_tree, in_head_list}
+use Rattle.swc_tree_grammar_laws.proofs.Derived.{sound_tree, sound_list, in_head_tree}
 use Rattle.swc_base_fixer_laws.proofs.Kept.{or_both}
 use Rattle.swc_base_fixer_laws.proofs.SetsLevels.{fields_same}
 use Rattle.swc_base_fixer_laws.specs.Sets.{FieldsSet}
@@ -95,7 +96,7 @@ head_row k ts r = refl
 in_head_bound : (t : Node) (r : Round) → (asked t).in_head (binding r) ≡ (asked t).in_head r
 in_head_bound t = by_children (λ t. (r : Round) → (asked t).in_head (binding r) ≡ (asked t).in_head r)
     (λ r. search (rules, the_lemmas), λ x r. search (rules, the_lemmas), λ w r. search (rules, the_lemmas), λ x r. search (rules, the_lemmas), λ s r. search (rules, the_lemmas), λ k i r. search (rules, the_lemmas))
-    (λ ts l r. in_head_list ts (binding r) ∙ sym (in_head_list ts r))
+    (λ ts l r. head_list ts (binding r) ∙ sym (head_list ts r))
     (λ k ts l r. in_head_tree k ts (binding r) ∙ head_row k ts r ∙ sym (in_head_tree k ts r)) t
 
 head_bound : (t : Node) (r : Round) → head (asked t) r ≡ true → head (asked t) (binding r) ≡ true

@@ -15,13 +15,14 @@ use Rattle.swc_tree_node.proofs.Fit.{fits-Absent, fits-Flag, fits-Word, fits-Tex
 use Rattle.swc_tree_grammar.specs.Shapes.{items_of}
 use Rattle.swc_tree_grammar.specs.Stripped.{stripped, effects, parts, parts_in, is_void, front, settled}
 use Rattle.swc_tree_grammar.specs.Writable.{Round, all_sound, binding}
+use Rattle.swc_tree_grammar.proofs.Asked.{asked, same as whole, sound}
 use Rattle.swc_tree_grammar.proofs.Induction.{Each, by_children}
 use Rattle.swc_tree_grammar.proofs.Places.{one}
 use Rattle.swc_tree_grammar.proofs.Items.{items_fit, flat_fit}
 use Rattle.swc_tree_grammar.proofs.Stripped.{effects_of_list, effects_of_tree, effects_of_sequence, effects_of_void, effects_of_other, effects_of_identifier}
 use Rattle.swc_tree_grammar_laws.proofs.Levelled.{half, also}
 use Rattle.swc_tree_grammar_laws.proofs.Blocked.{no}
-use Rattle.swc_tree_grammar_laws.proofs.Derived.{asked, sound, named, Heard, heard, same as whole, sound_tree, sound_list}
+use Rattle.swc_tree_grammar_laws.proofs.Derived.{named, Heard, heard, sound_tree, sound_list}
 use Rattle.swc_base_fixer_laws.specs.Sets.{FieldsSet}
 use Rattle.swc_base_fixer_laws.specs.Sets.FieldsSet.{nil, field}
 use Rattle.swc_base_fixer_laws.proofs.SetsLevels.{expressions, fields_same}

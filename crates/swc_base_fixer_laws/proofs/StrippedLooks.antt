@@ -19,11 +19,11 @@ use Rattle.swc_tree_grammar.specs.Shapes.{items_of}
 use Rattle.swc_tree_grammar.specs.Kinds.{has_kind, has_kind_in, is_paren, is_chain, is_opt_chain}
 use Rattle.swc_tree_grammar.specs.Stripped.{stripped, target, parts, settled}
 use Rattle.swc_tree_grammar.specs.Writable.{Round, is_string}
+use Rattle.swc_tree_grammar.proofs.Asked.{sound}
 use Rattle.swc_tree_grammar.proofs.Induction.{by_children}
 use Rattle.swc_tree_grammar.proofs.Places.{one}
 use Rattle.swc_tree_grammar.proofs.Stripped.{stripped_of_tree, stripped_other}
 use Rattle.swc_tree_grammar_laws.proofs.Blocked.{no}
-use Rattle.swc_tree_grammar_laws.proofs.Derived.{sound}
 use Rattle.swc_base_fixer_laws.specs.Sets.{FieldsSet}
 use Rattle.swc_base_fixer_laws.specs.Sets.FieldsSet.{nil, field}
 use Rattle.swc_base_fixer_laws.proofs.Up.{kind_of_tree}

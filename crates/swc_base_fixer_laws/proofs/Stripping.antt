@@ -28,9 +28,10 @@ use Rattle.swc_tree_grammar.proofs.Simple.{simple, simple_tree, simple_identifie
 use Rattle.swc_tree_grammar.proofs.Stripped.{stripped_of_tree, stripped_of_list, stripped_other, is_other}
 use Rattle.swc_tree_grammar.proofs.Walks.{bare_of_tree, bare_of_list, target_of_tree}
 use Rattle.swc_tree_grammar.specs.Stripped.{is_pairless}
+use Rattle.swc_tree_grammar.proofs.Asked.{asked, same as whole, sound}
 use Rattle.swc_tree_grammar_laws.proofs.Levelled.{half, also}
 use Rattle.swc_tree_grammar_laws.proofs.Blocked.{no}
-use Rattle.swc_tree_grammar_laws.proofs.Derived.{asked, sound, same as whole, sound_tree}
+use Rattle.swc_tree_grammar_laws.proofs.Derived.{sound_tree}
 use Rattle.swc_base_fixer_laws.specs.Sets.{item}
 use Rattle.swc_base_fixer_laws.proofs.Up.{kind_of_tree}
 use Rattle.swc_base_fixer_laws.proofs.Kept.{not_false}

@@ -18,14 +18,15 @@ use Rattle.swc_tree_grammar.specs.Forms.{holds}
 use Rattle.swc_tree_grammar.specs.Stripped.{is_pairless, pairless_step}
 use Rattle.swc_tree_grammar.specs.Demands.Demand.{AtLeast}
 use Rattle.swc_tree_grammar.proofs.Induction.{by_children}
-use Rattle.swc_tree_grammar_laws.proofs.Levelled.{both, also_both}
+use Rattle.swc_tree_grammar_laws.proofs.Levelled.{both}
 use Rattle.swc_base_fixer_laws.proofs.Up.{kind_of_tree}
+use Rattle.swc_base_fixer_laws.proofs.Quiet.{is_quiet}
 use Rattle.swc_base_fixer_needs.specs.Sites.{Mode, Site, Spot, clue, any, asks, spots, hidden, left_mode, first_unless, declarator, using_spots}
 use Rattle.swc_base_fixer_needs.specs.Sites.Mode.{Plain, Base, BeforeIn, Head, Declarators, OneDeclarator, Name, Nothing}
 use Rattle.swc_base_fixer_needs.specs.Sites.Spot.{Hidden, At}
 use Rattle.swc_base_fixer_needs.specs.Reasons.{takes_tree}
 use Rattle.swc_base_fixer_needs.specs.Keys.{is_computed, is_named_in}
-use Rattle.swc_base_fixer_needs.proofs.Quiet.{is_quiet, quiet_fits}
+use Rattle.swc_base_fixer_needs.proofs.Quiet.{quiet_parts}
 
 abbrev pub is_list : Slot → Bool
 is_list (slot.One c) = false
@@ -41,12 +42,6 @@ all_fair (p ∷ ps) (s ∷ ss) (t ∷ ts) = is_fair p s t && all_fair ps ss ts
 all_fair _ _ _ = true
 
 -- the key of a constructor
-quiet_parts : (ss : List Slot) (ts : List Node) → list_all is_quiet ss ≡ true → FieldsFit ss ts → list_all (λ b. b) (map is_pairless ts) ≡ true
-quiet_parts [] [] h f = refl
-quiet_parts [] (t ∷ ts) h f = absurd f
-quiet_parts (s ∷ ss) [] h f = absurd f
-quiet_parts (s ∷ ss) (t ∷ ts) h f = let w = both (is_quiet s) (list_all is_quiet ss) h in also_both (is_pairless t) (list_all (λ b. b) (map is_pairless ts)) (quiet_fits t s w.0 f.0) (quiet_parts ss ts w.1 f.1)
-
 key_row : (k : Kind) (ts : List Node) → IsTrue (list_any (λ x. kind_number k == kind_number x) (kinds_of class.PropName)) → is_computed k ≡ false → FieldsFit (slots_of k) ts → pairless_step (Node-F.Tree k (map is_pairless ts)) ≡ true
 key_row kind.IdentName ts b n f = quiet_parts (slots_of kind.IdentName) ts refl f
 key_row kind.Str ts b n f = quiet_parts (slots_of kind.Str) ts refl f

@@ -14,8 +14,8 @@ use Rattle.swc_tree_grammar.specs.Starts.{Start, Begun, start, start_in, start_s
 use Rattle.swc_tree_grammar.specs.Starts.Start.{Other}
 use Rattle.swc_tree_grammar.specs.Due.{Places, pair as in_pair, first_in}
 use Rattle.swc_tree_grammar.proofs.Induction.{by_children}
+use Rattle.swc_tree_grammar.proofs.Wholes.{carried}
 use Rattle.swc_tree_grammar_laws.proofs.Levelled.{both}
-use Rattle.swc_tree_grammar_laws.proofs.Wholes.{carried}
 use Rattle.swc_tree_grammar_laws.proofs.Begins.{spined, first_paired, spine_whole, first_of_tree}
 use Rattle.swc_base_fixer_laws.proofs.Up.{kind_of_tree}
 use Rattle.swc_base_fixer_needs.specs.Sites.{Opening, Site, Spot, clue, asks, leads, spots, may_open}

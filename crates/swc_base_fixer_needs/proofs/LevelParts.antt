@@ -15,10 +15,10 @@ use Rattle.swc_tree_grammar.specs.Due.{Places, Callee, callee_step, callee_in, c
 use Rattle.swc_tree_grammar.specs.Readers.{none as unnamed, is_odd_object}
 use Rattle.swc_tree_grammar.specs.Stripped.{is_pairless, pairless_step}
 use Rattle.swc_tree_grammar.proofs.Induction.{Each, by_children}
+use Rattle.swc_tree_grammar.proofs.Wholes.{carried}
 use Rattle.swc_tree_grammar_laws.proofs.Levelled.{both}
 use Rattle.swc_tree_grammar_laws.proofs.Levels.{pairing, pairing_tree, pairing_list}
 use Rattle.swc_tree_grammar_laws.proofs.Callees.{callee, paired_of}
-use Rattle.swc_tree_grammar_laws.proofs.Wholes.{carried}
 use Rattle.swc_base_fixer_laws.proofs.Up.{at_least_of_tree, called_of_tree}
 use Rattle.swc_base_fixer_laws.proofs.SetsLevels.{unmet as unmet_pairs}
 use Rattle.swc_base_fixer_needs.specs.Sites.{Site, clue, any, asks, leads, spots, other_items, is_base, is_spine, asks_callee}

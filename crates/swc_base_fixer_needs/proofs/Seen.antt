@@ -22,6 +22,7 @@ use Rattle.swc_tree_grammar_laws.proofs.Every.{every_tree, every_list}
 use Rattle.swc_base_fixer_laws.specs.Sets.{item}
 use Rattle.swc_base_fixer_laws.proofs.FitsKept.{fits_kept}
 use Rattle.swc_base_fixer_laws.proofs.SetsRows.{levels_set}
+use Rattle.swc_base_fixer_laws.proofs.Quiet.{is_quiet, items_fit}
 use Rattle.swc_base_fixer_needs.specs.Sites.{Mode, Site, Spot, Clue, clue, any, spots, item_mode, other_items}
 use Rattle.swc_base_fixer_needs.specs.Sites.Mode.{Declarators}
 use Rattle.swc_base_fixer_needs.specs.Sites.Spot.{Hidden, At}
@@ -31,7 +32,7 @@ use Rattle.swc_base_fixer_needs.specs.Reasons.Due.{leaf, unseen, pair, many, tre
 use Rattle.swc_base_fixer_needs.specs.Reasons.AllDue.{none, more}
 use Rattle.swc_base_fixer_needs.specs.Keys.{is_named_in, names_constructors}
 use Rattle.swc_base_fixer_needs.proofs.KeysKept.{names_kept}
-use Rattle.swc_base_fixer_needs.proofs.Quiet.{is_quiet, quiet_fits, items_fit}
+use Rattle.swc_base_fixer_needs.proofs.Quiet.{quiet_fits}
 use Rattle.swc_base_fixer_needs.proofs.Fair.{is_list, is_fair, all_fair, fair}
 use Rattle.swc_base_fixer_needs.proofs.Reasoned.{reasons_are_needs}
 use Rattle.swc_base_fixer_needs.proofs.LevelParts.{levels_have_reasons}

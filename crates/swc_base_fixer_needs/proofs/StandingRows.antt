@@ -16,7 +16,7 @@ use Rattle.swc_tree_grammar.specs.Starts.Start.{Other}
 use Rattle.swc_tree_grammar.specs.Forms.{holds, is_strict}
 use Rattle.swc_tree_grammar.specs.Grammar.{derives, fits, left_fits, arrow_body, may_begin_body}
 use Rattle.swc_tree_grammar.proofs.Induction.{by_children}
-use Rattle.swc_tree_grammar_laws.proofs.Wholes.{carried}
+use Rattle.swc_tree_grammar.proofs.Wholes.{carried}
 use Rattle.swc_tree_grammar_laws.proofs.Levelled.{both, half}
 use Rattle.swc_tree_grammar_laws.proofs.Begins.{start_tree, or_right}
 use Rattle.swc_tree_grammar_laws.proofs.Derived.{judged, whole}

@@ -15,7 +15,7 @@ use Rattle.swc_tree_grammar.specs.Grammar.{may_begin_statement, may_begin_export
 use Rattle.swc_tree_grammar.specs.Starts.{start, is_let_bracket}
 use Rattle.swc_tree_grammar.specs.Due.{Places, pair as in_pair, first_in, begun, begin_step, paired_at_starts}
 use Rattle.swc_tree_grammar.proofs.Induction.{Each, by_children}
-use Rattle.swc_tree_grammar_laws.proofs.Wholes.{all_carried}
+use Rattle.swc_tree_grammar.proofs.Wholes.{all_carried}
 use Rattle.swc_tree_grammar_laws.proofs.Begins.{spined, first_paired, first_of_tree, first_empty, first_of_list, starts_of_tree, starts_of_list}
 use Rattle.swc_base_fixer_laws.proofs.Up.{kind_of_tree}
 use Rattle.swc_base_fixer_needs.specs.Sites.{Site, asks, may_open}

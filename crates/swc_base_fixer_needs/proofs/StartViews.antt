@@ -13,7 +13,7 @@ use Rattle.swc_tree_grammar.specs.Starts.{Begun, start, start_in, start_step, is
 use Rattle.swc_tree_grammar.specs.Grammar.{is_async_name, may_begin_statement, may_begin_export, may_begin_body}
 use Rattle.swc_tree_grammar.specs.Due.{Places, begun, begin_step, paired_at_starts}
 use Rattle.swc_tree_grammar.proofs.Induction.{Each, by_children}
-use Rattle.swc_tree_grammar_laws.proofs.Wholes.{carried}
+use Rattle.swc_tree_grammar.proofs.Wholes.{carried}
 use Rattle.swc_tree_grammar_laws.proofs.Begins.{start_tree, start_list, starts_of_tree, starts_of_list}
 use Rattle.swc_base_fixer_needs.specs.Sites.{clue}
 use Rattle.swc_base_fixer_needs.specs.Reasons.{is_bare_in}

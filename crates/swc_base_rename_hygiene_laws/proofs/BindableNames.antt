@@ -17,9 +17,9 @@ use Rattle.swc_tree_scoping.specs.Places.{field_role}
 use Rattle.swc_tree_scoping.specs.BoundNames.{Id, own_id, in_part, in_parts, bound_ids, declared_ids, declared_in, id_of, name_in}
 use Rattle.swc_tree_scoping.proofs.BoundNames.{bound-Absent, bound-Flag, bound-Word, bound-Text, bound-Span, bound-Identifier, bound-List, bound-Tree}
 use Rattle.swc_tree_grammar.specs.Writable.{Round, all_sound, is_bindable, name_is, sound_in}
+use Rattle.swc_tree_grammar.proofs.Asked.{of, sound, sound_list, sound_name, sound_tree}
 use Rattle.swc_tree_grammar.proofs.Induction.{Each, by_children}
 use Rattle.swc_base_rename_laws.proofs.WritableStaysNames.{both_true, unbound}
-use Rattle.swc_base_rename_laws.proofs.WritableStaysSound.{of, sound, sound_list, sound_name, sound_tree}
 
 -- strict code, in which names are bound
 abbrev pub strict : Round

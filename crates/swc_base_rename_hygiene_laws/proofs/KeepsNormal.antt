@@ -23,6 +23,7 @@ use Rattle.swc_tree_grammar.specs.Forms.{is_using}
 use Rattle.swc_tree_grammar.specs.Normal.{made, normal_form, same_id}
 use Rattle.swc_tree_grammar.specs.Same.{declared_names, same_tree}
 use Rattle.swc_tree_grammar.specs.Writable.{Round, all_sound, is_bindable, is_writable}
+use Rattle.swc_tree_grammar.proofs.Asked.{of, sound, sound_list, sound_tree}
 use Rattle.swc_tree_grammar.proofs.Induction.{Each}
 use Rattle.swc_tree_grammar.proofs.Items.{listed}
 use Rattle.swc_tree_grammar.proofs.Places.{stands}
@@ -49,7 +50,6 @@ use Rattle.swc_base_rename_laws.proofs.NormalFormModule.{tree_only}
 use Rattle.swc_base_rename_laws.proofs.NormalFormStays as kept
 use Rattle.swc_base_rename_laws.proofs.NormalFormStays.{before, items_become}
 use Rattle.swc_base_rename_laws.proofs.NormalFormTable.{plain_tree}
-use Rattle.swc_base_rename_laws.proofs.WritableStaysSound.{of, sound, sound_list, sound_tree}
 use Rattle.swc_base_rename_hygiene_laws.specs.Laws.{HygieneKeepsNormalForm}
 use Rattle.swc_base_rename_hygiene_laws.proofs.StaysWritable.{by_test, plain_names}
 use Rattle.swc_base_rename_hygiene_laws.proofs.Apart.{AtTop, top_texts_differ}

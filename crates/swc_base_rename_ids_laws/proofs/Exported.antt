@@ -34,6 +34,7 @@ use Rattle.swc_tree_sites_laws.proofs.LeftStripped.{on_modules}
 use Rattle.swc_tree_grammar.specs.Normal.{made, normal_form, same_id}
 use Rattle.swc_tree_grammar.specs.Writable.{Round as Code, all_sound, is_writable}
 use Rattle.swc_tree_grammar.specs.Shapes.{items_of}
+use Rattle.swc_tree_grammar.proofs.Asked.{of, sound}
 use Rattle.swc_tree_grammar.proofs.Induction.{Each}
 use Rattle.swc_tree_grammar.proofs.Items.{items_of_list, listed}
 use Rattle.swc_tree_grammar.proofs.Places.{stands}
@@ -48,7 +49,6 @@ use Rattle.swc_base_rename_laws.proofs.NormalFormDeclared.{exported_declares}
 use Rattle.swc_base_rename_laws.proofs.NormalFormModule.{tree_only}
 use Rattle.swc_base_rename_laws.proofs.NormalFormStays.{before, items_become}
 use Rattle.swc_base_rename_laws.proofs.Unchanged.{stays}
-use Rattle.swc_base_rename_laws.proofs.WritableStaysSound.{of, sound}
 use Rattle.swc_base_rename_hygiene_laws.proofs.ExportsApart.{ApartIfKept, exports_apart}
 use Rattle.swc_base_rename_hygiene_laws.proofs.Found.{AllOf, Found}
 use Rattle.swc_base_rename_hygiene_laws.proofs.KeepsNormal.{both_true, each_from, fit_at, items_sound, sound_at}

@@ -2,7 +2,6 @@ pub mod NormalFormStays
 pub mod NormalFormNames
 pub mod Outline
 pub mod NormalFormDeclared
-pub mod NormalFormSound
 pub mod NormalFormModule
 pub mod NormalFormFits
 pub mod NormalFormTable
@@ -19,7 +18,6 @@ pub mod OuterTextsForms
 pub mod OuterTextsNames
 pub mod OuterTextsWritten
 pub mod OuterTextsStay
-pub mod WritableStaysSound
 mod WritableStaysShape
 mod WritableStaysForms
 pub mod WritableStaysNames

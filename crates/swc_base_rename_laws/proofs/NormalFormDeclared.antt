@@ -28,6 +28,7 @@ use Rattle.swc_tree_grammar.specs.Targets.{is_target}
 use Rattle.swc_tree_grammar.specs.Stripped.{stripped}
 use Rattle.swc_tree_grammar.specs.Normal.{as_pattern, pattern_in, with_default, written_out, written_step}
 use Rattle.swc_tree_grammar.specs.Writable.{Round, all_sound, binding, default_in, element, elements, is_element, is_plain_pattern_in, pattern, pattern_of, pattern_of_param_in, property_in}
+use Rattle.swc_tree_grammar.proofs.Asked.{of, sound, sound_list, sound_tree}
 use Rattle.swc_tree_grammar.proofs.Induction.{Each, by_children}
 use Rattle.swc_tree_grammar.proofs.Items.{items_of_list, listed}
 use Rattle.swc_tree_grammar.proofs.Places.{stands}
@@ -36,7 +37,6 @@ use Rattle.swc_base_rename_laws.proofs.NormalFormRows.{out-Absent, out-Identifie
 use Rattle.swc_base_rename_laws.proofs.NormalFormWritten.{key_is}
 use Rattle.swc_base_rename_laws.proofs.NormalFormFits.{binding_name, ident_name}
 use Rattle.swc_base_rename_laws.proofs.NormalFormModule.{tree_only}
-use Rattle.swc_base_rename_laws.proofs.NormalFormSound.{of, sound, sound_list, sound_tree}
 use Rattle.swc_base_rename_laws.proofs.Impossible.{impossible}
 
 -- ---- the normal form of a part

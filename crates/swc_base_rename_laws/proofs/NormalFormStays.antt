@@ -13,6 +13,7 @@ use Rattle.swc_tree_scoping.specs.BoundNames.{Id, declared_ids}
 use Rattle.swc_tree_grammar.specs.Normal.{normal_form, written_out}
 use Rattle.swc_tree_grammar.specs.Stripped.{stripped}
 use Rattle.swc_tree_grammar.specs.Writable.{Round, all_sound, is_writable, strictly}
+use Rattle.swc_tree_grammar.proofs.Asked.{of, sound, sound_list, sound_tree}
 use Rattle.swc_tree_grammar.proofs.Induction.{Each}
 use Rattle.swc_tree_grammar.proofs.Items.{listed}
 use Rattle.swc_base_rename_substitution.specs.declared.place.Place.TheVariants as place
@@ -25,7 +26,6 @@ use Rattle.swc_base_rename_laws.proofs.NormalFormSame.{same_like}
 use Rattle.swc_base_rename_laws.proofs.NormalFormStripped.{strip_becomes}
 use Rattle.swc_base_rename_laws.proofs.NormalFormWritten.{written_becomes}
 use Rattle.swc_base_rename_laws.proofs.NormalFormModule.{Exported, all_items, module_becomes, script_becomes, tree_only}
-use Rattle.swc_base_rename_laws.proofs.NormalFormSound.{of, sound, sound_list, sound_tree}
 use Rattle.swc_base_rename_laws.proofs.NormalFormDeclared.{exported_declares}
 use Rattle.swc_base_rename_laws.proofs.Impossible.{impossible}
 

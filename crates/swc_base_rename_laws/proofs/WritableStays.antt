@@ -17,6 +17,7 @@ use Rattle.swc_tree_node.proofs.Fit.{all_open, fields_open, fits-Absent, fits-Fl
 use Rattle.swc_tree_scoping.specs.Shorthands.{computed_key, key_of, shorthand_key}
 use Rattle.swc_tree_grammar.specs.Kinds.{has_kind_in, is_private_name}
 use Rattle.swc_tree_grammar.specs.Writable.{Round, default_in as has_default, element, in_head_in, name_is, pattern, all_sound, binding, is_bindable, is_identifier_text, is_plain_pattern_in, is_writable, sound_in}
+use Rattle.swc_tree_grammar.proofs.Asked.{head_tree, in_head, of, sound, sound_list, sound_name, sound_tree}
 use Rattle.swc_tree_grammar.proofs.Induction.{Each, by_children}
 use Rattle.swc_base_rename_substitution.specs.declared.place.Place.{Place}
 use Rattle.swc_base_rename_substitution.specs.declared.place.Place.TheVariants as place
@@ -27,7 +28,6 @@ use Rattle.swc_base_rename_substitution.specs.Walk.{items_substituted}
 use Rattle.swc_base_rename_substitution.proofs.Equations.{substituted-Absent, substituted-Flag, substituted-Word, substituted-Text, substituted-Span, substituted_identifier, substituted_list}
 use Rattle.swc_base_rename_substitution.proofs.Room.{identifier_open, left, right, tree_open}
 use Rattle.swc_base_rename_laws.specs.Laws.{GivesNames, WritableStays}
-use Rattle.swc_base_rename_laws.proofs.WritableStaysSound.{head_tree, in_head, of, sound, sound_list, sound_name, sound_tree}
 use Rattle.swc_base_rename_laws.proofs.WritableStaysShape.{IsNew, changed_new, fields, old_name, plain_tree, tree_is, within_long}
 use Rattle.swc_base_rename_laws.proofs.WritableStaysForms.{plain_same}
 use Rattle.swc_base_rename_laws.proofs.WritableStaysNames.{bindable_text, both_true, by_round}

@@ -15,13 +15,13 @@ use Rattle.swc_tree_scoping.specs.BoundNames.{id_of as ids_of}
 use Rattle.swc_tree_grammar.specs.Shapes.{items_in}
 use Rattle.swc_tree_grammar.specs.Kinds.{has_kind, has_kind_in, is_private_name}
 use Rattle.swc_tree_grammar.specs.Writable.{Round, all_sound, is_identifier_text, local_specifier_in, is_name_kind_in, name_is, sound_in}
+use Rattle.swc_tree_grammar.proofs.Asked.{of, sound, sound_list, sound_name, sound_tree}
 use Rattle.swc_tree_grammar.proofs.Induction.{by_children}
 use Rattle.swc_base_rename_substitution.specs.Names.{same_id}
 use Rattle.swc_base_rename_substitution.specs.Identifiers.{Changes}
 use Rattle.swc_base_rename_substitution.specs.Exports.{distinct, export_list, exported_ids, exported_in, made, nowhere, specifier, specifier_to, without}
 use Rattle.swc_base_rename_substitution.proofs.Room.{left, right}
 use Rattle.swc_base_rename_laws.specs.Laws.{GivesNames}
-use Rattle.swc_base_rename_laws.proofs.WritableStaysSound.{of, sound, sound_list, sound_name, sound_tree}
 use Rattle.swc_base_rename_laws.proofs.WritableStaysNames.{all_texts, bindable_text, both_true, bound_named, by_round, unbound}
 use Rattle.swc_base_rename_laws.proofs.Impossible.{impossible}
 

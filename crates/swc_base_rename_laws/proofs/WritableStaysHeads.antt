@@ -18,6 +18,7 @@ use Rattle.swc_tree_scoping.specs.Places.{literal_in, text_in}
 use Rattle.swc_tree_grammar.specs.Kinds.{has_kind_in, is_chain, is_opt_chain}
 use Rattle.swc_tree_grammar.specs.Stripped.{settled, stripped}
 use Rattle.swc_tree_grammar.specs.Writable.{Round, binding, is_string, sound_in}
+use Rattle.swc_tree_grammar.proofs.Asked.{of, sound, sound_tree}
 use Rattle.swc_tree_grammar.proofs.Induction.{Each, by_children}
 use Rattle.swc_tree_grammar.proofs.Stripped.{stripped_of_tree}
 use Rattle.swc_base_rename_substitution.specs.declared.place.Place.{Place}
@@ -28,7 +29,6 @@ use Rattle.swc_base_rename_substitution.proofs.Equations.{substituted-Absent, su
 use Rattle.swc_base_rename_substitution.proofs.KeptFits.{keeps_fit}
 use Rattle.swc_base_rename_substitution.proofs.Room.{is_short, left, right}
 use Rattle.swc_base_rename_laws.specs.Laws.{GivesNames}
-use Rattle.swc_base_rename_laws.proofs.WritableStaysSound.{of, sound, sound_tree}
 use Rattle.swc_base_rename_laws.proofs.WritableStaysShape.{fields, plain_tree, renamed}
 use Rattle.swc_base_rename_laws.proofs.WritableStaysForms.{text_same}
 use Rattle.swc_base_rename_laws.proofs.WritableStaysStripped.{first_sound, is_full, items, rest_sound, sequence_strips}

@@ -12,6 +12,7 @@ use Rattle.swc_tree_grammar.specs.Shapes.{items_in, items_of}
 use Rattle.swc_tree_grammar.specs.Forms.{form_in, is_using, is_using_form}
 use Rattle.swc_tree_grammar.specs.Kinds.{has_kind_in, is_private_name}
 use Rattle.swc_tree_grammar.specs.Writable.{Round, all_sound}
+use Rattle.swc_tree_grammar.proofs.Asked.{of, sound, sound_tree}
 use Rattle.swc_tree_grammar.proofs.Induction.{Each, by_children}
 use Rattle.swc_base_rename_substitution.specs.declared.place.Place.{Place}
 use Rattle.swc_base_rename_substitution.specs.declared.place.Place.TheVariants as place
@@ -25,7 +26,6 @@ use Rattle.swc_base_rename_substitution.proofs.Equations.{substituted_list}
 use Rattle.swc_base_rename_substitution.proofs.Lists.{no_exports}
 use Rattle.swc_base_rename_substitution.proofs.Room.{is_short, left, right}
 use Rattle.swc_base_rename_laws.specs.Laws.{GivesNames}
-use Rattle.swc_base_rename_laws.proofs.WritableStaysSound.{of, sound, sound_tree}
 use Rattle.swc_base_rename_laws.proofs.WritableStaysShape.{long, plain_tree}
 use Rattle.swc_base_rename_laws.proofs.WritableStaysForms.{form_same, is_list_in, list_same, private_same, statement_same}
 use Rattle.swc_base_rename_laws.proofs.WritableStaysNames.{all_texts, both_true}

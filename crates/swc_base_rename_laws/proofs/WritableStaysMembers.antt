@@ -12,6 +12,7 @@ use Rattle.swc_tree_node.specs.Table.{slots_of}
 use Rattle.swc_tree_node.specs.Fits.{FieldsFit, Fits, belongs}
 use Rattle.swc_tree_node.proofs.Fit.{tree_opens}
 use Rattle.swc_tree_grammar.specs.Writable.{Round, accessor, base_goes_on_in, binding, is_getter, is_setter, one_without_rest, parameters_in, sound_in}
+use Rattle.swc_tree_grammar.proofs.Asked.{of, sound, sound_tree}
 use Rattle.swc_tree_grammar.proofs.Induction.{by_children}
 use Rattle.swc_base_rename_substitution.specs.declared.place.Place.{Place}
 use Rattle.swc_base_rename_substitution.specs.declared.place.Place.TheVariants as place
@@ -21,7 +22,6 @@ use Rattle.swc_base_rename_substitution.specs.Walk.{each_substituted}
 use Rattle.swc_base_rename_substitution.proofs.Lists.{each_length}
 use Rattle.swc_base_rename_substitution.proofs.Room.{is_short, left, right}
 use Rattle.swc_base_rename_laws.specs.Laws.{GivesNames}
-use Rattle.swc_base_rename_laws.proofs.WritableStaysSound.{of, sound, sound_tree}
 use Rattle.swc_base_rename_laws.proofs.WritableStaysShape.{Even, even_at, fields, plain_tree}
 use Rattle.swc_base_rename_laws.proofs.WritableStaysForms.{word_same}
 use Rattle.swc_base_rename_laws.proofs.WritableStaysLists.{Le, items_each}

@@ -15,9 +15,9 @@ use Rattle.swc_tree_scoping.specs.Places.{field_role}
 use Rattle.swc_tree_scoping.specs.BoundNames.{Id, own_id, in_part, in_parts, bound_ids}
 use Rattle.swc_tree_scoping.proofs.BoundNames.{bound-Absent, bound-Flag, bound-Word, bound-Text, bound-Span, bound-Identifier, bound-List, bound-Tree}
 use Rattle.swc_tree_grammar.specs.Writable.{Round, all_sound, binding, is_bindable, is_identifier_text, sound_in}
+use Rattle.swc_tree_grammar.proofs.Asked.{of, sound, sound_list, sound_name, sound_tree}
 use Rattle.swc_tree_grammar.proofs.Induction.{Each, by_children}
 use Rattle.swc_base_rename_substitution.proofs.Room.{left, right}
-use Rattle.swc_base_rename_laws.proofs.WritableStaysSound.{of, sound, sound_list, sound_name, sound_tree}
 
 -- ---- the parts of a node that bind
 

@@ -18,6 +18,7 @@ use Rattle.swc_tree_scoping.specs.Places.{block_in, has_use_strict}
 use Rattle.swc_tree_grammar.specs.Shapes.{items_in, items_of}
 use Rattle.swc_tree_grammar.specs.Forms.{is_body, is_branch, is_strict, is_using}
 use Rattle.swc_tree_grammar.specs.Writable.{Round, assigning, branch, elements, head, is_bindable, loop_body, name_is, no_using, one_bare, strictly}
+use Rattle.swc_tree_grammar.proofs.Asked.{of, in_head, sound, sound_list}
 use Rattle.swc_tree_grammar.proofs.Induction.{by_children}
 use Rattle.swc_base_rename_substitution.specs.declared.place.Place.{Place}
 use Rattle.swc_base_rename_substitution.specs.declared.place.Place.TheVariants as place
@@ -28,7 +29,6 @@ use Rattle.swc_base_rename_substitution.proofs.Equations.{substituted-Absent, su
 use Rattle.swc_base_rename_substitution.proofs.Lists.{each_length}
 use Rattle.swc_base_rename_substitution.proofs.Room.{is_short, left, tree_open}
 use Rattle.swc_base_rename_laws.specs.Laws.{GivesNames}
-use Rattle.swc_base_rename_laws.proofs.WritableStaysSound.{of, in_head, sound, sound_list}
 use Rattle.swc_base_rename_laws.proofs.WritableStaysShape.{Even, IsNew, even_at, fields, renamed}
 use Rattle.swc_base_rename_laws.proofs.WritableStaysForms.{declares_same, form_same, is_list_in, list_same}
 use Rattle.swc_base_rename_laws.proofs.WritableStaysNames.{bindable_text, both_true}

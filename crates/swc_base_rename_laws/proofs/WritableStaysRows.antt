@@ -10,6 +10,7 @@ use Rattle.swc_tree_node.specs.Fits.{FieldsFit}
 use Rattle.swc_tree_grammar.specs.Levels.{is_in, word_of}
 use Rattle.swc_tree_grammar.specs.Kinds.{is_paren}
 use Rattle.swc_tree_grammar.specs.Writable.{Round, all_sound, assigning, binding, is_pattern_target, is_plain_assignment, left_side, sound_in, strictly}
+use Rattle.swc_tree_grammar.proofs.Asked.{in_head, of, sound}
 use Rattle.swc_tree_grammar.proofs.Induction.{Each}
 use Rattle.swc_base_rename_substitution.specs.declared.place.Place.{Place}
 use Rattle.swc_base_rename_substitution.specs.declared.place.Place.TheVariants as place
@@ -19,7 +20,6 @@ use Rattle.swc_base_rename_substitution.specs.Substituted.{substituted}
 use Rattle.swc_base_rename_substitution.specs.Walk.{each_substituted}
 use Rattle.swc_base_rename_substitution.proofs.Room.{left, right}
 use Rattle.swc_base_rename_laws.specs.Laws.{GivesNames}
-use Rattle.swc_base_rename_laws.proofs.WritableStaysSound.{in_head, of, sound}
 use Rattle.swc_base_rename_laws.proofs.WritableStaysShape.{fields, within_long}
 use Rattle.swc_base_rename_laws.proofs.WritableStaysForms.{flag_same, key_same, kind_same, private_same, word_same}
 use Rattle.swc_base_rename_laws.proofs.WritableStaysNames.{both_true}

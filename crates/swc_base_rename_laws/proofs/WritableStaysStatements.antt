@@ -13,6 +13,7 @@ use Rattle.swc_tree_grammar.specs.Shapes.{items_of}
 use Rattle.swc_tree_grammar.specs.Levels.{word_of}
 use Rattle.swc_tree_grammar.specs.Forms.{are_named, is_named_in, is_using_form}
 use Rattle.swc_tree_grammar.specs.Writable.{Round, binding, head, in_head_in, initialised_in, is_const, local_specifier_in, strictly}
+use Rattle.swc_tree_grammar.proofs.Asked.{of, sound}
 use Rattle.swc_tree_grammar.proofs.Induction.{Each}
 use Rattle.swc_base_rename_substitution.specs.declared.place.Place.{Place}
 use Rattle.swc_base_rename_substitution.specs.declared.place.Place.TheVariants as place
@@ -21,7 +22,6 @@ use Rattle.swc_base_rename_substitution.specs.Places.{places, within}
 use Rattle.swc_base_rename_substitution.specs.Substituted.{substituted}
 use Rattle.swc_base_rename_substitution.proofs.Room.{left, right}
 use Rattle.swc_base_rename_laws.specs.Laws.{GivesNames}
-use Rattle.swc_base_rename_laws.proofs.WritableStaysSound.{of, sound}
 use Rattle.swc_base_rename_laws.proofs.WritableStaysShape.{fields, long, within_long}
 use Rattle.swc_base_rename_laws.proofs.WritableStaysForms.{absent_same, form_same, initialised_same, is_named_same, literal_same, private_same, specifier_same, word_same}
 use Rattle.swc_base_rename_laws.proofs.WritableStaysNames.{both_true}

@@ -17,10 +17,10 @@ use Rattle.swc_tree_node.proofs.Fit.{fits-List, list_opens, tree_opens}
 use Rattle.swc_tree_grammar.specs.Shapes.{items_in, items_of}
 use Rattle.swc_tree_grammar.specs.Stripped.{busy, effects, end, front, is_idle, is_void, parts, parts_in, sequence, settled, stripped, target}
 use Rattle.swc_tree_grammar.specs.Writable.{Asked, Round, all_sound, binding, sound_in}
+use Rattle.swc_tree_grammar.proofs.Asked.{of, sound, sound_list, sound_tree}
 use Rattle.swc_tree_grammar.proofs.Induction.{Each, by_children}
 use Rattle.swc_tree_grammar.proofs.Stripped.{effects_of_list, effects_of_tree, effects_of_sequence, effects_of_void, effects_of_other, stripped_of_list, stripped_of_tree}
 use Rattle.swc_base_rename_substitution.proofs.Room.{left, right}
-use Rattle.swc_base_rename_laws.proofs.WritableStaysSound.{of, sound, sound_list, sound_tree}
 use Rattle.swc_base_rename_laws.proofs.WritableStaysNames.{both_true}
 
 abbrev nonempty : List Node → Bool

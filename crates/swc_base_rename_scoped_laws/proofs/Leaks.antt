@@ -27,6 +27,7 @@ use Rattle.swc_tree_scoping.proofs.Under.{by_children}
 use Rattle.swc_tree_grammar.specs.Levels.{is_absent, is_absent_in, word_in, word_of}
 use Rattle.swc_tree_grammar.specs.Forms.{Form, Ordinary, form, form_in, form_of_word, is_body, is_branch}
 use Rattle.swc_tree_grammar.specs.Writable.{Round, all_sound, binding, sound_in}
+use Rattle.swc_tree_grammar.proofs.Asked.{of, sound, sound_tree}
 use Rattle.swc_tree_sites.specs.Sites.{Binding}
 use Rattle.swc_tree_sites.proofs.Loose.{Below, FromChild, is_no_identifier, own, pends, to_child}
 use Rattle.swc_tree_sites.proofs.Leaves.{Field, leaves_slot, may, same}
@@ -34,7 +35,6 @@ use Rattle.swc_tree_sites.proofs.Pending.{left_fits}
 use Rattle.swc_base_rename_scoped_laws.proofs.Fields.{field_at, fields_at, layer}
 use Rattle.swc_base_rename_scoped_laws.proofs.Openings.{field_stands}
 use Rattle.swc_base_rename_scoped_laws.proofs.Rows.{exact3, exact4, half}
-use Rattle.swc_base_rename_scoped_laws.proofs.Sound.{of, sound, sound_tree}
 use Rattle.swc_base_rename_scoped_laws.proofs.Written.{is_tree}
 
 -- whether what stands as a field does may be lexical

@@ -9,7 +9,6 @@ pub mod Exports
 pub mod Homes
 pub mod Bodies
 pub mod Chained
-pub mod Sound
 pub mod Rows
 pub mod Written
 pub mod Leaks

@@ -17,8 +17,8 @@ use Rattle.swc_tree_grammar.specs.Shapes.{items_of}
 use Rattle.swc_tree_grammar.specs.Levels.{is_absent, is_absent_in}
 use Rattle.swc_tree_grammar.specs.Forms.{form, is_branch, is_strict}
 use Rattle.swc_tree_grammar.specs.Writable.{Asked, Round, all_sound, assigning, binding, constructor_key_in, declares_in, no_private, pattern, sound_in, strictly}
+use Rattle.swc_tree_grammar.proofs.Asked.{in_head, of, sound}
 use Rattle.swc_tree_sites.proofs.Leaves.{Field}
-use Rattle.swc_base_rename_scoped_laws.proofs.Sound.{in_head, of, sound}
 
 -- what holds no statement
 abbrev pub is_quiet_class : Class → Bool

@@ -19,11 +19,11 @@ use Rattle.swc_tree_scoping.specs.Places.{Path, child, children_in, is_at, place
 use Rattle.swc_tree_scoping.proofs.Under.{no_place_under, place_under}
 use Rattle.swc_tree_grammar.specs.Forms.{form, is_body, is_using}
 use Rattle.swc_tree_grammar.specs.Writable.{Asked, Round, all_sound, binding, head, in_head_in, sound_in}
+use Rattle.swc_tree_grammar.proofs.Asked.{asked_list, head_tree, in_head, of, sound, sound_list, sound_tree}
 use Rattle.swc_tree_sites.proofs.Leaves.{Field}
 use Rattle.swc_base_rename_analysis.specs.Analysis.{body_field}
 use Rattle.swc_base_rename_scoped_laws.proofs.Fields.{field_at, fields_at, item_at, item_of, layer}
 use Rattle.swc_base_rename_scoped_laws.proofs.Rows.{EachStatus, Heads, Sounds, Status, exact3, exact4, exact5, first_sound, half, heard, is_quiet, is_quiet_class, is_quiet_in, is_quiet_kind, rest_sound, row, still}
-use Rattle.swc_base_rename_scoped_laws.proofs.Sound.{head_tree, in_head, list_step, of, sound, sound_list, sound_tree}
 
 pub is_tree : (t : Node) (k : Kind) (ts : List Node) → out-Node t ≡ Node-F.Tree k ts → t ≡ Tree k ts
 is_tree t k ts o = sym (roll-out-Node t) ∙ ap roll-Node (o ∙ sym (outs-Tree k ts)) ∙ roll-out-Node (Tree k ts)
@@ -173,7 +173,7 @@ item_status t c ts s u i o status e one = ⊎_elim sounds (λ g. ⊎_elim heads 
     sounds (r, h) = heard r (item_sound ts i c r (sym (sound_list ts r) ∙ ap (λ t. sound t r) (sym (is_list t ts o)) ∙ h) e)
 
     heads : Heads t → Status c u
-    heads (r, h) = no_list (sym (ap (λ (e : Asked). e.in_head r) (list_step ts)) ∙ ap (λ t. in_head t r) (sym (is_list t ts o)) ∙ h)
+    heads (r, h) = no_list (sym (ap (λ (e : Asked). e.in_head r) (asked_list ts)) ∙ ap (λ t. in_head t r) (sym (is_list t ts o)) ∙ h)
 
     by_slot : is_quiet s ≡ true → Status c u
     by_slot q = still (item_quiet s u one q)

@@ -21,6 +21,7 @@ use Rattle.swc_tree_scoping.specs.Readings.{by_texts}
 use Rattle.swc_tree_scoping.specs.Scopes.{is_name}
 use Rattle.swc_tree_grammar.specs.Normal.{normal_form}
 use Rattle.swc_tree_grammar.specs.Writable.{all_sound, is_writable}
+use Rattle.swc_tree_grammar.proofs.Asked.{of, sound, sound_list, sound_tree}
 use Rattle.swc_tree_grammar.proofs.Items.{listed}
 use Rattle.swc_tree_grammar_texts.proofs.Cleared.{bare}
 use Rattle.swc_base_rename_substitution.specs.declared.place.Place.TheVariants as place
@@ -36,7 +37,6 @@ use Rattle.swc_base_rename_laws.proofs.Impossible.{impossible}
 use Rattle.swc_base_rename_laws.proofs.NormalFormModule.{tree_only}
 use Rattle.swc_base_rename_laws.proofs.NormalFormNames.{normal_form_has_new_names}
 use Rattle.swc_base_rename_laws.proofs.Unchanged.{stays}
-use Rattle.swc_base_rename_laws.proofs.WritableStaysSound.{of, sound, sound_list, sound_tree}
 use Rattle.swc_base_rename_hygiene_laws.proofs.KeepsNormal.{normal_given}
 use Rattle.swc_base_rename_hygiene_laws.proofs.StaysWritable.{Given, plain_names}
 use Rattle.swc_base_rename_texts_laws.specs.Laws.{HasNewTexts, HygieneGivesNormalFormNewTexts}

@@ -6,6 +6,8 @@ pub mod Items
 pub mod Places
 pub mod Spans
 pub mod Walks
+pub mod Wholes
+pub mod Asked
 pub mod Induction
 pub mod Stripped
 pub mod Fields

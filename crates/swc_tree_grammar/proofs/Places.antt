@@ -25,7 +25,8 @@ among_first : (p : ℕ → Bool) (n : ℕ) (k : Kind) (ks : List Kind) (b : Bool
 among_first p n k ks true e h g rest = let same : n ≡ kind_number k = eqb-true n (kind_number k) e in rw same ((both (p (kind_number k)) (list_all (λ k. p (kind_number k)) ks) g).0)
 among_first p n k ks false e h g rest = rest h ((both (p (kind_number k)) (list_all (λ k. p (kind_number k)) ks) g).1)
 
-among : (p : ℕ → Bool) (n : ℕ) (ks : List Kind) → IsTrue (list_any (λ x. n == kind_number x) ks) → IsTrue (list_all (λ k. p (kind_number k)) ks) → IsTrue (p n)
+-- what holds of each of some kinds, by their numbers, holds of the one that is among them
+pub among : (p : ℕ → Bool) (n : ℕ) (ks : List Kind) → IsTrue (list_any (λ x. n == kind_number x) ks) → IsTrue (list_all (λ k. p (kind_number k)) ks) → IsTrue (p n)
 among p n [] h g = absurd (grind arith)
 among p n (k ∷ ks) h g = among_first p n k ks (n == kind_number k) refl h g (among p n ks)
 

@@ -17,6 +17,7 @@ use Rattle.swc_tree_grammar.specs.Starts.{start}
 use Rattle.swc_tree_grammar.specs.Forms.{form, is_body, is_branch, is_using, are_named, holds}
 use Rattle.swc_tree_grammar.specs.Grammar.{Context, derives, derives_in, FitsGrammar, inside, outside, strictly, fits as fits_in, may_begin_statement, may_begin_export, loop_body, branch, no_using, head, using_head_in, is_async_name}
 use Rattle.swc_tree_grammar.specs.Writable.{Round, Writable, all_sound, in_head_in, binding, assigning, strictly as strictly_sound, pattern, declares_in, head as sound_head, loop_body as sound_body, branch as sound_branch, no_using as sound_no_using}
+use Rattle.swc_tree_grammar.proofs.Asked.{asked, head_list, same, sound}
 use Rattle.swc_tree_grammar.proofs.Induction.{Each, by_children}
 use Rattle.swc_tree_grammar_laws.specs.Levelled.{levelled, each_meets}
 use Rattle.swc_tree_grammar_laws.specs.Headed.{headed, heads_in}
@@ -26,7 +27,7 @@ use Rattle.swc_tree_grammar_laws.proofs.Levelled.{levelled_tree, levelled_list, 
 use Rattle.swc_tree_grammar_laws.proofs.Heads.{headed_tree, headed_list, judged as headed_judged, whole as headed_whole}
 use Rattle.swc_tree_grammar_laws.proofs.Begins.{started_tree, started_list, or_right}
 use Rattle.swc_tree_grammar_laws.proofs.Every.{every_tree, every_list}
-use Rattle.swc_tree_grammar_laws.proofs.Derived.{judged, asked, sound, whole, same, heard, Free, free, Derived, Good, good, Row, row, link_row, free_row, plain_row, spot, bare, fields, fields_of, no_link, derives_tree, derives_list, sound_tree, sound_list, in_head_tree, in_head_list}
+use Rattle.swc_tree_grammar_laws.proofs.Derived.{judged, whole, heard, Free, free, Derived, Good, good, Row, row, link_row, free_row, plain_row, spot, bare, fields, fields_of, no_link, derives_tree, derives_list, sound_tree, sound_list, in_head_tree}
 use Rattle.swc_tree_grammar_laws.proofs.DerivedRows.{await, unary, yield, cond, assign, tagged, call, new, opt_call, chain_call, member, chain_member, update, bin, seq, tpl, private_prop, getter, setter, function, arrow, class, declarator, assign_pat, assign_pat_prop, array_pat, object_pat, rest_pat, key_value_pat, constructor, class_method, private_method, fn_decl, fn_expr, class_decl, class_expr}
 
 -- statements
@@ -321,7 +322,7 @@ list ts l = (
         e (sym (sound_list ts r) ∙ m) (sym (headed_list ts c.with_in) ∙ i),
     λ v h. (let x : is_link (Many ts) ≡ false = search (rules, the_lemmas) in absurd (cc)),
   ),
-  λ y p w c r e h i u. (let z = in_head_list ts r in absurd (cc)),
+  λ y p w c r e h i u. (let z = head_list ts r in absurd (cc)),
 )
 
 both_fit : (t : Node) → Both t

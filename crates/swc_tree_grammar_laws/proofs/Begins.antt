@@ -15,8 +15,8 @@ use Rattle.swc_tree_grammar.specs.Due.{Places, Leading, pair, first_step, first_
 use Rattle.swc_tree_grammar.specs.Forms.{holds}
 use Rattle.swc_tree_grammar.specs.Blocks.{span_of}
 use Rattle.swc_tree_grammar.proofs.Induction.{Each, by_children}
+use Rattle.swc_tree_grammar.proofs.Wholes.{carried, all_carried}
 use Rattle.swc_tree_grammar_laws.specs.Started.{Started, started, started_step, starts_in}
-use Rattle.swc_tree_grammar_laws.proofs.Wholes.{carried, all_carried}
 
 pub both : (a b : Bool) → (a && b) ≡ true → (a ≡ true) × (b ≡ true)
 both true b h = (refl, h)

@@ -11,7 +11,7 @@ use Rattle.swc_tree_grammar.specs.Demands.{meets, is_bare_new}
 use Rattle.swc_tree_grammar.specs.Demands.Demand.{Operand}
 use Rattle.swc_tree_grammar.specs.Due.{Places, Callee, callee_step, callee_in, call_paired, pair}
 use Rattle.swc_tree_grammar.proofs.Induction.{Each, by_children}
-use Rattle.swc_tree_grammar_laws.proofs.Wholes.{carried, all_carried}
+use Rattle.swc_tree_grammar.proofs.Wholes.{carried, all_carried}
 use Rattle.swc_tree_grammar_laws.proofs.Levelled.{levelled_tree, Fine, fine_pair, half}
 
 abbrev pub callee : Places → Node → Callee

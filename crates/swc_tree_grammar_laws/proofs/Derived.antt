@@ -9,13 +9,14 @@ use Rattle.swc_tree_grammar.specs.Kinds.{has_kind, is_private_name, is_opt_chain
 use Rattle.swc_tree_grammar.specs.Demands.{Demand, demands, meets}
 use Rattle.swc_tree_grammar.specs.Demands.Demand.{Any}
 use Rattle.swc_tree_grammar.specs.Grammar.{Context, Judged, judged_step, derives, derives_in, in_chain_in, each_asked, fits, each_fits, part, inside}
-use Rattle.swc_tree_grammar.specs.Writable.{Round, Asked, asked_step, all_sound, sound_in, in_head_in, binding}
+use Rattle.swc_tree_grammar.specs.Writable.{Round, all_sound, sound_in, in_head_in, binding}
+use Rattle.swc_tree_grammar.proofs.Asked.{asked, asked_list, asked_tree, same, sound}
 use Rattle.swc_tree_grammar.proofs.Induction.{Each, by_children}
+use Rattle.swc_tree_grammar.proofs.Wholes.{carried, all_carried}
 use Rattle.swc_tree_grammar_laws.specs.Levelled.{levelled, each_meets}
 use Rattle.swc_tree_grammar_laws.specs.Headed.{headed, heads_in}
 use Rattle.swc_tree_grammar_laws.specs.Started.{started, starts_in}
 use Rattle.swc_tree_grammar_laws.specs.Plain.{is_link, is_link_in, plain, plain_in}
-use Rattle.swc_tree_grammar_laws.proofs.Wholes.{carried, all_carried}
 use Rattle.swc_tree_grammar_laws.proofs.Levelled.{levelled_tree, fine, both, also_both}
 use Rattle.swc_tree_grammar_laws.proofs.Heads.{headed_tree, judged as headed_judged}
 use Rattle.swc_tree_grammar_laws.proofs.Begins.{started_tree}
@@ -24,20 +25,11 @@ use Rattle.swc_tree_grammar_laws.proofs.Every.{every_tree}
 abbrev pub judged : Node → Judged
 judged = fold-Node Judged judged_step
 
-abbrev pub asked : Node → Asked
-asked = fold-Node Asked asked_step
-
 abbrev pub chained : Node → Context → Bool
 chained t = (judged t).in_chain
 
-abbrev pub sound : Node → Round → Bool
-sound t = (asked t).sound
-
 pub whole : (t : Node) → (judged t).whole ≡ t
 whole t = carried Judged judged_step (λ e. e.whole) (λ x. refl) t
-
-pub same : (t : Node) → (asked t).whole ≡ t
-same t = carried Asked asked_step (λ e. e.whole) (λ x. refl) t
 
 all_whole : (ts : List Node) → map (λ e. e.whole) (map judged ts) ≡ ts
 all_whole ts = all_carried Judged judged_step (λ e. e.whole) (λ x. refl) ts
@@ -73,12 +65,6 @@ chained_tree k ts c = chained_of k ts c ∙ ap (λ us. in_chain_in (Node-F.Tree 
 pub derives_list : (ts : List Node) (c : Context) → derives (Many ts) c ≡ list_all (λ e. e.derives c) (map judged ts)
 derives_list ts c = ap (λ e. e.derives c) (judged_list ts)
 
-asked_tree : (k : Kind) (ts : List Node) → asked (Tree k ts) ≡ asked_step (Node-F.Tree k (map asked ts))
-asked_tree k ts = search (rules, the_lemmas)
-
-asked_list : (ts : List Node) → asked (Many ts) ≡ asked_step (Node-F.List (map asked ts))
-asked_list ts = search (rules, the_lemmas)
-
 pub sound_tree : (k : Kind) (ts : List Node) (r : Round) → sound (Tree k ts) r ≡ sound_in (Node-F.Tree k (map asked ts)) r
 sound_tree k ts r = ap (λ e. e.sound r) (asked_tree k ts)
 
@@ -87,9 +73,6 @@ sound_list ts r = ap (λ e. e.sound r) (asked_list ts)
 
 pub in_head_tree : (k : Kind) (ts : List Node) (r : Round) → (asked (Tree k ts)).in_head r ≡ in_head_in (Node-F.Tree k (map asked ts)) r
 in_head_tree k ts r = ap (λ e. e.in_head r) (asked_tree k ts)
-
-pub in_head_list : (ts : List Node) (r : Round) → (asked (Many ts)).in_head r ≡ false
-in_head_list ts r = ap (λ e. e.in_head r) (asked_list ts)
 
 -- tests of many nodes, as facts of each
 abbrev pub named : Node → Bool

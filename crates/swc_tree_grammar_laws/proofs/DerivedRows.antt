@@ -18,12 +18,13 @@ use Rattle.swc_tree_grammar.specs.Forms.{is_strict}
 use Rattle.swc_tree_grammar.specs.Grammar.{Context, derives, inside, strictly, fits, part, left_fits, may_stand, arrow_body, may_begin_body}
 use Rattle.swc_tree_grammar.specs.Writable.{Round, all_sound, binding, assigning, strictly as strictly_sound, bound, name_is}
 use Rattle.swc_tree_grammar.specs.Targets.{is_target, seen, target_in}
+use Rattle.swc_tree_grammar.proofs.Asked.{asked, same, sound}
 use Rattle.swc_tree_grammar.proofs.Induction.{Each, by_children}
 use Rattle.swc_tree_grammar_laws.specs.Headed.{headed, heads_in}
 use Rattle.swc_tree_grammar_laws.proofs.Levelled.{both, half, also}
 use Rattle.swc_tree_grammar_laws.proofs.Heads.{headed_tree, headed_list, judged as headed_judged, whole as headed_whole}
 use Rattle.swc_tree_grammar_laws.proofs.Begins.{or_right}
-use Rattle.swc_tree_grammar_laws.proofs.Derived.{judged, asked, sound, whole, same, named, Heard, heard, Free, free, Good, Row, ChainRow, spot, part_is, bare_part, each_is, each_bare, sound_list}
+use Rattle.swc_tree_grammar_laws.proofs.Derived.{judged, whole, named, Heard, heard, Free, free, Good, Row, ChainRow, spot, part_is, bare_part, each_is, each_bare, sound_list}
 
 -- operands at which `in` may stand bare where the whole may
 pub await : (s a : Node) → Row kind.AwaitExpr (s ∷ a ∷ [])

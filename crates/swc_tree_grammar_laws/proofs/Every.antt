@@ -4,8 +4,8 @@ use Rattle.std.specs.List.{list_all}
 use Rattle.swc_tree_node.specs.declared.kind.Kind.{Kind}
 use Rattle.swc_tree_node.specs.declared.node.Node.{Node, List as Many, Tree, fold-Node, the_lemmas}
 use Rattle.swc_tree_node.specs.declared.node.Node.TheOpen.{Node-F}
+use Rattle.swc_tree_grammar.proofs.Wholes.{all_carried}
 use Rattle.swc_tree_grammar_laws.specs.Every.{Tested, tested_step, every}
-use Rattle.swc_tree_grammar_laws.proofs.Wholes.{all_carried}
 
 abbrev tested : (Node-F Node → Bool) → Node → Tested
 tested p = fold-Node Tested (tested_step p)

@@ -13,8 +13,8 @@ use Rattle.swc_tree_grammar.specs.Forms.{holds as is_held}
 use Rattle.swc_tree_grammar.specs.Grammar.{is_async_name}
 use Rattle.swc_tree_grammar.specs.Due.{Places, Pairing, pair, in_step, free, of_head, async_in, paired_in_heads}
 use Rattle.swc_tree_grammar.proofs.Induction.{Each, by_children}
+use Rattle.swc_tree_grammar.proofs.Wholes.{carried}
 use Rattle.swc_tree_grammar_laws.specs.Headed.{Headed, headed, headed_step, heads_in}
-use Rattle.swc_tree_grammar_laws.proofs.Wholes.{carried}
 
 abbrev pub judged : Node → Headed
 judged = fold-Node Headed headed_step

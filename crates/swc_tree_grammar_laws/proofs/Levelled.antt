@@ -12,8 +12,8 @@ use Rattle.swc_tree_grammar.specs.Demands.{demands, meets}
 use Rattle.swc_tree_grammar.specs.Demands.Demand.{Operand, Link}
 use Rattle.swc_tree_grammar.specs.Due.{Places, pair, pair_if}
 use Rattle.swc_tree_grammar.proofs.Induction.{by_children}
+use Rattle.swc_tree_grammar.proofs.Wholes.{all_carried}
 use Rattle.swc_tree_grammar_laws.specs.Levelled.{Levelled, levelled_step, levelled, each_meets}
-use Rattle.swc_tree_grammar_laws.proofs.Wholes.{all_carried}
 
 abbrev judged : Node → Levelled
 judged = fold-Node Levelled levelled_step

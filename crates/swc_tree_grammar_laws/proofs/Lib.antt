@@ -8,7 +8,6 @@ mod FixerRows
 mod ReaderRows
 mod StepRows
 mod FixedRows
-pub mod Wholes
 pub mod Heads
 pub mod Begins
 pub mod Levelled

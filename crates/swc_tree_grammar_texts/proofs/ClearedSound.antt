@@ -7,7 +7,7 @@ use Rattle.swc_tree_marks.specs.declared.ident.Ident.{Ident}
 use Rattle.swc_tree_node.specs.declared.kind.Kind.{Kind}
 use Rattle.swc_tree_node.specs.declared.kind.Kind.TheVariants as kind
 use Rattle.swc_tree_node.specs.declared.fields.functions.function.TheConstants as function_fields
-use Rattle.swc_tree_node.specs.declared.node.Node.{Node, List as Many, Identifier, Tree, out-Node, fold-Node, the_lemmas}
+use Rattle.swc_tree_node.specs.declared.node.Node.{Node, List as Many, Identifier, Tree, out-Node, the_lemmas}
 use Rattle.swc_tree_node.specs.declared.node.Node.TheOpen.{Node-F}
 use Rattle.swc_tree_scoping.specs.Places.{directive_or, directive_of, has_use_strict, block_in, is_plain_function, literal_in, literal_of, plain_in, says, statement_in, string_of}
 use Rattle.swc_tree_scoping.specs.Places as scoping
@@ -17,7 +17,8 @@ use Rattle.swc_tree_grammar.specs.Stripped.{stripped}
 use Rattle.swc_tree_grammar.specs.Kinds.{has_kind, is_private_name, is_chain, is_opt_chain, is_paren, is_rest}
 use Rattle.swc_tree_grammar.specs.Forms.{Form, form, form_in, form_of_word, form_of_function, is_body, is_branch, is_using, is_using_form, is_strict, is_name_in, is_named_in, are_named}
 use Rattle.swc_tree_grammar.specs.Levels.{word_of}
-use Rattle.swc_tree_grammar.specs.Writable.{Asked, Round, Sound, accessor, all_sound, asked_step, assigning, base_goes_on_in, binding, branch, bound, constructor_key_in, declares_in, default_in, element, elements, head, in_head_in, initialised_in, is_const, is_element, is_getter, is_name_kind_in, is_pattern_target, is_plain_pattern_in, is_setter, is_string, is_text, is_writable, left_side, local_specifier_in, loop_body, name_is, no_private, no_using, one_bare, one_without_rest, parameters_in, pattern, pattern_of, pattern_of_param_in, property_in, sound_in, strictly}
+use Rattle.swc_tree_grammar.specs.Writable.{Asked, Round, accessor, all_sound, assigning, base_goes_on_in, binding, branch, bound, constructor_key_in, declares_in, default_in, element, elements, head, in_head_in, initialised_in, is_const, is_element, is_getter, is_name_kind_in, is_pattern_target, is_plain_pattern_in, is_setter, is_string, is_text, is_writable, left_side, local_specifier_in, loop_body, name_is, no_private, no_using, one_bare, one_without_rest, parameters_in, pattern, pattern_of, pattern_of_param_in, property_in, sound_in, strictly}
+use Rattle.swc_tree_grammar.proofs.Asked.{head_list, head_name, head_tree, in_head, of, sound, sound_list, sound_name, sound_tree}
 use Rattle.swc_tree_grammar.proofs.Induction.{Each, by_children}
 use Rattle.swc_tree_grammar_texts.proofs.Cleared.{bare, text_absent, text_flag, text_word, text_text, text_span, text_name, text_list, text_tree, look, items_same, all_same, count_same, kind_same, word_same, absent_same, holds_same, words_same, flag_at, text_at, target_same}
 use Rattle.swc_tree_grammar_texts.proofs.ClearedStripped.{stripped_texts}
@@ -315,68 +316,9 @@ specifiers_same t = ap (list_all (λ t. local_specifier_in (out-Node t))) (items
 
 -- ---- what is asked of a node
 
-abbrev asked : Node → Asked
-asked = fold-Node Asked asked_step
-
-abbrev sound : Node → Sound
-sound t = (asked t).sound
-
-abbrev in_head : Node → Sound
-in_head t = (asked t).in_head
-
-abbrev of : Node → Asked
-of t = record { whole = t; sound = sound t; in_head = in_head t }
-
 -- the same with the contexts emptied, where that changes nothing
 abbrev cleared : Node → Asked
 cleared t = record { whole = by_texts t; sound = sound t; in_head = in_head t }
-
-abbrev Whole : Node → Type 0
-Whole t = (asked t).whole ≡ t
-
-wholes : (ts : List Node) → Each Whole ts → map (λ e. e.whole) (map asked ts) ≡ ts
-wholes [] h = refl
-wholes (t ∷ ts) h = rw (h.0, wholes ts h.1) refl
-
-whole_many : (ts : List Node) → (asked (Many ts)).whole ≡ Many (map (λ e. e.whole) (map asked ts))
-whole_many ts = search (rules, the_lemmas)
-
-whole_tree : (k : Kind) (ts : List Node) → (asked (Tree k ts)).whole ≡ Tree k (map (λ e. e.whole) (map asked ts))
-whole_tree k ts = search (rules, the_lemmas)
-
-whole : (t : Node) → Whole t
-whole t = by_children Whole
-    (search (rules, the_lemmas), λ x. search (rules, the_lemmas), λ w. search (rules, the_lemmas), λ x. search (rules, the_lemmas), λ s. search (rules, the_lemmas), λ k i. search (rules, the_lemmas))
-    (λ ts h. whole_many ts ∙ ap Many (wholes ts h))
-    (λ k ts h. whole_tree k ts ∙ ap (Tree k) (wholes ts h)) t
-
-is_of : (t : Node) → asked t ≡ of t
-is_of t = ap (λ (w : Node). let e : Asked = record { whole = w; sound = sound t; in_head = in_head t } in e) (whole t)
-
-each_of : (ts : List Node) → map asked ts ≡ map of ts
-each_of [] = refl
-each_of (t ∷ ts) = rw (is_of t, each_of ts) refl
-
-tree_step : (k : Kind) (ts : List Node) → asked (Tree k ts) ≡ asked_step (Node-F.Tree k (map asked ts))
-tree_step k ts = search (rules, the_lemmas)
-
-list_step : (ts : List Node) → asked (Many ts) ≡ asked_step (Node-F.List (map asked ts))
-list_step ts = search (rules, the_lemmas)
-
-name_step : (k : Kind) (i : Ident) → asked (Identifier k i) ≡ asked_step (Node-F.Identifier k i)
-name_step k i = search (rules, the_lemmas)
-
-sound_tree : (k : Kind) (ts : List Node) (r : Round) → sound (Tree k ts) r ≡ sound_in (Node-F.Tree k (map of ts)) r
-sound_tree k ts r = ap (λ e. e.sound r) (tree_step k ts) ∙ ap (λ es. sound_in (Node-F.Tree k es) r) (each_of ts)
-
-head_tree : (k : Kind) (ts : List Node) (r : Round) → in_head (Tree k ts) r ≡ in_head_in (Node-F.Tree k (map of ts)) r
-head_tree k ts r = ap (λ e. e.in_head r) (tree_step k ts) ∙ ap (λ es. in_head_in (Node-F.Tree k es) r) (each_of ts)
-
-sound_list : (ts : List Node) (r : Round) → sound (Many ts) r ≡ all_sound (map of ts) r
-sound_list ts r = ap (λ e. e.sound r) (list_step ts) ∙ ap (λ es. all_sound es r) (each_of ts)
-
-sound_name : (k : Kind) (i : Ident) (r : Round) → sound (Identifier k i) r ≡ sound_in (Node-F.Identifier k i) r
-sound_name k i r = ap (λ e. e.sound r) (name_step k i)
 
 -- ---- rows: where the children are as sound, the node is
 
@@ -489,12 +431,6 @@ each_again (t ∷ ts) l = rw (asked_again t l.0, each_again ts l.1) refl
 name_sound : (k : Kind) (i : Ident) (r : Round) → sound_in (Node-F.Identifier k (bare i)) r ≡ sound_in (Node-F.Identifier k i) r
 name_sound kind.BindingIdent i r = refl
 name_sound k i r = refl
-
-head_list : (ts : List Node) (r : Round) → in_head (Many ts) r ≡ false
-head_list ts r = search (rules, the_lemmas)
-
-head_name : (k : Kind) (i : Ident) (r : Round) → in_head (Identifier k i) r ≡ false
-head_name k i r = search (rules, the_lemmas)
 
 list_sounds : (ts : List Node) → Each Same ts → (r : Round) → sound (by_texts (Many ts)) r ≡ sound (Many ts) r
 list_sounds ts l r = ap (λ t. sound t r) (text_list ts) ∙ sound_list (map by_texts ts) r ∙ ap (λ es. all_sound es r) (each_again ts l) ∙ all_cleared ts r ∙ sym (sound_list ts r)

@@ -32,10 +32,10 @@ use Rattle.swc_tree_grammar.specs.Levels.{is_absent, is_absent_in, word_in}
 use Rattle.swc_tree_grammar.specs.Forms.{Form, Ordinary, form, form_in, form_of_function, form_of_word, is_body, is_branch, is_using}
 use Rattle.swc_tree_grammar.specs.Writable.{all_sound, head, sound_in}
 use Rattle.swc_tree_grammar.specs.Blocks.{takes_else, takes_else_step}
+use Rattle.swc_tree_grammar.proofs.Asked.{of, sound, sound_tree}
 use Rattle.swc_tree_grammar.proofs.Walks.{takes_else_of_tree}
 use Rattle.swc_tree_grammar.proofs.Induction.{Each, by_children}
 use Rattle.swc_tree_grammar.proofs.Places.{one, wider}
-use Rattle.swc_tree_grammar_laws.proofs.Derived.{sound}
 use Rattle.swc_tree_grammar_laws.proofs.Levelled.{also, both, half}
 use Rattle.swc_tree_sites.specs.Sites.{Binding, Sites, in_scope, joined, name_sites, pending_where}
 use Rattle.swc_tree_sites.specs.Smaller.{In}
@@ -45,7 +45,7 @@ use Rattle.swc_tree_sites.proofs.Loose.{pends}
 use Rattle.swc_tree_sites.proofs.Pending.{apart, keyword_cases, left_fits}
 use Rattle.swc_tree_sites_laws.proofs.Expressions.{P, of_identifier}
 use Rattle.swc_tree_sites_written.specs.Tame.{is_loose}
-use Rattle.swc_tree_sites_tame.proofs.Asked.{code, of, tree_asks}
+use Rattle.swc_tree_sites_tame.proofs.Asked.{code}
 
 -- nothing among them is what a block takes; or only what the scope takes too
 abbrev loose : List Binding → Bool
@@ -514,7 +514,7 @@ tree_leaves k ts l p n a q f h =
     let o = opens k ts class.Stmt f in
     let there : may_stand a (Tree k ts) ≡ true = ap (λ b. b || may_stand a (Tree k ts)) (sym (ap is_absent_in (outs-Tree k ts))) ∙ h in
     let z = both (is_branch true (form (Tree k ts))) (sound (Tree k ts) (code a)) there in
-    row k (parts (slots_of k) ts l o.2) p n a q (ap (λ y. is_branch true (form_in y)) (sym (outs-Tree k ts)) ∙ z.0) (sym (tree_asks k ts (code a)) ∙ z.1) o.1
+    row k (parts (slots_of k) ts l o.2) p n a q (ap (λ y. is_branch true (form_in y)) (sym (outs-Tree k ts)) ∙ z.0) (sym (sound_tree k ts (code a)) ∙ z.1) o.1
 
 leaf_leaves : (t : Node) → ((w : Place) → S w t ≡ joined []) → Leaves t
 leaf_leaves t e p n a q f h = ap (λ (x : Sites). loose x.pending) (e (P p n))

@@ -10,14 +10,14 @@ use Rattle.swc_tree_node.specs.Fits.{FieldsFit, Fits, belongs}
 use Rattle.swc_tree_grammar.specs.Normal.{normal_form}
 use Rattle.swc_tree_grammar.specs.Stripped.{stripped}
 use Rattle.swc_tree_grammar.specs.Writable.{Round, is_writable, sound_in}
+use Rattle.swc_tree_grammar.proofs.Asked.{of, sound, sound_tree}
 use Rattle.swc_tree_grammar.proofs.Kept.{stripped_fits}
 use Rattle.swc_tree_grammar.proofs.Places.{one}
-use Rattle.swc_tree_grammar_laws.proofs.Derived.{sound}
 use Rattle.swc_tree_sites.specs.Smaller.{IsLeftOf}
 use Rattle.swc_tree_sites_written.specs.Tame.{is_tame}
 use Rattle.swc_tree_sites_written.proofs.NormalForms.{normal_left}
 use Rattle.swc_base_fixer_laws.proofs.Fixed.{stripping_keeps_writable, targets_stand_bare}
-use Rattle.swc_tree_sites_tame.proofs.Asked.{code, of, tree_asks}
+use Rattle.swc_tree_sites_tame.proofs.Asked.{code}
 use Rattle.swc_tree_sites_tame.proofs.Patterns.{only_node}
 use Rattle.swc_tree_sites_tame.proofs.Tames.{sound_tame}
 
@@ -40,7 +40,7 @@ module_strict kind.Module (x ∷ y ∷ z ∷ v ∷ ts) b f = absurd f.1.1.1
 module_strict _ ts b f = absurd (cc)
 
 tree_tame : (k : Kind) (ts : List Node) → IsTrue (belongs k class.Module) → FieldsFit (slots_of k) ts → Fits (Tree k ts) (one class.Module) → sound (Tree k ts) outside ≡ true → is_tame (Tree k ts) false ≡ true
-tree_tame k ts b f g h = sound_tame (Tree k ts) class.Module false refl g (tree_asks k ts (code false) ∙ sym (module_strict k ts b f) ∙ sym (tree_asks k ts outside) ∙ h)
+tree_tame k ts b f g h = sound_tame (Tree k ts) class.Module false refl g (sound_tree k ts (code false) ∙ sym (module_strict k ts b f) ∙ sym (sound_tree k ts outside) ∙ h)
 
 module_tame : (t : Node) → Fits t (one class.Module) → IsTrue (is_writable t) → is_tame t false ≡ true
 module_tame t f w = only_node class.Module (λ t. sound t outside ≡ true → is_tame t false ≡ true) (λ k i h b. absurd (no_module_name k h b)) tree_tame t f w

@@ -16,23 +16,24 @@ use Rattle.swc_tree_node.specs.declared.node.Node.TheOpen.{Node-F}
 use Rattle.swc_tree_node.specs.declared.node.Node.TheVariants.{outs-Absent, outs-Flag, outs-Word, outs-Text, outs-Span, outs-List, outs-Identifier, outs-Tree}
 use Rattle.swc_tree_node.specs.Table.{fields_of, slots_of}
 use Rattle.swc_tree_node.specs.Fits.{AllFit, FieldsFit, Fits, belongs, single}
-use Rattle.swc_tree_node.proofs.Fit.{fits-List}
 use Rattle.swc_tree_scoping.specs.Places.{field_role, is_expression_in}
 use Rattle.swc_tree_grammar.specs.Levels.{is_absent, is_absent_in}
 use Rattle.swc_tree_grammar.specs.Blocks.{takes_else}
 use Rattle.swc_tree_grammar.specs.Writable.{Asked, all_sound, branch, constructor_key_in, declares_in, head, in_head_in, pattern, sound_in}
+use Rattle.swc_tree_grammar.proofs.Asked.{asked, head_list, head_tree, of, sound, sound_list, sound_tree}
 use Rattle.swc_tree_grammar.proofs.Induction.{Each, by_children}
 use Rattle.swc_tree_grammar.proofs.Items.{items_of_list, listed}
 use Rattle.swc_tree_grammar.proofs.Places.{one, stands}
-use Rattle.swc_tree_grammar_laws.proofs.Derived.{asked, in_head_list, sound}
 use Rattle.swc_tree_grammar_laws.proofs.Levelled.{also, both, half}
 use Rattle.swc_tree_sites.proofs.Leaves.{Field}
 use Rattle.swc_tree_sites_written.specs.Tame.{branch_tame, fields_tame, is_loose, is_tame, items_tame, opens_loose, opens_loose_in, part_tame}
 use Rattle.swc_tree_sites_written.proofs.Written.{of as told, tame_list, tame_tree}
-use Rattle.swc_tree_sites_tame.proofs.Asked.{code, head_asks, list_asks, of, tree_asks}
+use Rattle.swc_base_fixer_laws.specs.Sets.{item}
+use Rattle.swc_base_fixer_laws.proofs.Quiet.{is_quiet, items_fit}
+use Rattle.swc_tree_sites_tame.proofs.Asked.{code}
 use Rattle.swc_tree_sites_tame.proofs.Left.{ending_loose}
 use Rattle.swc_tree_sites_tame.proofs.Patterns.{binds, declarators_bind, element_binds, holes_bind, list_binds, maybe_pattern_binds, name_binds, name_bound, never, no, only_node, part_binds, part_whole, pattern_binds, shaped_binds}
-use Rattle.swc_tree_sites_tame.proofs.Quiet.{is_unbinding, item, items_fit, quiet, quiet_slot, quiet_tree, roles_of, unbinding}
+use Rattle.swc_tree_sites_tame.proofs.Quiet.{is_unbinding, quiet_tame, quiet_tree, roles_of, unbinding}
 
 -- ---- the first branch of an `if`
 
@@ -54,8 +55,8 @@ only_loose (s ∷ []) a f h = at (takes_else s) refl
 
 block_opens : (x : Node) (ss : List Node) (a : Bool) → AllFit (one class.Stmt) ss → sound (Tree kind.BlockStmt (x ∷ Many ss ∷ [])) (code a) ≡ true → opens_loose (Node-F.Tree kind.BlockStmt (x ∷ Many ss ∷ [])) ≡ true
 block_opens x ss a f h =
-    let items = others_asked x (of (Many ss) ∷ []) false (sym (tree_asks kind.BlockStmt (x ∷ Many ss ∷ []) (code a)) ∙ h) in
-    ap opens_loose_in (items_of_list ss) ∙ only_loose ss false f (sym (list_asks ss (code false)) ∙ first_asked (Many ss) [] false items)
+    let items = others_asked x (of (Many ss) ∷ []) false (sym (sound_tree kind.BlockStmt (x ∷ Many ss ∷ []) (code a)) ∙ h) in
+    ap opens_loose_in (items_of_list ss) ∙ only_loose ss false f (sym (sound_list ss (code false)) ∙ first_asked (Many ss) [] false items)
 
 tree_opens_loose : (k : Kind) (ts : List Node) (a : Bool) → FieldsFit (slots_of k) ts → sound (Tree k ts) (code a) ≡ true → opens_loose (Node-F.Tree k ts) ≡ true
 tree_opens_loose kind.BlockStmt [] a f h = refl
@@ -126,7 +127,7 @@ record Tames (t : Node) (s : Slot) : Type 0 where
 
 data Fields : List Field → List Node → Type 0 where
   none : Fields [] []
-  more : {f : Field} {fs : List Field} {t : Node} {ts : List Node} → Fits t f.1 → (quiet_slot f.1 ≡ true → is_tame t false ≡ true) → Tames t f.1 → Fields fs ts → Fields (f ∷ fs) (t ∷ ts)
+  more : {f : Field} {fs : List Field} {t : Node} {ts : List Node} → Fits t f.1 → (is_quiet f.1 ≡ true → is_tame t false ≡ true) → Tames t f.1 → Fields fs ts → Fields (f ∷ fs) (t ∷ ts)
 
 not_and : (b : Bool) → not (b && false) ≡ true
 not_and true = refl
@@ -276,8 +277,8 @@ head_row kind.UsingDecl (more _ q _ (more _ o _ (more {t = t} f _ y none))) a h 
 head_row k d a h = no h
 
 key_row : (k : Kind) (ts : List Node) → FieldsFit (slots_of k) ts → constructor_key_in (Node-F.Tree k ts) ≡ true → is_tame (Tree k ts) false ≡ true
-key_row kind.IdentName ts f h = quiet_tree kind.IdentName ts refl f
-key_row kind.Str ts f h = quiet_tree kind.Str ts refl f
+key_row kind.IdentName ts f h = quiet_tree kind.IdentName ts refl refl f
+key_row kind.Str ts f h = quiet_tree kind.Str ts refl refl f
 key_row k ts f h = no h
 
 -- ---- every node
@@ -289,7 +290,7 @@ fields : (fs : List Field) (ts : List Node) → Each Taming ts → FieldsFit (ma
 fields [] [] l f = none
 fields [] (t ∷ ts) l f = absurd f
 fields (x ∷ fs) [] l f = absurd f
-fields (x ∷ fs) (t ∷ ts) l f = more f.0 (λ q. quiet t x.1 q f.0) (l.0 x.1 f.0) (fields fs ts l.1 f.1)
+fields (x ∷ fs) (t ∷ ts) l f = more f.0 (λ q. quiet_tame t x.1 q f.0) (l.0 x.1 f.0) (fields fs ts l.1 f.1)
 
 items : (s : Slot) (ts : List Node) → Each Taming ts → AllFit s ts → is_free_slot s ≡ true → (a : Bool) → all_sound (map of ts) (code a) ≡ true → items_tame false (map told ts) ≡ true
 items s [] l f q a h = refl
@@ -303,11 +304,11 @@ bound_items s (t ∷ ts) l f a b g h =
 
 list_taming : (ts : List Node) → Each Taming ts → Taming (Many ts)
 list_taming ts l s f = (
-    let fit = items_fit s ts (sym (fits-List ts s) ∙ f) in
+    let fit = items_fit s ts f in
     record {
-      by_sound = λ q a h. tame_list ts false ∙ items (item s) ts l fit (free_item s q) a (sym (list_asks ts (code a)) ∙ h);
-      by_bound = λ a b g h. part_of b (Many ts) (ap is_expression_in (outs-List ts)) (tame_list ts b ∙ bound_items (item s) ts l fit a b (sym (ap (binds a) (outs-List ts)) ∙ g) (sym (list_asks ts (code a)) ∙ h));
-      by_head = λ a h. no (sym (in_head_list ts (code a)) ∙ h);
+      by_sound = λ q a h. tame_list ts false ∙ items (item s) ts l fit (free_item s q) a (sym (sound_list ts (code a)) ∙ h);
+      by_bound = λ a b g h. part_of b (Many ts) (ap is_expression_in (outs-List ts)) (tame_list ts b ∙ bound_items (item s) ts l fit a b (sym (ap (binds a) (outs-List ts)) ∙ g) (sym (sound_list ts (code a)) ∙ h));
+      by_head = λ a h. no (sym (head_list ts (code a)) ∙ h);
       by_key = λ h. no (sym (ap constructor_key_in (outs-List ts)) ∙ h);
     })
 
@@ -315,11 +316,11 @@ tree_taming : (k : Kind) (ts : List Node) → Each Taming ts → Taming (Tree k 
 tree_taming k ts l s f = (
     let w = stands k ts s f in let d = fields (fields_of k) ts l w.fields in
     record {
-      by_sound = λ q a h. (let m = sym (tree_asks k ts (code a)) ∙ h in tame_tree k ts false ∙ also (branch_row k d a m) (row k d a (no_parameter k w.in_class (free_single s w.in_class q w.place) w.belonging) m));
+      by_sound = λ q a h. (let m = sym (sound_tree k ts (code a)) ∙ h in tame_tree k ts false ∙ also (branch_row k d a m) (row k d a (no_parameter k w.in_class (free_single s w.in_class q w.place) w.belonging) m));
       by_bound = λ a b g h. (
-          let m = sym (tree_asks k ts (code a)) ∙ h in let e = sym (ap (binds a) (outs-Tree k ts)) ∙ g in
+          let m = sym (sound_tree k ts (code a)) ∙ h in let e = sym (ap (binds a) (outs-Tree k ts)) ∙ g in
           part_of b (Tree k ts) (ap is_expression_in (outs-Tree k ts)) (tame_tree k ts b ∙ also (bound_branch k ts a e) (bound_row k d a b e m)));
-      by_head = λ a h. tame_tree k ts false ∙ head_row k d a (sym (head_asks k ts (code a)) ∙ h);
+      by_head = λ a h. tame_tree k ts false ∙ head_row k d a (sym (head_tree k ts (code a)) ∙ h);
       by_key = λ h. key_row k ts w.fields (sym (ap constructor_key_in (outs-Tree k ts)) ∙ h);
     })
 

@@ -1,5 +1,5 @@
 use Rattle.std.proofs.Common.{take}
-use Rattle.swc_base_fixer_due.specs.Record.{place_in, Records}
+use Rattle.swc_base_fixer_due.specs.Record.{Records}
 use Rattle.swc_base_fixer_due.proofs.record.Record.new.Given as goal
 
 abbrev pub invariant-loop-pair : goal.invariant-loop-pair
