@@ -148,6 +148,16 @@ def named_fixes_the_map(t):
     return True if found else None
 
 
+def tries_fault(one):
+    """where the counter that an id takes is farther past its start than there are preserved texts and ids named before it"""
+    taken = one.counters()
+    for number, (a, x) in enumerate(one.sites):
+        start = next(n for n in range(taken[x] + 1) if one.IsFromStart(taken, a, n))
+        if taken[x] - start > len(one.preserved) + number:
+            return Bad('counter', str(taken[x]), 'from', str(start))
+    return None
+
+
 @law(few_names)
 def tries_are_few(t):
     """the counter that an id takes is at most as far past its start as there are preserved texts and ids named before it"""
@@ -155,12 +165,9 @@ def tries_are_few(t):
     if not analysis.declares:
         return None
     for r in renamings():
-        one = Naming(analysis, r)
-        taken = one.counters()
-        for number, (a, x) in enumerate(one.sites):
-            start = next(n for n in range(taken[x] + 1) if one.IsFromStart(taken, a, n))
-            if taken[x] - start > len(one.preserved) + number:
-                return Bad('counter', str(taken[x]), 'from', str(start))
+        fault = tries_fault(Naming(analysis, r))
+        if fault:
+            return fault
     return True
 
 

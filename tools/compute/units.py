@@ -104,9 +104,14 @@ def counting(r):
     return outer_count if r.mangles else all_count
 
 
+def naming_of(t, r, preserved):
+    """what `Named` is said of"""
+    return Naming(t, r, preserved, counting(r))
+
+
 def new_texts(t, r, preserved):
     """the map that is `Named`"""
-    return Naming(t, r, preserved, counting(r)).new_texts()
+    return naming_of(t, r, preserved).new_texts()
 
 
 def program_texts(t, r, marks):
@@ -115,16 +120,26 @@ def program_texts(t, r, marks):
     return preserved_texts(t, r.preserves) | {x[0] for x in t.bound if x[1] == own}
 
 
-def top_names(defs, t, r, marks, preserved):
-    """the top map: ids that descend from the top mark get no name"""
+def top_naming(defs, t, r, marks, preserved):
+    """of the program: ids that descend from the top mark get no name"""
     kept = {x for _, _, x in t.ids if descends(defs, marks.table, marks.top, x)}
-    return new_texts(t, Renaming(r.text, r.mangles, r.resets, r.preserves | kept), preserved)
+    return naming_of(t, Renaming(r.text, r.mangles, r.resets, r.preserves | kept), preserved)
+
+
+def top_names(defs, t, r, marks, preserved):
+    """the top map"""
+    return top_naming(defs, t, r, marks, preserved).new_texts()
+
+
+def unit_naming(defs, u, r, preserved):
+    """of a unit, as a tree of its own"""
+    t = analysed(defs, u)
+    return naming_of(t, r, preserved | preserved_texts(t, r.preserves))
 
 
 def unit_names(defs, u, r, preserved):
-    """the map of a unit, as a tree of its own"""
-    t = analysed(defs, u)
-    return new_texts(t, r, preserved | preserved_texts(t, r.preserves))
+    """the map of a unit"""
+    return unit_naming(defs, u, r, preserved).new_texts()
 
 
 def given(defs, names, t, keeps):

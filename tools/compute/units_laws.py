@@ -8,7 +8,7 @@ import scoping
 import units
 from lawbook import Bad, D, fits_place, identity, kids, law
 from naming import Renaming, hygiene, numbered
-from naming_laws import of_few_texts, some_ids
+from naming_laws import of_few_texts, some_ids, tries_fault
 from naming_rows import renamed
 from substitution_laws import changes_of, fresh_maps, places_below, substituted
 from trees import ABSENT, SPAN, at, paths, put, slots, with_identifiers, with_kids
@@ -345,6 +345,24 @@ def under_the_root_only_units_change(t):
             faults = units.units_faults(D.all, is_renamed, t, units.renamed_by_units(D.all, t, r, units.Marks(TABLE, 0), keeps))
             if faults:
                 return Bad(repr(faults))
+    return True
+
+
+@law(reading_tree)
+def tries_by_units_are_few(t):
+    """where something reads names, the counter that an id of the program or of an outermost unit takes is at most as far past its
+    start as there are preserved texts and ids named before it"""
+    if not reads(t):
+        return None
+    whole, alone = analysed(D.all, t), [u for _, u in units.outermost(D.all, t)]
+    for r in renamings(whole):
+        for top in TOPS:
+            marks = units.Marks(TABLE, top)
+            preserved = units.program_texts(whole, r, marks)
+            namings = [units.top_naming(D.all, whole, r, marks, preserved)] + [units.unit_naming(D.all, u, r, preserved) for u in alone]
+            fault = next((fault for fault in map(tries_fault, namings) if fault), None)
+            if fault:
+                return fault
     return True
 
 

@@ -19,7 +19,6 @@ use Rattle.swc_tree_scoping.specs.declared.places.Place.{Place}
 use Rattle.swc_tree_scoping.specs.declared.places.Standing.TheVariants as standing
 use Rattle.swc_tree_scoping.specs.Places.{Path, place_at, program_place}
 use Rattle.swc_tree_scoping.specs.Scopes.{first_that, is_name, is_taken, rounds, scope_at, taker}
-use Rattle.swc_tree_scoping.specs.BoundNames.{Id}
 use Rattle.swc_tree_scoping.specs.Readings.{by_ids, by_texts, id_name, with_identifiers}
 use Rattle.swc_tree_scoping.specs.WellScoped.{ExportsDeclared, InExportList, IsClean, IsDeclared, NoEarlyErrorOfNames, WellScoped, is_module}
 use Rattle.swc_tree_renaming.specs.Apart.{HasTexts, SameScopes, nameless, no_name}

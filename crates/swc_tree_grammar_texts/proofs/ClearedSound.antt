@@ -9,7 +9,7 @@ use Rattle.swc_tree_node.specs.declared.kind.Kind.TheVariants as kind
 use Rattle.swc_tree_node.specs.declared.fields.functions.function.TheConstants as function_fields
 use Rattle.swc_tree_node.specs.declared.node.Node.{Node, List as Many, Identifier, Tree, out-Node, the_lemmas}
 use Rattle.swc_tree_node.specs.declared.node.Node.TheOpen.{Node-F}
-use Rattle.swc_tree_scoping.specs.Places.{directive_or, directive_of, has_use_strict, block_in, is_plain_function, literal_in, literal_of, plain_in, says, statement_in, string_of}
+use Rattle.swc_tree_scoping.specs.Places.{has_use_strict, block_in, literal_in, literal_of, plain_in, statement_in, string_of}
 use Rattle.swc_tree_scoping.specs.Places as scoping
 use Rattle.swc_tree_scoping.specs.Readings.{by_texts}
 use Rattle.swc_tree_grammar.specs.Shapes.{items_of}
