@@ -51,6 +51,8 @@ impl<const MANGLES: bool, const RESETS: bool> Renamer for Numbered<MANGLES, RESE
 
     ghost preserved = { λ r _ x. list_any (λ id. same_id id x) r.preserved.items };
 
+    ghost asked = { λ old _ new. new ≡ old };
+
     fn preserved_ids_for_module(
         &mut self,
         alloc: Global,

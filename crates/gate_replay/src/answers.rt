@@ -1,5 +1,5 @@
 //! What is answered to a row.
-use crate::{analysed, engine, kinds, programs, units};
+use crate::{analysed, engine, kinds, programs, serving, units};
 use anyhow::Result;
 use std::alloc::Global;
 
@@ -20,6 +20,7 @@ fn answer(alloc: Global, words: &str, input: &str) -> Result<Vec<u8>> {
         "unit" => line(alloc, units::answer(alloc, rest)),
         "analysed" => line(alloc, Some(analysed::answer(alloc, rest, input)?)),
         "status" => engine::status(alloc, rest, input),
+        "served" => line(alloc, Some(serving::answer(alloc, rest, input)?)),
         "beginnings" => engine::beginnings(alloc, input),
         "pass"
         | "twice"

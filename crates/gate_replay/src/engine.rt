@@ -1,11 +1,11 @@
 //! Rows of `jsbase`: what the program writes on an input.
 use anyhow::Result;
-use jsbase_engine::{Command, Fault, Kind, report, run, words};
+use jsbase_engine::{Command, Fault, Kind, ServeFault, report, run, serve, words};
 use std::alloc::{AllocError, Global};
 use std::fmt::Write;
 
-// The words of a line.
-fn split(alloc: Global, line: &str) -> Result<Vec<String>, AllocError> {
+/// The words of a line.
+pub fn split(alloc: Global, line: &str) -> Result<Vec<String>, AllocError> {
     let mut words = Vec::new(alloc);
     for word in line.split_whitespace() {
         words.push(String::from_str(alloc, word)?)?;
@@ -13,36 +13,34 @@ fn split(alloc: Global, line: &str) -> Result<Vec<String>, AllocError> {
     Ok(words)
 }
 
-/// What the program answers on arguments.
-pub fn run_words(alloc: Global, arguments: &[String], input: &[u8]) -> Result<Vec<u8>, Fault> {
+/// Adds what the program writes on arguments and an input.
+pub fn run_words(
+    alloc: Global,
+    arguments: &[String],
+    mut input: &[u8],
+    output: &mut Vec<u8>,
+) -> Result<(), ServeFault> {
     let (command, kind) = words(arguments)?;
-    run(alloc, command, kind, input)
-}
-
-/// What the program writes of an answer.
-pub fn line(alloc: Global, answer: Result<Vec<u8>, Fault>) -> Vec<u8> {
-    match answer {
-        Ok(output) => output,
-        Err(fault) => {
-            let mut line = Vec::new(alloc);
-            let _status = report(&fault, &mut line);
-            line
-        }
-    }
+    serve(alloc, command, kind, &mut input, output)
 }
 
 /// What the program writes on arguments in one line, to standard output or as a fault.
 pub fn written(alloc: Global, arguments: &str, input: &str) -> Result<Vec<u8>> {
     let words = split(alloc, arguments)?;
-    Ok(line(alloc, run_words(alloc, words.as_slice(), input.as_bytes())))
+    let mut output = Vec::new(alloc);
+    if let Err(fault) = run_words(alloc, words.as_slice(), input.as_bytes(), &mut output) {
+        let _status = report(&fault, &mut output);
+    }
+    Ok(output)
 }
 
 /// The status of the program on arguments in one line.
 pub fn status(alloc: Global, arguments: &str, input: &str) -> Result<Vec<u8>> {
     let words = split(alloc, arguments)?;
-    let status = match run_words(alloc, words.as_slice(), input.as_bytes()) {
-        Ok(_) => 0,
-        Err(fault) => report(&fault, &mut Vec::new(alloc)),
+    let mut output = Vec::new(alloc);
+    let status = match run_words(alloc, words.as_slice(), input.as_bytes(), &mut output) {
+        Ok(()) => 0,
+        Err(fault) => report(&fault, &mut output),
     };
     Ok(format!(in alloc; "{status}\n")?.into_bytes())
 }

@@ -13,6 +13,8 @@ mod measure;
 mod programs;
 mod refuse;
 mod rows;
+mod serving;
+mod streams;
 mod texts;
 mod units;
 

@@ -5,10 +5,10 @@
 //! request of the program, for one n and each number of requests before, so refuses each request of the work in turn
 //! (`tools/refuse_memory.py` does). Where the first line is `before` or `after`, the answer is how many requests are granted
 //! in place of the work or after it, before one is refused.
-use crate::engine::{line, run_words};
+use crate::engine::run_words;
 use crate::programs::{Given, Pass, class_of, left, read_times};
 use anyhow::{Result, bail};
-use jsbase_engine::Fault;
+use jsbase_engine::{Fault, ServeFault, report};
 use std::alloc::{AllocError, Global};
 use std::fmt;
 use swc_tree_marks::{PassError, Span};
@@ -93,20 +93,31 @@ fn is_ample(written: &[u8], wanted: &str) -> Said {
     }
 }
 
-// What is said of a run of `jsbase` by a command and a goal.
+// What is said of a run of `jsbase` by a command and a goal. Room for its answer is made before.
 fn of_engine(alloc: Global, arguments: &[String], lines: &Lines) -> Result<Said> {
     let asked = asked_of(lines.asked.as_str())?;
+    let mut output = Vec::with_capacity(alloc, lines.wanted.len().saturating_add(1))?;
     if let Some(said) = before(alloc, asked) {
         return Ok(said);
     }
-    let answer = run_words(alloc, arguments, lines.input.as_bytes());
+    let answer = run_words(alloc, arguments, lines.input.as_bytes(), &mut output);
     if matches!(asked, Asked::After) {
         return Ok(Said::Granted(granted(alloc, MOST)));
     }
-    if matches!(&answer, Err(Fault::Refused(PassError::NoMemory))) {
-        return Ok(Said::Refused);
-    }
-    Ok(is_ample(line(alloc, answer).as_slice(), lines.wanted.as_str()))
+    Ok(match answer {
+        Err(ServeFault::NoMemory | ServeFault::Run(Fault::Refused(PassError::NoMemory))) => {
+            if output.is_empty() {
+                Said::Refused
+            } else {
+                Said::Other
+            }
+        }
+        Err(fault) => {
+            let _status = report(&fault, &mut output);
+            is_ample(output.as_slice(), lines.wanted.as_str())
+        }
+        Ok(()) => is_ample(output.as_slice(), lines.wanted.as_str()),
+    })
 }
 
 // Whether a refused pass left the program empty, and the table with what it had.

@@ -2,34 +2,16 @@
 //! standard output or one line on standard error.
 #![tactic(auto)]
 
-ghost use Rattle.std.specs.Prelude.{◌≡◌, ◌≢◌, ◌⊎◌, IfErr, codes};
+ghost use Rattle.std.specs.Prelude.{◌≡◌, ◌≢◌, ◌⊎◌, IfErr};
 ghost use Rattle.std.specs.IoError.{error_kind};
 ghost use Rattle.std.specs.declared.io.ErrorKind.TheVariants as kind;
 ghost use Rattle.swc_tree_marks.specs.declared.error.PassError.TheVariants as refusal;
 ghost use Rattle.jsbase_engine.specs.declared.fault.Fault.TheVariants as fault;
-ghost use Rattle.jsbase.specs.declared.Failure.TheVariants as failure;
-ghost use Rattle.jsbase.specs.Failures.{IsOutside};
 
-use jsbase_engine::{Fault, report, run, words};
-use std::io::{Read, Write};
+use jsbase_engine::{Fault, ServeFault, report, serve, words};
 use std::process::ExitCode;
 use std::{env, io};
 use swc_tree_marks::PassError;
-
-/// Why there is no answer.
-enum Failure {
-    Fault(Fault),
-    /// The outside failed, as the text says.
-    Outside(&'static str),
-}
-
-impl From<Fault> for Failure {
-    ghost from_gives = { λ why e. e ≡ failure.Fault why };
-
-    fn from(fault: Fault) -> Failure {
-        Failure::Fault(fault)
-    }
-}
 
 // A want of memory is a refusal; else what the arguments are is not known, and they count as wrong.
 fn unknown(error: &io::Error) -> Fault
@@ -59,38 +41,16 @@ fn arguments(rt: &HostRuntime) -> Result<Vec<String>, Fault>
     Ok(given)
 }
 
-// A want of memory while the input is read is a refusal like any other.
-fn unread(error: &io::Error) -> Failure
-    ensures memory { error_kind error.now ≡ kind.OutOfMemory → result ≡ failure.Fault (fault.Refused refusal.NoMemory) }
-    ensures other { error_kind error.now ≢ kind.OutOfMemory → IsOutside (codes "read failed") result }
-{
-    if error.kind() == io::ErrorKind::OutOfMemory {
-        return Failure::Fault(Fault::Refused(PassError::NoMemory));
-    }
-    Failure::Outside("read failed")
-}
-
-fn serve(rt: &HostRuntime) -> Result<(), Failure> {
+// Answers standard input to standard output, as the arguments say.
+fn answer(rt: &HostRuntime) -> Result<(), ServeFault> {
     let given = arguments(rt)?;
     let (command, kind) = words(given.as_slice())?;
-    let mut input = Vec::new(rt.alloc());
-    if let Err(error) = rt.stdin().read_to_end(&mut input) {
-        return Err(unread(&error));
-    }
-    let output = run(rt.alloc(), command, kind, input.as_slice())?;
-    if rt.stdout().write_all(output.as_slice()).is_err() {
-        return Err(Failure::Outside("write failed"));
-    }
-    Ok(())
+    serve(rt.alloc(), command, kind, &mut rt.stdin(), &mut rt.stdout())
 }
 
 fn main(rt: HostRuntime) -> ExitCode {
-    match serve(&rt) {
+    match answer(&rt) {
         Ok(()) => ExitCode::SUCCESS,
-        Err(Failure::Fault(fault)) => ExitCode::from(report(&fault, &mut rt.stderr())),
-        Err(Failure::Outside(what)) => {
-            let _ = rt.eprintln(what);
-            ExitCode::from(4)
-        }
+        Err(fault) => ExitCode::from(report(&fault, &mut rt.stderr())),
     }
 }

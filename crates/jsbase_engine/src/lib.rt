@@ -1,10 +1,12 @@
-//! The engine of `jsbase`: from the bytes of an envelope to the bytes of an envelope.
+//! The engine of `jsbase`: from the bytes of an envelope to the bytes of an envelope, and from a reader to a writer.
 #![tactic(auto)]
 
 mod arguments;
 mod engine;
 mod fault;
+mod served;
 
 pub use arguments::{Command, Kind, words};
 pub use engine::run;
-pub use fault::{Fault, report};
+pub use fault::{Fault, ServeFault, report};
+pub use served::serve;

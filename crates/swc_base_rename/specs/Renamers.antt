@@ -8,19 +8,23 @@ use Rattle.swc_base_rename_analysis.specs.Named.{Renaming}
 use Rattle.swc_base_rename_program.specs.Renamed.{IsRenameRefusal, IsRenamedBy}
 use Rattle.swc_base_rename.specs.declared.renaming.RenamePass.{RenamePass}
 
-module _ {X : Type 0} (text : X → Id → ℕ → List ℕ) (preserved : X → Node → Id → Bool) (mangles resets : Bool) where
+module _ {X : Type 0} (text : X → Id → ℕ → List ℕ) (preserved : X → Node → Id → Bool) (asked : X → Node → X → Type 0) (mangles resets : Bool) where
   -- the texts are those of the renamer as its call for the preserved ids left it, and these those that it said then
   abbrev pub renaming_in : X → X → Node → Renaming
   renaming_in was is program = record { text = text is; mangles = mangles; resets = resets; preserves = preserved was program }
 
-  -- names are given as the renamer has them; the configuration and the table of marks are as they were
+  -- names are given as the renamer has them, which was asked once for the ids that it preserves; the configuration and the
+  -- table of marks are as they were
   pub record RenamesNames (pass : RenamePass X) (old : Table) (before : Node) (kept : RenamePass X) (new : Table) (after : Node) : Type 0 where
     pub renamed : IsRenamedBy old pass.config (renaming_in pass.renamer kept.renamer before) before after
+    pub once : asked pass.renamer before kept.renamer
     pub same : kept.config ≡ pass.config
     pub marks : new ≡ old
 
-  -- a program is refused for want of memory, and where the counters are spent; configuration and table are as they were
+  -- a program is refused for want of memory, and where the counters are spent, by a renamer that was asked once; configuration and
+  -- table are as they were
   pub record RefusesNames (pass : RenamePass X) (old : Table) (before : Node) (kept : RenamePass X) (new : Table) (e : PassError) : Type 0 where
     pub refusal : IsRenameRefusal old pass.config (renaming_in pass.renamer kept.renamer before) before e
+    pub once : asked pass.renamer before kept.renamer
     pub same : kept.config ≡ pass.config
     pub marks : new ≡ old

@@ -34,6 +34,9 @@ pub trait Renamer {
     /// Whether an id keeps its text in a program; by default none does.
     ghost preserved: { Self → Node → Id → Bool } = { λ _ _ _. false };
 
+    /// What being asked for these ids makes of the renamer, whatever the answer; by default nothing is said of it.
+    ghost asked: { Self → Node → Self → Type 0 } = { λ _ _ _. Unit {0} };
+
     /// The ids that keep their texts in a module.
     ///
     /// # Errors
@@ -44,7 +47,8 @@ pub trait Renamer {
         alloc: Global,
         program: &Module,
     ) -> Result<HashSet<Id>, NoMemory>
-        ensures just { IfOk result (HasJust (preserved self.old (module_node program.now))) };
+        ensures just { IfOk result (HasJust (preserved self.old (module_node program.now))) }
+        ensures asked { asked self.old (module_node program.now) self.new };
 
     /// The ids that keep their texts in a script.
     ///
@@ -56,7 +60,8 @@ pub trait Renamer {
         alloc: Global,
         program: &Script,
     ) -> Result<HashSet<Id>, NoMemory>
-        ensures just { IfOk result (HasJust (preserved self.old (script_node program.now))) };
+        ensures just { IfOk result (HasJust (preserved self.old (script_node program.now))) }
+        ensures asked { asked self.old (script_node program.now) self.new };
 
     /// The text of an id at a counter, which goes one up.
     ///

@@ -58,15 +58,15 @@ pub fn renamer<R: Renamer>(config: Config, renamer: R) -> RenamePass<R>
 }
 
 impl<R: Renamer> JsPass for RenamePass<R> {
-    ghost visits = { λ pass old before kept new after. RenamesNames R.text R.preserved R.MANGLE R.RESET_N pass old (module_node before) kept new (module_node after) };
+    ghost visits = { λ pass old before kept new after. RenamesNames R.text R.preserved R.asked R.MANGLE R.RESET_N pass old (module_node before) kept new (module_node after) };
 
-    ghost visits_script = { λ pass old before kept new after. RenamesNames R.text R.preserved R.MANGLE R.RESET_N pass old (script_node before) kept new (script_node after) };
+    ghost visits_script = { λ pass old before kept new after. RenamesNames R.text R.preserved R.asked R.MANGLE R.RESET_N pass old (script_node before) kept new (script_node after) };
 
-    ghost refuses = { λ pass old before kept new e. RefusesNames R.text R.preserved R.MANGLE R.RESET_N pass old (module_node before) kept new e };
+    ghost refuses = { λ pass old before kept new e. RefusesNames R.text R.preserved R.asked R.MANGLE R.RESET_N pass old (module_node before) kept new e };
 
-    ghost refuses_script = { λ pass old before kept new e. RefusesNames R.text R.preserved R.MANGLE R.RESET_N pass old (script_node before) kept new e };
+    ghost refuses_script = { λ pass old before kept new e. RefusesNames R.text R.preserved R.asked R.MANGLE R.RESET_N pass old (script_node before) kept new e };
 
-    /// Gives the names of a program anew. The renamer is asked first for the ids that keep their texts, and then goes by what
+    /// Gives the names of a program anew. The renamer is asked once, first, for the ids that keep their texts, and then goes by what
     /// that call made of it. The table of marks stays as it is.
     ///
     /// # Errors
@@ -79,10 +79,10 @@ impl<R: Renamer> JsPass for RenamePass<R> {
         globals: &mut Globals,
         program: &mut Module,
     ) -> Result<(), PassError>
-        ensures done { OnOk result (RenamesNames R.text R.preserved R.MANGLE R.RESET_N self.old globals.old (module_node program.old) self.new globals.new (module_node program.new)) }
+        ensures done { OnOk result (RenamesNames R.text R.preserved R.asked R.MANGLE R.RESET_N self.old globals.old (module_node program.old) self.new globals.new (module_node program.new)) }
         ensures refused { OnErr result (IsEmptied program.old program.new) }
         ensures marks { IsExtended globals.old globals.new }
-        ensures cause { IfErr result (RefusesNames R.text R.preserved R.MANGLE R.RESET_N self.old globals.old (module_node program.old) self.new globals.new) }
+        ensures cause { IfErr result (RefusesNames R.text R.preserved R.asked R.MANGLE R.RESET_N self.old globals.old (module_node program.old) self.new globals.new) }
     {
         let module = mem::replace(program, empty_module(alloc, program.span));
         let preserved = self.renamer.preserved_ids_for_module(alloc, &module)?;
@@ -107,10 +107,10 @@ impl<R: Renamer> JsPass for RenamePass<R> {
         globals: &mut Globals,
         program: &mut Script,
     ) -> Result<(), PassError>
-        ensures done { OnOk result (RenamesNames R.text R.preserved R.MANGLE R.RESET_N self.old globals.old (script_node program.old) self.new globals.new (script_node program.new)) }
+        ensures done { OnOk result (RenamesNames R.text R.preserved R.asked R.MANGLE R.RESET_N self.old globals.old (script_node program.old) self.new globals.new (script_node program.new)) }
         ensures refused { OnErr result (IsEmptiedScript program.old program.new) }
         ensures marks { IsExtended globals.old globals.new }
-        ensures cause { IfErr result (RefusesNames R.text R.preserved R.MANGLE R.RESET_N self.old globals.old (script_node program.old) self.new globals.new) }
+        ensures cause { IfErr result (RefusesNames R.text R.preserved R.asked R.MANGLE R.RESET_N self.old globals.old (script_node program.old) self.new globals.new) }
     {
         let script = mem::replace(program, empty_script(alloc, program.span));
         let preserved = self.renamer.preserved_ids_for_script(alloc, &script)?;

@@ -1,5 +1,5 @@
 -- What finishing promises of a module that can be finished, by what its two passes lead to.
-use Rattle.std.proofs.Common.{◌≡◌, true, false, Result, Ok, Err, OnErr, IfErr, refl, sym, subst, inl, inr}
+use Rattle.std.proofs.Common.{◌≡◌, ◌↔◌, ◌∙◌, Bool, true, false, Result, Ok, Err, OnErr, IfErr, refl, sym, subst, inl, inr}
 use Rattle.swc_tree_marks.specs.declared.error.PassError.{PassError}
 use Rattle.swc_tree_marks.specs.declared.error.PassError.TheVariants as error
 use Rattle.swc_tree_marks.specs.Globals.{Table}
@@ -13,7 +13,8 @@ use Rattle.swc_tree_grammar.specs.Pairs.{pairs}
 use Rattle.swc_tree_grammar.specs.Fixed.{recorded}
 use Rattle.swc_base_fixer_laws.proofs.AgainLaws.{all_normal_form_stays}
 use Rattle.swc_base_fixer_laws.proofs.Fixed.{fixed_fits, targets_stand_bare}
-use Rattle.swc_base_fixer_program.specs.Answers.{answer_to}
+use Rattle.swc_base_fixer_unparen.specs.Moves.{LeadPartlyTo, Moving}
+use Rattle.swc_base_fixer_program.specs.Answers.{answer_to, moves_for}
 use Rattle.swc_base_fixer.specs.Unparened.{IsRefusal}
 use Rattle.swc_base_rename_substitution.specs.declared.config.Config.{Config}
 use Rattle.swc_base_rename_program.specs.Renamed.{IsHygienic}
@@ -27,16 +28,13 @@ use Rattle.swc_base_rename_hygiene_laws.specs.Laws.{IsFinishable}
 use Rattle.swc_ecma_transforms_base_laws.proofs.Kept.{keeps_modules, meets_no_target}
 use Rattle.swc_ecma_transforms_base.specs.Finished.{Finishes, IsFinishRefusal}
 use Rattle.swc_ecma_transforms_base.specs.Headline.{IsOfMemoryOrCounters, KeepsItsPromises}
+use Rattle.swc_ecma_transforms_base.specs.Lent.{MovesPartly}
 use Rattle.swc_ecma_transforms_base.proofs.Fitting.{hygiene_fits}
 
 pub made_hygienic : (table new : Table) (config : Config) (pass kept : Hygiene) (given before middle : Node) → pass.config ≡ config → given ≡ before → MakesHygienic pass table given kept new middle
     → IsHygienic table config before middle
 made_hygienic table new config pass kept given before middle h same m =
     subst (λ t. IsHygienic table config t middle) same (subst (λ k. IsHygienic table k given middle) h m.hygienic)
-
-pub where_refused : {T P : Type 0} (r : Result T PassError) → P → OnErr r P
-where_refused (Ok t) h = tt
-where_refused (Err e) h = h
 
 module _ (table : Table) (config : Config) (before middle : Node) (hygienic : IsHygienic table config before middle) where
   refused : (e : PassError) → IsRefusal e → (e ≡ error.NotAssignable → all_bare middle ≡ false) → IsFinishRefusal table config before e
@@ -50,6 +48,21 @@ module _ (table : Table) (config : Config) (before middle : Node) (hygienic : Is
   pub refused_by_fixer : {T : Type 0} (r : Result T PassError) → IfErr r IsRefusal → IfErr r (λ e. e ≡ error.NotAssignable → all_bare middle ≡ false) → IfErr r (IsFinishRefusal table config before)
   refused_by_fixer (Ok t) h bare = tt
   refused_by_fixer (Err e) h bare = refused e h bare
+
+-- the fixer refuses for want of memory where each target takes a value
+pub bare_else : (e : PassError) (b : Bool) → ((e ≡ error.NotAssignable) ↔ (b ≡ false)) → e ≡ error.NoMemory → b ≡ true
+bare_else e true h short = refl
+bare_else e false h short = absurd (cc (sym (h.1 refl) ∙ short))
+
+module _ {C : Type 0} (R : Moving C) (IsGiven : Node → Type 0) (middle : Node) (given : IsGiven middle) (c d : C) where
+  partly : (e : PassError) → IsRefusal e → (e ≡ error.NoMemory → all_bare middle ≡ true) → (e ≡ error.NotAssignable → d ≡ c) → LeadPartlyTo R c (moves_for middle) d → MovesPartly R IsGiven c d
+  partly e (inl target) bare unmoved some = inl (unmoved target)
+  partly e (inr short) bare unmoved some = inr (middle, given, bare short, some)
+
+  pub partly_by_fixer : {T : Type 0} (r : Result T PassError) → IfErr r IsRefusal → IfErr r (λ e. e ≡ error.NoMemory → all_bare middle ≡ true) → IfErr r (λ e. e ≡ error.NotAssignable → d ≡ c)
+      → LeadPartlyTo R c (moves_for middle) d → OnErr r (MovesPartly R IsGiven c d)
+  partly_by_fixer (Ok t) h bare unmoved some = tt
+  partly_by_fixer (Err e) h bare unmoved some = partly e h bare unmoved some
 
 module _ (table : Table) (config : Config) (before : Node) (finishable : IsFinishable config before) where
   fits : (middle : Node) → IsHygienic table config before middle → Fits middle (slot.One (content.Node class.Module))

@@ -23,6 +23,7 @@ pub fn fix_module<C: Comments>(
     ensures assignable { OnOk result (all_bare (module_node program.old) ≡ true) }
     ensures refusal { IfErr result IsRefusal }
     ensures unassignable { IfErr result (λ e. e ≡ error.NotAssignable → all_bare (module_node program.old) ≡ false) }
+    ensures bare { IfErr result (λ e. e ≡ error.NoMemory → all_bare (module_node program.old) ≡ true) }
     ensures marks { globals.new ≡ globals.old }
     ensures moved { OnOk result (LeadTo C.moved comments.old (moves_for (module_node program.old)) comments.new) }
     ensures partly { OnErr result (LeadPartlyTo C.moved comments.old (moves_for (module_node program.old)) comments.new) }
@@ -47,6 +48,7 @@ pub fn fix_script<C: Comments>(
     ensures assignable { OnOk result (all_bare (script_node program.old) ≡ true) }
     ensures refusal { IfErr result IsRefusal }
     ensures unassignable { IfErr result (λ e. e ≡ error.NotAssignable → all_bare (script_node program.old) ≡ false) }
+    ensures bare { IfErr result (λ e. e ≡ error.NoMemory → all_bare (script_node program.old) ≡ true) }
     ensures marks { globals.new ≡ globals.old }
     ensures moved { OnOk result (LeadTo C.moved comments.old (moves_for (script_node program.old)) comments.new) }
     ensures partly { OnErr result (LeadPartlyTo C.moved comments.old (moves_for (script_node program.old)) comments.new) }

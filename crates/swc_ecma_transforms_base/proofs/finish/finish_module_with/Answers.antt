@@ -1,6 +1,7 @@
-use Rattle.std.proofs.Common.{ap, inr, rules}
+use Rattle.std.proofs.Common.{ap, rules}
 use Rattle.swc_tree_modules.specs.Nodes.{module_node}
-use Rattle.swc_ecma_transforms_base.proofs.Finishing.{made_hygienic, meets_none, promised, refused_by_fixer, where_refused}
+use Rattle.swc_base_rename_program.specs.Renamed.{IsHygienic}
+use Rattle.swc_ecma_transforms_base.proofs.Finishing.{made_hygienic, meets_none, promised, partly_by_fixer, refused_by_fixer}
 use Rattle.swc_ecma_transforms_base.proofs.finish.finish_module_with.Goals as goal
 
 -- src/finish.rt
@@ -14,7 +15,8 @@ pub returns-in_err-fix_module-clause-partly : goal.returns-in_err-fix_module-cla
 returns-in_err-fix_module-clause-partly g c =
     let m = made_hygienic c.args.globals.now c.visit_mut_module.new.globals c.args.config c.hygiene_with_config-hygiene.result c.visit_mut_module.new.self (module_node c.replace-module.result) (module_node c.args.program.now)
     (module_node c.visit_mut_module.new.program) c.hygiene_with_config-hygiene.ensures (ap module_node c.replace-module.ensures.value) c.in_ok-visit_mut_module.ensures.done in
-    where_refused c.from_residual-in_err-fix_module.result (inr (module_node c.visit_mut_module.new.program, m, c.in_err-fix_module.ensures.partly))
+    partly_by_fixer g.C.Comments.moved (IsHygienic c.args.globals.now c.args.config (module_node c.args.program.now)) (module_node c.visit_mut_module.new.program) m c.args.comments.now c.fix_module.new.comments
+    c.from_residual-in_err-fix_module.result (search rules) (search rules) (search rules) c.in_err-fix_module.ensures.partly
 
 pub returns-in_err-fix_module-clause-no_target : goal.returns-in_err-fix_module-clause-no_target
 returns-in_err-fix_module-clause-no_target g c =

@@ -1,4 +1,4 @@
-use Rattle.std.proofs.Common.{◌≡◌, ap, refl, sym, ◌∙◌}
+use Rattle.std.proofs.Common.{◌≡◌, ap, refl, subst, sym, ◌∙◌}
 use Rattle.std.proofs.lemmas.Result.{err_from_is_err_and}
 use Rattle.swc_tree_modules.specs.Nodes.{module_node}
 use Rattle.swc_base_rename_naming.specs.Ids.{HasJust}
@@ -10,10 +10,12 @@ returns-in_err-answer-clause-cause g c =
     let t = module_node c.args.program.now in
     let before : c.in_ok-node.node ≡ t = c.in_ok-node.ensures.0 ∙ ap module_node c.replace-module.ensures.value in
     let just : HasJust (g.R.Renamer.preserved c.args.self.now.renamer t) c.in_ok-preserved.preserved = λ x. c.in_ok-preserved.ensures.just x ∙ ap (λ p. g.R.Renamer.preserved c.args.self.now.renamer (module_node p) x) c.replace-module.ensures.value in
+    let asked : g.R.Renamer.asked c.args.self.now.renamer t c.preserved_ids_for_module.new.self = subst (λ p. g.R.Renamer.asked c.args.self.now.renamer (module_node p) c.preserved_ids_for_module.new.self) c.replace-module.ensures.value c.in_ok-preserved.ensures.asked in
     let refused = err_from_is_err_and c.from_residual-in_err-answer.result c.from_residual-in_err-answer.ensures.1 in
     rw (refused.1, refused.2) (record {
       refusal = refused_by (g.R.Renamer.text c.preserved_ids_for_module.new.self) c.mode_of-mode.result (record { mangles = g.R.Renamer.MANGLE; resets = g.R.Renamer.RESET_N }) c.in_ok-preserved.preserved
           (g.R.Renamer.preserved c.args.self.now.renamer t) c.mode_of-mode.ensures just c.args.globals.now c.args.self.now.config c.in_ok-node.node t c.in_err-answer.field-0.0 before c.in_err-answer.ensures.refused;
+      once = asked;
       same = refl;
       marks = refl;
     })
@@ -23,9 +25,11 @@ returns-clause-done g c =
     let t = module_node c.args.program.now in
     let before : c.in_ok-node.node ≡ t = c.in_ok-node.ensures.0 ∙ ap module_node c.replace-module.ensures.value in
     let just : HasJust (g.R.Renamer.preserved c.args.self.now.renamer t) c.in_ok-preserved.preserved = λ x. c.in_ok-preserved.ensures.just x ∙ ap (λ p. g.R.Renamer.preserved c.args.self.now.renamer (module_node p) x) c.replace-module.ensures.value in
+    let asked : g.R.Renamer.asked c.args.self.now.renamer t c.preserved_ids_for_module.new.self = subst (λ p. g.R.Renamer.asked c.args.self.now.renamer (module_node p) c.preserved_ids_for_module.new.self) c.replace-module.ensures.value c.in_ok-preserved.ensures.asked in
     record {
       renamed = renamed_by (g.R.Renamer.text c.preserved_ids_for_module.new.self) c.mode_of-mode.result (record { mangles = g.R.Renamer.MANGLE; resets = g.R.Renamer.RESET_N }) c.in_ok-preserved.preserved
           (g.R.Renamer.preserved c.args.self.now.renamer t) c.mode_of-mode.ensures just c.args.globals.now c.args.self.now.config c.in_ok-node.node t c.in_ok-answer.answer (module_node c.from_node.result) before (sym c.from_node.ensures) c.in_ok-answer.ensures.renamed;
+      once = asked;
       same = refl;
       marks = refl;
     }
