@@ -72,7 +72,7 @@ module _ (unresolved top : ℕ) (config : Config) (old : Table) (before : Node) 
 
   pub moved_partly : {C : Type 0} (R : Moving C) (c d : C) → MovesPartly R (IsHygienic new config resolved) c d → MovesPartly R (IsOnceHygienic unresolved top config old before new) c d
   moved_partly R c d (inl h) = inl h
-  moved_partly R c d (inr h) = inr (h.0, once_hygienic h.0 h.1, h.2)
+  moved_partly R c d (inr h) = inr (h.0, once_hygienic h.0 h.1, h.2, h.3)
 
 resolver_blames_none : (e : PassError) → IsRefusal e → e ≢ error.NotAssignable
 resolver_blames_none e (inl h) n = absurd (cc (sym h ∙ n))

@@ -36,6 +36,10 @@ pub made_hygienic : (table new : Table) (config : Config) (pass kept : Hygiene) 
 made_hygienic table new config pass kept given before middle h same m =
     subst (λ t. IsHygienic table config t middle) same (subst (λ k. IsHygienic table k given middle) h m.hygienic)
 
+pub where_refused : {T P : Type 0} (r : Result T PassError) → P → OnErr r P
+where_refused (Ok t) h = tt
+where_refused (Err e) h = h
+
 module _ (table : Table) (config : Config) (before middle : Node) (hygienic : IsHygienic table config before middle) where
   refused : (e : PassError) → IsRefusal e → (e ≡ error.NotAssignable → all_bare middle ≡ false) → IsFinishRefusal table config before e
   refused error.NoMemory r bare = tt
