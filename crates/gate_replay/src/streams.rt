@@ -1,4 +1,6 @@
 //! A reader and a writer over memory, each call of which does little, and one of which fails.
+ghost use Rattle.std.specs.Prelude.{◌≡◌, IfOk};
+
 use std::io;
 use std::io::{ErrorKind, Read, Write};
 
@@ -54,8 +56,10 @@ impl Sink {
         }
     }
 
-    // What comes of the last call.
-    fn fail(&self) -> io::Result<usize> {
+    // What comes of the last call: it takes nothing.
+    fn fail(&self) -> io::Result<usize>
+        ensures { IfOk result (λ taken. taken ≡ 0) }
+    {
         match self.failure {
             Failure::Error => Err(io::Error::from(ErrorKind::BrokenPipe)),
             Failure::Interruption => Err(io::Error::from(ErrorKind::Interrupted)),
