@@ -6,7 +6,7 @@ import naming
 import naming_walk
 import scoping
 import units
-from lawbook import Bad, D, fits_place, identity, kids, law
+from lawbook import Bad, D, fits_place, identity, kids, law, well_scoped_program
 from naming import Renaming, hygiene, numbered
 from naming_laws import of_few_texts, some_ids, tries_fault
 from naming_rows import renamed
@@ -398,3 +398,26 @@ def listed(t):
     """(path, identifier) of all identifiers but those in lists of exports, which may be added"""
     lists = [path for path, node in paths(t) if node[0] == 'Tree' and node[1] == 'NamedExport']
     return [(path, node) for path, node in paths(t) if node[0] == 'Identifier' and not any(path[:len(p)] == p for p in lists)]
+
+
+def counted_apart(t, r, preserved):
+    """what is wrong where all names count, or only those of a scope and of the scopes round it, if the maps differ"""
+    flat, chained = [naming.Naming(t, r, preserved, counts).new_texts() for counts in (naming.all_count, naming.outer_count)]
+    return None if flat == chained else Bad('flat', repr(flat), 'chained', repr(chained))
+
+
+@law(well_scoped_program)
+def chained_is_flat_in_units(t):
+    """of a well-scoped program, and of each unit in it alone, the names are those where only the names of a scope and of those
+    round it count, whatever texts no name may be"""
+    if not scoping.WellScoped(D.all, t):
+        return None
+    alone = [t] + [u for _, u in units.units(D.all, t)]
+    for u in alone:
+        analysis = analysed(D.all, u)
+        texts = {js.codes(text) for text in ('a', 'b1')}
+        for r in (hygiene(some_ids(analysis)), numbered(True, False), Renaming(of_few_texts, False, True, ()), Renaming(of_few_texts, True, False)):
+            bad = counted_apart(analysis, r, set()) or counted_apart(analysis, r, texts)
+            if bad:
+                return bad
+    return True if len(alone) > 1 else None

@@ -43,6 +43,10 @@ own_alike t s p (q, w, f, at_p, at_s, there, uses) =
 no_variable : {A : Type 0} → standing.Variable ≡ standing.Lexical → A
 no_variable e = absurd (cc)
 
+-- of a tree: what occurs at a scope, and got its name earlier, got it there or further out
+abbrev pub CountsOutside : Node → Type 0
+CountsOutside t = (a b : Site) (y : Id) → Declares t b.0 b.1 y → OccursIn t a.0 y → IsBefore t b a → IsAtOrAbove t b.0 a.0
+
 module _ (t : Node) (s : Slot) (fit : Fits t s) (scoped : WellScoped t) where
   -- what occurs at a scope, and got its name earlier, got it there or further out
   module _ (a b : Site) (y : Id) (d : Declares t b.0 b.1 y) (o : OccursIn t a.0 y) (before : IsBefore t b a) where
@@ -88,21 +92,28 @@ module _ (t : Node) (s : Slot) (fit : Fits t s) (scoped : WellScoped t) where
                     at (inl (rest, e)) = inner rest e (taken_seen t standing.Variable b.1 v taken)
                     at (inr (n, at_body, body, l)) = no_variable l
 
-  module _ (r : Renaming) (preserved : List ℕ → Type 0) where
-    to_outer : (taken : Id → ℕ) (a : Site) (text : List ℕ) → IsFreeText t r preserved all_count taken a text → IsFreeText t r preserved (outer_count t) taken a text
-    to_outer taken a text f = record { not_preserved = f.not_preserved; not_held = λ b y e c o. f.not_held b y e tt o }
+pub counts_outside : (t : Node) (s : Slot) → Fits t s → WellScoped t → CountsOutside t
+counts_outside t s fit scoped a b y d o before = counts t s fit scoped a b y d o before
 
-    from_outer : (taken : Id → ℕ) (a : Site) (text : List ℕ) → IsFreeText t r preserved (outer_count t) taken a text → IsFreeText t r preserved all_count taken a text
-    from_outer taken a text f = record { not_preserved = f.not_preserved; not_held = λ b y e c o. f.not_held b y e (counts a b y e.named.declared o e.before) o }
+-- where it is so, it is one whether all names count
+module _ (t : Node) (outside : CountsOutside t) (r : Renaming) (preserved : List ℕ → Type 0) where
+  to_outer : (taken : Id → ℕ) (a : Site) (text : List ℕ) → IsFreeText t r preserved all_count taken a text → IsFreeText t r preserved (outer_count t) taken a text
+  to_outer taken a text f = record { not_preserved = f.not_preserved; not_held = λ b y e c o. f.not_held b y e tt o }
 
-    least_outer : (taken : Id → ℕ) (a : Site) (x : Id) → IsLeast t r preserved all_count taken a x → IsLeast t r preserved (outer_count t) taken a x
-    least_outer taken a x l = record { from_start = l.from_start; free = to_outer taken a (r.text x (taken x)) l.free; least = λ n less start free. l.least n less start (from_outer taken a (r.text x n) free) }
+  from_outer : (taken : Id → ℕ) (a : Site) (text : List ℕ) → IsFreeText t r preserved (outer_count t) taken a text → IsFreeText t r preserved all_count taken a text
+  from_outer taken a text f = record { not_preserved = f.not_preserved; not_held = λ b y e c o. f.not_held b y e (outside a b y e.named.declared o e.before) o }
 
-    least_all : (taken : Id → ℕ) (a : Site) (x : Id) → IsLeast t r preserved (outer_count t) taken a x → IsLeast t r preserved all_count taken a x
-    least_all taken a x l = record { from_start = l.from_start; free = from_outer taken a (r.text x (taken x)) l.free; least = λ n less start free. l.least n less start (to_outer taken a (r.text x n) free) }
+  least_outer : (taken : Id → ℕ) (a : Site) (x : Id) → IsLeast t r preserved all_count taken a x → IsLeast t r preserved (outer_count t) taken a x
+  least_outer taken a x l = record { from_start = l.from_start; free = to_outer taken a (r.text x (taken x)) l.free; least = λ n less start free. l.least n less start (from_outer taken a (r.text x n) free) }
 
-    pub chained_is_flat : (new_texts : Id → Option (List ℕ)) → Named t r preserved all_count new_texts ↔ Named t r preserved (outer_count t) new_texts
-    chained_is_flat new_texts = (
-      λ m. record { taken = m.taken; each = λ a x n. (least_outer m.taken a x (m.each a x n).0, (m.each a x n).1); no_other = m.no_other },
-      λ m. record { taken = m.taken; each = λ a x n. (least_all m.taken a x (m.each a x n).0, (m.each a x n).1); no_other = m.no_other },
-    )
+  least_all : (taken : Id → ℕ) (a : Site) (x : Id) → IsLeast t r preserved (outer_count t) taken a x → IsLeast t r preserved all_count taken a x
+  least_all taken a x l = record { from_start = l.from_start; free = from_outer taken a (r.text x (taken x)) l.free; least = λ n less start free. l.least n less start (to_outer taken a (r.text x n) free) }
+
+  pub flat_where_outside : (new_texts : Id → Option (List ℕ)) → Named t r preserved all_count new_texts ↔ Named t r preserved (outer_count t) new_texts
+  flat_where_outside new_texts = (
+    λ m. record { taken = m.taken; each = λ a x n. (least_outer m.taken a x (m.each a x n).0, (m.each a x n).1); no_other = m.no_other },
+    λ m. record { taken = m.taken; each = λ a x n. (least_all m.taken a x (m.each a x n).0, (m.each a x n).1); no_other = m.no_other },
+  )
+
+pub chained_is_flat : (t : Node) (s : Slot) → Fits t s → WellScoped t → (r : Renaming) (preserved : List ℕ → Type 0) (new_texts : Id → Option (List ℕ)) → Named t r preserved all_count new_texts ↔ Named t r preserved (outer_count t) new_texts
+chained_is_flat t s fit scoped r preserved new_texts = flat_where_outside t (counts_outside t s fit scoped) r preserved new_texts
