@@ -24,25 +24,30 @@ pub fn run_words(
     serve(alloc, command, kind, &mut input, output)
 }
 
-/// What the program writes on arguments in one line, to standard output or as a fault.
-pub fn written(alloc: Global, arguments: &str, input: &str) -> Result<Vec<u8>> {
+/// The one line that the program writes on arguments in one line, to standard output or as a fault. There is none where no line
+/// feed ends it.
+pub fn written(alloc: Global, arguments: &str, input: &str) -> Result<Option<String>> {
     let words = split(alloc, arguments)?;
     let mut output = Vec::new(alloc);
     if let Err(fault) = run_words(alloc, words.as_slice(), input.as_bytes(), &mut output) {
         let _status = report(&fault, &mut output);
     }
-    Ok(output)
+    let mut line = String::from_utf8(output)?;
+    if line.pop() != Some('\n') {
+        return Ok(None);
+    }
+    Ok(Some(line))
 }
 
 /// The status of the program on arguments in one line.
-pub fn status(alloc: Global, arguments: &str, input: &str) -> Result<Vec<u8>> {
+pub fn status(alloc: Global, arguments: &str, input: &str) -> Result<String> {
     let words = split(alloc, arguments)?;
     let mut output = Vec::new(alloc);
     let status = match run_words(alloc, words.as_slice(), input.as_bytes(), &mut output) {
         Ok(()) => 0,
         Err(fault) => report(&fault, &mut output),
     };
-    Ok(format!(in alloc; "{status}\n")?.into_bytes())
+    Ok(format!(in alloc; "{status}")?)
 }
 
 // Whether bytes are refused as no tree at all.
@@ -54,7 +59,7 @@ fn is_no_tree(alloc: Global, input: &[u8]) -> bool {
 }
 
 /// How many proper beginnings of a text are no tree, and whether bytes are none that are no UTF-8.
-pub fn beginnings(alloc: Global, input: &str) -> Result<Vec<u8>> {
+pub fn beginnings(alloc: Global, input: &str) -> Result<String> {
     let text = input.as_bytes();
     let mut count = 0u32;
     for end in 0..text.len() {
@@ -63,5 +68,5 @@ pub fn beginnings(alloc: Global, input: &str) -> Result<Vec<u8>> {
         }
     }
     let bytes = is_no_tree(alloc, &[0xff]);
-    Ok(format!(in alloc; "{count} {bytes}\n")?.into_bytes())
+    Ok(format!(in alloc; "{count} {bytes}")?)
 }

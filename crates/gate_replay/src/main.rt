@@ -1,7 +1,6 @@
 //! What the gate asks of the whole repository beside its proofs, as rows of one program; and what is measured by hand.
 //!
-//! Without arguments it goes over rows of three lines from standard input: words that say what is asked, an input, and
-//! what is wanted. It says which rows differ, and how many passed. With arguments it measures (`measure`) or runs a work
+//! Without arguments it goes over the rows of standard input (`gate_rows`). With arguments it measures (`measure`) or runs a work
 //! that is refused memory (`refuse`).
 #![tactic(auto)]
 
@@ -12,27 +11,18 @@ mod kinds;
 mod measure;
 mod programs;
 mod refuse;
-mod rows;
 mod serving;
 mod streams;
 mod texts;
 mod units;
 
+use answers::OfRows;
 use anyhow::Result;
-use std::env;
-
-// What comes after the program's name.
-fn arguments(rt: &HostRuntime) -> Result<Vec<String>> {
-    let mut given = Vec::new(rt.alloc());
-    for argument in env::args(rt)?.skip(1) {
-        given.push(argument)?;
-    }
-    Ok(given)
-}
+use gate_rows::{arguments, replay};
 
 fn serve(rt: &HostRuntime, arguments: &[String]) -> Result<()> {
     let Some(first) = arguments.first() else {
-        return rows::replay(rt);
+        return replay::<OfRows>(rt);
     };
     match first.as_str() {
         "refuse" => refuse::serve(rt, arguments),

@@ -9,21 +9,20 @@ mod check;
 mod names;
 mod notes;
 mod passes;
-mod program;
 mod renamers;
 
 use anyhow::{Result, bail};
+use gate_rows::Given;
 pub use passes::{Pass, class_of};
-use program::folded;
-pub use program::{Given, left, read};
 use std::alloc::Global;
+use swc_tree::noop;
 use swc_tree_node::Class;
 
-/// The program of a line, so many times.
-pub fn read_times(alloc: Global, class: Class, input: &str, times: u32) -> Result<Vec<Given>> {
+// The program of a line, so many times.
+fn read_times(alloc: Global, class: Class, input: &str, times: u32) -> Result<Vec<Given>> {
     let mut programs = Vec::new(alloc);
     for _ in 0..times {
-        programs.push(read(alloc, class, input)?)?;
+        programs.push(Given::read(alloc, class, input)?)?;
     }
     Ok(programs)
 }
@@ -38,8 +37,7 @@ fn run(alloc: Global, word: &str, input: &str, programs: &mut Vec<Given>) -> Res
     let Some(last) = programs.pop() else {
         bail!("there is no program");
     };
-    let left = left(alloc, answer, last)?;
-    Ok(pass.before(alloc, left)?)
+    Ok(pass.before(alloc, last.left(alloc, answer)?)?)
 }
 
 /// What is answered to a row.
@@ -49,8 +47,8 @@ pub fn answer(alloc: Global, words: &str, input: &str) -> Result<String> {
     };
     let class = class_of(class)?;
     match command {
-        "items" => check::answer(alloc, &read(alloc, class, input)?),
-        "fold" => folded(alloc, read(alloc, class, input)?),
+        "items" => check::answer(alloc, &Given::read(alloc, class, input)?),
+        "fold" => Given::read(alloc, class, input)?.folded(alloc, &mut noop()),
         _ => {
             let (times, word) = match command.strip_prefix("twice ") {
                 Some(word) => (2, word),

@@ -1,19 +1,14 @@
 //! Rows of helpers that are brought into programs. The input is an envelope, and behind a tab, where helpers are written out, the
 //! envelope of a script that is the body of the helper `throw`. The helper mark is 7, and the global mark is the unresolved one.
-ghost use Rattle.swc_tree_node.specs.declared.slot.Slot.TheVariants.{One};
-ghost use Rattle.swc_tree_node.specs.declared.slot.Content.TheVariants.{Node as Of};
-ghost use Rattle.swc_tree_node.specs.Fits.{Fits};
-ghost use Rattle.std.specs.Prelude.{IfOk, IfSome};
-
-use jsbase_reader::{Envelope, read_bytes};
-use jsbase_writer::{write, write_envelope};
+use gate_rows::{Given, Program};
+use jsbase_writer::write;
 use std::alloc::Global;
 use swc_base_rename::hygiene;
 use swc_base_tables::{
     Helper, HelperBodies, Helpers, InjectHelpers, helper, helper_expr, inject_helpers,
 };
-use swc_tree::{DUMMY_SP, Globals, JsPass, Mark, Module, Opened, PassError, Script, Trees, class};
-use swc_tree_node::{Class, Node};
+use swc_tree::{DUMMY_SP, Globals, Mark, Opened, Trees, class};
+use swc_tree_node::Class;
 
 /// Helpers with the mark 7, `throw` among them.
 pub fn helpers(alloc: Global, external: bool) -> Option<Helpers> {
@@ -33,20 +28,12 @@ pub fn throw() -> Option<Helper> {
     None
 }
 
-fn read(alloc: Global, class: Class, text: &str) -> Option<Envelope>
-    ensures { IfSome result (λ envelope. Fits envelope.tree (One (Of class))) }
-{
-    let Ok(envelope) = read_bytes(alloc, class, text.as_bytes()) else {
-        return None;
-    };
-    Some(envelope)
-}
-
 /// The statements of the script that an envelope holds.
 pub fn statements(alloc: Global, text: &str) -> Option<Trees<class::Stmt>> {
-    let Envelope { tree, .. } = read(alloc, Class::Script, text)?;
-    let script = Script::from_node(tree);
-    Some(script.body)
+    match Given::read(alloc, Class::Script, text).ok()?.program {
+        Program::Script(script) => Some(script.body),
+        Program::Module(_) => None,
+    }
 }
 
 // The bodies that an input gives.
@@ -95,31 +82,7 @@ enum Then {
     InjectionAgain,
 }
 
-fn run<P: JsPass>(
-    alloc: Global,
-    pass: &mut P,
-    globals: &mut Globals,
-    class: Class,
-    tree: Node,
-) -> Result<Node, PassError>
-    requires { Fits tree (One (Of class)) }
-    ensures { IfOk result (λ answer. Fits answer (One (Of class))) }
-{
-    match class {
-        Class::Module => {
-            let module = pass.fold_module(alloc, globals, Module::from_node(tree))?;
-            Ok(module.into_node(alloc)?)
-        }
-        Class::Script => {
-            let mut script = Script::from_node(tree);
-            pass.visit_mut_script(alloc, globals, &mut script)?;
-            Ok(script.into_node(alloc)?)
-        }
-        _ => Ok(tree),
-    }
-}
-
-// The program of an input, with the helper in it.
+// What is left of the program of an input, with the helper in it.
 fn injected(
     alloc: Global,
     class: Class,
@@ -127,23 +90,15 @@ fn injected(
     then: Then,
     input: &str,
 ) -> Option<String> {
-    let envelope = read(alloc, class, program_of(input))?;
-    let mut pass = pass_of(alloc, envelope.unresolved, external, input)?;
-    let Envelope {
-        mut globals,
-        unresolved,
-        top,
-        tree,
-        ..
-    } = envelope;
-    let tree = run(alloc, &mut pass, &mut globals, class, tree).ok()?;
-    let tree = match then {
-        Then::Nothing => tree,
-        Then::Hygiene => run(alloc, &mut hygiene(), &mut globals, class, tree).ok()?,
-        Then::InjectionAgain => run(alloc, &mut pass, &mut globals, class, tree).ok()?,
-    };
-    let text = write_envelope(alloc, &globals, top, &tree, unresolved).ok()?;
-    String::from_str(alloc, text.as_str().trim_end()).ok()
+    let mut given = Given::read(alloc, class, program_of(input)).ok()?;
+    let mut pass = pass_of(alloc, given.settings.unresolved, external, input)?;
+    given.visit(alloc, &mut pass).ok()?;
+    match then {
+        Then::Nothing => {}
+        Then::Hygiene => given.visit(alloc, &mut hygiene()).ok()?,
+        Then::InjectionAgain => given.visit(alloc, &mut pass).ok()?,
+    }
+    given.left(alloc, Ok(())).ok()
 }
 
 // The name of `throw` as an expression and as what is called, and whether it is enabled then, on a table with the one mark 1.

@@ -1,26 +1,14 @@
 //! Works that may be refused memory, each with all that it needs.
-use crate::finished::{Task, run_module, run_script, task_of};
-use crate::held::{Held, Program};
+use crate::finished::{Task, run, task_of};
 use crate::helpers::{named, names};
 use crate::injection::{body_of, helpers, pass_of, program_of, statements, throw};
+use gate_rows::{Given, Work};
 use jsbase_writer::write;
 use std::alloc::Global;
 use std::fmt::Write;
 use swc_base_tables::{Helper, HelperBodies, Helpers, InjectHelpers, helper, helper_expr};
 use swc_tree::{DUMMY_SP, Globals, Mark, Opened, PassError, Trees, class};
 use swc_tree_node::{Class, Node};
-
-/// A work that may be refused memory.
-pub trait Work: Drop {
-    /// Does it, if it can be done at all.
-    fn run(&mut self, alloc: Global) -> Option<Result<(), PassError>>;
-
-    /// Whether a refusal left what it has to leave.
-    fn is_kept(&mut self, alloc: Global) -> Option<bool>;
-
-    /// Whether what came of it is what a row wants.
-    fn is_ample(self, alloc: Global, answer: Result<(), PassError>, wanted: &str) -> Option<bool>;
-}
 
 /// Helpers that are made on an empty table, and enabled one.
 #[derive(Drop)]
@@ -195,7 +183,7 @@ pub struct Injected {
     class: Class,
     text: String,
     pass: InjectHelpers,
-    held: Held,
+    given: Given,
 }
 
 impl Injected {
@@ -208,36 +196,36 @@ impl Injected {
             "helper written out in a script" => (false, Class::Script),
             _ => return None,
         };
-        let held = Held::read(alloc, class, program_of(input))?;
-        let pass = pass_of(alloc, held.unresolved(), external, input)?;
+        let given = Given::read(alloc, class, program_of(input)).ok()?;
+        let pass = pass_of(alloc, given.settings.unresolved, external, input)?;
         Some(Injected {
             class,
             text: String::from_str(alloc, program_of(input)).ok()?,
             pass,
-            held,
+            given,
         })
     }
 
     // Whether the pass changes no further program.
     fn is_used_up(&mut self, alloc: Global) -> Option<bool> {
-        let mut further = Held::read(alloc, self.class, self.text.as_str())?;
+        let mut further = Given::read(alloc, self.class, self.text.as_str()).ok()?;
         let answer = further.visit(alloc, &mut self.pass);
-        let unchanged = Held::read(alloc, self.class, self.text.as_str())?;
-        Some(further.left(alloc, answer)? == unchanged.left(alloc, Ok(()))?)
+        let unchanged = Given::read(alloc, self.class, self.text.as_str()).ok()?;
+        Some(further.left(alloc, answer).ok()? == unchanged.left(alloc, Ok(())).ok()?)
     }
 }
 
 impl Work for Injected {
     fn run(&mut self, alloc: Global) -> Option<Result<(), PassError>> {
-        Some(self.held.visit(alloc, &mut self.pass))
+        Some(self.given.visit(alloc, &mut self.pass))
     }
 
     fn is_kept(&mut self, alloc: Global) -> Option<bool> {
-        Some(self.held.is_emptied() && self.is_used_up(alloc)?)
+        Some(self.given.is_emptied() && self.is_used_up(alloc)?)
     }
 
     fn is_ample(self, alloc: Global, answer: Result<(), PassError>, wanted: &str) -> Option<bool> {
-        Some(self.held.left(alloc, answer)?.as_str() == wanted)
+        Some(self.given.left(alloc, answer).ok()?.as_str() == wanted)
     }
 }
 
@@ -245,37 +233,33 @@ impl Work for Injected {
 #[derive(Drop)]
 pub struct Finished {
     task: Task,
-    held: Held,
+    given: Given,
 }
 
 impl Finished {
     /// The work of a row of such passes.
     pub fn of_row(alloc: Global, words: &str, input: &str) -> Option<Finished> {
         let (task, class) = task_of(words)?;
-        let held = Held::read(alloc, class, input)?;
-        Some(Finished { task, held })
+        let given = Given::read(alloc, class, input).ok()?;
+        Some(Finished { task, given })
     }
 }
 
 impl Work for Finished {
     fn run(&mut self, alloc: Global) -> Option<Result<(), PassError>> {
-        let given = &mut self.held.given;
-        match &mut self.held.program {
-            Program::Module(module) => run_module(alloc, self.task, given, module),
-            Program::Script(script) => run_script(alloc, self.task, given, script),
-        }
+        run(alloc, self.task, &mut self.given)
     }
 
     // The resolver alone makes marks.
     fn is_kept(&mut self, _alloc: Global) -> Option<bool> {
         let has_its_marks = match self.task {
             Task::Chain => true,
-            _ => self.held.has_no_new_mark(),
+            Task::Finish => self.given.has_no_new_mark(),
         };
-        Some(self.held.is_emptied() && has_its_marks)
+        Some(self.given.is_emptied() && has_its_marks)
     }
 
     fn is_ample(self, alloc: Global, answer: Result<(), PassError>, wanted: &str) -> Option<bool> {
-        Some(self.held.left(alloc, answer)?.as_str() == wanted)
+        Some(self.given.left(alloc, answer).ok()?.as_str() == wanted)
     }
 }

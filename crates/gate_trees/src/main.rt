@@ -1,57 +1,23 @@
 //! What the gate asks of trees that no program leads to: copied, opened one level deep, looked at, closed and written. It
-//! goes over rows of three lines from standard input, as `gate_replay` does. It is a program of its own, since the
-//! toolchain's own compiler builds that one and has no room for both in one.
+//! goes over the rows of standard input, as `gate_replay` does. It is a program of its own, since the toolchain's own compiler
+//! builds that one and has no room for both in one.
 #![tactic(auto)]
 
 mod trees;
 
-use anyhow::{Result, bail};
+use anyhow::Result;
+use gate_rows::{Answers, replay};
+use std::alloc::Global;
 
-// The lines of standard input.
-fn lines(rt: &HostRuntime) -> Result<Vec<String>> {
-    let mut lines = Vec::new(rt.alloc());
-    for line in rt.lines(rt.alloc()) {
-        lines.push(line?)?;
-    }
-    Ok(lines)
-}
+/// The answers to the rows of this program.
+struct OfRows;
 
-// Whether a row is answered as it wants. Says what is answered else.
-fn is_answered(rt: &HostRuntime, words: &str, input: &str, wanted: &str) -> Result<bool> {
-    let Some(answer) = trees::answer(rt.alloc(), words, input) else {
-        println!(rt; "{words} of {input} has no answer")?;
-        return Ok(false);
-    };
-    let is_wanted = answer.as_str() == wanted;
-    if !is_wanted {
-        println!(rt; "{words} of {input} differs: {answer}")?;
+impl Answers for OfRows {
+    fn answer(alloc: Global, words: &str, input: &str) -> Result<Option<String>> {
+        Ok(trees::answer(alloc, words, input))
     }
-    Ok(is_wanted)
-}
-
-// How many rows there are, and how many of them differ.
-fn count(rt: &HostRuntime, mut lines: &[String]) -> Result<(u32, u32)> {
-    let (mut rows, mut failed) = (0u32, 0u32);
-    for _ in 0..lines.len() {
-        let [words, input, wanted, rest @ ..] = lines else {
-            break;
-        };
-        rows = rows.saturating_add(1);
-        if !is_answered(rt, words.as_str(), input.as_str(), wanted.as_str())? {
-            failed = failed.saturating_add(1);
-        }
-        lines = rest;
-    }
-    Ok((rows, failed))
 }
 
 fn main(rt: HostRuntime) -> Result<()> {
-    let lines = lines(&rt)?;
-    let (rows, failed) = count(&rt, lines.as_slice())?;
-    let passed = rows.saturating_sub(failed);
-    println!(rt; "{passed} passed, {failed} failed")?;
-    if failed > 0 {
-        bail!("{failed} rows differ");
-    }
-    Ok(())
+    replay::<OfRows>(&rt)
 }

@@ -1,6 +1,6 @@
 //! A check over programs.
-use crate::programs::program::{Given, Program};
 use anyhow::Result;
+use gate_rows::{Given, Program};
 use std::alloc::Global;
 use std::fmt::Write;
 use swc_tree::{Check, Module, Script, should_work};
@@ -35,5 +35,5 @@ pub fn answer(alloc: Global, given: &Given) -> Result<String> {
         Program::Module(module) => should_work::<HasItems, Module>(module),
         Program::Script(script) => should_work::<HasItems, Script>(script),
     };
-    Ok(format!(in alloc; "{works}\n")?)
+    Ok(format!(in alloc; "{works}")?)
 }

@@ -1,10 +1,10 @@
 //! Passes by their names.
 use crate::programs::names;
 use crate::programs::notes::{Notes, room};
-use crate::programs::program::Given;
 use crate::programs::renamers::Renaming;
 use crate::texts::text_each;
 use anyhow::{Result, bail};
+use gate_rows::Given;
 use std::alloc::{AllocError, Global};
 use std::collections::HashMap;
 use swc_base_fixer::{NoComments, fixer, paren_remover};
@@ -39,8 +39,9 @@ pub enum Pass {
 
 // The resolver of a program's marks, where they are known and neither is the root.
 fn resolver_of(given: &Given) -> Option<Resolver> {
-    if marks_ok(&given.globals, given.unresolved, given.top) {
-        Some(resolver(given.unresolved, given.top))
+    let (unresolved, top) = (given.settings.unresolved, given.settings.top);
+    if marks_ok(&given.globals, unresolved, top) {
+        Some(resolver(unresolved, top))
     } else {
         None
     }
@@ -49,10 +50,10 @@ fn resolver_of(given: &Given) -> Option<Resolver> {
 // What the renaming passes go by.
 fn config_of(given: &Given) -> Config {
     Config {
-        keep_class_names: given.keep_class_names,
+        keep_class_names: given.settings.keep_class_names,
         safari_10: false,
-        top_level_mark: given.top,
-        ignore_eval: given.ignore_eval,
+        top_level_mark: given.settings.top,
+        ignore_eval: given.settings.ignore_eval,
     }
 }
 
@@ -63,7 +64,7 @@ pub fn visit_each<P: JsPass>(
     programs: &mut [Given],
 ) -> Result<(), PassError> {
     for given in programs {
-        given.program.visit(pass, alloc, &mut given.globals)?;
+        given.visit(alloc, pass)?;
     }
     Ok(())
 }

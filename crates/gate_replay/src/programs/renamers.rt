@@ -2,8 +2,8 @@
 //! finds the ids that it preserves under the key `preserved`.
 use crate::programs::names;
 use crate::programs::passes::visit_each;
-use crate::programs::program::Given;
 use gate_renamers::{Letters, Numbered, Refusing};
+use gate_rows::Given;
 use std::alloc::Global;
 use std::mem;
 use swc_base_rename::{Config, renamer};
