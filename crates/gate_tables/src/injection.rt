@@ -30,10 +30,11 @@ pub fn throw() -> Option<Helper> {
 
 /// The statements of the script that an envelope holds.
 pub fn statements(alloc: Global, text: &str) -> Option<Trees<class::Stmt>> {
-    match Given::read(alloc, Class::Script, text).ok()?.program {
-        Program::Script(script) => Some(script.body),
-        Program::Module(_) => None,
-    }
+    let Given { program, .. } = Given::read(alloc, Class::Script, text).ok()?;
+    let Program::Script(script) = program else {
+        return None;
+    };
+    Some(script.body)
 }
 
 // The bodies that an input gives.
@@ -91,7 +92,8 @@ fn injected(
     input: &str,
 ) -> Option<String> {
     let mut given = Given::read(alloc, class, program_of(input)).ok()?;
-    let mut pass = pass_of(alloc, given.settings.unresolved, external, input)?;
+    let settings = given.settings;
+    let mut pass = pass_of(alloc, settings.unresolved, external, input)?;
     given.visit(alloc, &mut pass).ok()?;
     match then {
         Then::Nothing => {}

@@ -197,7 +197,8 @@ impl Injected {
             _ => return None,
         };
         let given = Given::read(alloc, class, program_of(input)).ok()?;
-        let pass = pass_of(alloc, given.settings.unresolved, external, input)?;
+        let settings = given.settings;
+        let pass = pass_of(alloc, settings.unresolved, external, input)?;
         Some(Injected {
             class,
             text: String::from_str(alloc, program_of(input)).ok()?,
