@@ -1,10 +1,13 @@
 #!/usr/bin/env python3
-"""try_edits.py [--since COMMIT] [CRATE..]: tries the edits that the gate does not try, crates/*/must-fail/*.md.
+"""try_edits.py [--applies] [--since COMMIT] [CRATE..]: tries the edits that the gate does not try, crates/*/must-fail/*.md.
 
 Each is the text of an edit that the prover must refuse. In a copy of the repository, with the libraries that are
 already proved, `rt must-fail` tries those of the named crates, or of the crates whose folder differs from COMMIT, or of
 all. For each edit a line says whether it was refused; status 1 where one was not, or could not be tried. The first edit
-of a crate costs a check of it, each other some 15 to 40 s of a processor."""
+of a crate costs a check of it, each other some 15 to 40 s of a processor.
+
+With --applies nothing is proved: it only looks whether each text that an edit replaces stands just once in its file, so that
+an edit by hand does not go stale unseen."""
 import argparse
 import os
 import re
@@ -22,6 +25,22 @@ def edits_of(crate):
     folder = os.path.join(ROOT, 'crates', crate, 'must-fail')
     found = os.listdir(folder) if os.path.isdir(folder) else []
     return sorted(name[:-len('.md')] for name in found if name.endswith('.md'))
+
+
+def misfits(crate):
+    """The edits by hand of a crate of which a text to be replaced does not stand just once in its file."""
+    found = []
+    for name in edits_of(crate):
+        file = ''
+        with open(os.path.join(ROOT, 'crates', crate, 'must-fail', name + '.md'), encoding='utf-8') as edit:
+            lines = edit.read().split('\n')
+        for word, _, text in (line.partition(': ') for line in lines):
+            if word == 'file':
+                with open(os.path.join(ROOT, 'crates', crate, text), encoding='utf-8') as source:
+                    file = source.read()
+            elif word == 'old' and file.count(text) != 1:
+                found.append(f'{crate}/{name}: stands {file.count(text)} times: {text}')
+    return found
 
 
 def changed(commit):
@@ -60,6 +79,7 @@ def are_refused(root, crate):
 
 def main():
     parser = argparse.ArgumentParser(description=__doc__, formatter_class=argparse.RawDescriptionHelpFormatter)
+    parser.add_argument('--applies', action='store_true')
     parser.add_argument('--since', metavar='COMMIT')
     parser.add_argument('crates', nargs='*', metavar='CRATE')
     given = parser.parse_args()
@@ -68,6 +88,10 @@ def main():
         parser.error('no such edits: ' + ' '.join(sorted(set(given.crates) - known)))
     wanted = set(given.crates) or known
     wanted = sorted(wanted & changed(given.since) if given.since else wanted)
+    if given.applies:
+        stale = [line for crate in wanted for line in misfits(crate)]
+        print('\n'.join(stale) or f'edits by hand: each of {sum(len(edits_of(crate)) for crate in wanted)} applies')
+        return 1 if stale else 0
     with tempfile.TemporaryDirectory(prefix='try-edits-') as folder:
         root = os.path.join(folder, 'copy')
         if wanted:
