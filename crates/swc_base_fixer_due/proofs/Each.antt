@@ -1,6 +1,8 @@
 -- Loops that take the elements of a list out in turn, and put them back changed.
-use Rattle.std.proofs.Common.{◌≡◌, ℕ, zero, suc, ◌+◌, ◌<◌, List, [], ◌∷◌, ◌++◌, length, map, take, drop, Some, slice_set, sym, ap, ◌∙◌, arith, add-one}
+use Rattle.std.proofs.Common.{◌≡◌, ℕ, zero, suc, ◌+◌, ◌<◌, List, [], ◌∷◌, ◌++◌, length, map, take, drop, Some, slice_set, ◌≤◌, refl, sym, ap, ◌∙◌, arith, add-one}
+use denote.Param.Weighed.{most}
 use Rattle.std.specs.List.{slice_get}
+use Rattle.swc_tree_node.specs.declared.node.Node.{Node}
 use Rattle.swc_base_fixer_due.specs.Walk.{each_told}
 
 done_at : {X : Type 0} (f : X → X) (xs : List X) (i : ℕ) (d x : X) → i < length xs → slice_get (map f (take i xs) ++ drop i xs) i ≡ Some x
@@ -24,3 +26,46 @@ told_at f g (y ∷ xs) (suc i) d x h e = ap (λ l. f y (g zero) ∷ l) (told_at 
 pub told_back : {X A : Type 0} (f : X → A → X) (g : ℕ → A) (xs ys zs ws : List X) (i : ℕ) (d x y : X) (a : A) → i < length xs → ys ≡ each_told f g (take i xs) ++ drop i xs → slice_get ys i ≡ Some x
     → zs ≡ slice_set ys i d → ws ≡ slice_set zs i y → a ≡ g i → y ≡ f x a → ws ≡ each_told f g (take (i + 1) xs) ++ drop (i + 1) xs
 told_back f g xs ys zs ws i d x y a h was here out back at new = back ∙ rw (out, new, at, was, add-one) (told_at f g xs i d x h (rw (← was) here))
+
+-- a measure of an element is at most the greatest
+pub got_at_most : (μ : Node → ℕ) (ts : List Node) (i : ℕ) (t : Node) → slice_get ts i ≡ Some t → μ t ≤ most μ ts
+got_at_most μ [] i t h = absurd (cc)
+got_at_most μ (x ∷ ts) zero t h = let same : x ≡ t = cc in let e = ap μ same in omega (arith, e)
+got_at_most μ (x ∷ ts) (suc i) t h = let r = got_at_most μ ts i t h in omega (arith, r)
+
+-- the next element is still that of the list
+got_there : {X A : Type 0} (f : X → A → X) (g : ℕ → A) (xs : List X) (i : ℕ) → i < length xs → slice_get (each_told f g (take i xs) ++ drop i xs) i ≡ slice_get xs i
+got_there f g [] i h = absurd (omega arith)
+got_there f g (x ∷ xs) zero h = refl
+got_there f g (x ∷ xs) (suc i) h = got_there f (λ i. g (suc i)) xs i (omega arith)
+
+pub is_there : {X A : Type 0} (f : X → A → X) (g : ℕ → A) (xs ys : List X) (i : ℕ) (x : X) → i < length xs → ys ≡ each_told f g (take i xs) ++ drop i xs → slice_get ys i ≡ Some x → slice_get xs i ≡ Some x
+is_there f g xs ys i x h was here = sym (got_there f g xs i h) ∙ rw (← was) here
+
+left_there : {X A : Type 0} (f : X → A → X) (g : ℕ → A) (xs : List X) (i : ℕ) (x : X) → slice_get xs i ≡ Some x → f x (g i) ≡ x → each_told f g (take i xs) ++ drop i xs ≡ each_told f g (take (suc i) xs) ++ drop (suc i) xs
+left_there f g [] i x h e = absurd (cc)
+left_there f g (y ∷ xs) zero x h e = let same : y ≡ x = cc in rw same (ap (λ u. u ∷ xs) (sym e))
+left_there f g (y ∷ xs) (suc i) x h e = ap (λ l. f y (g zero) ∷ l) (left_there f (λ i. g (suc i)) xs i x h e)
+
+-- an element that is left where it is, since it stays as it is
+pub told_left : {X A : Type 0} (f : X → A → X) (g : ℕ → A) (xs ys : List X) (i : ℕ) (x : X) → i < length xs → ys ≡ each_told f g (take i xs) ++ drop i xs → slice_get ys i ≡ Some x → f x (g i) ≡ x
+    → ys ≡ each_told f g (take (i + 1) xs) ++ drop (i + 1) xs
+told_left f g xs ys i x h was here stays = was ∙ rw add-one (left_there f g xs i x (is_there f g xs ys i x h was here) stays)
+
+-- the same of a list whose elements are told nothing
+map_there : {X : Type 0} (f : X → X) (xs : List X) (i : ℕ) → i < length xs → slice_get (map f (take i xs) ++ drop i xs) i ≡ slice_get xs i
+map_there f [] i h = absurd (omega arith)
+map_there f (x ∷ xs) zero h = refl
+map_there f (x ∷ xs) (suc i) h = map_there f xs i (omega arith)
+
+pub is_next : {X : Type 0} (f : X → X) (xs ys : List X) (i : ℕ) (x : X) → i < length xs → ys ≡ map f (take i xs) ++ drop i xs → slice_get ys i ≡ Some x → slice_get xs i ≡ Some x
+is_next f xs ys i x h was here = sym (map_there f xs i h) ∙ rw (← was) here
+
+map_left : {X : Type 0} (f : X → X) (xs : List X) (i : ℕ) (x : X) → slice_get xs i ≡ Some x → f x ≡ x → map f (take i xs) ++ drop i xs ≡ map f (take (suc i) xs) ++ drop (suc i) xs
+map_left f [] i x h e = absurd (cc)
+map_left f (y ∷ xs) zero x h e = let same : y ≡ x = cc in rw same (ap (λ u. u ∷ xs) (sym e))
+map_left f (y ∷ xs) (suc i) x h e = ap (λ l. f y ∷ l) (map_left f xs i x h e)
+
+pub next_left : {X : Type 0} (f : X → X) (xs ys : List X) (i : ℕ) (x : X) → i < length xs → ys ≡ map f (take i xs) ++ drop i xs → slice_get ys i ≡ Some x → f x ≡ x
+    → ys ≡ map f (take (i + 1) xs) ++ drop (i + 1) xs
+next_left f xs ys i x h was here stays = was ∙ rw add-one (map_left f xs i x (is_next f xs ys i x h was here) stays)

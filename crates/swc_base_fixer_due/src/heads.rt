@@ -11,6 +11,7 @@ ghost use Rattle.swc_base_fixer_due.specs.Heads.{as_expression as as_expression_
 ghost use Rattle.swc_base_fixer_due.specs.Record.{place_in};
 ghost use Rattle.swc_base_fixer_due.specs.Walk.{each_told, in_heads};
 
+use crate::leaf::is_leaf;
 use crate::level::{is_in, word_of};
 use crate::pair::pair;
 use crate::record::Record;
@@ -210,6 +211,9 @@ fn pair_each(
     ensures { IfOk result (λ r. r ≡ each_told (in_heads (place_in recorded.now)) (flag_at handing with_in) nodes) }
 {
     for i in 0..nodes.len() {
+        if is_leaf(&nodes.as_slice()[i]) {
+            continue;
+        }
         let node = nodes.replace(i, Node::Absent);
         let done = pair_in_heads(alloc, recorded, handing.flag(with_in, i), node)?;
         nodes.set(i, done);

@@ -9,6 +9,7 @@ ghost use Rattle.swc_base_fixer_due.specs.Row.{ask_at};
 ghost use Rattle.swc_base_fixer_due.specs.Settled.{odd_item as odd_item_of, odd_list as odd_list_of, settled_by};
 ghost use Rattle.swc_base_fixer_due.specs.Walk.{by_level, each_told, is_base as is_base_of, is_chain_in, is_statement_in};
 
+use crate::leaf::is_leaf;
 use crate::pair::pair_if;
 use crate::reader::is_odd_item;
 use crate::record::Record;
@@ -210,6 +211,9 @@ fn pair_each(
     ensures { IfOk result (λ r. r ≡ each_told (by_level (place_in recorded.now)) (is_base_of chain) nodes) }
 {
     for i in 0..nodes.len() {
+        if is_leaf(&nodes.as_slice()[i]) {
+            continue;
+        }
         let node = nodes.replace(i, Node::Absent);
         let done = pair_by_level(alloc, recorded, is_base(chain, i), node)?;
         nodes.set(i, done);

@@ -14,6 +14,7 @@ mod demand;
 mod due;
 mod family;
 mod heads;
+mod leaf;
 mod level;
 mod levels;
 mod pair;

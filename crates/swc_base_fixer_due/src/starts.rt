@@ -7,6 +7,7 @@ ghost use Rattle.swc_base_fixer_due.specs.Begin.{begins, beginning_for, first_pa
 ghost use Rattle.swc_base_fixer_due.specs.Record.{place_in};
 
 use crate::family::{Family, is_of};
+use crate::leaf::is_leaf;
 use crate::pair::pair;
 use crate::record::Record;
 use crate::start::{Start, leading_field, start_of};
@@ -149,6 +150,9 @@ fn pair_each(
     ensures { IfOk result (λ r. r ≡ map (paired_at_starts (place_in recorded.now)) nodes) }
 {
     for i in 0..nodes.len() {
+        if is_leaf(&nodes.as_slice()[i]) {
+            continue;
+        }
         let node = nodes.replace(i, Node::Absent);
         let done = pair_at_starts(alloc, recorded, node)?;
         nodes.set(i, done);

@@ -1,11 +1,12 @@
-use Rattle.std.proofs.Common.{◌≡◌, Bool, ◌||◌, arith, length-set, sym, ap, ◌∙◌}
+use Rattle.std.proofs.Common.{◌≡◌, ℕ, Bool, ◌||◌, arith, length-set, rules, sym, ap, ◌∙◌}
 use Rattle.std.proofs.lemmas.Result.{IfOk-weaker}
-use Rattle.swc_tree_node.specs.declared.node.Node.{List as Many}
+use Rattle.swc_tree_node.specs.declared.node.Node.{Node, List as Many, the_lemmas}
 use Rattle.swc_base_fixer_due.specs.Heads.{flag_at}
 use Rattle.swc_base_fixer_due.specs.Record.{place_in}
 use Rattle.swc_base_fixer_due.specs.Walk.{in_heads}
-use Rattle.swc_base_fixer_due.proofs.Each.{told_back}
+use Rattle.swc_base_fixer_due.proofs.Each.{got_at_most, is_there, told_back, told_left}
 use Rattle.swc_base_fixer_due.proofs.Heading.{heads_list, heads_tree}
+use Rattle.swc_base_fixer_due.proofs.Leaves.{heads_leave, looked_at}
 use Rattle.swc_base_fixer_due.proofs.heads.+heads.Goals as goal
 use Rattle.swc_base_fixer_due.proofs.heads.+heads.Goals.{pair_in_heads-then-with_in, pair_in_heads-else-with_in}
 
@@ -29,3 +30,17 @@ pair_in_heads-returns-in_ok-fields-in-Tree t c =
     ] in
     IfOk-weaker c.headed.result _ _ (heads_tree (place_in c.args.recorded.now) c.args.node c.in-Tree.kind c.in-Tree.fields c.as_slice.result.now c.as_slice-in-Tree.result.now c.in_ok-fields-in-Tree.fields c.args.with_in due c.if-with_in.pair_each c.handing_of-handing.result
     c.in-Tree.is c.as_slice.ensures c.as_slice-in-Tree.ensures c.is_bare_in-is_due.ensures c.handing_of-handing.ensures free c.in_ok-fields-in-Tree.ensures) c.headed.ensures
+
+pub pair_each-loop-i-preserved-then-is_leaf : goal.pair_each-loop-i-preserved-then-is_leaf
+pair_each-loop-i-preserved-then-is_leaf t c = (
+  c.loop-i.invariant.0,
+  told_left (in_heads (place_in c.args.recorded.now)) (flag_at c.args.handing c.args.with_in) c.args.nodes c.loop-i.nodes c.loop-i.i c.index-as_slice-i.result (omega arith) c.loop-i.invariant.1
+      (looked_at c.loop-i.nodes c.as_slice.result.now c.loop-i.i c.index-as_slice-i.result (omega arith) c.as_slice.ensures c.index-as_slice-i.is)
+      (heads_leave (place_in c.args.recorded.now) (flag_at c.args.handing c.args.with_in c.loop-i.i) c.index-as_slice-i.result (sym c.is_leaf.ensures ∙ c.if-is_leaf.true)),
+)
+
+pub pair_each-pair_in_heads-requires : goal.pair_each-pair_in_heads-requires
+pair_each-pair_in_heads-requires t c =
+    let here = is_there (in_heads (place_in c.args.recorded.now)) (flag_at c.args.handing c.args.with_in) c.args.nodes c.loop-i.nodes c.loop-i.i c.replace-node.result (omega arith) c.loop-i.invariant.1 c.replace-node.ensures.taken in
+    let smaller = λ (μ : Node → ℕ). got_at_most μ c.args.nodes c.loop-i.i c.replace-node.result here in
+    search (rules, the_lemmas, smaller)
