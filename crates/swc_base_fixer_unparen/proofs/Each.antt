@@ -1,8 +1,10 @@
 -- Loops that take the elements of a list out in turn.
-use Rattle.std.proofs.Common.{◌≡◌, ℕ, zero, suc, ◌+◌, ◌<◌, List, [], ◌∷◌, ◌++◌, length, map, take, drop, Some, slice_set, Result, refl, sym, ap, ◌∙◌, subst, arith, add-one, append_assoc}
+use Rattle.std.proofs.Common.{◌≡◌, ℕ, zero, suc, ◌+◌, ◌<◌, ◌≤◌, List, [], ◌∷◌, ◌++◌, length, map, take, drop, Some, slice_set, Result, refl, sym, ap, ◌∙◌, subst, arith, add-one, append_assoc}
+use denote.Param.Weighed.{most}
 use Rattle.std.specs.Prelude.{OnOk}
 use Rattle.std.specs.List.{slice_get, flat_map}
 use Rattle.std.proofs.lemmas.List.{append-nil}
+use Rattle.swc_tree_node.specs.declared.node.Node.{Node}
 
 -- a list of which the first elements are taken out
 abbrev pub from : {X : Type 0} → X → ℕ → List X → List X
@@ -45,3 +47,27 @@ added now before all pieces piece more a b c = rw (a, b, c) (append_assoc all pi
 -- the same, where it comes from a call that may be refused and is said in other words
 pub added_as : {X T E : Type 0} (r : Result T E) (now all a b : List X) → a ≡ b → OnOk r (now ≡ all ++ a) → OnOk r (now ≡ all ++ b)
 added_as r now all a b e h = subst (λ ps. OnOk r (now ≡ all ++ ps)) e h
+
+-- a measure of an element is at most the greatest
+pub got_at_most : (μ : Node → ℕ) (ts : List Node) (i : ℕ) (t : Node) → slice_get ts i ≡ Some t → μ t ≤ most μ ts
+got_at_most μ [] i t h = absurd (cc)
+got_at_most μ (x ∷ ts) zero t h = let same : x ≡ t = cc in let e = ap μ same in omega (arith, e)
+got_at_most μ (x ∷ ts) (suc i) t h = let r = got_at_most μ ts i t h in omega (arith, r)
+
+-- the next element is still that of the list
+map_there : {X : Type 0} (f : X → X) (xs : List X) (i : ℕ) → i < length xs → slice_get (map f (take i xs) ++ drop i xs) i ≡ slice_get xs i
+map_there f [] i h = absurd (omega arith)
+map_there f (x ∷ xs) zero h = refl
+map_there f (x ∷ xs) (suc i) h = map_there f xs i (omega arith)
+
+pub is_next : {X : Type 0} (f : X → X) (xs ys : List X) (i : ℕ) (x : X) → i < length xs → ys ≡ map f (take i xs) ++ drop i xs → slice_get ys i ≡ Some x → slice_get xs i ≡ Some x
+is_next f xs ys i x h was here = sym (map_there f xs i h) ∙ rw (← was) here
+
+map_left : {X : Type 0} (f : X → X) (xs : List X) (i : ℕ) (x : X) → slice_get xs i ≡ Some x → f x ≡ x → map f (take i xs) ++ drop i xs ≡ map f (take (suc i) xs) ++ drop (suc i) xs
+map_left f [] i x h e = absurd (cc)
+map_left f (y ∷ xs) zero x h e = let same : y ≡ x = cc in rw same (ap (λ u. u ∷ xs) (sym e))
+map_left f (y ∷ xs) (suc i) x h e = ap (λ l. f y ∷ l) (map_left f xs i x h e)
+
+pub next_left : {X : Type 0} (f : X → X) (xs ys : List X) (i : ℕ) (x : X) → i < length xs → ys ≡ map f (take i xs) ++ drop i xs → slice_get ys i ≡ Some x → f x ≡ x
+    → ys ≡ map f (take (i + 1) xs) ++ drop (i + 1) xs
+next_left f xs ys i x h was here stays = was ∙ rw add-one (map_left f xs i x (is_next f xs ys i x h was here) stays)

@@ -1,4 +1,5 @@
 pub mod Moves
 pub mod Found
 pub mod Each
+pub mod Leaves
 pub mod Fields

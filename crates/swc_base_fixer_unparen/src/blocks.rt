@@ -5,6 +5,7 @@ ghost use Rattle.swc_tree_node.specs.declared.node.Node.TheOpen.{Node-F};
 ghost use Rattle.swc_tree_grammar.specs.Blocks.{block as block_of, block_step, branch as branch_of, takes_else as takes_an_else, with_blocks};
 ghost use Rattle.swc_base_fixer_unparen.specs.Fields.{last_statement as last_statement_of};
 
+use crate::leaf::is_leaf;
 use std::alloc::{AllocError, Global};
 use swc_tree_grammar::span_of;
 use swc_tree_items::Items;
@@ -112,6 +113,9 @@ fn add_all_blocks(alloc: Global, mut items: Items<Node>) -> Result<Items<Node>, 
     ensures { IfOk result (λ r. r ≡ map with_blocks items) }
 {
     for i in 0..items.len() {
+        if is_leaf(&items.as_slice()[i]) {
+            continue;
+        }
         let item = items.replace(i, Node::Absent);
         let done = add_blocks(alloc, item)?;
         items.set(i, done);

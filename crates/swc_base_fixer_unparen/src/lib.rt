@@ -3,6 +3,7 @@
 
 mod blocks;
 mod comments;
+mod leaf;
 mod pairs;
 mod pass;
 mod sequence;

@@ -4,6 +4,7 @@ ghost use Rattle.swc_tree_node.specs.declared.kind.Kind.TheVariants as kind;
 ghost use Rattle.swc_tree_node.specs.declared.node.Node.TheOpen.{Node-F};
 ghost use Rattle.swc_tree_grammar.specs.Stripped.{is_member as defines, strip_step, stripped, target as target_of};
 
+use crate::leaf::is_leaf;
 use crate::sequence::{items_of, sequence};
 use std::alloc::{AllocError, Global};
 use swc_tree_items::Items;
@@ -96,6 +97,9 @@ fn strip_all(alloc: Global, mut items: Items<Node>) -> Result<Items<Node>, Alloc
     ensures { IfOk result (λ r. r ≡ map stripped items) }
 {
     for i in 0..items.len() {
+        if is_leaf(&items.as_slice()[i]) {
+            continue;
+        }
         let item = items.replace(i, Node::Absent);
         let done = strip(alloc, item)?;
         items.set(i, done);
