@@ -22,6 +22,26 @@ pub one_more : (m : Changes) (keeps : Bool) (ps : ℕ → Place) (ts ys zs ws : 
 one_more m keeps ps ts ys zs ws i d x y p h was here out back at new =
     back ∙ rw (out, new, at, was, add-one) (done_at m keeps ps ts i d x h (rw (← was) here))
 
+got_there : (m : Changes) (keeps : Bool) (ps : ℕ → Place) (ts : List Node) (i : ℕ) → i < length ts → slice_get (each_substituted m keeps ps (take i ts) ++ drop i ts) i ≡ slice_get ts i
+got_there m keeps ps [] i h = absurd (omega arith)
+got_there m keeps ps (t ∷ ts) zero h = refl
+got_there m keeps ps (t ∷ ts) (suc i) h = got_there m keeps (λ i. ps (suc i)) ts i (omega arith)
+
+-- the next node is still that of the list
+pub is_there : (m : Changes) (keeps : Bool) (ps : ℕ → Place) (ts ys : List Node) (i : ℕ) (x : Node) → i < length ts → ys ≡ each_substituted m keeps ps (take i ts) ++ drop i ts → slice_get ys i ≡ Some x → slice_get ts i ≡ Some x
+is_there m keeps ps ts ys i x h was here = sym (got_there m keeps ps ts i h) ∙ rw (← was) here
+
+left_there : (m : Changes) (keeps : Bool) (ps : ℕ → Place) (ts : List Node) (i : ℕ) (x : Node) → slice_get ts i ≡ Some x → substituted m keeps (ps i) x ≡ x
+    → each_substituted m keeps ps (take i ts) ++ drop i ts ≡ each_substituted m keeps ps (take (suc i) ts) ++ drop (suc i) ts
+left_there m keeps ps [] i x h e = absurd (cc)
+left_there m keeps ps (t ∷ ts) zero x h e = let same : t ≡ x = cc in rw same (ap (λ u. u ∷ ts) (sym e))
+left_there m keeps ps (t ∷ ts) (suc i) x h e = ap (λ l. substituted m keeps (ps zero) t ∷ l) (left_there m keeps (λ i. ps (suc i)) ts i x h e)
+
+-- a node that is left where it is, since it stays as it is
+pub one_left : (m : Changes) (keeps : Bool) (ps : ℕ → Place) (ts ys : List Node) (i : ℕ) (x : Node) → i < length ts → ys ≡ each_substituted m keeps ps (take i ts) ++ drop i ts → slice_get ys i ≡ Some x
+    → substituted m keeps (ps i) x ≡ x → ys ≡ each_substituted m keeps ps (take (i + 1) ts) ++ drop (i + 1) ts
+one_left m keeps ps ts ys i x h was here stays = was ∙ rw add-one (left_there m keeps ps ts i x (is_there m keeps ps ts ys i x h was here) stays)
+
 none_in : (y : Node-F Node) → is_exported_in y ≡ false → exported_in y ≡ []
 none_in (Node-F.Tree kind.ExportDecl ts) h = absurd (cc)
 none_in (Node-F.Tree k ts) h = refl

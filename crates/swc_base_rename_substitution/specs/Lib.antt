@@ -6,3 +6,4 @@ pub mod Exports
 pub mod Substituted
 pub mod Walk
 pub mod Room
+pub mod Leaf

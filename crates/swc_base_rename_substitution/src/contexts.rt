@@ -2,6 +2,7 @@
 ghost use Rattle.std.specs.Prelude.{◌≡◌, map};
 ghost use Rattle.swc_tree_scoping.specs.Readings.{by_texts};
 
+use crate::leaf::is_leaf;
 use std::alloc::Global;
 use swc_tree_items::Items;
 use swc_tree_marks::SyntaxContext;
@@ -30,6 +31,9 @@ fn clear_all(alloc: Global, mut nodes: Items<Node>) -> Items<Node>
     ensures { result ≡ map by_texts nodes }
 {
     for i in 0..nodes.len() {
+        if is_leaf(&nodes.as_slice()[i]) {
+            continue;
+        }
         let node = nodes.replace(i, Node::Absent);
         let node = clear_contexts(alloc, node);
         nodes.set(i, node);

@@ -8,6 +8,7 @@ mod config;
 mod contexts;
 mod exports;
 mod identifiers;
+mod leaf;
 mod names;
 mod pass;
 mod place;

@@ -9,6 +9,7 @@ ghost use Rattle.swc_base_rename_substitution.specs.Walk.{place_in, each_substit
 use crate::classes::{identifier_at, kept_class};
 use crate::exports::{any_exported, exports_of_all, with_all_exports};
 use crate::identifiers::substitute_identifier;
+use crate::leaf::is_leaf;
 use crate::names::Names;
 use crate::place::{Below, Place};
 use crate::written_out::rename_named;
@@ -110,6 +111,9 @@ fn substitute_each(
     ensures { IfOk result (λ answer. answer ≡ each_substituted (new_id names.entry) keeps_classes (place_in keeps_classes below) nodes) }
 {
     for i in 0..nodes.len() {
+        if is_leaf(&nodes.as_slice()[i]) {
+            continue;
+        }
         let node = nodes.replace(i, Node::Absent);
         let node = substitute_node(
             alloc,

@@ -1,7 +1,9 @@
-use Rattle.std.proofs.Common.{arith, sym, ◌∙◌, length-set}
+use Rattle.std.proofs.Common.{ℕ, arith, rules, sym, ◌∙◌, length-set}
 use Rattle.std.proofs.lemmas.Result.{IfOk-weaker}
 use Rattle.swc_base_rename_substitution.specs.Names.{new_id}
-use Rattle.swc_base_rename_substitution.proofs.Lists.{one_more, same_lengths, exports_done}
+use Rattle.swc_base_rename_substitution.proofs.Leaves.{got_at_most, looked_at, substituted_leaf}
+use Rattle.swc_tree_node.specs.declared.node.Node.{Node, the_lemmas}
+use Rattle.swc_base_rename_substitution.proofs.Lists.{is_there, one_left, one_more, same_lengths, exports_done}
 use Rattle.swc_base_rename_substitution.proofs.Trees.{unnamed_done, class_done, named_done, longer}
 use Rattle.swc_base_rename_substitution.proofs.substitution.+substitute.Goals as goal
 use Rattle.swc_base_rename_substitution.specs.Walk.{place_in}
@@ -39,3 +41,17 @@ pub substitute_named-returns : goal.substitute_named-returns
 substitute_named-returns t c =
     IfOk-weaker c.rename_named.result _ _ (named_done (new_id c.args.names) c.args.keeps_classes c.args.place c.args.kind c.args.fields c.in_ok-fields.fields
     c.requires (rw c.has_source-sourced.ensures at c.in_ok-fields.ensures)) (rw (c.place-at.ensures, c.has_source-sourced.ensures) at c.rename_named.ensures)
+
+pub substitute_each-loop-i-preserved-then-is_leaf : goal.substitute_each-loop-i-preserved-then-is_leaf
+substitute_each-loop-i-preserved-then-is_leaf t c = record {
+  size = c.loop-i.invariant.size;
+  done = one_left (new_id c.args.names) c.args.keeps_classes (place_in c.args.keeps_classes c.args.below) c.args.nodes c.loop-i.nodes c.loop-i.i c.index-as_slice-i.result (omega arith) c.loop-i.invariant.done
+      (looked_at c.loop-i.nodes c.as_slice.result.now c.loop-i.i c.index-as_slice-i.result (omega arith) c.as_slice.ensures c.index-as_slice-i.is)
+      (substituted_leaf (new_id c.args.names) c.args.keeps_classes (place_in c.args.keeps_classes c.args.below c.loop-i.i) c.index-as_slice-i.result (sym c.is_leaf.ensures ∙ c.if-is_leaf.true));
+}
+
+pub substitute_each-substitute_node-requires : goal.substitute_each-substitute_node-requires
+substitute_each-substitute_node-requires t c =
+    let here = is_there (new_id c.args.names) c.args.keeps_classes (place_in c.args.keeps_classes c.args.below) c.args.nodes c.loop-i.nodes c.loop-i.i c.replace-node.result (omega arith) c.loop-i.invariant.done c.replace-node.ensures.taken in
+    let smaller = λ (μ : Node → ℕ). got_at_most μ c.args.nodes c.loop-i.i c.replace-node.result here in
+    search (rules, the_lemmas, smaller)
