@@ -32,6 +32,7 @@ use Rattle.swc_base_resolver_program.specs.declared.collect.Stage.{Stage}
 use Rattle.swc_base_resolver_program.specs.declared.collect.Stage.TheVariants as stage
 use Rattle.swc_base_resolver_program.specs.Names.{has_way, is_way, no_ways, ways_if, ways_of, with_way}
 use Rattle.swc_base_resolver_program.specs.Inserted.{IsInserted}
+use Rattle.swc_base_resolver_program.specs.Leaves.{is_leaf, is_leaf_in}
 use Rattle.swc_base_resolver_program.specs.Lookup.{Open, taker_in}
 use Rattle.swc_base_resolver_program.specs.Walks.{Gains, IsAdded, Reaches, ReachesBelow, ReachesHere, TakeAlike, Takes, before, entered, has_at, is_sought, open_at, open_round, pick, target_in}
 use Rattle.swc_base_resolver_program.proofs.Counted.{count_out}
@@ -491,3 +492,16 @@ leaf t no_list no_ident no_tree = at (out-Node t) refl
 
 pub leaf_count : (w : Place) (t : Node) → IsLeaf t → scope_count w t ≡ 0
 leaf_count w t l = count_out w t ∙ ap (λ o. one_if (is_some o) + total (each_in scope_count (place_below w t) (children_in (out-Node t)))) (l.closed w) ∙ ap (λ ts. 0 + total (each_in scope_count (place_below w t) ts)) l.childless
+
+-- what the walks pass over
+pub told_leaf : (t : Node) → is_leaf t ≡ true → IsLeaf t
+told_leaf t h = leaf t
+    (λ ts e. let q : true ≡ false = sym h ∙ ap is_leaf e ∙ ap is_leaf_in (outs-List ts) in absurd (cc))
+    (λ k i e. let q : true ≡ false = sym h ∙ ap is_leaf e ∙ ap is_leaf_in (outs-Identifier k i) in absurd (cc))
+    (λ k ts e. let q : true ≡ false = sym h ∙ ap is_leaf e ∙ ap is_leaf_in (outs-Tree k ts) in absurd (cc))
+
+pub leaf_gains_nothing : (s : Stage) (env : List Open) (n : ℕ) (w : Place) (t : Node) (old : List ScopeNames) → is_leaf t ≡ true → Gains old old (Reaches s env n w t)
+leaf_gains_nothing s env n w t old h = let l = told_leaf t h in leaf_gains s env n w t old l.other l.childless
+
+pub leaf_counts_none : (w : Place) (t : Node) → is_leaf t ≡ true → scope_count w t ≡ 0
+leaf_counts_none w t h = leaf_count w t (told_leaf t h)

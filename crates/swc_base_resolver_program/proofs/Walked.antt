@@ -16,7 +16,8 @@ use Rattle.swc_tree_scoping.specs.Places.{Path, children_in, child, given, opene
 use Rattle.swc_tree_scoping.specs.Folds.{each_in}
 use Rattle.swc_tree_scoping.specs.Scopes.{one_if, total, scope_count}
 use Rattle.swc_tree_scoping.specs.Resolved.{Contexts, remarked}
-use Rattle.swc_tree_scoping.proofs.Remarked.{each_remarked, remarked-List, remarked-Tree}
+use Rattle.swc_tree_scoping.proofs.Remarked.{each_remarked, remarked-leaf, remarked-List, remarked-Tree}
+use Rattle.swc_base_resolver_program.specs.Leaves.{is_leaf}
 use Rattle.swc_base_resolver_program.specs.Lookup.{Open}
 use Rattle.swc_base_resolver_program.specs.Walks.{Marking, before, entered, open_round, context_at, context_of, is_marked, kept_or, pick, walked, written}
 use Rattle.swc_base_resolver_program.proofs.Gathered.{Known, opened_envs, plain_envs}
@@ -100,10 +101,23 @@ module _ (a : Marking) where
   done_there envs (t ∷ ts) places n (suc i) nx d c h e =
       ap (λ l. remarked (written a (envs zero) n (places zero) t) t ∷ l) (done_there (λ i. envs (suc i)) ts (λ i. places (suc i)) (n + scope_count (places zero) t) i nx d c h (omega (arith, e)))
 
+  -- what stays as it is needs no walk
+  stays_there : (envs : ℕ → List Open) (ts : List Node) (places : ℕ → Place) (n i : ℕ) (c : Node) → slice_get ts i ≡ Some c → is_leaf c ≡ true
+      → walked a envs n places (take i ts) ++ drop i ts ≡ walked a envs n places (take (suc i) ts) ++ drop (suc i) ts
+  stays_there envs [] places n i c h e = absurd (cc)
+  stays_there envs (t ∷ ts) places n zero c h e =
+      let same : c ≡ t = cc in
+      ap (λ u. u ∷ ts) (sym (remarked-leaf (written a (envs zero) n (places zero) t) t (out-Node t) refl (ap is_leaf (sym same) ∙ e)))
+  stays_there envs (t ∷ ts) places n (suc i) c h e =
+      ap (λ l. remarked (written a (envs zero) n (places zero) t) t ∷ l) (stays_there (λ i. envs (suc i)) ts (λ i. places (suc i)) (n + scope_count (places zero) t) i c h e)
+
   module _ (envs : ℕ → List Open) (ts ys : List Node) (places : ℕ → Place) (n i nx : ℕ) (c : Node) (l : i < length ts) (was : ys ≡ walked a envs n places (take i ts) ++ drop i ts)
       (here : slice_get ys i ≡ Some c) where
     pub child_is : slice_get ts i ≡ Some c
     child_is = sym (got_there envs ts places n i l) ∙ ap (λ ys. slice_get ys i) (sym was) ∙ here
+
+    pub leaf_done : is_leaf c ≡ true → ys ≡ walked a envs n places (take (i + 1) ts) ++ drop (i + 1) ts
+    leaf_done e = was ∙ rw add-one (stays_there envs ts places n i c child_is e)
 
     pub child_done : (start : nx ≡ n + total (each_in scope_count places (take i ts))) (env : List Open) (w : Place) → env ≡ envs i → w ≡ places i
         → (zs ws : List Node) (d y : Node) → zs ≡ slice_set ys i d → ws ≡ slice_set zs i y → y ≡ remarked (written a env nx w c) c → ws ≡ walked a envs n places (take (i + 1) ts) ++ drop (i + 1) ts

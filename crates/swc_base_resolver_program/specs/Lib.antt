@@ -1,5 +1,6 @@
 pub mod Names
 pub mod Inserted
+pub mod Leaves
 pub mod Lookup
 pub mod Walks
 pub mod Marked

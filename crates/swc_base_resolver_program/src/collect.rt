@@ -9,6 +9,7 @@ ghost use Rattle.swc_base_resolver_program.specs.Lookup.{layers, same_number};
 ghost use Rattle.swc_base_resolver_program.specs.Walks.{AreBelow, Gains, IsAdded, Reaches, ReachesBelow, ReachesHere, TakeAlike, Takes, is_sought, pick, target_in};
 
 use crate::env::{Env, Layer, hoists, meets, seen, taker, variable_scope};
+use crate::leaves::is_leaf;
 use crate::lookup::TakenNames;
 use crate::names::ScopeNames;
 use std::alloc::{AllocError, Global};
@@ -127,15 +128,13 @@ fn gather_children(
     ensures tables { OnOk result (Gains tables.old.items tables.new.items (ReachesBelow stage.entry (λ i. pick (view_of places i) (layers outside.now) (layers parameters.now) (layers whole.now)) (length tables.old.items) (places_of places nodes.now) nodes.now (length nodes.now))) }
 {
     for i in 0..nodes.len() {
+        let node = &nodes[i];
+        // Most children are leaves, in which there is nothing to gather: no place is worked out for them.
+        if is_leaf(node) {
+            continue;
+        }
         let env = seen(places.view(i), &*outside, &*parameters, &*whole);
-        gather(
-            alloc,
-            stage,
-            &nodes[i],
-            places.at(i, &nodes[i]),
-            env,
-            tables,
-        )?;
+        gather(alloc, stage, node, places.at(i, node), env, tables)?;
     }
     Ok(())
 }

@@ -3,6 +3,7 @@
 
 mod collect;
 mod env;
+mod leaves;
 mod lookup;
 mod marks;
 mod names;

@@ -9,6 +9,7 @@ ghost use Rattle.swc_base_resolver_program.specs.Lookup.{layers};
 ghost use Rattle.swc_base_resolver_program.specs.Walks.{context_of, fresh_context, is_marked, mark_at as mark_by, marking_in, own_number, pick, walked, written};
 
 use crate::env::{Env, Layer, seen, taker};
+use crate::leaves::is_leaf;
 use crate::lookup::{Declarations, function_owner, meaning, variable_owner};
 use std::alloc::AllocError;
 use swc_tree_items::Items;
@@ -117,6 +118,10 @@ fn resolve_children(
     ensures next { OnOk result (next.new ≡ next.old + total (each_in scope_count (places_of places nodes) nodes)) }
 {
     for i in 0..nodes.len() {
+        // Most children are leaves, in which there is nothing to mark: they stay where they are.
+        if is_leaf(&nodes.as_slice()[i]) {
+            continue;
+        }
         let extent = places.view(i);
         let env = seen(extent, &*outside, &*parameters, &*whole);
         let node = nodes.replace(i, Node::Absent);

@@ -7,7 +7,7 @@ use Rattle.swc_tree_scoping.specs.Scopes.{one_if, scope_count}
 use Rattle.swc_base_resolver_program.specs.Lookup.{Open, layers}
 use Rattle.swc_base_resolver_program.specs.Walks.{AreBelow, Gains, Reaches, ReachesBelow, ReachesHere, pick}
 use Rattle.swc_base_resolver_program.proofs.Counted.{total_next}
-use Rattle.swc_base_resolver_program.proofs.Gathered.{by_itself, child_gains, picked, counted, gains_after, gains_alike, known_list, known_tree, leaf, leaf_count, leaf_gains, opened_gains, plain_gains}
+use Rattle.swc_base_resolver_program.proofs.Gathered.{by_itself, child_gains, picked, counted, gains_after, gains_alike, known_list, known_tree, leaf, leaf_count, leaf_counts_none, leaf_gains, leaf_gains_nothing, opened_gains, plain_gains}
 use Rattle.swc_base_resolver_program.proofs.Below.{below_more, pick_below}
 use Rattle.swc_base_resolver_program.proofs.Open.{layers_inside}
 use Rattle.swc_base_resolver_program.proofs.collect.+gather.Goals as goal
@@ -93,8 +93,7 @@ pub gather_children-loop-i-preserved : goal.gather_children-loop-i-preserved
 gather_children-loop-i-preserved t c =
     let here = slice_get_read c.args.nodes.now _ c.loop-i.i c.index-nodes-i.result refl (omega arith) c.index-nodes-i.is in
     let next = total_next (places_of c.args.places c.args.nodes.now) c.args.nodes.now c.loop-i.i c.index-nodes-i.result here in
-    let child = slice_get_read c.args.nodes.now _ c.loop-i.i c.index-nodes-i-in-loop-i.result refl (omega arith) c.index-nodes-i-in-loop-i.is in
-    let stood = c.at.ensures ∙ ap (place_of c.args.places c.loop-i.i) (sym child) in
+    let stood = c.at.ensures ∙ ap (place_of c.args.places c.loop-i.i) (sym here) in
     let same = ap (λ w. scope_count w c.index-nodes-i.result) stood in
     let envs : ℕ → List Open = λ i. pick (view_of c.args.places i) (layers c.args.outside.now) (layers c.args.parameters.now) (layers c.args.whole.now) in
     let env_is = ap layers c.seen-env.ensures in
@@ -102,6 +101,21 @@ gather_children-loop-i-preserved t c =
       size = omega (arith, next, same, c.loop-i.invariant.size, c.in_ok-gather.ensures.size);
       tables = child_gains c.args.stage envs (length c.args.tables.now.items) (places_of c.args.places c.args.nodes.now) c.args.nodes.now c.loop-i.i c.index-nodes-i.result here c.args.tables.now.items c.loop-i.tables.items _ c.loop-i.invariant.tables
           (layers c.seen-env.result.now) (length c.loop-i.tables.items) c.at.result (env_is ∙ picked layers _ _ _ (view_of c.args.places c.loop-i.i) c.view.result c.view.ensures) c.loop-i.invariant.size stood c.in_ok-gather.ensures.tables;
+    }
+
+pub gather_children-loop-i-preserved-then-is_leaf : goal.gather_children-loop-i-preserved-then-is_leaf
+gather_children-loop-i-preserved-then-is_leaf t c =
+    let item = c.index-nodes-i.result in
+    let here = slice_get_read c.args.nodes.now _ c.loop-i.i item refl (omega arith) c.index-nodes-i.is in
+    let next = total_next (places_of c.args.places c.args.nodes.now) c.args.nodes.now c.loop-i.i item here in
+    let told = sym c.is_leaf.ensures ∙ c.if-is_leaf.true in
+    let place = places_of c.args.places c.args.nodes.now c.loop-i.i in
+    let none = leaf_counts_none place item told in
+    let envs : ℕ → List Open = λ i. pick (view_of c.args.places i) (layers c.args.outside.now) (layers c.args.parameters.now) (layers c.args.whole.now) in
+    record {
+      size = omega (arith, next, none, c.loop-i.invariant.size);
+      tables = child_gains c.args.stage envs (length c.args.tables.now.items) (places_of c.args.places c.args.nodes.now) c.args.nodes.now c.loop-i.i item here c.args.tables.now.items c.loop-i.tables.items _ c.loop-i.invariant.tables
+          (envs c.loop-i.i) (length c.loop-i.tables.items) place refl c.loop-i.invariant.size refl (leaf_gains_nothing c.args.stage (envs c.loop-i.i) (length c.loop-i.tables.items) place item c.loop-i.tables.items told);
     }
 
 pub gather_children-returns-clause-tables : goal.gather_children-returns-clause-tables

@@ -1,5 +1,7 @@
-use Rattle.std.proofs.Common.{ℕ, List, arith, rules, refl, sym, ap, ◌∙◌, length-set}
+use Rattle.std.proofs.Common.{ℕ, List, length, arith, rules, refl, sym, ap, ◌∙◌, length-set}
+use Rattle.std.specs.List.{slice_get}
 use Rattle.std.specs.Option.{is_some}
+use Rattle.std.proofs.lemmas.Option.{slice_get_read}
 use Rattle.swc_tree_node.specs.declared.node.Node.{Node, Tree, the_lemmas}
 use Rattle.swc_tree_scoping.specs.declared.below.PlacesBelow.TheVariants.{Fields}
 use Rattle.swc_tree_scoping.specs.Folds.{each_in}
@@ -8,9 +10,9 @@ use Rattle.swc_tree_scoping.specs.Scopes.{one_if, scope_count, total}
 use Rattle.swc_base_resolver_program.specs.Lookup.{Open, layers}
 use Rattle.swc_base_resolver_program.specs.Walks.{marking_in, pick}
 use Rattle.swc_base_resolver_program.proofs.Counted.{total_next, total_part}
-use Rattle.swc_base_resolver_program.proofs.Gathered.{counted, known_list, known_tree, picked}
+use Rattle.swc_base_resolver_program.proofs.Gathered.{counted, known_list, known_tree, leaf_counts_none, picked}
 use Rattle.swc_base_resolver_program.proofs.Open.{layers_inside}
-use Rattle.swc_base_resolver_program.proofs.Walked.{list_done, plain_done, scope_done, child_is, child_done, got_at_most}
+use Rattle.swc_base_resolver_program.proofs.Walked.{list_done, plain_done, scope_done, child_is, child_done, got_at_most, leaf_done}
 use Rattle.swc_base_resolver_program.proofs.walk.+resolve.Goals as goal
 
 pub resolve-resolve_children-requires : goal.resolve-resolve_children-requires
@@ -108,4 +110,20 @@ resolve_children-loop-i-preserved t c =
       done = child_done (marking_in c.args.answers.now) envs c.args.nodes c.loop-i.nodes (places_of c.args.places c.args.nodes) c.args.next.now c.loop-i.i c.loop-i.next c.replace-node.result (omega arith) c.loop-i.invariant.done c.replace-node.ensures.taken
           c.loop-i.invariant.count (layers c.seen-env.result.now) c.at-place.result env_is stood _ _ _ _ c.replace-node.ensures.list c.set.ensures c.in_ok-done.ensures.answer;
       count = omega (arith, next, same, c.loop-i.invariant.count, c.in_ok-done.ensures.next);
+    }
+
+pub resolve_children-loop-i-preserved-then-is_leaf : goal.resolve_children-loop-i-preserved-then-is_leaf
+resolve_children-loop-i-preserved-then-is_leaf t c =
+    let envs : ℕ → List Open = λ i. pick (view_of c.args.places i) (layers c.args.outside.now) (layers c.args.parameters.now) (layers c.args.whole.now) in
+    let item = c.index-as_slice-i.result in
+    let long = ap length c.as_slice.ensures in
+    let taken = sym (ap (λ ts. slice_get ts c.loop-i.i) c.as_slice.ensures) ∙ slice_get_read c.as_slice.result.now _ c.loop-i.i item refl (omega (arith, long)) c.index-as_slice-i.is in
+    let here = child_is (marking_in c.args.answers.now) envs c.args.nodes c.loop-i.nodes (places_of c.args.places c.args.nodes) c.args.next.now c.loop-i.i c.loop-i.next item (omega arith) c.loop-i.invariant.done taken in
+    let told = sym c.is_leaf.ensures ∙ c.if-is_leaf.true in
+    let next = total_next (places_of c.args.places c.args.nodes) c.args.nodes c.loop-i.i item here in
+    let none = leaf_counts_none (places_of c.args.places c.args.nodes c.loop-i.i) item told in
+    record {
+      size = c.loop-i.invariant.size;
+      done = leaf_done (marking_in c.args.answers.now) envs c.args.nodes c.loop-i.nodes (places_of c.args.places c.args.nodes) c.args.next.now c.loop-i.i c.loop-i.next item (omega arith) c.loop-i.invariant.done taken told;
+      count = omega (arith, next, none, c.loop-i.invariant.count);
     }
