@@ -12,3 +12,4 @@ pub mod Rounds
 pub mod Declared
 pub mod Theorem
 pub mod Together
+pub mod Reached

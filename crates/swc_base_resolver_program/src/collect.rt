@@ -46,6 +46,25 @@ pub fn gather_program(
     Ok(tables)
 }
 
+/// The tables of what reaches the scopes from blocks, given the names that they take. There is one for each scope, or
+/// none at all where nothing can reach a scope.
+pub fn gather_reached(
+    alloc: Global,
+    bound: TakenNames,
+    program: &Node,
+    room: usize,
+) -> Result<Vec<ScopeNames>, AllocError>
+    requires { Takes bound.scopes.now (Reaches Stage.Bind [] 0 program_place program.now) }
+    ensures { IfOk result (λ tables. Takes tables.items (Reaches (Stage.Settle bound.entry) [] 0 program_place program.now)) }
+{
+    // What reaches a scope is first taken by one, as a variable or as such a function. Code of today has neither, and
+    // is spared the walk.
+    if !bound.any_can_reach() {
+        return Ok(Vec::new(alloc));
+    }
+    gather_program(alloc, Stage::Settle(bound), program, room)
+}
+
 // Adds the tables of the scopes of a node, and to them and to those of the scopes round it what the stage looks for.
 #[cycle(gather)]
 fn gather(

@@ -1,7 +1,9 @@
 //! What the scopes declare.
 ghost use Rattle.std.specs.Prelude.{◌≡◌};
+ghost use Rattle.std.specs.List.{list_any};
 ghost use Rattle.swc_base_resolver_program.specs.Lookup.{declares_in, function_owner_in, layers, meaning_in, names_in, open_of, otherwise_in, tables_in, variable_owner_in};
 ghost use Rattle.swc_base_resolver_program.specs.Names.{ways_in};
+ghost use Rattle.swc_base_resolver_program.specs.Reached.{takes_reaching};
 
 use crate::env::{Env, Layer, hoists, hoists_from, meets, taker, variable_scope};
 use crate::names::{ScopeNames, Ways};
@@ -29,6 +31,13 @@ impl<'a> TakenNames<'a> {
             Some(names) => names.get(name),
             None => Ways::none(),
         }
+    }
+
+    /// Whether a scope takes a variable or a plain function of sloppy code in a block.
+    pub fn any_can_reach(&self) -> bool
+        ensures { result ≡ list_any takes_reaching self.now.scopes.now }
+    {
+        self.scopes.iter().any(|names| names.any_can_reach())
     }
 }
 

@@ -3,6 +3,7 @@ ghost use Rattle.std.specs.Prelude.{◌≡◌, ℕ, List, OnOk};
 ghost use Rattle.swc_tree_scoping.specs.Declares.{is_no_variable as binds_otherwise, is_parameter as binds_parameter, is_settled as binds_settled, stops as binds_stop, stops_in_block as binds_stop_in_block};
 ghost use Rattle.swc_base_resolver_program.specs.Names.{any_way, has_way, no_ways, ways_of, with_way};
 ghost use Rattle.swc_base_resolver_program.specs.Inserted.{IsInserted};
+ghost use Rattle.swc_base_resolver_program.specs.Reached.{can_reach as can_reach_from_block, takes_reaching};
 
 use std::alloc::{AllocError, Global};
 use std::collections::BTreeMap;
@@ -103,6 +104,13 @@ impl Ways {
         self.variable || self.is_no_variable()
     }
 
+    /// Whether it is bound by a variable or by a plain function of sloppy code in a block.
+    pub fn can_reach(&self) -> bool
+        ensures { result ≡ can_reach_from_block self.now }
+    {
+        self.variable || self.sloppy_function
+    }
+
     // The same with one way more, if names are bound so.
     fn with(mut self, standing: Standing) -> Ways
         ensures { result ≡ with_way self standing }
@@ -151,6 +159,13 @@ impl ScopeNames {
             Some(ways) => *ways,
             None => Ways::none(),
         }
+    }
+
+    /// Whether the scope takes a variable or a plain function of sloppy code in a block.
+    pub fn any_can_reach(&self) -> bool
+        ensures { result ≡ takes_reaching self.now }
+    {
+        self.names.values().any(|ways| ways.can_reach())
     }
 
     /// Adds a way in which the scope takes a name.

@@ -8,7 +8,7 @@ ghost use Rattle.swc_tree_scoping.specs.Scopes.{scope_count};
 ghost use Rattle.swc_tree_scoping.specs.Resolved.{Resolved};
 ghost use Rattle.swc_base_resolver_program.specs.Marked.{IsRefusal, MarksOk, OnlyContexts};
 
-use crate::collect::{Stage, gather_program};
+use crate::collect::{Stage, gather_program, gather_reached};
 use crate::lookup::{Declarations, TakenNames};
 use crate::marks::marks_of;
 use crate::walk::{Answers, is_script, write_contexts};
@@ -22,8 +22,9 @@ use swc_tree_scoping::Scope;
 /// begin, and a name that no scope declares has the unresolved mark.
 ///
 /// An identifier that has marks keeps them, and declares nothing. The tree is changed in place: only contexts, the
-/// marks of the scopes and the names that they declare take memory. It costs three walks over the tree, and in the
-/// last one two hashed look-ups, at most, for each reference and each scope round it.
+/// marks of the scopes and the names that they declare take memory. It costs three walks over the tree, or two where
+/// no scope takes a variable or a plain function of sloppy code in a block; and in the last one two look-ups, at
+/// most, for each reference and each scope round it.
 ///
 /// # Errors
 ///
@@ -48,7 +49,7 @@ pub fn resolve_program(
     let bound_names = bound.as_slice();
     let scope_count = bound_names.len();
     let bound = TakenNames::new(bound_names);
-    let reached = gather_program(alloc, Stage::Settle(bound), &program, scope_count)?;
+    let reached = gather_reached(alloc, bound, &program, scope_count)?;
     let reached_names = reached.as_slice();
     let reached = TakenNames::new(reached_names);
     let marks = marks_of(alloc, globals, top, scope_count)?;

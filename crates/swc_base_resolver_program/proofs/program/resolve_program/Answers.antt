@@ -1,9 +1,18 @@
-use Rattle.std.proofs.Common.{◌∙◌, ◌+◌, ap, length, arith}
+use Rattle.std.proofs.Common.{◌∙◌, ◌+◌, ◌↔◌, ℕ, IsTrue, List, [], ap, length, arith, subst, sym}
+use Rattle.swc_tree_scoping.specs.declared.places.Standing.{Standing}
+use Rattle.swc_tree_scoping.specs.Places.{program_place}
+use Rattle.swc_base_resolver_program.specs.declared.collect.Stage.TheVariants as stage
 use Rattle.swc_tree_marks.specs.Globals.{greatest}
-use Rattle.swc_base_resolver_program.specs.Names.{ways_in}
+use Rattle.swc_base_resolver_program.specs.Names.{Bindings, has_way, ways_in}
 use Rattle.swc_base_resolver_program.specs.Lookup.{names_in}
+use Rattle.swc_base_resolver_program.specs.Walks.{Reaches}
 use Rattle.swc_base_resolver_program.proofs.Together.{marks_length, fits_alike, program_resolved}
 use Rattle.swc_base_resolver_program.proofs.program.resolve_program.Goals as goal
+
+pub gather_reached-requires : goal.gather_reached-requires
+gather_reached-requires c =
+    let same = c.new-bound.ensures ∙ ap ways_in c.as_slice-bound_names.ensures.value in
+    subst (λ (names : Bindings). (k : ℕ) (r : Standing) (x : List ℕ) → IsTrue (has_way (names k x) r) ↔ Reaches stage.Bind [] 0 program_place c.args.program k r x) (sym same) c.in_ok-bound.ensures.names
 
 pub write_contexts-requires : goal.write_contexts-requires
 write_contexts-requires c =
@@ -20,6 +29,6 @@ returns-clause-resolved c =
     let reached_is = ap ways_in c.as_slice-reached_names.ensures.value in
     let count = ap length c.as_slice-bound_names.ensures.value ∙ c.in_ok-bound.ensures.size in
     program_resolved c.args.program c.in_ok-answer.answer (record { marks = c.as_slice.result.now; tables = record { bound = names_in c.new-bound.result; reached = names_in c.new-reached.result }; unresolved = c.args.unresolved; is_script = c.is_script.result }) c.in_ok-answer.ensures c.in_ok-bound.bound.items c.in_ok-reached.reached.items c.new-bound.result
-    c.in_ok-bound.ensures.names c.in_ok-reached.ensures.names (c.new-bound.ensures ∙ bound_is)
+    c.in_ok-bound.ensures.names c.in_ok-reached.ensures (c.new-bound.ensures ∙ bound_is)
     (ap (λ b. record { bound = b; reached = names_in c.new-reached.result }) (c.new-bound.ensures ∙ bound_is) ∙ ap (λ r. record { bound = ways_in c.in_ok-bound.bound.items; reached = r }) (c.new-reached.ensures ∙ reached_is))
     c.is_script.ensures c.args.globals.now c.marks_of.new.globals c.args.top _ count (c.as_slice.ensures.value ∙ c.in_ok-marks.ensures.marks) c.in_ok-marks.ensures.table
