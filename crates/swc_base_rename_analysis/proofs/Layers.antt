@@ -1,9 +1,10 @@
 -- The walk at each form of a node.
-use Rattle.std.proofs.Common.{◌≡◌, ℕ, zero, suc, ◌+◌, add-one, Option, Some, None, List, [], ◌∷◌, length, refl, sym, ap, ◌∙◌}
+use Rattle.std.proofs.Common.{◌≡◌, ℕ, zero, suc, ◌+◌, add-one, Bool, true, false, cond, Option, Some, None, List, [], ◌∷◌, length, refl, sym, ap, ◌∙◌}
 use Rattle.std.specs.List.{slice_get}
-use Rattle.std.specs.Option.{option_or}
+use Rattle.std.specs.Option.{option_map, option_or}
 use Rattle.swc_tree_marks.specs.declared.ident.Ident.{Ident}
 use Rattle.swc_tree_node.specs.declared.kind.Kind.{Kind}
+use Rattle.swc_tree_node.specs.declared.kind.Kind.TheVariants as kind
 use Rattle.swc_tree_node.specs.declared.node.Node.{Node, List as Many, Identifier, Tree, out-Node}
 use Rattle.swc_tree_node.specs.declared.node.Node.TheVariants.{outs-List, outs-Identifier, outs-Tree}
 use Rattle.swc_tree_node.specs.declared.node.Node.TheOpen.{Node-F}
@@ -12,13 +13,13 @@ use Rattle.swc_tree_scoping.specs.declared.places.Scope.{Scope}
 use Rattle.swc_tree_scoping.specs.declared.below.PlacesBelow.{PlacesBelow}
 use Rattle.swc_tree_scoping.specs.declared.below.PlacesBelow.TheVariants as below
 use Rattle.swc_tree_scoping.specs.Folds.{each_in}
-use Rattle.swc_tree_scoping.specs.Places.{children_in, place_below}
-use Rattle.swc_tree_scoping.specs.Below.{fields_are, places_of, scope_of_fields}
+use Rattle.swc_tree_scoping.specs.Places.{children_in, is_at, place_below}
+use Rattle.swc_tree_scoping.specs.Below.{fields_are, place_of, places_of, scope_of_fields}
 use Rattle.swc_tree_scoping.proofs.Under.{fold_in_place_out}
 use Rattle.swc_tree_scoping.proofs.Children.{fields_below, items_below}
 use Rattle.swc_base_rename_analysis.specs.declared.scopes.ScopeKind.{ScopeKind}
 use Rattle.swc_base_rename_analysis.specs.Analysis.{body_kind, has_identifier, key_field}
-use Rattle.swc_base_rename_analysis.specs.Walk.{Laid, Outside, Walk, begin, end, enter, in_turn, kind_opened, name_outside, own_use, walk_fields, walk_in, walk_inside, walk_items, walk_layer, walk_opening, walk_optional, walk_scope, walks_at}
+use Rattle.swc_base_rename_analysis.specs.Walk.{Laid, Outside, Walk, begin, child_at, end, enter, goes, in_turn, is_leaf, kind_opened, name_outside, own_use, round_field, walk_but, walk_field, walk_fields, walk_in, walk_in_order, walk_inside, walk_items, walk_layer, walk_name, walk_opening, walk_optional, walk_scope, walks_at}
 
 each_at : (places : ℕ → Place) (ts : List Node) (i : ℕ) → slice_get (each_in walk_in places ts) i ≡ walks_at places ts i
 each_at places [] i = refl
@@ -42,7 +43,13 @@ walk_List w ts = at_layer w (Many ts) (Node-F.List ts) (outs-List ts) ∙ ap (λ
 pub walk_Tree : (w : Place) (k : Kind) (ts : List Node) → walk_in w (Tree k ts) ≡ walk_layer w (Node-F.Tree k ts) (walks_at (places_of (below.Fields (fields_are w k ts)) ts) ts)
 walk_Tree w k ts = at_layer w (Tree k ts) (Node-F.Tree k ts) (outs-Tree k ts) ∙ ap (λ places. walk_layer w (Node-F.Tree k ts) (walks_at places ts)) (sym (fields_below w k ts))
 
--- at a list, and at a tree, as the code has them
+-- at an identifier, at a list, and at a tree, as the code has them
+pub name_walked : (w : Place) (t : Node) (k : Kind) (i j : Ident) → t ≡ Identifier k i → j ≡ i → (o : Outside) (l : Laid) → walk_name w j o l ≡ walk_in w t o l
+name_walked w t k i j e same o l =
+    ap (λ i. walk_name w i o l) same
+    ∙ sym (ap (λ f. f o l) (walk_Identifier w k i))
+    ∙ sym (ap (λ t. walk_in w t o l) e)
+
 pub list_walked : (w : Place) (t : Node) (ts : List Node) (p : PlacesBelow) → t ≡ Many ts → p ≡ below.Items w → (o : Outside) (l : Laid)
     → walk_items (walks_at (places_of p ts) ts) (length ts) o l ≡ walk_in w t o l
 list_walked w t ts p e q o l =
@@ -58,6 +65,61 @@ tree_walked w t k ts p e q o l opened is_opened s is_kind =
     ∙ ap (λ p. walk_opening (body_kind o.for_body (kind_opened k (scope_of_fields (below.Fields (fields_are w k ts))))) w k ts (walks_at (places_of p ts) ts) o l) q
     ∙ sym (ap (λ f. f o l) (walk_Tree w k ts))
     ∙ sym (ap (λ t. walk_in w t o l) e)
+
+-- a leaf
+pub leaf_walked : (w : Place) (t : Node) → true ≡ is_leaf (out-Node t) → (o : Outside) (l : Laid) → walk_in w t o l ≡ l
+leaf_walked w t h o l = ap (λ f. f o l) (walk_out w t) ∙ by (out-Node t) h
+  where
+    by : (y : Node-F Node) → true ≡ is_leaf y → walk_layer w y (walks_at (place_below w t) (children_in (out-Node t))) o l ≡ l
+    by (Node-F.List ts) h = absurd (cc)
+    by (Node-F.Identifier k i) h = absurd (cc)
+    by (Node-F.Tree k ts) h = absurd (cc)
+    by y h = refl
+
+-- a field that is a leaf, one that is none, and one that is not there
+walked_there : (k : Kind) (ts : List Node) (places : ℕ → Place) (i : ℕ) (c : Node) → slice_get ts i ≡ Some c → (o : Outside) (l : Laid)
+    → walk_in (places i) c (round_field k ts o i) l ≡ walk_field k ts (walks_at places ts) i o l
+walked_there k ts places i c there o l = ap (λ t. goes (option_map (walk_in (places i)) t) (round_field k ts o i) l) (sym there)
+
+pub leaf_field_walked : (k : Kind) (ts : List Node) (places : ℕ → Place) (i : ℕ) (c : Node) → slice_get ts i ≡ Some c → true ≡ is_leaf (out-Node c)
+    → (o : Outside) (l : Laid) → l ≡ walk_field k ts (walks_at places ts) i o l
+leaf_field_walked k ts places i c there leaf o l = sym (leaf_walked (places i) c leaf (round_field k ts o i) l) ∙ walked_there k ts places i c there o l
+
+pub field_walked : (k : Kind) (ts : List Node) (p : PlacesBelow) (i : ℕ) (c : Node) → slice_get ts i ≡ Some c → (w : Place) → w ≡ place_of p i (Some c)
+    → (o below : Outside) → below ≡ round_field k ts o i → (l : Laid) → walk_in w c below l ≡ walk_field k ts (walks_at (places_of p ts) ts) i o l
+field_walked k ts p i c there w is_place o below is_below l =
+    ap (λ below. walk_in w c below l) is_below
+    ∙ ap (λ w. walk_in w c (round_field k ts o i) l) (is_place ∙ ap (place_of p i) (sym there))
+    ∙ walked_there k ts (places_of p ts) i c there o l
+
+pub no_field_walked : (k : Kind) (ts : List Node) (places : ℕ → Place) (i : ℕ) → slice_get ts i ≡ None → (o : Outside) (l : Laid) → walk_field k ts (walks_at places ts) i o l ≡ l
+no_field_walked k ts places i none o l = ap (λ t. goes (option_map (walk_in (places i)) t) (round_field k ts o i) l) none
+
+-- fields go in order but in a catch clause
+no_turn : (k : Kind) → (k ≡ kind.CatchClause → ⊥) → (i : ℕ) → child_at k i ≡ i
+no_turn kind.CatchClause h i = absurd (h refl)
+no_turn k h i = refl
+
+none_at_end : (ts : List Node) → slice_get ts (length ts) ≡ None
+none_at_end [] = refl
+none_at_end (t ∷ ts) = none_at_end ts
+
+pub in_order_walked : (k : Kind) → (k ≡ kind.CatchClause → ⊥) → (ts : List Node) (places : ℕ → Place) (but : Option ℕ) (o : Outside) (l : Laid)
+    → walk_in_order k ts (walks_at places ts) but o l ≡ walk_fields k ts (walks_at places ts) but o l
+in_order_walked k h ts places but o l = sym (last (in_turn f (length ts) l)) ∙ next ∙ ap (λ (turn : ℕ → ℕ). in_turn (λ i. walk_but k ts (walks_at places ts) but (turn i) o) (length ts + 1) l) (λ j i. sym (no_turn k h i) j)
+  where
+    f : ℕ → Laid → Laid
+    f i = walk_but k ts (walks_at places ts) but i o
+
+    skipped : (b : Bool) (m : Laid) → cond b m (walk_field k ts (walks_at places ts) (length ts) o m) ≡ m
+    skipped true m = refl
+    skipped false m = no_field_walked k ts places (length ts) (none_at_end ts) o m
+
+    last : (m : Laid) → f (length ts) m ≡ m
+    last m = skipped (is_at but (length ts)) m
+
+    next : f (length ts) (in_turn f (length ts) l) ≡ in_turn f (length ts + 1) l
+    next = rw add-one refl
 
 -- one turn more
 pub one_turn_more : (f : ℕ → Laid → Laid) (i : ℕ) (a l b : Laid) → l ≡ in_turn f i a → b ≡ f i l → b ≡ in_turn f (i + 1) a

@@ -1,9 +1,10 @@
 //! The walk over a tree that lays out its scopes and names.
-ghost use Rattle.std.specs.Prelude.{◌≡◌, IfOk, OnOk, length};
+ghost use Rattle.std.specs.Prelude.{◌≡◌, ◌<◌, Some, IfOk, OnOk, length};
 ghost use Rattle.std.specs.Option.{option_copied};
-ghost use Rattle.swc_tree_scoping.specs.Below.{places_of};
+ghost use Rattle.swc_tree_node.specs.declared.node.Node.{Tree, out-Node};
+ghost use Rattle.swc_tree_scoping.specs.Below.{place_of, places_of};
 ghost use Rattle.swc_base_rename_analysis.specs.Preserved.{is_name_or_label as stands_so};
-ghost use Rattle.swc_base_rename_analysis.specs.Walk.{child_at as is_child_at, laid_of, laid_out, outside_of, own_use, walk_but as but_walked, walk_field as field_walked, walk_fields as fields_walked, walk_in, walk_items as items_walked, walk_optional as optional_walked, walk_scope as scope_walked, walks_at};
+ghost use Rattle.swc_base_rename_analysis.specs.Walk.{child_at as is_child_at, is_leaf as is_without_names, laid_of, laid_out, outside_of, own_use, round_field as is_round_field, walk_but as but_walked, walk_field as field_walked, walk_fields as fields_walked, walk_in, walk_in_order as order_walked, walk_items as items_walked, walk_name as name_walked, walk_optional as optional_walked, walk_scope as scope_walked, walks_at};
 
 use crate::layout::{Layout, Name};
 use crate::own_names::own_name;
@@ -41,7 +42,7 @@ pub fn lay_out(alloc: Global, tree: &Node) -> Result<Layout<'_>, AllocError>
         for_body: false,
         own_name: None,
     };
-    walk(tree, PROGRAM_PLACE, around, &mut layout)?;
+    walk(tree, PROGRAM_PLACE, &around, &mut layout)?;
     Ok(layout)
 }
 
@@ -52,61 +53,104 @@ fn is_name_or_label(standing: Standing) -> bool
     standing == Standing::Label || is_binding(standing) || is_reference(standing)
 }
 
+// Whether a node is a leaf: it is no identifier, and none stands below it. Half of all nodes are leaves, so the walk passes
+// them over before it asks what is round them.
+fn is_leaf(node: &Node) -> bool
+    ensures { result ≡ is_without_names (out-Node node.now) }
+{
+    !matches!(node, Node::List(_) | Node::Identifier(..) | Node::Tree(..))
+}
+
 #[cycle(walk)]
 fn walk<'a>(
     node: &'a Node,
     place: Place,
-    around: Around<'a>,
+    around: &Around<'a>,
     layout: &mut Layout<'a>,
 ) -> Result<(), AllocError>
-    ensures { OnOk result (laid_of layout.new ≡ walk_in place node.now (outside_of around.entry) (laid_of layout.old)) }
+    ensures { OnOk result (laid_of layout.new ≡ walk_in place node.now (outside_of around.now) (laid_of layout.old)) }
 {
     match node {
-        Node::Identifier(_, ident) => {
-            if is_name_or_label(place.standing) {
-                layout.push(Name {
-                    ident: ident.get(),
-                    standing: place.standing,
-                    scope: around.scope,
-                    exported: around.exported,
-                })?;
-            }
-            Ok(())
-        }
-        Node::List(items) => {
-            let items = items.as_slice();
-            walk_items(items, places_of_items(place), around, layout)
-        }
-        Node::Tree(kind, fields) => {
-            let fields = fields.as_slice();
-            let places = places_of_fields(place, *kind, fields);
-            match opened_kind(around.for_body, *kind, places.opened()) {
-                None => walk_fields(*kind, fields, places, around, None, layout),
-                Some(scope) => { walk_scope(scope, place, *kind, fields, places, around, layout) }
-            }
-        }
+        Node::Identifier(_, ident) => walk_name(ident.get(), place, around, layout),
+        Node::List(items) => walk_items(items.as_slice(), &places_of_items(place), around, layout),
+        Node::Tree(kind, fields) => walk_tree(*kind, fields.as_slice(), place, around, layout),
         _ => Ok(()),
+    }
+}
+
+// An identifier, which counts if it is a name or a label.
+fn walk_name<'a>(
+    ident: &'a Ident,
+    place: Place,
+    around: &Around<'a>,
+    layout: &mut Layout<'a>,
+) -> Result<(), AllocError>
+    ensures { OnOk result (laid_of layout.new ≡ name_walked place ident.now (outside_of around.now) (laid_of layout.old)) }
+{
+    if is_name_or_label(place.standing) {
+        layout.push(Name {
+            ident,
+            standing: place.standing,
+            scope: around.scope,
+            exported: around.exported,
+        })?;
+    }
+    Ok(())
+}
+
+// A tree by its kind and its fields.
+#[cycle(walk)]
+fn walk_tree<'a>(
+    kind: Kind,
+    fields: &'a [Node],
+    place: Place,
+    around: &Around<'a>,
+    layout: &mut Layout<'a>,
+) -> Result<(), AllocError>
+    ensures { OnOk result (laid_of layout.new ≡ walk_in place (Tree kind fields.now) (outside_of around.now) (laid_of layout.old)) }
+{
+    let places = places_of_fields(place, kind, fields);
+    match opened_kind(around.for_body, kind, places.opened()) {
+        None => walk_fields(kind, fields, &places, around, None, layout),
+        Some(scope) => walk_scope(scope, place, kind, fields, &places, around, layout),
     }
 }
 
 #[cycle(walk)]
 fn walk_items<'a>(
     items: &'a [Node],
-    places: PlacesBelow,
-    around: Around<'a>,
+    places: &PlacesBelow,
+    around: &Around<'a>,
     layout: &mut Layout<'a>,
 ) -> Result<(), AllocError>
-    ensures { OnOk result (laid_of layout.new ≡ items_walked (walks_at (places_of places items.now) items.now) (length items.now) (outside_of around.entry) (laid_of layout.old)) }
+    ensures { OnOk result (laid_of layout.new ≡ items_walked (walks_at (places_of places.now items.now) items.now) (length items.now) (outside_of around.now) (laid_of layout.old)) }
 {
     let below = Around {
         for_body: false,
         own_name: None,
-        ..around
+        ..*around
     };
     for i in 0..items.len() {
-        walk(&items[i], places.at(i, &items[i]), below, layout)?;
+        walk_item(i, &items[i], places, &below, layout)?;
     }
     Ok(())
+}
+
+// An item of a list, by its index.
+#[cycle(walk)]
+fn walk_item<'a>(
+    index: usize,
+    item: &'a Node,
+    places: &PlacesBelow,
+    around: &Around<'a>,
+    layout: &mut Layout<'a>,
+) -> Result<(), AllocError>
+    ensures { OnOk result (laid_of layout.new ≡ walk_in (place_of places.now index (Some item.now)) item.now (outside_of around.now) (laid_of layout.old)) }
+{
+    if is_leaf(item) {
+        return Ok(());
+    }
+    walk(item, places.at(index, item), around, layout)
 }
 
 // A key comes before the scope that its node opens, and the identifier of a class that is the default export before the names in it.
@@ -116,11 +160,11 @@ fn walk_scope<'a>(
     place: Place,
     kind: Kind,
     fields: &'a [Node],
-    places: PlacesBelow,
-    around: Around<'a>,
+    places: &PlacesBelow,
+    around: &Around<'a>,
     layout: &mut Layout<'a>,
 ) -> Result<(), AllocError>
-    ensures { OnOk result (laid_of layout.new ≡ scope_walked scope place kind fields.now (walks_at (places_of places fields.now) fields.now) (outside_of around.entry) (laid_of layout.old)) }
+    ensures { OnOk result (laid_of layout.new ≡ scope_walked scope place kind fields.now (walks_at (places_of places.now fields.now) fields.now) (outside_of around.now) (laid_of layout.old)) }
 {
     let key = key_field(kind);
     walk_optional(kind, fields, key, places, around, layout)?;
@@ -131,9 +175,9 @@ fn walk_scope<'a>(
     use_own_name(number, around, layout)?;
     let inside = Around {
         scope: Some(number),
-        ..around
+        ..*around
     };
-    walk_fields(kind, fields, places, inside, key.or(name), layout)?;
+    walk_fields(kind, fields, places, &inside, key.or(name), layout)?;
     layout.end(number);
     Ok(())
 }
@@ -141,10 +185,10 @@ fn walk_scope<'a>(
 // The name of a function that counts as using it stands in the function's scope, of that number.
 fn use_own_name<'a>(
     number: usize,
-    around: Around<'a>,
+    around: &Around<'a>,
     layout: &mut Layout<'a>,
 ) -> Result<(), AllocError>
-    ensures { OnOk result (laid_of layout.new ≡ own_use number (outside_of around.entry) (option_copied around.entry.own_name) (laid_of layout.old)) }
+    ensures { OnOk result (laid_of layout.new ≡ own_use number (outside_of around.now) (option_copied around.now.own_name) (laid_of layout.old)) }
 {
     match around.own_name {
         Some(ident) => {
@@ -165,11 +209,11 @@ fn walk_optional<'a>(
     kind: Kind,
     fields: &'a [Node],
     index: Option<usize>,
-    places: PlacesBelow,
-    around: Around<'a>,
+    places: &PlacesBelow,
+    around: &Around<'a>,
     layout: &mut Layout<'a>,
 ) -> Result<(), AllocError>
-    ensures { OnOk result (laid_of layout.new ≡ optional_walked kind fields.now (walks_at (places_of places fields.now) fields.now) index (outside_of around.entry) (laid_of layout.old)) }
+    ensures { OnOk result (laid_of layout.new ≡ optional_walked kind fields.now (walks_at (places_of places.now fields.now) fields.now) index (outside_of around.now) (laid_of layout.old)) }
 {
     match index {
         Some(index) => walk_field(kind, fields, index, places, around, layout),
@@ -196,12 +240,48 @@ fn child_at(kind: Kind, turn: usize) -> usize
 fn walk_fields<'a>(
     kind: Kind,
     fields: &'a [Node],
-    places: PlacesBelow,
-    around: Around<'a>,
+    places: &PlacesBelow,
+    around: &Around<'a>,
     but: Option<usize>,
     layout: &mut Layout<'a>,
 ) -> Result<(), AllocError>
-    ensures { OnOk result (laid_of layout.new ≡ fields_walked kind fields.now (walks_at (places_of places fields.now) fields.now) but (outside_of around.entry) (laid_of layout.old)) }
+    ensures { OnOk result (laid_of layout.new ≡ fields_walked kind fields.now (walks_at (places_of places.now fields.now) fields.now) but (outside_of around.now) (laid_of layout.old)) }
+{
+    match kind {
+        Kind::CatchClause => walk_by_turns(kind, fields, places, around, but, layout),
+        _ => walk_in_order(kind, fields, places, around, but, layout),
+    }
+}
+
+// All fields but one, in their order.
+#[cycle(walk)]
+fn walk_in_order<'a>(
+    kind: Kind,
+    fields: &'a [Node],
+    places: &PlacesBelow,
+    around: &Around<'a>,
+    but: Option<usize>,
+    layout: &mut Layout<'a>,
+) -> Result<(), AllocError>
+    ensures { OnOk result (laid_of layout.new ≡ order_walked kind fields.now (walks_at (places_of places.now fields.now) fields.now) but (outside_of around.now) (laid_of layout.old)) }
+{
+    for index in 0..fields.len() {
+        walk_but(kind, fields, index, places, around, but, layout)?;
+    }
+    Ok(())
+}
+
+// All fields but one, each in its turn, as those of a catch clause have it.
+#[cycle(walk)]
+fn walk_by_turns<'a>(
+    kind: Kind,
+    fields: &'a [Node],
+    places: &PlacesBelow,
+    around: &Around<'a>,
+    but: Option<usize>,
+    layout: &mut Layout<'a>,
+) -> Result<(), AllocError>
+    ensures { OnOk result (laid_of layout.new ≡ fields_walked kind fields.now (walks_at (places_of places.now fields.now) fields.now) but (outside_of around.now) (laid_of layout.old)) }
 {
     for turn in 0..fields.len() + 1 {
         walk_but(
@@ -223,12 +303,12 @@ fn walk_but<'a>(
     kind: Kind,
     fields: &'a [Node],
     index: usize,
-    places: PlacesBelow,
-    around: Around<'a>,
+    places: &PlacesBelow,
+    around: &Around<'a>,
     but: Option<usize>,
     layout: &mut Layout<'a>,
 ) -> Result<(), AllocError>
-    ensures { OnOk result (laid_of layout.new ≡ but_walked kind fields.now (walks_at (places_of places fields.now) fields.now) but index (outside_of around.entry) (laid_of layout.old)) }
+    ensures { OnOk result (laid_of layout.new ≡ but_walked kind fields.now (walks_at (places_of places.now fields.now) fields.now) but index (outside_of around.now) (laid_of layout.old)) }
 {
     match but {
         Some(but) if but == index => Ok(()),
@@ -236,29 +316,52 @@ fn walk_but<'a>(
     }
 }
 
-// A field, if it is there.
+// What is round a field, beside its place.
+fn round_field<'a>(kind: Kind, fields: &'a [Node], index: usize, around: &Around<'a>) -> Around<'a>
+    ensures { outside_of result ≡ is_round_field kind fields.now (outside_of around.now) index }
+{
+    Around {
+        scope: around.scope,
+        exported: around.exported || matches!(role_of_field(kind, index), Role::ExportLocal),
+        for_body: is_for_body(kind, index),
+        own_name: own_name(kind, fields, index),
+    }
+}
+
+// A field, if it is there and no leaf.
 #[cycle(walk)]
 fn walk_field<'a>(
     kind: Kind,
     fields: &'a [Node],
     index: usize,
-    places: PlacesBelow,
-    around: Around<'a>,
+    places: &PlacesBelow,
+    around: &Around<'a>,
     layout: &mut Layout<'a>,
 ) -> Result<(), AllocError>
-    ensures { OnOk result (laid_of layout.new ≡ field_walked kind fields.now (walks_at (places_of places fields.now) fields.now) index (outside_of around.entry) (laid_of layout.old)) }
+    ensures { OnOk result (laid_of layout.new ≡ field_walked kind fields.now (walks_at (places_of places.now fields.now) fields.now) index (outside_of around.now) (laid_of layout.old)) }
 {
     match fields.get(index) {
-        Some(child) => {
-            let below = Around {
-                scope: around.scope,
-                exported: around.exported
-                    || matches!(role_of_field(kind, index), Role::ExportLocal),
-                for_body: is_for_body(kind, index),
-                own_name: own_name(kind, fields, index),
-            };
-            walk(child, places.at(index, child), below, layout)
-        }
+        Some(child) if is_leaf(child) => Ok(()),
+        Some(_) => walk_branch(kind, fields, index, places, around, layout),
         None => Ok(()),
     }
+}
+
+// A field that is there. It is kept out of the loop over the fields, which thus has little to do for a leaf.
+#[cycle(walk)]
+#[inline(never)]
+fn walk_branch<'a>(
+    kind: Kind,
+    fields: &'a [Node],
+    index: usize,
+    places: &PlacesBelow,
+    around: &Around<'a>,
+    layout: &mut Layout<'a>,
+) -> Result<(), AllocError>
+    requires { index < length fields.now }
+    ensures { OnOk result (laid_of layout.new ≡ field_walked kind fields.now (walks_at (places_of places.now fields.now) fields.now) index (outside_of around.now) (laid_of layout.old)) }
+{
+    let child = &fields[index];
+    let below = round_field(kind, fields, index, around);
+    walk(child, places.at(index, child), &below, layout)
 }
