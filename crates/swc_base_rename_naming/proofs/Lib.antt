@@ -5,3 +5,4 @@ pub mod Choices
 pub mod Stands
 pub mod Inside
 pub mod ByIds
+pub mod GoesOn

@@ -44,7 +44,7 @@ or_none : (b : Bool) → b ≡ (b || false)
 or_none true = refl
 or_none false = refl
 
-any_pushed : (f : ℕ → Bool) (b : Bool) (own outer : List ℕ) (id : ℕ) → list_any f ((if b then own ++ id ∷ [] else own) ++ outer) ≡ (list_any f (own ++ outer) || (b && f id))
+pub any_pushed : (f : ℕ → Bool) (b : Bool) (own outer : List ℕ) (id : ℕ) → list_any f ((if b then own ++ id ∷ [] else own) ++ outer) ≡ (list_any f (own ++ outer) || (b && f id))
 any_pushed f true own outer id =
     list_any-append f (own ++ id ∷ []) outer
     ∙ ap (λ b. b || list_any f outer) (list_any-append f own (id ∷ []))

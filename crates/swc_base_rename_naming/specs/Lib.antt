@@ -8,3 +8,4 @@ pub mod InOrder
 pub mod Steps
 pub mod Inside
 pub mod ByIds
+pub mod Tried

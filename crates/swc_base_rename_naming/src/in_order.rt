@@ -4,12 +4,14 @@ ghost use Rattle.std.specs.List.{list_any};
 ghost use Rattle.swc_base_rename_naming.specs.Chained.{ids_of};
 ghost use Rattle.swc_base_rename_naming.specs.Free.{FindsFree, IsSearchRefusal};
 ghost use Rattle.swc_base_rename_naming.specs.InOrder.{IsRefused, NamedInOrder};
+ghost use Rattle.swc_base_rename_naming.specs.Tried.{IsTried};
 ghost use Rattle.swc_base_rename_naming.specs.Steps.{IsKept, IsNamable, IsNameGiven, all_count, next_at as is_next_at, naming, rules, taken_at, text_at, IsSiteDone, IsSiteRefused};
 
 use crate::asked::Asked;
 use crate::free::{Taken, free_text};
 use crate::new_texts::NewTexts;
 use crate::reverse_map::ReverseMap;
+use crate::tried::Tried;
 use std::alloc::Global;
 use std::collections::BTreeMap;
 use swc_tree_marks::{Id, JsWord, NoMemory, PassError};
@@ -141,6 +143,31 @@ fn keep(
     Ok(())
 }
 
+// The first text of an id that is free at the scope of a site, and the counter after it. The search begins past the counters that
+// were tried for another id of the same text, and where it had to go on, so will the next.
+fn search<N: NewTexts, A: Asked>(
+    alloc: Global,
+    plan: &Plan<'_, N, A>,
+    id: &Id,
+    scope: usize,
+    start: usize,
+    given: &ReverseMap<'_>,
+    tried: &mut Tried,
+) -> Result<(JsWord, usize), PassError>
+    requires tried { IsTried (N.text plan.now.texts.now) (A.preserved plan.now.asked.now) (A.occurs plan.now.asked.now) given.now tried.old }
+    ensures found { IfOk result (λ found. FindsFree (N.text plan.now.texts.now id.now) (taken_at (A.preserved plan.now.asked.now) (A.occurs plan.now.asked.now) given.now scope) start found.1 found.0) }
+    ensures tried { OnOk result (IsTried (N.text plan.now.texts.now) (A.preserved plan.now.asked.now) (A.occurs plan.now.asked.now) given.now tried.new) }
+    ensures refused { IfErr result (IsSearchRefusal (N.text plan.now.texts.now id.now) (taken_at (A.preserved plan.now.asked.now) (A.occurs plan.now.asked.now) given.now scope) start) }
+{
+    let mut next = start.max(tried.counter(scope, id.0.as_str()));
+    let text = free_at(alloc, plan, id, scope, given, &mut next)?;
+    if start > 0 || next <= 2 || !plan.texts.are_alike() {
+        return Ok((text, next));
+    }
+    tried.put(alloc, scope, id.0.clone()?, next - 1)?;
+    Ok((text, next))
+}
+
 // Gives an id its name at a site.
 fn give_name<N: NewTexts, A: Asked>(
     alloc: Global,
@@ -149,12 +176,15 @@ fn give_name<N: NewTexts, A: Asked>(
     site: (usize, usize),
     given: &mut ReverseMap<'_>,
     names: &mut GivenTexts,
+    tried: &mut Tried,
 ) -> Result<(), PassError>
+    requires tried { IsTried (N.text plan.now.texts.now) (A.preserved plan.now.asked.now) (A.occurs plan.now.asked.now) given.old tried.old }
+    ensures tried { OnOk result (IsTried (N.text plan.now.texts.now) (A.preserved plan.now.asked.now) (A.occurs plan.now.asked.now) given.new tried.new) }
     ensures named { OnOk result (IsNameGiven (N.text plan.now.texts.now id.now) (taken_at (A.preserved plan.now.asked.now) (A.occurs plan.now.asked.now) given.old site.0) (is_next_at plan.now.goes_on names.old site.0) site names.old names.new given.old given.new) }
     ensures refused { IfErr result (IsSearchRefusal (N.text plan.now.texts.now id.now) (taken_at (A.preserved plan.now.asked.now) (A.occurs plan.now.asked.now) given.old site.0) (is_next_at plan.now.goes_on names.old site.0)) }
 {
-    let mut next = next_at(plan.goes_on, names, site.0);
-    let text = free_at(alloc, plan, id, site.0, given, &mut next)?;
+    let start = next_at(plan.goes_on, names, site.0);
+    let (text, next) = search(alloc, plan, id, site.0, start, given, tried)?;
     keep(text, site, next, given, names)?;
     Ok(())
 }
@@ -166,12 +196,15 @@ pub fn name_site<N: NewTexts, A: Asked>(
     site: (usize, usize),
     given: &mut ReverseMap<'_>,
     names: &mut GivenTexts,
+    tried: &mut Tried,
 ) -> Result<(), PassError>
+    requires tried { IsTried (N.text plan.now.texts.now) (A.preserved plan.now.asked.now) (A.occurs plan.now.asked.now) given.old tried.old }
+    ensures tried { OnOk result (IsTried (N.text plan.now.texts.now) (A.preserved plan.now.asked.now) (A.occurs plan.now.asked.now) given.new tried.new) }
     ensures named { OnOk result ((counts : ℕ → ℕ → Bool) → IsSiteDone (naming (N.text plan.now.texts.now) plan.now.goes_on (A.keeps plan.now.asked.now) (A.preserved plan.now.asked.now) (A.occurs plan.now.asked.now) counts (A.id_of plan.now.asked.now)) site names.old names.new given.old given.new) }
     ensures refused { IfErr result (λ e. (counts : ℕ → ℕ → Bool) → IsSiteRefused (naming (N.text plan.now.texts.now) plan.now.goes_on (A.keeps plan.now.asked.now) (A.preserved plan.now.asked.now) (A.occurs plan.now.asked.now) counts (A.id_of plan.now.asked.now)) site names.old given.old e) }
 {
     match namable(plan.asked, &names.texts, site.1) {
-        Some(id) => give_name(alloc, plan, id, site, given, names),
+        Some(id) => give_name(alloc, plan, id, site, given, names, tried),
         None => Ok(()),
     }
 }
@@ -202,8 +235,9 @@ pub fn names_in_order<N: NewTexts, A: Asked>(
     };
     let mut given = ReverseMap::new(alloc);
     let mut names = GivenTexts::new(alloc);
+    let mut tried = Tried::new(alloc);
     for site in sites {
-        name_site(alloc, &plan, *site, &mut given, &mut names)?;
+        name_site(alloc, &plan, *site, &mut given, &mut names, &mut tried)?;
     }
     Ok(names.into_texts())
 }

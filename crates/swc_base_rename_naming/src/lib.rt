@@ -14,6 +14,7 @@ mod nested;
 mod new_texts;
 mod reverse_map;
 mod texts;
+mod tried;
 
 pub use asked::{Asked, Nesting};
 pub use by_id::texts_by_id;

@@ -8,6 +8,7 @@ use crate::asked::{Asked, Nesting};
 use crate::in_order::{GivenTexts, Plan, name_site};
 use crate::new_texts::NewTexts;
 use crate::reverse_map::ReverseMap;
+use crate::tried::Tried;
 use std::alloc::Global;
 use std::collections::BTreeMap;
 use swc_tree_marks::{JsWord, PassError};
@@ -28,11 +29,12 @@ fn name_scope<N: NewTexts, A: Asked + Nesting>(
 {
     let scope = sites[from].0;
     let mut given = outer.next(alloc);
+    let mut tried = Tried::new(alloc);
     let mut at = from;
     while at < sites.len() && plan.asked.surrounds(scope, sites[at].0) {
         let site = sites[at];
         if site.0 == scope {
-            name_site(alloc, plan, site, &mut given, names)?;
+            name_site(alloc, plan, site, &mut given, names, &mut tried)?;
             at += 1;
         } else {
             at = name_scope(alloc, plan, sites, &given, at, names)?;

@@ -10,11 +10,19 @@ use swc_tree_marks::{Id, JsWord, PassError};
 
 /// Texts for ids: each id has one for each counter from 0 to the greatest `usize`.
 pub trait NewTexts {
-    ghost use Rattle.std.specs.Prelude.{ℕ, List};
+    ghost use Rattle.std.specs.Prelude.{◌≡◌, ℕ, true, List};
     ghost use Rattle.swc_base_rename_substitution.specs.Names.{Id};
 
     /// The text of an id at a counter.
     ghost text: { Self → Id → ℕ → List ℕ };
+
+    /// Whether ids of one text are known to have the same texts, so that what one could not get another need not try; by default
+    /// they are not.
+    fn are_alike(&self) -> bool
+        ensures { result ≡ true → (x y : Id) → x.0 ≡ y.0 → (n : ℕ) → text self.now x n ≡ text self.now y n }
+    {
+        false
+    }
 
     /// The text of an id at a counter, which goes one up.
     ///
@@ -36,6 +44,10 @@ pub struct HygieneTexts;
 
 impl NewTexts for HygieneTexts {
     ghost text = { λ _ x n. numbered_text x.0 n };
+
+    fn are_alike(&self) -> bool {
+        true
+    }
 
     /// The id's text at counter 0, else the text followed by the counter in decimal.
     ///

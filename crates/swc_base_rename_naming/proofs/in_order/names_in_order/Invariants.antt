@@ -1,9 +1,13 @@
 use Rattle.std.proofs.Common.{List, take}
 use Rattle.swc_base_rename_naming.specs.InOrder.{Choice}
 use Rattle.swc_base_rename_naming.specs.Steps.{Holds, Naming, Stands, all_count, naming}
+use Rattle.swc_base_rename_naming.specs.Tried.{IsTried}
 use Rattle.swc_base_rename_naming.proofs.in_order.names_in_order.Given as goal
 
 abbrev pub invariant-loop-site : goal.invariant-loop-site
 invariant-loop-site g l =
     let n : Naming = naming (g.N.NewTexts.text l.texts) l.goes_on (g.A.Asked.keeps l.asked) (g.A.Asked.preserved l.asked) (g.A.Asked.occurs l.asked) all_count (g.A.Asked.id_of l.asked) in
-    (choices : List Choice) × Stands n (take l.site-index l.sites) choices l.names × Holds n 0 choices l.given
+    record {
+      stood : (choices : List Choice) × Stands n (take l.site-index l.sites) choices l.names × Holds n 0 choices l.given;
+      tried : IsTried (g.N.NewTexts.text l.texts) (g.A.Asked.preserved l.asked) (g.A.Asked.occurs l.asked) l.given l.tried;
+    }

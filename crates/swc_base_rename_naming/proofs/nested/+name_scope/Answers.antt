@@ -2,6 +2,7 @@ use Rattle.std.proofs.Common.{true, ◌≡◌, ◌++◌, ◌+◌, ◌<◌, ◌�
 use Rattle.std.proofs.lemmas.Result.{err_from_is_err_and}
 use Rattle.swc_base_rename_naming.specs.Inside.{scope_at}
 use Rattle.swc_base_rename_naming.specs.Steps.{Naming, naming}
+use Rattle.swc_base_rename_naming.proofs.GoesOn.{tried_first}
 use Rattle.swc_base_rename_naming.proofs.Inside.{Laws, child_begins, half_child, half_first, half_holds, half_site}
 use Rattle.swc_base_rename_naming.proofs.Stands.{split_at}
 use Rattle.swc_base_rename_naming.proofs.nested.+name_scope.Goals as goal
@@ -15,6 +16,7 @@ loop-at-init g t c =
       fits = omega (arith, c.requires.within);
       scope = refl;
       half = λ choices begins. half_first n sites c.args.from choices c.args.names.now c.args.outer.now c.next-given.result c.next-given.ensures begins;
+      tried = tried_first (g.N.NewTexts.text c.args.plan.now.texts.now) (g.A.Asked.preserved c.args.plan.now.asked.now) (g.A.Asked.occurs c.args.plan.now.asked.now) c.next-given.result c.new-tried.result c.new-tried.ensures;
     }
 
 pub returns-in_err-name_site-clause-refused : goal.returns-in_err-name_site-clause-refused
@@ -48,6 +50,7 @@ loop-at-preserved-then-site-scope g t c =
           let half = stood.half choices begins in
           let done = c.in_ok-name_site.ensures.named n.counts (take at sites) (choices ++ half.more) half.stands (half_holds n sites c.args.from at choices _ _ own half) (laws.own (scope_at sites at)) in
           half_site n sites c.args.from at choices _ _ _ _ laws within own half done;
+      tried = c.in_ok-name_site.ensures.tried;
     }
 
 pub returns-in_err-at-clause-refused : goal.returns-in_err-at-clause-refused
@@ -83,4 +86,5 @@ loop-at-preserved g t c =
           let half = stood.half choices begins in
           half_child n sites c.args.from at c.in_ok-at.at choices _ _ _ laws c.requires.order later round c.if-site-scope.false half
           (done.done (choices ++ half.more) (child_begins n sites c.args.from at choices _ _ laws within round half));
+      tried = stood.tried;
     }

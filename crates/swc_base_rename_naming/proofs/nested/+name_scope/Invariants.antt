@@ -2,6 +2,7 @@ use Rattle.std.proofs.Common.{◌≡◌, ◌-◌, ◌≤◌, List, length}
 use Rattle.swc_base_rename_naming.specs.InOrder.{Choice}
 use Rattle.swc_base_rename_naming.specs.Inside.{MayBegin, scope_at}
 use Rattle.swc_base_rename_naming.specs.Steps.{Naming, naming}
+use Rattle.swc_base_rename_naming.specs.Tried.{IsTried}
 use Rattle.swc_base_rename_naming.proofs.Inside.{Half}
 use Rattle.swc_base_rename_naming.proofs.nested.+name_scope.Given as goal
 
@@ -16,6 +17,7 @@ invariant-loop-at g l =
       fits : l.at ≤ length l.sites;
       scope : l.scope ≡ scope_at l.sites l.from;
       half : (choices : List Choice) → MayBegin n l.sites l.from choices l.fn.names l.outer → Half n l.sites l.from l.at choices l.names l.given;
+      tried : IsTried (g.N.NewTexts.text l.plan.texts.now) (g.A.Asked.preserved l.plan.asked.now) (g.A.Asked.occurs l.plan.asked.now) l.given l.tried;
     }
 
 abbrev pub decreases-loop-at : goal.decreases-loop-at
