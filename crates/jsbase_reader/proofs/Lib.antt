@@ -7,3 +7,4 @@ pub mod Tables
 pub mod Numbers
 pub mod Texts
 pub mod Sound
+pub mod OneByOne

@@ -10,7 +10,10 @@ use Rattle.jsbase_form.specs.Reads.{found}
 use Rattle.jsbase_reader.specs.declared.error.ReadError.{ReadError}
 use Rattle.jsbase_reader.specs.declared.error.ReadError.TheVariants as error
 use Rattle.jsbase_reader.specs.Answers.{Gives, GivesView}
-use Rattle.jsbase_reader.specs.Envelopes.{document, max_depth, text_in}
+use Rattle.swc_tree_node.specs.declared.kind.Class.{Class}
+use Rattle.jsbase_reader.specs.declared.envelope.Envelope.{Envelope}
+use Rattle.jsbase_reader.specs.Envelopes.{document, envelope_in_text, max_depth, text_in}
+use Rattle.jsbase_reader.specs.Streamed.{envelope_in_document}
 
 pub text_there : (bytes : List ℕ) (d : Json) → IsUtf8 bytes × (document bytes ≡ Some d) → text_in bytes ≡ Ok d
 text_there bytes d h = rw (is_utf8-from_IsUtf8 bytes h.0) (ap found h.1)
@@ -31,3 +34,7 @@ fault_viewed (Err (error.Fault p)) h = cc
 pub document_there : (bytes text : List ℕ) (ts rest : List Token) (d : Json) → text ≡ bytes → ts ≡ tokens text → value max_depth ts ≡ Some (d, rest) → rest ≡ [] → document bytes ≡ Some d
 document_there bytes text ts rest d same lexed read end =
     ap (λ l. option_and_then (λ p. if_last p.0 p.1) (value max_depth l)) (sym (lexed ∙ ap tokens same)) ∙ ap (option_and_then (λ p. if_last p.0 p.1)) (read ∙ ap (λ l. Some (d, l)) end)
+
+-- the envelope of the text of bytes
+pub text_envelope : (c : Class) (bytes text : List ℕ) (e : Envelope) → IsUtf8 bytes → text ≡ bytes → envelope_in_document c text ≡ Ok e → envelope_in_text c bytes ≡ Ok e
+text_envelope c bytes text e utf8 same h = rw (is_utf8-from_IsUtf8 bytes utf8, ← same) h

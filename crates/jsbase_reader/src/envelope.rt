@@ -14,6 +14,7 @@ ghost use Rattle.jsbase_reader.specs.Envelopes.{option_at, marks_in, options_in,
 use crate::error::{ReadError, fault, under};
 use crate::leaves::{items_of, read_flag, read_mark, read_pair};
 use crate::nodes::{member, read};
+use crate::streamed::read_streamed;
 use jsbase_form::Step;
 use json::{Error, Reader, Scratch, Value};
 use std::alloc::Global;
@@ -81,7 +82,7 @@ fn read_option(alloc: Global, value: &Value<'_>) -> Result<bool, ReadError>
 
 // The table of marks of an envelope.
 #[tactic(auto, unfolding(jsbase_form::specs::Tables::table_at, jsbase_form::specs::Tables::pairs_at))]
-fn table_in(alloc: Global, object: &Value<'_>) -> Result<Globals, ReadError>
+pub(crate) fn table_in(alloc: Global, object: &Value<'_>) -> Result<Globals, ReadError>
     ensures { Gives result (at (key (codes "marks")) (table_at (value_of (codes "marks") (members_in (value_view object.now))))) }
 {
     match member(object, "marks") {
@@ -117,7 +118,7 @@ fn option_in(alloc: Global, object: &Value<'_>, name: &'static str) -> Result<bo
 }
 
 // The mark of names that no scope declares, and that of the outermost scope.
-fn read_marks(
+pub(crate) fn read_marks(
     alloc: Global,
     globals: &Globals,
     object: &Value<'_>,
@@ -130,7 +131,7 @@ fn read_marks(
 }
 
 // Whether classes keep their names, and whether `eval` is ignored.
-fn read_options(alloc: Global, object: &Value<'_>) -> Result<(bool, bool), ReadError>
+pub(crate) fn read_options(alloc: Global, object: &Value<'_>) -> Result<(bool, bool), ReadError>
     ensures { Gives result (options_in (members_in (value_view object.now))) }
 {
     let keep_class_names = option_in(alloc, object, "keepClassNames")?;
@@ -225,6 +226,22 @@ fn parse<'a>(
     }
 }
 
+// The envelope of a text: statement by statement, and where that is not possible by way of its JSON value, which tells the fault
+// of what has one.
+fn read_text(alloc: Global, class: Class, bytes: &[u8]) -> Result<Envelope, ReadError>
+    ensures { Gives result (envelope_in_text class bytes.now) }
+{
+    let Ok(text) = str::from_utf8(bytes) else {
+        return fault(alloc);
+    };
+    if let Some(envelope) = read_streamed(alloc, class, text) {
+        return Ok(envelope);
+    }
+    let mut scratch = Scratch::new(alloc);
+    let value = parse(alloc, bytes, &mut scratch)?;
+    read_object(alloc, class, &value)
+}
+
 /// The envelope that a text is, whose tree is of a class.
 ///
 /// # Errors
@@ -236,8 +253,6 @@ pub fn read_bytes(alloc: Global, class: Class, bytes: &[u8]) -> Result<Envelope,
     ensures fits { IfOk result (λ e. Fits e.tree (Slot.One (Content.Node class))) }
     ensures known { IfOk result (λ e. MarksKnown e.globals e.tree) }
 {
-    let mut scratch = Scratch::new(alloc);
-    let value = parse(alloc, bytes, &mut scratch)?;
-    let envelope = read_envelope(alloc, class, &value)?;
+    let envelope = read_text(alloc, class, bytes)?;
     Ok(envelope)
 }

@@ -8,6 +8,7 @@ mod envelope;
 mod error;
 mod leaves;
 mod nodes;
+mod streamed;
 
 pub use envelope::{Envelope, read_bytes, read_envelope};
 pub use error::ReadError;

@@ -85,7 +85,7 @@ fn kind_named(class: Class, name: Option<&str>) -> Option<Kind>
 }
 
 #[tactic(auto, unfolding(jsbase_form::specs::Trees::kind_at))]
-fn read_kind(alloc: Global, class: Class, object: &Value<'_>) -> Result<Kind, ReadError>
+pub(crate) fn read_kind(alloc: Global, class: Class, object: &Value<'_>) -> Result<Kind, ReadError>
     ensures { Gives result (kind_at class (members_in (value_view object.now))) }
 {
     match kind_named(class, text_of(object, "type")) {
@@ -271,7 +271,7 @@ fn read_node(
 
 // What the value of a key is in a place.
 #[cycle(read)]
-fn read_member(
+pub(crate) fn read_member(
     alloc: Global,
     globals: &Globals,
     object: &Value<'_>,
