@@ -1,5 +1,5 @@
 -- What a walk finds, by the form of a node, and one child after another.
-use Rattle.std.proofs.Common.{◌≡◌, ℕ, zero, suc, ◌+◌, Some, List, [], ◌∷◌, ◌++◌, take, length, refl, sym, ap, ◌∙◌, append_assoc, append-nil, ◌<◌, get_or, add-one}
+use Rattle.std.proofs.Common.{◌≡◌, ℕ, zero, suc, ◌+◌, true, false, Some, List, [], ◌∷◌, ◌++◌, take, length, refl, sym, ap, ◌∙◌, append_assoc, append-nil, ◌<◌, get_or, add-one}
 use Rattle.std.specs.List.{slice_get}
 use Rattle.std.proofs.lemmas.Option.{slice_get_read}
 use Rattle.swc_tree_marks.specs.declared.ident.Ident.{Ident}
@@ -16,6 +16,7 @@ use Rattle.swc_tree_scoping.specs.Folds.{each_in}
 use Rattle.swc_tree_scoping.specs.Places.{children_in, place_below}
 use Rattle.swc_tree_scoping.proofs.Children.{fields_below, items_below}
 use Rattle.swc_tree_scoping.proofs.Under.{fold_in_place_out}
+use Rattle.swc_tree_walk.specs.Leaf.{is_leaf, is_leaf_in}
 use Rattle.swc_tree_walk.specs.Sites.{joined, own_sites, sites}
 
 pub sites_out : (w : Place) (t : Node) → sites w t ≡ own_sites w (out-Node t) ++ joined (each_in sites (place_below w t) (children_in (out-Node t)))
@@ -48,6 +49,13 @@ sites_leaf w t no_list no_tree no_identifier = sites_out w t ∙ by (out-Node t)
     by (Node-F.Identifier k i) e = absurd (no_identifier k i (e ∙ rolls-Identifier k i))
     by y e = refl
 
+-- what the walk passes over
+pub none_in_leaf : (w : Place) (t : Node) → is_leaf t ≡ true → sites w t ≡ []
+none_in_leaf w t h = sites_leaf w t
+    (λ ts e. let q : true ≡ false = sym h ∙ ap is_leaf e ∙ ap is_leaf_in (outs-List ts) in absurd (cc))
+    (λ k ts e. let q : true ≡ false = sym h ∙ ap is_leaf e ∙ ap is_leaf_in (outs-Tree k ts) in absurd (cc))
+    (λ k i e. let q : true ≡ false = sym h ∙ ap is_leaf e ∙ ap is_leaf_in (outs-Identifier k i) in absurd (cc))
+
 -- one child more
 one_more : {A : Type 0} (g : Place → Node → List A) (places : ℕ → Place) (ts : List Node) (i : ℕ) (c : Node) → slice_get ts i ≡ Some c
     → joined (each_in g places (take (suc i) ts)) ≡ joined (each_in g places (take i ts)) ++ g (places i) c
@@ -57,12 +65,19 @@ one_more g places (t ∷ ts) (suc i) c h =
     ap (λ l. g (places zero) t ++ l) (one_more g (λ i. places (suc i)) ts i c h)
     ∙ sym (append_assoc (g (places zero) t) (joined (each_in g (λ i. places (suc i)) (take i ts))) (g (places (suc i)) c))
 
-pub found_more : (pl : PlacesBelow) (ts : List Node) (i : ℕ) (c d : Node) (w : Place) (old mid new : List (Standing × Ident)) → i < length ts → c ≡ get_or ts i c → d ≡ get_or ts i d → w ≡ place_of pl i (Some d)
+pub found_more : (pl : PlacesBelow) (ts : List Node) (i : ℕ) (c : Node) (w : Place) (old mid new : List (Standing × Ident)) → i < length ts → c ≡ get_or ts i c → w ≡ place_of pl i (Some c)
     → mid ≡ old ++ joined (each_in sites (places_of pl ts) (take i ts)) → new ≡ mid ++ sites w c → new ≡ old ++ joined (each_in sites (places_of pl ts) (take (i + 1) ts))
-found_more pl ts i c d w old mid new within is here stood before found =
+found_more pl ts i c w old mid new within is stood before found =
     let there : slice_get ts i ≡ Some c = slice_get_read ts (length ts) i c refl within is in
-    let place : w ≡ places_of pl ts i = stood ∙ ap (place_of pl i) (sym (slice_get_read ts (length ts) i d refl within here)) in
+    let place : w ≡ places_of pl ts i = stood ∙ ap (place_of pl i) (sym there) in
     found ∙ ap (λ l. l ++ sites w c) before ∙ ap (λ w. (old ++ joined (each_in sites (places_of pl ts) (take i ts))) ++ sites w c) place
     ∙ append_assoc old (joined (each_in sites (places_of pl ts) (take i ts))) (sites (places_of pl ts i) c)
     ∙ ap (λ l. old ++ l) (sym (one_more sites (places_of pl ts) ts i c there))
     ∙ ap (λ n. old ++ joined (each_in sites (places_of pl ts) (take n ts))) (sym (add-one i))
+
+-- a leaf more
+pub found_no_more : (pl : PlacesBelow) (ts : List Node) (i : ℕ) (c : Node) (old now : List (Standing × Ident)) → i < length ts → c ≡ get_or ts i c → is_leaf c ≡ true
+    → now ≡ old ++ joined (each_in sites (places_of pl ts) (take i ts)) → now ≡ old ++ joined (each_in sites (places_of pl ts) (take (i + 1) ts))
+found_no_more pl ts i c old now within is leaf before =
+    let w = place_of pl i (Some c) in
+    found_more pl ts i c w old now now within is refl before (sym (append-nil now) ∙ ap (λ l. now ++ l) (sym (none_in_leaf w c leaf)))

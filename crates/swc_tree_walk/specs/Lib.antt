@@ -1,3 +1,4 @@
+pub mod Leaf
 pub mod Nodes
 pub mod Rewritten
 pub mod Sites

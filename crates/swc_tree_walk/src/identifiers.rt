@@ -7,6 +7,7 @@ ghost use Rattle.swc_tree_scoping.specs.Folds.{each_in};
 ghost use Rattle.swc_tree_scoping.specs.Places.{program_place};
 ghost use Rattle.swc_tree_walk.specs.Sites.{StandsIn, joined, site_of, sites};
 
+use crate::leaf::is_leaf;
 use std::alloc::{AllocError, Global};
 use swc_tree_marks::Ident;
 use swc_tree_node::Node;
@@ -86,7 +87,12 @@ fn add_sites_below<'a>(
     ensures { OnOk result (map site_of found.new.items ≡ map site_of found.old.items ++ joined (each_in sites (places_of places nodes.now) nodes.now)) }
 {
     for i in 0..nodes.len() {
-        add_sites(&nodes[i], places.at(i, &nodes[i]), found)?;
+        let node = &nodes[i];
+        // Most children are leaves, in which no identifier stands: no place is worked out for them.
+        if is_leaf(node) {
+            continue;
+        }
+        add_sites(node, places.at(i, node), found)?;
     }
     Ok(())
 }

@@ -5,6 +5,7 @@
 mod finder;
 mod identifiers;
 mod kinds;
+mod leaf;
 mod rewriter;
 
 pub use finder::{Finder, any_has_node, has_node};

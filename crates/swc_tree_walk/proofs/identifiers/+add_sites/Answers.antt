@@ -1,7 +1,7 @@
 use Rattle.std.proofs.Common.{◌≡◌, ◌++◌, OnOk, map, sym, ap, ◌∙◌, subst}
 use Rattle.swc_tree_node.specs.declared.node.Node.{List as Many, Tree}
 use Rattle.swc_tree_walk.specs.Sites.{site_of}
-use Rattle.swc_tree_walk.proofs.Walked.{found_more, sites_list, sites_tree}
+use Rattle.swc_tree_walk.proofs.Walked.{found_more, found_no_more, sites_list, sites_tree}
 use Rattle.swc_tree_walk.proofs.identifiers.+add_sites.Goals as goal
 
 pub add_sites-returns-in-List : goal.add_sites-returns-in-List
@@ -18,5 +18,10 @@ add_sites-returns-in-Tree t c =
 
 pub add_sites_below-loop-i-preserved : goal.add_sites_below-loop-i-preserved
 add_sites_below-loop-i-preserved t c =
-    found_more c.args.places c.args.nodes.now c.loop-i.i c.index-nodes-i.result c.index-nodes-i-in-loop-i.result c.at.result (map site_of c.args.found.now.items) (map site_of c.loop-i.found.items) (map site_of c.add_sites.new.found.items)
-    c.loop-i-test.true c.index-nodes-i.is c.index-nodes-i-in-loop-i.is c.at.ensures c.loop-i.invariant c.in_ok-add_sites.ensures
+    found_more c.args.places c.args.nodes.now c.loop-i.i c.index-nodes-i.result c.at.result (map site_of c.args.found.now.items) (map site_of c.loop-i.found.items) (map site_of c.add_sites.new.found.items)
+    c.loop-i-test.true c.index-nodes-i.is c.at.ensures c.loop-i.invariant c.in_ok-add_sites.ensures
+
+pub add_sites_below-loop-i-preserved-then-is_leaf : goal.add_sites_below-loop-i-preserved-then-is_leaf
+add_sites_below-loop-i-preserved-then-is_leaf t c =
+    found_no_more c.args.places c.args.nodes.now c.loop-i.i c.index-nodes-i.result (map site_of c.args.found.now.items) (map site_of c.loop-i.found.items)
+    c.loop-i-test.true c.index-nodes-i.is (sym c.is_leaf.ensures ∙ c.if-is_leaf.true) c.loop-i.invariant
