@@ -6,7 +6,7 @@ print_table.py --check: writes nothing, and names the committed files that are n
 import os
 import sys
 
-from tree_printer import classes, committed, facade, families, json_page, table
+from tree_printer import classes, committed, facade, families, json_page, orders, table
 from tree_printer.transcription import Tree
 
 ROOT = os.path.dirname(os.path.dirname(os.path.abspath(__file__)))
@@ -14,7 +14,7 @@ ROOT = os.path.dirname(os.path.dirname(os.path.abspath(__file__)))
 
 def main():
     tree = Tree(os.path.join(ROOT, 'tools', 'tree.txt'))
-    files = {**table.files(tree), **classes.files(tree), **families.files(tree), **facade.files(ROOT, tree), **json_page.files(ROOT, tree)}
+    files = {**table.files(tree), **classes.files(tree), **families.files(tree), **facade.files(ROOT, tree), **orders.files(tree), **json_page.files(ROOT, tree)}
     if sys.argv[1:] == ['--check']:
         return committed.check(ROOT, files)
     committed.write(ROOT, files)

@@ -1,4 +1,5 @@
 pub mod Line
+pub mod Ordered
 pub mod Places
 pub mod Rests
 pub mod Back

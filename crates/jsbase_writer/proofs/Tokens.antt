@@ -1,5 +1,5 @@
 -- The tokens of values, piece by piece.
-use Rattle.std.proofs.Common.{◌≡◌, ◌≤◌, Some, ℕ, List, [], ◌∷◌, ◌++◌, Bool, codes, decimal, map, option_and_then, refl, sym, ap, ◌∙◌, append_assoc, append-nil}
+use Rattle.std.proofs.Common.{◌≡◌, ◌≤◌, Some, ℕ, List, [], ◌∷◌, ◌++◌, Bool, codes, decimal, map, option_and_then, refl, sym, ap, ap₂, ◌∙◌, append_assoc, append-nil}
 use Rattle.json.specs.Token as token
 use Rattle.json.specs.Token.{Token}
 use Rattle.json.specs.Lex.{tokens}
@@ -177,3 +177,17 @@ member_more ms later m all old named new was is at_key more =
 
 pub no_member : (ms : List Member) (all old new : List Token) → all ≡ old ++ members_rest ms → ms ≡ [] → new ≡ old ++ token.end_object ∷ [] → new ≡ all
 no_member ms all old new was is closed = closed ∙ ap (λ us. old ++ us) (sym of_no_members) ∙ ap (λ l. old ++ members_rest l) (sym is) ∙ sym was
+
+-- ---- members by their numbers
+
+pub member_before : (k l : List ℕ) (d e : Json) (old named new : List Token) → named ≡ old ++ token.key k ∷ [] → new ≡ named ++ tokens_of d → k ≡ l → d ≡ e
+    → (rest : Members) → new ++ tokens_of_members rest ≡ old ++ tokens_of_members (member l e rest)
+member_before k l d e old named new at_key more key value rest =
+    sym (ap₂ (λ l e. old ++ tokens_of_members (member l e rest)) (sym key) (sym value)
+    ∙ ap (λ us. old ++ us) (of_member k d rest)
+    ∙ sym (append_assoc old (token.key k ∷ []) (tokens_of d ++ tokens_of_members rest))
+    ∙ ap (λ us. us ++ (tokens_of d ++ tokens_of_members rest)) (sym at_key)
+    ∙ sym (append_assoc named (tokens_of d) (tokens_of_members rest)) ∙ ap (λ us. us ++ tokens_of_members rest) (sym more))
+
+pub object_closed : (ms : Members) (all old new : List Token) → all ≡ old ++ tokens_of_members ms → ms ≡ no_members → new ≡ old ++ token.end_object ∷ [] → new ≡ all
+object_closed ms all old new was is closed = closed ∙ ap (λ us. old ++ us) (sym of_no_members) ∙ ap (λ ms. old ++ tokens_of_members ms) (sym is) ∙ sym was

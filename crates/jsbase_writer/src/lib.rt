@@ -8,6 +8,7 @@ mod envelope;
 mod members;
 mod nodes;
 mod numbers;
+mod order;
 
 pub use envelope::write_envelope;
 pub use nodes::write;

@@ -1,22 +1,26 @@
 //! Writing nodes.
-ghost use Rattle.std.specs.Prelude.{◌≡◌, ◌≤◌, [], ◌++◌, Some, IfOk, OnOk, IsTrue, map, string_bytes};
+ghost use Rattle.std.specs.Prelude.{◌≡◌, ◌≤◌, [], ◌++◌, Some, IfOk, OnOk, IsTrue, length, map, slice_get, string_bytes};
 ghost use Rattle.json.specs.Lex.{tokens};
 ghost use Rattle.json.specs.Print.{print};
 ghost use Rattle.json.specs.Tree.{depth};
 ghost use Rattle.json.specs.Value.{items_of};
-ghost use Rattle.jsbase_form.specs.Known.{ReadsAs, NumbersShort, numbers_short, all_of, ident_short};
-ghost use Rattle.jsbase_form.specs.Writing.{json, ident_json};
+ghost use Rattle.swc_tree_node.specs.Table.{fields_of};
+ghost use Rattle.jsbase_form.specs.Known.{ReadsAs, NumbersShort, numbers_short, all_keyed, all_of, ident_short};
+ghost use Rattle.jsbase_form.specs.Writing.{json, ident_json, typed, fields_put};
 ghost use Rattle.jsbase_reader.specs.Envelopes.{document, max_depth};
 ghost use Rattle.jsbase_writer.specs.Envelopes.{text_of};
+ghost use Rattle.json.specs.Json.{Members, member};
 ghost use Rattle.jsbase_writer.specs.Members.{members_data, MembersShort};
+ghost use Rattle.jsbase_writer.specs.Ordered.{ShortOr, key_at, value_at};
 ghost use Rattle.jsbase_writer.specs.Tokens.{tokens_of, tokens_of_items, tokens_of_members};
 
 use crate::members::{Member, Part, members_of};
 use crate::numbers::{write_marks, write_pair};
+use crate::order::order_of;
 use json::Writer;
 use std::alloc::{AllocError, Global};
 use swc_tree_marks::Ident;
-use swc_tree_node::{Kind, Node, name_of, spelling_of};
+use swc_tree_node::{Kind, Node, fields_of, name_of, spelling_of};
 
 fn write_ident(out: &mut Writer, kind: Kind, ident: &Ident) -> Result<(), AllocError>
     ensures written { OnOk result (out.new.tokens ≡ out.old.tokens ++ tokens_of (ident_json kind ident.now)) }
@@ -50,9 +54,10 @@ pub(crate) fn text_of(out: Writer) -> String
 
 /// The JSON text of a tree.
 ///
-/// The tree is only read. Memory is taken for the text, and for the members of the objects that the
-/// writer is in. The time is in step with the tree's size, but for putting members into the order of
-/// their keys, which costs the square of how many there are.
+/// The tree is only read. Memory is taken for the text alone, and the time is in step with the tree's
+/// size: the order of the keys is kept for each kind. A node that lacks a field of its kind, or has one
+/// more, is the exception: its members are put into order in a list, which costs the square of how many
+/// there are.
 ///
 /// # Errors
 ///
@@ -85,9 +90,15 @@ pub(crate) fn write_value(alloc: Global, out: &mut Writer, node: &Node) -> Resul
         }
         Node::Identifier(kind, ident) => write_ident(out, *kind, ident.get())?,
         Node::Tree(kind, nodes) => {
-            let members = members_of(alloc, *kind, nodes.as_slice())?;
-            out.begin_object()?;
-            write_members(alloc, out, members.as_slice())?;
+            let nodes = nodes.as_slice();
+            if nodes.len() == fields_of(*kind).len() {
+                out.begin_object()?;
+                write_in_order(alloc, out, *kind, nodes)?;
+            } else {
+                let members = members_of(alloc, *kind, nodes)?;
+                out.begin_object()?;
+                write_members(alloc, out, members.as_slice())?;
+            }
         }
     }
     Ok(())
@@ -103,6 +114,52 @@ fn write_all(alloc: Global, out: &mut Writer, nodes: &[Node]) -> Result<(), Allo
         write_value(alloc, out, node)?;
     }
     out.end_array()?;
+    Ok(())
+}
+
+// The members of a tree that has each field of its kind: they stand in an order that is kept for the kind, so none is
+// sorted, and no list is made.
+#[cycle(write)]
+fn write_in_order(
+    alloc: Global,
+    out: &mut Writer,
+    kind: Kind,
+    nodes: &[Node],
+) -> Result<(), AllocError>
+    requires { length nodes.now ≡ length (fields_of kind) }
+    ensures written { OnOk result (out.new.tokens ≡ out.old.tokens ++ tokens_of_members (fields_put (fields_of kind) (map json nodes.now) (typed kind))) }
+    ensures before { OnOk result (out.new.before ≡ out.old.before) }
+    ensures short { OnOk result (IsTrue (all_keyed (fields_of kind) (map numbers_short nodes.now))) }
+{
+    for number in order_of(kind) {
+        write_member(alloc, out, kind, nodes, *number)?;
+    }
+    out.end_object()?;
+    Ok(())
+}
+
+// The member of a field; past the last, the one that names the kind.
+#[cycle(write)]
+fn write_member(
+    alloc: Global,
+    out: &mut Writer,
+    kind: Kind,
+    nodes: &[Node],
+    number: usize,
+) -> Result<(), AllocError>
+    requires { length nodes.now ≡ length (fields_of kind) }
+    ensures written { (rest : Members) → OnOk result (out.new.tokens ++ tokens_of_members rest ≡ out.old.tokens ++ tokens_of_members (member (key_at kind number) (value_at kind nodes.now number) rest)) }
+    ensures before { OnOk result (out.new.before ≡ out.old.before) }
+    ensures short { OnOk result (ShortOr (slice_get nodes.now number)) }
+{
+    if number < nodes.len() {
+        let field = &fields_of(kind)[number];
+        out.key(field.key)?;
+        write_value(alloc, out, &nodes[number])?;
+    } else {
+        out.key("type")?;
+        out.string(name_of(kind))?;
+    }
     Ok(())
 }
 

@@ -2,11 +2,14 @@ use Rattle.std.proofs.Common.{◌≡◌, ◌+◌, [], ◌∷◌, ◌++◌, drop,
 use Rattle.std.proofs.lemmas.List.{drop_more, drop_all}
 use Rattle.json.specs.Token.{string}
 use Rattle.json.specs.Value.{items_of}
-use Rattle.swc_tree_node.specs.Table.{fields_of}
+use Rattle.swc_tree_node.specs.Table.{fields_of, name_of}
 use Rattle.jsbase_form.specs.Writing.{json, typed, fields_put}
 use Rattle.jsbase_writer.specs.Members.{part_data, members_data, PartShort}
-use Rattle.jsbase_writer.specs.Tokens.{tokens_of, tokens_of_items}
-use Rattle.jsbase_writer.proofs.Tokens.{name_written, absent_written, flag_written, word_written, text_written, list_written, tree_written, item_written, array_closed, member_more, no_member}
+use Rattle.jsbase_writer.specs.Order.{order_of}
+use Rattle.jsbase_writer.specs.Ordered.{members_at, ShortAt}
+use Rattle.jsbase_writer.specs.Tokens.{tokens_of, tokens_of_items, tokens_of_members}
+use Rattle.jsbase_writer.proofs.Ordered.{in_order, all_short, no_higher, as_many, key_of_field, value_of_field, key_past, value_past, short_of_field, short_past}
+use Rattle.jsbase_writer.proofs.Tokens.{name_written, absent_written, flag_written, word_written, text_written, list_written, tree_written, item_written, array_closed, member_more, no_member, member_before, object_closed, of_string}
 use Rattle.jsbase_writer.proofs.Rests.{nodes_within, nodes_short, members_within, members_short}
 use Rattle.jsbase_writer.proofs.nodes.+write.Goals as goal
 use Rattle.jsbase_writer.proofs.nodes.+write.Goals.{write_members-in-Name+in_ok-string-in-Name, write_members-in-Node+in_ok-write_value-in-Node}
@@ -88,6 +91,58 @@ write_value-returns-in_ok-write_all-in-List-clause-written t c =
 pub write_value-returns-in_ok-write_members-in-Tree-clause-written : goal.write_value-returns-in_ok-write_members-in-Tree-clause-written
 write_value-returns-in_ok-write_members-in-Tree-clause-written t c =
     let k = c.in-Tree.kind in
-    let members = ap members_data c.as_slice-in-Tree-2.ensures.value ∙ c.in_ok-members-in-Tree.ensures.«data» ∙ ap (λ ts. fields_put (fields_of k) (map json ts) (typed k)) c.as_slice-in-Tree.ensures in
-    tree_written c.args.node.now k c.in-Tree.nodes (members_data c.as_slice-in-Tree-2.result.now) c.args.out.now.tokens _ _ c.in-Tree.is members c.in_ok-begin_object-in-Tree.ensures.ok
+    let list = c.as_slice-else-nodes-fields_of in
+    let members = ap members_data list.ensures.value ∙ c.in_ok-members-in-Tree.ensures.«data» ∙ ap (λ ts. fields_put (fields_of k) (map json ts) (typed k)) c.as_slice-nodes.ensures in
+    tree_written c.args.node.now k c.in-Tree.nodes (members_data list.result.now) c.args.out.now.tokens _ _ c.in-Tree.is members c.in_ok-begin_object-in-Tree-2.ensures.ok
     c.in_ok-write_members-in-Tree.ensures.written
+
+pub write_value-returns-in_ok-write_in_order-in-Tree-clause-written : goal.write_value-returns-in_ok-write_in_order-in-Tree-clause-written
+write_value-returns-in_ok-write_in_order-in-Tree-clause-written t c =
+    let k = c.in-Tree.kind in
+    let members = ap (λ ts. fields_put (fields_of k) (map json ts) (typed k)) c.as_slice-nodes.ensures in
+    tree_written c.args.node.now k c.in-Tree.nodes _ c.args.out.now.tokens _ _ c.in-Tree.is members c.in_ok-begin_object-in-Tree.ensures.ok c.in_ok-write_in_order-in-Tree.ensures.written
+
+pub write_in_order-returns-clause-written : goal.write_in_order-returns-clause-written
+write_in_order-returns-clause-written t c =
+    let k = c.args.kind in
+    let ts = c.args.nodes.now in
+    let i = c.loop-number.number-index in
+    let done : drop i (order_of k) ≡ [] = ap (drop i) (sym c.order_of-number-items.ensures) ∙ drop_all i c.order_of-number-items.result.now (omega arith) in
+    object_closed (members_at k ts (drop i (order_of k))) _ _ _ c.loop-number.invariant.0 (ap (members_at k ts) done) c.in_ok-end_object.ensures.ok
+    ∙ ap (λ ms. c.args.out.now.tokens ++ tokens_of_members ms) (in_order k ts c.requires)
+
+pub write_in_order-returns-clause-short : goal.write_in_order-returns-clause-short
+write_in_order-returns-clause-short t c =
+    let k = c.args.kind in
+    let ts = c.args.nodes.now in
+    let i = c.loop-number.number-index in
+    let done : drop i (order_of k) ≡ [] = ap (drop i) (sym c.order_of-number-items.ensures) ∙ drop_all i c.order_of-number-items.result.now (omega arith) in
+    all_short k ts c.requires (c.loop-number.invariant.2 (subst (ShortAt ts) (sym done) tt))
+
+pub write_member-write_value-requires : goal.write_member-write_value-requires
+write_member-write_value-requires t c =
+    let low = no_higher c.args.nodes.now c.args.number c.index-nodes-number.result c.if-number-nodes.true c.index-nodes-number.is in
+    omega arith
+
+pub write_member-returns-in_ok-write_value-clause-written : goal.write_member-returns-in_ok-write_value-clause-written
+write_member-returns-in_ok-write_value-clause-written t c =
+    let k = c.args.kind in
+    let i = c.args.number in
+    let many = as_many k c.fields_of.result.now c.fields_of.ensures in
+    member_before _ _ _ _ _ _ _ c.in_ok-key.ensures.ok c.in_ok-write_value.ensures.written
+    (key_of_field k c.fields_of.result.now i _ c.fields_of.ensures (omega (arith, many, c.requires, c.if-number-nodes.true)))
+    (value_of_field k c.args.nodes.now i c.index-nodes-number.result c.if-number-nodes.true c.index-nodes-number.is)
+
+pub write_member-returns-in_ok-write_value-clause-short : goal.write_member-returns-in_ok-write_value-clause-short
+write_member-returns-in_ok-write_value-clause-short t c =
+    short_of_field c.args.nodes.now c.args.number c.index-nodes-number.result c.if-number-nodes.true c.index-nodes-number.is c.in_ok-write_value.ensures.short
+
+pub write_member-returns-in_ok-string-clause-written : goal.write_member-returns-in_ok-string-clause-written
+write_member-returns-in_ok-string-clause-written t c =
+    let k = c.args.kind in
+    let name = c.in_ok-string.ensures.ok ∙ ap (λ s. c.key-else-number-nodes.new.self.tokens ++ string s ∷ []) c.name_of.ensures in
+    member_before _ _ _ _ _ _ _ c.in_ok-key-2.ensures.ok (name ∙ ap (λ ts. c.key-else-number-nodes.new.self.tokens ++ ts) (sym (of_string (name_of k))))
+    (key_past k c.args.nodes.now c.args.number c.requires (omega arith)) (value_past k c.args.nodes.now c.args.number (omega arith))
+
+pub write_member-returns-in_ok-string-clause-short : goal.write_member-returns-in_ok-string-clause-short
+write_member-returns-in_ok-string-clause-short t c = short_past c.args.nodes.now c.args.number (omega arith)

@@ -3,17 +3,32 @@ use Rattle.json.specs.Value.{items_of}
 use Rattle.jsbase_form.specs.Known.{all_of, numbers_short}
 use Rattle.jsbase_form.specs.Writing.{json}
 use Rattle.jsbase_writer.specs.Members.{height, greatest, tallest, members_data, MembersShort}
+use Rattle.jsbase_writer.specs.Order.{order_of}
+use Rattle.jsbase_writer.specs.Ordered.{members_at, ShortAt}
 use Rattle.jsbase_writer.specs.Tokens.{tokens_of_items, tokens_of_members}
 use Rattle.jsbase_writer.proofs.nodes.+write.Given as goal
 
 abbrev pub decreases-write_value : goal.decreases-write_value
-decreases-write_value l = 2 * height l.node.now
+decreases-write_value l = 3 * height l.node.now
 
 abbrev pub decreases-write_all : goal.decreases-write_all
-decreases-write_all l = 2 * greatest (map height l.nodes.now) + 1
+decreases-write_all l = 3 * greatest (map height l.nodes.now) + 1
 
 abbrev pub decreases-write_members : goal.decreases-write_members
-decreases-write_members l = 2 * tallest l.members.now + 1
+decreases-write_members l = 3 * tallest l.members.now + 1
+
+abbrev pub decreases-write_in_order : goal.decreases-write_in_order
+decreases-write_in_order l = 3 * greatest (map height l.nodes.now) + 2
+
+abbrev pub decreases-write_member : goal.decreases-write_member
+decreases-write_member l = 3 * greatest (map height l.nodes.now) + 1
+
+abbrev pub invariant-write_in_order-loop-number : goal.invariant-write_in_order-loop-number
+invariant-write_in_order-loop-number l =
+    let order = order_of l.kind in
+    let rest = drop l.number-index order in
+    (l.fn.out.tokens ++ tokens_of_members (members_at l.kind l.nodes order) ≡ l.out.tokens ++ tokens_of_members (members_at l.kind l.nodes rest))
+    × (l.out.before ≡ l.fn.out.before) × (ShortAt l.nodes rest → ShortAt l.nodes order)
 
 abbrev pub invariant-write_all-loop-node : goal.invariant-write_all-loop-node
 invariant-write_all-loop-node l =
