@@ -202,7 +202,7 @@ pub fn read_envelope(alloc: Global, class: Class, value: &Value<'_>) -> Result<E
 }
 
 /// How deep arrays and objects may nest.
-const MAX_DEPTH: usize = 127;
+pub(crate) const MAX_DEPTH: usize = 127;
 
 // The JSON value of a text.
 fn parse<'a>(
@@ -242,7 +242,8 @@ fn read_text(alloc: Global, class: Class, bytes: &[u8]) -> Result<Envelope, Read
     read_object(alloc, class, &value)
 }
 
-/// The envelope that a text is, whose tree is of a class.
+/// The envelope that a text is, whose tree is of a class. A text with a fault in it is read twice: the second reading
+/// finds the path.
 ///
 /// # Errors
 ///

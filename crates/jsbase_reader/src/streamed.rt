@@ -14,8 +14,8 @@ ghost use Rattle.swc_tree_node.specs.declared.node.Node.{List as Many};
 ghost use Rattle.jsbase_reader.specs.Parts.{members_in};
 ghost use Rattle.jsbase_reader.specs.Streamed.{AreItems, Ends, HasStatements, IsAround, IsEnvelope, IsItem, IsMade, IsMember, IsProgram, Leads, envelope_in_document};
 
-use crate::envelope::{Envelope, read_marks, read_options, table_in};
-use crate::nodes::{member, read, read_kind, read_member};
+use crate::envelope::{Envelope, MAX_DEPTH, read_marks, read_options, table_in};
+use crate::nodes::{read, read_kind, read_member};
 use json::{Reader, Scratch, Token, Value};
 use std::alloc::Global;
 use swc_tree_items::Items;
@@ -23,6 +23,13 @@ use swc_tree_marks::Globals;
 use swc_tree_node::{Class, Content, Kind, Node, Slot};
 
 type Member<'a> = (&'a str, Value<'a>);
+
+// How deep arrays and objects may nest in a member of the envelope, in one of the program, and in a statement.
+const IN_ENVELOPE: usize = MAX_DEPTH - 1;
+
+const IN_PROGRAM: usize = MAX_DEPTH - 2;
+
+const IN_STATEMENTS: usize = MAX_DEPTH - 3;
 
 fn object_begins(reader: &mut Reader<'_>) -> Option<()>
     ensures { IfSome result (λ _. reader.old ≡ object_begins ∷ reader.new) }
@@ -139,7 +146,7 @@ fn has_key(members: &[Member<'_>], key: &str) -> bool
     members.iter().any(|member| member.0 == key)
 }
 
-// The members of an object but for one, as an object: those before it and those behind it, which do not have its key.
+// The members of an object but for one, as an object: those before it and those behind it.
 fn joined<'a>(alloc: Global, before: Vec<Member<'a>>, behind: Vec<Member<'a>>) -> Option<Value<'a>>
     ensures { IfSome result (λ v. members_in (value_view v) ≡ members_view (before.entry.items ++ behind.entry.items)) }
 {
@@ -224,10 +231,10 @@ fn read_program(
 {
     let statements = statements_of(class)?;
     object_begins(reader)?;
-    let before = members_until(alloc, reader, 125, "body")?;
+    let before = members_until(alloc, reader, IN_PROGRAM, "body")?;
     array_begins(reader)?;
-    let body = read_items(alloc, globals, reader, 124, statements)?;
-    let behind = members_left(alloc, reader, 125)?;
+    let body = read_items(alloc, globals, reader, IN_STATEMENTS, statements)?;
+    let behind = members_left(alloc, reader, IN_PROGRAM)?;
     if has_key(behind.as_slice(), "body") {
         return None;
     }
@@ -261,10 +268,10 @@ fn read_whole(alloc: Global, class: Class, reader: &mut Reader<'_>) -> Option<En
     ensures { IfSome result (λ envelope. IsEnvelope 127 class reader.old reader.new envelope) }
 {
     object_begins(reader)?;
-    let before = members_until(alloc, reader, 126, "tree")?;
+    let before = members_until(alloc, reader, IN_ENVELOPE, "tree")?;
     let (globals, before) = table_among(alloc, before)?;
     let tree = read_program(alloc, &globals, class, reader)?;
-    let behind = members_left(alloc, reader, 126)?;
+    let behind = members_left(alloc, reader, IN_ENVELOPE)?;
     if has_key(behind.as_slice(), "tree") || has_key(behind.as_slice(), "marks") {
         return None;
     }
