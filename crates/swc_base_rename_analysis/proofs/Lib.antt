@@ -7,5 +7,6 @@ pub mod Kept
 pub mod Added
 pub mod Layers
 pub mod Betweens
+pub mod Hashes
 pub mod Numbered
 pub mod ReadOff

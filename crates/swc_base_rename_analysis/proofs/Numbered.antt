@@ -7,6 +7,8 @@ use Rattle.std.specs.Ordering.{is_eq, nat_cmp, ordering_then}
 use Rattle.std.specs.declared.cmp.Ordering.{Ordering}
 use Rattle.std.specs.declared.cmp.Ordering.TheVariants.{Less, Equal, Greater}
 use Rattle.std.specs.Cmp.Lexicographic.{slice_cmp, bytes_decides, nat_list_cmp_total}
+use Rattle.std.proofs.lemmas.Cmp.{nat_cmp_total}
+use Rattle.swc_base_rename_analysis.specs.Hashed.{hash_of}
 use Rattle.std.specs.Str.{bytes_eq}
 use Rattle.std.specs.Map.{AreApart, IsKeyTest, KeepsOthers, lookup}
 use Rattle.std.specs.BTreeMap as tree
@@ -43,6 +45,25 @@ itself x = λ j. ((bytes_decides x.0 x.0).1 refl j) && ((bytes_decides x.1 x.1).
 ids_total : IsTotalOrder id_cmp
 ids_total = then_total (on_total (λ (x : Id). x.0) nat_list_cmp_total) (on_total (λ (x : Id). x.1) nat_list_cmp_total)
 
+-- ids with their hashes
+abbrev Hashed : Type 0
+Hashed = ℕ × Id
+
+abbrev hashed : Id → Hashed
+hashed x = (hash_of x, x)
+
+abbrev hashed_cmp : Hashed → Hashed → Ordering
+hashed_cmp a b = ordering_then (nat_cmp a.0 b.0) (id_cmp a.1 b.1)
+
+hashed_total : IsTotalOrder hashed_cmp
+hashed_total = then_total (on_total (λ (a : Hashed). a.0) nat_cmp_total) (on_total (λ (a : Hashed). a.1) ids_total)
+
+-- those that compare equal are one
+is_same_hashed : (a b : Hashed) → is_eq (hashed_cmp a b) ≡ true → same_id a.1 b.1 ≡ true
+is_same_hashed a b h =
+    let (_, e) = both_so (is_eq (nat_cmp a.0 b.0)) (is_eq (id_cmp a.1 b.1)) (sym (both_equal (nat_cmp a.0 b.0) (id_cmp a.1 b.1)) ∙ h) in
+    sym (is_same a.1 b.1) ∙ e
+
 pub impossible : {A : Type 0} → false ≡ true → A
 impossible h = absurd (cc)
 
@@ -51,13 +72,16 @@ not_same x y z n e f = sym n ∙ ap (λ z. same_id z y) (one_id x z e) ∙ ap (�
 
 -- the keys of the table
 abbrev pub Key : Type 0
-Key = Bor (List ℕ) × Bor (List ℕ)
+Key = ℕ × (Bor (List ℕ) × Bor (List ℕ))
 
 abbrev pub id_in : Key → Id
-id_in k = (k.0.now, k.1.now)
+id_in k = (k.1.0.now, k.1.1.now)
+
+abbrev pub hashed_in : Key → Hashed
+hashed_in k = (k.0, id_in k)
 
 abbrev pub found : BTreeMap Key ℕ → Id → Option ℕ
-found m x = get_by (λ k. id_cmp x (id_in k)) m
+found m x = get_by (λ k. hashed_cmp (hashed x) (hashed_in k)) m
 
 module _ {X : Type 0} (eq : Key → Key → Bool) (test : Key → Bool) where
   other_entries : (old new : List (Key × X)) → KeepsOthers eq test old new → (other : Key → Bool) → IsKeyTest eq other → AreApart test other → lookup other new ≡ lookup other old
@@ -65,16 +89,19 @@ module _ {X : Type 0} (eq : Key → Key → Bool) (test : Key → Bool) where
   other_entries old new h = h
 
 -- the table has the id's number, and of others what it had
-number_updated : (m n : BTreeMap Key ℕ) (k : Key) (v : ℕ) → tree.Updates (λ a b. id_cmp (id_in a) (id_in b)) m n k (Some v) → (x : Id) → found n x ≡ cond (same_id (id_in k) x) (Some v) (found m x)
-number_updated m n k v h x = by (same_id (id_in k) x) refl
+number_updated : (m n : BTreeMap Key ℕ) (k : Key) (v : ℕ) → k.0 ≡ hash_of (id_in k) → tree.Updates (λ a b. hashed_cmp (hashed_in a) (hashed_in b)) m n k (Some v) → (x : Id) → found n x ≡ cond (same_id (id_in k) x) (Some v) (found m x)
+number_updated m n k v own h x = by (same_id (id_in k) x) refl
   where
-    no_other : same_id (id_in k) x ≡ false → (a : Key) → is_at (λ b. id_cmp (id_in k) (id_in b)) a ≡ true → (b : Bool) → is_at (λ b. id_cmp x (id_in b)) a ≡ b → b ≡ false
+    no_other : same_id (id_in k) x ≡ false → (a : Key) → is_at (λ b. hashed_cmp (hashed_in k) (hashed_in b)) a ≡ true → (b : Bool) → is_at (λ b. hashed_cmp (hashed x) (hashed_in b)) a ≡ b → b ≡ false
     no_other apart a e false f = refl
-    no_other apart a e true f = impossible (not_same (id_in k) x (id_in a) apart (sym (is_same (id_in k) (id_in a)) ∙ e) (sym (is_same x (id_in a)) ∙ f))
+    no_other apart a e true f = impossible (not_same (id_in k) x (id_in a) apart (is_same_hashed (hashed_in k) (hashed_in a) e) (is_same_hashed (hashed x) (hashed_in a) f))
+
+    its_own : hashed (id_in k) ≡ hashed_in k
+    its_own = ap (λ n. (n, id_in k)) (sym own)
 
     by : (b : Bool) → same_id (id_in k) x ≡ b → found n x ≡ cond b (Some v) (found m x)
-    by true e = ap (found n) (sym (one_id (id_in k) x e)) ∙ h.1
-    by false e = other_entries _ _ _ _ h.3 (is_at (λ b. id_cmp x (id_in b))) (λ a b. (eq_by_cmp_equiv ids_total).congr x (id_in a) (id_in b)) (λ a f. ap (λ z. z) (no_other e a f (is_at (λ b. id_cmp x (id_in b)) a) refl))
+    by true e = ap (found n) (sym (one_id (id_in k) x e)) ∙ ap (λ q. get_by (λ k. hashed_cmp q (hashed_in k)) n) its_own ∙ h.1
+    by false e = other_entries _ _ _ _ h.3 (is_at (λ b. hashed_cmp (hashed x) (hashed_in b))) (λ a b. (eq_by_cmp_equiv hashed_total).congr (hashed x) (hashed_in a) (hashed_in b)) (λ a f. ap (λ z. z) (no_other e a f (is_at (λ b. hashed_cmp (hashed x) (hashed_in b)) a) refl))
 
 -- the number of an id that is put behind the others
 pub none_here : (b : Bool) (o : Option ℕ) → cond b (Some zero) (option_map (λ n. suc n) o) ≡ None → (b ≡ false) × (o ≡ None)
@@ -102,21 +129,21 @@ number_after (e ∷ es) y x h = by (number_after es y x none.1) (same_id e.id x)
         ∙ one_more c (length es) (number_in es x)
 
 -- an id that was not in the table is added
-pub added : (m n : BTreeMap Key ℕ) (k : Key) (es fs : List Known) (y : Id) (v : ℕ) → id_in k ≡ y → None ≡ found m (id_in k) → v ≡ length es
-    → tree.Updates (λ a b. id_cmp (id_in a) (id_in b)) m n k (Some v) → ((x : Id) → found m x ≡ number_in es x) → fs ≡ es ++ fresh y ∷ []
+pub added : (m n : BTreeMap Key ℕ) (k : Key) (es fs : List Known) (y : Id) (v : ℕ) → k.0 ≡ hash_of y → id_in k ≡ y → None ≡ get_by (λ b. hashed_cmp (hashed_in k) (hashed_in b)) m → v ≡ length es
+    → tree.Updates (λ a b. hashed_cmp (hashed_in a) (hashed_in b)) m n k (Some v) → ((x : Id) → found m x ≡ number_in es x) → fs ≡ es ++ fresh y ∷ []
     → ((x : Id) → found n x ≡ number_in fs x) × (fs ≡ with_id es y) × (Some v ≡ number_in fs y)
-added m n k es fs y v is_key absent last updates table all = (
+added m n k es fs y v own is_key absent last updates table all = (
   numbers,
   all ∙ ap (λ o. cond (is_some o) es (es ++ fresh y ∷ [])) (sym none),
   sym (ap (λ fs. number_in fs y) all ∙ number_after es y y none ∙ ap (λ b. cond b (Some (length es)) (number_in es y)) (itself y) ∙ ap (λ n. Some n) (sym last)),
 )
   where
     none : number_in es y ≡ None
-    none = sym (table y) ∙ ap (found m) (sym is_key) ∙ sym absent
+    none = sym (table y) ∙ ap (λ q. get_by (λ k. hashed_cmp q (hashed_in k)) m) (λ j. (sym own j, sym is_key j)) ∙ sym absent
 
     numbers : (x : Id) → found n x ≡ number_in fs x
     numbers x =
-        number_updated m n k v updates x
+        number_updated m n k v (own ∙ ap hash_of (sym is_key)) updates x
         ∙ (λ j. cond (same_id (is_key j) x) (Some (last j)) (table x j))
         ∙ sym (number_after es y x none)
         ∙ ap (λ fs. number_in fs x) (sym all)

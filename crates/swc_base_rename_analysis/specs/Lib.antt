@@ -6,5 +6,6 @@ pub mod Named
 pub mod Laws
 pub mod Walk
 pub mod Between
+pub mod Hashed
 pub mod Numbers
 pub mod Read

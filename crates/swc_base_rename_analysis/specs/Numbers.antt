@@ -8,6 +8,7 @@ use Rattle.swc_tree_scoping.specs.Scopes.{is_binding, is_name}
 use Rattle.swc_tree_scoping.specs.BoundNames.{Id}
 use Rattle.swc_base_rename_analysis.specs.declared.numbers.Entry.{Entry}
 use Rattle.swc_base_rename_analysis.specs.declared.numbers.Entries.{Entries}
+use Rattle.swc_base_rename_analysis.specs.Hashed.{hash_of}
 use Rattle.swc_base_rename_analysis.specs.Walk.{Met}
 
 -- the positions at which an id occurs, whether a name binds it, and whether it stands outside of export lists
@@ -77,7 +78,7 @@ known_by ms (suc n) = met_next n (slice_get ms n) (known_by ms n)
 
 -- the table of numbers, as the code keeps it
 abbrev pub number_of : Entries → Id → Option ℕ
-number_of es x = get_by (λ k. ordering_then (slice_cmp nat_cmp x.0 k.0.now) (slice_cmp nat_cmp x.1 k.1.now)) es.numbers
+number_of es x = get_by (λ k. ordering_then (nat_cmp (hash_of x) k.0) (ordering_then (slice_cmp nat_cmp x.0 k.1.0.now) (slice_cmp nat_cmp x.1 k.1.1.now))) es.numbers
 
 abbrev pub IsTable : Entries → Type 0
 IsTable es = (x : Id) → number_of es x ≡ number_in (known_ids es) x

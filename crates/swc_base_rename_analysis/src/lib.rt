@@ -8,6 +8,7 @@
 
 mod analysis;
 mod between;
+mod hashed;
 mod layout;
 mod numbers;
 mod own_names;

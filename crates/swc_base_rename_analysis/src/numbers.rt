@@ -1,9 +1,11 @@
 //! Ids by number.
 ghost use Rattle.std.specs.Prelude.{◌≡◌, Some, [], IfOk, OnOk, map};
 ghost use Rattle.std.specs.BTreeMap.{get_by};
+ghost use Rattle.swc_base_rename_analysis.specs.Hashed.{hash_of as is_hash_of};
 ghost use Rattle.swc_base_rename_analysis.specs.Numbers.{IsTable, id_met, is_analysed_text as is_text_analysed, known_by, known_ids, known_of, number_in, seen, with_id, with_met};
 ghost use Rattle.swc_base_rename_analysis.specs.Walk.{met_of};
 
+use crate::hashed::hash_of;
 use crate::layout::Name;
 use std::alloc::{AllocError, Global};
 use std::collections::BTreeMap;
@@ -49,16 +51,20 @@ impl Entry {
 /// A look-up costs the logarithm of how many there are, whatever the ids.
 #[derive(Drop)]
 pub struct Entries<'a> {
-    numbers: BTreeMap<(&'a JsWord, &'a SyntaxContext), usize>,
+    numbers: BTreeMap<Key<'a>, usize>,
     pub entries: Vec<Entry>,
 }
 
+// An id by its hash first: two that differ are nearly always told apart by one comparison of numbers.
+type Key<'a> = (u64, (&'a JsWord, &'a SyntaxContext));
+
 // How the id of an identifier is looked up.
-fn key_of<'a>(ident: &'a Ident) -> (&'a JsWord, &'a SyntaxContext)
-    ensures text { result.0.now ≡ ident.now.sym }
-    ensures context { result.1.now ≡ ident.now.ctxt }
+fn key_of<'a>(ident: &'a Ident) -> Key<'a>
+    ensures hash { result.0 ≡ is_hash_of (ident.now.sym, ident.now.ctxt) }
+    ensures text { result.1.0.now ≡ ident.now.sym }
+    ensures context { result.1.1.now ≡ ident.now.ctxt }
 {
-    (&ident.sym, &ident.ctxt)
+    (hash_of(ident), (&ident.sym, &ident.ctxt))
 }
 
 impl<'a> Entries<'a> {
