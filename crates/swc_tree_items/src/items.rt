@@ -1,6 +1,8 @@
 //! An owned list.
 ghost use Rattle.std.specs.Prelude.{◌≡◌, [], ◌∷◌, ◌++◌, ◌<◌, ◌≤◌, length, slice_get, slice_set, remove, take, drop as drop_first, reverse as reversed, ◌↔◌, IsTrue, IfOk, MatchOption, OnOk, OnErr, OnSome};
 ghost use Rattle.std.specs.Option.{option_copied};
+ghost use Rattle.std.specs.Borrow.{Lends, sem};
+ghost use Rattle.swc_tree_items.specs.contracts.items.Items.{the_row};
 
 use std::alloc::{AllocError, Global};
 use std::marker::Model;
@@ -112,6 +114,15 @@ impl<T> Items<T> {
         ensures list { self.new ≡ slice_set self.old index item }
     {
         mem::replace(&mut self.items[index], item)
+    }
+
+    /// The element at an index, to be changed in place.
+    pub fn item_mut(&mut self, index: usize) -> &mut T
+        requires { index < length self.old }
+        ensures value { slice_get self.old index ≡ Some result.now }
+        ensures* writes_back { sem 𝓛 (Lends (the_row T.row) T.row self.entry result (slice_set self.old index)) }
+    {
+        &mut self.items[index]
     }
 
     /// Moves the elements of `more` to the end. Where memory is refused, the list stays and `more` is dropped.

@@ -1,6 +1,6 @@
 -- Where two nodes of one form are equal, their parts are, and the other way round.
 use denote.Enum.Bare.{sameb, same_true, true_same}
-use Rattle.std.proofs.Common.{◌≡◌, Bool, true, ◌&&◌, ◌==◌, nat_eq, List, [], IsTrue, refl, sym, ap, ◌∙◌, rules}
+use Rattle.std.proofs.Common.{◌≡◌, Bool, true, ◌&&◌, ◌==◌, nat_eq, List, [], IsTrue, sym, ap, ◌∙◌, rules}
 use Rattle.std.specs.Bool.{Decides, one_answer}
 use Rattle.std.specs.Cmp.{first_so, second_so, unsigned_Decides}
 use Rattle.std.specs.Cmp.Lexicographic.{pointwise, bytes_decides}

@@ -1,4 +1,5 @@
 pub mod Table
+pub mod Changed
 pub mod Fits
 pub mod Sameness
 pub mod Parts

@@ -1,6 +1,7 @@
 //! The syntax tree as one recursive type, and the table of what stands where in it.
 #![tactic(auto)]
 
+mod changed;
 mod compare;
 mod copies;
 pub mod fields;
