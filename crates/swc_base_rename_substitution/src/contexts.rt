@@ -11,32 +11,34 @@ use swc_tree_node::Node;
 /// The tree with the context of each identifier empty.
 ///
 /// The tree is changed in place, once over it, and no memory is asked for.
-#[cycle(clear)]
-pub fn clear_contexts(alloc: Global, node: Node) -> Node
+pub fn clear_contexts(alloc: Global, mut node: Node) -> Node
     ensures { result ≡ by_texts node }
 {
-    match node {
-        Node::Identifier(kind, mut ident) => {
-            ident.get_mut().ctxt = SyntaxContext::empty(alloc);
-            Node::Identifier(kind, ident)
-        }
-        Node::List(items) => Node::List(clear_all(alloc, items)),
-        Node::Tree(kind, fields) => Node::Tree(kind, clear_all(alloc, fields)),
-        leaf => leaf,
+    clear(alloc, &mut node);
+    node
+}
+
+#[cycle(clear)]
+fn clear(alloc: Global, node: &mut Node)
+    ensures { node.new ≡ by_texts node.old }
+{
+    if let Some(items) = node.items_mut() {
+        clear_all(alloc, items);
+    } else if let Some(fields) = node.fields_mut() {
+        clear_all(alloc, fields);
+    } else if let Node::Identifier(_, ident) = node {
+        ident.get_mut().ctxt = SyntaxContext::empty(alloc);
     }
 }
 
 #[cycle(clear)]
-fn clear_all(alloc: Global, mut nodes: Items<Node>) -> Items<Node>
-    ensures { result ≡ map by_texts nodes }
+fn clear_all(alloc: Global, nodes: &mut Items<Node>)
+    ensures { nodes.new ≡ map by_texts nodes.old }
 {
     for i in 0..nodes.len() {
         if is_leaf(&nodes.as_slice()[i]) {
             continue;
         }
-        let node = nodes.replace(i, Node::Absent);
-        let node = clear_contexts(alloc, node);
-        nodes.set(i, node);
+        clear(alloc, nodes.item_mut(i));
     }
-    nodes
 }

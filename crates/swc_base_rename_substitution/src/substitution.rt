@@ -1,10 +1,10 @@
 //! The walk that gives the names of a tree anew.
-ghost use Rattle.std.specs.Prelude.{◌≡◌, IfOk, true};
+ghost use Rattle.std.specs.Prelude.{◌≡◌, IfOk, IfSome, OnOk, true};
 ghost use Rattle.swc_base_rename_substitution.specs.Names.{new_id};
 ghost use Rattle.swc_base_rename_substitution.specs.Identifiers.{writes_out as is_writing_out, writes_name as is_writing_name};
 ghost use Rattle.swc_base_rename_substitution.specs.Places.{has_source as has_source_in};
 ghost use Rattle.swc_base_rename_substitution.specs.Substituted.{keeps_name as is_keeping, substituted};
-ghost use Rattle.swc_base_rename_substitution.specs.Walk.{place_in, each_substituted, items_substituted};
+ghost use Rattle.swc_base_rename_substitution.specs.Walk.{StaysAs, place_in, each_substituted, items_substituted};
 
 use crate::classes::{identifier_at, kept_class};
 use crate::exports::{any_exported, exports_of_all, with_all_exports};
@@ -110,21 +110,74 @@ fn substitute_each(
 ) -> Result<Items<Node>, NoMemory>
     ensures { IfOk result (λ answer. answer ≡ each_substituted (new_id names.entry) keeps_classes (place_in keeps_classes below) nodes) }
 {
+    substitute_all(alloc, names, keeps_classes, below, &mut nodes)?;
+    Ok(nodes)
+}
+
+// The same in place. Most nodes that have parts stay what they are, and are not taken out of their list.
+#[cycle(substitute)]
+fn substitute_all(
+    alloc: Global,
+    names: Names,
+    keeps_classes: bool,
+    below: Below,
+    nodes: &mut Items<Node>,
+) -> Result<(), NoMemory>
+    ensures { OnOk result (nodes.new ≡ each_substituted (new_id names.entry) keeps_classes (place_in keeps_classes below) nodes.old) }
+{
     for i in 0..nodes.len() {
         if is_leaf(&nodes.as_slice()[i]) {
             continue;
         }
-        let node = nodes.replace(i, Node::Absent);
-        let node = substitute_node(
-            alloc,
-            names,
-            keeps_classes,
-            below.place(keeps_classes, i),
-            node,
-        )?;
-        nodes.set(i, node);
+        let place = below.place(keeps_classes, i);
+        match parts_below(keeps_classes, place, &nodes.as_slice()[i]) {
+            Some(parts) => {
+                let node = nodes.item_mut(i);
+                substitute_parts(alloc, names, keeps_classes, place, parts, node)?;
+            }
+            None => {
+                let node = nodes.replace(i, Node::Absent);
+                let node = substitute_node(alloc, names, keeps_classes, place, node)?;
+                nodes.set(i, node);
+            }
+        }
     }
-    Ok(nodes)
+    Ok(())
+}
+
+// What the places of a node's parts go by, where the node stays what it is but for them.
+fn parts_below(keeps_classes: bool, place: Place, node: &Node) -> Option<Below>
+    ensures { IfSome result (StaysAs keeps_classes place node.now) }
+{
+    match node {
+        Node::List(items) if !any_exported(items.as_slice()) => Some(Below::Items(place)),
+        Node::Tree(kind, fields)
+            if !keeps_name(keeps_classes, place, *kind) && !writes_name(*kind, fields) => {
+            Some(Below::Fields(place, has_source(fields), *kind))
+        }
+        _ => None,
+    }
+}
+
+// The parts of a node that stays what it is but for them.
+#[cycle(substitute)]
+fn substitute_parts(
+    alloc: Global,
+    names: Names,
+    keeps_classes: bool,
+    place: Place,
+    parts: Below,
+    node: &mut Node,
+) -> Result<(), NoMemory>
+    requires { StaysAs keeps_classes place node.old parts }
+    ensures { OnOk result (node.new ≡ substituted (new_id names.entry) keeps_classes place node.old) }
+{
+    if let Some(items) = node.items_mut() {
+        substitute_all(alloc, names, keeps_classes, parts, items)?;
+    } else if let Some(fields) = node.fields_mut() {
+        substitute_all(alloc, names, keeps_classes, parts, fields)?;
+    }
+    Ok(())
 }
 
 // A node of that kind and with these fields.
