@@ -4,7 +4,10 @@ use denote.Param.Weighed.{most}
 use Rattle.std.specs.List.{slice_get, slice_set}
 use Rattle.std.specs.Option.{is_some}
 use Rattle.swc_tree_node.specs.declared.kind.Kind.{Kind}
-use Rattle.swc_tree_node.specs.declared.node.Node.{Node, List as Many, Tree, out-Node}
+use Rattle.swc_tree_node.specs.declared.node.Node.{Node, List as Many, Tree, out-Node, roll-Node, roll-out-Node}
+use Rattle.swc_tree_node.specs.declared.node.Node.TheOpen.{Node-F}
+use Rattle.swc_tree_node.specs.declared.node.Node.TheVariants.{rolls-List}
+use Rattle.swc_tree_node.specs.Changed.{items_at, items_in}
 use Rattle.swc_tree_marks.specs.declared.ident.Ident.{Ident}
 use Rattle.swc_tree_scoping.specs.declared.places.Standing.{Standing}
 use Rattle.swc_tree_scoping.specs.declared.places.Standing.TheVariants as standing
@@ -94,12 +97,12 @@ module _ (a : Marking) where
   got_there envs (t ∷ ts) places n zero l = refl
   got_there envs (t ∷ ts) places n (suc i) l = got_there (λ i. envs (suc i)) ts (λ i. places (suc i)) (n + scope_count (places zero) t) i (omega arith)
 
-  done_there : (envs : ℕ → List Open) (ts : List Node) (places : ℕ → Place) (n i nx : ℕ) (d c : Node) → slice_get ts i ≡ Some c → nx ≡ n + total (each_in scope_count places (take i ts))
-      → slice_set (slice_set (walked a envs n places (take i ts) ++ drop i ts) i d) i (remarked (written a (envs i) nx (places i) c) c) ≡ walked a envs n places (take (suc i) ts) ++ drop (suc i) ts
-  done_there envs [] places n i nx d c h e = absurd (cc)
-  done_there envs (t ∷ ts) places n zero nx d c h e = let same : c ≡ t = cc in let start : nx ≡ n = omega (arith, e) in rw (same, start) refl
-  done_there envs (t ∷ ts) places n (suc i) nx d c h e =
-      ap (λ l. remarked (written a (envs zero) n (places zero) t) t ∷ l) (done_there (λ i. envs (suc i)) ts (λ i. places (suc i)) (n + scope_count (places zero) t) i nx d c h (omega (arith, e)))
+  set_there : (envs : ℕ → List Open) (ts : List Node) (places : ℕ → Place) (n i nx : ℕ) (c : Node) → slice_get ts i ≡ Some c → nx ≡ n + total (each_in scope_count places (take i ts))
+      → slice_set (walked a envs n places (take i ts) ++ drop i ts) i (remarked (written a (envs i) nx (places i) c) c) ≡ walked a envs n places (take (suc i) ts) ++ drop (suc i) ts
+  set_there envs [] places n i nx c h e = absurd (cc)
+  set_there envs (t ∷ ts) places n zero nx c h e = let same : c ≡ t = cc in let start : nx ≡ n = omega (arith, e) in rw (same, start) refl
+  set_there envs (t ∷ ts) places n (suc i) nx c h e =
+      ap (λ l. remarked (written a (envs zero) n (places zero) t) t ∷ l) (set_there (λ i. envs (suc i)) ts (λ i. places (suc i)) (n + scope_count (places zero) t) i nx c h (omega (arith, e)))
 
   -- what stays as it is needs no walk
   stays_there : (envs : ℕ → List Open) (ts : List Node) (places : ℕ → Place) (n i : ℕ) (c : Node) → slice_get ts i ≡ Some c → is_leaf c ≡ true
@@ -120,11 +123,28 @@ module _ (a : Marking) where
     leaf_done e = was ∙ rw add-one (stays_there envs ts places n i c child_is e)
 
     pub child_done : (start : nx ≡ n + total (each_in scope_count places (take i ts))) (env : List Open) (w : Place) → env ≡ envs i → w ≡ places i
-        → (zs ws : List Node) (d y : Node) → zs ≡ slice_set ys i d → ws ≡ slice_set zs i y → y ≡ remarked (written a env nx w c) c → ws ≡ walked a envs n places (take (i + 1) ts) ++ drop (i + 1) ts
-    child_done start env w e p zs ws d y out back new = back ∙ rw (out, new, was, e, p, add-one) (done_there envs ts places n i nx d c child_is start)
+        → (y : Node) → y ≡ remarked (written a env nx w c) c → slice_set ys i y ≡ walked a envs n places (take (i + 1) ts) ++ drop (i + 1) ts
+    child_done start env w e p y new = rw (new, was, e, p, add-one) (set_there envs ts places n i nx c child_is start)
 
 -- a measure of an element is at most the greatest
 pub got_at_most : (μ : Node → ℕ) (ts : List Node) (i : ℕ) (t : Node) → slice_get ts i ≡ Some t → μ t ≤ most μ ts
 got_at_most μ [] i t h = absurd (cc)
 got_at_most μ (x ∷ ts) zero t h = let same : x ≡ t = cc in let e = ap μ same in omega (arith, e)
 got_at_most μ (x ∷ ts) (suc i) t h = let r = got_at_most μ ts i t h in omega (arith, r)
+
+-- a list, by its items
+items_out : (y : Node-F Node) (ts : List Node) → Some ts ≡ items_at y → y ≡ Node-F.List ts
+items_out (Node-F.List us) ts h = let same : us ≡ ts = cc in ap (λ l. Node-F.List l) same
+items_out Node-F.Absent ts h = absurd (cc)
+items_out (Node-F.Flag b) ts h = absurd (cc)
+items_out (Node-F.Word w) ts h = absurd (cc)
+items_out (Node-F.Text x) ts h = absurd (cc)
+items_out (Node-F.Span s) ts h = absurd (cc)
+items_out (Node-F.Identifier k i) ts h = absurd (cc)
+items_out (Node-F.Tree k us) ts h = absurd (cc)
+
+pub list_of_items : (t : Node) (ts : List Node) → Some ts ≡ items_in t → t ≡ Many ts
+list_of_items t ts h = sym (roll-out-Node t) ∙ ap roll-Node (items_out (out-Node t) ts h) ∙ rolls-List ts
+
+pub some_same : {X : Type 0} {a b : X} → Some a ≡ Some b → a ≡ b
+some_same h = cc

@@ -1,5 +1,6 @@
 //! The last walk: writes the context of each identifier.
 ghost use Rattle.std.specs.Prelude.{◌≡◌, ◌+◌, ◌≤◌, [], ◌∷◌, length, IfOk, OnOk, MatchOption};
+ghost use Rattle.swc_tree_node.specs.declared.node.Node.{Tree};
 ghost use Rattle.swc_tree_scoping.specs.Below.{places_of, view_of};
 ghost use Rattle.swc_tree_scoping.specs.Folds.{each_in};
 ghost use Rattle.swc_tree_scoping.specs.Places.{program_place};
@@ -34,102 +35,107 @@ pub fn write_contexts(program: Node, answers: &Answers) -> Result<Node, AllocErr
     requires { scope_count program_place program ≤ length answers.now.marks.now }
     ensures { IfOk result (λ answer. answer ≡ remarked (written (marking_in answers.now) [] 0 program_place program) program) }
 {
+    let mut program = program;
     let mut next = 0;
-    resolve(program, PROGRAM_PLACE, answers, &Env::Top, &mut next)
+    resolve(&mut program, PROGRAM_PLACE, answers, &Env::Top, &mut next)?;
+    Ok(program)
 }
 
-// The node with the context of each identifier that had none; `next` is how many scopes begin before it.
+// Writes the context of each identifier of a node that had none; `next` is how many scopes begin before it.
 #[cycle(resolve)]
 fn resolve(
-    node: Node,
+    node: &mut Node,
     place: Place,
     answers: &Answers,
     env: &Env,
     next: &mut usize,
-) -> Result<Node, AllocError>
-    requires { next.old + scope_count place node ≤ length answers.now.marks.now }
-    ensures answer { IfOk result (λ answer. answer ≡ remarked (written (marking_in answers.now) (layers env.now) next.old place node) node) }
-    ensures next { OnOk result (next.new ≡ next.old + scope_count place node) }
+) -> Result<(), AllocError>
+    requires { next.old + scope_count place node.old ≤ length answers.now.marks.now }
+    ensures answer { OnOk result (node.new ≡ remarked (written (marking_in answers.now) (layers env.now) next.old place node.old) node.old) }
+    ensures next { OnOk result (next.new ≡ next.old + scope_count place node.old) }
 {
-    match node {
-        Node::Identifier(kind, mut ident) => {
-            mark_identifier(ident.get_mut(), place.standing, &*answers, &*env)?;
-            Ok(Node::Identifier(kind, ident))
+    if let Some(ident) = node.ident_mut() {
+        return mark_identifier(ident.get_mut(), place.standing, &*answers, &*env);
+    }
+    if let Some(items) = node.items_mut() {
+        let places = places_of_items(place);
+        return resolve_children(items, places, &*answers, &*env, &*env, &*env, next);
+    }
+    if let Some(kind) = node.kind() {
+        if let Some(fields) = node.fields_mut() {
+            return resolve_fields(kind, fields, place, &*answers, &*env, next);
         }
-        Node::List(items) => {
-            let places = places_of_items(place);
-            let items = resolve_children(items, places, &*answers, &*env, &*env, &*env, next)?;
-            Ok(Node::List(items))
+    }
+    Ok(())
+}
+
+// The same for the fields of a tree of that kind.
+#[cycle(resolve)]
+fn resolve_fields(
+    kind: Kind,
+    fields: &mut Items<Node>,
+    place: Place,
+    answers: &Answers,
+    env: &Env,
+    next: &mut usize,
+) -> Result<(), AllocError>
+    requires { next.old + scope_count place (Tree kind fields.old) ≤ length answers.now.marks.now }
+    ensures answer { OnOk result (Tree kind fields.new ≡ remarked (written (marking_in answers.now) (layers env.now) next.old place (Tree kind fields.old)) (Tree kind fields.old)) }
+    ensures next { OnOk result (next.new ≡ next.old + scope_count place (Tree kind fields.old)) }
+{
+    let places = places_of_fields(place, kind, fields.as_slice());
+    match places.opened() {
+        Some(scope) => {
+            prove!(*next < answers.marks.len());
+            let layer = Layer {
+                scope,
+                number: *next,
+                whole: true,
+            };
+            *next += 1;
+            let parameters = Env::In(
+                Layer {
+                    whole: false,
+                    ..layer
+                },
+                &*env,
+            );
+            let whole = Env::In(layer, &*env);
+            resolve_children(fields, places, &*answers, &*env, &parameters, &whole, next)?;
+            Ok(())
         }
-        Node::Tree(kind, fields) => {
-            let places = places_of_fields(place, kind, fields.as_slice());
-            match places.opened() {
-                Some(scope) => {
-                    prove!(*next < answers.marks.len());
-                    let layer = Layer {
-                        scope,
-                        number: *next,
-                        whole: true,
-                    };
-                    *next += 1;
-                    let parameters = Env::In(
-                        Layer {
-                            whole: false,
-                            ..layer
-                        },
-                        &*env,
-                    );
-                    let whole = Env::In(layer, &*env);
-                    let fields = resolve_children(
-                        fields,
-                        places,
-                        &*answers,
-                        &*env,
-                        &parameters,
-                        &whole,
-                        next,
-                    )?;
-                    Ok(Node::Tree(kind, fields))
-                }
-                None => {
-                    let fields = resolve_children(
-                        fields, places, &*answers, &*env, &*env, &*env, next,
-                    )?;
-                    Ok(Node::Tree(kind, fields))
-                }
-            }
+        None => {
+            resolve_children(fields, places, &*answers, &*env, &*env, &*env, next)?;
+            Ok(())
         }
-        leaf => Ok(leaf),
     }
 }
 
 #[cycle(resolve)]
 fn resolve_children(
-    mut nodes: Items<Node>,
+    nodes: &mut Items<Node>,
     places: PlacesBelow,
     answers: &Answers,
     outside: &Env,
     parameters: &Env,
     whole: &Env,
     next: &mut usize,
-) -> Result<Items<Node>, AllocError>
-    requires { next.old + total (each_in scope_count (places_of places nodes) nodes) ≤ length answers.now.marks.now }
-    ensures answer { IfOk result (λ answer. answer ≡ walked (marking_in answers.now) (λ i. pick (view_of places i) (layers outside.now) (layers parameters.now) (layers whole.now)) next.old (places_of places nodes) nodes) }
-    ensures next { OnOk result (next.new ≡ next.old + total (each_in scope_count (places_of places nodes) nodes)) }
+) -> Result<(), AllocError>
+    requires { next.old + total (each_in scope_count (places_of places nodes.old) nodes.old) ≤ length answers.now.marks.now }
+    ensures answer { OnOk result (nodes.new ≡ walked (marking_in answers.now) (λ i. pick (view_of places i) (layers outside.now) (layers parameters.now) (layers whole.now)) next.old (places_of places nodes.old) nodes.old) }
+    ensures next { OnOk result (next.new ≡ next.old + total (each_in scope_count (places_of places nodes.old) nodes.old)) }
 {
     for i in 0..nodes.len() {
-        // Most children are leaves, in which there is nothing to mark: they stay where they are.
-        if is_leaf(&nodes.as_slice()[i]) {
+        let node = &nodes.as_slice()[i];
+        // Most children are leaves, in which there is nothing to mark.
+        if is_leaf(node) {
             continue;
         }
-        let extent = places.view(i);
-        let env = seen(extent, &*outside, &*parameters, &*whole);
-        let node = nodes.replace(i, Node::Absent);
-        let place = places.at(i, &node);
-        let done = resolve(node, place, &*answers, env, next)?;
-        nodes.set(i, done);
+        let place = places.at(i, node);
+        let env = seen(places.view(i), &*outside, &*parameters, &*whole);
+        resolve(nodes.item_mut(i), place, &*answers, env, next)?;
     }
-    Ok(nodes)
+    Ok(())
 }
 
 // Writes the context of an identifier that has none.
