@@ -1,8 +1,6 @@
 -- Loops that take the elements of a list out in turn, and put them back changed.
-use Rattle.std.proofs.Common.{◌≡◌, ℕ, zero, suc, ◌+◌, ◌<◌, List, [], ◌∷◌, ◌++◌, length, map, take, drop, Some, slice_set, ◌≤◌, refl, sym, ap, ◌∙◌, arith, add-one}
-use denote.Param.Weighed.{most}
+use Rattle.std.proofs.Common.{◌≡◌, ℕ, zero, suc, ◌+◌, ◌<◌, List, [], ◌∷◌, ◌++◌, length, map, take, drop, Some, slice_set, refl, sym, ap, ◌∙◌, arith, add-one}
 use Rattle.std.specs.List.{slice_get}
-use Rattle.swc_tree_node.specs.declared.node.Node.{Node}
 use Rattle.swc_base_fixer_due.specs.Walk.{each_told}
 
 done_at : {X : Type 0} (f : X → X) (xs : List X) (i : ℕ) (d x : X) → i < length xs → slice_get (map f (take i xs) ++ drop i xs) i ≡ Some x
@@ -27,11 +25,15 @@ pub told_back : {X A : Type 0} (f : X → A → X) (g : ℕ → A) (xs ys zs ws 
     → zs ≡ slice_set ys i d → ws ≡ slice_set zs i y → a ≡ g i → y ≡ f x a → ws ≡ each_told f g (take (i + 1) xs) ++ drop (i + 1) xs
 told_back f g xs ys zs ws i d x y a h was here out back at new = back ∙ rw (out, new, at, was, add-one) (told_at f g xs i d x h (rw (← was) here))
 
--- a measure of an element is at most the greatest
-pub got_at_most : (μ : Node → ℕ) (ts : List Node) (i : ℕ) (t : Node) → slice_get ts i ≡ Some t → μ t ≤ most μ ts
-got_at_most μ [] i t h = absurd (cc)
-got_at_most μ (x ∷ ts) zero t h = let same : x ≡ t = cc in let e = ap μ same in omega (arith, e)
-got_at_most μ (x ∷ ts) (suc i) t h = let r = got_at_most μ ts i t h in omega (arith, r)
+told_set_at : {X A : Type 0} (f : X → A → X) (g : ℕ → A) (xs : List X) (i : ℕ) (x : X) → i < length xs → slice_get (each_told f g (take i xs) ++ drop i xs) i ≡ Some x
+    → slice_set (each_told f g (take i xs) ++ drop i xs) i (f x (g i)) ≡ each_told f g (take (suc i) xs) ++ drop (suc i) xs
+told_set_at f g [] i x h e = absurd (omega arith)
+told_set_at f g (y ∷ xs) zero x h e = let same : y ≡ x = cc in ap (λ u. f u (g zero) ∷ xs) (sym same)
+told_set_at f g (y ∷ xs) (suc i) x h e = ap (λ l. f y (g zero) ∷ l) (told_set_at f (λ i. g (suc i)) xs i x (omega arith) e)
+
+pub told_set : {X A : Type 0} (f : X → A → X) (g : ℕ → A) (xs ys : List X) (i : ℕ) (x y : X) (a : A) → i < length xs → ys ≡ each_told f g (take i xs) ++ drop i xs → slice_get ys i ≡ Some x
+    → a ≡ g i → y ≡ f x a → slice_set ys i y ≡ each_told f g (take (i + 1) xs) ++ drop (i + 1) xs
+told_set f g xs ys i x y a h was here at new = rw (new, at, was, add-one) (told_set_at f g xs i x h (rw (← was) here))
 
 -- the next element is still that of the list
 got_there : {X A : Type 0} (f : X → A → X) (g : ℕ → A) (xs : List X) (i : ℕ) → i < length xs → slice_get (each_told f g (take i xs) ++ drop i xs) i ≡ slice_get xs i

@@ -141,3 +141,7 @@ pub level_tree : (p : Places) (t : Node) (k : Kind) (ts us rs : List Node) (b ch
     → (u : Node) → u ≡ paired_in p b (Node-F.Tree k rs) → u ≡ by_level p t b
 level_tree p t k ts us rs b chain is same c done u h =
     h ∙ rw (done, c, same) (sym (level_of_tree p k ts b ∙ stepped p k ts b)) ∙ ap (λ v. by_level p v b) (sym is)
+
+-- a list, once its items have their pairs
+pub level_items : (p : Places) (t : Node) (ts us : List Node) (in_chain : Bool) → t ≡ Many ts → us ≡ each_told (by_level p) (is_base false) ts → Many us ≡ by_level p t in_chain
+level_items p t ts us in_chain is done = ap Many done ∙ level_list p ts in_chain ∙ ap (λ u. by_level p u in_chain) (sym is)

@@ -1,19 +1,19 @@
 //! The second step: pairs round a bare `in` in the first part of the head of a `for`, and round a bare `async`
 //! before `of` (ECMA-262, 14.7).
-ghost use Rattle.std.specs.Prelude.{◌≡◌, length, IfOk};
+ghost use Rattle.std.specs.Prelude.{◌≡◌, length, IfOk, OnOk};
 ghost use Rattle.swc_tree_node.specs.declared.kind.Kind.TheVariants as kind;
 ghost use Rattle.swc_tree_node.specs.declared.node.Node.TheOpen.{Node-F};
 ghost use Rattle.swc_tree_grammar.specs.Forms.{holds as is_held};
 ghost use Rattle.swc_tree_grammar.specs.Due.{async_in};
 ghost use Rattle.swc_tree_grammar.specs.Grammar.{is_async_name as is_async_name_in};
-ghost use Rattle.swc_tree_node.specs.declared.node.Node.{out-Node};
-ghost use Rattle.swc_base_fixer_due.specs.Heads.{as_expression as as_expression_of, flag_at, handing_for, headed as headed_of, is_bare_in as is_bare_in_of, of_headed};
+ghost use Rattle.swc_tree_node.specs.declared.node.Node.{Tree, out-Node};
+ghost use Rattle.swc_base_fixer_due.specs.Heads.{as_expression as as_expression_of, flag_at, handing_for, is_bare_in as is_bare_in_of, of_headed};
 ghost use Rattle.swc_base_fixer_due.specs.Record.{place_in};
 ghost use Rattle.swc_base_fixer_due.specs.Walk.{each_told, in_heads};
 
 use crate::leaf::is_leaf;
 use crate::level::{is_in, word_of};
-use crate::pair::pair;
+use crate::pair::{pair, pair_where};
 use crate::record::Record;
 use std::alloc::{AllocError, Global};
 use swc_tree_items::Items;
@@ -143,40 +143,35 @@ fn of_head(
     }
 }
 
-fn for_of(alloc: Global, recorded: &Record, mut fields: Items<Node>) -> Result<Node, AllocError>
-    requires { length fields ≡ 5 }
-    ensures { IfOk result (λ t. t ≡ of_headed (place_in recorded.now) kind.ForOfStmt fields) }
+fn for_of(alloc: Global, recorded: &Record, fields: &mut Items<Node>) -> Result<(), AllocError>
+    requires { length fields.old ≡ 5 }
+    ensures { OnOk result (Tree kind.ForOfStmt fields.new ≡ of_headed (place_in recorded.now) kind.ForOfStmt fields.old) }
 {
     let with_await = holds(&fields.as_slice()[for_of_stmt::IS_AWAIT]);
     let left = fields.replace(for_of_stmt::LEFT, Node::Absent);
     let left = of_head(alloc, recorded, with_await, left)?;
     fields.set(for_of_stmt::LEFT, left);
-    Ok(Node::Tree(Kind::ForOfStmt, fields))
+    Ok(())
 }
 
-// A tree whose fields have their pairs, in a pair if it is an `in` that may not stand bare.
-fn headed(
+// The fields of a tree that have their pairs, with the one that the head of a `for` of gets.
+fn head(
     alloc: Global,
     recorded: &Record,
-    is_due: bool,
     kind: Kind,
-    fields: Items<Node>,
-) -> Result<Node, AllocError>
-    ensures { IfOk result (λ t. t ≡ headed_of (place_in recorded.now) is_due kind fields) }
+    fields: &mut Items<Node>,
+) -> Result<(), AllocError>
+    ensures { OnOk result (Tree kind fields.new ≡ of_headed (place_in recorded.now) kind fields.old) }
 {
-    if is_due {
-        return pair(alloc, recorded, Node::Tree(kind, fields));
-    }
     match kind {
         Kind::ForOfStmt if fields.len() == 5 => for_of(alloc, recorded, fields),
-        kind => Ok(Node::Tree(kind, fields)),
+        _ => Ok(()),
     }
 }
 
 /// The tree with the pairs that are due in heads of `for`; `with_in` says whether `in` may stand bare in it.
 ///
 /// It goes through the tree once, in place.
-#[cycle(heads)]
 pub fn pair_in_heads(
     alloc: Global,
     recorded: &Record,
@@ -185,19 +180,47 @@ pub fn pair_in_heads(
 ) -> Result<Node, AllocError>
     ensures { IfOk result (λ t. t ≡ in_heads (place_in recorded.now) node with_in) }
 {
-    match node {
-        Node::List(items) => {
-            let items = pair_each(alloc, recorded, Handing::ToAll, with_in, items)?;
-            Ok(Node::List(items))
-        }
-        Node::Tree(kind, fields) => {
-            let is_due = is_bare_in(with_in, kind, fields.as_slice());
-            let handing = handing_of(kind, fields.as_slice());
-            let fields = pair_each(alloc, recorded, handing, with_in || is_due, fields)?;
-            headed(alloc, recorded, is_due, kind, fields)
-        }
-        leaf => Ok(leaf),
+    let mut node = node;
+    pair_node(alloc, recorded, with_in, &mut node)?;
+    Ok(node)
+}
+
+#[cycle(heads)]
+fn pair_node(
+    alloc: Global,
+    recorded: &Record,
+    with_in: bool,
+    node: &mut Node,
+) -> Result<(), AllocError>
+    ensures { OnOk result (node.new ≡ in_heads (place_in recorded.now) node.old with_in) }
+{
+    if let Some(items) = node.items_mut() {
+        return pair_each(alloc, recorded, Handing::ToAll, with_in, items);
     }
+    if let Some(kind) = node.kind() {
+        if let Some(fields) = node.fields_mut() {
+            let is_due = is_bare_in(with_in, kind, fields.as_slice());
+            pair_fields(alloc, recorded, with_in || is_due, kind, fields)?;
+            return pair_where(alloc, recorded, is_due, node);
+        }
+    }
+    Ok(())
+}
+
+// The fields of a tree with their pairs.
+#[cycle(heads)]
+fn pair_fields(
+    alloc: Global,
+    recorded: &Record,
+    with_in: bool,
+    kind: Kind,
+    fields: &mut Items<Node>,
+) -> Result<(), AllocError>
+    ensures { OnOk result (Tree kind fields.new ≡ of_headed (place_in recorded.now) kind (each_told (in_heads (place_in recorded.now)) (flag_at (handing_for (Node-F.Tree kind fields.old)) with_in) fields.old)) }
+{
+    let handing = handing_of(kind, fields.as_slice());
+    pair_each(alloc, recorded, handing, with_in, fields)?;
+    head(alloc, recorded, kind, fields)
 }
 
 #[cycle(heads)]
@@ -206,17 +229,15 @@ fn pair_each(
     recorded: &Record,
     handing: Handing,
     with_in: bool,
-    mut nodes: Items<Node>,
-) -> Result<Items<Node>, AllocError>
-    ensures { IfOk result (λ r. r ≡ each_told (in_heads (place_in recorded.now)) (flag_at handing with_in) nodes) }
+    nodes: &mut Items<Node>,
+) -> Result<(), AllocError>
+    ensures { OnOk result (nodes.new ≡ each_told (in_heads (place_in recorded.now)) (flag_at handing with_in) nodes.old) }
 {
     for i in 0..nodes.len() {
         if is_leaf(&nodes.as_slice()[i]) {
             continue;
         }
-        let node = nodes.replace(i, Node::Absent);
-        let done = pair_in_heads(alloc, recorded, handing.flag(with_in, i), node)?;
-        nodes.set(i, done);
+        pair_node(alloc, recorded, handing.flag(with_in, i), nodes.item_mut(i))?;
     }
-    Ok(nodes)
+    Ok(())
 }

@@ -1,5 +1,5 @@
 //! The first step: pairs round what is not as its place asks, or what the reader's table names there.
-ghost use Rattle.std.specs.Prelude.{◌≡◌, Bool, true, length, map, IfOk};
+ghost use Rattle.std.specs.Prelude.{◌≡◌, Bool, true, length, map, IfOk, OnOk};
 ghost use Rattle.swc_tree_node.specs.declared.kind.Kind.TheVariants as kind;
 ghost use Rattle.swc_tree_node.specs.declared.node.Node.{Tree, out-Node};
 ghost use Rattle.swc_tree_node.specs.declared.node.Node.TheOpen.{Node-F};
@@ -14,7 +14,7 @@ use crate::pair::pair_if;
 use crate::reader::is_odd_item;
 use crate::record::Record;
 use crate::row::{Row, row_of};
-use crate::settle::settle;
+use crate::settle::{settle, stays};
 use std::alloc::{AllocError, Global};
 use swc_tree_items::Items;
 use swc_tree_node::fields::{expr_stmt, opt_chain_expr, seq_expr};
@@ -26,19 +26,24 @@ fn settle_fields(
     alloc: Global,
     recorded: &Record,
     row: Row,
-    mut fields: Items<Node>,
-) -> Result<Items<Node>, AllocError>
-    ensures { IfOk result (λ r. r ≡ each_told (settled_by (place_in recorded.now)) (ask_at row) fields) }
+    fields: &mut Items<Node>,
+) -> Result<(), AllocError>
+    ensures { OnOk result (fields.new ≡ each_told (settled_by (place_in recorded.now)) (ask_at row) fields.old) }
 {
     if matches!(row, Row::Nothing) {
-        return Ok(fields);
+        return Ok(());
     }
     for i in 0..fields.len() {
+        let ask = row.at(i);
+        // Few fields get a pair: the others stay where they are.
+        if stays(ask, &fields.as_slice()[i]) {
+            continue;
+        }
         let field = fields.replace(i, Node::Absent);
-        let done = settle(alloc, recorded, row.at(i), field)?;
+        let done = settle(alloc, recorded, ask, field)?;
         fields.set(i, done);
     }
-    Ok(fields)
+    Ok(())
 }
 
 // An item before the last of a sequence that is a statement.
@@ -130,34 +135,34 @@ fn statement(
     alloc: Global,
     recorded: &Record,
     kind: Kind,
-    mut fields: Items<Node>,
-) -> Result<Node, AllocError>
-    requires { is_statement_in (Node-F.Tree kind fields) ≡ true }
-    ensures { IfOk result (λ t. (in_chain : Bool) → t ≡ paired_fields (place_in recorded.now) in_chain (Node-F.Tree kind fields)) }
+    fields: &mut Items<Node>,
+) -> Result<(), AllocError>
+    requires { is_statement_in (Node-F.Tree kind fields.old) ≡ true }
+    ensures { OnOk result ((in_chain : Bool) → Tree kind fields.new ≡ paired_fields (place_in recorded.now) in_chain (Node-F.Tree kind fields.old)) }
 {
     let expr = fields.replace(expr_stmt::EXPR, Node::Absent);
     let expr = sequence_statement(alloc, recorded, expr)?;
     fields.set(expr_stmt::EXPR, expr);
-    Ok(Node::Tree(kind, fields))
+    Ok(())
 }
 
-// A tree whose fields have their pairs; `in_chain` says whether it is the base of an optional chain.
+// The fields of a tree with their pairs; `in_chain` says whether it is the base of an optional chain.
 fn paired(
     alloc: Global,
     recorded: &Record,
     in_chain: bool,
     kind: Kind,
-    fields: Items<Node>,
-) -> Result<Node, AllocError>
-    ensures { IfOk result (λ t. t ≡ paired_fields (place_in recorded.now) in_chain (Node-F.Tree kind fields)) }
+    fields: &mut Items<Node>,
+) -> Result<(), AllocError>
+    ensures { OnOk result (Tree kind fields.new ≡ paired_fields (place_in recorded.now) in_chain (Node-F.Tree kind fields.old)) }
 {
     if is_statement(kind, fields.as_slice()) {
-        let statement = statement(alloc, recorded, kind, fields)?;
-        return Ok(statement);
+        statement(alloc, recorded, kind, fields)?;
+        return Ok(());
     }
     let row = row_of(in_chain, kind, fields.as_slice());
-    let fields = settle_fields(alloc, recorded, row, fields)?;
-    Ok(Node::Tree(kind, fields))
+    settle_fields(alloc, recorded, row, fields)?;
+    Ok(())
 }
 
 // Whether a tree is an optional chain.
@@ -178,7 +183,6 @@ fn is_base(chain: bool, index: usize) -> bool
 /// there; `in_chain` says whether it is the base of an optional chain.
 ///
 /// It goes through the tree once, in place.
-#[cycle(levels)]
 pub fn pair_by_level(
     alloc: Global,
     recorded: &Record,
@@ -187,18 +191,44 @@ pub fn pair_by_level(
 ) -> Result<Node, AllocError>
     ensures { IfOk result (λ t. t ≡ by_level (place_in recorded.now) node in_chain) }
 {
-    match node {
-        Node::List(items) => {
-            let items = pair_each(alloc, recorded, false, items)?;
-            Ok(Node::List(items))
-        }
-        Node::Tree(kind, fields) => {
-            let chain = is_chain(kind, fields.as_slice());
-            let fields = pair_each(alloc, recorded, chain, fields)?;
-            paired(alloc, recorded, in_chain, kind, fields)
-        }
-        leaf => Ok(leaf),
+    let mut node = node;
+    pair_node(alloc, recorded, in_chain, &mut node)?;
+    Ok(node)
+}
+
+#[cycle(levels)]
+fn pair_node(
+    alloc: Global,
+    recorded: &Record,
+    in_chain: bool,
+    node: &mut Node,
+) -> Result<(), AllocError>
+    ensures { OnOk result (node.new ≡ by_level (place_in recorded.now) node.old in_chain) }
+{
+    if let Some(items) = node.items_mut() {
+        return pair_each(alloc, recorded, false, items);
     }
+    if let Some(kind) = node.kind() {
+        if let Some(fields) = node.fields_mut() {
+            return pair_fields(alloc, recorded, in_chain, kind, fields);
+        }
+    }
+    Ok(())
+}
+
+#[cycle(levels)]
+fn pair_fields(
+    alloc: Global,
+    recorded: &Record,
+    in_chain: bool,
+    kind: Kind,
+    fields: &mut Items<Node>,
+) -> Result<(), AllocError>
+    ensures { OnOk result (Tree kind fields.new ≡ by_level (place_in recorded.now) (Tree kind fields.old) in_chain) }
+{
+    let chain = is_chain(kind, fields.as_slice());
+    pair_each(alloc, recorded, chain, fields)?;
+    paired(alloc, recorded, in_chain, kind, fields)
 }
 
 #[cycle(levels)]
@@ -206,17 +236,15 @@ fn pair_each(
     alloc: Global,
     recorded: &Record,
     chain: bool,
-    mut nodes: Items<Node>,
-) -> Result<Items<Node>, AllocError>
-    ensures { IfOk result (λ r. r ≡ each_told (by_level (place_in recorded.now)) (is_base_of chain) nodes) }
+    nodes: &mut Items<Node>,
+) -> Result<(), AllocError>
+    ensures { OnOk result (nodes.new ≡ each_told (by_level (place_in recorded.now)) (is_base_of chain) nodes.old) }
 {
     for i in 0..nodes.len() {
         if is_leaf(&nodes.as_slice()[i]) {
             continue;
         }
-        let node = nodes.replace(i, Node::Absent);
-        let done = pair_by_level(alloc, recorded, is_base(chain, i), node)?;
-        nodes.set(i, done);
+        pair_node(alloc, recorded, is_base(chain, i), nodes.item_mut(i))?;
     }
-    Ok(nodes)
+    Ok(())
 }

@@ -1,10 +1,11 @@
 //! A pair of parentheses that is set.
-ghost use Rattle.std.specs.Prelude.{◌≡◌, IfOk};
+ghost use Rattle.std.specs.Prelude.{◌≡◌, IfOk, OnOk};
 ghost use Rattle.swc_tree_grammar.specs.Due.{pair as paired, pair_if as paired_if};
 ghost use Rattle.swc_base_fixer_due.specs.Record.{place_in};
 
 use crate::record::Record;
 use std::alloc::{AllocError, Global};
+use std::mem;
 use swc_tree_grammar::span_of;
 use swc_tree_items::Items;
 use swc_tree_node::{Kind, Node};
@@ -34,4 +35,20 @@ pub fn pair_if(
     } else {
         Ok(expr)
     }
+}
+
+/// Puts the expression into a pair where one is due, and leaves it where it is elsewhere.
+pub fn pair_where(
+    alloc: Global,
+    recorded: &Record,
+    is_due: bool,
+    expr: &mut Node,
+) -> Result<(), AllocError>
+    ensures { OnOk result (expr.new ≡ paired_if is_due (place_in recorded.now) expr.old) }
+{
+    if is_due {
+        let bare = mem::replace(expr, Node::Absent);
+        *expr = pair(alloc, recorded, bare)?;
+    }
+    Ok(())
 }

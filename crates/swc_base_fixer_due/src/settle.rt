@@ -1,10 +1,10 @@
 //! What stands in a place once the pairs that it asks for are set.
-ghost use Rattle.std.specs.Prelude.{◌≡◌, ◌||◌, not, length, map, IfOk};
+ghost use Rattle.std.specs.Prelude.{◌≡◌, ◌||◌, not, true, length, map, IfOk};
 ghost use Rattle.swc_tree_node.specs.declared.kind.Kind.TheVariants as kind;
 ghost use Rattle.swc_tree_node.specs.declared.node.Node.{Tree};
 ghost use Rattle.swc_tree_node.specs.declared.node.Node.TheOpen.{Node-F};
 ghost use Rattle.swc_tree_grammar.specs.Demands.Demand.{Each, Key, NewCallee};
-ghost use Rattle.swc_tree_grammar.specs.Due.{call_paired as call_in_pair, key_in, settled, to_level as at_level};
+ghost use Rattle.swc_tree_grammar.specs.Due.{Places, call_paired as call_in_pair, key_in, settled, to_level as at_level};
 ghost use Rattle.swc_tree_grammar.specs.Kinds.{has_kind, is_literal};
 ghost use Rattle.swc_tree_grammar.specs.Readers.{none};
 ghost use Rattle.swc_base_fixer_due.specs.Naming.{named};
@@ -142,6 +142,18 @@ fn single(
 {
     let is_due = is_named(naming, &expr) || !meets(test, &expr);
     pair_if(alloc, recorded, is_due, expr)
+}
+
+/// Whether what stands in a place is what is asked there, so that it stays. Where the answer is no it may still stay.
+pub fn stays(ask: Ask, node: &Node) -> bool
+    ensures { result ≡ true → (p : Places) → settled_by p node.now ask ≡ node.now }
+{
+    match ask {
+        Ask::Nothing => true,
+        Ask::Single(test, naming) => meets(test, node) && !is_named(naming, node),
+        Ask::Key => !matches!(node, Node::Tree(Kind::ComputedPropName, _)),
+        Ask::Each(_) | Ask::NewCallee(_) => false,
+    }
 }
 
 /// What stands in a place once the pairs that it asks for are set.

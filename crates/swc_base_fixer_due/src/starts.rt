@@ -1,6 +1,7 @@
 //! The third step: pairs where a statement, a default export or the body of an arrow may not begin as it does
 //! (ECMA-262, 14.5, 15.3 and 16.2.3).
-ghost use Rattle.std.specs.Prelude.{◌≡◌, ◌<◌, length, map, IfOk, IfSome};
+ghost use Rattle.std.specs.Prelude.{◌≡◌, ◌<◌, length, map, IfOk, IfSome, OnOk};
+ghost use Rattle.swc_tree_node.specs.declared.node.Node.{Tree};
 ghost use Rattle.swc_tree_node.specs.declared.node.Node.TheOpen.{Node-F};
 ghost use Rattle.swc_tree_grammar.specs.Due.{begin_step, begun as begun_of, paired_at_starts};
 ghost use Rattle.swc_base_fixer_due.specs.Begin.{begins, beginning_for, first_paired as first_in_pair, may_begin as may_begin_with};
@@ -100,62 +101,72 @@ fn beginning_of(kind: Kind, fields: &[Node]) -> Option<(usize, Beginning)>
     }
 }
 
-// A tree whose fields have their pairs.
+// The fields of a tree, with the pair that one of them gets by how it begins.
 fn begin(
     alloc: Global,
     recorded: &Record,
     kind: Kind,
-    mut fields: Items<Node>,
-) -> Result<Node, AllocError>
-    ensures { IfOk result (λ t. t ≡ begin_step (place_in recorded.now) (Node-F.Tree kind fields)) }
+    fields: &mut Items<Node>,
+) -> Result<(), AllocError>
+    ensures { OnOk result (Tree kind fields.new ≡ begin_step (place_in recorded.now) (Node-F.Tree kind fields.old)) }
 {
-    match beginning_of(kind, fields.as_slice()) {
-        Some((index, beginning)) => {
-            let expr = fields.replace(index, Node::Absent);
-            let expr = begun(alloc, recorded, beginning, expr)?;
-            fields.set(index, expr);
-            Ok(Node::Tree(kind, fields))
-        }
-        None => Ok(Node::Tree(kind, fields)),
+    if let Some((index, beginning)) = beginning_of(kind, fields.as_slice()) {
+        let expr = fields.replace(index, Node::Absent);
+        let expr = begun(alloc, recorded, beginning, expr)?;
+        fields.set(index, expr);
     }
+    Ok(())
 }
 
 /// The tree with the pairs that are due at the start of statements, default exports and bodies of arrows.
 ///
 /// It goes through the tree once, in place. The start of each such expression is looked at once, and once more where
 /// it gets a pair; no two of these ways share a node.
-#[cycle(starts)]
 pub fn pair_at_starts(alloc: Global, recorded: &Record, node: Node) -> Result<Node, AllocError>
     ensures { IfOk result (λ t. t ≡ paired_at_starts (place_in recorded.now) node) }
 {
-    match node {
-        Node::List(items) => {
-            let items = pair_each(alloc, recorded, items)?;
-            Ok(Node::List(items))
-        }
-        Node::Tree(kind, fields) => {
-            let fields = pair_each(alloc, recorded, fields)?;
-            begin(alloc, recorded, kind, fields)
-        }
-        leaf => Ok(leaf),
-    }
+    let mut node = node;
+    pair_node(alloc, recorded, &mut node)?;
+    Ok(node)
 }
 
 #[cycle(starts)]
-fn pair_each(
+fn pair_node(alloc: Global, recorded: &Record, node: &mut Node) -> Result<(), AllocError>
+    ensures { OnOk result (node.new ≡ paired_at_starts (place_in recorded.now) node.old) }
+{
+    if let Some(items) = node.items_mut() {
+        return pair_each(alloc, recorded, items);
+    }
+    if let Some(kind) = node.kind() {
+        if let Some(fields) = node.fields_mut() {
+            return pair_fields(alloc, recorded, kind, fields);
+        }
+    }
+    Ok(())
+}
+
+#[cycle(starts)]
+fn pair_fields(
     alloc: Global,
     recorded: &Record,
-    mut nodes: Items<Node>,
-) -> Result<Items<Node>, AllocError>
-    ensures { IfOk result (λ r. r ≡ map (paired_at_starts (place_in recorded.now)) nodes) }
+    kind: Kind,
+    fields: &mut Items<Node>,
+) -> Result<(), AllocError>
+    ensures { OnOk result (Tree kind fields.new ≡ paired_at_starts (place_in recorded.now) (Tree kind fields.old)) }
+{
+    pair_each(alloc, recorded, fields)?;
+    begin(alloc, recorded, kind, fields)
+}
+
+#[cycle(starts)]
+fn pair_each(alloc: Global, recorded: &Record, nodes: &mut Items<Node>) -> Result<(), AllocError>
+    ensures { OnOk result (nodes.new ≡ map (paired_at_starts (place_in recorded.now)) nodes.old) }
 {
     for i in 0..nodes.len() {
         if is_leaf(&nodes.as_slice()[i]) {
             continue;
         }
-        let node = nodes.replace(i, Node::Absent);
-        let done = pair_at_starts(alloc, recorded, node)?;
-        nodes.set(i, done);
+        pair_node(alloc, recorded, nodes.item_mut(i))?;
     }
-    Ok(nodes)
+    Ok(())
 }
