@@ -1,10 +1,8 @@
 -- Loops that take the elements of a list out in turn.
-use Rattle.std.proofs.Common.{◌≡◌, ℕ, zero, suc, ◌+◌, ◌<◌, ◌≤◌, List, [], ◌∷◌, ◌++◌, length, map, take, drop, Some, slice_set, Result, refl, sym, ap, ◌∙◌, subst, arith, add-one, append_assoc}
-use denote.Param.Weighed.{most}
+use Rattle.std.proofs.Common.{◌≡◌, ℕ, zero, suc, ◌+◌, ◌<◌, List, [], ◌∷◌, ◌++◌, length, map, take, drop, Some, slice_set, Result, refl, sym, ap, ◌∙◌, subst, arith, add-one, append_assoc}
 use Rattle.std.specs.Prelude.{OnOk}
 use Rattle.std.specs.List.{slice_get, flat_map}
 use Rattle.std.proofs.lemmas.List.{append-nil}
-use Rattle.swc_tree_node.specs.declared.node.Node.{Node}
 
 -- a list of which the first elements are taken out
 abbrev pub from : {X : Type 0} → X → ℕ → List X → List X
@@ -29,17 +27,6 @@ pub one_more : {X Y : Type 0} (f : X → List Y) (gone : X) (xs ys : List X) (i 
     → flat_map f (take (i + 1) xs) ≡ flat_map f (take i xs) ++ f e
 one_more f gone xs ys i e h s g = rw add-one (pieces_at f xs i e ((taken_at gone xs i e h (rw (← s) g)).0))
 
-done_at : {X : Type 0} (f : X → X) (xs : List X) (i : ℕ) (d x : X) → i < length xs → slice_get (map f (take i xs) ++ drop i xs) i ≡ Some x
-    → slice_set (slice_set (map f (take i xs) ++ drop i xs) i d) i (f x) ≡ map f (take (suc i) xs) ++ drop (suc i) xs
-done_at f [] i d x h g = absurd (omega arith)
-done_at f (y ∷ xs) zero d x h g = cc
-done_at f (y ∷ xs) (suc i) d x h g = ap (λ l. f y ∷ l) (done_at f xs i d x (omega arith) g)
-
--- an element taken out, and put back changed
-pub put_back : {X : Type 0} (f : X → X) (xs ys zs ws : List X) (i : ℕ) (d x y : X) → i < length xs → ys ≡ map f (take i xs) ++ drop i xs → slice_get ys i ≡ Some x
-    → zs ≡ slice_set ys i d → ws ≡ slice_set zs i y → y ≡ f x → ws ≡ map f (take (i + 1) xs) ++ drop (i + 1) xs
-put_back f xs ys zs ws i d x y h was here out back new = back ∙ rw (out, new, was, add-one) (done_at f xs i d x h (rw (← was) here))
-
 -- what was added, with one piece more
 pub added : {X : Type 0} (now before all pieces piece more : List X) → now ≡ before ++ piece → before ≡ all ++ pieces → more ≡ pieces ++ piece → now ≡ all ++ more
 added now before all pieces piece more a b c = rw (a, b, c) (append_assoc all pieces piece)
@@ -47,12 +34,6 @@ added now before all pieces piece more a b c = rw (a, b, c) (append_assoc all pi
 -- the same, where it comes from a call that may be refused and is said in other words
 pub added_as : {X T E : Type 0} (r : Result T E) (now all a b : List X) → a ≡ b → OnOk r (now ≡ all ++ a) → OnOk r (now ≡ all ++ b)
 added_as r now all a b e h = subst (λ ps. OnOk r (now ≡ all ++ ps)) e h
-
--- a measure of an element is at most the greatest
-pub got_at_most : (μ : Node → ℕ) (ts : List Node) (i : ℕ) (t : Node) → slice_get ts i ≡ Some t → μ t ≤ most μ ts
-got_at_most μ [] i t h = absurd (cc)
-got_at_most μ (x ∷ ts) zero t h = let same : x ≡ t = cc in let e = ap μ same in omega (arith, e)
-got_at_most μ (x ∷ ts) (suc i) t h = let r = got_at_most μ ts i t h in omega (arith, r)
 
 -- the next element is still that of the list
 map_there : {X : Type 0} (f : X → X) (xs : List X) (i : ℕ) → i < length xs → slice_get (map f (take i xs) ++ drop i xs) i ≡ slice_get xs i

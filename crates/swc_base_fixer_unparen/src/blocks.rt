@@ -1,5 +1,6 @@
 //! Blocks round first branches of `if` that could take an `else`.
-ghost use Rattle.std.specs.Prelude.{◌≡◌, ◌<◌, length, map, IfOk, IfSome};
+ghost use Rattle.std.specs.Prelude.{◌≡◌, ◌<◌, length, map, IfOk, IfSome, OnOk};
+ghost use Rattle.swc_tree_node.specs.declared.node.Node.{Tree};
 ghost use Rattle.swc_tree_node.specs.declared.kind.Kind.TheVariants as kind;
 ghost use Rattle.swc_tree_node.specs.declared.node.Node.TheOpen.{Node-F};
 ghost use Rattle.swc_tree_grammar.specs.Blocks.{block as block_of, block_step, branch as branch_of, takes_else as takes_an_else, with_blocks};
@@ -67,58 +68,69 @@ fn branch(alloc: Global, statement: Node) -> Result<Node, AllocError>
     }
 }
 
-fn choice(alloc: Global, mut fields: Items<Node>) -> Result<Node, AllocError>
-    requires { length fields ≡ 4 }
-    ensures { IfOk result (λ t. t ≡ block_step (Node-F.Tree kind.IfStmt fields)) }
+fn choice(alloc: Global, fields: &mut Items<Node>) -> Result<(), AllocError>
+    requires { length fields.old ≡ 4 }
+    ensures { OnOk result (Tree kind.IfStmt fields.new ≡ block_step (Node-F.Tree kind.IfStmt fields.old)) }
 {
     let statement = fields.replace(if_stmt::CONS, Node::Absent);
     let statement = branch(alloc, statement)?;
     fields.set(if_stmt::CONS, statement);
-    Ok(Node::Tree(Kind::IfStmt, fields))
+    Ok(())
 }
 
-// A tree in whose fields each branch has its block.
-fn blocked(alloc: Global, kind: Kind, fields: Items<Node>) -> Result<Node, AllocError>
-    ensures { IfOk result (λ t. t ≡ block_step (Node-F.Tree kind fields)) }
+// The fields of a tree in which each branch has its block, with that of its own.
+fn blocked(alloc: Global, kind: Kind, fields: &mut Items<Node>) -> Result<(), AllocError>
+    ensures { OnOk result (Tree kind fields.new ≡ block_step (Node-F.Tree kind fields.old)) }
 {
     match kind {
-        Kind::IfStmt if fields.len() == 4 => {
-            let tree = choice(alloc, fields)?;
-            Ok(tree)
-        }
-        kind => Ok(Node::Tree(kind, fields)),
+        Kind::IfStmt if fields.len() == 4 => choice(alloc, fields),
+        _ => Ok(()),
     }
 }
 
 /// The tree with a block round each first branch of an `if` that ends in an `if` without `else`.
 ///
 /// It goes through the tree once, in place; only blocks are made anew.
-#[cycle(blocks)]
 pub fn add_blocks(alloc: Global, node: Node) -> Result<Node, AllocError>
     ensures { IfOk result (λ t. t ≡ with_blocks node) }
 {
-    match node {
-        Node::List(items) => Ok(Node::List(add_all_blocks(alloc, items)?)),
-        Node::Tree(kind, fields) => {
-            let fields = add_all_blocks(alloc, fields)?;
-            let tree = blocked(alloc, kind, fields)?;
-            Ok(tree)
-        }
-        leaf => Ok(leaf),
-    }
+    let mut node = node;
+    block_node(alloc, &mut node)?;
+    Ok(node)
 }
 
 #[cycle(blocks)]
-fn add_all_blocks(alloc: Global, mut items: Items<Node>) -> Result<Items<Node>, AllocError>
-    ensures { IfOk result (λ r. r ≡ map with_blocks items) }
+fn block_node(alloc: Global, node: &mut Node) -> Result<(), AllocError>
+    ensures { OnOk result (node.new ≡ with_blocks node.old) }
+{
+    if let Some(items) = node.items_mut() {
+        return block_all(alloc, items);
+    }
+    if let Some(kind) = node.kind() {
+        if let Some(fields) = node.fields_mut() {
+            return block_fields(alloc, kind, fields);
+        }
+    }
+    Ok(())
+}
+
+#[cycle(blocks)]
+fn block_fields(alloc: Global, kind: Kind, fields: &mut Items<Node>) -> Result<(), AllocError>
+    ensures { OnOk result (Tree kind fields.new ≡ with_blocks (Tree kind fields.old)) }
+{
+    block_all(alloc, fields)?;
+    blocked(alloc, kind, fields)
+}
+
+#[cycle(blocks)]
+fn block_all(alloc: Global, items: &mut Items<Node>) -> Result<(), AllocError>
+    ensures { OnOk result (items.new ≡ map with_blocks items.old) }
 {
     for i in 0..items.len() {
         if is_leaf(&items.as_slice()[i]) {
             continue;
         }
-        let item = items.replace(i, Node::Absent);
-        let done = add_blocks(alloc, item)?;
-        items.set(i, done);
+        block_node(alloc, items.item_mut(i))?;
     }
-    Ok(items)
+    Ok(())
 }

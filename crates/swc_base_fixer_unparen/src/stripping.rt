@@ -1,12 +1,14 @@
 //! The tree without its pairs, and without what is idle in sequences and classes.
-ghost use Rattle.std.specs.Prelude.{◌≡◌, length, map, IfOk};
+ghost use Rattle.std.specs.Prelude.{◌≡◌, true, length, map, IfOk, OnOk};
 ghost use Rattle.swc_tree_node.specs.declared.kind.Kind.TheVariants as kind;
+ghost use Rattle.swc_tree_node.specs.declared.node.Node.{out-Node};
 ghost use Rattle.swc_tree_node.specs.declared.node.Node.TheOpen.{Node-F};
 ghost use Rattle.swc_tree_grammar.specs.Stripped.{is_member as defines, strip_step, stripped, target as target_of};
 
 use crate::leaf::is_leaf;
 use crate::sequence::{items_of, sequence};
 use std::alloc::{AllocError, Global};
+use std::mem;
 use swc_tree_items::Items;
 use swc_tree_node::fields::{assign_expr, paren_expr};
 use swc_tree_node::{Kind, Node};
@@ -73,36 +75,68 @@ fn settle(alloc: Global, kind: Kind, mut fields: Items<Node>) -> Result<Node, Al
     }
 }
 
+// Whether a node whose parts are stripped is left as it is.
+fn is_settled(node: &Node) -> bool
+    ensures { result ≡ true → node.now ≡ strip_step (out-Node node.now) }
+{
+    !matches!(
+        node,
+        Node::Tree(
+            Kind::ParenExpr | Kind::SeqExpr | Kind::AssignExpr | Kind::Class,
+            _
+        )
+    )
+}
+
+// The same in place. Few nodes are not left as they are.
+fn settle_node(alloc: Global, node: &mut Node) -> Result<(), AllocError>
+    ensures { OnOk result (node.new ≡ strip_step (out-Node node.old)) }
+{
+    if is_settled(node) {
+        return Ok(());
+    }
+    match mem::replace(node, Node::Absent) {
+        Node::Tree(kind, fields) => *node = settle(alloc, kind, fields)?,
+        other => *node = other,
+    }
+    Ok(())
+}
+
 /// The tree without parentheses, without sequences in sequences or of one item, without `void` and idle
 /// items before the last of a sequence, and without empty class members.
 ///
 /// It goes through the tree once, in place; only the lists of sequences are made anew.
-#[cycle(strip)]
 pub fn strip(alloc: Global, node: Node) -> Result<Node, AllocError>
     ensures { IfOk result (λ t. t ≡ stripped node) }
 {
-    match node {
-        Node::List(items) => Ok(Node::List(strip_all(alloc, items)?)),
-        Node::Tree(kind, fields) => {
-            let fields = strip_all(alloc, fields)?;
-            let tree = settle(alloc, kind, fields)?;
-            Ok(tree)
-        }
-        leaf => Ok(leaf),
-    }
+    let mut node = node;
+    strip_node(alloc, &mut node)?;
+    Ok(node)
 }
 
 #[cycle(strip)]
-fn strip_all(alloc: Global, mut items: Items<Node>) -> Result<Items<Node>, AllocError>
-    ensures { IfOk result (λ r. r ≡ map stripped items) }
+fn strip_node(alloc: Global, node: &mut Node) -> Result<(), AllocError>
+    ensures { OnOk result (node.new ≡ stripped node.old) }
+{
+    if let Some(items) = node.items_mut() {
+        return strip_all(alloc, items);
+    }
+    if let Some(fields) = node.fields_mut() {
+        strip_all(alloc, fields)?;
+        return settle_node(alloc, node);
+    }
+    Ok(())
+}
+
+#[cycle(strip)]
+fn strip_all(alloc: Global, items: &mut Items<Node>) -> Result<(), AllocError>
+    ensures { OnOk result (items.new ≡ map stripped items.old) }
 {
     for i in 0..items.len() {
         if is_leaf(&items.as_slice()[i]) {
             continue;
         }
-        let item = items.replace(i, Node::Absent);
-        let done = strip(alloc, item)?;
-        items.set(i, done);
+        strip_node(alloc, items.item_mut(i))?;
     }
-    Ok(items)
+    Ok(())
 }
