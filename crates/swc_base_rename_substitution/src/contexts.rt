@@ -11,9 +11,10 @@ use swc_tree_node::Node;
 /// The tree with the context of each identifier empty.
 ///
 /// The tree is changed in place, once over it, and no memory is asked for.
-pub fn clear_contexts(alloc: Global, mut node: Node) -> Node
+pub fn clear_contexts(alloc: Global, node: Node) -> Node
     ensures { result ≡ by_texts node }
 {
+    let mut node = node;
     clear(alloc, &mut node);
     node
 }
