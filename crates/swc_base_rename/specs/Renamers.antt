@@ -6,6 +6,9 @@ use Rattle.swc_tree_node.specs.declared.node.Node.{Node}
 use Rattle.swc_tree_scoping.specs.BoundNames.{Id}
 use Rattle.swc_base_rename_analysis.specs.Named.{Renaming}
 use Rattle.swc_base_rename_program.specs.Renamed.{IsRenameRefusal, IsRenamedBy}
+use Rattle.swc_base_rename_naming.specs.Counters.{greatest}
+use Rattle.swc_base_rename_tries_laws.specs.Laws.{TellsApart}
+use Rattle.swc_base_rename_units_laws.specs.Bounds.{IsFlat, IsOfCrowding, TakesFew}
 use Rattle.swc_base_rename.specs.declared.renaming.RenamePass.{RenamePass}
 
 module _ {X : Type 0} (text : X → Id → ℕ → List ℕ) (preserved : X → Node → Id → Bool) (asked : X → Node → X → Type 0) (mangles resets : Bool) where
@@ -13,18 +16,23 @@ module _ {X : Type 0} (text : X → Id → ℕ → List ℕ) (preserved : X → 
   abbrev pub renaming_in : X → X → Node → Renaming
   renaming_in was is program = record { text = text is; mangles = mangles; resets = resets; preserves = preserved was program }
 
-  -- names are given as the renamer has them, which was asked once for the ids that it preserves; the configuration and the
-  -- table of marks are as they were
+  -- names are given as the renamer has them, which was asked once for the ids that it preserves; few texts were tried for each, since it
+  -- tells counters apart; on a well-scoped program it is one which names count; the configuration and the table of marks are as they were
   pub record RenamesNames (pass : RenamePass X) (old : Table) (before : Node) (kept : RenamePass X) (new : Table) (after : Node) : Type 0 where
     pub renamed : IsRenamedBy old pass.config (renaming_in pass.renamer kept.renamer before) before after
+    pub apart : TellsApart (renaming_in pass.renamer kept.renamer before) greatest
+    pub few : TakesFew old pass.config (renaming_in pass.renamer kept.renamer before) before after renamed
+    pub flat : IsFlat old pass.config (renaming_in pass.renamer kept.renamer before) before after renamed
     pub once : asked pass.renamer before kept.renamer
     pub same : kept.config ≡ pass.config
     pub marks : new ≡ old
 
-  -- a program is refused for want of memory, and where the counters are spent, by a renamer that was asked once; configuration and
-  -- table are as they were
+  -- a program is refused for want of memory, and where the counters are spent, since so many texts are taken, by a renamer that was asked
+  -- once; configuration and table are as they were
   pub record RefusesNames (pass : RenamePass X) (old : Table) (before : Node) (kept : RenamePass X) (new : Table) (e : PassError) : Type 0 where
     pub refusal : IsRenameRefusal old pass.config (renaming_in pass.renamer kept.renamer before) before e
+    pub apart : TellsApart (renaming_in pass.renamer kept.renamer before) greatest
+    pub crowded : IsOfCrowding old pass.config (renaming_in pass.renamer kept.renamer before) before e refusal
     pub once : asked pass.renamer before kept.renamer
     pub same : kept.config ≡ pass.config
     pub marks : new ≡ old

@@ -10,6 +10,7 @@ use std::mem;
 use swc_base_rename_naming::NewTexts;
 use swc_base_rename_program::{Mode, rename_program};
 use swc_base_rename_substitution::Config;
+use swc_base_rename_units_laws::{maps_have_bounds, refusals_are_of_crowding};
 use swc_tree::{JsPass, empty_module, empty_script};
 use swc_tree_handle::Opened;
 use swc_tree_marks::{Globals, Id, JsWord, PassError};
@@ -67,12 +68,14 @@ impl<R: Renamer> JsPass for RenamePass<R> {
     ghost refuses_script = { λ pass old before kept new e. RefusesNames R.text R.preserved R.asked R.MANGLE R.RESET_N pass old (script_node before) kept new e };
 
     /// Gives the names of a program anew. The renamer is asked once, first, for the ids that keep their texts, and then goes by what
-    /// that call made of it. The table of marks stays as it is.
+    /// that call made of it. The table of marks stays as it is. The counter of an id is at most as far past its start as there are
+    /// preserved texts and ids named before it; and on a well-scoped program it is one whether all names count at a scope, or only
+    /// those of the scope and of the scopes round it.
     ///
     /// # Errors
     ///
-    /// `CounterSpent` where for an id no counter from its start and below the greatest `usize` gives a free text, and
-    /// `NoMemory`. The program is then empty, with its span and no `#!` line.
+    /// `CounterSpent` where for an id no counter from its start and below the greatest `usize` gives a free text, so that there are
+    /// as many preserved texts and ids named before it, and `NoMemory`. The program is then empty, with its span and no `#!` line.
     fn visit_mut_module(
         &mut self,
         alloc: Global,
@@ -84,6 +87,8 @@ impl<R: Renamer> JsPass for RenamePass<R> {
         ensures marks { IsExtended globals.old globals.new }
         ensures cause { IfErr result (RefusesNames R.text R.preserved R.asked R.MANGLE R.RESET_N self.old globals.old (module_node program.old) self.new globals.new) }
     {
+        maps_have_bounds();
+        refusals_are_of_crowding();
         let module = mem::replace(program, empty_module(alloc, program.span));
         let preserved = self.renamer.preserved_ids_for_module(alloc, &module)?;
         let node = module.into_node(alloc)?;
@@ -112,6 +117,8 @@ impl<R: Renamer> JsPass for RenamePass<R> {
         ensures marks { IsExtended globals.old globals.new }
         ensures cause { IfErr result (RefusesNames R.text R.preserved R.asked R.MANGLE R.RESET_N self.old globals.old (script_node program.old) self.new globals.new) }
     {
+        maps_have_bounds();
+        refusals_are_of_crowding();
         let script = mem::replace(program, empty_script(alloc, program.span));
         let preserved = self.renamer.preserved_ids_for_script(alloc, &script)?;
         let node = script.into_node(alloc)?;

@@ -1,5 +1,5 @@
 -- Few texts are tried for an id, since each that is passed over is a preserved one or that of an id named before.
-use Rattle.std.proofs.Common.{◌≡◌, ℕ, suc, ◌+◌, ◌≤◌, inl, inr, true, Option, List, ◌++◌, Contains, length, length-append, map, ap, ◌∙◌, subst, arith}
+use Rattle.std.proofs.Common.{◌≡◌, ℕ, suc, ◌+◌, ◌-◌, ◌≤◌, inl, inr, true, Option, List, ◌++◌, Contains, length, length-append, map, ap, ◌∙◌, subst, arith}
 use Rattle.std.specs.List.{list_any}
 use Rattle.std.specs.Str.{bytes_eq}
 use Rattle.std.specs.Cmp.Lexicographic.{nat_list_eq_equiv}
@@ -9,13 +9,14 @@ use Rattle.std.proofs.lemmas.List.Elements.{Contains-append_left, Contains-appen
 use Rattle.std.proofs.lemmas.Map.Views.{list_any-from_Contains}
 use Rattle.swc_tree_node.specs.declared.node.Node.{Node}
 use Rattle.swc_tree_scoping.specs.BoundNames.{Id}
-use Rattle.swc_base_rename_analysis.specs.Named.{Counting, IsFreeText, IsFromStart, IsLeast, Named, Renaming, all_count, outer_count}
+use Rattle.swc_base_rename_analysis.specs.Named.{Counting, IsFreeText, IsFromStart, IsLeast, IsSpent, Named, Renaming, all_count, outer_count}
 use Rattle.swc_base_rename_analysis.specs.Order.{Site}
 use Rattle.swc_base_rename_analysis.specs.Preserved.{IsPreserved}
+use Rattle.swc_base_rename_naming.specs.Counters.{greatest}
 use Rattle.swc_base_rename_naming.proofs.Tries.{tries}
 use Rattle.swc_base_rename_naming_laws.specs.Rules.{counting}
 use Rattle.swc_base_rename_program.specs.Renamed.{IsPreservedByTop, IsPreservedInUnit}
-use Rattle.swc_base_rename_tries_laws.specs.Laws.{EachTakesFewTries, HasEarlier, HasPreserved, LeastTakesFewTries, TellsApart, TriesAreFew, TriesByUnitsAreFew}
+use Rattle.swc_base_rename_tries_laws.specs.Laws.{EachTakesFewTries, HasEarlier, HasPreserved, IsCrowded, LeastTakesFewTries, SpentAreCrowded, TellsApart, TriesAreFew, TriesByUnitsAreFew}
 
 contains-map : {X Y : Type 0} (f : X → Y) (xs : List X) (x : X) → Contains xs x → Contains (map f xs) (f x)
 contains-map f xs x (k, l, e) = (k, omega (arith, l, length-map xs f), get_or-map f xs k x (f x) l ∙ ap f e)
@@ -64,7 +65,7 @@ pub tries_are_few : TriesAreFew
 tries_are_few t r = (least_few t r (IsPreserved t r.preserves) all_count, least_few t r (IsPreserved t r.preserves) (outer_count t))
 
 -- so does each id of a map that is named
-named_few : (t : Node) (r : Renaming) (preserved : List ℕ → Type 0) (counts : Counting) (new_texts : Id → Option (List ℕ)) (named : Named t r preserved counts new_texts) → EachTakesFewTries t r preserved named.taken
+pub named_few : (t : Node) (r : Renaming) (preserved : List ℕ → Type 0) (counts : Counting) (new_texts : Id → Option (List ℕ)) (named : Named t r preserved counts new_texts) → EachTakesFewTries t r preserved named.taken
 named_few t r preserved counts new_texts named a x h = least_few t r preserved counts named.taken a x (named.each a x h).0
 
 pub tries_by_units_are_few : TriesByUnitsAreFew
@@ -72,3 +73,15 @@ tries_by_units_are_few table top r keeps before after renamed = (
   named_few before renamed.kept (IsPreservedByTop top before r.preserves) (counting before r) renamed.new_texts renamed.named,
   λ p u o. (let names = (renamed.units.units p u o).2 in named_few u r (IsPreservedInUnit top before r.preserves u) (counting u r) names.new_texts names.named),
 )
+
+-- where the counters are spent, each from the start on has a text that is taken
+pub spent_crowded : (t : Node) (r : Renaming) (preserved : List ℕ → Type 0) (counts : Counting) (s : IsSpent t r preserved counts greatest) → IsCrowded t r preserved counts s
+spent_crowded t r preserved counts s start texts ids below from all_preserved all_earlier apart =
+    let bound = tries (r.text s.id) (λ z. list_any (bytes_eq z) (held t r preserved counts s.taken s.site texts ids)) start (greatest - start) (held t r preserved counts s.taken s.site texts ids)
+    (λ m n under over same. apart s.id m n (omega (arith, under, below)) (omega (arith, over, below)) same)
+    (λ k later less. held_of t r preserved counts s.taken s.site texts ids all_preserved all_earlier (r.text s.id k) (s.none_free k (omega (arith, less, below)) (from_later t r preserved counts s.taken s.site texts ids start k later from)))
+    (λ z found. found) in
+    omega (arith, bound, below, length-held t r preserved counts s.taken s.site texts ids)
+
+pub spent_are_crowded : SpentAreCrowded
+spent_are_crowded t r = (spent_crowded t r (IsPreserved t r.preserves) all_count, spent_crowded t r (IsPreserved t r.preserves) (outer_count t))

@@ -4,9 +4,10 @@ use Rattle.swc_tree_marks.specs.Globals.{Table}
 use Rattle.swc_tree_node.specs.declared.node.Node.{Node}
 use Rattle.swc_tree_scoping.specs.BoundNames.{Id}
 use Rattle.swc_tree_scoping.specs.Places.{Path}
-use Rattle.swc_base_rename_analysis.specs.Named.{Counting, IsEarlier, IsFromStart, IsLeast, IsNamedAt, Renaming, all_count, outer_count}
+use Rattle.swc_base_rename_analysis.specs.Named.{Counting, IsEarlier, IsFromStart, IsLeast, IsNamedAt, IsSpent, Renaming, all_count, outer_count}
 use Rattle.swc_base_rename_analysis.specs.Order.{Site}
 use Rattle.swc_base_rename_analysis.specs.Preserved.{IsPreserved}
+use Rattle.swc_base_rename_naming.specs.Counters.{greatest}
 use Rattle.swc_base_rename_units.specs.Units.{IsOutermost}
 use Rattle.swc_base_rename_program.specs.Renamed.{IsPreservedByTop, IsPreservedInUnit, IsRenamedByUnits}
 
@@ -47,3 +48,13 @@ abbrev pub TriesByUnitsAreFew : Type 0
 TriesByUnitsAreFew = (table : Table) (top : ℕ) (r : Renaming) (keeps : Bool) (before after : Node) (renamed : IsRenamedByUnits table top r keeps before after)
     → EachTakesFewTries before renamed.kept (IsPreservedByTop top before r.preserves) renamed.named.taken
     × ((p : Path) (u : Node) (o : IsOutermost before p u) → EachTakesFewTries u r (IsPreservedInUnit top before r.preserves u) (renamed.units.units p u o).2.named.taken)
+
+-- where the counters are spent at an id, there are as many preserved texts and ids named before it as there are counters from
+-- its start on
+abbrev pub IsCrowded : (t : Node) (r : Renaming) (preserved : List ℕ → Type 0) (counts : Counting) → IsSpent t r preserved counts greatest → Type 0
+IsCrowded t r preserved counts s = (start : ℕ) (texts : List (List ℕ)) (ids : List Id) → start ≤ greatest → IsFromStart t r s.taken s.site start → HasPreserved preserved texts
+    → HasEarlier t r s.site ids → TellsApart r greatest → greatest ≤ start + length texts + length ids
+
+abbrev pub SpentAreCrowded : Type 0
+SpentAreCrowded = (t : Node) (r : Renaming) → ((s : IsSpent t r (IsPreserved t r.preserves) all_count greatest) → IsCrowded t r (IsPreserved t r.preserves) all_count s)
+    × ((s : IsSpent t r (IsPreserved t r.preserves) (outer_count t) greatest) → IsCrowded t r (IsPreserved t r.preserves) (outer_count t) s)

@@ -3,7 +3,7 @@
 //! `specs/Laws.antt` states the laws. Each is the contract of a function that does nothing, so that it is proved.
 #![tactic(auto)]
 
-ghost use Rattle.swc_base_rename_tries_laws.specs.Laws.{TriesAreFew, TriesByUnitsAreFew};
+ghost use Rattle.swc_base_rename_tries_laws.specs.Laws.{SpentAreCrowded, TriesAreFew, TriesByUnitsAreFew};
 
 /// The counter that is taken for an id is at most as far past its start as there are preserved texts and ids that are named
 /// before it, whether all names count or only those of a scope and of the scopes round it.
@@ -15,4 +15,10 @@ pub fn tries_are_few()
 /// unit without such a reader, of which names are given alone.
 pub fn tries_by_units_are_few()
     ensures { TriesByUnitsAreFew }
+{}
+
+/// Where the counters are spent at an id, there are as many preserved texts and ids named before it as there are counters from its
+/// start on.
+pub fn spent_are_crowded()
+    ensures { SpentAreCrowded }
 {}

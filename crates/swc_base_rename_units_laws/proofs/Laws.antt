@@ -20,7 +20,7 @@ in_unit : (t unit : Node) (s : Slot) (p : Path) (r : Renaming) (preserved : List
     → Named unit r preserved all_count new_texts ↔ Named unit r preserved (outer_count unit) new_texts
 in_unit t unit s p r preserved new_texts fit scoped is = flat_where_outside unit (counts_in_unit t unit p (unit_at t s p unit fit is) (counts_outside t s fit scoped)) r preserved new_texts
 
-either_way : (t : Node) (r q : Renaming) (preserved : List ℕ → Type 0) (new_texts : Id → Option (List ℕ)) → Named t r preserved all_count new_texts ↔ Named t r preserved (outer_count t) new_texts
+pub either_way : (t : Node) (r q : Renaming) (preserved : List ℕ → Type 0) (new_texts : Id → Option (List ℕ)) → Named t r preserved all_count new_texts ↔ Named t r preserved (outer_count t) new_texts
     → Named t r preserved (counting t q) new_texts → IsNamedEitherWay t r preserved new_texts
 either_way t r q preserved new_texts law = by q.mangles
   where

@@ -4,3 +4,4 @@ pub mod Roots
 pub mod Units
 pub mod Whole
 pub mod Laws
+pub mod Bounds
