@@ -55,7 +55,7 @@ use Rattle.swc_base_rename_substitution.specs.declared.config.Config.{Config}
 use Rattle.swc_base_rename_program.specs.Renamed.{IsHygienic, hygiene_renaming}
 use Rattle.swc_base_rename_laws.proofs.Outline.{identifiers_alike, rounds_alike, scopes_alike}
 use Rattle.swc_base_rename_scoped_laws.specs.Laws.{NamesAreApart, new_text}
-use Rattle.swc_base_rename_hygiene_laws.specs.Laws.{HygieneStaysWritable, IsFinishable}
+use Rattle.swc_base_rename_hygiene_laws.specs.Laws.{HygieneStaysFitting, HygieneStaysWritable, IsFinishable}
 use Rattle.swc_base_rename_scoped_laws.proofs.TextsByName.{text_by, text_of_id}
 use Rattle.swc_base_rename_texts_laws.specs.Laws.{HasHygienicTexts, HygieneGivesNormalFormNewTexts}
 use Rattle.swc_base_rename_errors_laws.specs.Laws.{AnswerDeclaresByTheRules, AnswerHasNoEarlyErrorOfNames, DeclaresByTheRules}
@@ -198,7 +198,7 @@ program_declares t plain b h =
     let bound : Bound (by_ids t) [] b.0 (id_name b.1) = record { path = d.path; place = d.place; kind = d.kind; identifier = by_id b.1; stands = there; stands_so = d.stands_so; named = refl; unmarked = refl; taken = sym takers ∙ d.taken } in
     way_declares (by_ids t) plain (id_name b.1) [] true b.0 bound (settled_way b.0 (λ e. plain.settled d.path d.place d.kind (by_id b.1) there (d.stands_so ∙ e)))
 
-module _ (apart : NamesAreApart) (texts : HygieneGivesNormalFormNewTexts) (stays : HygieneStaysWritable) (table : Table) (config : Config) (place : Places) (before middle : Node) (first : IsFinishable config before) (scoped : WellScoped before) (hygienic : IsHygienic table config before middle)
+module _ (apart : NamesAreApart) (texts : HygieneGivesNormalFormNewTexts) (stays : HygieneStaysWritable) (table : Table) (config : Config) (place : Places) (before middle : Node) (fits_before : Fits before module_place) (first : IsFinishable config before) (scoped : WellScoped before) (hygienic : IsHygienic table config before middle)
     (fits_middle : Fits middle module_place) where
   abbrev after : Node
   after = fixed place middle
@@ -210,13 +210,13 @@ module _ (apart : NamesAreApart) (texts : HygieneGivesNormalFormNewTexts) (stays
   K = normal_form middle
 
   given : HasHygienicTexts before middle
-  given = texts table config before middle first.plain first.fits first.writable hygienic
+  given = texts table config before middle first.plain fits_before first.writable hygienic
 
   abbrev text : List ℕ → List ℕ
   text = text_by given.new_texts
 
   writable_middle : Writable middle
-  writable_middle = stays table config module_place before middle first.plain first.fits first.writable hygienic
+  writable_middle = stays table config module_place before middle first.plain fits_before first.writable hygienic
 
   writable_after : Writable after
   writable_after = (fixed_fits place middle module_place refl fits_middle writable_middle).0
@@ -272,26 +272,26 @@ module _ (apart : NamesAreApart) (texts : HygieneGivesNormalFormNewTexts) (stays
   -- ---- together
 
   module_before : IsTrue (is_module before)
-  module_before = fits_module before first.fits
+  module_before = fits_module before fits_before
 
   ids_plain : IsPlain (by_ids before)
   ids_plain = plain_module (by_ids before) (renamed_module by_id before module_before) (clean_ids before)
 
   keeps_before : KeepsScopes N before
-  keeps_before = left_keeps before N (left before first.fits first.writable) (takes_same before first.fits first.writable)
+  keeps_before = left_keeps before N (left before fits_before first.writable) (takes_same before fits_before first.writable)
 
   keeps_texts : KeepsScopes (by_texts after) F
   keeps_texts = keeps_by by_text K after (subst (KeepsScopes after) same_form keeps_form)
 
   answers : Answers (by_ids before) (by_ids N) F (by_texts after) text
   answers = record {
-    modules = (renamed_module by_id before module_before, renamed_module by_id N (normal_module before first.fits), renamed_module by_text K (normal_module middle fits_middle), renamed_module by_text after (fits_module after fits_after));
+    modules = (renamed_module by_id before module_before, renamed_module by_id N (normal_module before fits_before), renamed_module by_text K (normal_module middle fits_middle), renamed_module by_text after (fits_module after fits_after));
     clean = (clean_ids before, clean_ids N, clean_texts K, clean_texts after);
-    left = ids_are_left N before (left before first.fits first.writable);
+    left = ids_are_left N before (left before fits_before first.writable);
     program = (keeps_by by_id before N keeps_before).program;
     one = scoped.each_in_one_scope;
     apart = captures_none before text scoped module_before
-        (apart before first.fits module_before scoped first.writable hygiene_renaming given.new_texts text (λ x. refl) given.named (text_of_id given.new_texts));
+        (apart before fits_before module_before scoped first.writable hygiene_renaming given.new_texts text (λ x. refl) given.named (text_of_id given.new_texts));
     shape = same_by_ids;
     texts = new_texts;
     keeps = keeps_texts;
@@ -306,22 +306,22 @@ module _ (apart : NamesAreApart) (texts : HygieneGivesNormalFormNewTexts) (stays
       let (k, i, e) = same_shape.back p at.place m y there in
       let names : IsTrue (is_name at.place.standing) = subst (λ r. IsTrue (is_name r)) (sym at.stands_so) (binding_names r b.binds) in
       let own : i.sym ≡ word = same_word before _ _ given.new_texts given.named i word none (sym (named p at.place at.place k at.kind i at.identifier e at.stands names) ∙ at.named) in
-      declared_stays (by_texts before) (by_texts N) (renamed_module by_text before module_before) (renamed_module by_text N (normal_module before first.fits)) (clean_texts before) (clean_texts N)
+      declared_stays (by_texts before) (by_texts N) (renamed_module by_text before module_before) (renamed_module by_text N (normal_module before fits_before)) (clean_texts before) (clean_texts N)
       (keeps_by by_text before N keeps_before) word
       (p, r, record { at = record { place = at.place; kind = k; identifier = by_text i; stands = stands_named by_text N p at.place k i e; stands_so = at.stands_so; named = own }; binds = b.binds })
 
   -- what the module exports its program declares
   exported_before : (j : Ident) → In j (exported_locals N) → Declares (by_ids before) [] (id_name j)
   exported_before j h =
-      let b = bare before first.fits first.writable in
+      let b = bare before fits_before first.writable in
       ⊎_elim
       (λ g.
-      let f = found before before j refl (subst (In j) (stripped_exports_the_same before first.fits b) g) in
+      let f = found before before j refl (subst (In j) (stripped_exports_the_same before fits_before b) g) in
       scoped.exports_declared f.path (id_name j) (list_forth by_id before f.path f.listed)
       (record { place = Local; kind = f.kind; identifier = by_id j; stands = stands_named by_id before f.path Local f.kind j f.stands; stands_so = refl; named = refl }))
       (λ (g : ProgramTakes (stripped before) j).
-      subst (Declares (by_ids before) []) (id_name_same g.0.1 j g.2) (program_declares before ids_plain g.0 (subst (In g.0) (stripped_takes before first.fits b) g.1)))
-      ((written_out_exports (stripped before) (stripped_fits before module_place b refl first.fits) (modules_tame before first.fits first.writable)).gained j h)
+      subst (Declares (by_ids before) []) (id_name_same g.0.1 j g.2) (program_declares before ids_plain g.0 (subst (In g.0) (stripped_takes before fits_before b) g.1)))
+      ((written_out_exports (stripped before) (stripped_fits before module_place b refl fits_before) (modules_tame before fits_before first.writable)).gained j h)
 
   exports_declared : ExportsDeclared (by_texts after)
   exports_declared p name inside at =
@@ -348,8 +348,10 @@ module _ (apart : NamesAreApart) (texts : HygieneGivesNormalFormNewTexts) (stays
     no_eval_or_arguments = ((λ d. scoped.no_eval_or_arguments.0 (declared_word (codes "eval") refl d)), (λ d. scoped.no_eval_or_arguments.1 (declared_word (codes "arguments") refl d)));
   }
 
-pub answer_declares_by_the_rules : NamesAreApart → HygieneGivesNormalFormNewTexts → HygieneStaysWritable → AnswerDeclaresByTheRules
-answer_declares_by_the_rules apart texts stays table config place before middle first scoped hygienic fits_middle = by_the_rules apart texts stays table config place before middle first scoped hygienic fits_middle
+pub answer_declares_by_the_rules : NamesAreApart → HygieneGivesNormalFormNewTexts → HygieneStaysWritable → HygieneStaysFitting → AnswerDeclaresByTheRules
+answer_declares_by_the_rules apart texts stays fitting table config place before middle fits_before first scoped hygienic =
+    by_the_rules apart texts stays table config place before middle fits_before first scoped hygienic (fitting table config before middle first.plain fits_before hygienic)
 
-pub answer_has_no_early_error_of_names : NamesAreApart → HygieneGivesNormalFormNewTexts → HygieneStaysWritable → AnswerHasNoEarlyErrorOfNames
-answer_has_no_early_error_of_names apart texts stays table config place before middle first scoped hygienic fits_middle = no_early_error apart texts stays table config place before middle first scoped hygienic fits_middle
+pub answer_has_no_early_error_of_names : NamesAreApart → HygieneGivesNormalFormNewTexts → HygieneStaysWritable → HygieneStaysFitting → AnswerHasNoEarlyErrorOfNames
+answer_has_no_early_error_of_names apart texts stays fitting table config place before middle fits_before first scoped hygienic =
+    no_early_error apart texts stays table config place before middle fits_before first scoped hygienic (fitting table config before middle first.plain fits_before hygienic)

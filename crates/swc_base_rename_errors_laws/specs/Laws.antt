@@ -20,10 +20,10 @@ pub record DeclaresByTheRules (answer : Node) : Type 0 where
   pub no_eval_or_arguments : NoEvalOrArguments answer
 
 abbrev pub AnswerDeclaresByTheRules : Type 0
-AnswerDeclaresByTheRules = (table : Table) (config : Config) (place : Places) (before middle : Node) → IsFinishable config before → WellScoped before → IsHygienic table config before middle
-    → Fits middle (slot.One (content.Node class.Module)) → DeclaresByTheRules (fixed place middle)
+AnswerDeclaresByTheRules = (table : Table) (config : Config) (place : Places) (before middle : Node) → Fits before (slot.One (content.Node class.Module)) → IsFinishable config before → WellScoped before → IsHygienic table config before middle
+    → DeclaresByTheRules (fixed place middle)
 
 -- ... and has no early error of names: what its export lists name is declared, too
 abbrev pub AnswerHasNoEarlyErrorOfNames : Type 0
-AnswerHasNoEarlyErrorOfNames = (table : Table) (config : Config) (place : Places) (before middle : Node) → IsFinishable config before → WellScoped before → IsHygienic table config before middle
-    → Fits middle (slot.One (content.Node class.Module)) → NoEarlyErrorOfNames (fixed place middle)
+AnswerHasNoEarlyErrorOfNames = (table : Table) (config : Config) (place : Places) (before middle : Node) → Fits before (slot.One (content.Node class.Module)) → IsFinishable config before → WellScoped before → IsHygienic table config before middle
+    → NoEarlyErrorOfNames (fixed place middle)

@@ -6,7 +6,7 @@
 
 ghost use Rattle.swc_base_rename_errors_laws.specs.Laws.{AnswerDeclaresByTheRules, AnswerHasNoEarlyErrorOfNames};
 
-use swc_base_rename_hygiene_laws::hygiene_stays_writable;
+use swc_base_rename_hygiene_laws::{hygiene_stays_fitting, hygiene_stays_writable};
 use swc_base_rename_scoped_laws::names_are_apart;
 use swc_base_rename_texts_laws::hygiene_gives_normal_form_new_texts;
 
@@ -18,6 +18,7 @@ pub fn answer_declares_by_the_rules()
     names_are_apart();
     hygiene_gives_normal_form_new_texts();
     hygiene_stays_writable();
+    hygiene_stays_fitting();
 }
 
 /// The answer has no early error of names: what its export lists name is declared, too.
@@ -27,4 +28,5 @@ pub fn answer_has_no_early_error_of_names()
     names_are_apart();
     hygiene_gives_normal_form_new_texts();
     hygiene_stays_writable();
+    hygiene_stays_fitting();
 }

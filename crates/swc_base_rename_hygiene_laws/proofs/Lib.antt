@@ -8,3 +8,4 @@ pub mod TopDeclared
 pub mod ExportsApart
 pub mod KeepsNormal
 pub mod StaysWritable
+mod Fitting

@@ -20,8 +20,12 @@ pub record IsPlain (config : Config) (t : Node) : Type 0 where
 -- a module that can be written down, in which nothing reads names and where classes don't keep theirs
 pub record IsFinishable (config : Config) (t : Node) : Type 0 where
   pub plain : IsPlain config t
-  pub fits : Fits t (slot.One (content.Node class.Module))
   pub writable : Writable t
+
+-- what is a module of the table still is one
+abbrev pub HygieneStaysFitting : Type 0
+HygieneStaysFitting = (table : Table) (config : Config) (before after : Node) → IsPlain config before → Fits before (slot.One (content.Node class.Module)) → IsHygienic table config before after
+    → Fits after (slot.One (content.Node class.Module))
 
 -- a tree that fits some place, as each module and each script does, and can be written down still can
 abbrev pub HygieneStaysWritable : Type 0

@@ -3,7 +3,12 @@
 //! `specs/Laws.antt` states the laws. Each is the contract of a function that does nothing, so that it is proved.
 #![tactic(auto)]
 
-ghost use Rattle.swc_base_rename_hygiene_laws.specs.Laws.{HygieneKeepsNormalForm, HygieneStaysWritable};
+ghost use Rattle.swc_base_rename_hygiene_laws.specs.Laws.{HygieneKeepsNormalForm, HygieneStaysFitting, HygieneStaysWritable};
+
+/// A module of the table is one still, where nothing reads names and classes don't keep theirs.
+pub fn hygiene_stays_fitting()
+    ensures { HygieneStaysFitting }
+{}
 
 /// A program that can be written down still can, where nothing reads names and classes don't keep theirs.
 pub fn hygiene_stays_writable()

@@ -87,7 +87,7 @@ one_name w v k l i j o e g = identifier_same k l i j (ap (λ (q : Place × Node)
 -- ---- the laws
 
 module _ (apart : NamesAreApart) (texts : HygieneGivesNormalFormNewTexts) (left : WritableNormalFormIsLeft) (ids_left : IdsAreLeft) where
-  module _ (table : Table) (config : Config) (before middle answer : Node) (first : IsFinishable config before) (scoped : WellScoped before) (hygienic : IsHygienic table config before middle) (last : IsWrittenAs middle answer) where
+  module _ (table : Table) (config : Config) (before middle answer : Node) (fits_before : Fits before module_place) (first : IsFinishable config before) (scoped : WellScoped before) (hygienic : IsHygienic table config before middle) (last : IsWrittenAs middle answer) where
     abbrev N : Node
     N = normal_form before
 
@@ -95,13 +95,13 @@ module _ (apart : NamesAreApart) (texts : HygieneGivesNormalFormNewTexts) (left 
     L = normal_form answer
 
     given : HasHygienicTexts before middle
-    given = texts table config before middle first.plain first.fits first.writable hygienic
+    given = texts table config before middle first.plain fits_before first.writable hygienic
 
     abbrev text : List ℕ → List ℕ
     text = text_by given.new_texts
 
     is_one : IsTrue (is_module before)
-    is_one = module_is before first.fits
+    is_one = module_is before fits_before
 
     shape : outline N ≡ outline L
     shape = given.normal.shape ∙ sym (one_outline L (normal_form middle) last.normal)
@@ -134,14 +134,14 @@ module _ (apart : NamesAreApart) (texts : HygieneGivesNormalFormNewTexts) (left 
         (named p w v c l x j h g).0 n ∙ sym (text_of_id given.new_texts x) ∙ ap (λ (i : Ident). text i.sym) (sym is)
 
     no_capture : CapturesNone (by_ids before) text
-    no_capture = captures_none before text scoped is_one (apart before first.fits is_one scoped first.writable hygiene_renaming given.new_texts text (λ x. refl) given.named (text_of_id given.new_texts))
+    no_capture = captures_none before text scoped is_one (apart before fits_before is_one scoped first.writable hygiene_renaming given.new_texts text (λ x. refl) given.named (text_of_id given.new_texts))
 
     pub meanings_kept : LeftMeanTheirIds → MeanTheirIds L N
     meanings_kept law =
-        law before N L text is_one (normal_is_module before first.fits) (normal_is_module answer last.fits) scoped.each_in_one_scope no_capture (ids_left N before (left before first.fits first.writable)) same_by_ids clean_answer new_texts
+        law before N L text is_one (normal_is_module before fits_before) (normal_is_module answer last.fits) scoped.each_in_one_scope no_capture (ids_left N before (left before fits_before first.writable)) same_by_ids clean_answer new_texts
 
   pub hygiene_keeps_meanings : LeftMeanTheirIds → HygieneKeepsMeanings
-  hygiene_keeps_meanings law table config before middle answer first scoped hygienic last = meanings_kept table config before middle answer first scoped hygienic last law
+  hygiene_keeps_meanings law table config before middle answer fits_before first scoped hygienic last = meanings_kept table config before middle answer fits_before first scoped hygienic last law
 
   module _ (targets : TargetsStandBare) (tame : WritableModulesAreTame) (written : WrittenOutIsLeft) (stripped_takes : StrippedTakesTheSame) (as_writable : TextsAreAsWritable) (left_keeps : LeftKeepsIds) where
     -- the program takes the same in the normal form
@@ -150,7 +150,7 @@ module _ (apart : NamesAreApart) (texts : HygieneGivesNormalFormNewTexts) (left 
         let b = targets t module_place f w in
         (written (stripped t) (stripped_fits t module_place b refl f) (tame t f w)).1 ∙ stripped_takes t f b
 
-    module _ (table : Table) (config : Config) (before middle answer u : Node) (unresolved top : ℕ) (old new : List (ℕ × ℕ)) (first : IsFinishable config before) (scoped : WellScoped before) (hygienic : IsHygienic table config before middle)
+    module _ (table : Table) (config : Config) (before middle answer u : Node) (unresolved top : ℕ) (old new : List (ℕ × ℕ)) (fits_before : Fits before module_place) (first : IsFinishable config before) (scoped : WellScoped before) (hygienic : IsHygienic table config before middle)
         (last : IsWrittenAs middle answer) (knows : Knows old unresolved) (r : Resolved unresolved top old new answer u) where
       abbrev M : Node
       M = normal_form u
@@ -176,11 +176,11 @@ module _ (apart : NamesAreApart) (texts : HygieneGivesNormalFormNewTexts) (left 
 
       pub ids_kept : SameIds (normal_form before) M
       ids_kept =
-          left_keeps before (normal_form before) answer O u M (text table config before middle answer first scoped hygienic last) unresolved top old new
-          (module_is before first.fits) (normal_is_module before first.fits) (module_is answer last.fits) (normal_is_module answer last.fits)
-          scoped.each_in_one_scope (no_capture table config before middle answer first scoped hygienic last) (ids_left (normal_form before) before (left before first.fits first.writable))
-          (same_by_ids table config before middle answer first scoped hygienic last) (clean_answer table config before middle answer first scoped hygienic last) (new_texts table config before middle answer first scoped hygienic last)
+          left_keeps before (normal_form before) answer O u M (text table config before middle answer fits_before first scoped hygienic last) unresolved top old new
+          (module_is before fits_before) (normal_is_module before fits_before) (module_is answer last.fits) (normal_is_module answer last.fits)
+          scoped.each_in_one_scope (no_capture table config before middle answer fits_before first scoped hygienic last) (ids_left (normal_form before) before (left before fits_before first.writable))
+          (same_by_ids table config before middle answer fits_before first scoped hygienic last) (clean_answer table config before middle answer fits_before first scoped hygienic last) (new_texts table config before middle answer fits_before first scoped hygienic last)
           last.clean knows r (left u fits_u writable_u) (normal_takes u fits_u writable_u) same_resolved kept_texts
 
     pub hygiene_keeps_ids : HygieneKeepsIds
-    hygiene_keeps_ids table config before middle answer u unresolved top old new first scoped hygienic last knows r = ids_kept table config before middle answer u unresolved top old new first scoped hygienic last knows r
+    hygiene_keeps_ids table config before middle answer u unresolved top old new fits_before first scoped hygienic last knows r = ids_kept table config before middle answer u unresolved top old new fits_before first scoped hygienic last knows r

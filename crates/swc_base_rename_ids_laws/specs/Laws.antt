@@ -26,10 +26,10 @@ pub record IsWrittenAs (t answer : Node) : Type 0 where
 -- Each way to write down what hygiene made of a well-scoped module that can be finished, resolved with any mark that is known for free names, gives
 -- two kept names one id exactly if the module did.
 abbrev pub HygieneKeepsIds : Type 0
-HygieneKeepsIds = (table : Table) (config : Config) (before middle answer u : Node) (unresolved top : ℕ) (old new : List (ℕ × ℕ)) → IsFinishable config before → WellScoped before → IsHygienic table config before middle
+HygieneKeepsIds = (table : Table) (config : Config) (before middle answer u : Node) (unresolved top : ℕ) (old new : List (ℕ × ℕ)) → Fits before (slot.One (content.Node class.Module)) → IsFinishable config before → WellScoped before → IsHygienic table config before middle
     → IsWrittenAs middle answer → Knows old unresolved → Resolved unresolved top old new answer u → SameIds (normal_form before) (normal_form u)
 
 -- ... and by the texts and scopes of what is written alone, two kept names mean one thing exactly if the module had one id for them
 abbrev pub HygieneKeepsMeanings : Type 0
-HygieneKeepsMeanings = (table : Table) (config : Config) (before middle answer : Node) → IsFinishable config before → WellScoped before → IsHygienic table config before middle
+HygieneKeepsMeanings = (table : Table) (config : Config) (before middle answer : Node) → Fits before (slot.One (content.Node class.Module)) → IsFinishable config before → WellScoped before → IsHygienic table config before middle
     → IsWrittenAs middle answer → MeanTheirIds (normal_form answer) (normal_form before)

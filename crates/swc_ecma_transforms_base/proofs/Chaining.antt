@@ -6,15 +6,25 @@ use Rattle.swc_tree_marks.specs.declared.error.PassError.{PassError}
 use Rattle.swc_tree_marks.specs.declared.error.PassError.TheVariants as error
 use Rattle.swc_tree_marks.specs.Globals.{Table}
 use Rattle.swc_tree_node.specs.declared.node.Node.{Node}
+use Rattle.swc_tree_node.specs.declared.kind.Class.TheVariants as class
+use Rattle.swc_tree_node.specs.declared.slot.Content.TheVariants as content
+use Rattle.swc_tree_node.specs.declared.slot.Slot.{Slot}
+use Rattle.swc_tree_node.specs.declared.slot.Slot.TheVariants as slot
+use Rattle.swc_tree_node.specs.Fits.{Fits}
+use Rattle.swc_tree_grammar.specs.Pairs.{pairs}
+use Rattle.swc_tree_grammar.specs.Fixed.{recorded}
+use Rattle.swc_base_fixer_program.specs.Answers.{answer_to}
 use Rattle.swc_base_resolver.specs.Visits.{ResolvesNode}
 use Rattle.swc_base_resolver_program.specs.Marked.{IsRefusal, MarksOk}
 use Rattle.swc_base_rename_substitution.specs.declared.config.Config.{Config}
-use Rattle.swc_base_rename_hygiene_laws.specs.Laws.{IsFinishable}
-use Rattle.swc_ecma_transforms_base_laws.specs.Sources.{IsReady, IsSource, ResolvedSourcesAreReady}
+use Rattle.swc_ecma_transforms_base_laws.specs.Sources.{IsSource}
+use Rattle.swc_ecma_transforms_base_laws.specs.Headline.{ChainingKeepsSources, KeepsItsSource}
 use Rattle.swc_ecma_transforms_base.specs.Chained.{Chains, IsChainRefusal, IsMarked, IsOnceHygienic}
 use Rattle.swc_ecma_transforms_base.specs.Finished.{Finishes, IsFinishRefusal}
-use Rattle.swc_ecma_transforms_base.specs.Headline.{IsOfMemoryOrCounters, KeepsItsPromises, KeepsItsSource}
 use Rattle.swc_ecma_transforms_base.specs.Lent.{MovesFor, MovesPartly}
+
+abbrev module_place : Slot
+module_place = slot.One (content.Node class.Module)
 
 pub marked : (unresolved top : ℕ) (pass kept : ℕ × ℕ) (old new : Table) (given before resolved : Node) → pass ≡ (unresolved, top) → given ≡ before → ResolvesNode pass old given kept new resolved
     → IsMarked unresolved top old before new resolved
@@ -36,33 +46,24 @@ module _ (unresolved top : ℕ) (config : Config) (old : Table) (before : Node) 
   refused_later (Ok t) h = tt
   refused_later (Err e) h = refused e h
 
-  ready : ResolvedSourcesAreReady → IsSource config before → MarksOk old unresolved top → IsReady config before resolved
-  ready law s ok = law config before resolved unresolved top old new s ok.0.1 (m.resolved ok)
-
-  pub source_kept : ResolvedSourcesAreReady → (after : Node) → (IsFinishable config resolved → KeepsItsPromises resolved after) → IsSource config before → MarksOk old unresolved top
+  pub source_kept : ChainingKeepsSources → (after : Node) → Finishes new config resolved after → Fits before module_place → IsSource config before → MarksOk old unresolved top
       → KeepsItsSource unresolved top old new before after
-  source_kept law after promises s ok =
-      let r = ready law s ok in
-      let kept = promises r.finishable in
-      record {
-        resolved = resolved;
-        meant = m.resolved ok;
-        found = r.found;
-        derived = kept.derived;
-        normal_form = r.same after kept.normal_form;
-        ids = kept.ids r.well_scoped;
-        meanings = kept.meanings r.well_scoped;
-        no_early_error = kept.no_early_error r.well_scoped;
-      }
+  unfolding answer_to
+  source_kept law after f fits s ok =
+      subst (λ t. KeepsItsSource unresolved top old new before t) (sym f.paired)
+      (law config (recorded (pairs f.between)) unresolved top old new before resolved f.between fits s ok.0.1 (m.resolved ok) f.hygienic).0
 
-  not_target : (e : PassError) → IsOfMemoryOrCounters e → e ≢ error.NotAssignable
-  not_target e (inl h) n = absurd (cc (sym h ∙ n))
-  not_target e (inr h) n = absurd (cc (sym h ∙ n))
+  not_target : ChainingKeepsSources → Fits before module_place → IsSource config before → MarksOk old unresolved top → (e : PassError) → IsFinishRefusal new config resolved e → e ≢ error.NotAssignable
+  not_target law fits s ok error.NotAssignable h n =
+      let stands = (law config (recorded (pairs h.between)) unresolved top old new before resolved h.between fits s ok.0.1 (m.resolved ok) h.hygienic).1 in let fails = h.unassignable in absurd (cc)
+  not_target law fits s ok error.NoMemory h n = absurd (cc n)
+  not_target law fits s ok error.CounterSpent h n = absurd (cc n)
+  not_target law fits s ok error.MarksSpent h n = absurd h
 
-  pub no_target_later : {T : Type 0} (r : Result T PassError) → ResolvedSourcesAreReady → (IsFinishable config resolved → IfErr r IsOfMemoryOrCounters) → IsSource config before → MarksOk old unresolved top
+  pub no_target_later : {T : Type 0} (r : Result T PassError) → ChainingKeepsSources → IfErr r (IsFinishRefusal new config resolved) → Fits before module_place → IsSource config before → MarksOk old unresolved top
       → IfErr r (λ e. e ≢ error.NotAssignable)
-  no_target_later (Ok t) law h s ok = tt
-  no_target_later (Err e) law h s ok = not_target e (h (ready law s ok).finishable)
+  no_target_later (Ok t) law h fits s ok = tt
+  no_target_later (Err e) law h fits s ok = not_target law fits s ok e h
 
   once_hygienic : (t : Node) → IsHygienic new config resolved t → IsOnceHygienic unresolved top config old before new t
   once_hygienic t h = record { resolved = resolved; marked = m; is_so = h }

@@ -6,13 +6,12 @@ use Rattle.swc_tree_marks.specs.Globals.{Table}
 use Rattle.swc_tree_node.specs.declared.node.Node.{Node}
 use Rattle.swc_tree_node.specs.declared.kind.Class.TheVariants as class
 use Rattle.swc_tree_node.specs.declared.slot.Content.TheVariants as content
+use Rattle.swc_tree_node.specs.declared.slot.Slot.{Slot}
 use Rattle.swc_tree_node.specs.declared.slot.Slot.TheVariants as slot
 use Rattle.swc_tree_node.specs.Fits.{Fits}
 use Rattle.swc_tree_grammar.specs.Targets.{all_bare}
 use Rattle.swc_tree_grammar.specs.Pairs.{pairs}
 use Rattle.swc_tree_grammar.specs.Fixed.{recorded}
-use Rattle.swc_base_fixer_laws.proofs.AgainLaws.{all_normal_form_stays}
-use Rattle.swc_base_fixer_laws.proofs.Fixed.{fixed_fits, targets_stand_bare}
 use Rattle.swc_base_fixer_unparen.specs.Moves.{LeadPartlyTo, Moving}
 use Rattle.swc_base_fixer_program.specs.Answers.{answer_to, moves_for}
 use Rattle.swc_base_fixer.specs.Unparened.{IsRefusal}
@@ -20,16 +19,11 @@ use Rattle.swc_base_rename_substitution.specs.declared.config.Config.{Config}
 use Rattle.swc_base_rename_program.specs.Renamed.{IsHygienic}
 use Rattle.swc_base_rename.specs.declared.hygienic.Hygiene.{Hygiene}
 use Rattle.swc_base_rename.specs.Hygiene.{MakesHygienic}
-use Rattle.swc_base_rename_hygiene_laws.proofs.KeepsNormal.{hygiene_keeps_normal_form}
-use Rattle.swc_base_rename_hygiene_laws.proofs.StaysWritable.{hygiene_stays_writable}
-use Rattle.swc_base_rename_errors_laws.specs.Laws.{AnswerHasNoEarlyErrorOfNames}
-use Rattle.swc_ecma_transforms_base_laws.specs.Finished.{FinishingKeepsIds, FinishingKeepsMeanings}
+use Rattle.swc_ecma_transforms_base_laws.specs.Finished.{FinishingMeetsNoTarget}
+use Rattle.swc_ecma_transforms_base_laws.specs.Headline.{FinishingKeepsPromises, IsOfMemoryOrCounters, KeepsItsPromises}
 use Rattle.swc_base_rename_hygiene_laws.specs.Laws.{IsFinishable}
-use Rattle.swc_ecma_transforms_base_laws.proofs.Kept.{keeps_modules, meets_no_target}
 use Rattle.swc_ecma_transforms_base.specs.Finished.{Finishes, IsFinishRefusal}
-use Rattle.swc_ecma_transforms_base.specs.Headline.{IsOfMemoryOrCounters, KeepsItsPromises}
 use Rattle.swc_ecma_transforms_base.specs.Lent.{MovesPartly}
-use Rattle.swc_ecma_transforms_base.proofs.Fitting.{hygiene_fits}
 
 pub made_hygienic : (table new : Table) (config : Config) (pass kept : Hygiene) (given before middle : Node) → pass.config ≡ config → given ≡ before → MakesHygienic pass table given kept new middle
     → IsHygienic table config before middle
@@ -68,34 +62,20 @@ module _ {C : Type 0} (R : Moving C) (IsGiven : Node → Type 0) (middle : Node)
   partly_by_fixer (Ok t) h bare unmoved some = tt
   partly_by_fixer (Err e) h bare unmoved some = partly e h bare unmoved some
 
-module _ (table : Table) (config : Config) (before : Node) (finishable : IsFinishable config before) where
-  fits : (middle : Node) → IsHygienic table config before middle → Fits middle (slot.One (content.Node class.Module))
-  fits middle hygienic = hygiene_fits table config before middle finishable.plain finishable.fits hygienic
+abbrev module_place : Slot
+module_place = slot.One (content.Node class.Module)
 
-  promised_by : FinishingKeepsIds → FinishingKeepsMeanings → AnswerHasNoEarlyErrorOfNames → (middle : Node) → IsHygienic table config before middle → KeepsItsPromises before (answer_to middle)
+module _ (table : Table) (config : Config) (before : Node) (fits : Fits before module_place) (finishable : IsFinishable config before) where
+  pub promised : FinishingKeepsPromises → (after : Node) → Finishes table config before after → KeepsItsPromises before after
   unfolding answer_to
-  promised_by keeps means errors middle hygienic =
-      let kept = keeps_modules hygiene_stays_writable hygiene_keeps_normal_form fixed_fits all_normal_form_stays table config (recorded (pairs middle)) before middle finishable hygienic (fits middle hygienic) in
-      record {
-        derived = kept.derived;
-        normal_form = kept.normal_form;
-        ids = λ scoped unresolved top old new u knows r. keeps table config (recorded (pairs middle)) before middle u unresolved top old new finishable scoped hygienic (fits middle hygienic) knows r;
-        meanings = λ scoped. means table config (recorded (pairs middle)) before middle finishable scoped hygienic (fits middle hygienic);
-        no_early_error = λ scoped. errors table config (recorded (pairs middle)) before middle finishable scoped hygienic (fits middle hygienic);
-      }
+  promised law after f = subst (λ t. KeepsItsPromises before t) (sym f.paired) (law table config (recorded (pairs f.between)) before f.between fits finishable f.hygienic)
 
-  pub promised : FinishingKeepsIds → FinishingKeepsMeanings → AnswerHasNoEarlyErrorOfNames → (after : Node) → Finishes table config before after → KeepsItsPromises before after
-  promised keeps means errors after f = subst (λ t. KeepsItsPromises before t) (sym f.paired) (promised_by keeps means errors f.between f.hygienic)
+  no_target : FinishingMeetsNoTarget → (e : PassError) → IsFinishRefusal table config before e → IsOfMemoryOrCounters e
+  no_target law error.NoMemory h = inl refl
+  no_target law error.CounterSpent h = inr refl
+  no_target law error.MarksSpent h = absurd h
+  no_target law error.NotAssignable h = let stands = law table config before h.between fits finishable h.hygienic in let fails = h.unassignable in absurd (cc)
 
-  bare : (middle : Node) → IsHygienic table config before middle → all_bare middle ≡ true
-  bare middle hygienic = meets_no_target hygiene_stays_writable targets_stand_bare table config before middle finishable hygienic (fits middle hygienic)
-
-  no_target : (e : PassError) → IsFinishRefusal table config before e → IsOfMemoryOrCounters e
-  no_target error.NoMemory h = inl refl
-  no_target error.CounterSpent h = inr refl
-  no_target error.MarksSpent h = absurd h
-  no_target error.NotAssignable h = let stands = bare h.between h.hygienic in let fails = h.unassignable in absurd (cc)
-
-  pub meets_none : {T : Type 0} (r : Result T PassError) → IfErr r (IsFinishRefusal table config before) → IfErr r IsOfMemoryOrCounters
-  meets_none (Ok t) h = tt
-  meets_none (Err e) h = no_target e h
+  pub meets_none : {T : Type 0} (r : Result T PassError) → FinishingMeetsNoTarget → IfErr r (IsFinishRefusal table config before) → IfErr r IsOfMemoryOrCounters
+  meets_none (Ok t) law h = tt
+  meets_none (Err e) law h = no_target law e h

@@ -1,3 +1,2 @@
 mod Chaining
 mod Finishing
-mod Fitting

@@ -1,4 +1,3 @@
 pub mod Chained
 pub mod Finished
-pub mod Headline
 pub mod Lent

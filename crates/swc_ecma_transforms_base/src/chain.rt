@@ -6,7 +6,7 @@ ghost use Rattle.swc_tree_modules.specs.Nodes.{module_node, script_node};
 ghost use Rattle.swc_base_resolver_program.specs.Marked.{MarksOk};
 ghost use Rattle.swc_ecma_transforms_base_laws.specs.Sources.{IsSource};
 ghost use Rattle.swc_ecma_transforms_base.specs.Chained.{Chains, HasFreshMarks, IsChainRefusal, IsOnceHygienic};
-ghost use Rattle.swc_ecma_transforms_base.specs.Headline.{KeepsItsSource};
+ghost use Rattle.swc_ecma_transforms_base_laws.specs.Headline.{KeepsItsSource};
 ghost use Rattle.swc_ecma_transforms_base.specs.Lent.{Became, MovesFor, MovesPartly};
 
 use crate::finish::{finish_module_with, finish_script_with};
@@ -14,10 +14,10 @@ use std::alloc::Global;
 use std::mem;
 use swc_base_rename::Config;
 use swc_base_resolver::resolver;
-use swc_ecma_transforms_base_laws::resolved_sources_are_ready;
+use swc_ecma_transforms_base_laws::chaining_keeps_sources;
 use swc_tree::{
     Comments, Globals, JsPass, Mark, Module, NoComments, PassError, Script, empty_module,
-    empty_script,
+    empty_script, module_fits,
 };
 
 /// Resolves a program, makes texts alone tell its names apart, and then sets its parentheses anew. Comments move along with the
@@ -133,7 +133,8 @@ fn chain_module_with<C: Comments>(
     ensures partly { OnErr result (MovesPartly C.moved (IsOnceHygienic unresolved top config globals.old (module_node program.old) globals.new) comments.old comments.new) }
     ensures unmoved { IfErr result (λ e. e ≢ error.NoMemory → comments.new ≡ comments.old) }
 {
-    resolved_sources_are_ready();
+    chaining_keeps_sources();
+    module_fits(program);
     let mut module = mem::replace(program, empty_module(alloc, program.span));
     let mut resolver = resolver(unresolved, top);
     resolver.visit_mut_module(alloc, globals, &mut module)?;

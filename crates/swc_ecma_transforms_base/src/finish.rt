@@ -6,17 +6,17 @@ ghost use Rattle.swc_tree_modules.specs.Nodes.{module_node, script_node};
 ghost use Rattle.swc_base_rename_program.specs.Renamed.{IsHygienic};
 ghost use Rattle.swc_base_rename_hygiene_laws.specs.Laws.{IsFinishable};
 ghost use Rattle.swc_ecma_transforms_base.specs.Finished.{Finishes, IsFinishRefusal};
-ghost use Rattle.swc_ecma_transforms_base.specs.Headline.{IsOfMemoryOrCounters, KeepsItsPromises};
+ghost use Rattle.swc_ecma_transforms_base_laws.specs.Headline.{IsOfMemoryOrCounters, KeepsItsPromises};
 ghost use Rattle.swc_ecma_transforms_base.specs.Lent.{Became, MovesFor, MovesPartly};
 
 use crate::fixed::{fix_module, fix_script};
 use std::alloc::Global;
 use std::mem;
 use swc_base_rename::{Config, hygiene_with_config};
-use swc_base_rename_errors_laws::answer_has_no_early_error_of_names;
-use swc_ecma_transforms_base_laws::{finishing_keeps_ids, finishing_keeps_meanings};
+use swc_ecma_transforms_base_laws::{finishing_keeps_promises, finishing_meets_no_target};
 use swc_tree::{
     Comments, Globals, JsPass, Module, NoComments, PassError, Script, empty_module, empty_script,
+    module_fits,
 };
 
 /// Makes texts alone tell the names of a program apart, and then sets its parentheses anew, as a printer needs it. Comments
@@ -100,9 +100,9 @@ pub(crate) fn finish_module_with<C: Comments>(
     ensures partly { OnErr result (MovesPartly C.moved (IsHygienic globals.old config (module_node program.old)) comments.old comments.new) }
     ensures unmoved { IfErr result (λ e. e ≢ error.NoMemory → comments.new ≡ comments.old) }
 {
-    finishing_keeps_ids();
-    finishing_keeps_meanings();
-    answer_has_no_early_error_of_names();
+    finishing_keeps_promises();
+    finishing_meets_no_target();
+    module_fits(program);
     let mut module = mem::replace(program, empty_module(alloc, program.span));
     let mut hygiene = hygiene_with_config(config);
     hygiene.visit_mut_module(alloc, globals, &mut module)?;

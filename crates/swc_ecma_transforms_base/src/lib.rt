@@ -1,8 +1,8 @@
 //! The passes of swc's `swc_ecma_transforms_base` under its module paths, and the calls that run them one after another.
 //!
 //! `finish_module` runs hygiene and then the fixer, `chain_module` the resolver before them. `specs/Finished.antt` and
-//! `specs/Chained.antt` say what they make of a program and when they refuse one, `specs/Headline.antt` what is promised of the
-//! answer.
+//! `specs/Chained.antt` say what they make of a program and when they refuse one, `specs/Headline.antt` of
+//! `swc_ecma_transforms_base_laws` what is promised of the answer.
 #![tactic(auto)]
 
 pub mod assumptions;
@@ -23,3 +23,4 @@ pub mod scope;
 
 pub use chain::{chain_module, chain_script};
 pub use finish::{finish_module, finish_script};
+pub use swc_tree::{Comments, EsVersion, Globals, Mark, Module, NoComments, PassError, Script};

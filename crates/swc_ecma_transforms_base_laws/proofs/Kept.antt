@@ -18,7 +18,7 @@ use Rattle.swc_tree_grammar.proofs.BlocksKept.{blocks_fit}
 use Rattle.swc_tree_grammar.proofs.Kept.{stripped_fits}
 use Rattle.swc_base_fixer_laws.specs.Laws.{FixedFits, NormalFormStays, TargetsStandBare}
 use Rattle.swc_base_fixer_laws.proofs.Answer.{due_fits}
-use Rattle.swc_base_rename_hygiene_laws.specs.Laws.{HygieneKeepsNormalForm, HygieneStaysWritable, IsFinishable}
+use Rattle.swc_base_rename_hygiene_laws.specs.Laws.{HygieneKeepsNormalForm, HygieneStaysFitting, HygieneStaysWritable, IsFinishable}
 use Rattle.swc_base_rename_program.specs.Renamed.{IsHygienic}
 use Rattle.swc_base_rename_substitution.specs.declared.config.Config.{Config}
 use Rattle.swc_base_rename_ids_laws.specs.Laws.{HygieneKeepsIds, HygieneKeepsMeanings, IsWrittenAs}
@@ -28,36 +28,39 @@ use Rattle.swc_ecma_transforms_base_laws.proofs.Clean.{fixed_clean}
 abbrev module_place : Slot
 module_place = slot.One (content.Node class.Module)
 
-pub keeps_modules : HygieneStaysWritable → HygieneKeepsNormalForm → FixedFits → NormalFormStays → FinishingKeepsModules
-keeps_modules stays same fit normal table config place before middle b h f =
-    let writable = stays table config module_place before middle b.plain b.fits b.writable h in
-    let answer = fit place middle module_place refl f writable in
+pub keeps_modules : HygieneStaysFitting → HygieneStaysWritable → HygieneKeepsNormalForm → FixedFits → NormalFormStays → FinishingKeepsModules
+keeps_modules fitting stays same fit normal table config place before middle f b h =
+    let within = fitting table config before middle b.plain f h in
+    let writable = stays table config module_place before middle b.plain f b.writable h in
+    let answer = fit place middle module_place refl within writable in
     record {
       writable = answer.0;
       derived = answer.1;
-      normal_form = ap (λ n. same_tree (declared_names before) (normal_form before) n) (normal place middle module_place f) ∙ same table config before middle b.plain b.fits b.writable h;
+      normal_form = ap (λ n. same_tree (declared_names before) (normal_form before) n) (normal place middle module_place within) ∙ same table config before middle b.plain f b.writable h;
     }
 
-pub meets_no_target : HygieneStaysWritable → TargetsStandBare → FinishingMeetsNoTarget
-meets_no_target stays bare table config before middle b h f = bare middle module_place f (stays table config module_place before middle b.plain b.fits b.writable h)
+pub meets_no_target : HygieneStaysFitting → HygieneStaysWritable → TargetsStandBare → FinishingMeetsNoTarget
+meets_no_target fitting stays bare table config before middle f b h =
+    bare middle module_place (fitting table config before middle b.plain f h) (stays table config module_place before middle b.plain f b.writable h)
 
 -- what the fixer made of the hygienic module is a way to write it down
-written_as : HygieneStaysWritable → TargetsStandBare → FixedFits → NormalFormStays → (table : Table) (config : Config) (place : Places) (before middle : Node) → IsFinishable config before → IsHygienic table config before middle
-    → Fits middle module_place → IsWrittenAs middle (fixed place middle)
-written_as stays bare fit normal table config place before middle b h f =
-    let writable = stays table config module_place before middle b.plain b.fits b.writable h in
-    let inner = blocks_fit (stripped middle) module_place (stripped_fits middle module_place (bare middle module_place f writable) refl f) in
+written_as : HygieneStaysFitting → HygieneStaysWritable → TargetsStandBare → FixedFits → NormalFormStays → (table : Table) (config : Config) (place : Places) (before middle : Node) → Fits before module_place
+    → IsFinishable config before → IsHygienic table config before middle → IsWrittenAs middle (fixed place middle)
+written_as fitting stays bare fit normal table config place before middle f b h =
+    let within = fitting table config before middle b.plain f h in
+    let writable = stays table config module_place before middle b.plain f b.writable h in
+    let inner = blocks_fit (stripped middle) module_place (stripped_fits middle module_place (bare middle module_place within writable) refl within) in
     record {
       fits = due_fits place (with_blocks (stripped middle)) module_place inner;
       clean = fixed_clean place middle h.0 module_place h.2 inner;
-      writable = (fit place middle module_place refl f writable).0;
-      normal = ap spanless (normal place middle module_place f);
+      writable = (fit place middle module_place refl within writable).0;
+      normal = ap spanless (normal place middle module_place within);
     }
 
-pub keeps_ids : HygieneKeepsIds → HygieneStaysWritable → TargetsStandBare → FixedFits → NormalFormStays → FinishingKeepsIds
-keeps_ids ids stays bare fit normal table config place before middle u unresolved top old new b scoped h f knows r =
-    ids table config before middle (fixed place middle) u unresolved top old new b scoped h (written_as stays bare fit normal table config place before middle b h f) knows r
+pub keeps_ids : HygieneKeepsIds → HygieneStaysFitting → HygieneStaysWritable → TargetsStandBare → FixedFits → NormalFormStays → FinishingKeepsIds
+keeps_ids ids fitting stays bare fit normal table config place before middle u unresolved top old new f b scoped h knows r =
+    ids table config before middle (fixed place middle) u unresolved top old new f b scoped h (written_as fitting stays bare fit normal table config place before middle f b h) knows r
 
-pub keeps_meanings : HygieneKeepsMeanings → HygieneStaysWritable → TargetsStandBare → FixedFits → NormalFormStays → FinishingKeepsMeanings
-keeps_meanings meanings stays bare fit normal table config place before middle b scoped h f =
-    meanings table config before middle (fixed place middle) b scoped h (written_as stays bare fit normal table config place before middle b h f)
+pub keeps_meanings : HygieneKeepsMeanings → HygieneStaysFitting → HygieneStaysWritable → TargetsStandBare → FixedFits → NormalFormStays → FinishingKeepsMeanings
+keeps_meanings meanings fitting stays bare fit normal table config place before middle f b scoped h =
+    meanings table config before middle (fixed place middle) f b scoped h (written_as fitting stays bare fit normal table config place before middle f b h)

@@ -1,3 +1,4 @@
 mod Clean
 pub mod Kept
 pub mod Sources
+mod Promised

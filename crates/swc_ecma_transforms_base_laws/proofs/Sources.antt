@@ -22,18 +22,18 @@ abbrev module_place : Slot
 module_place = slot.One (content.Node class.Module)
 
 pub sources_ready : CleanModulesBecomeWellScoped → ResolvedNamesMeanTheirIds → TextsAreAsWritable → SamenessNeedsNoContexts → ReadersNeedNoContexts → ResolvedSourcesAreReady
-sources_ready becomes mean texts same readers config t u unresolved top old new s known r =
+sources_ready becomes mean texts same readers config t u unresolved top old new f s known r =
     let clear : by_texts u ≡ t = texts_again t u r.contexts r.only_contexts s.clean in
-    let fits_u : Fits u module_place = ap (λ t. fits t module_place) r.only_contexts ∙ fits-remarked r.contexts t module_place ∙ s.fits in
+    let fits_u : Fits u module_place = ap (λ t. fits t module_place) r.only_contexts ∙ fits-remarked r.contexts t module_place ∙ f in
     let writable_u : IsTrue (is_writable u) = sym (texts u) ∙ ap is_writable clear ∙ s.writable in
-    let normal : normal_form (by_texts u) ≡ by_texts (normal_form u) = ap normal_form clear ∙ normal_cleared unresolved top old new t u s.clean (fits_module t s.fits) r fits_u writable_u in
+    let normal : normal_form (by_texts u) ≡ by_texts (normal_form u) = ap normal_form clear ∙ normal_cleared unresolved top old new t u s.clean (fits_module t f) r fits_u writable_u in
     record {
+      fits = fits_u;
       finishable = record {
         plain = record { renames_classes = s.plain.renames_classes; unread = λ read. s.plain.unread (read.0, subst HasEval clear (readers u read.1)) };
-        fits = fits_u;
         writable = writable_u;
       };
-      well_scoped = becomes t u unresolved top old new s.fits s.clean s.fair known r;
-      found = mean t u unresolved top old new s.fits s.clean s.fair known r;
+      well_scoped = becomes t u unresolved top old new f s.clean s.fair known r;
+      found = mean t u unresolved top old new f s.clean s.fair known r;
       same = λ answer h. subst (λ t. SameButForBoundNames t answer) clear (same u answer normal h);
     }

@@ -29,22 +29,22 @@ pub record KeepsModule (before after : Node) : Type 0 where
 
 -- hygiene and then the fixer keep such a module, wherever the fixer puts its pairs
 abbrev pub FinishingKeepsModules : Type 0
-FinishingKeepsModules = (table : Table) (config : Config) (place : Places) (before middle : Node) → IsFinishable config before → IsHygienic table config before middle
-    → Fits middle (slot.One (content.Node class.Module)) → KeepsModule before (fixed place middle)
+FinishingKeepsModules = (table : Table) (config : Config) (place : Places) (before middle : Node) → Fits before (slot.One (content.Node class.Module)) → IsFinishable config before
+    → IsHygienic table config before middle → KeepsModule before (fixed place middle)
 
 -- and the fixer does not refuse what hygiene made of it for a target that takes no value
 abbrev pub FinishingMeetsNoTarget : Type 0
-FinishingMeetsNoTarget = (table : Table) (config : Config) (before middle : Node) → IsFinishable config before → IsHygienic table config before middle
-    → Fits middle (slot.One (content.Node class.Module)) → all_bare middle ≡ true
+FinishingMeetsNoTarget = (table : Table) (config : Config) (before middle : Node) → Fits before (slot.One (content.Node class.Module)) → IsFinishable config before
+    → IsHygienic table config before middle → all_bare middle ≡ true
 
 -- Of a well-scoped module the answer, resolved with any mark that is known for free names, gives two kept names one id exactly
 -- if the module did.
 abbrev pub FinishingKeepsIds : Type 0
-FinishingKeepsIds = (table : Table) (config : Config) (place : Places) (before middle u : Node) (unresolved top : ℕ) (old new : List (ℕ × ℕ)) → IsFinishable config before → WellScoped before
-    → IsHygienic table config before middle → Fits middle (slot.One (content.Node class.Module)) → Knows old unresolved → Resolved unresolved top old new (fixed place middle) u
+FinishingKeepsIds = (table : Table) (config : Config) (place : Places) (before middle u : Node) (unresolved top : ℕ) (old new : List (ℕ × ℕ)) → Fits before (slot.One (content.Node class.Module)) → IsFinishable config before
+    → WellScoped before → IsHygienic table config before middle → Knows old unresolved → Resolved unresolved top old new (fixed place middle) u
     → SameIds (normal_form before) (normal_form u)
 
 -- And by the texts and scopes of the answer alone, two kept names mean one thing exactly if the module had one id for them.
 abbrev pub FinishingKeepsMeanings : Type 0
-FinishingKeepsMeanings = (table : Table) (config : Config) (place : Places) (before middle : Node) → IsFinishable config before → WellScoped before → IsHygienic table config before middle
-    → Fits middle (slot.One (content.Node class.Module)) → MeanTheirIds (normal_form (fixed place middle)) (normal_form before)
+FinishingKeepsMeanings = (table : Table) (config : Config) (place : Places) (before middle : Node) → Fits before (slot.One (content.Node class.Module)) → IsFinishable config before → WellScoped before
+    → IsHygienic table config before middle → MeanTheirIds (normal_form (fixed place middle)) (normal_form before)

@@ -17,7 +17,6 @@ use Rattle.swc_base_rename_hygiene_laws.specs.Laws.{IsFinishable, IsPlain}
 -- a module without contexts and early errors of names that can be written down, in which nothing reads names and where classes
 -- don't keep theirs
 pub record IsSource (config : Config) (t : Node) : Type 0 where
-  pub fits : Fits t (slot.One (content.Node class.Module))
   pub clean : IsClean t
   pub fair : NoEarlyErrorOfNames t
   pub writable : Writable t
@@ -26,6 +25,7 @@ pub record IsSource (config : Config) (t : Node) : Type 0 where
 -- a well-scoped module that hygiene and the fixer may finish, whose ids are what the names of the source mean; what is the same as it
 -- but for bound names is so to the source
 pub record IsReady (config : Config) (source resolved : Node) : Type 0 where
+  pub fits : Fits resolved (slot.One (content.Node class.Module))
   pub finishable : IsFinishable config resolved
   pub well_scoped : WellScoped resolved
   pub found : MeanTheirIds source resolved
@@ -33,5 +33,5 @@ pub record IsReady (config : Config) (source resolved : Node) : Type 0 where
 
 -- such a source is ready once it is resolved, where the table has the mark of free names
 abbrev pub ResolvedSourcesAreReady : Type 0
-ResolvedSourcesAreReady = (config : Config) (source resolved : Node) (unresolved top : ℕ) (old new : Table) → IsSource config source → Contains (numbers old) unresolved
+ResolvedSourcesAreReady = (config : Config) (source resolved : Node) (unresolved top : ℕ) (old new : Table) → Fits source (slot.One (content.Node class.Module)) → IsSource config source → Contains (numbers old) unresolved
     → Resolved unresolved top old new source resolved → IsReady config source resolved

@@ -1,14 +1,18 @@
 //! Laws of passes that run one after another, on definitions alone: hygiene, and then the fixer.
 //!
-//! `specs/Finished.antt` and `specs/Sources.antt` state the laws. Each is the contract of a function that does nothing but call those of the laws
+//! `specs/Finished.antt` and `specs/Sources.antt` state the laws, and `specs/Headline.antt` what is promised by all of them. Each is the contract of a function that does nothing but call those of the laws
 //! that it rests on; a caller of the two passes calls it, and then knows the law.
 #![tactic(auto)]
 
 ghost use Rattle.swc_ecma_transforms_base_laws.specs.Finished.{FinishingKeepsIds, FinishingKeepsMeanings, FinishingKeepsModules, FinishingMeetsNoTarget};
+ghost use Rattle.swc_ecma_transforms_base_laws.specs.Headline.{ChainingKeepsSources, FinishingKeepsPromises};
 ghost use Rattle.swc_ecma_transforms_base_laws.specs.Sources.{ResolvedSourcesAreReady};
 
 use swc_base_fixer_laws::{fixed_fits, normal_form_stays, targets_stand_bare};
-use swc_base_rename_hygiene_laws::{hygiene_keeps_normal_form, hygiene_stays_writable};
+use swc_base_rename_errors_laws::answer_has_no_early_error_of_names;
+use swc_base_rename_hygiene_laws::{
+    hygiene_keeps_normal_form, hygiene_stays_fitting, hygiene_stays_writable,
+};
 use swc_base_rename_ids_laws::{hygiene_keeps_ids, hygiene_keeps_meanings};
 use swc_base_rename_source_laws::{readers_need_no_contexts, sameness_needs_no_contexts};
 use swc_base_resolver_laws::{a_clean_module_becomes_well_scoped, resolved_names_mean_their_ids};
@@ -19,6 +23,7 @@ use swc_tree_grammar_texts::texts_are_as_writable;
 pub fn finishing_keeps_modules()
     ensures { FinishingKeepsModules }
 {
+    hygiene_stays_fitting();
     hygiene_stays_writable();
     hygiene_keeps_normal_form();
     fixed_fits();
@@ -29,6 +34,7 @@ pub fn finishing_keeps_modules()
 pub fn finishing_meets_no_target()
     ensures { FinishingMeetsNoTarget }
 {
+    hygiene_stays_fitting();
     hygiene_stays_writable();
     targets_stand_bare();
 }
@@ -39,6 +45,7 @@ pub fn finishing_keeps_ids()
     ensures { FinishingKeepsIds }
 {
     hygiene_keeps_ids();
+    hygiene_stays_fitting();
     hygiene_stays_writable();
     targets_stand_bare();
     fixed_fits();
@@ -51,6 +58,7 @@ pub fn finishing_keeps_meanings()
     ensures { FinishingKeepsMeanings }
 {
     hygiene_keeps_meanings();
+    hygiene_stays_fitting();
     hygiene_stays_writable();
     targets_stand_bare();
     fixed_fits();
@@ -68,4 +76,23 @@ pub fn resolved_sources_are_ready()
     texts_are_as_writable();
     sameness_needs_no_contexts();
     readers_need_no_contexts();
+}
+
+/// What is promised of a module, well-scoped or not, that hygiene and then the fixer finish.
+pub fn finishing_keeps_promises()
+    ensures { FinishingKeepsPromises }
+{
+    finishing_keeps_modules();
+    finishing_keeps_ids();
+    finishing_keeps_meanings();
+    answer_has_no_early_error_of_names();
+}
+
+/// What is promised of a source that is resolved, and then finished.
+pub fn chaining_keeps_sources()
+    ensures { ChainingKeepsSources }
+{
+    resolved_sources_are_ready();
+    finishing_keeps_promises();
+    finishing_meets_no_target();
 }

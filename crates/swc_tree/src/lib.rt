@@ -10,6 +10,7 @@
 
 mod check;
 mod empty;
+mod fitting;
 mod idle;
 mod pass;
 mod passes;
@@ -18,6 +19,7 @@ pub mod table;
 
 pub use check::{Check, Checked, should_work};
 pub use empty::{empty_module, empty_script};
+pub use fitting::{module_fits, script_fits};
 pub use idle::Noop;
 pub use pass::JsPass;
 pub use passes::noop;

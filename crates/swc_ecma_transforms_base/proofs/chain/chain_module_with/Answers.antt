@@ -24,7 +24,7 @@ returns-in_err-finish_module_with-clause-no_target g c =
     let m = marked c.args.unresolved c.args.top c.resolver-resolver.result c.visit_mut_module.new.self c.args.globals.now c.visit_mut_module.new.globals (module_node c.replace-module.result) (module_node c.args.program.now)
     (module_node c.visit_mut_module.new.program) c.resolver-resolver.ensures (ap module_node c.replace-module.ensures.value) c.in_ok-visit_mut_module.ensures.done in
     no_target_later c.args.unresolved c.args.top c.args.config c.args.globals.now (module_node c.args.program.now) c.visit_mut_module.new.globals (module_node c.visit_mut_module.new.program) m
-    c.from_residual-in_err-finish_module_with.result c.resolved_sources_are_ready.ensures (search rules)
+    c.from_residual-in_err-finish_module_with.result c.chaining_keeps_sources.ensures (search rules) c.module_fits.ensures
 
 pub returns-clause-promises : goal.returns-clause-promises
 returns-clause-promises g c =
@@ -32,7 +32,7 @@ returns-clause-promises g c =
     (module_node c.visit_mut_module.new.program) c.resolver-resolver.ensures (ap module_node c.replace-module.ensures.value) c.in_ok-visit_mut_module.ensures.done in
     rw c.finish_module_with.ensures.marks
     (source_kept c.args.unresolved c.args.top c.args.config c.args.globals.now (module_node c.args.program.now) c.visit_mut_module.new.globals (module_node c.visit_mut_module.new.program) m
-    c.resolved_sources_are_ready.ensures (module_node c.finish_module_with.new.program) c.in_ok-finish_module_with.ensures.promises)
+    c.chaining_keeps_sources.ensures (module_node c.finish_module_with.new.program) c.in_ok-finish_module_with.ensures.done c.module_fits.ensures)
 
 pub returns-clause-moved : goal.returns-clause-moved
 returns-clause-moved g c =

@@ -22,12 +22,12 @@ pub returns-in_err-fix_module-clause-no_target : goal.returns-in_err-fix_module-
 returns-in_err-fix_module-clause-no_target g c =
     let m = made_hygienic c.args.globals.now c.visit_mut_module.new.globals c.args.config c.hygiene_with_config-hygiene.result c.visit_mut_module.new.self (module_node c.replace-module.result) (module_node c.args.program.now)
     (module_node c.visit_mut_module.new.program) c.hygiene_with_config-hygiene.ensures (ap module_node c.replace-module.ensures.value) c.in_ok-visit_mut_module.ensures.done in
-    λ f. meets_none c.args.globals.now c.args.config (module_node c.args.program.now) f c.from_residual-in_err-fix_module.result
+    λ f. meets_none c.args.globals.now c.args.config (module_node c.args.program.now) c.module_fits.ensures f c.from_residual-in_err-fix_module.result c.finishing_meets_no_target.ensures
     (refused_by_fixer c.args.globals.now c.args.config (module_node c.args.program.now) (module_node c.visit_mut_module.new.program) m c.from_residual-in_err-fix_module.result (search rules) (search rules))
 
 pub returns-clause-promises : goal.returns-clause-promises
 returns-clause-promises g c =
     let m = made_hygienic c.args.globals.now c.visit_mut_module.new.globals c.args.config c.hygiene_with_config-hygiene.result c.visit_mut_module.new.self (module_node c.replace-module.result) (module_node c.args.program.now)
     (module_node c.visit_mut_module.new.program) c.hygiene_with_config-hygiene.ensures (ap module_node c.replace-module.ensures.value) c.in_ok-visit_mut_module.ensures.done in
-    λ f. promised c.args.globals.now c.args.config (module_node c.args.program.now) f c.finishing_keeps_ids.ensures c.finishing_keeps_meanings.ensures c.answer_has_no_early_error_of_names.ensures (module_node c.fix_module.new.program)
+    λ f. promised c.args.globals.now c.args.config (module_node c.args.program.now) c.module_fits.ensures f c.finishing_keeps_promises.ensures (module_node c.fix_module.new.program)
     (record { between = module_node c.visit_mut_module.new.program; hygienic = m; assignable = c.in_ok-fix_module.ensures.assignable; paired = c.in_ok-fix_module.ensures.answer })

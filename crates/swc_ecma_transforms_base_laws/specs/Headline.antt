@@ -1,15 +1,26 @@
 -- What is promised of a module whose names and parentheses are set for a reader.
-use Rattle.std.specs.Prelude.{◌≡◌, ◌⊎◌, ℕ}
+use Rattle.std.specs.Prelude.{◌≡◌, ◌⊎◌, ℕ, Contains, true}
 use Rattle.swc_tree_marks.specs.declared.error.PassError.{PassError}
 use Rattle.swc_tree_marks.specs.declared.error.PassError.TheVariants as error
-use Rattle.swc_tree_marks.specs.Globals.{Table}
+use Rattle.swc_tree_marks.specs.Globals.{Table, numbers}
+use Rattle.swc_tree_node.specs.declared.kind.Class.TheVariants as class
 use Rattle.swc_tree_node.specs.declared.node.Node.{Node}
+use Rattle.swc_tree_node.specs.declared.slot.Content.TheVariants as content
+use Rattle.swc_tree_node.specs.declared.slot.Slot.TheVariants as slot
+use Rattle.swc_tree_node.specs.Fits.{Fits}
 use Rattle.swc_tree_scoping.specs.Resolved.{Resolved}
 use Rattle.swc_tree_scoping.specs.WellScoped.{NoEarlyErrorOfNames, WellScoped}
 use Rattle.swc_tree_renaming.specs.Apart.{Knows, MeanTheirIds, SameIds}
+use Rattle.swc_tree_grammar.specs.Due.{Places}
+use Rattle.swc_tree_grammar.specs.Fixed.{fixed}
 use Rattle.swc_tree_grammar.specs.Grammar.{FitsGrammar}
 use Rattle.swc_tree_grammar.specs.Normal.{normal_form}
 use Rattle.swc_tree_grammar.specs.Same.{SameButForBoundNames}
+use Rattle.swc_tree_grammar.specs.Targets.{all_bare}
+use Rattle.swc_base_rename_substitution.specs.declared.config.Config.{Config}
+use Rattle.swc_base_rename_program.specs.Renamed.{IsHygienic}
+use Rattle.swc_base_rename_hygiene_laws.specs.Laws.{IsFinishable}
+use Rattle.swc_ecma_transforms_base_laws.specs.Sources.{IsSource}
 
 -- however the answer is resolved, where the mark of free names is known, it gives two kept names one id exactly if the module did
 abbrev pub KeepsIds : Node → Node → Type 0
@@ -42,3 +53,14 @@ pub record KeepsItsSource (unresolved top : ℕ) (old new : Table) (before after
 -- there is no other refusal: neither marks nor targets are to blame
 abbrev pub IsOfMemoryOrCounters : PassError → Type 0
 IsOfMemoryOrCounters e = (e ≡ error.NoMemory) ⊎ (e ≡ error.CounterSpent)
+
+-- hygiene and then the fixer keep these promises, wherever the fixer puts its pairs
+abbrev pub FinishingKeepsPromises : Type 0
+FinishingKeepsPromises = (table : Table) (config : Config) (place : Places) (before middle : Node) → Fits before (slot.One (content.Node class.Module)) → IsFinishable config before
+    → IsHygienic table config before middle → KeepsItsPromises before (fixed place middle)
+
+-- and of a source that is resolved first, where the table has the mark of free names; then the fixer has no target to refuse
+abbrev pub ChainingKeepsSources : Type 0
+ChainingKeepsSources = (config : Config) (place : Places) (unresolved top : ℕ) (old new : Table) (source resolved middle : Node) → Fits source (slot.One (content.Node class.Module)) → IsSource config source
+    → Contains (numbers old) unresolved → Resolved unresolved top old new source resolved → IsHygienic new config resolved middle
+    → KeepsItsSource unresolved top old new source (fixed place middle) × (all_bare middle ≡ true)
