@@ -1,5 +1,5 @@
 -- What the engine answers on an input.
-use Rattle.std.specs.Prelude.{◌≡◌, Bool, true, false, ℕ, ◌+◌, ◌-◌, ◌<◌, ◌⊎◌, List, Ok, Err, string_bytes}
+use Rattle.std.specs.Prelude.{◌≡◌, ◌≢◌, Bool, true, false, ℕ, ◌+◌, ◌-◌, ◌<◌, ◌⊎◌, List, Ok, Err, string_bytes}
 use Rattle.swc_tree_marks.specs.Globals.{Table, IsTable, greatest}
 use Rattle.swc_tree_marks.specs.declared.error.PassError.{PassError}
 use Rattle.swc_tree_marks.specs.declared.error.PassError.TheVariants as refusal
@@ -15,6 +15,9 @@ use Rattle.swc_tree_grammar.specs.Targets.{all_bare}
 use Rattle.swc_base_fixer_program.specs.Answers.{answer_to}
 use Rattle.swc_base_rename_substitution.specs.declared.config.Config.{Config}
 use Rattle.swc_base_rename_program.specs.Renamed.{IsHygienic, IsRenameRefusal, hygiene_renaming}
+use Rattle.swc_base_fixer.specs.Promises.{Promises}
+use Rattle.swc_ecma_transforms_base_laws.specs.Headline.{KeepsItsSource}
+use Rattle.swc_ecma_transforms_base_laws.specs.Sources.{IsSource}
 use Rattle.jsbase_form.specs.Reads.{Path, path_text}
 use Rattle.jsbase_reader.specs.declared.envelope.Envelope.{Envelope}
 use Rattle.jsbase_reader.specs.declared.error.ReadError.{ReadError}
@@ -91,6 +94,14 @@ Does command.Unparen envelope output = IsUnparened envelope output
 Does command.Fix envelope output = IsFixed envelope output
 Does command.Chain envelope output = IsChained envelope output
 
+-- what is promised of it beside: of a module that is chained what `chain_module` promises, of a program whose pairs are set what the
+-- fixer promises
+abbrev pub Keeps : (c : Command) (k : Kind) (envelope : Envelope) (output : List ℕ) → Does c envelope output → Type 0
+Keeps command.Chain kind.Module envelope output done =
+    IsSource (config_of envelope) envelope.tree → KeepsItsSource envelope.unresolved envelope.top envelope.globals done.table envelope.tree (answer_to done.renamed)
+Keeps command.Fix k envelope output done = Promises envelope.tree (answer_to envelope.tree)
+Keeps _ _ envelope output done = Unit {0}
+
 -- resolving the tree takes more marks than there are
 abbrev pub TakesTooManyMarks : Envelope → Type 0
 TakesTooManyMarks envelope = 4294967295 < greatest envelope.globals + (scope_count program_place envelope.tree - 1)
@@ -119,6 +130,11 @@ IsRefusalOf command.Chain envelope refusal.CounterSpent = IsSpentOnceResolved en
 IsRefusalOf command.Chain envelope refusal.NotAssignable = IsUnassignableOnceRenamed envelope
 IsRefusalOf command.Chain envelope refusal.NoMemory = ⊥
 
+-- of a module that is chained no target is to blame
+abbrev pub SparesTargets : Command → Kind → Envelope → PassError → Type 0
+SparesTargets command.Chain kind.Module envelope error = IsSource (config_of envelope) envelope.tree → error ≢ refusal.NotAssignable
+SparesTargets _ _ envelope error = Unit {0}
+
 -- memory was refused, or the command's pass for its own cause
 abbrev pub IsRefusedFor : Command → Envelope → PassError → Type 0
 IsRefusedFor c envelope error = (error ≡ refusal.NoMemory) ⊎ IsRefusalOf c envelope error
@@ -130,12 +146,12 @@ IsReadFault (read.Fault path) Usage = ⊥
 IsReadFault (read.Fault path) (Refused error) = error ≡ refusal.NoMemory
 IsReadFault (read.Fault path) (NotATree text) = string_bytes text ≡ path_text path
 
--- the output is what the command makes of the envelope that the input is
+-- the output is what the command makes of the envelope that the input is, with what is promised of it
 abbrev pub Answers : Command → Kind → List ℕ → List ℕ → Type 0
-Answers c k input output = (envelope : Envelope) × (envelope_in_text (class_of k) input ≡ Ok envelope) × Does c envelope output
+Answers c k input output = (envelope : Envelope) × (envelope_in_text (class_of k) input ≡ Ok envelope) × (done : Does c envelope output) × Keeps c k envelope output done
 
 -- the fault is the input's first, by its path; else memory was refused, or the command's pass for its own cause
 abbrev pub IsFaultOf : Command → Kind → List ℕ → Fault → Type 0
 IsFaultOf c k input Usage = ⊥
 IsFaultOf c k input (NotATree text) = (path : Path) × (envelope_in_text (class_of k) input ≡ Err path) × (string_bytes text ≡ path_text path)
-IsFaultOf c k input (Refused error) = (error ≡ refusal.NoMemory) ⊎ ((envelope : Envelope) × (envelope_in_text (class_of k) input ≡ Ok envelope) × IsRefusalOf c envelope error)
+IsFaultOf c k input (Refused error) = (error ≡ refusal.NoMemory) ⊎ ((envelope : Envelope) × (envelope_in_text (class_of k) input ≡ Ok envelope) × IsRefusalOf c envelope error × SparesTargets c k envelope error)

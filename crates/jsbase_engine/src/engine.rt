@@ -10,18 +10,21 @@ use crate::fault::Fault;
 use jsbase_reader::{Envelope, ReadError, read_bytes};
 use jsbase_writer::write_envelope;
 use std::alloc::Global;
+use swc_base_fixer::answers_keep_promises;
 use swc_base_fixer_program::fix_parens;
 use swc_base_fixer_unparen::remove_parens;
 use swc_base_rename_program::hygiene_program;
 use swc_base_rename_substitution::Config;
 use swc_base_resolver_program::resolve_program;
+use swc_ecma_transforms_base_laws::chaining_keeps_sources;
 use swc_tree_comments::NoComments;
 use swc_tree_marks::{Mark, PassError};
 use swc_tree_node::Class;
 
 /// What the program writes on an input.
 ///
-/// Time and memory grow in step with the input.
+/// Of a module that is chained it promises what `chain_module` does, and of a program whose parentheses are set anew what the fixer
+/// does. Time and memory grow in step with the input.
 ///
 /// # Errors
 ///
@@ -30,6 +33,8 @@ use swc_tree_node::Class;
 pub fn run(alloc: Global, command: Command, kind: Kind, input: &[u8]) -> Result<Vec<u8>, Fault>
     ensures { MatchResult result (λ output. Answers command kind input.now output.items) (IsFaultOf command kind input.now) }
 {
+    chaining_keeps_sources();
+    answers_keep_promises();
     match read_bytes(alloc, class_of(kind), input) {
         Err(error) => Err(read_fault(alloc, error)),
         Ok(envelope) => match answer(alloc, command, envelope) {

@@ -1,10 +1,9 @@
 -- The promises hold of every answer to a program.
-use Rattle.std.proofs.Common.{◌≡◌, ℕ, IsTrue, Option, Some, None, List, refl, sym, ap, subst, ◌∙◌, rules}
+use Rattle.std.proofs.Common.{◌≡◌, ℕ, Option, Some, None, List, refl, sym, ap, subst, ◌∙◌, rules}
 use Rattle.swc_tree_marks.specs.declared.span.Span.{Span as Range}
 use Rattle.swc_tree_node.specs.declared.kind.Kind.TheVariants as kind
 use Rattle.swc_tree_node.specs.declared.kind.Class.TheVariants as class
 use Rattle.swc_tree_node.specs.declared.slot.Content.TheVariants as content
-use Rattle.swc_tree_node.specs.declared.slot.Slot.{Slot}
 use Rattle.swc_tree_node.specs.declared.slot.Slot.TheVariants as slot
 use Rattle.swc_tree_node.specs.declared.node.Node.{Node, Span, List as Many}
 use Rattle.swc_tree_node.specs.Fits.{Fits}
@@ -15,12 +14,11 @@ use Rattle.swc_tree_node.proofs.Fit.{tree_closes, fitting}
 use Rattle.swc_tree_handle.specs.Handles.{optional_text}
 use Rattle.swc_tree_grammar.specs.Pairs.{pairs}
 use Rattle.swc_tree_grammar.specs.Fixed.{fixed, recorded}
-use Rattle.swc_tree_grammar.specs.Places.{is_open}
 use Rattle.swc_base_fixer_laws.proofs.Fixed.{fixed_fits}
 use Rattle.swc_base_fixer_laws.proofs.AgainLaws.{all_normal_form_stays, all_no_pair_in_pair, all_second_run_changes_spans}
 use Rattle.swc_base_fixer_needs.proofs.StartTrees.{fixed_is_needed}
 use Rattle.swc_base_fixer_program.specs.Answers.{answer_to}
-use Rattle.swc_base_fixer.specs.Promises.{Promises}
+use Rattle.swc_base_fixer.specs.Promises.{AnswersKeepPromises, Promises}
 use Rattle.swc_base_fixer.proofs.Programs.{program}
 use Rattle.swc_base_fixer.proofs.Fixed.{module_answer, script_answer}
 
@@ -37,9 +35,9 @@ module_fits s body shebang f = tree_closes kind.Module _ class.Module refl refl 
 script_fits : (s : Range) (body : Node) (shebang : Option (List ℕ)) → Fits body (slot.List (content.Node class.Stmt)) → Fits (program kind.Script s body shebang) (slot.One (content.Node class.Script))
 script_fits s body shebang f = tree_closes kind.Script _ class.Script refl refl (span_fits s, (f, (text_fits shebang, tt)))
 
-promised : (t : Node) (s : Slot) → IsTrue (is_open s) → Fits t s → Promises t (answer_to t)
+pub answers_keep_promises : AnswersKeepPromises
 unfolding answer_to
-promised t s o f = record {
+answers_keep_promises t s o f = record {
   writable = λ w. (fixed_fits (recorded (pairs t)) t s o f w).0;
   derived = λ w. (fixed_fits (recorded (pairs t)) t s o f w).1;
   needed = λ w. fixed_is_needed (recorded (pairs t)) t s o f w;
@@ -56,7 +54,7 @@ module_promised m old node body after h e f g a = (
     ap (λ t. program kind.Module m.span t m.shebang) (g ∙ a ∙ ap (λ t. answer_to t) e) ∙ sym (module_answer m.span (Many m.body) m.shebang) in
     subst (λ old. Promises (module_node old) (program kind.Module m.span (Many after) m.shebang)) h
     (subst (λ u. Promises (program kind.Module m.span (Many m.body) m.shebang) u) (sym answer)
-    (promised (program kind.Module m.span (Many m.body) m.shebang) (slot.One (content.Node class.Module)) refl (module_fits m.span (Many m.body) m.shebang fits))))
+    (answers_keep_promises (program kind.Module m.span (Many m.body) m.shebang) (slot.One (content.Node class.Module)) refl (module_fits m.span (Many m.body) m.shebang fits))))
 
 pub script_promised : (m old : Script) (node body : Node) (after : List Node) → m ≡ old → node ≡ Many m.body → Fits node (slot.List (content.Node class.Stmt)) → Many after ≡ body → body ≡ answer_to node
     → Promises (script_node old) (script_node (record { span = m.span; body = after; shebang = m.shebang }))
@@ -66,4 +64,4 @@ script_promised m old node body after h e f g a = (
     ap (λ t. program kind.Script m.span t m.shebang) (g ∙ a ∙ ap (λ t. answer_to t) e) ∙ sym (script_answer m.span (Many m.body) m.shebang) in
     subst (λ old. Promises (script_node old) (program kind.Script m.span (Many after) m.shebang)) h
     (subst (λ u. Promises (program kind.Script m.span (Many m.body) m.shebang) u) (sym answer)
-    (promised (program kind.Script m.span (Many m.body) m.shebang) (slot.One (content.Node class.Script)) refl (script_fits m.span (Many m.body) m.shebang fits))))
+    (answers_keep_promises (program kind.Script m.span (Many m.body) m.shebang) (slot.One (content.Node class.Script)) refl (script_fits m.span (Many m.body) m.shebang fits))))

@@ -1,9 +1,12 @@
 -- What the fixer promises of its answer.
 use Rattle.std.specs.Prelude.{◌≡◌, IsTrue}
 use Rattle.swc_tree_node.specs.declared.node.Node.{Node}
+use Rattle.swc_tree_node.specs.declared.slot.Slot.{Slot}
+use Rattle.swc_tree_node.specs.Fits.{Fits}
 use Rattle.swc_tree_grammar.specs.Grammar.{FitsGrammar}
 use Rattle.swc_tree_grammar.specs.Needed.{NoIdlePair}
 use Rattle.swc_tree_grammar.specs.Normal as normal
+use Rattle.swc_tree_grammar.specs.Places.{is_open}
 use Rattle.swc_tree_grammar.specs.Spanless.{SameButForSpans}
 use Rattle.swc_tree_grammar.specs.Writable.{Writable}
 use Rattle.swc_base_fixer_laws.specs.Once.{paired_once}
@@ -18,3 +21,7 @@ pub record Promises (before after : Node) : Type 0 where
   pub normal_form : normal.normal_form after ≡ normal.normal_form before
   pub once : IsTrue (paired_once after)
   pub again : SameButForSpans (answer_to after) after
+
+-- so it is of the answer to what fits a place that takes pairs, as each module and each script does
+abbrev pub AnswersKeepPromises : Type 0
+AnswersKeepPromises = (t : Node) (s : Slot) → IsTrue (is_open s) → Fits t s → Promises t (answer_to t)

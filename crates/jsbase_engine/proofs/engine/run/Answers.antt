@@ -3,8 +3,9 @@ use Rattle.swc_tree_node.specs.declared.slot.Content.TheVariants as content
 use Rattle.swc_tree_node.specs.declared.slot.Slot.TheVariants as slot
 use Rattle.swc_tree_node.specs.Fits.{Fits}
 use Rattle.jsbase_reader.specs.Envelopes.{envelope_in_text}
-use Rattle.jsbase_engine.specs.Run.{Does}
+use Rattle.jsbase_engine.specs.Run.{Does, class_of}
 use Rattle.jsbase_programs.proofs.Marks.{envelope_marks}
+use Rattle.jsbase_engine.proofs.Kept.{kept, spared}
 use Rattle.jsbase_engine.proofs.Programs.{is_program}
 use Rattle.jsbase_engine.proofs.engine.run.Goals as goal
 
@@ -17,18 +18,26 @@ answer-requires-clause-marks c = envelope_marks c.class_of.result c.args.input.n
 
 pub returns-in-Ok-answer : goal.returns-in-Ok-answer
 returns-in-Ok-answer c =
-    let e = c.in-Ok.envelope in (
+    let e = c.in-Ok.envelope in
+    let fits : Fits e.tree (slot.One (content.Node (class_of c.args.kind))) = subst (λ class. Fits e.tree (slot.One (content.Node class))) c.class_of.ensures c.in-Ok.ensures.fits in
+    let marks = envelope_marks c.class_of.result c.args.input.now e c.in-Ok.ensures.envelope in
+    let done = subst (Does c.args.command e) (ap (λ v. v.items) (sym c.into_bytes.ensures.value)) c.in-Ok-answer.ensures in (
       e,
       ap (λ class. envelope_in_text class c.args.input.now) (sym c.class_of.ensures) ∙ c.in-Ok.ensures.envelope,
-      subst (Does c.args.command e) (ap (λ v. v.items) (sym c.into_bytes.ensures.value)) c.in-Ok-answer.ensures,
+      done,
+      kept c.chaining_keeps_sources.ensures c.answers_keep_promises.ensures e c.args.command c.args.kind _ fits marks done,
     )
 
 pub returns-in-Err-answer : goal.returns-in-Err-answer
 returns-in-Err-answer c =
+    let e = c.in-Ok.envelope in
+    let fits : Fits e.tree (slot.One (content.Node (class_of c.args.kind))) = subst (λ class. Fits e.tree (slot.One (content.Node class))) c.class_of.ensures c.in-Ok.ensures.fits in
+    let marks = envelope_marks c.class_of.result c.args.input.now e c.in-Ok.ensures.envelope in
     ⊎_elim inl
     (λ cause. inr (
-      c.in-Ok.envelope,
+      e,
       ap (λ class. envelope_in_text class c.args.input.now) (sym c.class_of.ensures) ∙ c.in-Ok.ensures.envelope,
       cause,
+      spared c.chaining_keeps_sources.ensures c.answers_keep_promises.ensures e c.args.command c.args.kind _ fits marks cause,
     ))
     c.in-Err-answer.ensures
