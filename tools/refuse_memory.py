@@ -1,47 +1,63 @@
 #!/usr/bin/env python3
 """refuse_memory.py WORK COMMAND [FILE [NUMBER]]: refuses each request for memory of a work in turn.
+refuse_memory.py --gate: the same for each work, on the rows of tools/memory_rows, in a file for each. It says nothing where all is well.
 
-WORK is `jsbase`, which is run from bytes to bytes, or `pass`, which runs a pass: `gate_replay refuse` does both. Or it is a
-work of `gate_tables refuse`: `make` helpers, `name` them, `insert` a body, `inject` helpers, or `finish`, which is also for
-the chain. FILE, else the `stdin` of that program's crate, has rows of three lines: arguments, an input, and what comes of it
-with ample memory. The cases are the rows whose arguments begin with COMMAND, for `pass` those that begin with `pass COMMAND`
-too, and there none without a tree. A pass that renames gives every name a new text.
+WORK is `jsbase`, which is run from bytes to bytes, or `pass`, which runs a pass, with comments and renamers too: `gate_replay
+refuse` does both. Or it is a work of `gate_tables refuse`: `make` helpers, `name` them, `insert` a body, `inject` helpers, or
+`finish`, which is also for the chain. FILE, else the `stdin` of that program's crate, has rows of three lines: arguments, an
+input, and what comes of it with ample memory. The cases are the rows whose arguments begin with COMMAND, for `pass` those that
+begin with `pass COMMAND` too, and there none without a tree. A pass `rename` gives every name a new text.
 
-The toolchain's `rt try` refuses the request of one number (NUMBER, else 4000) in each of many runs of one build. A first
-build has the program say of each case how many requests are granted before its work and after it, up to the refused
-one: the work makes as many requests as lie between. In a second it makes so many requests before its work that each of
-these is the refused one in turn. Each answer must be that memory was refused, or the one with ample memory.
+The proved programs of `rt ci` or `rt run` are run, with a `malloc` before the system's that refuses the request of one number
+(NUMBER, else 4000): tools/refuse_memory.c, which the toolchain's clang compiles. First the program says of each case how many requests
+are granted before its work and after it, up to the refused one: the work makes as many requests as lie between. Then it makes so
+many requests before its work that each of these is the refused one in turn. Each answer must be that memory was refused, or the one
+with ample memory.
 
 A line for each arguments says how many requests were refused and what was answered, after a line for each case with
-another answer, which ends with status 1."""
+another answer, which ends with status 1; and so does a work without cases, and a case in which nothing is refused."""
 import os
-import re
+import shutil
 import subprocess
 import sys
 import tempfile
+from typing import NamedTuple
 
 ROOT = os.path.dirname(os.path.dirname(os.path.abspath(__file__)))
-# The works of `gate_tables`, and how the arguments of their rows begin.
+ROWS = os.path.join(ROOT, 'tools', 'memory_rows')
+# The works of `gate_replay`, and how the arguments of their rows begin; then those of `gate_tables`.
+COMMANDS = ('resolve ', 'hygiene ', 'unparen ', 'fix ', 'chain ')
+PASSES = ('resolve ', 'hygiene ', 'unparen ', 'fix ', 'unparen_comments ', 'fix_comments ', 'rename ', 'remap ', 'letters ', 'numbered ', 'suffixed ')
+REPLAYED = {'jsbase': COMMANDS, 'pass': PASSES}
 TABLES = {
     'make': ('helpers written out', 'helpers of a package'),
     'name': ('helper names',),
     'insert': ('helper written out in ',),
     'inject': ('helper of a package in ', 'helper written out in '),
-    'finish': ('finish ', 'chain '),
+    'finish': ('finish ', 'chain ', 'commented finish ', 'commented chain '),
 }
-OTHERS = ('resolve ', 'hygiene ', 'unparen ', 'fix ')
+
+
+class Case(NamedTuple):
+    """A row that a work is run on, and where it stands."""
+    work: str
+    words: str
+    given: str
+    ample: str
+    file: str
+    line: int
 
 
 def crate_of(work):
     """The crate of the program that does a work."""
-    return os.path.join(ROOT, 'crates', 'gate_tables' if work in TABLES else 'gate_replay')
+    return 'gate_tables' if work in TABLES else 'gate_replay'
 
 
 def command_of(work, words):
     """The arguments of a row as a command begins them, if it may be a case of the work."""
     if work == 'pass' and words.startswith('pass '):
         return words.removeprefix('pass ')
-    return words if words.startswith(TABLES.get(work, OTHERS)) else None
+    return words if words.startswith({**REPLAYED, **TABLES}[work]) else None
 
 
 def wanted_of(work, ample):
@@ -51,79 +67,98 @@ def wanted_of(work, ample):
 
 
 def cases_of(work, command, file):
-    """The cases, by the line of the file at which each begins: its arguments, its input, and the ample answer."""
+    """The cases of a work in a file."""
     with open(file, encoding='utf-8') as text:
         lines = text.read().split('\n')
-    cases = {}
+    cases = []
     for at in range(0, len(lines) - 2, 3):
         words, given, ample = command_of(work, lines[at]), *lines[at + 1:at + 3]
         if words is None or not words.startswith(command):
             continue
         if not (work == 'pass' and ample.startswith(('not a tree: ', 'usage: '))):
-            cases[at + 1] = (words, given, wanted_of(work, ample))
+            cases.append(Case(work, words, given, wanted_of(work, ample), file, at + 1))
     return cases
 
 
-def write_run(work, path, word, case):
-    """Writes what the program is run on, and with, where something is asked of it about a case."""
-    words, given, ample = case
-    with open(path, 'w', encoding='utf-8') as run:
-        run.write('%s\n%s\n%s\n' % (word, given, ample))
-    with open(path + '.args', 'w', encoding='utf-8') as run:
-        run.write('%s\n' % (words if work in TABLES else words.replace(' ', '\n')))
+def compiled(folder):
+    """The library that refuses a request, in a folder."""
+    library = os.path.join(folder, 'refuse.so')
+    bin = os.path.join(os.path.dirname(os.path.dirname(os.path.realpath(shutil.which('rt')))), 'toolchain', 'bin')
+    flags = ['-O2', '-shared', '-fPIC', '-nostdlib', '--ld-path=' + os.path.join(bin, 'ld.lld')]
+    subprocess.run([os.path.join(bin, 'clang'), *flags, '-o', library, os.path.join(ROOT, 'tools', 'refuse_memory.c')], check=True)
+    return library
 
 
-def answers(work, number, cases, asked):
-    """What the program says on each case to each thing that it is asked of it, where the request of a number is refused."""
-    with tempfile.TemporaryDirectory() as folder:
-        for case in cases:
-            for word in asked[case]:
-                write_run(work, os.path.join(folder, '%d-%s' % (case, word)), word, cases[case])
-        # The interpreter, the other of the two runners of `rt try`, does not know all that the programs call.
-        line = ['rt', 'try', '--steps', '1', '--fail-alloc', str(number), '--cases', folder, '--', 'refuse', work]
-        ran = subprocess.run(line, cwd=crate_of(work), capture_output=True, text=True)
-    said = dict(re.findall(r'^== (\S+)[^\n]*\n(\w+)', ran.stdout, re.M))
-    ended = re.findall(r'^case=(\S+) run=ended', ran.stderr, re.M)
-    if len(ended) != sum(len(asked[case]) for case in cases):
-        sys.exit('rt try did not run each case to its end:\n' + ran.stdout[-2000:] + ran.stderr[-2000:])
-    return {case: [said.get('%d-%s' % (case, word), 'nothing') for word in asked[case]] for case in cases}
+def answers(library, number, case, asked):
+    """What the program of a case says to each thing that it is asked of it, where the request of a number is refused."""
+    crate = crate_of(case.work)
+    words = [case.words] if case.work in TABLES else case.words.split(' ')
+    line = [os.path.join(ROOT, 'crates', crate, 'out', crate), 'refuse', case.work, *words]
+    said = []
+    for word in asked:
+        given = '%s\n%s\n%s\n' % (word, case.given, case.ample)
+        ran = subprocess.run(line, input=given, env={'LD_PRELOAD': library, 'REFUSED': str(number)}, capture_output=True, text=True)
+        said.append((ran.stdout.split() or ['nothing'])[0])
+    return said
 
 
 def counts(case, granted):
     """How many requests come before the work of a case where each of its requests is the refused one in turn."""
     if 'nothing' in granted:
-        sys.exit('line %d: the program said nothing' % case)
+        sys.exit('%s, line %d: the program said nothing' % (case.file, case.line))
     before, after = map(int, granted)
     if after == 0 or after > before:
-        sys.exit('line %d: too many requests: give a greater number' % case)
+        sys.exit('%s, line %d: too many requests: give a greater number' % (case.file, case.line))
     return range(after + 1, before + 1)
 
 
-def report(words, cases, said, file):
-    """Says what was answered on the cases of some arguments, and whether anything was answered that must not be."""
-    failed = False
-    for case in cases:
-        others = [word for word in said[case] if word not in ('refused', 'ample')]
+def report(work, words, found):
+    """Says what was answered on the cases of some arguments."""
+    for case, said in found:
+        others = [word for word in said if word not in ('refused', 'ample')]
         if others:
-            failed = True
-            print('%s: %d other answers on the case at line %d of %s' % (words, len(others), case, file))
-    every = [word for case in cases for word in said[case]]
+            print('%s: %d other answers on the case at line %d of %s' % (words, len(others), case.line, case.file))
+    every = [word for _, said in found for word in said]
     refused, ample = every.count('refused'), every.count('ample')
-    print('%s: %d cases, %d requests refused: %d answers refused, %d ample, %d other'
-          % (words, len(cases), len(every), refused, ample, len(every) - refused - ample), flush=True)
+    print('%s %s: %d cases, %d requests refused: %d answers refused, %d ample, %d other'
+          % (work, words, len(found), len(every), refused, ample, len(every) - refused - ample), flush=True)
+
+
+def refuse(number, cases, is_quiet):
+    """Refuses each request of each case. Whether anything was answered that must not be, or nothing was refused."""
+    with tempfile.TemporaryDirectory() as folder:
+        library = compiled(folder)
+        said = []
+        for case in cases:
+            granted = answers(library, number, case, ('before', 'after'))
+            said.append(answers(library, number, case, counts(case, granted)))
+    failed = any(not words or set(words) - {'refused', 'ample'} for words in said)
+    if failed or not is_quiet:
+        for key in dict.fromkeys((case.work, case.words) for case in cases):
+            report(*key, [(case, words) for case, words in zip(cases, said) if (case.work, case.words) == key])
     return failed
 
 
+def kept():
+    """The cases of each work, on the rows that are kept for it."""
+    cases = []
+    for work in (*REPLAYED, *TABLES):
+        of_work = cases_of(work, '', os.path.join(ROWS, work))
+        if not of_work:
+            sys.exit('%s: no case' % work)
+        cases.extend(of_work)
+    return cases
+
+
 def main():
+    if sys.argv[1:] == ['--gate']:
+        sys.exit(refuse(4000, kept(), True))
     work, command = sys.argv[1:3]
-    file = sys.argv[3] if len(sys.argv) > 3 else os.path.join(crate_of(work), 'stdin')
-    number = int(sys.argv[4]) if len(sys.argv) > 4 else 4000
+    file = sys.argv[3] if len(sys.argv) > 3 else os.path.join(ROOT, 'crates', crate_of(work), 'stdin')
     cases = cases_of(work, command, file)
-    granted = answers(work, number, cases, {case: ('before', 'after') for case in cases})
-    said = answers(work, number, cases, {case: counts(case, granted[case]) for case in cases})
-    every = list(dict.fromkeys(words for words, _, _ in cases.values()))
-    failed = [report(words, [case for case in cases if cases[case][0] == words], said, file) for words in every]
-    sys.exit(1 if any(failed) else 0)
+    if not cases:
+        sys.exit('no row of %s begins with %s' % (file, command))
+    sys.exit(refuse(int(sys.argv[4]) if len(sys.argv) > 4 else 4000, cases, False))
 
 
 if __name__ == '__main__':

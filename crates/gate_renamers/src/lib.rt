@@ -4,6 +4,7 @@
 mod analysed;
 mod by_letter;
 mod by_number;
+mod by_text;
 mod large;
 mod name_rows;
 mod rows;
@@ -11,4 +12,5 @@ mod rows;
 pub use analysed::read_off;
 pub use by_letter::Letters;
 pub use by_number::{Numbered, Refusing};
+pub use by_text::Suffixed;
 pub use rows::holds;

@@ -26,6 +26,7 @@ impl Answers for OfRows {
             | "letters"
             | "refusing"
             | "numbered"
+            | "suffixed"
             | "unparen_comments"
             | "fix_comments" => Ok(Some(programs::answer(alloc, words, input)?)),
             _ => engine::written(alloc, words, input),

@@ -1,13 +1,12 @@
 //! Rows of passes over `Module` and `Script`: the program before, and what is left after.
 //!
 //! The input is an envelope. `rename` and `remap` find the ids that are given anew under its key `names`, and
-//! `unparen_comments` and `fix_comments` how many moves are granted under `room`; `letters`, `refusing` and `numbered` are renamers. What is wanted is the envelope of what is left, behind the
+//! `unparen_comments` and `fix_comments` how many moves are granted under `room`; `letters`, `refusing`, `numbered` and `suffixed` are renamers. What is wanted is the envelope of what is left, behind the
 //! moves that were asked for and the name of a refusal. Behind `twice` the same pass is run on the program two times, and
 //! what is left the second time is wanted. `fold` hands the program by value to the pass that does nothing, and `items`
 //! asks a check whether there are items.
 mod check;
 mod names;
-mod notes;
 mod passes;
 mod renamers;
 

@@ -1,12 +1,12 @@
 //! Works that may be refused memory: a run of `jsbase`, or of a pass over a program.
 //!
-//! The arguments are `refuse`, then `jsbase` or `pass`, then a command and a goal.
+//! The arguments are `refuse`, then `jsbase` or `pass`, then the words of a command or a pass and a goal.
 use crate::engine::run_words;
 use crate::programs::{Pass, class_of};
 use anyhow::{Result, bail};
 use gate_rows::{Asked, Given, Said, Work};
 use jsbase_engine::{Fault, ServeFault, report};
-use std::alloc::Global;
+use std::alloc::{AllocError, Global};
 use swc_tree_marks::PassError;
 use swc_tree_node::Class;
 
@@ -75,7 +75,11 @@ impl Passed {
         programs
             .push(Given::read(alloc, class, asked.input.as_str()).ok()?)
             .ok()?;
-        let pass = Pass::of_word(alloc, word, programs.first()?).ok()?;
+        let given = programs.first()?;
+        let pass = match Pass::of_word(alloc, word, given) {
+            Ok(pass) => pass,
+            Err(_) => Pass::of_row(alloc, word, asked.input.as_str(), given).ok()?,
+        };
         Some(Passed { pass, programs })
     }
 }
@@ -97,23 +101,39 @@ impl Work for Passed {
         wanted: &str,
     ) -> Option<bool> {
         match answer {
-            Ok(()) => Some(self.programs.pop()?.left(alloc, answer).ok()?.as_str() == wanted),
+            Ok(()) => {
+                let left = self.programs.pop()?.left(alloc, answer).ok()?;
+                Some(self.pass.before(alloc, left).ok()?.as_str() == wanted)
+            }
             Err(error) => Some(wanted.strip_prefix("refused: ")? == error.name()),
         }
     }
+}
+
+// Words in one line.
+fn joined(alloc: Global, words: &[String]) -> Result<String, AllocError> {
+    let mut line = String::new(alloc);
+    for (index, word) in words.iter().enumerate() {
+        if index > 0 {
+            line.push_str(" ")?;
+        }
+        line.push_str(word.as_str())?;
+    }
+    Ok(line)
 }
 
 fn reply(alloc: Global, arguments: &[String], asked: &Asked) -> Result<Said> {
     let [_, work, words @ ..] = arguments else {
         bail!("the work is jsbase or pass");
     };
-    let [word, class] = words else {
-        bail!("usage: gate_replay refuse jsbase|pass WORD module|script");
+    let [before @ .., class] = words else {
+        bail!("usage: gate_replay refuse jsbase|pass WORD.. module|script");
     };
     match work.as_str() {
         "jsbase" => asked.of(alloc, Written::of_asked(alloc, words, asked)),
         "pass" => {
             let class = class_of(class.as_str())?;
+            let word = joined(alloc, before)?;
             asked.of(alloc, Passed::of_asked(alloc, word.as_str(), class, asked))
         }
         _ => bail!("the work is jsbase or pass"),

@@ -1,5 +1,5 @@
 //! Calls that no program and no tree leads to, and whether they answer as they must.
-use jsbase_engine::{Command, Kind, run};
+use jsbase_engine::{Command, Fault, Kind, ServeFault, report, run};
 use std::alloc::Global;
 use std::fmt::Write;
 use swc_base_resolver::scope::{DeclKind, ScopeKind};
@@ -74,6 +74,60 @@ fn makes_marks(alloc: Global) -> Option<bool> {
     Some(globals.table() == [(1, 0), (2, 1), (3, 0)].as_slice())
 }
 
+// A program of a goal, in an envelope with so many lists in one another under another key.
+fn nested(alloc: Global, goal: &str, lists: u32) -> Option<String> {
+    let mut text = String::new(alloc);
+    text.push_str(r#"{"marks":[[1,0],[2,0]],"unresolved":1,"top":2,"other":"#)
+        .ok()?;
+    for _ in 0..lists {
+        text.push_str("[").ok()?;
+    }
+    for _ in 0..lists {
+        text.push_str("]").ok()?;
+    }
+    write!(
+        text,
+        r#","tree":{{"type":"{goal}","span":[0,0],"body":[]}}}}"#
+    )
+    .ok()?;
+    Some(text)
+}
+
+const COMMANDS: [Command; 5] = [
+    Command::Resolve,
+    Command::Hygiene,
+    Command::Unparen,
+    Command::Fix,
+    Command::Chain,
+];
+
+// Whether each command takes text of 127 levels, and finds that one of 128 is no tree.
+fn levels_are_counted(alloc: Global) -> Option<bool> {
+    let mut are_counted = true;
+    for command in COMMANDS {
+        for (kind, goal) in [(Kind::Module, "Module"), (Kind::Script, "Script")] {
+            let taken = run(alloc, command, kind, nested(alloc, goal, 126)?.as_bytes());
+            let refused = run(alloc, command, kind, nested(alloc, goal, 127)?.as_bytes());
+            are_counted = are_counted
+                && taken.is_ok()
+                && matches!(&refused, Err(Fault::NotATree(path)) if path.as_str() == "$");
+        }
+    }
+    Some(are_counted)
+}
+
+// The line and the status of each fault that no row leads to.
+fn fault_lines(alloc: Global) -> Option<String> {
+    let mut text = String::new(alloc);
+    for fault in [ServeFault::Read, ServeFault::Write(3), ServeFault::NoMemory] {
+        let mut line = Vec::new(alloc);
+        let status = report(&fault, &mut line);
+        let line = String::from_utf8(line).ok()?;
+        write!(text, "{status} {}, ", line.strip_suffix("\n")?).ok()?;
+    }
+    Some(text)
+}
+
 const ANCESTORS: [(u32, u32, bool); 13] = [
     (5, 5, true),
     (5, 2, true),
@@ -142,6 +196,7 @@ fn versions_rise() -> bool {
 fn holds(alloc: Global, word: &str) -> Option<bool> {
     match word {
         "ancestors are found" => finds_ancestors(alloc),
+        "levels of JSON are counted" => levels_are_counted(alloc),
         "lists change" => changes(alloc),
         "colliding names are resolved" => takes_colliding_names(
             alloc,
@@ -160,8 +215,10 @@ fn holds(alloc: Global, word: &str) -> Option<bool> {
 
 /// What is answered to a row of no input.
 pub fn answer(alloc: Global, word: &str) -> Option<String> {
-    if word == "errors" {
-        return errors(alloc);
+    match word {
+        "errors" => return errors(alloc),
+        "faults" => return fault_lines(alloc),
+        _ => {}
     }
     let holds = holds(alloc, word)?;
     format!(in alloc; "{holds}").ok()

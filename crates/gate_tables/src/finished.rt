@@ -1,10 +1,11 @@
-//! Rows of the calls that run passes one after another, and of hygiene by value. A row is an envelope, and what is left of it.
-use gate_rows::{Given, Program, Settings};
+//! Rows of the calls that run passes one after another, and of hygiene by value. A row is an envelope, and what is left of it; where
+//! comments are lent, behind the moves that they were asked for, and `room` in the envelope says how many they grant.
+use gate_rows::{Given, Notes, Program, Settings, room};
 use std::alloc::Global;
 use swc_ecma_transforms_base::hygiene::{Config, hygiene_with_config};
 use swc_ecma_transforms_base::resolver::marks_ok;
 use swc_ecma_transforms_base::{chain_module, chain_script, finish_module, finish_script};
-use swc_tree::{NoComments, PassError};
+use swc_tree::PassError;
 use swc_tree_node::Class;
 
 /// What is to be done to a program in place.
@@ -42,12 +43,16 @@ fn config_of(settings: Settings) -> Config {
     }
 }
 
-/// Finishes a program, or runs the chain on it where its marks are known.
-pub fn run(alloc: Global, task: Task, given: &mut Given) -> Option<Result<(), PassError>> {
+/// Finishes a program, or runs the chain on it where its marks are known, with comments that are lent, if there are any.
+pub fn run(
+    alloc: Global,
+    task: Task,
+    comments: Option<&mut Notes>,
+    given: &mut Given,
+) -> Option<Result<(), PassError>> {
     let config = config_of(given.settings);
     let (unresolved, top) = (given.settings.unresolved, given.settings.top);
     let globals = &mut given.globals;
-    let comments = None::<&mut NoComments>;
     if matches!(task, Task::Chain) && !marks_ok(globals, unresolved, top) {
         return None;
     }
@@ -74,13 +79,26 @@ fn folded(alloc: Global, class: &str, input: &str) -> Option<String> {
     given.folded(alloc, &mut hygiene).ok()
 }
 
+// What is left of the program of a row, behind the moves.
+fn commented(alloc: Global, words: &str, input: &str) -> Option<String> {
+    let (task, class) = task_of(words)?;
+    let mut given = Given::read(alloc, class, input).ok()?;
+    let mut notes = Notes::new(alloc, room(alloc, input)?);
+    let answer = run(alloc, task, Some(&mut notes), &mut given)?;
+    let left = given.left(alloc, answer).ok()?;
+    notes.before(alloc, left.as_str()).ok()
+}
+
 /// What is left of the program of a row, if its words name one of these tasks.
 pub fn answer(alloc: Global, words: &str, input: &str) -> Option<String> {
     if let Some(class) = words.strip_prefix("fold ") {
         return folded(alloc, class, input);
     }
+    if let Some(words) = words.strip_prefix("commented ") {
+        return commented(alloc, words, input);
+    }
     let (task, class) = task_of(words)?;
     let mut given = Given::read(alloc, class, input).ok()?;
-    let answer = run(alloc, task, &mut given)?;
+    let answer = run(alloc, task, None, &mut given)?;
     given.left(alloc, answer).ok()
 }

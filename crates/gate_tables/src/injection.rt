@@ -1,5 +1,6 @@
 //! Rows of helpers that are brought into programs. The input is an envelope, and behind a tab, where helpers are written out, the
 //! envelope of a script that is the body of the helper `throw`. The helper mark is 7, and the global mark is the unresolved one.
+use crate::finished::{Task, run};
 use gate_rows::{Given, Program};
 use jsbase_writer::write;
 use std::alloc::Global;
@@ -81,6 +82,7 @@ enum Then {
     Nothing,
     Hygiene,
     InjectionAgain,
+    Finishing,
 }
 
 // What is left of the program of an input, with the helper in it.
@@ -99,6 +101,7 @@ fn injected(
         Then::Nothing => {}
         Then::Hygiene => given.visit(alloc, &mut hygiene()).ok()?,
         Then::InjectionAgain => given.visit(alloc, &mut pass).ok()?,
+        Then::Finishing => run(alloc, Task::Finish, None, &mut given)?.ok()?,
     }
     given.left(alloc, Ok(())).ok()
 }
@@ -135,6 +138,12 @@ pub fn answer(alloc: Global, words: &str, input: &str) -> Option<String> {
         }
         "helper written out, then hygiene" => {
             injected(alloc, Class::Module, false, Then::Hygiene, input)
+        }
+        "helper of a package, then finish" => {
+            injected(alloc, Class::Module, true, Then::Finishing, input)
+        }
+        "helper written out, then finish" => {
+            injected(alloc, Class::Module, false, Then::Finishing, input)
         }
         "helper written out, then injection again" => {
             injected(alloc, Class::Module, false, Then::InjectionAgain, input)

@@ -1,8 +1,9 @@
 //! What the gate asks of the tables and of the top crate: helpers, also in programs, features of versions, assumptions, native
-//! names, and passes run one after another. It goes over the rows of standard input, as `gate_replay` does, which would take too
+//! names, passes run one after another, and programs deeper than JSON may nest. It goes over the rows of standard input, as `gate_replay` does, which would take too
 //! long with these as well. With arguments it runs a work that is refused memory (`refuse`).
 #![tactic(auto)]
 
+mod deep;
 mod finished;
 mod helpers;
 mod injection;
@@ -20,6 +21,9 @@ struct OfRows;
 impl Answers for OfRows {
     fn answer(alloc: Global, words: &str, input: &str) -> Result<Option<String>> {
         if let Some(answer) = finished::answer(alloc, words, input) {
+            return Ok(Some(answer));
+        }
+        if let Some(answer) = deep::answer(alloc, words) {
             return Ok(Some(answer));
         }
         if let Some(answer) = helpers::answer(alloc, words, input) {

@@ -2,7 +2,7 @@
 use crate::finished::{Task, run, task_of};
 use crate::helpers::{named, names};
 use crate::injection::{body_of, helpers, pass_of, program_of, statements, throw};
-use gate_rows::{Given, Work};
+use gate_rows::{Given, Notes, Work, room};
 use jsbase_writer::write;
 use std::alloc::Global;
 use std::fmt::Write;
@@ -230,25 +230,34 @@ impl Work for Injected {
     }
 }
 
-/// Passes that are run one after another on a program.
+/// Passes that are run one after another on a program, with comments, if there are any.
 #[derive(Drop)]
 pub struct Finished {
     task: Task,
+    comments: Option<Notes>,
     given: Given,
 }
 
 impl Finished {
     /// The work of a row of such passes.
     pub fn of_row(alloc: Global, words: &str, input: &str) -> Option<Finished> {
+        let (words, comments) = match words.strip_prefix("commented ") {
+            Some(words) => (words, Some(Notes::new(alloc, room(alloc, input)?))),
+            None => (words, None),
+        };
         let (task, class) = task_of(words)?;
         let given = Given::read(alloc, class, input).ok()?;
-        Some(Finished { task, given })
+        Some(Finished {
+            task,
+            comments,
+            given,
+        })
     }
 }
 
 impl Work for Finished {
     fn run(&mut self, alloc: Global) -> Option<Result<(), PassError>> {
-        run(alloc, self.task, &mut self.given)
+        run(alloc, self.task, self.comments.as_mut(), &mut self.given)
     }
 
     // The resolver alone makes marks.
@@ -261,6 +270,10 @@ impl Work for Finished {
     }
 
     fn is_ample(self, alloc: Global, answer: Result<(), PassError>, wanted: &str) -> Option<bool> {
-        Some(self.given.left(alloc, answer).ok()?.as_str() == wanted)
+        let left = self.given.left(alloc, answer).ok()?;
+        match self.comments {
+            Some(notes) => Some(notes.before(alloc, left.as_str()).ok()?.as_str() == wanted),
+            None => Some(left.as_str() == wanted),
+        }
     }
 }

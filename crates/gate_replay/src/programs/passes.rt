@@ -1,10 +1,9 @@
 //! Passes by their names.
 use crate::programs::names;
-use crate::programs::notes::{Notes, room};
 use crate::programs::renamers::Renaming;
 use crate::texts::text_each;
 use anyhow::{Result, bail};
-use gate_rows::Given;
+use gate_rows::{Given, Notes, room};
 use std::alloc::{AllocError, Global};
 use std::collections::HashMap;
 use swc_base_fixer::{NoComments, fixer, paren_remover};

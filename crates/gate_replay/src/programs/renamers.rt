@@ -1,8 +1,8 @@
-//! Renamers by their words: `letters`, `refusing`, and `numbered`, which may be followed by `mangles`, by `resets`, or by both, and
-//! finds the ids that it preserves under the key `preserved`.
+//! Renamers by their words: `letters`, `refusing`, and `numbered` and `suffixed`, which may be followed by `mangles`, by `resets`, or
+//! by both; `numbered` finds the ids that it preserves under the key `preserved`.
 use crate::programs::names;
 use crate::programs::passes::visit_each;
-use gate_renamers::{Letters, Numbered, Refusing};
+use gate_renamers::{Letters, Numbered, Refusing, Suffixed};
 use gate_rows::Given;
 use std::alloc::Global;
 use std::mem;
@@ -15,6 +15,7 @@ pub enum Renaming {
     Letters,
     Refusing,
     Numbered(Settings, Vec<Id>),
+    Suffixed(Settings),
 }
 
 /// The settings of a renamer: whether scopes beside one another may share texts, and whether the counter starts again.
@@ -24,13 +25,13 @@ pub struct Settings {
     resets: bool,
 }
 
-// The settings that words name.
+// The settings that the words behind a renamer name.
 fn settings_of(words: &str) -> Option<Settings> {
     let (mangles, resets) = match words {
-        "numbered" => (false, false),
-        "numbered mangles" => (true, false),
-        "numbered resets" => (false, true),
-        "numbered mangles resets" => (true, true),
+        "" => (false, false),
+        " mangles" => (true, false),
+        " resets" => (false, true),
+        " mangles resets" => (true, true),
         _ => return None,
     };
     Some(Settings { mangles, resets })
@@ -64,17 +65,60 @@ fn visit_numbered(
     }
 }
 
+// The same of one that goes by ids and counters.
+fn visit_suffixed(
+    settings: Settings,
+    config: Config,
+    alloc: Global,
+    programs: &mut [Given],
+) -> Result<(), PassError> {
+    match (settings.mangles, settings.resets) {
+        (true, true) => {
+            visit_each(
+                &mut renamer(config, Suffixed::<true, true>),
+                alloc,
+                programs,
+            )
+        }
+        (true, false) => {
+            visit_each(
+                &mut renamer(config, Suffixed::<true, false>),
+                alloc,
+                programs,
+            )
+        }
+        (false, true) => {
+            visit_each(
+                &mut renamer(config, Suffixed::<false, true>),
+                alloc,
+                programs,
+            )
+        }
+        (false, false) => {
+            visit_each(
+                &mut renamer(config, Suffixed::<false, false>),
+                alloc,
+                programs,
+            )
+        }
+    }
+}
+
 impl Renaming {
     /// The renamer that words name, with the ids that the input has it preserve.
     pub fn of_words(alloc: Global, words: &str, input: &str) -> Option<Renaming> {
+        if let Some(words) = words.strip_prefix("suffixed") {
+            return Some(Renaming::Suffixed(settings_of(words)?));
+        }
+        if let Some(words) = words.strip_prefix("numbered") {
+            let settings = settings_of(words)?;
+            let preserved = names::preserved(alloc, input)?;
+            return Some(Renaming::Numbered(settings, preserved));
+        }
         match words {
             "letters" => Some(Renaming::Letters),
             "refusing" => Some(Renaming::Refusing),
-            _ => {
-                let settings = settings_of(words)?;
-                let preserved = names::preserved(alloc, input)?;
-                Some(Renaming::Numbered(settings, preserved))
-            }
+            _ => None,
         }
     }
 
@@ -92,6 +136,7 @@ impl Renaming {
                 let preserved = mem::replace(preserved, Vec::new(alloc));
                 visit_numbered(*settings, preserved, config, alloc, programs)
             }
+            Renaming::Suffixed(settings) => visit_suffixed(*settings, config, alloc, programs),
         }
     }
 }

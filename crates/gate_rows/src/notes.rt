@@ -4,9 +4,7 @@ ghost use Rattle.std.specs.Prelude.{◌≡◌, ◌∷◌, ◌++◌, [], OnOk, On
 use serde_json::Value;
 use std::alloc::{AllocError, Global};
 use std::fmt::Write;
-use swc_tree_comments::{Comments, Move};
-use swc_tree_items::Items;
-use swc_tree_marks::{BytePos, NoMemory};
+use swc_tree::{BytePos, Comments, Items, Move, NoMemory};
 
 /// Notes moves as long as there is room, and refuses those after.
 #[derive(Drop)]
