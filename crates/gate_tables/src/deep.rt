@@ -1,13 +1,12 @@
 //! Programs that are deeper than JSON may nest, through every pass.
 use crate::injection::helpers;
 use std::alloc::Global;
-use std::collections::HashMap;
 use std::fmt::Write;
 use swc_base_rename::HygieneRenamer;
 use swc_base_tables::{HelperBodies, inject_helpers};
 use swc_ecma_transforms_base::fixer::{fixer, paren_remover};
 use swc_ecma_transforms_base::hygiene::hygiene;
-use swc_ecma_transforms_base::rename::{Config, remap, rename, renamer};
+use swc_ecma_transforms_base::rename::{Config, renamer};
 use swc_ecma_transforms_base::resolver::{marks_ok, resolver};
 use swc_ecma_transforms_base::{chain_module, chain_script, finish_module, finish_script};
 use swc_tree::{
@@ -176,8 +175,6 @@ fn resolved(alloc: Global) -> Option<(usize, usize)> {
 fn left_by(alloc: Global, word: &str) -> Option<(usize, usize)> {
     match word {
         "resolver" => resolved(alloc),
-        "rename" => visited(alloc, rename(&HashMap::new(alloc))),
-        "remap" => visited(alloc, remap(&HashMap::new(alloc), Config::default())),
         "renamer" => visited(alloc, renamer(Config::default(), HygieneRenamer)),
         "hygiene" => visited(alloc, hygiene()),
         "paren_remover" => visited(alloc, paren_remover(None::<&mut NoComments>)),
