@@ -1,9 +1,8 @@
-//! Programs that are deeper than JSON may nest, through every pass.
-use crate::injection::helpers;
+//! Programs that are deeper than JSON may nest, through each pass but those that hold a map of names.
+use crate::injection::pass_of;
 use std::alloc::Global;
 use std::fmt::Write;
 use swc_base_rename::HygieneRenamer;
-use swc_base_tables::{HelperBodies, inject_helpers};
 use swc_ecma_transforms_base::fixer::{fixer, paren_remover};
 use swc_ecma_transforms_base::hygiene::hygiene;
 use swc_ecma_transforms_base::rename::{Config, renamer};
@@ -179,14 +178,7 @@ fn left_by(alloc: Global, word: &str) -> Option<(usize, usize)> {
         "hygiene" => visited(alloc, hygiene()),
         "paren_remover" => visited(alloc, paren_remover(None::<&mut NoComments>)),
         "fixer" => visited(alloc, fixer(None::<&mut NoComments>)),
-        "inject_helpers" => {
-            let pass = inject_helpers(
-                Mark::from_u32(1),
-                &helpers(alloc, true)?,
-                HelperBodies::new(alloc),
-            );
-            visited(alloc, pass)
-        }
+        "inject_helpers" => visited(alloc, pass_of(alloc, Mark::from_u32(1), true, "")?),
         "finish" => finished(alloc),
         "chain" => chained(alloc),
         _ => None,
