@@ -1,17 +1,16 @@
 //! Writing nodes.
-ghost use Rattle.std.specs.Prelude.{◌≡◌, ◌≤◌, [], ◌++◌, Some, IfOk, OnOk, IsTrue, length, map, slice_get, string_bytes};
+ghost use Rattle.std.specs.Prelude.{◌≡◌, ◌≤◌, [], ◌++◌, Some, IfOk, OnOk, IsTrue, length, map, string_bytes};
 ghost use Rattle.json.specs.Lex.{tokens};
 ghost use Rattle.json.specs.Print.{print};
 ghost use Rattle.json.specs.Tree.{depth};
 ghost use Rattle.json.specs.Value.{items_of};
+ghost use Rattle.swc_tree_node.specs.declared.node.Node.{Tree};
 ghost use Rattle.swc_tree_node.specs.Table.{fields_of};
 ghost use Rattle.jsbase_form.specs.Known.{ReadsAs, NumbersShort, numbers_short, all_keyed, all_of, ident_short};
 ghost use Rattle.jsbase_form.specs.Writing.{json, ident_json, typed, fields_put};
 ghost use Rattle.jsbase_reader.specs.Envelopes.{document, max_depth};
 ghost use Rattle.jsbase_writer.specs.Envelopes.{text_of};
-ghost use Rattle.json.specs.Json.{Members, member};
 ghost use Rattle.jsbase_writer.specs.Members.{members_data, MembersShort};
-ghost use Rattle.jsbase_writer.specs.Ordered.{ShortOr, key_at, value_at};
 ghost use Rattle.jsbase_writer.specs.Tokens.{tokens_of, tokens_of_items, tokens_of_members};
 
 use crate::members::{Member, Part, members_of};
@@ -95,12 +94,30 @@ pub(crate) fn write_value(alloc: Global, out: &mut Writer, node: &Node) -> Resul
                 out.begin_object()?;
                 write_in_order(alloc, out, *kind, nodes)?;
             } else {
-                let members = members_of(alloc, *kind, nodes)?;
-                out.begin_object()?;
-                write_members(alloc, out, members.as_slice())?;
+                write_sorted(alloc, out, *kind, nodes)?;
             }
         }
     }
+    Ok(())
+}
+
+// A tree that lacks a field of its kind, or has one more. It is kept out of `write_value`, which stands on the stack once for each
+// level of a tree: no tree pays for the list that few make.
+#[cycle(write)]
+#[inline(never)]
+fn write_sorted(
+    alloc: Global,
+    out: &mut Writer,
+    kind: Kind,
+    nodes: &[Node],
+) -> Result<(), AllocError>
+    ensures written { OnOk result (out.new.tokens ≡ out.old.tokens ++ tokens_of (json (Tree kind nodes.now))) }
+    ensures before { OnOk result (out.new.before ≡ out.old.before) }
+    ensures short { OnOk result (NumbersShort (Tree kind nodes.now)) }
+{
+    let members = members_of(alloc, kind, nodes)?;
+    out.begin_object()?;
+    write_members(alloc, out, members.as_slice())?;
     Ok(())
 }
 
@@ -118,7 +135,7 @@ fn write_all(alloc: Global, out: &mut Writer, nodes: &[Node]) -> Result<(), Allo
 }
 
 // The members of a tree that has each field of its kind: they stand in an order that is kept for the kind, so none is
-// sorted, and no list is made.
+// sorted, and no list is made. Past the last field is the member that names the kind.
 #[cycle(write)]
 fn write_in_order(
     alloc: Global,
@@ -132,34 +149,16 @@ fn write_in_order(
     ensures short { OnOk result (IsTrue (all_keyed (fields_of kind) (map numbers_short nodes.now))) }
 {
     for number in order_of(kind) {
-        write_member(alloc, out, kind, nodes, *number)?;
+        if *number < nodes.len() {
+            let field = &fields_of(kind)[*number];
+            out.key(field.key)?;
+            write_value(alloc, out, &nodes[*number])?;
+        } else {
+            out.key("type")?;
+            out.string(name_of(kind))?;
+        }
     }
     out.end_object()?;
-    Ok(())
-}
-
-// The member of a field; past the last, the one that names the kind.
-#[cycle(write)]
-fn write_member(
-    alloc: Global,
-    out: &mut Writer,
-    kind: Kind,
-    nodes: &[Node],
-    number: usize,
-) -> Result<(), AllocError>
-    requires { length nodes.now ≡ length (fields_of kind) }
-    ensures written { (rest : Members) → OnOk result (out.new.tokens ++ tokens_of_members rest ≡ out.old.tokens ++ tokens_of_members (member (key_at kind number) (value_at kind nodes.now number) rest)) }
-    ensures before { OnOk result (out.new.before ≡ out.old.before) }
-    ensures short { OnOk result (ShortOr (slice_get nodes.now number)) }
-{
-    if number < nodes.len() {
-        let field = &fields_of(kind)[number];
-        out.key(field.key)?;
-        write_value(alloc, out, &nodes[number])?;
-    } else {
-        out.key("type")?;
-        out.string(name_of(kind))?;
-    }
     Ok(())
 }
 

@@ -14,14 +14,14 @@ decreases-write_value l = 3 * height l.node.now
 abbrev pub decreases-write_all : goal.decreases-write_all
 decreases-write_all l = 3 * greatest (map height l.nodes.now) + 1
 
+abbrev pub decreases-write_sorted : goal.decreases-write_sorted
+decreases-write_sorted l = 3 * greatest (map height l.nodes.now) + 2
+
 abbrev pub decreases-write_members : goal.decreases-write_members
 decreases-write_members l = 3 * tallest l.members.now + 1
 
 abbrev pub decreases-write_in_order : goal.decreases-write_in_order
-decreases-write_in_order l = 3 * greatest (map height l.nodes.now) + 2
-
-abbrev pub decreases-write_member : goal.decreases-write_member
-decreases-write_member l = 3 * greatest (map height l.nodes.now) + 1
+decreases-write_in_order l = 3 * greatest (map height l.nodes.now) + 1
 
 abbrev pub invariant-write_in_order-loop-number : goal.invariant-write_in_order-loop-number
 invariant-write_in_order-loop-number l =
