@@ -18,7 +18,7 @@ TOKEN = re.compile(r'(?P<space>\s+)|(?P<text>"(?:[^"\\]|\\.)*")|(?P<name>%s(?:\.
                    r'|(?P<sign>∷|\+\+|&&|\|\||==|→|\[\]|[^\s\w])' % (NAME, NAME))
 WORDS = {'then', 'else', 'in', 'if', 'let', 'where', 'of', 'case', 'do', 'with'}
 # which operators stand side by side without parentheses, the loosest first; all else is refused
-LEVELS = [['||'], ['&&'], ['∷', '++'], ['==', '<'], ['+', '-'], ['*'], ['^']]
+LEVELS = [['||'], ['&&'], ['∷', '++'], ['==', '<'], ['+', '-'], ['*', '%'], ['^']]
 
 
 def tokens(text, line, path):
@@ -137,7 +137,7 @@ class Parser:
         if not here:
             return self.grouped(items, level + 1)
         used = {items[i] for i in here}
-        if len(used) > 1 and used != {'∷', '++'} or len(here) > 1 and used & {'==', '<', '-', '^'}:
+        if len(used) > 1 and used != {'∷', '++'} or len(here) > 1 and used & {'==', '<', '-', '%', '^'}:
             self.fail('operators without parentheses (%s)' % ' '.join(sorted(used)))
         if level < 2 and {items[i] for i in range(1, len(items), 2)} & {'∷', '++'}:
             self.fail('a list beside `&&` or `||`')

@@ -90,7 +90,7 @@ def no_clause(name):
 # what is used of the standard library: number of arguments, and the Python for them
 STANDARD = {
     'not': (1, '(not {0})'), 'suc': (1, '({0} + 1)'), 'nat_le': (2, '({0} <= {1})'), 'nat_lt': (2, '({0} < {1})'),
-    'nat_eq': (2, '({0} == {1})'), 'max': (2, 'max({0}, {1})'), 'min': (2, 'min({0}, {1})'),
+    'nat_eq': (2, '({0} == {1})'), 'max': (2, 'max({0}, {1})'), 'min': (2, 'min({0}, {1})'), 'bit_xor': (2, '({0} ^ {1})'),
     'pointwise': (3, 'pointwise({0}, {1}, {2})'), 'bytes_eq': (2, '({0} == {1})'),
     'list_all': (2, 'all(map({0}, {1}))'), 'list_any': (2, 'any(map({0}, {1}))'),
     'map': (2, 'tuple(map({0}, {1}))'), 'flat_map': (2, 'flat_map({0}, {1})'), 'filter': (2, 'tuple(filter({0}, {1}))'),
@@ -112,6 +112,6 @@ STANDARD_VALUES = {'true': 'True', 'false': 'False', 'None': 'None', 'zero': '0'
 STANDARD_TYPES = {'ℕ', 'Bool', 'List', 'Option', 'Result'}
 OPERATORS = {
     '||': '({0} or {1})', '&&': '({0} and {1})', '∷': '(({0},) + {1})', '++': '({0} + {1})', '==': '({0} == {1})',
-    '<': '({0} < {1})', '+': '({0} + {1})', '-': 'max(0, {0} - {1})', '*': '({0} * {1})', '^': '({0} ** {1})'}
+    '<': '({0} < {1})', '+': '({0} + {1})', '-': 'max(0, {0} - {1})', '*': '({0} * {1})', '%': '({0} % {1})', '^': '({0} ** {1})'}
 CALLED = {name: globals()[name] for name in (
     'Rec', 'updated', 'map_node', 'fold_node', 'pointwise', 'flat_map', 'find', 'position', 'prefix_len', 'slice_set', 'no_clause')}
