@@ -79,7 +79,7 @@ class Analysis:
         self.program = scoping.Program(defs, tree)
         specs = defs.swc_base_rename_analysis
         self.A, self.O, self.P = specs.Analysis, specs.Order, specs.Preserved
-        self.tree, self.around, self.keys = tree, {}, {}
+        self.tree, self.around, self.keys, self.loose = tree, {}, {}, (None, None)
         self.walk((), False, ())
         self.ids = [(p, self.program.standing(p), (i.sym, i.ctxt)) for p in self.program.identifiers for i in [self.program.identifier(p)]]
         self.declares = [(s, p, x) for p, r, x in self.ids if self.program.S.is_binding(r) and IsAnalysed(x)
@@ -153,9 +153,16 @@ def IsLoose(t, x):
         y == x and t.P.is_name_or_label(r) and not scoping.InExportList(t.program, p) for p, r, y in t.ids)
 
 
+def loose_texts(t):
+    """the texts of loose ids; they are kept with the ids that they are of"""
+    if t.loose[0] is not t.ids:
+        t.loose = (t.ids, frozenset(x[0] for x in {x for _, _, x in t.ids} if IsLoose(t, x)))
+    return t.loose[1]
+
+
 def preserved_texts(t, preserves):
     """the texts that meet `IsPreserved`"""
-    return {x[0] for x in {x for _, _, x in t.ids} if IsLoose(t, x)} | {x[0] for x in preserves}
+    return loose_texts(t) | {x[0] for x in preserves}
 
 
 # ---- Named
@@ -216,6 +223,21 @@ class Naming:
                 n += 1
             taken[x] = n
         return taken
+
+    def tries(self, most):
+        """(site, id, counter from which it starts, counter that it takes) of each id in order. So the counters are spent at an id, by any
+        bound up to the counter that it takes. Counters are looked at up to `most`: of ids behind one that takes none of them nothing
+        is said"""
+        found, taken = [], {}
+        for a, x in self.sites:
+            earlier = self.IsEarlier(a)
+            start = max([taken[y] + 1 for b, y in earlier if b[0] == a[0]], default=0) if counts_on(self.r) else 0
+            held = {self.r.text(y, taken[y]) for b, y in earlier if self.counts(self.t, b[0], a[0]) and OccursIn(self.t, a[0], y)}
+            taken[x] = next((n for n in range(start, most) if self.r.text(x, n) not in held | self.preserved), max(start, most))
+            found.append((a, x, start, taken[x]))
+            if taken[x] >= most:
+                break
+        return found
 
     def new_texts(self, taken=None):
         return {x: self.r.text(x, n) for x, n in (self.counters() if taken is None else taken).items()}

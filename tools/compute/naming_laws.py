@@ -148,26 +148,100 @@ def named_fixes_the_map(t):
     return True if found else None
 
 
+# what stands for the greatest `usize`, and how far counters are looked for where a renamer does not tell them apart
+GREATEST, MOST = (2, 3, 4, 6), 40
+# ids that no tree has, to be preserved too
+ELSEWHERE = [(js.codes(text), (99,)) for text in ('v0', 'v1')]
+
+
+def in_twos(x, n):
+    """one text for two counters"""
+    return js.codes('v%d' % (n // 2))
+
+
+def with_lawless(lawful):
+    """renamers, and one of each setting of the flags that does not tell counters apart"""
+    return list(lawful) + [Renaming(in_twos, mangles, resets) for mangles, resets in itertools.product((False, True), repeat=2)]
+
+
+def tells_apart(one, last):
+    """`TellsApart`, of the ids that get names"""
+    return all(len({one.r.text(x, n) for n in range(last + 1)}) == last + 1 for _, x in one.sites)
+
+
+def crowd(one, a):
+    """the fewest that a list of the preserved texts and one of the ids named before a site have"""
+    return len(one.preserved) + len({y for _, y in one.IsEarlier(a)})
+
+
 def tries_fault(one):
     """where the counter that an id takes is farther past its start than there are preserved texts and ids named before it"""
-    taken = one.counters()
-    for number, (a, x) in enumerate(one.sites):
-        start = next(n for n in range(taken[x] + 1) if one.IsFromStart(taken, a, n))
-        if taken[x] - start > len(one.preserved) + number:
-            return Bad('counter', str(taken[x]), 'from', str(start))
+    for a, _, start, n in one.tries(MOST):
+        if n > start + crowd(one, a) and tells_apart(one, start + crowd(one, a)):
+            return Bad('counter', str(n), 'from', str(start), 'taken', str(crowd(one, a)))
     return None
+
+
+def namings(analysis):
+    """what is named in a tree: flat and chained, with ids preserved and without"""
+    for preserves in ((), some_ids(analysis) + ELSEWHERE):
+        for r in with_lawless(renamings(preserves)):
+            yield from (Naming(analysis, r, None, counts) for counts in (all_count, outer_count))
 
 
 @law(few_names)
 def tries_are_few(t):
-    """the counter that an id takes is at most as far past its start as there are preserved texts and ids named before it"""
+    """the counter that an id takes is at most as far past its start as there are preserved texts and ids named before it, where the
+    renamer tells counters apart, flat and chained, with ids preserved and without"""
     analysis = Analysis(D.all, t)
     if not analysis.declares:
         return None
-    for r in renamings():
-        fault = tries_fault(Naming(analysis, r))
+    return next((fault for fault in map(tries_fault, namings(analysis)) if fault), True)
+
+
+def crowded_fault(one):
+    """whether the counters are spent at some id, by a greatest one, and where they are and fewer texts are taken than there are counters
+    from the start on"""
+    found = False
+    for a, x, start, n in one.tries(MOST):
+        for greatest in GREATEST:
+            if n >= greatest and tells_apart(one, greatest):
+                found = True
+                if greatest > start + crowd(one, a):
+                    return found, Bad('greatest', str(greatest), 'start', str(start), 'taken', str(crowd(one, a)), 'at', js.string(x[0]))
+    return found, None
+
+
+def crowded_each(each):
+    """the law of `crowded_fault` of each; None where counters are spent nowhere"""
+    found = False
+    for one in each:
+        spent, fault = crowded_fault(one)
+        found = found or spent
         if fault:
             return fault
+    return True if found else None
+
+
+@law(few_names)
+def spent_are_crowded(t):
+    """where the counters are spent at an id, with a small greatest one, there are as many preserved texts and ids named before it as
+    there are counters from its start on, where the renamer tells counters apart, flat and chained, with ids preserved and without"""
+    return crowded_each(namings(Analysis(D.all, t)))
+
+
+@law(few_names)
+def tries_are_those_of_the_clauses(t):
+    """the counters that the laws of tries and of spent counters look at are those that a plain procedure finds by the clauses"""
+    analysis = Analysis(D.all, t)
+    if not analysis.declares:
+        return None
+    for one in namings(analysis):
+        taken = one.tries(MOST)
+        if all(n < MOST for _, _, _, n in taken):
+            counters, wanted = {x: n for _, x, _, n in taken}, one.counters()
+            if counters != wanted or any(one.IsFromStart(wanted, a, n) != (n >= start) for a, _, start, _ in taken for n in range(start + 2)):
+                return Bad('counters', repr(counters), 'by the clauses', repr(wanted))
     return True
 
 

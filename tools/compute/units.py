@@ -4,6 +4,8 @@ tree in which something reads names.
 Each function has the name of its definition. What the specs define as functions (what a direct `eval` is, which children
 are units, marks) is taken from the translation, not written again. A path is a tuple of numbers.
 """
+import functools
+
 import scoping
 from naming import Analysis, Naming, Renaming, all_count, outer_count, preserved_texts
 from trees import kids, paths, put
@@ -66,6 +68,7 @@ def units_faults(defs, becomes, before, after):
 
 
 # ---- marks
+@functools.lru_cache(maxsize=10000)
 def IsDescendant(defs, table, mark, ancestor):
     ancestor_at = defs.swc_tree_marks.Globals.ancestor_at
     return any(ancestor_at(table, mark, steps) == ancestor for steps in range(len(table) + 2))

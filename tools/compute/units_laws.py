@@ -8,7 +8,7 @@ import scoping
 import units
 from lawbook import Bad, D, fits_place, identity, kids, law, well_scoped_program
 from naming import Renaming, hygiene, numbered
-from naming_laws import of_few_texts, some_ids, tries_fault
+from naming_laws import ELSEWHERE, crowded_each, of_few_texts, some_ids, tries_fault, with_lawless
 from naming_rows import renamed
 from substitution_laws import changes_of, fresh_maps, places_below, substituted
 from trees import ABSENT, SPAN, at, paths, put, slots, with_identifiers, with_kids
@@ -348,22 +348,31 @@ def under_the_root_only_units_change(t):
     return True
 
 
-@law(reading_tree)
-def tries_by_units_are_few(t):
-    """where something reads names, the counter that an id of the program or of an outermost unit takes is at most as far past its
-    start as there are preserved texts and ids named before it"""
-    if not reads(t):
-        return None
+def namings_of(t):
+    """what is named where something reads names, for each renamer and top mark: the program, and then each outermost unit"""
     whole, alone = analysed(D.all, t), [u for _, u in units.outermost(D.all, t)]
-    for r in renamings(whole):
+    for r in with_lawless(renamings(whole)) + [numbered(False, True, ELSEWHERE)]:
         for top in TOPS:
             marks = units.Marks(TABLE, top)
             preserved = units.program_texts(whole, r, marks)
-            namings = [units.top_naming(D.all, whole, r, marks, preserved)] + [units.unit_naming(D.all, u, r, preserved) for u in alone]
-            fault = next((fault for fault in map(tries_fault, namings) if fault), None)
-            if fault:
-                return fault
-    return True
+            yield units.top_naming(D.all, whole, r, marks, preserved)
+            yield from (units.unit_naming(D.all, u, r, preserved) for u in alone)
+
+
+@law(reading_tree)
+def tries_by_units_are_few(t):
+    """where something reads names, the counter that an id of the program or of an outermost unit takes is at most as far past its
+    start as there are preserved texts and ids named before it, where the renamer tells counters apart"""
+    if not reads(t):
+        return None
+    return next((fault for fault in map(tries_fault, namings_of(t)) if fault), True)
+
+
+@law(reading_tree)
+def refusals_are_of_crowding(t):
+    """where something reads names and the counters are spent at an id of the program or of an outermost unit, with a small greatest
+    one, there are as many preserved texts and ids named before it as counters from its start on, where the renamer tells them apart"""
+    return crowded_each(namings_of(t)) if reads(t) else None
 
 
 def without_units(t):
@@ -421,3 +430,28 @@ def chained_is_flat_in_units(t):
             if bad:
                 return bad
     return True if len(alone) > 1 else None
+
+
+def well_scoped_reading(random, size):
+    """programs in which something reads names and that are mostly well-scoped"""
+    t = reading(random, random.favouring(UNITS, lambda: random.names(size, random.chance(0.5))))
+    t = with_identifiers(lambda i: (i.sym, ()), t)
+    if not scoping.NoEarlyErrorOfNames(D.all, t):
+        return None
+    t = scoping.resolved(D.all, t, 1, random.pick([1, 2]))
+    t = random.recoloured(t) if random.chance(0.5) else t
+    return random.disturbed(t) if random.chance(0.2) else t
+
+
+@law(well_scoped_reading)
+def maps_by_units_are_flat(t):
+    """where something reads names in a well-scoped program, the map of the program and that of each outermost unit are the same
+    whether all names count or those of a scope and of the scopes round it alone"""
+    if not reads(t) or not scoping.WellScoped(D.all, t):
+        return None
+    found = False
+    for one in namings_of(t):
+        found, bad = found or bool(one.sites), counted_apart(one.t, one.r, one.preserved)
+        if bad:
+            return bad
+    return True if found else None
