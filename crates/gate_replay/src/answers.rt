@@ -19,6 +19,7 @@ impl Answers for OfRows {
             "beginnings" => Ok(Some(engine::beginnings(alloc, input)?)),
             "pass"
             | "twice"
+            | "deep"
             | "fold"
             | "items"
             | "rename"

@@ -3,7 +3,8 @@
 //! The input is an envelope. `rename` and `remap` find the ids that are given anew under its key `names`, and
 //! `unparen_comments` and `fix_comments` how many moves are granted under `room`; `letters`, `refusing`, `numbered` and `suffixed` are renamers. What is wanted is the envelope of what is left, behind the
 //! moves that were asked for and the name of a refusal. Behind `twice` the same pass is run on the program two times, and
-//! what is left the second time is wanted. `fold` hands the program by value to the pass that does nothing, and `items`
+//! what is left the second time is wanted. Behind `deep` the statements of a script stand in 200 blocks, one in another, as the pass
+//! is run, more than JSON may nest, and are taken out again. `fold` hands the program by value to the pass that does nothing, and `items`
 //! asks a check whether there are items.
 mod check;
 mod names;
@@ -39,6 +40,21 @@ fn run(alloc: Global, word: &str, input: &str, programs: &mut Vec<Given>) -> Res
     Ok(pass.before(alloc, last.left(alloc, answer)?)?)
 }
 
+// What is left of a script whose statements stand in many blocks as the pass is run.
+fn run_deep(alloc: Global, word: &str, class: Class, input: &str) -> Result<String> {
+    let mut given = Given::read(alloc, class, input)?;
+    let mut pass = Pass::of_row(alloc, word, input, &given)?;
+    given.deepen(alloc)?;
+    let mut programs = Vec::new(alloc);
+    programs.push(given)?;
+    let answer = pass.visit(alloc, programs.as_mut_slice());
+    let Some(mut given) = programs.pop() else {
+        bail!("there is no program");
+    };
+    given.flatten(alloc)?;
+    Ok(given.left(alloc, answer)?)
+}
+
 /// What is answered to a row.
 pub fn answer(alloc: Global, words: &str, input: &str) -> Result<String> {
     let Some((command, class)) = words.rsplit_once(' ') else {
@@ -49,6 +65,9 @@ pub fn answer(alloc: Global, words: &str, input: &str) -> Result<String> {
         "items" => check::answer(alloc, &Given::read(alloc, class, input)?),
         "fold" => Given::read(alloc, class, input)?.folded(alloc, &mut noop()),
         _ => {
+            if let Some(word) = command.strip_prefix("deep ") {
+                return run_deep(alloc, word, class, input);
+            }
             let (times, word) = match command.strip_prefix("twice ") {
                 Some(word) => (2, word),
                 None => (1, command),

@@ -2,6 +2,7 @@
 //! works that are refused memory.
 #![tactic(auto)]
 
+mod deep;
 mod given;
 mod notes;
 mod refused;
