@@ -4,6 +4,7 @@ ghost use Rattle.jsbase_form.specs.Reads.{path_text, part_text};
 ghost use Rattle.jsbase_form.specs.Steps.{part_of};
 
 use std::alloc::{AllocError, Global};
+use std::fmt;
 use std::marker::Model;
 
 /// A step from a JSON value into a part of it.
@@ -11,6 +12,19 @@ use std::marker::Model;
 pub enum Step {
     Key(&'static str),
     Index(usize),
+}
+
+impl fmt::Display for Step {
+    ghost use Rattle.std.specs.Prelude.{Some};
+
+    ghost output = { λ step. Some (part_text (part_of step)) };
+
+    fn fmt<W: fmt::Write>(&self, f: &mut fmt::Formatter<W>) -> fmt::Result {
+        match self {
+            Step::Key(key) => write!(f, ".{key}"),
+            Step::Index(index) => write!(f, "[{index}]"),
+        }
+    }
 }
 
 /// The way from a JSON value to a fault in it, which contracts see as the list of its parts from the
@@ -28,6 +42,20 @@ impl Model for FaultPath {
     ghost Value = { Path };
 
     ghost view = { λ p. path_of p.steps.items };
+}
+
+impl fmt::Display for FaultPath {
+    ghost use Rattle.std.specs.Prelude.{Some};
+
+    ghost output = { λ path. Some (path_text path) };
+
+    fn fmt<W: fmt::Write>(&self, f: &mut fmt::Formatter<W>) -> fmt::Result {
+        f.write_str("$")?;
+        for step in self.steps.iter().rev() {
+            write!(f, "{step}")?;
+        }
+        Ok(())
+    }
 }
 
 impl FaultPath {
@@ -65,10 +93,7 @@ impl FaultPath {
 fn push_step(alloc: Global, text: &mut String, step: Step) -> Result<(), AllocError>
     ensures { OnOk result (string_bytes text.new ≡ string_bytes text.old ++ part_text (part_of step)) }
 {
-    let shown = match step {
-        Step::Key(key) => format!(in alloc; ".{key}")?,
-        Step::Index(index) => format!(in alloc; "[{index}]")?,
-    };
+    let shown = step.to_string(alloc)?;
     text.push_str(&shown)?;
     Ok(())
 }
