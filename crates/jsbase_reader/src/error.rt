@@ -6,13 +6,16 @@ ghost use Rattle.jsbase_reader.specs.Answers.{Gives};
 
 use jsbase_form::{FaultPath, Step};
 use std::alloc::{AllocError, AllocFailed, Global};
+use thiserror::Error;
 
 /// Why a tree could not be read.
-#[derive(Debug, Drop)]
+#[derive(Debug, Drop, Error)]
 pub enum ReadError {
     /// Memory was refused.
+    #[error("refused: NoMemory")]
     NoMemory,
     /// The value is no tree: the path to the first fault.
+    #[error("not a tree: {0}")]
     Fault(FaultPath),
 }
 

@@ -5,16 +5,19 @@ ghost use Rattle.jsbase_stream.specs.Bytes.{LosesBeginning, IsRead};
 
 use std::alloc::Global;
 use std::io::Read;
+use thiserror::Error;
 
 // How much room is made for a read, in bytes.
 const ROOM: usize = 64 * 1024;
 
 /// Why an input was not read to its end.
-#[derive(Clone, Copy, Debug, PartialEq, Eq)]
+#[derive(Clone, Copy, Debug, PartialEq, Eq, Error)]
 pub enum InputFault {
     /// A call of the reader failed, or the input did not end.
+    #[error("read failed")]
     Read,
     /// Memory was refused.
+    #[error("refused: NoMemory")]
     NoMemory,
 }
 
