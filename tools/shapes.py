@@ -4,9 +4,9 @@
 JSBASE is the built program of that crate. Each shape is a script of N, 2 N and 4 N parts (20,000, if N is not given): blocks side
 by side, the parameters of one function, the functions of one block, catch clauses, labels, pairs of parentheses, the items of a
 sequence, references below 40 blocks, names of one function that the kit's hash can't tell apart, and as many others of their
-length; calls in chains (`a.b().b()`), operators in chains on the left and on the right, and arrows in nests, 10 in each and as
+length; pairs whose contents have spans of their own, and such that a known mixer of both numbers can't tell apart; calls in chains (`a.b().b()`), operators in chains on the left and on the right, and arrows in nests, 10 in each and as
 many as JSON may nest. The time is of the processor for one run of `resolve script`, of `unparen script` for pairs and
-sequences, of `fix script` for chains and nests; in a table that grows in step with N each number is twice the one before it."""
+sequences, of `fix script` for pairs that are due, chains and nests; in a table that grows in step with N each number is twice the one before it."""
 import json
 import random
 import resource
@@ -107,6 +107,46 @@ def others(n):
     return ['abcdefghijklmnopqrstuvwx' + f'{i:08}' for i in range(n)]
 
 
+def unshifted(word, bits):
+    """The word of which this one is made by `x ^ x >> bits`."""
+    whole = word
+    for _ in range(64 // bits):
+        whole = word ^ whole >> bits
+    return whole
+
+
+def unmixed(word):
+    """The word that the mixer of SplitMix64 takes to this one."""
+    word = unshifted(word, 31) * pow(0x94D049BB133111EB, -1, WORD + 1) & WORD
+    word = unshifted(word, 27) * pow(0xBF58476D1CE4E5B9, -1, WORD + 1) & WORD
+    return unshifted(word, 30)
+
+
+def spans(n):
+    return [[7 * i + 1, 7 * i + 4] for i in range(n)]
+
+
+def colliding_spans(n):
+    """Spans whose mixed words have equal halves, so that the 32 bits to which a table folds them are 0."""
+    found = []
+    half = 0
+    while len(found) < n:
+        half += 1
+        word = unmixed(half << 32 | half)
+        span = [word & 0xFFFFFFFF, word >> 32]
+        if span[0] <= span[1]:
+            found.append(span)
+    return found
+
+
+def due_pairs(contents):
+    """A statement `(a + a) * a` for each span, which its sum has."""
+    def of(content):
+        pair = node('ParenExpr', expr=added(reference('a'), reference('a')) | {'span': content})
+        return statement(node('BinExpr', op='*', left=pair, right=reference('a')))
+    return [of(content) for content in contents]
+
+
 def body_of(names):
     return [function('f', [], [declaration('var', names)] + [statement(reference(name)) for name in names])]
 
@@ -124,6 +164,8 @@ SHAPES = {
     'other names': ('resolve', lambda n: body_of(others(n))),
     'names that collide, renamed': ('hygiene', lambda n: body_of(colliding(n))),
     'other names, renamed': ('hygiene', lambda n: body_of(others(n))),
+    'due pairs': ('fix', lambda n: due_pairs(spans(n))),
+    'due pairs, spans that a mixer puts together': ('fix', lambda n: due_pairs(colliding_spans(n))),
     'calls, 10 in a chain': ('fix', nests(10, called)),
     'calls, 50 in a chain': ('fix', nests(50, called)),
     'operators, 10 on the left': ('fix', nests(10, lambda left: added(left, reference('a')))),
