@@ -1,9 +1,11 @@
 //! Why there is no answer, and how that is told.
 ghost use Rattle.std.specs.Prelude.{◌≡◌, [], ◌∷◌, ◌++◌};
-ghost use Rattle.jsbase_engine.specs.Faults.{cause_of, status_of, line_of, of_input, IsBeginning};
+ghost use Rattle.jsbase_engine.specs.Faults.{cause_of, status_of, text_of, line_of, of_input, IsBeginning};
 ghost use Rattle.jsbase_engine.specs.declared.fault.ServeFault.TheVariants as serve;
 
 use jsbase_stream::{InputFault, write_counted};
+use std::error::Error;
+use std::fmt;
 use std::io::Write;
 use swc_tree_marks::PassError;
 
@@ -50,6 +52,35 @@ impl From<InputFault> for ServeFault {
     }
 }
 
+// The two displays are written by hand, so that contracts see their texts: those of a derive are in none.
+impl fmt::Display for Fault {
+    ghost use Rattle.std.specs.Prelude.{Some};
+
+    ghost output = { λ fault. Some (cause_of fault) };
+
+    fn fmt<W: fmt::Write>(&self, f: &mut fmt::Formatter<W>) -> fmt::Result {
+        let (cause, detail) = cause_of(self);
+        f.write_str(cause)?;
+        f.write_str(detail)
+    }
+}
+
+impl Error for Fault {}
+
+impl fmt::Display for ServeFault {
+    ghost use Rattle.std.specs.Prelude.{Some};
+
+    ghost output = { λ fault. Some (text_of fault) };
+
+    fn fmt<W: fmt::Write>(&self, f: &mut fmt::Formatter<W>) -> fmt::Result {
+        let (cause, detail) = parts_of(self);
+        f.write_str(cause)?;
+        f.write_str(detail)
+    }
+}
+
+impl Error for ServeFault {}
+
 // What the line of a fault begins with, and what follows, where an input has no answer.
 fn cause_of(fault: &Fault) -> (&str, &str)
     ensures { result.0.now ++ result.1.now ≡ cause_of fault.now }
@@ -66,7 +97,8 @@ fn cause_of(fault: &Fault) -> (&str, &str)
 
 // The same of each fault.
 fn parts_of(fault: &ServeFault) -> (&str, &str)
-    ensures { result.0.now ++ result.1.now ++ 10 ∷ [] ≡ line_of fault.now }
+    ensures text { result.0.now ++ result.1.now ≡ text_of fault.now }
+    ensures line { result.0.now ++ result.1.now ++ 10 ∷ [] ≡ line_of fault.now }
 {
     match fault {
         ServeFault::Run(fault) => cause_of(fault),
