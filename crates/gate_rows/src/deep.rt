@@ -3,6 +3,7 @@ use crate::given::{Given, Program};
 use anyhow::{Result, bail};
 use std::alloc::{AllocError, Global};
 use swc_tree::{BlockStmt, DUMMY_SP, Opened, Stmt, Trees, class};
+use swc_tree_node::Kind;
 
 // How many blocks are put round the statements of a script.
 const DEPTH: u32 = 200;
@@ -23,8 +24,12 @@ fn put_in_block(
 
 // The statements of the block that stands alone.
 fn take_out_of_block(mut stmts: Trees<class::Stmt>) -> Option<Trees<class::Stmt>> {
-    match stmts.pop()?.open() {
-        Stmt::Block(block) => Some(block.stmts),
+    let stmt = stmts.pop()?;
+    match stmt.kind() {
+        Kind::BlockStmt => {
+            let block: BlockStmt = stmt.narrow::<class::BlockStmt>().open();
+            Some(block.stmts)
+        }
         _ => None,
     }
 }
