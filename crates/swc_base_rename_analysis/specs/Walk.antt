@@ -15,6 +15,7 @@ use Rattle.swc_tree_scoping.specs.declared.places.Standing.{Standing}
 use Rattle.swc_tree_scoping.specs.declared.places.Standing.TheVariants as standing
 use Rattle.swc_tree_scoping.specs.declared.places.Place.{Place}
 use Rattle.swc_tree_scoping.specs.declared.places.Scope.{Scope}
+use Rattle.swc_tree_scoping.specs.Below.{places_of}
 use Rattle.swc_tree_scoping.specs.Folds.{fold_in_place}
 use Rattle.swc_tree_scoping.specs.Places.{field_role, has_own_name, is_at, opened_as, program_place}
 use Rattle.swc_tree_scoping.specs.BoundNames.{name_of}
@@ -24,6 +25,7 @@ use Rattle.swc_base_rename_analysis.specs.declared.layout.Region.{Region}
 use Rattle.swc_base_rename_analysis.specs.declared.layout.Name.{Name}
 use Rattle.swc_base_rename_analysis.specs.declared.layout.Layout.{Layout}
 use Rattle.swc_base_rename_analysis.specs.declared.walk.Around.{Around}
+use Rattle.swc_base_rename_analysis.specs.declared.walk.Head.{Head}
 use Rattle.swc_base_rename_analysis.specs.Analysis.{body_field, body_kind, has_identifier, is_default_export, key_field, kind_of, uses_own_name}
 use Rattle.swc_base_rename_analysis.specs.Order.{body_first}
 use Rattle.swc_base_rename_analysis.specs.Preserved.{is_name_or_label}
@@ -92,7 +94,7 @@ function_at rs Block (Some n) = function_in (slice_get rs n)
 
 abbrev pub enter : ScopeKind → Option ℕ → Laid → Laid
 enter k parent l = record l {
-  regions = l.regions ++ record { kind = k; parent = parent; function = function_at l.regions k parent; start = length l.names; end = length l.names } ∷ [];
+  regions = l.regions ++ record { kind = k; function = function_at l.regions k parent; start = length l.names; end = length l.names } ∷ [];
 }
 
 abbrev changed : (Region → Region) → List Region → ℕ → Option Region → List Region
@@ -204,6 +206,10 @@ walk_in = fold_in_place (λ w t walks. walk_layer w (out-Node t) (slice_get walk
 -- the walks over some nodes, each in its place
 abbrev pub walks_at : (ℕ → Place) → List Node → ℕ → Option Walk
 walks_at places ts i = option_map (walk_in (places i)) (slice_get ts i)
+
+-- those over the fields of a tree
+abbrev pub walks_of : Head → List Node → ℕ → Option Walk
+walks_of h ts = walks_at (places_of h.places ts) ts
 
 -- the scopes and the names of a tree
 abbrev pub laid_out : Node → Laid

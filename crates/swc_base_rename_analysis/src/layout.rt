@@ -7,12 +7,10 @@ use std::alloc::{AllocError, Global};
 use swc_tree_marks::Ident;
 use swc_tree_scoping::Standing;
 
-/// A scope, by its number: the scope round it, and the positions of the names in it.
+/// A scope, by its number: what takes the names in it, and their positions.
 #[derive(Clone, Copy)]
 pub struct Region {
     pub kind: ScopeKind,
-    /// The number of the scope round it.
-    pub parent: Option<usize>,
     /// The number of the first of it and the scopes round it that takes all names.
     pub function: Option<usize>,
     /// The position of the first name in it or below it, if there is one.
@@ -74,7 +72,6 @@ impl<'a> Layout<'a> {
         let start = self.names.len();
         self.regions.push(Region {
             kind,
-            parent,
             function,
             start,
             end: start,

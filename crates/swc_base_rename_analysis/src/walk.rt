@@ -4,7 +4,7 @@ ghost use Rattle.std.specs.Option.{option_copied};
 ghost use Rattle.swc_tree_node.specs.declared.node.Node.{Tree, out-Node};
 ghost use Rattle.swc_tree_scoping.specs.Below.{place_of, places_of};
 ghost use Rattle.swc_base_rename_analysis.specs.Preserved.{is_name_or_label as stands_so};
-ghost use Rattle.swc_base_rename_analysis.specs.Walk.{child_at as is_child_at, is_leaf as is_without_names, laid_of, laid_out, outside_of, own_use, round_field as is_round_field, walk_but as but_walked, walk_field as field_walked, walk_fields as fields_walked, walk_in, walk_in_order as order_walked, walk_items as items_walked, walk_name as name_walked, walk_optional as optional_walked, walk_scope as scope_walked, walks_at};
+ghost use Rattle.swc_base_rename_analysis.specs.Walk.{child_at as is_child_at, is_leaf as is_without_names, laid_of, laid_out, outside_of, own_use, round_field as is_round_field, walk_but as but_walked, walk_field as field_walked, walk_fields as fields_walked, walk_in, walk_in_order as order_walked, walk_items as items_walked, walk_name as name_walked, walk_optional as optional_walked, walk_scope as scope_walked, walks_at, walks_of};
 
 use crate::layout::{Layout, Name};
 use crate::own_names::own_name;
@@ -29,6 +29,13 @@ pub struct Around<'a> {
     for_body: bool,
     /// The name of the node, a function that counts as using it.
     own_name: Option<&'a Ident>,
+}
+
+/// What a tree is beside its fields: its kind, and what the places of the fields go by.
+#[derive(Drop)]
+pub struct Head {
+    kind: Kind,
+    places: PlacesBelow,
 }
 
 /// The scopes and the names of a tree.
@@ -109,10 +116,13 @@ fn walk_tree<'a>(
 ) -> Result<(), AllocError>
     ensures { OnOk result (laid_of layout.new ≡ walk_in place (Tree kind fields.now) (outside_of around.now) (laid_of layout.old)) }
 {
-    let places = places_of_fields(place, kind, fields);
-    match opened_kind(around.for_body, kind, places.opened()) {
-        None => walk_fields(kind, fields, &places, around, None, layout),
-        Some(scope) => walk_scope(scope, place, kind, fields, &places, around, layout),
+    let head = Head {
+        kind,
+        places: places_of_fields(place, kind, fields),
+    };
+    match opened_kind(around.for_body, kind, head.places.opened()) {
+        None => walk_fields(&head, fields, around, None, layout),
+        Some(scope) => walk_scope(scope, place, &head, fields, around, layout),
     }
 }
 
@@ -158,26 +168,25 @@ fn walk_item<'a>(
 fn walk_scope<'a>(
     scope: ScopeKind,
     place: Place,
-    kind: Kind,
+    head: &Head,
     fields: &'a [Node],
-    places: &PlacesBelow,
     around: &Around<'a>,
     layout: &mut Layout<'a>,
 ) -> Result<(), AllocError>
-    ensures { OnOk result (laid_of layout.new ≡ scope_walked scope place kind fields.now (walks_at (places_of places.now fields.now) fields.now) (outside_of around.now) (laid_of layout.old)) }
+    ensures { OnOk result (laid_of layout.new ≡ scope_walked scope place head.now.kind fields.now (walks_of head.now fields.now) (outside_of around.now) (laid_of layout.old)) }
 {
-    let key = key_field(kind);
-    walk_optional(kind, fields, key, places, around, layout)?;
+    let key = key_field(head.kind);
+    walk_optional(head, fields, key, around, layout)?;
     let number = layout.enter(scope, around.scope)?;
-    let name = name_outside(place, kind, fields);
-    walk_optional(kind, fields, name, places, around, layout)?;
+    let name = name_outside(place, head.kind, fields);
+    walk_optional(head, fields, name, around, layout)?;
     layout.begin(number);
     use_own_name(number, around, layout)?;
     let inside = Around {
         scope: Some(number),
         ..*around
     };
-    walk_fields(kind, fields, places, &inside, key.or(name), layout)?;
+    walk_fields(head, fields, &inside, key.or(name), layout)?;
     layout.end(number);
     Ok(())
 }
@@ -206,17 +215,16 @@ fn use_own_name<'a>(
 // The field of that number, if there is one.
 #[cycle(walk)]
 fn walk_optional<'a>(
-    kind: Kind,
+    head: &Head,
     fields: &'a [Node],
     index: Option<usize>,
-    places: &PlacesBelow,
     around: &Around<'a>,
     layout: &mut Layout<'a>,
 ) -> Result<(), AllocError>
-    ensures { OnOk result (laid_of layout.new ≡ optional_walked kind fields.now (walks_at (places_of places.now fields.now) fields.now) index (outside_of around.now) (laid_of layout.old)) }
+    ensures { OnOk result (laid_of layout.new ≡ optional_walked head.now.kind fields.now (walks_of head.now fields.now) index (outside_of around.now) (laid_of layout.old)) }
 {
     match index {
-        Some(index) => walk_field(kind, fields, index, places, around, layout),
+        Some(index) => walk_field(head, fields, index, around, layout),
         None => Ok(()),
     }
 }
@@ -238,35 +246,33 @@ fn child_at(kind: Kind, turn: usize) -> usize
 // All fields but one.
 #[cycle(walk)]
 fn walk_fields<'a>(
-    kind: Kind,
+    head: &Head,
     fields: &'a [Node],
-    places: &PlacesBelow,
     around: &Around<'a>,
     but: Option<usize>,
     layout: &mut Layout<'a>,
 ) -> Result<(), AllocError>
-    ensures { OnOk result (laid_of layout.new ≡ fields_walked kind fields.now (walks_at (places_of places.now fields.now) fields.now) but (outside_of around.now) (laid_of layout.old)) }
+    ensures { OnOk result (laid_of layout.new ≡ fields_walked head.now.kind fields.now (walks_of head.now fields.now) but (outside_of around.now) (laid_of layout.old)) }
 {
-    match kind {
-        Kind::CatchClause => walk_by_turns(kind, fields, places, around, but, layout),
-        _ => walk_in_order(kind, fields, places, around, but, layout),
+    match head.kind {
+        Kind::CatchClause => walk_by_turns(head, fields, around, but, layout),
+        _ => walk_in_order(head, fields, around, but, layout),
     }
 }
 
 // All fields but one, in their order.
 #[cycle(walk)]
 fn walk_in_order<'a>(
-    kind: Kind,
+    head: &Head,
     fields: &'a [Node],
-    places: &PlacesBelow,
     around: &Around<'a>,
     but: Option<usize>,
     layout: &mut Layout<'a>,
 ) -> Result<(), AllocError>
-    ensures { OnOk result (laid_of layout.new ≡ order_walked kind fields.now (walks_at (places_of places.now fields.now) fields.now) but (outside_of around.now) (laid_of layout.old)) }
+    ensures { OnOk result (laid_of layout.new ≡ order_walked head.now.kind fields.now (walks_of head.now fields.now) but (outside_of around.now) (laid_of layout.old)) }
 {
     for index in 0..fields.len() {
-        walk_but(kind, fields, index, places, around, but, layout)?;
+        walk_but(head, fields, index, around, but, layout)?;
     }
     Ok(())
 }
@@ -274,25 +280,16 @@ fn walk_in_order<'a>(
 // All fields but one, each in its turn, as those of a catch clause have it.
 #[cycle(walk)]
 fn walk_by_turns<'a>(
-    kind: Kind,
+    head: &Head,
     fields: &'a [Node],
-    places: &PlacesBelow,
     around: &Around<'a>,
     but: Option<usize>,
     layout: &mut Layout<'a>,
 ) -> Result<(), AllocError>
-    ensures { OnOk result (laid_of layout.new ≡ fields_walked kind fields.now (walks_at (places_of places.now fields.now) fields.now) but (outside_of around.now) (laid_of layout.old)) }
+    ensures { OnOk result (laid_of layout.new ≡ fields_walked head.now.kind fields.now (walks_of head.now fields.now) but (outside_of around.now) (laid_of layout.old)) }
 {
     for turn in 0..fields.len() + 1 {
-        walk_but(
-            kind,
-            fields,
-            child_at(kind, turn),
-            places,
-            around,
-            but,
-            layout,
-        )?;
+        walk_but(head, fields, child_at(head.kind, turn), around, but, layout)?;
     }
     Ok(())
 }
@@ -300,19 +297,18 @@ fn walk_by_turns<'a>(
 // A field, unless it is that one.
 #[cycle(walk)]
 fn walk_but<'a>(
-    kind: Kind,
+    head: &Head,
     fields: &'a [Node],
     index: usize,
-    places: &PlacesBelow,
     around: &Around<'a>,
     but: Option<usize>,
     layout: &mut Layout<'a>,
 ) -> Result<(), AllocError>
-    ensures { OnOk result (laid_of layout.new ≡ but_walked kind fields.now (walks_at (places_of places.now fields.now) fields.now) but index (outside_of around.now) (laid_of layout.old)) }
+    ensures { OnOk result (laid_of layout.new ≡ but_walked head.now.kind fields.now (walks_of head.now fields.now) but index (outside_of around.now) (laid_of layout.old)) }
 {
     match but {
         Some(but) if but == index => Ok(()),
-        _ => walk_field(kind, fields, index, places, around, layout),
+        _ => walk_field(head, fields, index, around, layout),
     }
 }
 
@@ -331,18 +327,17 @@ fn round_field<'a>(kind: Kind, fields: &'a [Node], index: usize, around: &Around
 // A field, if it is there and no leaf.
 #[cycle(walk)]
 fn walk_field<'a>(
-    kind: Kind,
+    head: &Head,
     fields: &'a [Node],
     index: usize,
-    places: &PlacesBelow,
     around: &Around<'a>,
     layout: &mut Layout<'a>,
 ) -> Result<(), AllocError>
-    ensures { OnOk result (laid_of layout.new ≡ field_walked kind fields.now (walks_at (places_of places.now fields.now) fields.now) index (outside_of around.now) (laid_of layout.old)) }
+    ensures { OnOk result (laid_of layout.new ≡ field_walked head.now.kind fields.now (walks_of head.now fields.now) index (outside_of around.now) (laid_of layout.old)) }
 {
     match fields.get(index) {
         Some(child) if is_leaf(child) => Ok(()),
-        Some(_) => walk_branch(kind, fields, index, places, around, layout),
+        Some(_) => walk_branch(head, fields, index, around, layout),
         None => Ok(()),
     }
 }
@@ -351,17 +346,16 @@ fn walk_field<'a>(
 #[cycle(walk)]
 #[inline(never)]
 fn walk_branch<'a>(
-    kind: Kind,
+    head: &Head,
     fields: &'a [Node],
     index: usize,
-    places: &PlacesBelow,
     around: &Around<'a>,
     layout: &mut Layout<'a>,
 ) -> Result<(), AllocError>
     requires { index < length fields.now }
-    ensures { OnOk result (laid_of layout.new ≡ field_walked kind fields.now (walks_at (places_of places.now fields.now) fields.now) index (outside_of around.now) (laid_of layout.old)) }
+    ensures { OnOk result (laid_of layout.new ≡ field_walked head.now.kind fields.now (walks_of head.now fields.now) index (outside_of around.now) (laid_of layout.old)) }
 {
     let child = &fields[index];
-    let below = round_field(kind, fields, index, around);
-    walk(child, places.at(index, child), &below, layout)
+    let below = round_field(head.kind, fields, index, around);
+    walk(child, head.places.at(index, child), &below, layout)
 }

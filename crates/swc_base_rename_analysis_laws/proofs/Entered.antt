@@ -98,7 +98,7 @@ module _ (t : Node) (h : Path) (w : Place) (n : Node) (there : IsAt program_plac
     key = marked_optional k ts walks (key_field k) h o m
 
     abbrev new : Marked → MarkedScope
-    new m = record { path = h; region = record { kind = s; parent = parent; function = function_at (regions_of m) s parent; start = length m.names; end = length m.names } }
+    new m = record { path = h; region = record { kind = s; function = function_at (regions_of m) s parent; start = length m.names; end = length m.names } }
 
     -- a scope below a key is entered before the scope of its node
     key_enters : (f : ℕ) → key_field k ≡ Some f → (r u : MarkedScope) → u.path ≡ h → StartsWith (λ j. is_at (key_field k) j ≡ true) h r.path → EntersFirst t r u

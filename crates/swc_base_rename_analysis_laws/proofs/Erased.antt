@@ -35,11 +35,11 @@ met_too u x m = λ j. record { regions = regions_of m; names = sym (map-append (
 
 entered_too : (h : Path) (k : ScopeKind) (parent : Option ℕ) (m : Marked) → enter k parent (erased m) ≡ erased (marked_enter h k parent m)
 entered_too h k parent m =
-    ap (λ n. record { regions = regions_of m ++ record { kind = k; parent = parent; function = function_at (regions_of m) k parent; start = n; end = n } ∷ []; names = map (λ n. n.met) m.names }) (length-map m.names (λ n. n.met))
+    ap (λ n. record { regions = regions_of m ++ record { kind = k; function = function_at (regions_of m) k parent; start = n; end = n } ∷ []; names = map (λ n. n.met) m.names }) (length-map m.names (λ n. n.met))
     ∙ (λ j. record { regions = sym (map-append (λ s. s.region) m.scopes (new ∷ [])) j; names = map (λ n. n.met) m.names })
   where
     new : MarkedScope
-    new = record { path = h; region = record { kind = k; parent = parent; function = function_at (regions_of m) k parent; start = length m.names; end = length m.names } }
+    new = record { path = h; region = record { kind = k; function = function_at (regions_of m) k parent; start = length m.names; end = length m.names } }
 
 set_too : (ss : List MarkedScope) (n : ℕ) (s : MarkedScope) → slice_set (map (λ s. s.region) ss) n s.region ≡ map (λ s. s.region) (slice_set ss n s)
 set_too [] n s = refl

@@ -45,7 +45,7 @@ marked_meet u x m = record m { names = m.names ++ record { use_ = u; met = x } �
 
 abbrev pub marked_enter : Path → ScopeKind → Option ℕ → Marked → Marked
 marked_enter h k parent m = record m {
-  scopes = m.scopes ++ record { path = h; region = record { kind = k; parent = parent; function = function_at (regions_of m) k parent; start = length m.names; end = length m.names } } ∷ [];
+  scopes = m.scopes ++ record { path = h; region = record { kind = k; function = function_at (regions_of m) k parent; start = length m.names; end = length m.names } } ∷ [];
 }
 
 abbrev pub marked_changed : (Region → Region) → List MarkedScope → ℕ → Option MarkedScope → List MarkedScope

@@ -29,27 +29,27 @@ walk-returns-in-Tree t c =
 pub walk_tree-returns-in-None : goal.walk_tree-returns-in-None
 walk_tree-returns-in-None t c =
     subst (λ l. OnOk c.walk_fields.result (laid_of c.walk_fields.new.layout ≡ l))
-    (tree_walked c.args.place (Tree c.args.kind c.args.fields.now) c.args.kind c.args.fields.now c.places_of_fields-places.result refl c.places_of_fields-places.ensures
+    (tree_walked c.args.place (Tree c.args.kind c.args.fields.now) c.args.kind c.args.fields.now c.places_of_fields.result refl c.places_of_fields.ensures
     (outside_of c.args.around.now) (laid_of c.args.layout.now) c.opened.result c.opened.ensures _ c.in-None.ensures)
     c.walk_fields.ensures
 
 pub walk_tree-returns-in-Some : goal.walk_tree-returns-in-Some
 walk_tree-returns-in-Some t c =
     subst (λ l. OnOk c.walk_scope.result (laid_of c.walk_scope.new.layout ≡ l))
-    (tree_walked c.args.place (Tree c.args.kind c.args.fields.now) c.args.kind c.args.fields.now c.places_of_fields-places.result refl c.places_of_fields-places.ensures
+    (tree_walked c.args.place (Tree c.args.kind c.args.fields.now) c.args.kind c.args.fields.now c.places_of_fields.result refl c.places_of_fields.ensures
     (outside_of c.args.around.now) (laid_of c.args.layout.now) c.opened.result c.opened.ensures _ c.in-Some.ensures)
     c.walk_scope.ensures
 
 pub walk_by_turns-loop-turn-preserved : goal.walk_by_turns-loop-turn-preserved
 walk_by_turns-loop-turn-preserved t c =
-    one_turn_more (λ i. walk_but c.args.kind c.args.fields.now (walks_at (places_of c.args.places.now c.args.fields.now) c.args.fields.now) c.args.but (child_at c.args.kind i) (outside_of c.args.around.now))
+    one_turn_more (λ i. walk_but c.args.head.now.kind c.args.fields.now (walks_at (places_of c.args.head.now.places c.args.fields.now) c.args.fields.now) c.args.but (child_at c.args.head.now.kind i) (outside_of c.args.around.now))
     c.loop-turn.turn (laid_of c.args.layout.now) (laid_of c.loop-turn.layout) (laid_of c.walk_but.new.layout) c.loop-turn.invariant
     (c.in_ok-walk_but.ensures
-    ∙ ap (λ i. walk_but c.args.kind c.args.fields.now (walks_at (places_of c.args.places.now c.args.fields.now) c.args.fields.now) c.args.but i (outside_of c.args.around.now) (laid_of c.loop-turn.layout)) c.child_at.ensures)
+    ∙ ap (λ i. walk_but c.args.head.now.kind c.args.fields.now (walks_at (places_of c.args.head.now.places c.args.fields.now) c.args.fields.now) c.args.but i (outside_of c.args.around.now) (laid_of c.loop-turn.layout)) c.child_at.ensures)
 
 pub walk_scope-returns : goal.walk_scope-returns
 walk_scope-returns t c =
-    scope_walked c.args.scope c.args.place c.args.kind c.args.fields.now (walks_at (places_of c.args.places.now c.args.fields.now) c.args.fields.now) (outside_of c.args.around.now) (laid_of c.args.layout.now)
+    scope_walked c.args.scope c.args.place c.args.head.now.kind c.args.fields.now (walks_at (places_of c.args.head.now.places c.args.fields.now) c.args.fields.now) (outside_of c.args.around.now) (laid_of c.args.layout.now)
     c.key_field-key.result c.key_field-key.ensures (laid_of c.walk_optional.new.layout) c.in_ok-walk_optional.ensures
     c.in_ok-number.number c.in_ok-number.ensures.number (laid_of c.enter.new.self) c.in_ok-number.ensures.entered
     c.name_outside-name.result c.name_outside-name.ensures (laid_of c.walk_optional-2.new.layout) c.in_ok-walk_optional-2.ensures
@@ -60,28 +60,28 @@ walk_scope-returns t c =
 pub walk_fields-returns-in_default : goal.walk_fields-returns-in_default
 walk_fields-returns-in_default t c =
     subst (λ l. OnOk c.walk_in_order.result (laid_of c.walk_in_order.new.layout ≡ l))
-    (in_order_walked c.args.kind c.in_default.not-CatchClause c.args.fields.now (places_of c.args.places.now c.args.fields.now) c.args.but (outside_of c.args.around.now) (laid_of c.args.layout.now))
+    (in_order_walked c.args.head.now.kind c.in_default.not-CatchClause c.args.fields.now (places_of c.args.head.now.places c.args.fields.now) c.args.but (outside_of c.args.around.now) (laid_of c.args.layout.now))
     c.walk_in_order.ensures
 
 pub walk_in_order-loop-index-preserved : goal.walk_in_order-loop-index-preserved
 walk_in_order-loop-index-preserved t c =
-    one_turn_more (λ i. walk_but c.args.kind c.args.fields.now (walks_at (places_of c.args.places.now c.args.fields.now) c.args.fields.now) c.args.but i (outside_of c.args.around.now))
+    one_turn_more (λ i. walk_but c.args.head.now.kind c.args.fields.now (walks_at (places_of c.args.head.now.places c.args.fields.now) c.args.fields.now) c.args.but i (outside_of c.args.around.now))
     c.loop-index.index (laid_of c.args.layout.now) (laid_of c.loop-index.layout) (laid_of c.walk_but.new.layout) c.loop-index.invariant c.in_ok-walk_but.ensures
 
 pub walk_field-returns-in-Some : goal.walk_field-returns-in-Some
 walk_field-returns-in-Some t c =
     let found = c.in-Some.ensures.lookup in
     let there = slice_get_read c.args.fields.now _ c.args.index c.in-Some.child.now refl found.3.0 found.1 in
-    leaf_field_walked c.args.kind c.args.fields.now (places_of c.args.places.now c.args.fields.now) c.args.index c.in-Some.child.now there c.if-is_leaf.ensures (outside_of c.args.around.now) (laid_of c.args.layout.now)
+    leaf_field_walked c.args.head.now.kind c.args.fields.now (places_of c.args.head.now.places c.args.fields.now) c.args.index c.in-Some.child.now there c.if-is_leaf.ensures (outside_of c.args.around.now) (laid_of c.args.layout.now)
 
 pub walk_branch-returns : goal.walk_branch-returns
 walk_branch-returns t c =
     let there = slice_get_read c.args.fields.now _ c.args.index c.index-fields-index.result refl c.requires c.index-fields-index.is in
     subst (λ l. OnOk c.walk.result (laid_of c.walk.new.layout ≡ l))
-    (field_walked c.args.kind c.args.fields.now c.args.places.now c.args.index c.index-fields-index.result there c.at.result c.at.ensures (outside_of c.args.around.now) (outside_of c.round_field-below.result) c.round_field-below.ensures (laid_of c.args.layout.now))
+    (field_walked c.args.head.now.kind c.args.fields.now c.args.head.now.places c.args.index c.index-fields-index.result there c.at.result c.at.ensures (outside_of c.args.around.now) (outside_of c.round_field-below.result) c.round_field-below.ensures (laid_of c.args.layout.now))
     c.walk.ensures
 
 pub walk_field-returns-in-None : goal.walk_field-returns-in-None
 walk_field-returns-in-None t c =
     let past = slice_get_past c.args.fields.now c.args.index c.in-None.ensures.lookup.3 in
-    sym (no_field_walked c.args.kind c.args.fields.now (places_of c.args.places.now c.args.fields.now) c.args.index past (outside_of c.args.around.now) (laid_of c.args.layout.now))
+    sym (no_field_walked c.args.head.now.kind c.args.fields.now (places_of c.args.head.now.places c.args.fields.now) c.args.index past (outside_of c.args.around.now) (laid_of c.args.layout.now))
