@@ -4,9 +4,10 @@
 JSBASE is the built program of that crate. Each shape is a script of N, 2 N and 4 N parts (20,000, if N is not given): blocks side
 by side, the parameters of one function, the functions of one block, catch clauses, labels, pairs of parentheses, the items of a
 sequence, references below 40 blocks, names of one function that the kit's hash can't tell apart, and as many others of their
-length; pairs whose contents have spans of their own, and such that a known mixer of both numbers can't tell apart; calls in chains (`a.b().b()`), operators in chains on the left and on the right, and arrows in nests, 10 in each and as
-many as JSON may nest. The time is of the processor for one run of `resolve script`, of `unparen script` for pairs and
-sequences, of `fix script` for pairs that are due, chains and nests; in a table that grows in step with N each number is twice the one before it."""
+length; pairs whose contents have spans of their own, and such that a known mixer of both numbers can't tell apart; functions that each declare the
+same names with a mark of their own, and the same with a reference behind the function that declares it; calls in chains (`a.b().b()`), operators in chains on
+the left and on the right, and arrows in nests, 10 in each and as many as JSON may nest. The time is of the processor for one run of `resolve script`, of `hygiene script` for what
+is renamed, of `unparen script` for pairs and sequences, of `fix script` for pairs that are due, chains and nests; in a table that grows in step with N each number is twice the one before it."""
 import json
 import random
 import resource
@@ -25,20 +26,20 @@ def node(kind, /, **fields):
     return {'type': kind, 'span': AT, **fields}
 
 
-def named(kind, name):
-    return node(kind, ctxt=[], sym=name)
+def named(kind, name, marks=()):
+    return node(kind, ctxt=list(marks), sym=name)
 
 
-def reference(name):
-    return named('Ident', name)
+def reference(name, marks=()):
+    return named('Ident', name, marks)
 
 
 def statement(expression):
     return node('ExprStmt', expr=expression)
 
 
-def declaration(keyword, names):
-    parts = [node('VarDeclarator', name=named('BindingIdent', name), init=None) for name in names]
+def declaration(keyword, names, marks=()):
+    parts = [node('VarDeclarator', name=named('BindingIdent', name, marks), init=None) for name in names]
     return node('VarDecl', kind=keyword, decls=parts)
 
 
@@ -46,8 +47,8 @@ def block(statements):
     return node('BlockStmt', stmts=statements)
 
 
-def function(name, parameters, statements):
-    patterns = [node('Param', pat=named('BindingIdent', name)) for name in parameters]
+def function(name, parameters, statements, marks=()):
+    patterns = [node('Param', pat=named('BindingIdent', name, marks)) for name in parameters]
     body = node('Function', params=patterns, body=block(statements), is_generator=False, is_async=False)
     return node('FnDecl', ident=reference(name), function=body)
 
@@ -151,6 +152,11 @@ def body_of(names):
     return [function('f', [], [declaration('var', names)] + [statement(reference(name)) for name in names])]
 
 
+def functions_beside(n):
+    """Functions of the same names, whose own have a mark for each function."""
+    return [function(f'f{i}', ['a'], [declaration('var', ['b'], [i + 3]), statement(reference('a', [i + 3]))], [i + 3]) for i in range(n)]
+
+
 SHAPES = {
     'blocks': ('resolve', lambda n: [block([declaration('let', ['a']), statement(reference('a'))]) for _ in range(n)]),
     'parameters': ('resolve', lambda n: [function('f', [f'p{i}' for i in range(n)], [])]),
@@ -166,6 +172,8 @@ SHAPES = {
     'other names, renamed': ('hygiene', lambda n: body_of(others(n))),
     'due pairs': ('fix', lambda n: due_pairs(spans(n))),
     'due pairs, spans that a mixer puts together': ('fix', lambda n: due_pairs(colliding_spans(n))),
+    'functions of the same names, renamed': ('hygiene', functions_beside),
+    'functions of the same names, and one reference outside, renamed': ('hygiene', lambda n: functions_beside(n) + [statement(reference('a', [3]))]),
     'calls, 10 in a chain': ('fix', nests(10, called)),
     'calls, 50 in a chain': ('fix', nests(50, called)),
     'operators, 10 on the left': ('fix', nests(10, lambda left: added(left, reference('a')))),
@@ -177,16 +185,16 @@ SHAPES = {
 }
 
 
-def envelope(statements):
+def envelope(statements, marks):
     script = node('Script', body=statements, shebang=None)
-    return json.dumps({'marks': [[1, 0], [2, 0]], 'unresolved': 1, 'top': 2, 'tree': script}, separators=(',', ':'))
+    return json.dumps({'marks': [[mark + 1, 0] for mark in range(marks)], 'unresolved': 1, 'top': 2, 'tree': script}, separators=(',', ':'))
 
 
 def time_of(program, shape, n):
     """The processor time of one run in seconds."""
     command, statements = SHAPES[shape]
     with tempfile.TemporaryFile('w+') as source:
-        source.write(envelope(statements(n)))
+        source.write(envelope(statements(n), n + 2 if shape.startswith('functions of the same names') else 2))
         source.seek(0)
         before = resource.getrusage(resource.RUSAGE_CHILDREN)
         subprocess.run([program, command, 'script'], stdin=source, stdout=subprocess.DEVNULL, check=True)

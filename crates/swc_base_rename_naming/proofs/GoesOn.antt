@@ -1,5 +1,5 @@
 -- Texts that were tried in a scope stay taken there.
-use Rattle.std.proofs.Common.{◌≡◌, ℕ, ◌<◌, ◌≤◌, ◌==◌, max, nat_lt, eqb-true, Bool, true, false, cond, Some, Global, String, string_bytes, ◌||◌, ◌∷◌, List, [], ◌++◌, refl, sym, subst, ap, ◌∙◌, arith}
+use Rattle.std.proofs.Common.{◌≡◌, ℕ, ◌<◌, ◌≤◌, ◌==◌, max, nat_lt, eqb-true, Bool, true, false, not, ◌&&◌, cond, Some, Global, String, string_bytes, ◌||◌, ◌∷◌, List, [], ◌++◌, refl, sym, subst, ap, ◌∙◌, arith}
 use Rattle.std.specs.Prelude.{if◌then◌else◌, unwrap_or}
 use Rattle.std.specs.BTreeMap as tree
 use Rattle.std.specs.BTreeMap.{BTreeMap, get_by_text}
@@ -8,29 +8,35 @@ use Rattle.std.proofs.lemmas.Map.Text.{btree_map_updates_text}
 use Rattle.std.specs.List.{list_any}
 use Rattle.std.specs.Str.{bytes_eq}
 use Rattle.std.proofs.lemmas.Slice.Eq.{bytes_eq-Decides}
+use Rattle.std.proofs.Math.Bool.{or-true}
 use Rattle.swc_tree_marks.specs.declared.error.PassError.{PassError}
 use Rattle.swc_tree_marks.specs.declared.error.PassError.TheVariants as pass
 use Rattle.swc_base_rename_substitution.specs.Names.{Id}
-use Rattle.swc_base_rename_naming.specs.Chained.{IsPushed, ids_of, outer_ids, own_ids}
+use Rattle.swc_base_rename_naming.specs.Chained.{ids_of}
 use Rattle.swc_base_rename_naming.specs.Counters.{greatest}
 use Rattle.swc_base_rename_naming.specs.Free.{AllTaken, FindsFree, IsSearchRefusal}
-use Rattle.swc_base_rename_naming.specs.Steps.{taken_at}
+use Rattle.swc_base_rename_naming.specs.Steps.{HasAlso, HasMore, IsPutDown, Maps, any_given, taken_at}
 use Rattle.swc_base_rename_naming.specs.Tried.{IsTried, tried_at}
 use Rattle.swc_base_rename_naming.specs.declared.reverse_map.ReverseMap.{ReverseMap}
 use Rattle.swc_base_rename_naming.specs.declared.tried.Tried.{Tried}
-use Rattle.swc_base_rename_naming.proofs.Stands.{any_pushed}
 
-more_or : (a b c : Bool) → (a || b) ≡ true → (a || (b || c)) ≡ true
-more_or true b c h = refl
-more_or false true c h = refl
-more_or false false c h = absurd (cc)
+-- what is taken stays so where the maps have more
+more_or : (p a b : Bool) → (a ≡ true → b ≡ true) → (p || a) ≡ true → (p || b) ≡ true
+more_or true a b more h = refl
+more_or false a b more h = more h
 
-more_taken : (preserved : List ℕ → Bool) (occurs : ℕ → ℕ → Bool) (was is : ReverseMap) (text : List ℕ) (id s : ℕ) (x : List ℕ) → IsPushed text id was is → taken_at preserved occurs was s x ≡ true → taken_at preserved occurs is s x ≡ true
-more_taken preserved occurs was is text id s x pushed h =
-    ap (λ own. preserved x || list_any (occurs s) (own ++ outer_ids is x)) (pushed.own x)
-    ∙ ap (λ outer. preserved x || list_any (occurs s) ((if bytes_eq text x then own_ids was x ++ id ∷ [] else own_ids was x) ++ outer)) (pushed.outer x)
-    ∙ ap (λ b. preserved x || b) (any_pushed (occurs s) (bytes_eq text x) (own_ids was x) (outer_ids was x) id)
-    ∙ more_or (preserved x) (list_any (occurs s) (ids_of was x)) _ h
+both_more : (a b c d : Bool) → (a ≡ true → c ≡ true) → (b ≡ true → d ≡ true) → (a || b) ≡ true → (c || d) ≡ true
+both_more true b c d first second h = ap (λ k. k || d) (first refl)
+both_more false b c d first second h = ap (λ k. c || k) (second h) ∙ or-true c
+
+with_also : (a b c : Bool) → b ≡ (a || c) → a ≡ true → b ≡ true
+with_also a b c e h = e ∙ ap (λ k. k || c) h
+
+pub has_more : (more : Bool) (text : List ℕ) (id : ℕ) (was is : ReverseMap) → HasAlso more text id was is → HasMore was is
+has_more more text id was is also x f h = with_also (list_any f (ids_of was x)) (list_any f (ids_of is x)) (more && (bytes_eq text x && f id)) (also x f) h
+
+pub no_less : (map : ReverseMap) → HasMore map map
+no_less map x f h = h
 
 either_side : {P : Type 0} (k m : ℕ) → (k < m → P) → (m ≤ k → P) → P
 either_side {P} k m less more = told (nat_lt k m) refl
@@ -40,19 +46,26 @@ either_side {P} k m less more = told (nat_lt k m) refl
     told false e = more (grind arith)
 
 module _ (text : Id → ℕ → List ℕ) (preserved : List ℕ → Bool) (occurs : ℕ → ℕ → Bool) where
-  -- one id more has got a text
-  pub tried_pushed : (was is : ReverseMap) (tried : Tried) (x : List ℕ) (id : ℕ) → IsPushed x id was is → IsTried text preserved occurs was tried → IsTried text preserved occurs is tried
-  tried_pushed was is tried x id pushed h s y k below = more_taken preserved occurs was is x id s (text y k) pushed (h s y k below)
+  -- the maps have more
+  pub tried_more_given : (was is : Maps) (tried : Tried) → HasMore was.0 is.0 → HasMore was.1 is.1 → IsTried text preserved occurs was tried → IsTried text preserved occurs is tried
+  tried_more_given was is tried first second h s y k below =
+      let x = text y k in
+      more_or (preserved x) (any_given (occurs s) was x) (any_given (occurs s) is x)
+      (both_more (list_any (occurs s) (ids_of was.0 x)) (list_any (occurs s) (ids_of was.1 x)) (list_any (occurs s) (ids_of is.0 x)) (list_any (occurs s) (ids_of is.1 x)) (first x (occurs s)) (second x (occurs s)))
+      (h s y k below)
 
-  pub tried_first : (given : ReverseMap) (tried : Tried) → ((s : ℕ) (x : List ℕ) → tried_at tried s x ≡ 0) → IsTried text preserved occurs given tried
+  pub tried_put : (was is : Maps) (tried : Tried) (leaks : Bool) (x : List ℕ) (id : ℕ) → IsPutDown leaks x id was is → IsTried text preserved occurs was tried → IsTried text preserved occurs is tried
+  tried_put was is tried leaks x id put h = tried_more_given was is tried (has_more (not leaks) x id was.0 is.0 put.given) (has_more leaks x id was.1 is.1 put.whole) h
+
+  pub tried_first : (given : Maps) (tried : Tried) → ((s : ℕ) (x : List ℕ) → tried_at tried s x ≡ 0) → IsTried text preserved occurs given tried
   tried_first given tried none s x k below = absurd (omega (arith, none s x.0, below))
 
-  earlier : (given : ReverseMap) (tried : Tried) (s : ℕ) (x : Id) (start end : ℕ) → IsTried text preserved occurs given tried → AllTaken (text x) (taken_at preserved occurs given s) (max start (tried_at tried s x.0)) end
+  earlier : (given : Maps) (tried : Tried) (s : ℕ) (x : Id) (start end : ℕ) → IsTried text preserved occurs given tried → AllTaken (text x) (taken_at preserved occurs given s) (max start (tried_at tried s x.0)) end
       → AllTaken (text x) (taken_at preserved occurs given s) start end
   earlier given tried s x start end h later k from below = either_side k (tried_at tried s x.0) (λ less. h s x k less) (λ more. later k (omega (arith, from, more)) below)
 
   -- a search that began past what was tried
-  pub found_earlier : (given : ReverseMap) (tried : Tried) (s : ℕ) (x : Id) (start end : ℕ) (found : List ℕ) → IsTried text preserved occurs given tried
+  pub found_earlier : (given : Maps) (tried : Tried) (s : ℕ) (x : Id) (start end : ℕ) (found : List ℕ) → IsTried text preserved occurs given tried
       → FindsFree (text x) (taken_at preserved occurs given s) (max start (tried_at tried s x.0)) end found → FindsFree (text x) (taken_at preserved occurs given s) start end found
   found_earlier given tried s x start end found h f =
       let from = f.least.from in
@@ -63,7 +76,7 @@ module _ (text : Id → ℕ → List ℕ) (preserved : List ℕ → Bool) (occur
         past = f.past;
       }
 
-  pub refused_earlier : (given : ReverseMap) (tried : Tried) (s : ℕ) (x : Id) (start : ℕ) (e : PassError) → IsTried text preserved occurs given tried
+  pub refused_earlier : (given : Maps) (tried : Tried) (s : ℕ) (x : Id) (start : ℕ) (e : PassError) → IsTried text preserved occurs given tried
       → IsSearchRefusal (text x) (taken_at preserved occurs given s) (max start (tried_at tried s x.0)) e → IsSearchRefusal (text x) (taken_at preserved occurs given s) start e
   refused_earlier given tried s x start pass.NoMemory h why = why
   refused_earlier given tried s x start pass.CounterSpent h why = earlier given tried s x start greatest h why
@@ -71,7 +84,7 @@ module _ (text : Id → ℕ → List ℕ) (preserved : List ℕ → Bool) (occur
   refused_earlier given tried s x start pass.NotAssignable h why = why
 
   -- what one id could not get, no other of its text can
-  pub tried_more : (given : ReverseMap) (was is : Tried) (scope : ℕ) (x : Id) (word : List ℕ) (counter : ℕ) → ((y z : Id) → y.0 ≡ z.0 → (n : ℕ) → text y n ≡ text z n) → word ≡ x.0 → AllTaken (text x) (taken_at preserved occurs given scope) 0 counter
+  pub tried_more : (given : Maps) (was is : Tried) (scope : ℕ) (x : Id) (word : List ℕ) (counter : ℕ) → ((y z : Id) → y.0 ≡ z.0 → (n : ℕ) → text y n ≡ text z n) → word ≡ x.0 → AllTaken (text x) (taken_at preserved occurs given scope) 0 counter
       → ((s : ℕ) (t : List ℕ) → tried_at is s t ≡ (if scope == s then (if bytes_eq word t then counter else tried_at was s t) else 0)) → IsTried text preserved occurs given was → IsTried text preserved occurs given is
   tried_more given was is scope x word counter alike named taken noted h s y k below = in_scope (scope == s) refl (rw (noted s y.0) at below)
     where

@@ -17,9 +17,13 @@ pub record IsSpent (old new : ℕ) : Type 0 where
   pub at_end : old ≡ greatest
   pub stays : new ≡ old
 
+-- a refusal is for want of memory, or since counters are spent, of which so much is known
+abbrev pub IsOfMemoryOr : Type 0 → PassError → Type 0
+IsOfMemoryOr spent pass.NoMemory = Unit {0}
+IsOfMemoryOr spent pass.CounterSpent = spent
+IsOfMemoryOr spent pass.MarksSpent = ⊥
+IsOfMemoryOr spent pass.NotAssignable = ⊥
+
 -- a text may be refused for want of memory, and where the counter is spent
 abbrev pub IsRefusal : PassError → ℕ → ℕ → Type 0
-IsRefusal pass.NoMemory old new = Unit {0}
-IsRefusal pass.CounterSpent old new = IsSpent old new
-IsRefusal pass.MarksSpent old new = ⊥
-IsRefusal pass.NotAssignable old new = ⊥
+IsRefusal e old new = IsOfMemoryOr (IsSpent old new) e

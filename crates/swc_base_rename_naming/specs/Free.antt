@@ -3,8 +3,7 @@ use Rattle.std.specs.Prelude.{◌≡◌, ℕ, ◌+◌, ◌<◌, ◌≤◌, Bool,
 use Rattle.std.specs.List.{list_any}
 use Rattle.std.specs.Str.{bytes_eq}
 use Rattle.swc_tree_marks.specs.declared.error.PassError.{PassError}
-use Rattle.swc_tree_marks.specs.declared.error.PassError.TheVariants as pass
-use Rattle.swc_base_rename_naming.specs.Counters.{greatest}
+use Rattle.swc_base_rename_naming.specs.Counters.{IsOfMemoryOr, greatest}
 
 -- the texts of an id at each counter
 abbrev pub Texts : Type 0
@@ -33,10 +32,7 @@ pub record FindsFree (text : Texts) (taken : Test) (start end : ℕ) (found : Li
 
 -- a search is refused for want of memory, or where no counter from the start and below the greatest has a free text
 abbrev pub IsSearchRefusal : Texts → Test → ℕ → PassError → Type 0
-IsSearchRefusal text taken start pass.NoMemory = Unit {0}
-IsSearchRefusal text taken start pass.CounterSpent = AllTaken text taken start greatest
-IsSearchRefusal text taken start pass.MarksSpent = ⊥
-IsSearchRefusal text taken start pass.NotAssignable = ⊥
+IsSearchRefusal text taken start = IsOfMemoryOr (AllTaken text taken start greatest)
 
 -- the list has each text that is taken
 abbrev pub Covers : List (List ℕ) → Test → Type 0

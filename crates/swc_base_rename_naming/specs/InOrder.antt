@@ -3,8 +3,7 @@ use Rattle.std.specs.Prelude.{◌≡◌, ℕ, ◌+◌, ◌==◌, Bool, true, not
 use Rattle.std.specs.List.{list_any, last_or}
 use Rattle.std.specs.Str.{bytes_eq}
 use Rattle.swc_tree_marks.specs.declared.error.PassError.{PassError}
-use Rattle.swc_tree_marks.specs.declared.error.PassError.TheVariants as pass
-use Rattle.swc_base_rename_naming.specs.Counters.{greatest}
+use Rattle.swc_base_rename_naming.specs.Counters.{IsOfMemoryOr, greatest}
 use Rattle.swc_base_rename_naming.specs.Free.{AllTaken, IsLeastFree}
 
 -- a place that declares an id: the number of its scope, and the number of the id
@@ -90,7 +89,4 @@ pub record IsSpent (r : Rules) (sites : List Site) : Type 0 where
 
 -- names are refused for want of memory, and where the counters are spent
 abbrev pub IsRefused : Rules → List Site → PassError → Type 0
-IsRefused r sites pass.NoMemory = Unit {0}
-IsRefused r sites pass.CounterSpent = IsSpent r sites
-IsRefused r sites pass.MarksSpent = ⊥
-IsRefused r sites pass.NotAssignable = ⊥
+IsRefused r sites = IsOfMemoryOr (IsSpent r sites)

@@ -6,6 +6,7 @@ pub mod Free
 pub mod Chained
 pub mod InOrder
 pub mod Steps
+pub mod Planned
 pub mod Inside
 pub mod ByIds
 pub mod Tried

@@ -1,11 +1,14 @@
 //! Names for ids, one after the other.
 ghost use Rattle.std.specs.Prelude.{◌≡◌, ◌||◌, ℕ, Bool, None, IfOk, IfErr, OnOk};
+ghost use Rattle.std.specs.Ordering.{nat_cmp};
+ghost use Rattle.std.specs.BTreeSet.{contains};
 ghost use Rattle.std.specs.List.{list_any};
 ghost use Rattle.swc_base_rename_naming.specs.Chained.{ids_of};
 ghost use Rattle.swc_base_rename_naming.specs.Free.{FindsFree, IsSearchRefusal};
 ghost use Rattle.swc_base_rename_naming.specs.InOrder.{IsRefused, NamedInOrder};
 ghost use Rattle.swc_base_rename_naming.specs.Tried.{IsTried};
-ghost use Rattle.swc_base_rename_naming.specs.Steps.{IsKept, IsNamable, IsNameGiven, all_count, next_at as is_next_at, naming, rules, taken_at, text_at, IsSiteDone, IsSiteRefused};
+ghost use Rattle.swc_base_rename_naming.specs.Planned.{planned};
+ghost use Rattle.swc_base_rename_naming.specs.Steps.{HasMore, IsKept, IsNamable, IsNameGiven, IsPutDown, all_count, next_at as is_next_at, naming, rules, taken_at, text_at, IsSiteDone, IsSiteRefused};
 
 use crate::asked::Asked;
 use crate::free::{Taken, free_text};
@@ -13,15 +16,18 @@ use crate::new_texts::NewTexts;
 use crate::reverse_map::ReverseMap;
 use crate::tried::Tried;
 use std::alloc::Global;
-use std::collections::BTreeMap;
+use std::collections::{BTreeMap, BTreeSet};
 use swc_tree_marks::{Id, JsWord, NoMemory, PassError};
 
-// What does not change while names are given: the texts, the program, and whether the counter goes on from id to id in a scope.
+// What does not change while names are given: the texts, the program, whether the counter goes on from id to id in a scope, and
+// which scopes leak.
 #[derive(Clone, Copy)]
 pub struct Plan<'a, N, A> {
+    pub alloc: Global,
     pub texts: &'a N,
     pub asked: &'a A,
     pub goes_on: bool,
+    pub leaks: &'a BTreeSet<usize>,
 }
 
 // What is taken at a scope: texts that nobody may get, and those of ids that occur there or below.
@@ -29,6 +35,7 @@ pub struct Plan<'a, N, A> {
 struct AtScope<'a, 'b, A> {
     asked: &'a A,
     given: &'a ReverseMap<'b>,
+    whole: &'a ReverseMap<'b>,
     scope: usize,
 }
 
@@ -45,10 +52,12 @@ fn any_occurs<A: Asked>(asked: &A, given: &ReverseMap<'_>, scope: usize, text: &
 }
 
 impl<A: Asked> Taken for AtScope<'_, '_, A> {
-    ghost taken = { λ at. taken_at (A.preserved at.asked.now) (A.occurs at.asked.now) at.given.now at.scope };
+    ghost taken = { λ at. taken_at (A.preserved at.asked.now) (A.occurs at.asked.now) (at.given.now, at.whole.now) at.scope };
 
     fn is_taken(&self, text: &str) -> bool {
-        self.asked.is_preserved(text) || any_occurs(self.asked, self.given, self.scope, text)
+        self.asked.is_preserved(text)
+            || any_occurs(self.asked, self.given, self.scope, text)
+            || any_occurs(self.asked, self.whole, self.scope, text)
     }
 }
 
@@ -108,35 +117,51 @@ fn next_at(goes_on: bool, names: &GivenTexts, scope: usize) -> usize
 
 // The first text of an id that is free at a scope.
 fn free_at<N: NewTexts, A: Asked>(
-    alloc: Global,
     plan: &Plan<'_, N, A>,
     id: &Id,
     scope: usize,
     given: &ReverseMap<'_>,
+    whole: &ReverseMap<'_>,
     next: &mut usize,
 ) -> Result<JsWord, PassError>
-    ensures found { IfOk result (FindsFree (N.text plan.now.texts.now id.now) (taken_at (A.preserved plan.now.asked.now) (A.occurs plan.now.asked.now) given.now scope) next.old next.new) }
-    ensures refused { IfErr result (IsSearchRefusal (N.text plan.now.texts.now id.now) (taken_at (A.preserved plan.now.asked.now) (A.occurs plan.now.asked.now) given.now scope) next.old) }
+    ensures found { IfOk result (FindsFree (N.text plan.now.texts.now id.now) (taken_at (A.preserved plan.now.asked.now) (A.occurs plan.now.asked.now) (given.now, whole.now) scope) next.old next.new) }
+    ensures refused { IfErr result (IsSearchRefusal (N.text plan.now.texts.now id.now) (taken_at (A.preserved plan.now.asked.now) (A.occurs plan.now.asked.now) (given.now, whole.now) scope) next.old) }
 {
     let taken = AtScope {
         asked: plan.asked,
         given,
+        whole,
         scope,
     };
-    free_text(alloc, plan.texts, id, &taken, next)
+    free_text(plan.alloc, plan.texts, id, &taken, next)
 }
 
-// Puts a text down for the id of a site, and the counter after it.
+// Puts down that an id has got a text: in the map of the whole if its scope leaks, else in that of its scope.
+fn put_down(
+    leaks: bool,
+    text: JsWord,
+    id: usize,
+    given: &mut ReverseMap<'_>,
+    whole: &mut ReverseMap<'_>,
+) -> Result<(), NoMemory>
+    ensures { OnOk result (IsPutDown leaks text id (given.old, whole.old) (given.new, whole.new)) }
+{
+    if leaks {
+        whole.push_entry(text, id)
+    } else {
+        given.push_entry(text, id)
+    }
+}
+
+// Keeps a text as that of the id of a site, with the counter after it.
 fn keep(
     text: JsWord,
     site: (usize, usize),
     next: usize,
-    given: &mut ReverseMap<'_>,
     names: &mut GivenTexts,
 ) -> Result<(), NoMemory>
-    ensures { OnOk result (IsKept text site next names.old names.new given.old given.new) }
+    ensures { OnOk result (IsKept text site next names.old names.new) }
 {
-    given.push_entry(text.clone()?, site.1)?;
     names.texts.insert(site.1, text)?;
     names.scope = site.0;
     names.next = next;
@@ -146,65 +171,74 @@ fn keep(
 // The first text of an id that is free at the scope of a site, and the counter after it. The search begins past the counters that
 // were tried for another id of the same text, and where it had to go on, so will the next.
 fn search<N: NewTexts, A: Asked>(
-    alloc: Global,
     plan: &Plan<'_, N, A>,
     id: &Id,
     scope: usize,
     start: usize,
     given: &ReverseMap<'_>,
+    whole: &ReverseMap<'_>,
     tried: &mut Tried,
 ) -> Result<(JsWord, usize), PassError>
-    requires tried { IsTried (N.text plan.now.texts.now) (A.preserved plan.now.asked.now) (A.occurs plan.now.asked.now) given.now tried.old }
-    ensures found { IfOk result (λ found. FindsFree (N.text plan.now.texts.now id.now) (taken_at (A.preserved plan.now.asked.now) (A.occurs plan.now.asked.now) given.now scope) start found.1 found.0) }
-    ensures tried { OnOk result (IsTried (N.text plan.now.texts.now) (A.preserved plan.now.asked.now) (A.occurs plan.now.asked.now) given.now tried.new) }
-    ensures refused { IfErr result (IsSearchRefusal (N.text plan.now.texts.now id.now) (taken_at (A.preserved plan.now.asked.now) (A.occurs plan.now.asked.now) given.now scope) start) }
+    requires tried { IsTried (N.text plan.now.texts.now) (A.preserved plan.now.asked.now) (A.occurs plan.now.asked.now) (given.now, whole.now) tried.old }
+    ensures found { IfOk result (λ found. FindsFree (N.text plan.now.texts.now id.now) (taken_at (A.preserved plan.now.asked.now) (A.occurs plan.now.asked.now) (given.now, whole.now) scope) start found.1 found.0) }
+    ensures tried { OnOk result (IsTried (N.text plan.now.texts.now) (A.preserved plan.now.asked.now) (A.occurs plan.now.asked.now) (given.now, whole.now) tried.new) }
+    ensures refused { IfErr result (IsSearchRefusal (N.text plan.now.texts.now id.now) (taken_at (A.preserved plan.now.asked.now) (A.occurs plan.now.asked.now) (given.now, whole.now) scope) start) }
 {
     let mut next = start.max(tried.counter(scope, id.0.as_str()));
-    let text = free_at(alloc, plan, id, scope, given, &mut next)?;
+    let text = free_at(plan, id, scope, given, whole, &mut next)?;
     if start > 0 || next <= 2 || !plan.texts.are_alike() {
         return Ok((text, next));
     }
-    tried.put(alloc, scope, id.0.clone()?, next - 1)?;
+    tried.put(plan.alloc, scope, id.0.clone()?, next - 1)?;
     Ok((text, next))
 }
 
 // Gives an id its name at a site.
 fn give_name<N: NewTexts, A: Asked>(
-    alloc: Global,
     plan: &Plan<'_, N, A>,
     id: &Id,
     site: (usize, usize),
     given: &mut ReverseMap<'_>,
+    whole: &mut ReverseMap<'_>,
     names: &mut GivenTexts,
     tried: &mut Tried,
 ) -> Result<(), PassError>
-    requires tried { IsTried (N.text plan.now.texts.now) (A.preserved plan.now.asked.now) (A.occurs plan.now.asked.now) given.old tried.old }
-    ensures tried { OnOk result (IsTried (N.text plan.now.texts.now) (A.preserved plan.now.asked.now) (A.occurs plan.now.asked.now) given.new tried.new) }
-    ensures named { OnOk result (IsNameGiven (N.text plan.now.texts.now id.now) (taken_at (A.preserved plan.now.asked.now) (A.occurs plan.now.asked.now) given.old site.0) (is_next_at plan.now.goes_on names.old site.0) site names.old names.new given.old given.new) }
-    ensures refused { IfErr result (IsSearchRefusal (N.text plan.now.texts.now id.now) (taken_at (A.preserved plan.now.asked.now) (A.occurs plan.now.asked.now) given.old site.0) (is_next_at plan.now.goes_on names.old site.0)) }
+    requires tried { IsTried (N.text plan.now.texts.now) (A.preserved plan.now.asked.now) (A.occurs plan.now.asked.now) (given.old, whole.old) tried.old }
+    ensures tried { OnOk result (IsTried (N.text plan.now.texts.now) (A.preserved plan.now.asked.now) (A.occurs plan.now.asked.now) (given.new, whole.new) tried.new) }
+    ensures more { OnOk result (HasMore whole.old whole.new) }
+    ensures named { OnOk result (IsNameGiven (N.text plan.now.texts.now id.now) (taken_at (A.preserved plan.now.asked.now) (A.occurs plan.now.asked.now) (given.old, whole.old) site.0) (is_next_at plan.now.goes_on names.old site.0) (contains nat_cmp plan.now.leaks.now site.0) site names.old names.new (given.old, whole.old) (given.new, whole.new)) }
+    ensures refused { IfErr result (IsSearchRefusal (N.text plan.now.texts.now id.now) (taken_at (A.preserved plan.now.asked.now) (A.occurs plan.now.asked.now) (given.old, whole.old) site.0) (is_next_at plan.now.goes_on names.old site.0)) }
 {
     let start = next_at(plan.goes_on, names, site.0);
-    let (text, next) = search(alloc, plan, id, site.0, start, given, tried)?;
-    keep(text, site, next, given, names)?;
+    let (text, next) = search(plan, id, site.0, start, given, whole, tried)?;
+    put_down(
+        plan.leaks.contains(&site.0),
+        text.clone()?,
+        site.1,
+        given,
+        whole,
+    )?;
+    keep(text, site, next, names)?;
     Ok(())
 }
 
 /// Gives the id of a site its name, if it is to get one.
 pub fn name_site<N: NewTexts, A: Asked>(
-    alloc: Global,
     plan: &Plan<'_, N, A>,
     site: (usize, usize),
     given: &mut ReverseMap<'_>,
+    whole: &mut ReverseMap<'_>,
     names: &mut GivenTexts,
     tried: &mut Tried,
 ) -> Result<(), PassError>
-    requires tried { IsTried (N.text plan.now.texts.now) (A.preserved plan.now.asked.now) (A.occurs plan.now.asked.now) given.old tried.old }
-    ensures tried { OnOk result (IsTried (N.text plan.now.texts.now) (A.preserved plan.now.asked.now) (A.occurs plan.now.asked.now) given.new tried.new) }
-    ensures named { OnOk result ((counts : ℕ → ℕ → Bool) → IsSiteDone (naming (N.text plan.now.texts.now) plan.now.goes_on (A.keeps plan.now.asked.now) (A.preserved plan.now.asked.now) (A.occurs plan.now.asked.now) counts (A.id_of plan.now.asked.now)) site names.old names.new given.old given.new) }
-    ensures refused { IfErr result (λ e. (counts : ℕ → ℕ → Bool) → IsSiteRefused (naming (N.text plan.now.texts.now) plan.now.goes_on (A.keeps plan.now.asked.now) (A.preserved plan.now.asked.now) (A.occurs plan.now.asked.now) counts (A.id_of plan.now.asked.now)) site names.old given.old e) }
+    requires tried { IsTried (N.text plan.now.texts.now) (A.preserved plan.now.asked.now) (A.occurs plan.now.asked.now) (given.old, whole.old) tried.old }
+    ensures tried { OnOk result (IsTried (N.text plan.now.texts.now) (A.preserved plan.now.asked.now) (A.occurs plan.now.asked.now) (given.new, whole.new) tried.new) }
+    ensures more { OnOk result (HasMore whole.old whole.new) }
+    ensures named { OnOk result ((counts : ℕ → ℕ → Bool) → IsSiteDone (planned N.text A.keeps A.preserved A.occurs A.id_of plan.now counts) (contains nat_cmp plan.now.leaks.now site.0) site names.old names.new (given.old, whole.old) (given.new, whole.new)) }
+    ensures refused { IfErr result (λ e. (counts : ℕ → ℕ → Bool) → IsSiteRefused (planned N.text A.keeps A.preserved A.occurs A.id_of plan.now counts) site names.old (given.old, whole.old) e) }
 {
     match namable(plan.asked, &names.texts, site.1) {
-        Some(id) => give_name(alloc, plan, id, site, given, names, tried),
+        Some(id) => give_name(plan, id, site, given, whole, names, tried),
         None => Ok(()),
     }
 }
@@ -228,16 +262,20 @@ pub fn names_in_order<N: NewTexts, A: Asked>(
     ensures named { IfOk result (λ found. NamedInOrder (rules (naming (N.text texts.now) goes_on (A.keeps asked.now) (A.preserved asked.now) (A.occurs asked.now) all_count (A.id_of asked.now))) sites.now (text_at found)) }
     ensures refused { IfErr result (IsRefused (rules (naming (N.text texts.now) goes_on (A.keeps asked.now) (A.preserved asked.now) (A.occurs asked.now) all_count (A.id_of asked.now))) sites.now) }
 {
+    let leaks = BTreeSet::new(alloc);
     let plan = Plan {
+        alloc,
         texts,
         asked,
         goes_on,
+        leaks: &leaks,
     };
     let mut given = ReverseMap::new(alloc);
+    let mut whole = ReverseMap::new(alloc);
     let mut names = GivenTexts::new(alloc);
     let mut tried = Tried::new(alloc);
     for site in sites {
-        name_site(alloc, &plan, *site, &mut given, &mut names, &mut tried)?;
+        name_site(&plan, *site, &mut given, &mut whole, &mut names, &mut tried)?;
     }
     Ok(names.into_texts())
 }

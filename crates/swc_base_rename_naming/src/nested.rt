@@ -1,8 +1,11 @@
-//! Names that count only in the scope in which they were given, and in those in it.
-ghost use Rattle.std.specs.Prelude.{◌≡◌, ◌<◌, ℕ, length, IfOk, IfErr};
+//! Names that count only in the scope in which they were given, and in those in it; those of scopes that leak count everywhere.
+ghost use Rattle.std.specs.Prelude.{◌≡◌, ◌<◌, ℕ, length, IfOk, IfErr, OnOk};
+ghost use Rattle.std.specs.Ordering.{nat_cmp};
+ghost use Rattle.std.specs.BTreeSet.{contains};
 ghost use Rattle.swc_base_rename_naming.specs.InOrder.{IsRefused, NamedInOrder};
 ghost use Rattle.swc_base_rename_naming.specs.Inside.{IsInPreorder, IsScopeNamed, IsScopeRefused};
-ghost use Rattle.swc_base_rename_naming.specs.Steps.{naming, rules, text_at};
+ghost use Rattle.swc_base_rename_naming.specs.Planned.{planned};
+ghost use Rattle.swc_base_rename_naming.specs.Steps.{HasMore, counts_with, naming, rules, text_at};
 
 use crate::asked::{Asked, Nesting};
 use crate::in_order::{GivenTexts, Plan, name_site};
@@ -10,34 +13,35 @@ use crate::new_texts::NewTexts;
 use crate::reverse_map::ReverseMap;
 use crate::tried::Tried;
 use std::alloc::Global;
-use std::collections::BTreeMap;
+use std::collections::{BTreeMap, BTreeSet};
 use swc_tree_marks::{JsWord, PassError};
 
 // Names the ids of the sites from one on, as long as they are of its scope or of scopes in it. It answers where they end.
 fn name_scope<N: NewTexts, A: Asked + Nesting>(
-    alloc: Global,
     plan: &Plan<'_, N, A>,
     sites: &[(usize, usize)],
-    outer: &ReverseMap<'_>,
     from: usize,
+    outer: &ReverseMap<'_>,
+    whole: &mut ReverseMap<'_>,
     names: &mut GivenTexts,
 ) -> Result<usize, PassError>
     requires within { from < length sites.now }
     requires order { IsInPreorder (A.surrounds plan.now.asked.now) sites.now }
-    ensures named { IfOk result (IsScopeNamed (naming (N.text plan.now.texts.now) plan.now.goes_on (A.keeps plan.now.asked.now) (A.preserved plan.now.asked.now) (A.occurs plan.now.asked.now) (A.surrounds plan.now.asked.now) (A.id_of plan.now.asked.now)) sites.now from names.old names.new outer.now) }
-    ensures refused { IfErr result (IsScopeRefused (naming (N.text plan.now.texts.now) plan.now.goes_on (A.keeps plan.now.asked.now) (A.preserved plan.now.asked.now) (A.occurs plan.now.asked.now) (A.surrounds plan.now.asked.now) (A.id_of plan.now.asked.now)) sites.now from names.old outer.now) }
+    ensures named { IfOk result (IsScopeNamed (planned N.text A.keeps A.preserved A.occurs A.id_of plan.now) (contains nat_cmp plan.now.leaks.now) (A.surrounds plan.now.asked.now) sites.now from names.old names.new (outer.now, whole.old) whole.new) }
+    ensures more { OnOk result (HasMore whole.old whole.new) }
+    ensures refused { IfErr result (IsScopeRefused (planned N.text A.keeps A.preserved A.occurs A.id_of plan.now) (contains nat_cmp plan.now.leaks.now) (A.surrounds plan.now.asked.now) sites.now from names.old (outer.now, whole.old)) }
 {
     let scope = sites[from].0;
-    let mut given = outer.next(alloc);
-    let mut tried = Tried::new(alloc);
+    let mut given = outer.next(plan.alloc);
+    let mut tried = Tried::new(plan.alloc);
     let mut at = from;
     while at < sites.len() && plan.asked.surrounds(scope, sites[at].0) {
         let site = sites[at];
         if site.0 == scope {
-            name_site(alloc, plan, site, &mut given, names, &mut tried)?;
+            name_site(plan, site, &mut given, whole, names, &mut tried)?;
             at += 1;
         } else {
-            at = name_scope(alloc, plan, sites, &given, at, names)?;
+            at = name_scope(plan, sites, at, &given, whole, names)?;
         }
     }
     Ok(at)
@@ -60,16 +64,41 @@ pub fn names_by_scope<N: NewTexts, A: Asked + Nesting>(
     ensures named { IfOk result (λ found. NamedInOrder (rules (naming (N.text texts.now) goes_on (A.keeps asked.now) (A.preserved asked.now) (A.occurs asked.now) (A.surrounds asked.now) (A.id_of asked.now))) sites.now (text_at found)) }
     ensures refused { IfErr result (IsRefused (rules (naming (N.text texts.now) goes_on (A.keeps asked.now) (A.preserved asked.now) (A.occurs asked.now) (A.surrounds asked.now) (A.id_of asked.now))) sites.now) }
 {
+    let leaks = BTreeSet::new(alloc);
+    names_with_leaks(alloc, texts, asked, goes_on, &leaks, sites)
+}
+
+/// The same, but that names of the scopes that leak count everywhere, so that no id that is named later and occurs where such a name does may share its text.
+/// The scopes that leak are told by their numbers.
+///
+/// # Errors
+///
+/// As `names_in_order`.
+pub fn names_with_leaks<N: NewTexts, A: Asked + Nesting>(
+    alloc: Global,
+    texts: &N,
+    asked: &A,
+    goes_on: bool,
+    leaks: &BTreeSet<usize>,
+    sites: &[(usize, usize)],
+) -> Result<BTreeMap<usize, JsWord>, PassError>
+    requires { IsInPreorder (A.surrounds asked.now) sites.now }
+    ensures named { IfOk result (λ found. NamedInOrder (rules (naming (N.text texts.now) goes_on (A.keeps asked.now) (A.preserved asked.now) (A.occurs asked.now) (counts_with (contains nat_cmp leaks.now) (A.surrounds asked.now)) (A.id_of asked.now))) sites.now (text_at found)) }
+    ensures refused { IfErr result (IsRefused (rules (naming (N.text texts.now) goes_on (A.keeps asked.now) (A.preserved asked.now) (A.occurs asked.now) (counts_with (contains nat_cmp leaks.now) (A.surrounds asked.now)) (A.id_of asked.now))) sites.now) }
+{
     let plan = Plan {
+        alloc,
         texts,
         asked,
         goes_on,
+        leaks,
     };
     let outer = ReverseMap::new(alloc);
+    let mut whole = ReverseMap::new(alloc);
     let mut names = GivenTexts::new(alloc);
     let mut at = 0;
     while at < sites.len() {
-        at = name_scope(alloc, &plan, sites, &outer, at, &mut names)?;
+        at = name_scope(&plan, sites, at, &outer, &mut whole, &mut names)?;
     }
     Ok(names.into_texts())
 }

@@ -1,18 +1,19 @@
--- An id that does not occur behind the scope that declares it occurs at no later scope but those in that one.
-use Rattle.std.proofs.Common.{◌≡◌, ℕ, ◌-◌, ◌<◌, ◌≤◌, ◌==◌, inl, inr, Bool, true, false, nat_le, Option, Some, None, option_map, List, [], ◌∷◌, length, map, get_or, refl, sym, ap, ◌∙◌, suc, arith}
-use Rattle.std.specs.List.{AllByRecursion, list_any, slice_get}
+-- An id that does not occur behind the scope that declares it occurs at no later scope but those in that one; else the scope leaks.
+use Rattle.std.proofs.Common.{◌≡◌, ℕ, ◌-◌, ◌<◌, ◌≤◌, ◌==◌, inl, inr, Bool, true, false, ◌&&◌, ◌||◌, eq-eqb, nat_le, Option, Some, None, option_map, List, [], ◌∷◌, length, map, get_or, refl, sym, ap, ◌∙◌, suc, arith}
+use Rattle.std.specs.List.{AllByRecursion, slice_get}
 use Rattle.std.specs.List.Sorted.{IsNonDecreasingBy}
-use Rattle.std.proofs.lemmas.Bool.{and_from, le-leb, leb-false, or_parts}
+use Rattle.std.proofs.lemmas.Bool.{and_from, le-leb, leb-false}
 use Rattle.std.proofs.lemmas.Option.{slice_get-map}
 use Rattle.swc_base_rename_analysis.specs.declared.analysis.Analysis.{Analysis}
 use Rattle.swc_base_rename_analysis.specs.declared.layout.Region.{Region}
 use Rattle.swc_base_rename_analysis_laws.specs.Means.{holds_stretch, surrounds}
 use Rattle.swc_base_rename_naming.specs.InOrder.{Site}
+use Rattle.swc_base_rename_naming.specs.Steps.{counts_with}
 use Rattle.swc_base_rename_naming_laws.proofs.Names.{occurs_to}
 use Rattle.swc_base_rename_naming_laws.proofs.Surrounds.{is_either, surrounds_own}
 use Rattle.swc_base_rename_naming_laws.specs.Rules.{numbered_sites, occurs_at}
 use Rattle.swc_base_rename_program.specs.Asked.{IsWellRead}
-use Rattle.swc_base_rename_program.specs.Behind.{any_behind, is_behind}
+use Rattle.swc_base_rename_program.specs.Behind.{is_behind, leaks}
 use Rattle.swc_base_rename_program.specs.Spans.{span, spans}
 use Rattle.swc_base_rename_program.proofs.Beside.{equal_or_before, rising_to}
 use Rattle.swc_base_rename_program.proofs.Counting.{AllPairs, all_map}
@@ -70,11 +71,27 @@ module _ (a : Analysis) (read : IsWellRead a) where
     | inr less ↦ reaches_later b c less h occurs
   ]
 
-  all_reach : (sites : List Site) → AllPairs (λ b c. b.0 ≤ c.0) sites → list_any behind sites ≡ false → AllPairs (λ b c. occurs_at a c.0 b.1 ≡ true → surrounds a b.0 c.0 ≡ true) sites
-  all_reach [] l h = tt
-  all_reach (b ∷ later) (l, ls) h =
-      let (own, others) = or_parts (behind b) (list_any behind later) h in
-      (all_map (λ c. b.0 ≤ c.0) (λ c. occurs_at a c.0 b.1 ≡ true → surrounds a b.0 c.0 ≡ true) later (λ c less. reaches b c less own) l, all_reach later ls others)
+  -- scopes that have the id of a site behind them leak
+  all_leak : (sites : List Site) (leaky : ℕ → Bool) → ((u : ℕ) → leaks a.regions.items (spans a.ids.items) sites u ≡ true → leaky u ≡ true) → AllByRecursion (λ b. behind b ≡ true → leaky b.0 ≡ true) sites
+  all_leak [] leaky h = tt
+  all_leak (b ∷ later) leaky h = (
+    λ e. h b.0 (is_either (behind b && b.0 == b.0) (leaks a.regions.items (spans a.ids.items) later b.0) (inl (and_from (behind b) (b.0 == b.0) e (eq-eqb b.0 b.0 refl)))),
+    all_leak later leaky (λ u e. h u (is_either (behind b && b.0 == u) (leaks a.regions.items (spans a.ids.items) later u) (inr e))),
+  )
 
-  pub sites_reach : any_behind a.regions.items (spans a.ids.items) (numbered_sites a) ≡ false → AllPairs (λ b c. occurs_at a c.0 b.1 ≡ true → surrounds a b.0 c.0 ≡ true) (numbered_sites a)
-  sites_reach h = all_reach (numbered_sites a) (pairs_to_map (λ s. (s.scope, s.id)) (λ b c. b.0 ≤ c.0) a.sites.items (pairs_rise (λ s. s.scope) a.sites.items read.by_scopes)) h
+  by_leak : (leaky : ℕ → Bool) (b c : Site) (is_behind : Bool) → behind b ≡ is_behind → b.0 ≤ c.0 → (behind b ≡ true → leaky b.0 ≡ true) → occurs_at a c.0 b.1 ≡ true → counts_with leaky (surrounds a) b.0 c.0 ≡ true
+  by_leak leaky b c true e l leak occurs = is_either (leaky b.0) (surrounds a b.0 c.0) (inl (leak e))
+  by_leak leaky b c false e l leak occurs = is_either (leaky b.0) (surrounds a b.0 c.0) (inr (reaches b c l e occurs))
+
+  all_reach : (leaky : ℕ → Bool) (sites : List Site) → AllPairs (λ b c. b.0 ≤ c.0) sites → AllByRecursion (λ b. behind b ≡ true → leaky b.0 ≡ true) sites
+      → AllPairs (λ b c. occurs_at a c.0 b.1 ≡ true → counts_with leaky (surrounds a) b.0 c.0 ≡ true) sites
+  all_reach leaky [] l h = tt
+  all_reach leaky (b ∷ later) (l, ls) (h, hs) = (
+    all_map (λ c. b.0 ≤ c.0) (λ c. occurs_at a c.0 b.1 ≡ true → counts_with leaky (surrounds a) b.0 c.0 ≡ true) later (λ c less. by_leak leaky b c (behind b) refl less h) l,
+    all_reach leaky later ls hs,
+  )
+
+  pub sites_reach : (leaky : ℕ → Bool) → ((u : ℕ) → leaky u ≡ leaks a.regions.items (spans a.ids.items) (numbered_sites a) u)
+      → AllPairs (λ b c. occurs_at a c.0 b.1 ≡ true → counts_with leaky (surrounds a) b.0 c.0 ≡ true) (numbered_sites a)
+  sites_reach leaky same =
+      all_reach leaky (numbered_sites a) (pairs_to_map (λ s. (s.scope, s.id)) (λ b c. b.0 ≤ c.0) a.sites.items (pairs_rise (λ s. s.scope) a.sites.items read.by_scopes)) (all_leak (numbered_sites a) leaky (λ u e. same u ∙ e))

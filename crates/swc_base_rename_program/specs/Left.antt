@@ -6,7 +6,6 @@ use Rattle.std.specs.BTreeMap.{BTreeMap}
 use Rattle.std.specs.BTreeSet.{BTreeSet, contains_text}
 use Rattle.std.specs.Str.{bytes_eq}
 use Rattle.swc_tree_marks.specs.declared.error.PassError.{PassError}
-use Rattle.swc_tree_marks.specs.declared.error.PassError.TheVariants as pass
 use Rattle.swc_tree_marks.specs.Globals.{Table}
 use Rattle.swc_tree_node.specs.declared.node.Node.{Node}
 use Rattle.swc_tree_scoping.specs.BoundNames.{Id}
@@ -15,6 +14,7 @@ use Rattle.swc_base_rename_analysis.specs.declared.numbers.Entry.{Entry}
 use Rattle.swc_base_rename_analysis.specs.Named.{Named, Renaming}
 use Rattle.swc_base_rename_naming_laws.specs.Rules.{counting}
 use Rattle.swc_base_rename_program.specs.NewTexts.{IsTableOf}
+use Rattle.swc_base_rename_naming.specs.Counters.{IsOfMemoryOr}
 use Rattle.swc_base_rename_program.specs.Renamed.{IsPreservedByTop, IsSpentAtTop, IsSpentInUnit, IsTopRenaming, top_context}
 
 -- one of the ids has the text
@@ -42,13 +42,7 @@ pub record IsTopTable (table : Table) (top : ℕ) (r : Renaming) (t : Node) (nam
 
 -- why names are refused to a program in which something reads names
 abbrev pub IsTopRefusal : Table → ℕ → Renaming → Node → PassError → Type 0
-IsTopRefusal table top r t pass.NoMemory = Unit {0}
-IsTopRefusal table top r t pass.CounterSpent = IsSpentAtTop table top r t
-IsTopRefusal table top r t pass.MarksSpent = ⊥
-IsTopRefusal table top r t pass.NotAssignable = ⊥
+IsTopRefusal table top r t = IsOfMemoryOr (IsSpentAtTop table top r t)
 
 abbrev pub IsUnitsRefusal : Table → ℕ → Renaming → Node → PassError → Type 0
-IsUnitsRefusal table top r t pass.NoMemory = Unit {0}
-IsUnitsRefusal table top r t pass.CounterSpent = IsSpentAtTop table top r t ⊎ IsSpentInUnit top r t
-IsUnitsRefusal table top r t pass.MarksSpent = ⊥
-IsUnitsRefusal table top r t pass.NotAssignable = ⊥
+IsUnitsRefusal table top r t = IsOfMemoryOr (IsSpentAtTop table top r t ⊎ IsSpentInUnit top r t)

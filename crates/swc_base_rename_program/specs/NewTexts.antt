@@ -3,13 +3,12 @@ use Rattle.std.specs.Prelude.{◌≡◌, ℕ, ◌⊎◌, IsTrue, Option, Some, N
 use Rattle.std.specs.BTreeMap.{BTreeMap}
 use Rattle.std.specs.BTreeSet.{BTreeSet, contains_text}
 use Rattle.swc_tree_marks.specs.declared.error.PassError.{PassError}
-use Rattle.swc_tree_marks.specs.declared.error.PassError.TheVariants as pass
 use Rattle.swc_tree_node.specs.declared.node.Node.{Node}
 use Rattle.swc_tree_scoping.specs.BoundNames.{Id}
 use Rattle.swc_base_rename_analysis.specs.Named.{IsSpent, Named, Renaming}
 use Rattle.swc_base_rename_analysis.specs.Preserved.{IsLoose}
 use Rattle.swc_base_rename_naming.specs.ByIds.{if_other}
-use Rattle.swc_base_rename_naming.specs.Counters.{greatest}
+use Rattle.swc_base_rename_naming.specs.Counters.{IsOfMemoryOr, greatest}
 use Rattle.swc_base_rename_naming_laws.specs.Rules.{counting}
 use Rattle.swc_base_rename_substitution.specs.Names.{found_in}
 
@@ -30,7 +29,4 @@ pub record AreNewTexts (r : Renaming) (preserved : List ℕ → Type 0) (t : Nod
 
 -- why names may be refused: for want of memory, and where the counters are spent
 abbrev pub IsNameRefusal : Renaming → (List ℕ → Type 0) → Node → PassError → Type 0
-IsNameRefusal r preserved t pass.NoMemory = Unit {0}
-IsNameRefusal r preserved t pass.CounterSpent = IsSpent t r preserved (counting t r) greatest
-IsNameRefusal r preserved t pass.MarksSpent = ⊥
-IsNameRefusal r preserved t pass.NotAssignable = ⊥
+IsNameRefusal r preserved t = IsOfMemoryOr (IsSpent t r preserved (counting t r) greatest)

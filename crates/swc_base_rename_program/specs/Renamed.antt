@@ -2,7 +2,6 @@
 -- tree reads names as it runs, names that it may read stay, and outermost units without such a reader are named alone.
 use Rattle.std.specs.Prelude.{◌≡◌, ◌↔◌, ℕ, zero, suc, ◌⊎◌, Bool, true, false, IsTrue, Option, Some, None, option_map, List, [], ◌∷◌}
 use Rattle.swc_tree_marks.specs.declared.error.PassError.{PassError}
-use Rattle.swc_tree_marks.specs.declared.error.PassError.TheVariants as pass
 use Rattle.swc_tree_node.specs.declared.node.Node.{Node}
 use Rattle.swc_tree_marks.specs.Contexts.{outer_of}
 use Rattle.swc_tree_marks.specs.Globals.{IsDescendant, Table}
@@ -12,7 +11,7 @@ use Rattle.swc_tree_scoping.specs.Readings.{by_texts}
 use Rattle.swc_base_rename_analysis.specs.Ids.{IsBound}
 use Rattle.swc_base_rename_analysis.specs.Named.{IsSpent, Named, Renaming}
 use Rattle.swc_base_rename_analysis.specs.Preserved.{IsPreserved}
-use Rattle.swc_base_rename_naming.specs.Counters.{greatest}
+use Rattle.swc_base_rename_naming.specs.Counters.{IsOfMemoryOr, greatest}
 use Rattle.swc_base_rename_naming.specs.Texts.{numbered}
 use Rattle.swc_base_rename_naming_laws.specs.Rules.{counting}
 use Rattle.swc_base_rename_substitution.specs.declared.config.Config.{Config}
@@ -100,10 +99,7 @@ pub record IsSpentBy (table : Table) (config : Config) (r : Renaming) (t : Node)
 
 -- why it may be refused: for want of memory, and where the counters are spent
 abbrev pub IsRenameRefusal : Table → Config → Renaming → Node → PassError → Type 0
-IsRenameRefusal table config r t pass.NoMemory = Unit {0}
-IsRenameRefusal table config r t pass.CounterSpent = IsSpentBy table config r t
-IsRenameRefusal table config r t pass.MarksSpent = ⊥
-IsRenameRefusal table config r t pass.NotAssignable = ⊥
+IsRenameRefusal table config r t = IsOfMemoryOr (IsSpentBy table config r t)
 
 -- the renamer of hygiene: an id's own text at counter 0, and then the text followed by the counter
 abbrev pub hygiene_renaming : Renaming

@@ -6,7 +6,7 @@ ghost use Rattle.swc_base_rename_naming_laws.specs.Rules.{numbered_sites};
 ghost use Rattle.swc_base_rename_program.specs.Kept.{is_kept};
 ghost use Rattle.swc_base_rename_program.specs.Asked.{AreNamedTexts, IsWellRead, program_rules};
 
-use crate::behind::any_behind;
+use crate::behind::leaking_scopes;
 use crate::kept::Kept;
 use crate::mode::Mode;
 use crate::program::Program;
@@ -14,7 +14,7 @@ use crate::spans::spans_of;
 use std::alloc::{AllocError, Global};
 use std::collections::{BTreeMap, BTreeSet};
 use swc_base_rename_analysis::Analysis;
-use swc_base_rename_naming::{NewTexts, names_by_scope, names_in_order, texts_by_id};
+use swc_base_rename_naming::{NewTexts, names_by_scope, names_with_leaks, texts_by_id};
 use swc_tree_marks::{Id, JsWord, PassError};
 
 // The sites by the numbers of their scopes and ids.
@@ -28,8 +28,8 @@ fn sites_of(alloc: Global, analysis: &Analysis) -> Result<Vec<(usize, usize)>, A
     Ok(sites)
 }
 
-// The texts by the numbers of ids: by scope where scopes beside one another may share texts, else in order. Where no id occurs
-// behind a scope that declares it, the names of scopes that ended are of no concern, and by scope they are the same.
+// The texts by the numbers of ids, by scope. Where scopes beside one another may not share texts, names of scopes that leak count
+// everywhere. Those of a scope that does not leak are of no concern once it ended, since none of its ids occurs behind it.
 fn texts_by_number<T: NewTexts>(
     alloc: Global,
     texts: &T,
@@ -43,12 +43,15 @@ fn texts_by_number<T: NewTexts>(
     let sites = sites_of(alloc, program.analysis)?;
     let sites = sites.as_slice();
     if mode.mangles {
-        names_by_scope(alloc, texts, program, true, sites)
-    } else if any_behind(program.analysis.regions.as_slice(), program.spans, sites) {
-        names_in_order(alloc, texts, program, !mode.resets, sites)
-    } else {
-        names_by_scope(alloc, texts, program, !mode.resets, sites)
+        return names_by_scope(alloc, texts, program, true, sites);
     }
+    let leaks = leaking_scopes(
+        alloc,
+        program.analysis.regions.as_slice(),
+        program.spans,
+        sites,
+    )?;
+    names_with_leaks(alloc, texts, program, !mode.resets, &leaks, sites)
 }
 
 /// The new texts of a tree's ids, by what was read off it, but for those ids that keep theirs: those texts that are other than the

@@ -1,8 +1,11 @@
 use Rattle.std.proofs.Common.{rules}
-use Rattle.swc_base_rename_naming.proofs.GoesOn.{tried_pushed}
+use Rattle.swc_base_rename_naming.proofs.GoesOn.{has_more, tried_put}
 use Rattle.swc_base_rename_naming.proofs.in_order.give_name.Goals as goal
 
 pub returns-clause-tried : goal.returns-clause-tried
 returns-clause-tried g c =
-    tried_pushed (g.N.NewTexts.text c.args.plan.now.texts.now) (g.A.Asked.preserved c.args.plan.now.asked.now) (g.A.Asked.occurs c.args.plan.now.asked.now) c.args.given.now c.keep.new.given c.search.new.tried c.in_ok-text.text c.args.site.1
-    c.in_ok-keep.ensures.pushed (search rules)
+    tried_put (g.N.NewTexts.text c.args.plan.now.texts.now) (g.A.Asked.preserved c.args.plan.now.asked.now) (g.A.Asked.occurs c.args.plan.now.asked.now) (c.args.given.now, c.args.whole.now) (c.put_down.new.given, c.put_down.new.whole) c.search.new.tried
+    c.contains.result c.in_ok-clone.field-0 c.args.site.1 (search rules) (search rules)
+
+pub returns-clause-more : goal.returns-clause-more
+returns-clause-more g c = has_more c.contains.result c.in_ok-clone.field-0 c.args.site.1 c.args.whole.now c.put_down.new.whole (search rules)

@@ -1,4 +1,4 @@
-use Rattle.std.proofs.Common.{List, take}
+use Rattle.std.proofs.Common.{List, true, false, take}
 use Rattle.swc_base_rename_naming.specs.InOrder.{Choice}
 use Rattle.swc_base_rename_naming.specs.Steps.{Holds, Naming, Stands, all_count, naming}
 use Rattle.swc_base_rename_naming.specs.Tried.{IsTried}
@@ -8,6 +8,6 @@ abbrev pub invariant-loop-site : goal.invariant-loop-site
 invariant-loop-site g l =
     let n : Naming = naming (g.N.NewTexts.text l.texts) l.goes_on (g.A.Asked.keeps l.asked) (g.A.Asked.preserved l.asked) (g.A.Asked.occurs l.asked) all_count (g.A.Asked.id_of l.asked) in
     record {
-      stood : (choices : List Choice) × Stands n (take l.site-index l.sites) choices l.names × Holds n 0 choices l.given;
-      tried : IsTried (g.N.NewTexts.text l.texts) (g.A.Asked.preserved l.asked) (g.A.Asked.occurs l.asked) l.given l.tried;
+      stood : (choices : List Choice) × Stands n (take l.site-index l.sites) choices l.names × Holds n (λ u. true) choices l.given × Holds n (λ u. false) choices l.whole;
+      tried : IsTried (g.N.NewTexts.text l.texts) (g.A.Asked.preserved l.asked) (g.A.Asked.occurs l.asked) (l.given, l.whole) l.tried;
     }

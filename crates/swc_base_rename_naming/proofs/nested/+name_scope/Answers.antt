@@ -1,27 +1,39 @@
-use Rattle.std.proofs.Common.{true, ◌≡◌, ◌++◌, ◌+◌, ◌<◌, ◌≤◌, drop, length, take, arith, refl, sym}
+use Rattle.std.proofs.Common.{true, ◌≡◌, ◌++◌, ◌+◌, ◌<◌, ◌≤◌, ℕ, Bool, drop, length, take, nat_cmp, arith, refl, sym}
+use Rattle.std.specs.BTreeSet.{contains}
 use Rattle.std.proofs.lemmas.Result.{err_from_is_err_and}
 use Rattle.swc_base_rename_naming.specs.Inside.{scope_at}
-use Rattle.swc_base_rename_naming.specs.Steps.{Naming, naming}
-use Rattle.swc_base_rename_naming.proofs.GoesOn.{tried_first}
-use Rattle.swc_base_rename_naming.proofs.Inside.{Laws, child_begins, half_child, half_first, half_holds, half_site}
+use Rattle.swc_base_rename_naming.specs.Planned.{planned}
+use Rattle.swc_base_rename_naming.specs.Steps.{Naming, counts_with}
+use Rattle.swc_base_rename_naming.proofs.GoesOn.{no_less, tried_first, tried_more_given}
+use Rattle.swc_base_rename_naming.proofs.Inside.{Laws, child_begins, half_child, half_first, half_held, half_site}
 use Rattle.swc_base_rename_naming.proofs.Stands.{split_at}
 use Rattle.swc_base_rename_naming.proofs.nested.+name_scope.Goals as goal
 
 pub loop-at-init : goal.loop-at-init
 loop-at-init g t c =
-    let n : Naming = naming (g.N.NewTexts.text c.args.plan.now.texts.now) c.args.plan.now.goes_on (g.A.Asked.keeps c.args.plan.now.asked.now) (g.A.Asked.preserved c.args.plan.now.asked.now) (g.A.Asked.occurs c.args.plan.now.asked.now) (g.A.Nesting.surrounds c.args.plan.now.asked.now) (g.A.Asked.id_of c.args.plan.now.asked.now) in
+    let plan = c.args.plan.now in
+    let leaks : ℕ → Bool = contains nat_cmp plan.leaks.now in
+    let surrounds = g.A.Nesting.surrounds plan.asked.now in
+    let naming : (ℕ → ℕ → Bool) → Naming = planned g.N.NewTexts.text g.A.Asked.keeps g.A.Asked.preserved g.A.Asked.occurs g.A.Asked.id_of plan in
+    let n : Naming = naming (counts_with leaks surrounds) in
     let sites = c.args.sites.now in
+    let whole = c.args.whole.now in
     record {
       begun = omega arith;
       fits = omega (arith, c.requires.within);
       scope = refl;
-      half = λ choices begins. half_first n sites c.args.from choices c.args.names.now c.args.outer.now c.next-given.result c.next-given.ensures begins;
-      tried = tried_first (g.N.NewTexts.text c.args.plan.now.texts.now) (g.A.Asked.preserved c.args.plan.now.asked.now) (g.A.Asked.occurs c.args.plan.now.asked.now) c.next-given.result c.new-tried.result c.new-tried.ensures;
+      half = λ choices begins. half_first n leaks surrounds sites c.args.from choices c.args.names.now c.args.outer.now c.next-given.result whole c.next-given.ensures begins;
+      more = no_less whole;
+      tried = tried_first (g.N.NewTexts.text plan.texts.now) (g.A.Asked.preserved plan.asked.now) (g.A.Asked.occurs plan.asked.now) (c.next-given.result, whole) c.new-tried.result c.new-tried.ensures;
     }
 
 pub returns-in_err-name_site-clause-refused : goal.returns-in_err-name_site-clause-refused
 returns-in_err-name_site-clause-refused g t c =
-    let n : Naming = naming (g.N.NewTexts.text c.args.plan.now.texts.now) c.args.plan.now.goes_on (g.A.Asked.keeps c.args.plan.now.asked.now) (g.A.Asked.preserved c.args.plan.now.asked.now) (g.A.Asked.occurs c.args.plan.now.asked.now) (g.A.Nesting.surrounds c.args.plan.now.asked.now) (g.A.Asked.id_of c.args.plan.now.asked.now) in
+    let plan = c.args.plan.now in
+    let leaks : ℕ → Bool = contains nat_cmp plan.leaks.now in
+    let surrounds = g.A.Nesting.surrounds plan.asked.now in
+    let naming : (ℕ → ℕ → Bool) → Naming = planned g.N.NewTexts.text g.A.Asked.keeps g.A.Asked.preserved g.A.Asked.occurs g.A.Asked.id_of plan in
+    let n : Naming = naming (counts_with leaks surrounds) in
     let sites = c.args.sites.now in
     let at = c.loop-at.at in
     let within : at < length sites = omega arith in
@@ -31,13 +43,18 @@ returns-in_err-name_site-clause-refused g t c =
     let refused = err_from_is_err_and c.from_residual.result c.from_residual.ensures.1 in
     rw (refused.1, refused.2) (λ choices begins.
     let half = stood.half choices begins in
-    rw split (c.in_err-name_site.ensures.refused n.counts (take at sites) (drop (at + 1) sites) (choices ++ half.more) half.stands (half_holds n sites c.args.from at choices _ _ own half)))
+    rw split (c.in_err-name_site.ensures.refused (counts_with leaks surrounds) (take at sites) (drop (at + 1) sites) (choices ++ half.more) half.stands
+    (half_held naming leaks surrounds (λ u s. refl) sites c.args.from at choices _ _ own half)))
 
 pub loop-at-preserved-then-site-scope : goal.loop-at-preserved-then-site-scope
 loop-at-preserved-then-site-scope g t c =
-    let n : Naming = naming (g.N.NewTexts.text c.args.plan.now.texts.now) c.args.plan.now.goes_on (g.A.Asked.keeps c.args.plan.now.asked.now) (g.A.Asked.preserved c.args.plan.now.asked.now) (g.A.Asked.occurs c.args.plan.now.asked.now) (g.A.Nesting.surrounds c.args.plan.now.asked.now) (g.A.Asked.id_of c.args.plan.now.asked.now) in
+    let plan = c.args.plan.now in
+    let leaks : ℕ → Bool = contains nat_cmp plan.leaks.now in
+    let surrounds = g.A.Nesting.surrounds plan.asked.now in
+    let naming : (ℕ → ℕ → Bool) → Naming = planned g.N.NewTexts.text g.A.Asked.keeps g.A.Asked.preserved g.A.Asked.occurs g.A.Asked.id_of plan in
+    let n : Naming = naming (counts_with leaks surrounds) in
     let sites = c.args.sites.now in
-    let laws : Laws (g.A.Nesting.surrounds c.args.plan.now.asked.now) = record { own = g.met.A.Nesting.own c.args.plan.now.asked.now; through = g.met.A.Nesting.through c.args.plan.now.asked.now; same = g.met.A.Nesting.same c.args.plan.now.asked.now } in
+    let laws : Laws surrounds = record { own = g.met.A.Nesting.own plan.asked.now; through = g.met.A.Nesting.through plan.asked.now; same = g.met.A.Nesting.same plan.asked.now } in
     let at = c.loop-at.at in
     let within : at < length sites = omega arith in
     let stood = c.loop-at.invariant in
@@ -48,34 +65,43 @@ loop-at-preserved-then-site-scope g t c =
       scope = refl;
       half = λ choices begins.
           let half = stood.half choices begins in
-          let done = c.in_ok-name_site.ensures.named n.counts (take at sites) (choices ++ half.more) half.stands (half_holds n sites c.args.from at choices _ _ own half) (laws.own (scope_at sites at)) in
-          half_site n sites c.args.from at choices _ _ _ _ laws within own half done;
+          let done = c.in_ok-name_site.ensures.named (counts_with leaks surrounds) (take at sites) (choices ++ half.more) half.stands (half_held naming leaks surrounds (λ u s. refl) sites c.args.from at choices _ _ own half) in
+          half_site n leaks surrounds sites c.args.from at choices _ _ _ _ laws within own half done;
+      more = λ x f h. c.in_ok-name_site.ensures.more x f (stood.more x f h);
       tried = c.in_ok-name_site.ensures.tried;
     }
 
 pub returns-in_err-at-clause-refused : goal.returns-in_err-at-clause-refused
 returns-in_err-at-clause-refused g t c =
-    let n : Naming = naming (g.N.NewTexts.text c.args.plan.now.texts.now) c.args.plan.now.goes_on (g.A.Asked.keeps c.args.plan.now.asked.now) (g.A.Asked.preserved c.args.plan.now.asked.now) (g.A.Asked.occurs c.args.plan.now.asked.now) (g.A.Nesting.surrounds c.args.plan.now.asked.now) (g.A.Asked.id_of c.args.plan.now.asked.now) in
+    let plan = c.args.plan.now in
+    let leaks : ℕ → Bool = contains nat_cmp plan.leaks.now in
+    let surrounds = g.A.Nesting.surrounds plan.asked.now in
+    let naming : (ℕ → ℕ → Bool) → Naming = planned g.N.NewTexts.text g.A.Asked.keeps g.A.Asked.preserved g.A.Asked.occurs g.A.Asked.id_of plan in
+    let n : Naming = naming (counts_with leaks surrounds) in
     let sites = c.args.sites.now in
-    let laws : Laws (g.A.Nesting.surrounds c.args.plan.now.asked.now) = record { own = g.met.A.Nesting.own c.args.plan.now.asked.now; through = g.met.A.Nesting.through c.args.plan.now.asked.now; same = g.met.A.Nesting.same c.args.plan.now.asked.now } in
+    let laws : Laws surrounds = record { own = g.met.A.Nesting.own plan.asked.now; through = g.met.A.Nesting.through plan.asked.now; same = g.met.A.Nesting.same plan.asked.now } in
     let at = c.loop-at.at in
     let within : at < length sites = omega arith in
     let stood = c.loop-at.invariant in
-    let round : n.counts (scope_at sites c.args.from) (scope_at sites at) ≡ true = sym c.if-surrounds.ensures in
+    let round : surrounds (scope_at sites c.args.from) (scope_at sites at) ≡ true = sym c.if-surrounds.ensures in
     let refused = err_from_is_err_and c.from_residual-in_err-at.result c.from_residual-in_err-at.ensures.1 in
     rw (refused.1, refused.2) (λ choices begins.
     let half = stood.half choices begins in
-    c.in_err-at.ensures.refused (choices ++ half.more) (child_begins n sites c.args.from at choices _ _ laws within round half))
+    c.in_err-at.ensures.refused (choices ++ half.more) (child_begins n leaks surrounds sites c.args.from at choices _ _ laws within round half))
 
 pub loop-at-preserved : goal.loop-at-preserved
 loop-at-preserved g t c =
-    let n : Naming = naming (g.N.NewTexts.text c.args.plan.now.texts.now) c.args.plan.now.goes_on (g.A.Asked.keeps c.args.plan.now.asked.now) (g.A.Asked.preserved c.args.plan.now.asked.now) (g.A.Asked.occurs c.args.plan.now.asked.now) (g.A.Nesting.surrounds c.args.plan.now.asked.now) (g.A.Asked.id_of c.args.plan.now.asked.now) in
+    let plan = c.args.plan.now in
+    let leaks : ℕ → Bool = contains nat_cmp plan.leaks.now in
+    let surrounds = g.A.Nesting.surrounds plan.asked.now in
+    let naming : (ℕ → ℕ → Bool) → Naming = planned g.N.NewTexts.text g.A.Asked.keeps g.A.Asked.preserved g.A.Asked.occurs g.A.Asked.id_of plan in
+    let n : Naming = naming (counts_with leaks surrounds) in
     let sites = c.args.sites.now in
-    let laws : Laws (g.A.Nesting.surrounds c.args.plan.now.asked.now) = record { own = g.met.A.Nesting.own c.args.plan.now.asked.now; through = g.met.A.Nesting.through c.args.plan.now.asked.now; same = g.met.A.Nesting.same c.args.plan.now.asked.now } in
+    let laws : Laws surrounds = record { own = g.met.A.Nesting.own plan.asked.now; through = g.met.A.Nesting.through plan.asked.now; same = g.met.A.Nesting.same plan.asked.now } in
     let at = c.loop-at.at in
     let within : at < length sites = omega arith in
     let stood = c.loop-at.invariant in
-    let round : n.counts (scope_at sites c.args.from) (scope_at sites at) ≡ true = sym c.if-surrounds.ensures in
+    let round : surrounds (scope_at sites c.args.from) (scope_at sites at) ≡ true = sym c.if-surrounds.ensures in
     let done = c.in_ok-at.ensures.named in
     let later : at ≤ c.in_ok-at.at = omega (arith, done.further) in
     record {
@@ -84,7 +110,9 @@ loop-at-preserved g t c =
       scope = refl;
       half = λ choices begins.
           let half = stood.half choices begins in
-          half_child n sites c.args.from at c.in_ok-at.at choices _ _ _ laws c.requires.order later round c.if-site-scope.false half
-          (done.done (choices ++ half.more) (child_begins n sites c.args.from at choices _ _ laws within round half));
-      tried = stood.tried;
+          half_child n leaks surrounds sites c.args.from at c.in_ok-at.at choices _ _ _ _ _ laws c.requires.order later round c.if-site-scope.false half
+          (done.done (choices ++ half.more) (child_begins n leaks surrounds sites c.args.from at choices _ _ laws within round half));
+      more = λ x f h. c.in_ok-at.ensures.more x f (stood.more x f h);
+      tried = tried_more_given (g.N.NewTexts.text plan.texts.now) (g.A.Asked.preserved plan.asked.now) (g.A.Asked.occurs plan.asked.now) (c.loop-at.given, c.loop-at.whole) (c.loop-at.given, c.name_scope.new.whole) c.loop-at.tried
+          (no_less c.loop-at.given) c.in_ok-at.ensures.more stood.tried;
     }

@@ -1,35 +1,24 @@
-use Rattle.std.proofs.Common.{◌<◌, ◌≤◌, [], length, arith}
-use Rattle.std.proofs.lemmas.Result.{err_from_is_err_and}
-use Rattle.swc_base_rename_naming.specs.Steps.{Naming, naming}
-use Rattle.swc_base_rename_naming.proofs.Inside.{Laws, root_begins, root_done}
-use Rattle.swc_base_rename_naming.proofs.Stands.{stands_first}
+use Rattle.std.proofs.Common.{◌≡◌, ◌||◌, ℕ, Bool, false, nat_cmp, IfErr, IfOk, ap, subst}
+use Rattle.std.specs.BTreeSet.{contains}
+use Rattle.swc_base_rename_naming.specs.InOrder.{IsRefused, NamedInOrder}
+use Rattle.swc_base_rename_naming.specs.Steps.{Naming, counts_with, naming, rules, text_at}
+use Rattle.swc_base_rename_naming.proofs.Stands.{none_leaks}
 use Rattle.swc_base_rename_naming.proofs.nested.names_by_scope.Goals as goal
 
-pub loop-at-init : goal.loop-at-init
-loop-at-init g c =
-    let n : Naming = naming (g.N.NewTexts.text c.args.texts.now) c.args.goes_on (g.A.Asked.keeps c.args.asked.now) (g.A.Asked.preserved c.args.asked.now) (g.A.Asked.occurs c.args.asked.now) (g.A.Nesting.surrounds c.args.asked.now) (g.A.Asked.id_of c.args.asked.now) in
-    let sites = c.args.sites.now in
-    record { fits = omega arith; whole = record { choices = []; stands = stands_first n c.new-names.result c.new-names.ensures.texts c.new-names.ensures.next; over = tt } }
+-- where no scope leaks, those that lie round a scope count
+none_leak : (leaks : ℕ → Bool) (surrounds : ℕ → ℕ → Bool) → ((u : ℕ) → leaks u ≡ false) → counts_with leaks surrounds ≡ surrounds
+none_leak leaks surrounds none i = λ u s. ap (λ b. b || surrounds u s) (none u) i
 
-pub returns-in_err-at-clause-refused : goal.returns-in_err-at-clause-refused
-returns-in_err-at-clause-refused g c =
-    let n : Naming = naming (g.N.NewTexts.text c.args.texts.now) c.args.goes_on (g.A.Asked.keeps c.args.asked.now) (g.A.Asked.preserved c.args.asked.now) (g.A.Asked.occurs c.args.asked.now) (g.A.Nesting.surrounds c.args.asked.now) (g.A.Asked.id_of c.args.asked.now) in
-    let sites = c.args.sites.now in
-    let within : c.loop-at.at < length sites = omega arith in
-    let whole = c.loop-at.invariant.whole in
-    let refused = err_from_is_err_and c.from_residual.result c.from_residual.ensures.1 in
-    rw (refused.1, refused.2) (c.in_err-at.ensures.refused whole.choices (root_begins n sites c.loop-at.at c.loop-at.names c.new-outer.result within c.new-outer.ensures whole))
+pub returns-clause-named : goal.returns-clause-named
+returns-clause-named g c =
+    let n : (ℕ → ℕ → Bool) → Naming = λ counts. naming (g.N.NewTexts.text c.args.texts.now) c.args.goes_on (g.A.Asked.keeps c.args.asked.now) (g.A.Asked.preserved c.args.asked.now) (g.A.Asked.occurs c.args.asked.now) counts (g.A.Asked.id_of c.args.asked.now) in
+    subst (λ counts. IfOk c.names_with_leaks.result (λ found. NamedInOrder (rules (n counts)) c.args.sites.now (text_at found)))
+    (none_leak (contains nat_cmp c.new-leaks.result) (g.A.Nesting.surrounds c.args.asked.now) (none_leaks c.new-leaks.result c.new-leaks.ensures.empty))
+    c.names_with_leaks.ensures.named
 
-pub loop-at-preserved : goal.loop-at-preserved
-loop-at-preserved g c =
-    let n : Naming = naming (g.N.NewTexts.text c.args.texts.now) c.args.goes_on (g.A.Asked.keeps c.args.asked.now) (g.A.Asked.preserved c.args.asked.now) (g.A.Asked.occurs c.args.asked.now) (g.A.Nesting.surrounds c.args.asked.now) (g.A.Asked.id_of c.args.asked.now) in
-    let sites = c.args.sites.now in
-    let laws : Laws (g.A.Nesting.surrounds c.args.asked.now) = record { own = g.met.A.Nesting.own c.args.asked.now; through = g.met.A.Nesting.through c.args.asked.now; same = g.met.A.Nesting.same c.args.asked.now } in
-    let within : c.loop-at.at < length sites = omega arith in
-    let whole = c.loop-at.invariant.whole in
-    let done = c.in_ok-at.ensures.named in
-    let later : c.loop-at.at ≤ c.in_ok-at.at = omega (arith, done.further) in
-    record {
-      fits = done.fits;
-      whole = root_done n sites c.loop-at.at c.in_ok-at.at c.loop-at.names c.name_scope.new.names laws c.requires later whole (done.done whole.choices (root_begins n sites c.loop-at.at c.loop-at.names c.new-outer.result within c.new-outer.ensures whole));
-    }
+pub returns-clause-refused : goal.returns-clause-refused
+returns-clause-refused g c =
+    let n : (ℕ → ℕ → Bool) → Naming = λ counts. naming (g.N.NewTexts.text c.args.texts.now) c.args.goes_on (g.A.Asked.keeps c.args.asked.now) (g.A.Asked.preserved c.args.asked.now) (g.A.Asked.occurs c.args.asked.now) counts (g.A.Asked.id_of c.args.asked.now) in
+    subst (λ counts. IfErr c.names_with_leaks.result (IsRefused (rules (n counts)) c.args.sites.now))
+    (none_leak (contains nat_cmp c.new-leaks.result) (g.A.Nesting.surrounds c.args.asked.now) (none_leaks c.new-leaks.result c.new-leaks.ensures.empty))
+    c.names_with_leaks.ensures.refused
