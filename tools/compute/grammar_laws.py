@@ -405,3 +405,53 @@ def sameness_goes_by_the_first_tree(t):
         if is_same(t, changed) or not is_same(changed, t):
             return Bad('of', t, 'changed:', changed)
     return True
+
+
+# -------------------------------------------------------------------------------------------------- a second run
+def set_anew(t):
+    """what the fixer answers: each due pair where the tree had one round that content"""
+    pairs = D.grammar.Pairs.pairs(t)
+    return D.grammar.Due.with_due_pairs(lambda span: D.grammar.Fixed.recorded(pairs, span), stripped(t))
+
+
+def crowded(t):
+    """the tree with few spans, so that many nodes share one"""
+    few = lambda span: js.REC(lo=span.lo % 4, hi=span.hi % 3)
+    if t[0] == 'Span':
+        return ('Span', few(t[1]))
+    if t[0] == 'Identifier':
+        return ('Identifier', t[1], js.REC(span=few(t[2].span), ctxt=t[2].ctxt, sym=t[2].sym))
+    return trees.with_kids(t, [crowded(c) for c in kids(t)]) if t[0] in ('List', 'Tree') else t
+
+
+def has_paired_target(t):
+    """some assignment's target stands in a pair"""
+    return any(kind(at(t, path)[2][2]) == 'ParenExpr' for path in of_kind(t, 'AssignExpr'))
+
+
+@law(any_tree)
+def second_run_keeps_spans(t):
+    """where no assignment's target of the fixer's answer stands in a pair, a second run gives the answer, spans too"""
+    if not fits_place(t):
+        return None
+    for tree in (t, crowded(t)):
+        once = set_anew(tree)
+        if has_paired_target(once):
+            continue
+        twice = set_anew(once)
+        if once != twice:
+            return Bad('once:', once, '-- twice:', twice)
+    return True
+
+
+@law(any_tree)
+def third_run_keeps_spans(t):
+    """what a second run of the fixer gives, a third gives again, spans too"""
+    if not fits_place(t):
+        return None
+    for tree in (t, crowded(t)):
+        twice = set_anew(set_anew(tree))
+        third = set_anew(twice)
+        if twice != third:
+            return Bad('twice:', twice, '-- a third time:', third)
+    return True

@@ -1,6 +1,8 @@
 """Laws of what hygiene and the fixer answer one after the other, and of a chain that resolves first."""
 import renaming
 import scoping
+import trees
+import units
 from grammar_laws import is_same
 from lawbook import Bad, D, clean_module, fits_grammar, fixed, is_module, is_writable, law, normal_form, well_scoped_module
 from naming_laws import keeps_ids, writable_and_well_scoped
@@ -31,6 +33,20 @@ def is_as_promised(t, answer):
     before, after = normal_form(t), normal_form(answer)
     fault = 'names at other paths' if names_at(after) != names_at(before) else meanings_fault(after, before)
     return Bad(fault, 'in', after, 'of', answer) if fault else True
+
+
+def nameless(t):
+    """the tree with one text for all identifiers and no context, spans as they are"""
+    return trees.with_identifiers(lambda i: ((), ()), t)
+
+
+@law(well_scoped_module)
+def hygiene_keeps_spans(t):
+    """hygiene keeps the normal form of a writable module, spans too, but for texts and contexts"""
+    if not is_module(t) or not is_writable(t) or units.HasEval(D.all, t):
+        return None
+    before, after = normal_form(t), normal_form(with_hygiene(t))
+    return nameless(before) == nameless(after) or Bad('normal forms:', before, '--', after)
 
 
 def is_source(t):

@@ -8,12 +8,15 @@ use Rattle.swc_tree_grammar.specs.Needed.{NoIdlePair}
 use Rattle.swc_tree_grammar.specs.Normal as normal
 use Rattle.swc_tree_grammar.specs.Places.{is_open}
 use Rattle.swc_tree_grammar.specs.Spanless.{SameButForSpans}
+use Rattle.swc_tree_grammar.specs.Targets.{all_bare}
 use Rattle.swc_tree_grammar.specs.Writable.{Writable}
 use Rattle.swc_base_fixer_laws.specs.Once.{paired_once}
+use Rattle.swc_base_fixer_laws.specs.Targets.{has_bare_targets}
 use Rattle.swc_base_fixer_program.specs.Answers.{answer_to}
 
 -- what could be written down still can and is derived by the grammar, and each of its pairs is needed or stands for a
--- reader; the normal form is what it was; no pair stands right in another; and a second run changes nothing but spans
+-- reader; the normal form is what it was; no pair stands right in another; and a second run changes nothing but spans, nor
+-- these where no assignment's target stands in a pair and the first run refused none
 pub record Promises (before after : Node) : Type 0 where
   pub writable : Writable before → Writable after
   pub derived : Writable before → FitsGrammar after
@@ -21,6 +24,7 @@ pub record Promises (before after : Node) : Type 0 where
   pub normal_form : normal.normal_form after ≡ normal.normal_form before
   pub once : IsTrue (paired_once after)
   pub again : SameButForSpans (answer_to after) after
+  pub settled : IsTrue (all_bare before) → IsTrue (has_bare_targets after) → answer_to after ≡ after
 
 -- so it is of the answer to what fits a place that takes pairs, as each module and each script does
 abbrev pub AnswersKeepPromises : Type 0

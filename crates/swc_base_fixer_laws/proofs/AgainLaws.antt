@@ -3,7 +3,7 @@ use Rattle.std.proofs.Common.{◌∙◌, ap, sym}
 use Rattle.swc_tree_grammar.specs.Spanless.{spanless}
 use Rattle.swc_tree_grammar.specs.Fixed.{fixed}
 use Rattle.swc_base_fixer_laws.specs.Once.{paired_once}
-use Rattle.swc_base_fixer_laws.specs.Laws.{StrippingUndoesFixer, NormalFormStays, NoPairInPair, AnswerAgain, PlacesChangeSpans, SecondRunChangesSpans, FixerKeepsNormalForm, FixerPairsOnce, FixerStaysThere}
+use Rattle.swc_base_fixer_laws.specs.Laws.{StrippingUndoesFixer, NormalFormStays, NoPairInPair, AnswerAgain, PlacesChangeSpans, SecondRunChangesSpans, SecondRunKeepsSpans, FixerKeepsNormalForm, FixerPairsOnce, FixerStaysThere}
 use Rattle.swc_base_fixer_laws.proofs.AgainStill.{fits_well}
 use Rattle.swc_base_fixer_laws.proofs.AgainNormal.{stripped_fixed, normal_form_stays}
 use Rattle.swc_base_fixer_laws.proofs.AgainTwice.{fixed_again}
@@ -11,6 +11,7 @@ use Rattle.swc_base_fixer_laws.proofs.AgainStarts.{places_change_spans}
 use Rattle.swc_base_fixer_laws.proofs.AgainStripped.{fixed_same, once_spanless}
 use Rattle.swc_base_fixer_laws.proofs.AgainWritten.{normal_same}
 use Rattle.swc_base_fixer_laws.proofs.OnceStarts.{fixed_once}
+use Rattle.swc_base_fixer_laws.proofs.PlacedAgain.{spans_stay}
 
 pub all_stripping_undoes_fixer : StrippingUndoesFixer
 all_stripping_undoes_fixer place t s f = stripped_fixed place t (fits_well t s f)
@@ -29,6 +30,9 @@ all_places_same = places_change_spans
 
 pub all_second_run_changes_spans : SecondRunChangesSpans
 all_second_run_changes_spans first second t s f = ap spanless (fixed_again first second t (fits_well t s f)) ∙ places_change_spans second first t
+
+pub all_second_run_keeps_spans : SecondRunKeepsSpans
+all_second_run_keeps_spans = spans_stay
 
 -- what the fixer answers is the same but for spans
 pub all_fixer_keeps_normal_form : FixerKeepsNormalForm

@@ -48,7 +48,7 @@ bracket_changed kind.IfStmt us ts e = refl
 bracket_changed kind.ForOfStmt us ts e = refl
 bracket_changed k us ts e = absurd (cc)
 
-bracket_same : (t : Node) → is_let_bracket (spanless t) ≡ is_let_bracket t
+pub bracket_same : (t : Node) → is_let_bracket (spanless t) ≡ is_let_bracket t
 bracket_same t = look spanless_mapped Bool let_bracket_in (λ s r. refl) (λ k i. refl) (λ ts. refl) bracket_row bracket_changed t
 
 member_same : (s o m : Node) → is_let_bracket (Tree kind.MemberExpr (spanless s ∷ spanless o ∷ spanless m ∷ [])) ≡ is_let_bracket (Tree kind.MemberExpr (s ∷ o ∷ m ∷ []))
@@ -82,7 +82,7 @@ start_items : (ts : List Node) → Each Begins ts → start (Many (map spanless 
 start_items [] l = refl
 start_items (t ∷ ts) l = start_list (spanless t) (map spanless ts) ∙ l.0 ∙ sym (start_list t ts)
 
-start_same : (t : Node) → Begins t
+pub start_same : (t : Node) → Begins t
 start_same t = by_children Begins
     (search (rules, the_lemmas), λ x. search (rules, the_lemmas), λ w. search (rules, the_lemmas), λ x. search (rules, the_lemmas), λ s. search (rules, the_lemmas), λ k i. search (rules, the_lemmas))
     (λ ts l. ap start (spanless_of_list ts) ∙ start_items ts l)

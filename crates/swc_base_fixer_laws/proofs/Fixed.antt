@@ -13,7 +13,8 @@ use Rattle.swc_tree_grammar.specs.Targets.{all_bare}
 use Rattle.swc_tree_grammar.specs.Writable.{Writable}
 use Rattle.swc_tree_grammar.proofs.Kept.{stripped_fits}
 use Rattle.swc_tree_grammar.proofs.BlocksKept.{blocks_fit}
-use Rattle.swc_base_fixer_laws.proofs.Answer.{keep_writable, answer_fits}
+use Rattle.swc_base_fixer_laws.specs.Laws.{FixedFitsTable}
+use Rattle.swc_base_fixer_laws.proofs.Answer.{keep_writable, answer_fits, answer_fits_table}
 use Rattle.swc_base_fixer_laws.proofs.BareTargets.{bare_targets}
 use Rattle.swc_base_fixer_laws.proofs.Blocking.{blocks_keep_writable}
 use Rattle.swc_base_fixer_laws.proofs.Stripping.{stripped_sound}
@@ -29,3 +30,6 @@ fixed_fits place t s o f w =
     let g = stripped_fits t s (targets_stand_bare t s f w) o f in
     let u = blocks_keep_writable (stripped t) s g (stripping_keeps_writable t s f w) in
     (keep_writable place (with_blocks (stripped t)) s (blocks_fit (stripped t) s g) u, answer_fits place (stripped t) s g u)
+
+pub fixed_fits_table : FixedFitsTable
+fixed_fits_table place t s o f b = answer_fits_table place (stripped t) s (stripped_fits t s b o f)

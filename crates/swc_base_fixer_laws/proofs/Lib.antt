@@ -51,4 +51,9 @@ pub mod OnceTrees
 pub mod OnceStarts
 pub mod AgainStripped
 pub mod AgainWritten
+pub mod Placed
+pub mod PlacedLevel
+pub mod PlacedHeads
+pub mod PlacedStarts
+pub mod PlacedAgain
 pub mod AgainLaws

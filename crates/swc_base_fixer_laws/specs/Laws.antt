@@ -12,11 +12,13 @@ use Rattle.swc_tree_grammar.specs.Writable.{Writable}
 use Rattle.swc_tree_grammar.specs.Stripped.{stripped}
 use Rattle.swc_tree_grammar.specs.Normal.{normal_form}
 use Rattle.swc_tree_grammar.specs.Spanless.{SameButForSpans}
-use Rattle.swc_tree_grammar.specs.Fixed.{fixed, IsFixed}
+use Rattle.swc_tree_grammar.specs.Pairs.{pairs}
+use Rattle.swc_tree_grammar.specs.Fixed.{fixed, recorded, IsFixed}
 use Rattle.swc_base_fixer_laws.specs.Alike.{Alike}
 use Rattle.swc_base_fixer_laws.specs.Sets.{Sets}
 use Rattle.swc_base_fixer_laws.specs.Named.{named}
 use Rattle.swc_base_fixer_laws.specs.Once.{paired_once}
+use Rattle.swc_base_fixer_laws.specs.Targets.{has_bare_targets}
 
 -- the due pairs are pairs round expressions where the table takes them, and nothing else changes
 abbrev pub DuePairsArePairs : Type 0
@@ -55,6 +57,10 @@ StrippingKeepsWritable = (t : Node) (s : Slot) → Fits t s → Writable t → W
 abbrev pub FixedFits : Type 0
 FixedFits = (place : Places) (t : Node) (s : Slot) → IsTrue (is_open s) → Fits t s → Writable t → Writable (fixed place t) × FitsGrammar (fixed place t)
 
+-- the answer to what fits a place fits there, where each parenthesised target can stand bare
+abbrev pub FixedFitsTable : Type 0
+FixedFitsTable = (place : Places) (t : Node) (s : Slot) → IsTrue (is_open s) → Fits t s → IsTrue (all_bare t) → Fits (fixed place t) s
+
 -- what stripping leaves of the answer is the stripped tree with its blocks, in which the name `async` before `of` is an
 -- expression
 abbrev pub StrippingUndoesFixer : Type 0
@@ -79,6 +85,11 @@ PlacesChangeSpans = (first second : Places) (t : Node) → SameButForSpans (fixe
 -- so a second run changes nothing but spans
 abbrev pub SecondRunChangesSpans : Type 0
 SecondRunChangesSpans = (first second : Places) (t : Node) (s : Slot) → Fits t s → SameButForSpans (fixed second (fixed first t)) (fixed first t)
+
+-- a second run, which knows where the pairs of the first answer stand, answers the same tree with its spans, where no
+-- assignment's target of it stands in a pair: where such a pair stood is not known
+abbrev pub SecondRunKeepsSpans : Type 0
+SecondRunKeepsSpans = (place : Places) (t : Node) (s : Slot) → IsTrue (is_open s) → Fits t s → IsTrue (all_bare t) → IsTrue (has_bare_targets (fixed place t)) → fixed (recorded (pairs (fixed place t))) (fixed place t) ≡ fixed place t
 
 -- the same said of whatever the fixer answers, which is known but for spans
 abbrev pub FixerKeepsNormalForm : Type 0

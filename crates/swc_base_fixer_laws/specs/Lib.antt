@@ -3,3 +3,4 @@ pub mod Sets
 pub mod Laws
 pub mod Once
 pub mod Named
+pub mod Targets

@@ -6,7 +6,7 @@
 //! is proved.
 #![tactic(auto)]
 
-ghost use Rattle.swc_base_fixer_laws.specs.Laws.{AnswerAgain, AnswerFits, AnswerFitsTable, BlocksKeepWritable, DuePairsArePairs, DuePairsKeepWritable, FixedFits, FixerKeepsNormalForm, FixerPairsOnce, FixerStaysThere, NoPairInPair, NormalFormStays, PlacesChangeSpans, SecondRunChangesSpans, StrippingKeepsWritable, StrippingUndoesDuePairs, StrippingUndoesFixer, TargetsStandBare};
+ghost use Rattle.swc_base_fixer_laws.specs.Laws.{AnswerAgain, AnswerFits, AnswerFitsTable, BlocksKeepWritable, DuePairsArePairs, DuePairsKeepWritable, FixedFits, FixedFitsTable, FixerKeepsNormalForm, FixerPairsOnce, FixerStaysThere, NoPairInPair, NormalFormStays, PlacesChangeSpans, SecondRunChangesSpans, SecondRunKeepsSpans, StrippingKeepsWritable, StrippingUndoesDuePairs, StrippingUndoesFixer, TargetsStandBare};
 
 /// The due pairs are pairs round expressions, and nothing else changes.
 pub fn due_pairs_are_pairs()
@@ -53,6 +53,11 @@ pub fn fixed_fits()
     ensures { FixedFits }
 {}
 
+/// The answer fits where the tree does, where each parenthesised target can stand bare.
+pub fn fixed_fits_table()
+    ensures { FixedFitsTable }
+{}
+
 /// Stripping leaves of the answer what it leaves of the tree, with its blocks.
 pub fn stripping_undoes_fixer()
     ensures { StrippingUndoesFixer }
@@ -81,6 +86,11 @@ pub fn places_change_spans()
 /// A second run changes nothing but spans.
 pub fn second_run_changes_spans()
     ensures { SecondRunChangesSpans }
+{}
+
+/// A second run answers the same tree with its spans, where no assignment's target of it stands in a pair.
+pub fn second_run_keeps_spans()
+    ensures { SecondRunKeepsSpans }
 {}
 
 /// What the fixer answers has the normal form of what it was given, but for spans.

@@ -6,6 +6,7 @@ ghost use Rattle.swc_base_rename.specs.Hygiene.{MakesHygienic, RefusesHygiene};
 use std::alloc::Global;
 use swc_base_rename_program::hygiene_program;
 use swc_base_rename_substitution::Config;
+use swc_base_rename_texts_laws::hygiene_keeps_spans;
 use swc_tree::ProgramPass;
 use swc_tree_marks::{Globals, PassError};
 use swc_tree_node::Node;
@@ -44,6 +45,7 @@ impl ProgramPass for Hygiene {
         globals: &mut Globals,
         program: Node,
     ) -> Result<Node, PassError> {
+        hygiene_keeps_spans();
         hygiene_program(alloc, &self.config, globals, program)
     }
 

@@ -32,3 +32,4 @@ mod WritableStaysRows
 mod WritableStaysStatements
 pub mod WritableStays
 pub mod Impossible
+pub mod NormalFormSpans

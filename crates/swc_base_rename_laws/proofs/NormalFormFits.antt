@@ -152,7 +152,7 @@ module _ (m : Changes) (declared : Node → List Id) where
 
   alike_by : (i j : Ident) (o : Option Id) → m (id_of i) ≡ o → option_map (with_id i) o ≡ Some j → Alike m true i j
   alike_by i j None e h = absurd (cc)
-  alike_by i j (Some y) e h = inr (refl, e ∙ ap (option_map id_of) h)
+  alike_by i j (Some y) e h = let is : with_id i y ≡ j = cc in (sym (ap (λ (j : Ident). j.span) is), inr (refl, e ∙ ap (option_map id_of) h))
 
   changed_alike : (p : Place) (b : Bool) (i j : Ident) → is_plain p ≡ true → is_name p ≡ b → changed m p i ≡ Some j → Alike m b i j
   changed_alike place.Name b i j h n e = subst (λ b. Alike m b i j) n (alike_by i j (m (id_of i)) refl e)
@@ -167,9 +167,9 @@ module _ (m : Changes) (declared : Node → List Id) where
 
   -- a name that doesn't change there
   stays_alike : (p : Place) (b : Bool) (i : Ident) → is_plain p ≡ true → is_name p ≡ b → changed m p i ≡ None → Alike m b i i
-  stays_alike place.Name b i h n e = subst (λ b. Alike m b i i) n (inl (refl, none_by i (m (id_of i)) e))
-  stays_alike place.Other b i h n e = subst (λ b. Alike m b i i) n (inl (refl, refl))
-  stays_alike place.Exported b i h n e = subst (λ b. Alike m b i i) n (inl (refl, refl))
+  stays_alike place.Name b i h n e = subst (λ b. Alike m b i i) n (refl, inl (refl, none_by i (m (id_of i)) e))
+  stays_alike place.Other b i h n e = subst (λ b. Alike m b i i) n (refl, inl (refl, refl))
+  stays_alike place.Exported b i h n e = subst (λ b. Alike m b i i) n (refl, inl (refl, refl))
   stays_alike place.ClassName b i h n e = absurd (cc)
   stays_alike place.Shorthand b i h n e = absurd (cc)
 
@@ -178,8 +178,8 @@ module _ (m : Changes) (declared : Node → List Id) where
   name_by g p b k i (Some j) h n e = to g (part b) _ _ _ (changed_at p k i j h) (Becomes.name g (part b) k i j (changed_alike p b i j h n e))
 
   short_by : (k : Kind) (i : Ident) (o : Option Id) → m (id_of i) ≡ o → B true property (Identifier k i) (identifier_to place.Shorthand k i (option_map (with_id i) o))
-  short_by k i None e = Becomes.name true property k i i (refl, e)
-  short_by k i (Some y) e = Becomes.short true k i (with_id i y) (inr (refl, e))
+  short_by k i None e = Becomes.name true property k i i (refl, (refl, e))
+  short_by k i (Some y) e = Becomes.short true k i (with_id i y) (refl, inr (refl, e))
 
   here : (g : Bool) (s : Spot) (t u : Node) → B g s t u → g ≡ true → is_absent_in (out-Node u) ≡ false
   here g s t u (Becomes.absent _) e = absurd (cc)
@@ -381,7 +381,7 @@ module _ (m : Changes) (declared : Node → List Id) where
   Others k = (j : Ident) (us : List Node) → written_out k j us ≡ Tree k (with_other j us)
 
   same_text : (g : Bool) (l : Kind) (i : Ident) → B g (part false) (Identifier l i) (Identifier l i)
-  same_text g l i = Becomes.name g (part false) l i i (inl (refl, refl))
+  same_text g l i = Becomes.name g (part false) l i i (refl, inl (refl, refl))
 
   same_name : (g : Bool) (l : Kind) (i : Ident) → changed m place.Name i ≡ None → B g (part true) (Identifier l i) (Identifier l i)
   same_name g l i e = Becomes.name g (part true) l i i (stays_alike place.Name true i refl refl e)

@@ -19,7 +19,7 @@ use Rattle.swc_tree_grammar.specs.Blocks.{takes_else, takes_else_step}
 use Rattle.swc_tree_grammar.specs.Normal.{again_in, as_pattern, only_in, opened, opened_in, pattern_in, plain_name, split, split_in}
 use Rattle.swc_tree_grammar.proofs.Walks.{takes_else_of_tree}
 use Rattle.swc_base_rename_substitution.specs.Identifiers.{Changes}
-use Rattle.swc_base_rename_laws.proofs.NormalFormPairs.{Alike, Like, LikeFields, Likes, flags, is_left}
+use Rattle.swc_base_rename_laws.proofs.NormalFormPairs.{Alike, AlikeIds, Like, LikeFields, Likes, flags, is_left}
 
 any_left : (p : Id → Bool) (xs ys : List Id) → list_any p (xs ++ ys) ≡ false → list_any p xs ≡ false
 any_left p [] ys h = refl
@@ -57,7 +57,7 @@ module _ (m : Changes) where
   absent_same b t u (Like.a_flag _ x) = refl
   absent_same b t u (Like.a_word _ x) = refl
   absent_same b t u (Like.a_text _ x) = refl
-  absent_same b t u (Like.a_span _ x y) = absent_at _ _ (outs-Span x) ∙ sym (absent_at _ _ (outs-Span y))
+  absent_same b t u (Like.a_span _ x y same_span) = absent_at _ _ (outs-Span x) ∙ sym (absent_at _ _ (outs-Span y))
   absent_same b t u (Like.name _ k i j a) = absent_at _ _ (outs-Identifier k i) ∙ sym (absent_at _ _ (outs-Identifier k j))
   absent_same b t u (Like.list _ ts us l) = absent_at _ _ (outs-List ts) ∙ sym (absent_at _ _ (outs-List us))
   absent_same b t u (Like.tree _ k ts us e l) = absent_at _ _ (outs-Tree k ts) ∙ sym (absent_at _ _ (outs-Tree k us))
@@ -73,7 +73,7 @@ module _ (m : Changes) where
   items_like b t u (Like.a_flag _ x) = moved_all b _ [] _ [] (ap items_in (outs-Flag x)) (ap items_in (outs-Flag x)) (Likes.none b)
   items_like b t u (Like.a_word _ x) = moved_all b _ [] _ [] (ap items_in (outs-Word x)) (ap items_in (outs-Word x)) (Likes.none b)
   items_like b t u (Like.a_text _ x) = moved_all b _ [] _ [] (ap items_in (outs-Text x)) (ap items_in (outs-Text x)) (Likes.none b)
-  items_like b t u (Like.a_span _ x y) = moved_all b _ [] _ [] (ap items_in (outs-Span x)) (ap items_in (outs-Span y)) (Likes.none b)
+  items_like b t u (Like.a_span _ x y same_span) = moved_all b _ [] _ [] (ap items_in (outs-Span x)) (ap items_in (outs-Span y)) (Likes.none b)
   items_like b t u (Like.name _ k i j a) = moved_all b _ [] _ [] (ap items_in (outs-Identifier k i)) (ap items_in (outs-Identifier k j)) (Likes.none b)
   items_like b t u (Like.tree _ k ts us e l) = moved_all b _ [] _ [] (ap items_in (outs-Tree k ts)) (ap items_in (outs-Tree k us)) (Likes.none b)
   items_like b t u (Like.exports _ a c ts us d e h l j) = moved_all b _ [] _ [] (ap items_in (outs-Tree kind.NamedExport _)) (ap items_in (outs-Tree kind.NamedExport _)) (Likes.none b)
@@ -90,7 +90,7 @@ module _ (m : Changes) where
   pattern_like b t u (Like.a_flag _ x) = moved b _ _ _ _ (ap (pattern_in (Flag x)) (outs-Flag x)) (ap (pattern_in (Flag x)) (outs-Flag x)) (Like.a_flag b x)
   pattern_like b t u (Like.a_word _ x) = moved b _ _ _ _ (ap (pattern_in (Word x)) (outs-Word x)) (ap (pattern_in (Word x)) (outs-Word x)) (Like.a_word b x)
   pattern_like b t u (Like.a_text _ x) = moved b _ _ _ _ (ap (pattern_in (Text x)) (outs-Text x)) (ap (pattern_in (Text x)) (outs-Text x)) (Like.a_text b x)
-  pattern_like b t u (Like.a_span _ x y) = moved b _ _ _ _ (ap (pattern_in (Span x)) (outs-Span x)) (ap (pattern_in (Span y)) (outs-Span y)) (Like.a_span b x y)
+  pattern_like b t u (Like.a_span _ x y same_span) = moved b _ _ _ _ (ap (pattern_in (Span x)) (outs-Span x)) (ap (pattern_in (Span y)) (outs-Span y)) (Like.a_span b x y same_span)
   pattern_like b t u (Like.name _ k i j a) = moved b _ _ _ _ (ap (pattern_in (Identifier k i)) (outs-Identifier k i)) (ap (pattern_in (Identifier k j)) (outs-Identifier k j)) (pattern_name b k i j a)
   pattern_like b t u (Like.list _ ts us l) = moved b _ _ _ _ (ap (pattern_in (Many ts)) (outs-List ts)) (ap (pattern_in (Many us)) (outs-List us)) (Like.list b ts us l)
   pattern_like b t u (Like.tree _ k ts us e l) = moved b _ _ _ _ (ap (pattern_in (Tree k ts)) (outs-Tree k ts)) (ap (pattern_in (Tree k us)) (outs-Tree k us)) (Like.tree b k ts us e l)
@@ -105,8 +105,11 @@ module _ (m : Changes) where
   patterns_like b ts us (Likes.more _ t u ts0 us0 h l) = Likes.more b _ _ _ _ (pattern_like b t u h) (patterns_like b ts0 us0 l)
 
   plain_alike : (i j : Ident) → Alike m false i j → Like m false (plain_name i) (plain_name j)
-  plain_alike i j (inl e) = Like.name false kind.Ident _ _ (inl (ap (λ x. (x.0, [])) e.0, refl))
-  plain_alike i j (inr h) = absurd (cc (h.0))
+  plain_alike i j a = by a.1
+    where
+      by : AlikeIds m false i j → Like m false (plain_name i) (plain_name j)
+      by (inl e) = Like.name false kind.Ident _ _ (a.0, inl (ap (λ x. (x.0, [])) e.0, refl))
+      by (inr h) = absurd (cc (h.0))
 
   -- a name that stays is known by the same text
   pub again_like : (t u : Node) → Like m false t u → Like m false (again_in t (out-Node t)) (again_in u (out-Node u))
@@ -114,7 +117,7 @@ module _ (m : Changes) where
   again_like t u (Like.a_flag _ x) = moved false _ _ _ _ (ap (again_in (Flag x)) (outs-Flag x)) (ap (again_in (Flag x)) (outs-Flag x)) (Like.a_flag false x)
   again_like t u (Like.a_word _ x) = moved false _ _ _ _ (ap (again_in (Word x)) (outs-Word x)) (ap (again_in (Word x)) (outs-Word x)) (Like.a_word false x)
   again_like t u (Like.a_text _ x) = moved false _ _ _ _ (ap (again_in (Text x)) (outs-Text x)) (ap (again_in (Text x)) (outs-Text x)) (Like.a_text false x)
-  again_like t u (Like.a_span _ x y) = moved false _ _ _ _ (ap (again_in (Span x)) (outs-Span x)) (ap (again_in (Span y)) (outs-Span y)) (Like.a_span false x y)
+  again_like t u (Like.a_span _ x y same_span) = moved false _ _ _ _ (ap (again_in (Span x)) (outs-Span x)) (ap (again_in (Span y)) (outs-Span y)) (Like.a_span false x y same_span)
   again_like t u (Like.name _ k i j a) = moved false _ _ _ _ (ap (again_in (Identifier k i)) (outs-Identifier k i)) (ap (again_in (Identifier k j)) (outs-Identifier k j)) (plain_alike i j a)
   again_like t u (Like.list _ ts us l) = moved false _ _ _ _ (ap (again_in (Many ts)) (outs-List ts)) (ap (again_in (Many us)) (outs-List us)) (Like.list false ts us l)
   again_like t u (Like.tree _ k ts us e l) = moved false _ _ _ _ (ap (again_in (Tree k ts)) (outs-Tree k ts)) (ap (again_in (Tree k us)) (outs-Tree k us)) (Like.tree false k ts us e l)
@@ -134,7 +137,7 @@ module _ (m : Changes) where
   split_alone b t u (Like.a_flag _ x) = (ap (split_in (Flag x)) (outs-Flag x), ap (split_in (Flag x)) (outs-Flag x))
   split_alone b t u (Like.a_word _ x) = (ap (split_in (Word x)) (outs-Word x), ap (split_in (Word x)) (outs-Word x))
   split_alone b t u (Like.a_text _ x) = (ap (split_in (Text x)) (outs-Text x), ap (split_in (Text x)) (outs-Text x))
-  split_alone b t u (Like.a_span _ x y) = (ap (split_in (Span x)) (outs-Span x), ap (split_in (Span y)) (outs-Span y))
+  split_alone b t u (Like.a_span _ x y same_span) = (ap (split_in (Span x)) (outs-Span x), ap (split_in (Span y)) (outs-Span y))
   split_alone b t u (Like.name _ k i j a) = (ap (split_in (Identifier k i)) (outs-Identifier k i), ap (split_in (Identifier k j)) (outs-Identifier k j))
   split_alone b t u (Like.list _ ts us l) = (ap (split_in (Many ts)) (outs-List ts), ap (split_in (Many us)) (outs-List us))
   split_alone b t u (Like.tree _ k ts us e l) = (ap (split_in (Tree k ts)) (outs-Tree k ts) ∙ split_tree k ts e, ap (split_in (Tree k us)) (outs-Tree k us) ∙ split_tree k us e)
@@ -151,7 +154,7 @@ module _ (m : Changes) where
     else_same b t u (Like.a_flag _ x) = refl
     else_same b t u (Like.a_word _ x) = refl
     else_same b t u (Like.a_text _ x) = refl
-    else_same b t u (Like.a_span _ x y) = search (rules, the_lemmas)
+    else_same b t u (Like.a_span _ x y same_span) = search (rules, the_lemmas)
     else_same b t u (Like.name _ k i j a) = search (rules, the_lemmas)
     else_same b t u (Like.list _ ts us l) = search (rules, the_lemmas)
     else_same b t u (Like.tree _ k ts us e l) = takes_else_of_tree k ts ∙ ap (λ bs. takes_else_step (Node-F.Tree k bs)) (elses_same (flags b k) ts us l) ∙ sym (takes_else_of_tree k us)
@@ -188,7 +191,7 @@ module _ (m : Changes) where
   opened_like t u (Like.a_flag _ x) = moved false _ _ _ _ (ap (opened_in (Flag x)) (outs-Flag x)) (ap (opened_in (Flag x)) (outs-Flag x)) (Like.a_flag false x)
   opened_like t u (Like.a_word _ x) = moved false _ _ _ _ (ap (opened_in (Word x)) (outs-Word x)) (ap (opened_in (Word x)) (outs-Word x)) (Like.a_word false x)
   opened_like t u (Like.a_text _ x) = moved false _ _ _ _ (ap (opened_in (Text x)) (outs-Text x)) (ap (opened_in (Text x)) (outs-Text x)) (Like.a_text false x)
-  opened_like t u (Like.a_span _ x y) = moved false _ _ _ _ (ap (opened_in (Span x)) (outs-Span x)) (ap (opened_in (Span y)) (outs-Span y)) (Like.a_span false x y)
+  opened_like t u (Like.a_span _ x y same_span) = moved false _ _ _ _ (ap (opened_in (Span x)) (outs-Span x)) (ap (opened_in (Span y)) (outs-Span y)) (Like.a_span false x y same_span)
   opened_like t u (Like.name _ k i j a) = moved false _ _ _ _ (ap (opened_in (Identifier k i)) (outs-Identifier k i)) (ap (opened_in (Identifier k j)) (outs-Identifier k j)) (Like.name false k i j a)
   opened_like t u (Like.list _ ts us l) = moved false _ _ _ _ (ap (opened_in (Many ts)) (outs-List ts)) (ap (opened_in (Many us)) (outs-List us)) (Like.list false ts us l)
   opened_like t u (Like.tree _ k ts us e l) =
@@ -207,10 +210,13 @@ module _ (m : Changes) where
   abbrev Kept : List Id → List Id → Type 0
   Kept xs ys = Stay xs → ys ≡ xs
 
+  own_ids : (b : Bool) (k : Kind) (i j : Ident) → AlikeIds m b i j → Kept (own_id k i) (own_id k j)
+  own_ids b kind.BindingIdent i j (inl e) n = ap (λ x. x ∷ []) e.0
+  own_ids b kind.BindingIdent i j (inr h) n = let no : true ≡ false = ap (λ o. is_some o || false) (sym h.1) ∙ n in absurd (cc)
+  own_ids b k i j a n = refl
+
   own_name : (b : Bool) (k : Kind) (i j : Ident) → Alike m b i j → Kept (own_id k i) (own_id k j)
-  own_name b kind.BindingIdent i j (inl e) n = ap (λ x. x ∷ []) e.0
-  own_name b kind.BindingIdent i j (inr h) n = let no : true ≡ false = ap (λ o. is_some o || false) (sym h.1) ∙ n in absurd (cc)
-  own_name b k i j a n = refl
+  own_name b k i j a = own_ids b k i j a.1
 
   part_kept : (r : Role) (xs ys : List Id) → Kept xs ys → Kept (in_part r xs) (in_part r ys)
   part_kept role.Declared xs ys h n = h n
@@ -230,7 +236,7 @@ module _ (m : Changes) where
     bound_kept b t u (Like.a_flag _ x) n = refl
     bound_kept b t u (Like.a_word _ x) n = refl
     bound_kept b t u (Like.a_text _ x) n = refl
-    bound_kept b t u (Like.a_span _ x y) n = bound-Span y ∙ sym (bound-Span x)
+    bound_kept b t u (Like.a_span _ x y same_span) n = bound-Span y ∙ sym (bound-Span x)
     bound_kept b t u (Like.name _ k i j a) n = by_equations _ _ _ _ (bound-Identifier k i) (bound-Identifier k j) (own_name b k i j a) n
     bound_kept b t u (Like.list _ ts us l) n = by_equations _ _ _ _ (bound-List ts) (bound-List us) (items_kept b ts us l) n
     bound_kept b t u (Like.tree _ k ts us e l) n = by_equations _ _ _ _ (bound-Tree k ts) (bound-Tree k us) (fields_kept (flags b k) ts us l (field_role k)) n
@@ -251,14 +257,17 @@ module _ (m : Changes) where
   name_at : (t : Node) (y : Node-F Node) → out-Node t ≡ y → id_of (name_of (Some t)) ≡ id_of (name_in y)
   name_at t y e = ap (λ y. id_of (name_in y)) e
 
+  ids_kept : (b : Bool) (k : Kind) (i j : Ident) → AlikeIds m b i j → Kept (id_of (name_of (Some (Identifier k i)))) (id_of (name_of (Some (Identifier k j))))
+  ids_kept b k i j (inl e) n = name_at _ _ (outs-Identifier k j) ∙ ap (λ x. x ∷ []) e.0 ∙ sym (name_at _ _ (outs-Identifier k i))
+  ids_kept b k i j (inr h) n = let no : true ≡ false = ap (λ o. is_some o || false) (sym h.1) ∙ ap (list_any (λ x. is_some (m x))) (sym (name_at _ _ (outs-Identifier k i))) ∙ n in absurd (cc)
+
   name_kept : (b : Bool) (t u : Node) → Like m b t u → Kept (id_of (name_of (Some t))) (id_of (name_of (Some u)))
-  name_kept b t u (Like.name _ k i j (inl e)) n = name_at _ _ (outs-Identifier k j) ∙ ap (λ x. x ∷ []) e.0 ∙ sym (name_at _ _ (outs-Identifier k i))
-  name_kept b t u (Like.name _ k i j (inr h)) n = let no : true ≡ false = ap (λ o. is_some o || false) (sym h.1) ∙ ap (list_any (λ x. is_some (m x))) (sym (name_at _ _ (outs-Identifier k i))) ∙ n in absurd (cc)
+  name_kept b t u (Like.name _ k i j a) n = ids_kept b k i j a.1 n
   name_kept b t u (Like.absent _) n = refl
   name_kept b t u (Like.a_flag _ x) n = refl
   name_kept b t u (Like.a_word _ x) n = refl
   name_kept b t u (Like.a_text _ x) n = refl
-  name_kept b t u (Like.a_span _ x y) n = name_at _ _ (outs-Span y) ∙ sym (name_at _ _ (outs-Span x))
+  name_kept b t u (Like.a_span _ x y same_span) n = name_at _ _ (outs-Span y) ∙ sym (name_at _ _ (outs-Span x))
   name_kept b t u (Like.list _ ts us l) n = name_at _ _ (outs-List us) ∙ sym (name_at _ _ (outs-List ts))
   name_kept b t u (Like.tree _ k ts us e l) n = name_at _ _ (outs-Tree k us) ∙ sym (name_at _ _ (outs-Tree k ts))
   name_kept b t u (Like.exports _ a c ts us d e h l j) n = name_at _ _ (outs-Tree kind.NamedExport (c ∷ Many us ∷ Absent ∷ e ∷ [])) ∙ sym (name_at _ _ (outs-Tree kind.NamedExport (a ∷ Many ts ∷ Absent ∷ d ∷ [])))
@@ -285,7 +294,7 @@ module _ (m : Changes) where
   declared_kept b t u (Like.a_flag _ x) n = refl
   declared_kept b t u (Like.a_word _ x) n = refl
   declared_kept b t u (Like.a_text _ x) n = refl
-  declared_kept b t u (Like.a_span _ x y) n = by_equations _ _ _ _ (declared_at _ _ (outs-Span x)) (declared_at _ _ (outs-Span y)) (bound_kept b _ _ (Like.a_span b x y)) n
+  declared_kept b t u (Like.a_span _ x y same_span) n = by_equations _ _ _ _ (declared_at _ _ (outs-Span x)) (declared_at _ _ (outs-Span y)) (bound_kept b _ _ (Like.a_span b x y same_span)) n
   declared_kept b t u (Like.name _ k i j a) n = by_equations _ _ _ _ (declared_at _ _ (outs-Identifier k i)) (declared_at _ _ (outs-Identifier k j)) (bound_kept b _ _ (Like.name b k i j a)) n
   declared_kept b t u (Like.list _ ts us l) n = by_equations _ _ _ _ (declared_at _ _ (outs-List ts)) (declared_at _ _ (outs-List us)) (bound_kept b _ _ (Like.list b ts us l)) n
   declared_kept b t u (Like.exports _ a c ts us d e h l j) n =

@@ -13,7 +13,7 @@ use Rattle.swc_tree_scoping.specs.Scopes.{is_name}
 use Rattle.swc_base_rename_substitution.specs.Identifiers.{Changes, id_of}
 use Rattle.swc_base_rename_laws.specs.NewNames.{HasNewNames, id_anew, outline}
 use Rattle.swc_base_rename_laws.specs.Laws.{NormalFormHasNewNames}
-use Rattle.swc_base_rename_laws.proofs.NormalFormPairs.{Alike, Like, Likes, LikeFields, flags}
+use Rattle.swc_base_rename_laws.proofs.NormalFormPairs.{Alike, AlikeIds, Like, Likes, LikeFields, flags}
 use Rattle.swc_base_rename_laws.proofs.NormalFormSame.{a_source, field_is, item_is, local_is, no_source}
 use Rattle.swc_base_rename_laws.proofs.NormalFormStays.{normal_forms_like}
 use Rattle.swc_base_rename_laws.proofs.Outline.{outline_identifier, outline_list, outline_span, outline_tree, pair_same, places_alike}
@@ -44,7 +44,7 @@ module _ (m : Changes) where
     outline_like b t u (Like.a_flag _ x) = refl
     outline_like b t u (Like.a_word _ x) = refl
     outline_like b t u (Like.a_text _ x) = refl
-    outline_like b t u (Like.a_span _ x y) = outline_span x ∙ sym (outline_span y)
+    outline_like b t u (Like.a_span _ x y same_span) = outline_span x ∙ sym (outline_span y)
     outline_like b t u (Like.name _ k i j a) = outline_identifier k i ∙ sym (outline_identifier k j)
     outline_like b t u (Like.list c ts us l) = list_outline ts us (outlines_like c ts us l)
     outline_like b t u (Like.tree c k ts us e l) = tree_outline k ts us (fields_like (flags c k) ts us l)
@@ -117,7 +117,7 @@ module _ (m : Changes) where
   children_like b t u (Like.a_flag _ x) = seen (Flag x) (Flag x) _ _ b (outs-Flag x) (outs-Flag x) (λ w e i c h. absurd (cc))
   children_like b t u (Like.a_word _ x) = seen (Word x) (Word x) _ _ b (outs-Word x) (outs-Word x) (λ w e i c h. absurd (cc))
   children_like b t u (Like.a_text _ x) = seen (Text x) (Text x) _ _ b (outs-Text x) (outs-Text x) (λ w e i c h. absurd (cc))
-  children_like b t u (Like.a_span _ x y) = seen (Span x) (Span y) _ _ b (outs-Span x) (outs-Span y) (λ w e i c h. absurd (cc))
+  children_like b t u (Like.a_span _ x y same_span) = seen (Span x) (Span y) _ _ b (outs-Span x) (outs-Span y) (λ w e i c h. absurd (cc))
   children_like b t u (Like.name _ k i j a) = seen (Identifier k i) (Identifier k j) _ _ b (outs-Identifier k i) (outs-Identifier k j) (λ w e i c h. absurd (cc))
   children_like b t u (Like.list _ ts us l) = seen (Many ts) (Many us) _ _ b (outs-List ts) (outs-List us) (of_items ts us b l)
   children_like b t u (Like.tree _ k ts us n l) =
@@ -151,14 +151,14 @@ module _ (m : Changes) where
   one_like b t u k i (Like.a_flag _ x) h = other _ (Flag x) _ k i (outs-Flag x) (λ e. absurd (cc)) h
   one_like b t u k i (Like.a_word _ x) h = other _ (Word x) _ k i (outs-Word x) (λ e. absurd (cc)) h
   one_like b t u k i (Like.a_text _ x) h = other _ (Text x) _ k i (outs-Text x) (λ e. absurd (cc)) h
-  one_like b t u k i (Like.a_span _ x y) h = other _ (Span x) _ k i (outs-Span x) (λ e. absurd (cc)) h
+  one_like b t u k i (Like.a_span _ x y same_span) h = other _ (Span x) _ k i (outs-Span x) (λ e. absurd (cc)) h
   one_like b t u k i (Like.name _ l n j a) h = other _ (Identifier l n) _ k i (outs-Identifier l n) (itself b l k n j i a) h
   one_like b t u k i (Like.list _ ts us l) h = other _ (Many ts) _ k i (outs-List ts) (λ e. absurd (cc)) h
   one_like b t u k i (Like.tree _ l ts us _ _) h = not_tree _ l k ts i h
   one_like b t u k i (Like.exports _ a c ts us d e _ _ _) h = not_tree _ kind.NamedExport k (a ∷ Many ts ∷ Absent ∷ d ∷ []) i h
   one_like b t u k i (Like.reexports _ a c ts us xs ys d e _ _ _ _) h = not_tree _ kind.NamedExport k (a ∷ Many ts ∷ Tree kind.Str xs ∷ d ∷ []) i h
 
-  anew : (b : Bool) (i j : Ident) → Alike m b i j → id_of j ≡ (if b then unwrap_or (m (id_of i)) (id_of i) else id_of i)
+  anew : (b : Bool) (i j : Ident) → AlikeIds m b i j → id_of j ≡ (if b then unwrap_or (m (id_of i)) (id_of i) else id_of i)
   anew true i j (inl x) = x.0 ∙ sym (ap (λ o. unwrap_or o (id_of i)) x.1)
   anew true i j (inr x) = sym (ap (λ o. unwrap_or o (id_of i)) x.1)
   anew false i j (inl x) = x.0
@@ -170,7 +170,7 @@ module _ (m : Changes) where
   at_end : (b : Bool) (t u : Node) → Like m b t u → (w : Place) → is_name w.standing ≡ b → (v : Place) (k : Kind) (i : Ident) → w ≡ v → t ≡ Identifier k i → There w u [] v k i
   at_end b t u l w e v k i same is =
       let x = one_like b t u k i l is in
-      (x.0, (λ n. Some (same n, x.1 n)), anew b i x.0 x.2 ∙ ap (λ b. if b then unwrap_or (m (id_of i)) (id_of i) else id_of i) (sym e ∙ ap (λ w. is_name w.standing) same))
+      (x.0, (λ n. Some (same n, x.1 n)), anew b i x.0 x.2.1 ∙ ap (λ b. if b then unwrap_or (m (id_of i)) (id_of i) else id_of i) (sym e ∙ ap (λ w. is_name w.standing) same))
 
   names_like : (p : Path) (b : Bool) (t u : Node) → Like m b t u → (w : Place) → is_name w.standing ≡ b → (v : Place) (k : Kind) (i : Ident) → place_at w t p ≡ Some (v, Identifier k i) → There w u p v k i
   names_like [] b t u l w e v k i h = let x = pair_same (w, t) (v, Identifier k i) h in at_end b t u l w e v k i (ap (λ (q : Place × Node). q.0) x) (ap (λ (q : Place × Node). q.1) x)

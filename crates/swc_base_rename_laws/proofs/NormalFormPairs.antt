@@ -110,14 +110,18 @@ abbrev pub new_if : Changes → Bool → Id → Option Id
 new_if m true x = m x
 new_if m false x = None
 
--- an identifier beside what it becomes: it stays, or has its new id where names stand
+-- an identifier beside what it becomes: its id stays, or is the new one where names stand
+abbrev pub AlikeIds : Changes → Bool → Ident → Ident → Type 0
+AlikeIds m b i j = ((id_of j ≡ id_of i) × (new_if m b (id_of i) ≡ None)) ⊎ ((b ≡ true) × (m (id_of i) ≡ Some (id_of j)))
+
+-- ... and it stands where it stood
 abbrev pub Alike : Changes → Bool → Ident → Ident → Type 0
-Alike m b i j = ((id_of j ≡ id_of i) × (new_if m b (id_of i) ≡ None)) ⊎ ((b ≡ true) × (m (id_of i) ≡ Some (id_of j)))
+Alike m b i j = (j.span ≡ i.span) × AlikeIds m b i j
 
 -- ... and stays a name alone: what changes in an object literal is written out
 abbrev pub AlikeAt : Changes → Spot → Ident → Ident → Type 0
 AlikeAt m (part b) i j = Alike m b i j
-AlikeAt m property i j = (id_of j ≡ id_of i) × (m (id_of i) ≡ None)
+AlikeAt m property i j = (j.span ≡ i.span) × ((id_of j ≡ id_of i) × (m (id_of i) ≡ None))
 AlikeAt m specifier i j = Alike m true i j
 
 -- `declared` are the names that an exported declaration declares
@@ -191,7 +195,7 @@ mutual
     a_flag : (b : Bool) (x : Bool) → Like m b (Flag x) (Flag x)
     a_word : (b : Bool) (x : Word') → Like m b (Word x) (Word x)
     a_text : (b : Bool) (x : List ℕ) → Like m b (Text x) (Text x)
-    a_span : (b : Bool) (x y : Range) → Like m b (Span x) (Span y)
+    a_span : (b : Bool) (x y : Range) → x ≡ y → Like m b (Span x) (Span y)
     name : (b : Bool) (k : Kind) (i j : Ident) → Alike m b i j → Like m b (Identifier k i) (Identifier k j)
     list : (b : Bool) (ts us : List Node) → Likes m b ts us → Like m b (Many ts) (Many us)
     tree : (b : Bool) (k : Kind) (ts us : List Node) → is_left k ≡ true → LikeFields m (flags b k) ts us → Like m b (Tree k ts) (Tree k us)

@@ -103,27 +103,27 @@ module _ (m : Changes) where
   text_like : (b : Bool) (x y : List ℕ) → x ≡ y → L b (Text x) (Text y)
   text_like b x y e = subst (λ y. L b (Text x) (Text y)) e (Like.a_text b x)
 
-  pub key_like : (b : Bool) (i j : Ident) → i.sym ≡ j.sym → L b (key_of i) (key_of j)
-  key_like b i j e = Like.tree b kind.IdentName _ _ refl (LikeFields.next false _ _ _ _ _ (Like.a_span false i.span j.span) (LikeFields.next false _ _ _ _ _ (text_like false i.sym j.sym e) LikeFields.end))
+  pub key_like : (b : Bool) (i j : Ident) → i.sym ≡ j.sym → i.span ≡ j.span → L b (key_of i) (key_of j)
+  key_like b i j e s = Like.tree b kind.IdentName _ _ refl (LikeFields.next false _ _ _ _ _ (Like.a_span false i.span j.span s) (LikeFields.next false _ _ _ _ _ (text_like false i.sym j.sym e) LikeFields.end))
 
-  string_like : (b : Bool) (i j : Ident) → i.sym ≡ j.sym → L b (Tree kind.Str (Span i.span ∷ Text i.sym ∷ Absent ∷ [])) (Tree kind.Str (Span j.span ∷ Text j.sym ∷ Absent ∷ []))
-  string_like b i j e = Like.tree b kind.Str _ _ refl (LikeFields.next false _ _ _ _ _ (Like.a_span false i.span j.span) (LikeFields.next false _ _ _ _ _ (text_like false i.sym j.sym e)
+  string_like : (b : Bool) (i j : Ident) → i.sym ≡ j.sym → i.span ≡ j.span → L b (Tree kind.Str (Span i.span ∷ Text i.sym ∷ Absent ∷ [])) (Tree kind.Str (Span j.span ∷ Text j.sym ∷ Absent ∷ []))
+  string_like b i j e s = Like.tree b kind.Str _ _ refl (LikeFields.next false _ _ _ _ _ (Like.a_span false i.span j.span s) (LikeFields.next false _ _ _ _ _ (text_like false i.sym j.sym e)
       (LikeFields.next false _ _ _ _ _ (Like.absent false) LikeFields.end)))
 
-  computed_like : (b : Bool) (i j : Ident) → i.sym ≡ j.sym → L b (computed_key i) (computed_key j)
-  computed_like b i j e = Like.tree b kind.ComputedPropName _ _ refl (LikeFields.next false _ _ _ _ _ (Like.a_span false i.span j.span) (LikeFields.next true _ _ _ _ _ (string_like true i j e) LikeFields.end))
+  computed_like : (b : Bool) (i j : Ident) → i.sym ≡ j.sym → i.span ≡ j.span → L b (computed_key i) (computed_key j)
+  computed_like b i j e s = Like.tree b kind.ComputedPropName _ _ refl (LikeFields.next false _ _ _ _ _ (Like.a_span false i.span j.span s) (LikeFields.next true _ _ _ _ _ (string_like true i j e s) LikeFields.end))
 
-  either_like : (b : Bool) (x y : Bool) (i j : Ident) → i.sym ≡ j.sym → x ≡ y → L b (if x then computed_key i else key_of i) (if y then computed_key j else key_of j)
-  either_like b true true i j e q = computed_like b i j e
-  either_like b false false i j e q = key_like b i j e
-  either_like b true false i j e q = absurd (cc)
-  either_like b false true i j e q = absurd (cc)
+  either_like : (b : Bool) (x y : Bool) (i j : Ident) → i.sym ≡ j.sym → i.span ≡ j.span → x ≡ y → L b (if x then computed_key i else key_of i) (if y then computed_key j else key_of j)
+  either_like b true true i j e s q = computed_like b i j e s
+  either_like b false false i j e s q = key_like b i j e s
+  either_like b true false i j e s q = absurd (cc)
+  either_like b false true i j e s q = absurd (cc)
 
-  shorthand_like : (b : Bool) (i j : Ident) → i.sym ≡ j.sym → L b (shorthand_key i) (shorthand_key j)
-  shorthand_like b i j e = either_like b _ _ i j e (ap (λ x. pointwise nat_eq x (codes "__proto__")) e)
+  shorthand_like : (b : Bool) (i j : Ident) → i.sym ≡ j.sym → i.span ≡ j.span → L b (shorthand_key i) (shorthand_key j)
+  shorthand_like b i j e s = either_like b _ _ i j e s (ap (λ x. pointwise nat_eq x (codes "__proto__")) e)
 
-  pair_like : (b : Bool) (k : Kind) (i j : Ident) → i.sym ≡ j.sym → Alike m true i j → L b (Tree kind.KeyValueProp (shorthand_key i ∷ Identifier k i ∷ [])) (Tree kind.KeyValueProp (shorthand_key j ∷ Identifier k j ∷ []))
-  pair_like b k i j e a = Like.tree b kind.KeyValueProp _ _ refl (LikeFields.next false _ _ _ _ _ (shorthand_like false i j e) (LikeFields.next true _ _ _ _ _ (Like.name true k i j a) LikeFields.end))
+  pair_like : (b : Bool) (k : Kind) (i j : Ident) → i.sym ≡ j.sym → i.span ≡ j.span → Alike m true i j → L b (Tree kind.KeyValueProp (shorthand_key i ∷ Identifier k i ∷ [])) (Tree kind.KeyValueProp (shorthand_key j ∷ Identifier k j ∷ []))
+  pair_like b k i j e s a = Like.tree b kind.KeyValueProp _ _ refl (LikeFields.next false _ _ _ _ _ (shorthand_like false i j e s) (LikeFields.next true _ _ _ _ _ (Like.name true k i j a) LikeFields.end))
 
   property_of : (k : Kind) (i : Ident) → to_property (Identifier k i) ≡ Tree kind.KeyValueProp (shorthand_key i ∷ Identifier k i ∷ [])
   property_of k i = ap (property_in (Identifier k i)) (outs-Identifier k i)
@@ -132,12 +132,12 @@ module _ (m : Changes) where
 
   pub name_done : (s : Spot) (k : Kind) (i j : Ident) → AlikeAt m s i j → L (flag s) (finished s (Identifier k i)) (finished s (Identifier k j))
   name_done (part b) k i j a = Like.name b k i j a
-  name_done property k i j e = moved m true _ _ _ _ (property_of k i) (property_of k j) (pair_like true k i j (ap (λ x. x.0) (sym e.0)) (inl e))
+  name_done property k i j e = moved m true _ _ _ _ (property_of k i) (property_of k j) (pair_like true k i j (ap (λ x. x.0) (sym e.1.0)) (sym e.0) (e.0, inl e.1))
   name_done specifier k i j a = moved m true _ _ _ _ (ap (specifier_in _) (outs-Identifier k i)) (ap (specifier_in _) (outs-Identifier k j)) (Like.name true k i j a)
 
   pub short_done : (k : Kind) (i j : Ident) → Alike m true i j → L true (to_property (Identifier k i)) (Tree kind.KeyValueProp (shorthand_key i ∷ Identifier k j ∷ []))
   short_done k i j a = moved m true _ _ _ _ (property_of k i) refl
-      (Like.tree true kind.KeyValueProp _ _ refl (LikeFields.next false _ _ _ _ _ (shorthand_like false i i refl) (LikeFields.next true _ _ _ _ _ (Like.name true k i j a) LikeFields.end)))
+      (Like.tree true kind.KeyValueProp _ _ refl (LikeFields.next false _ _ _ _ _ (shorthand_like false i i refl refl) (LikeFields.next true _ _ _ _ _ (Like.name true k i j a) LikeFields.end)))
 
   -- ---- rows
 

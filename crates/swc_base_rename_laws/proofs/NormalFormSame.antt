@@ -29,7 +29,7 @@ use Rattle.swc_base_rename_substitution.specs.Places as spot
 use Rattle.swc_base_rename_substitution.specs.Places.{by_role, has_source, within}
 use Rattle.swc_base_rename_substitution.specs.Identifiers.{Changes, id_of}
 use Rattle.swc_base_rename_substitution.proofs.NamesOfScoping.{role_is, part_is}
-use Rattle.swc_base_rename_laws.proofs.NormalFormPairs.{Alike, Like, Likes, LikeFields, flag_below, flags, is_left}
+use Rattle.swc_base_rename_laws.proofs.NormalFormPairs.{Alike, AlikeIds, Like, Likes, LikeFields, flag_below, flags, is_left}
 
 -- ---- fields that hold names
 
@@ -136,7 +136,7 @@ module _ (m : Changes) (changing : List Ident) (named : (i : Ident) → IsTrue (
   or_left true b h = refl
   or_left false b h = absurd (cc)
 
-  texts_same : (i j : Ident) (b : Bool) → Alike m b i j → (pointwise nat_eq i.sym j.sym || (b && list_any (same_id i) changing)) ≡ true
+  texts_same : (i j : Ident) (b : Bool) → AlikeIds m b i j → (pointwise nat_eq i.sym j.sym || (b && list_any (same_id i) changing)) ≡ true
   texts_same i j b (inl e) = or_left _ _ (ap (pointwise nat_eq i.sym) (ap (λ x. x.0) e.0) ∙ nat_list_eq_equiv.refl i.sym)
   texts_same i j b (inr h) = or_right _ _ (and_both b _ h.0 (named i (ap is_some h.1)))
 
@@ -152,10 +152,10 @@ module _ (m : Changes) (changing : List Ident) (named : (i : Ident) → IsTrue (
     same_like b t u (Like.a_flag c x) w e = opens w (Flag x) (Flag x) _ _ (outs-Flag x) (outs-Flag x) (flags_same x)
     same_like b t u (Like.a_word c x) w e = opens w (Word x) (Word x) _ _ (outs-Word x) (outs-Word x) ((unsigned_Decides (word_number x) (word_number x)).1 refl)
     same_like b t u (Like.a_text c x) w e = opens w (Text x) (Text x) _ _ (outs-Text x) (outs-Text x) (nat_list_eq_equiv.refl x)
-    same_like b t u (Like.a_span c x y) w e = opens w (Span x) (Span y) _ _ (outs-Span x) (outs-Span y) refl
+    same_like b t u (Like.a_span c x y same_span) w e = opens w (Span x) (Span y) _ _ (outs-Span x) (outs-Span y) refl
     same_like b t u (Like.name c k i j a) w e =
         opens w (Identifier k i) (Identifier k j) _ _ (outs-Identifier k i) (outs-Identifier k j)
-        (and_both _ _ (numbers k) (ap (λ c. pointwise nat_eq i.sym j.sym || (c && list_any (same_id i) changing)) e ∙ texts_same i j c a))
+        (and_both _ _ (numbers k) (ap (λ c. pointwise nat_eq i.sym j.sym || (c && list_any (same_id i) changing)) e ∙ texts_same i j c a.1))
     same_like b t u (Like.list c ts us l) w e = of_list w ts us (same_likes c ts us l (place_in w (Node-F.List ts)) (λ i. item_is w ts c i e))
     same_like b t u (Like.tree c k ts us n l) w e = of_tree w k ts us (same_fields (flags c k) ts us l (place_in w (Node-F.Tree k ts)) (λ i d h. field_is w k ts c d i n e h))
     same_like b t u (Like.exports c a0 c0 ts us d0 e0 a l d) w e =

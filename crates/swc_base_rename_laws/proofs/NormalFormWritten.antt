@@ -195,7 +195,7 @@ module _ (m : Changes) where
   given_there g s t u (Becomes.tree _ _ k l ts us h) e = ap is_absent (out-Tree k ts) ∙ step_there k (map written_out ts)
 
   span_like : (b : Bool) (x : Range) → L b (Span x) (Span x)
-  span_like b x = Like.a_span b x x
+  span_like b x = Like.a_span b x x refl
 
   made_default : (f : Bool) (s : Range) (i j : Ident) (t u : Node) → Alike m f i j → L true t u
       → L f (Tree kind.AssignPat (Span s ∷ Identifier kind.BindingIdent i ∷ t ∷ [])) (Tree kind.AssignPat (Span s ∷ Identifier kind.BindingIdent j ∷ u ∷ []))
@@ -212,7 +212,7 @@ module _ (m : Changes) where
       by false true e = absurd (cc)
 
   value_like : (f : Bool) (i : Ident) (t u : Node) → L f t u → L f (Tree kind.KeyValuePatProp (key_of i ∷ t ∷ [])) (Tree kind.KeyValuePatProp (key_of i ∷ u ∷ []))
-  value_like f i t u h = Like.tree f kind.KeyValuePatProp _ _ refl (LikeFields.next false _ _ _ _ _ (key_like m false i i refl) (LikeFields.next f _ _ _ _ _ h LikeFields.end))
+  value_like f i t u h = Like.tree f kind.KeyValuePatProp _ _ refl (LikeFields.next false _ _ _ _ _ (key_like m false i i refl refl) (LikeFields.next f _ _ _ _ _ h LikeFields.end))
 
   double_like : (s : Spot) (k : Kind) (a b o p t u : Node) → is_double s k ≡ true → L false a b → L true o p → L false t u → L (flag s) (Tree k (a ∷ o ∷ t ∷ [])) (Tree k (b ∷ p ∷ u ∷ []))
   double_like (part f) kind.ImportNamedSpecifier a b o p t u e x y z = Like.tree f kind.ImportNamedSpecifier _ _ refl (LikeFields.next false _ _ _ _ _ x (LikeFields.next true _ _ _ _ _ y (LikeFields.next false _ _ _ _ _ z LikeFields.end)))
@@ -224,7 +224,7 @@ module _ (m : Changes) where
   -- ---- the export list of an exported declaration
 
   itself_like : (x : Id) → m x ≡ None → L true (exported_as_itself (made x)) (exported_as_itself (made x))
-  itself_like x e = double_like specifier kind.ExportNamedSpecifier _ _ _ _ _ _ refl (span_like false no_span) (Like.name true kind.Ident (made x) (made x) (inl (refl, e))) (Like.name false kind.Ident _ _ (inl (refl, refl)))
+  itself_like x e = double_like specifier kind.ExportNamedSpecifier _ _ _ _ _ _ refl (span_like false no_span) (Like.name true kind.Ident (made x) (made x) (refl, inl (refl, e))) (Like.name false kind.Ident _ _ (refl, inl (refl, refl)))
 
   stays_first : (o : Option Id) (b : Bool) → (is_some o || b) ≡ false → o ≡ None
   stays_first None b h = refl
@@ -252,7 +252,7 @@ module _ (m : Changes) where
       moved m true _ _ _ _ refl (double_is specifier kind.ExportNamedSpecifier nowhere (Identifier kind.Ident (exported.made y)) other refl
       ∙ (λ i. Tree kind.ExportNamedSpecifier (out-Span no_span i ∷ out-Identifier kind.Ident (exported.made y) i ∷ again (out-Identifier kind.Ident (exported.made y) i) (out-Identifier kind.Ident (exported.made (x.0, [])) i) ∷ []))
       ∙ ap (λ t. Tree kind.ExportNamedSpecifier (Span no_span ∷ Identifier kind.Ident (exported.made y) ∷ t ∷ [])) (again_there (Identifier kind.Ident (exported.made y)) other (ap is_absent_in (outs-Identifier kind.Ident (exported.made (x.0, []))))))
-      (double_like specifier kind.ExportNamedSpecifier _ _ _ _ _ _ refl (span_like false no_span) (Like.name true kind.Ident (made x) (exported.made y) (inr (refl, e))) (Like.name false kind.Ident _ _ (inl (refl, refl))))
+      (double_like specifier kind.ExportNamedSpecifier _ _ _ _ _ _ refl (span_like false no_span) (Like.name true kind.Ident (made x) (exported.made y) (refl, inr (refl, e))) (Like.name false kind.Ident _ _ (refl, inl (refl, refl))))
 
   all_made_like : (xs : List Id) → Likes m true (map exported_as_itself (map made xs)) (map to_specifier (map written_out (map (exported.specifier m) xs)))
   all_made_like [] = Likes.none true
@@ -379,7 +379,7 @@ module _ (m : Changes) where
         ∙ ap (λ t. Tree k0 (written_out a0 ∷ Identifier n i ∷ t ∷ [])) (again_name n i))
         (double_is s0 k0 a1 (Identifier n j) other e ∙ (λ x. Tree k0 (written_out a1 ∷ out-Identifier n j x ∷ again (out-Identifier n j x) (out-Identifier kind.Ident (kept_name i) x) ∷ []))
         ∙ ap (λ t. Tree k0 (written_out a1 ∷ Identifier n j ∷ t ∷ [])) (again_there (Identifier n j) other (ap is_absent_in (outs-Identifier kind.Ident (kept_name i)))))
-        (double_like s0 k0 _ _ _ _ _ _ e (written_becomes true (part false) a0 a1 a) (Like.name true n i j b) (Like.name false kind.Ident _ _ (inl (refl, refl))))
+        (double_like s0 k0 _ _ _ _ _ _ e (written_becomes true (part false) a0 a1 a) (Like.name true n i j b) (Like.name false kind.Ident _ _ (refl, inl (refl, refl))))
     written_trees s k l ts us (Trees.exports f a0 a1 ts0 us0 c0 c1 a h c) =
         moved m f _ _ _ _ (exports_are a0 ts0 c0) (exports_are a1 us0 c1) (Like.exports f _ _ _ _ _ _ (written_becomes true (part false) a0 a1 a) (written_all true specifier ts0 us0 h) (written_becomes false (part false) c0 c1 c))
     written_trees s k l ts us (Trees.reexports f a0 a1 ts0 us0 xs ys c0 c1 a h x c) =

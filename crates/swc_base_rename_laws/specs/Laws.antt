@@ -18,7 +18,7 @@ use Rattle.swc_base_rename_substitution.specs.Names.{Id, found_in, new_id, same_
 use Rattle.swc_base_rename_substitution.specs.Identifiers.{Changes, id_of}
 use Rattle.swc_base_rename_substitution.specs.Substituted.{Substituted}
 use Rattle.swc_base_rename_laws.specs.Texts.{outer_texts}
-use Rattle.swc_base_rename_laws.specs.NewNames.{HasNewNames}
+use Rattle.swc_base_rename_laws.specs.NewNames.{HasNewNames, SameButForNames}
 
 -- the map has nothing for any id
 abbrev pub IsEmpty : Names → Type 0
@@ -65,3 +65,8 @@ NormalFormStays = (m : Changes) (changing : List Ident) (tree answer : Node) →
 abbrev pub NormalFormHasNewNames : Type 0
 NormalFormHasNewNames = (m : Changes) (tree answer : Node) → IsProgram tree → IsTrue (is_writable tree) → Substituted m false tree answer
     → HasNewNames m (normal_form tree) (normal_form answer)
+
+-- ... with the spans that it had
+abbrev pub NormalFormKeepsSpans : Type 0
+NormalFormKeepsSpans = (m : Changes) (tree answer : Node) → IsProgram tree → IsTrue (is_writable tree) → Substituted m false tree answer
+    → SameButForNames (normal_form tree) (normal_form answer)

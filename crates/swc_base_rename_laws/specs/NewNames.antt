@@ -24,6 +24,18 @@ outline_step y = roll-Node y
 abbrev pub outline : Node → Node
 outline t = fold-Node Node outline_step t
 
+abbrev pub nameless_step : Node-F Node → Node
+nameless_step (Node-F.Identifier k i) = Identifier k (record i { ctxt = []; sym = [] })
+nameless_step y = roll-Node y
+
+-- the tree with one text for all identifiers, and no context; where they stand in the source stays
+abbrev pub nameless : Node → Node
+nameless = fold-Node Node nameless_step
+
+-- two trees are the same, spans too, but for the texts and the contexts of identifiers
+abbrev pub SameButForNames : Node → Node → Type 0
+SameButForNames t u = nameless t ≡ nameless u
+
 -- what the id of an identifier becomes that stands so: the new one, where it is bound or referred to and its id changes
 abbrev pub id_anew : Changes → Standing → Id → Id
 id_anew m standing x = if is_name standing then unwrap_or (m x) x else x

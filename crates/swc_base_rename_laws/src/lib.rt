@@ -3,7 +3,7 @@
 //! `specs/Laws.antt` states the laws. Each is the contract of a function that does nothing, so that it is proved.
 #![tactic(auto)]
 
-ghost use Rattle.swc_base_rename_laws.specs.Laws.{EmptyMapChangesNothing, KeptTextsChangeNothing, NormalFormHasNewNames, NormalFormStays, OuterTextsStay, WritableStays};
+ghost use Rattle.swc_base_rename_laws.specs.Laws.{EmptyMapChangesNothing, KeptTextsChangeNothing, NormalFormHasNewNames, NormalFormKeepsSpans, NormalFormStays, OuterTextsStay, WritableStays};
 
 /// A map without names changes nothing.
 pub fn empty_map_changes_nothing()
@@ -33,4 +33,9 @@ pub fn normal_form_stays()
 /// A writable program has its own normal form with the new ids where names are bound or referred to.
 pub fn normal_form_has_new_names()
     ensures { NormalFormHasNewNames }
+{}
+
+/// The normal form of a writable program has the spans that it had.
+pub fn normal_form_keeps_spans()
+    ensures { NormalFormKeepsSpans }
 {}

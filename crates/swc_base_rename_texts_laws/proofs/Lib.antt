@@ -1,3 +1,4 @@
 pub mod Decided
 pub mod Cleared
 pub mod NewTexts
+pub mod Spans

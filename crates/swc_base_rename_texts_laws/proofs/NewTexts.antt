@@ -103,7 +103,7 @@ module _ (before given : Node) (h : Given before given) where
       let all : (x : Id) → h.new_texts x ≡ None = λ x. empty none x (h.new_texts x) refl in
       h.given.none all ∙ sym (stays m (no_change all) before place.Other refl)
 
-  substituted_given : Substituted m false before given
+  pub substituted_given : Substituted m false before given
   substituted_given = by_map (decided has before)
 
 -- ---- the normal form of a module with its names and without contexts
@@ -129,7 +129,7 @@ of_kind kind.Module (x ∷ y ∷ z ∷ []) b f =
     (λ new_texts named fits writable. normal_given x l.items z new_texts named fits (items_sound x l.items z writable) l.fit)
 of_kind k ts b f = impossible b
 
-module_goal : (t : Node) → Fits t (slot.One (content.Node class.Module)) → Goal t
+pub module_goal : (t : Node) → Fits t (slot.One (content.Node class.Module)) → Goal t
 module_goal t f = let x = tree_only class.Module refl refl t f in subst Goal (sym x.2) (of_kind x.0 x.1 x.4 x.5)
 
 -- ---- texts

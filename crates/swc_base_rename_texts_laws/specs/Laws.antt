@@ -21,7 +21,7 @@ use Rattle.swc_base_rename_analysis.specs.Named.{Named}
 use Rattle.swc_base_rename_analysis.specs.Preserved.{IsPreserved}
 use Rattle.swc_base_rename_naming_laws.specs.Rules.{counting}
 use Rattle.swc_base_rename_program.specs.Renamed.{IsHygienic, hygiene_renaming}
-use Rattle.swc_base_rename_laws.specs.NewNames.{outline}
+use Rattle.swc_base_rename_laws.specs.NewNames.{SameButForNames, outline}
 use Rattle.swc_base_rename_hygiene_laws.specs.Laws.{IsPlain}
 
 -- the text of an identifier that stands so: where it is bound or referred to the one that the map gives, and else its own
@@ -45,3 +45,9 @@ pub record HasHygienicTexts (before after : Node) : Type 0 where
 abbrev pub HygieneGivesNormalFormNewTexts : Type 0
 HygieneGivesNormalFormNewTexts = (table : Table) (config : Config) (before after : Node) → IsPlain config before → Fits before (slot.One (content.Node class.Module)) → Writable before
     → IsHygienic table config before after → HasHygienicTexts before after
+
+-- ... and nothing else of it changes, spans neither: each identifier stands where it stood, and has another text and no context
+-- at most
+abbrev pub HygieneKeepsSpans : Type 0
+HygieneKeepsSpans = (table : Table) (config : Config) (before after : Node) → IsPlain config before → Fits before (slot.One (content.Node class.Module)) → Writable before
+    → IsHygienic table config before after → SameButForNames (normal_form before) (normal_form after)

@@ -1,12 +1,17 @@
 //! Which texts hygiene gives the names of a normal form, said apart from how it is done.
 //!
-//! `specs/Laws.antt` states the law. It is the contract of a function that does nothing, so that it is proved.
+//! `specs/Laws.antt` states the laws. Each is the contract of a function that does nothing, so that it is proved.
 #![tactic(auto)]
 
-ghost use Rattle.swc_base_rename_texts_laws.specs.Laws.{HygieneGivesNormalFormNewTexts};
+ghost use Rattle.swc_base_rename_texts_laws.specs.Laws.{HygieneGivesNormalFormNewTexts, HygieneKeepsSpans};
 
 /// The normal form of what hygiene makes of a module is the module's own, with the texts that hygiene gives where names
 /// are bound or referred to, where nothing reads names and classes don't keep theirs.
 pub fn hygiene_gives_normal_form_new_texts()
     ensures { HygieneGivesNormalFormNewTexts }
+{}
+
+/// The normal form of what hygiene makes of such a module is the module's own, spans too, but for texts and contexts.
+pub fn hygiene_keeps_spans()
+    ensures { HygieneKeepsSpans }
 {}

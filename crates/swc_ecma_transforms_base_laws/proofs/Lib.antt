@@ -1,4 +1,3 @@
-mod Clean
 pub mod Kept
 pub mod Sources
 mod Promised

@@ -18,6 +18,7 @@ use Rattle.swc_tree_grammar.specs.Targets.{all_bare}
 use Rattle.swc_tree_grammar.specs.Writable.{Writable}
 use Rattle.swc_base_rename_substitution.specs.declared.config.Config.{Config}
 use Rattle.swc_base_rename_program.specs.Renamed.{IsHygienic}
+use Rattle.swc_base_rename_laws.specs.NewNames.{SameButForNames}
 use Rattle.swc_base_rename_hygiene_laws.specs.Laws.{IsFinishable}
 
 -- the answer can be written down, the grammar derives it, and it has the normal form of the module but for the names that the
@@ -31,6 +32,11 @@ pub record KeepsModule (before after : Node) : Type 0 where
 abbrev pub FinishingKeepsModules : Type 0
 FinishingKeepsModules = (table : Table) (config : Config) (place : Places) (before middle : Node) → Fits before (slot.One (content.Node class.Module)) → IsFinishable config before
     → IsHygienic table config before middle → KeepsModule before (fixed place middle)
+
+-- all else of its normal form stays, each identifier where it stood in the source
+abbrev pub FinishingKeepsSpans : Type 0
+FinishingKeepsSpans = (table : Table) (config : Config) (place : Places) (before middle : Node) → Fits before (slot.One (content.Node class.Module)) → IsFinishable config before
+    → IsHygienic table config before middle → SameButForNames (normal_form before) (normal_form (fixed place middle))
 
 -- and the fixer does not refuse what hygiene made of it for a target that takes no value
 abbrev pub FinishingMeetsNoTarget : Type 0

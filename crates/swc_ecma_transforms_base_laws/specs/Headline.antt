@@ -15,10 +15,12 @@ use Rattle.swc_tree_grammar.specs.Due.{Places}
 use Rattle.swc_tree_grammar.specs.Fixed.{fixed}
 use Rattle.swc_tree_grammar.specs.Grammar.{FitsGrammar}
 use Rattle.swc_tree_grammar.specs.Normal.{normal_form}
+use Rattle.swc_tree_grammar.specs.Normal as normal
 use Rattle.swc_tree_grammar.specs.Same.{SameButForBoundNames}
 use Rattle.swc_tree_grammar.specs.Targets.{all_bare}
 use Rattle.swc_base_rename_substitution.specs.declared.config.Config.{Config}
 use Rattle.swc_base_rename_program.specs.Renamed.{IsHygienic}
+use Rattle.swc_base_rename_laws.specs.NewNames.{SameButForNames}
 use Rattle.swc_base_rename_hygiene_laws.specs.Laws.{IsFinishable}
 use Rattle.swc_ecma_transforms_base_laws.specs.Sources.{IsSource}
 
@@ -31,13 +33,15 @@ abbrev pub KeepsMeanings : Node → Node → Type 0
 KeepsMeanings before after = MeanTheirIds (normal_form after) (normal_form before)
 
 -- the grammar derives the answer, it has the normal form of the module but for the names that the module binds, and where the
--- module is well-scoped its names mean what they meant, and no rule for declaring names is broken
+-- module is well-scoped its names mean what they meant, and no rule for declaring names is broken; what is in the normal form
+-- stands where it stood in the source, each identifier too
 pub record KeepsItsPromises (before after : Node) : Type 0 where
   pub derived : FitsGrammar after
   pub normal_form : SameButForBoundNames before after
   pub ids : WellScoped before → KeepsIds before after
   pub meanings : WellScoped before → KeepsMeanings before after
   pub no_early_error : WellScoped before → NoEarlyErrorOfNames after
+  pub spans : SameButForNames (normal.normal_form before) (normal.normal_form after)
 
 -- the same of a source that is resolved first: its names mean the ids that the resolver found, and so do those of the answer
 pub record KeepsItsSource (unresolved top : ℕ) (old new : Table) (before after : Node) : Type 0 where
@@ -49,6 +53,7 @@ pub record KeepsItsSource (unresolved top : ℕ) (old new : Table) (before after
   pub ids : KeepsIds resolved after
   pub meanings : KeepsMeanings resolved after
   pub no_early_error : NoEarlyErrorOfNames after
+  pub spans : SameButForNames (normal.normal_form resolved) (normal.normal_form after)
 
 -- there is no other refusal: neither marks nor targets are to blame
 abbrev pub IsOfMemoryOrCounters : PassError → Type 0

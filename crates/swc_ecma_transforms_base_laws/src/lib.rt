@@ -4,17 +4,19 @@
 //! that it rests on; a caller of the two passes calls it, and then knows the law.
 #![tactic(auto)]
 
-ghost use Rattle.swc_ecma_transforms_base_laws.specs.Finished.{FinishingKeepsIds, FinishingKeepsMeanings, FinishingKeepsModules, FinishingMeetsNoTarget};
+ghost use Rattle.swc_ecma_transforms_base_laws.specs.Finished.{FinishingKeepsIds, FinishingKeepsMeanings, FinishingKeepsModules, FinishingKeepsSpans, FinishingMeetsNoTarget};
 ghost use Rattle.swc_ecma_transforms_base_laws.specs.Headline.{ChainingKeepsSources, FinishingKeepsPromises};
 ghost use Rattle.swc_ecma_transforms_base_laws.specs.Sources.{ResolvedSourcesAreReady};
 
-use swc_base_fixer_laws::{fixed_fits, normal_form_stays, targets_stand_bare};
+use swc_base_fixer_laws::{fixed_fits, fixed_fits_table, normal_form_stays, targets_stand_bare};
+use swc_base_fixer_sites::fixer_stays_clean;
 use swc_base_rename_errors_laws::answer_has_no_early_error_of_names;
 use swc_base_rename_hygiene_laws::{
     hygiene_keeps_normal_form, hygiene_stays_fitting, hygiene_stays_writable,
 };
 use swc_base_rename_ids_laws::{hygiene_keeps_ids, hygiene_keeps_meanings};
 use swc_base_rename_source_laws::{readers_need_no_contexts, sameness_needs_no_contexts};
+use swc_base_rename_texts_laws::hygiene_keeps_spans;
 use swc_base_resolver_laws::{a_clean_module_becomes_well_scoped, resolved_names_mean_their_ids};
 use swc_tree_grammar_texts::texts_are_as_writable;
 
@@ -27,6 +29,15 @@ pub fn finishing_keeps_modules()
     hygiene_stays_writable();
     hygiene_keeps_normal_form();
     fixed_fits();
+    normal_form_stays();
+}
+
+/// What is in the normal form of such a module stands where it stood, identifiers too.
+pub fn finishing_keeps_spans()
+    ensures { FinishingKeepsSpans }
+{
+    hygiene_stays_fitting();
+    hygiene_keeps_spans();
     normal_form_stays();
 }
 
@@ -49,6 +60,8 @@ pub fn finishing_keeps_ids()
     hygiene_stays_writable();
     targets_stand_bare();
     fixed_fits();
+    fixed_fits_table();
+    fixer_stays_clean();
     normal_form_stays();
 }
 
@@ -62,6 +75,8 @@ pub fn finishing_keeps_meanings()
     hygiene_stays_writable();
     targets_stand_bare();
     fixed_fits();
+    fixed_fits_table();
+    fixer_stays_clean();
     normal_form_stays();
 }
 
@@ -86,6 +101,7 @@ pub fn finishing_keeps_promises()
     finishing_keeps_ids();
     finishing_keeps_meanings();
     answer_has_no_early_error_of_names();
+    finishing_keeps_spans();
 }
 
 /// What is promised of a source that is resolved, and then finished.

@@ -1,27 +1,25 @@
 -- The fixer's answer to a tree without contexts has none.
-use Rattle.std.proofs.Common.{◌≡◌, Bool, true, false, List, [], ◌∷◌, map, refl, sym, ap, ◌∙◌, subst, rules}
-use Rattle.std.specs.Prelude.{if◌then◌else◌}
+use Rattle.std.proofs.Common.{◌≡◌, ℕ, zero, suc, Bool, true, false, Option, Some, None, List, [], ◌∷◌, map, refl, sym, ap, ◌∙◌, subst, rules}
+use Rattle.std.specs.Prelude.{if◌then◌else◌, slice_get}
 use Rattle.swc_tree_marks.specs.declared.ident.Ident.{Ident}
 use Rattle.swc_tree_node.specs.declared.kind.Kind.{Kind}
 use Rattle.swc_tree_node.specs.declared.kind.Kind.TheVariants as kind
 use Rattle.swc_tree_node.specs.declared.slot.Slot.{Slot}
 use Rattle.swc_tree_node.specs.declared.node.Node.{Node, Absent, Flag, Word, Text, Span, List as Many, Identifier, Tree, out-Node, the_lemmas}
 use Rattle.swc_tree_node.specs.declared.node.Node.TheOpen.{Node-F}
-use Rattle.swc_tree_node.specs.declared.node.Node.TheVariants.{outs-Tree, rolls-Tree}
-use Rattle.swc_tree_node.specs.Fits.{Fits}
+use Rattle.swc_tree_node.specs.declared.node.Node.TheVariants.{outs-List, outs-Tree, rolls-Tree}
 use Rattle.swc_tree_scoping.specs.declared.places.Place.{Place}
-use Rattle.swc_tree_scoping.specs.Places.{children_in, place_at, program_place}
+use Rattle.swc_tree_scoping.specs.Places.{Path, child, children_in, given, place_at, place_below, program_place}
 use Rattle.swc_tree_scoping.specs.Readings.{by_texts}
-use Rattle.swc_tree_scoping.specs.WellScoped.{IsClean}
 use Rattle.swc_tree_renaming.proofs.Shape.{some_same, twice}
 use Rattle.swc_tree_renaming.proofs.Whole.{identifier_same}
 use Rattle.swc_tree_grammar.specs.Blocks.{block, block_step, branch, span_of, takes_else, with_blocks}
-use Rattle.swc_tree_grammar.specs.Due.{Places}
 use Rattle.swc_tree_grammar.specs.Fixed.{fixed}
 use Rattle.swc_tree_grammar.specs.Shapes.{items_of}
 use Rattle.swc_tree_grammar.specs.Stripped.{stripped}
 use Rattle.swc_tree_grammar.proofs.Induction.{Each, by_children}
 use Rattle.swc_tree_grammar.proofs.Items.{items_of_list}
+use Rattle.swc_tree_grammar.proofs.BlocksKept.{unparened_fits}
 use Rattle.swc_tree_grammar.proofs.Walks.{blocks_of_list, blocks_of_tree}
 use Rattle.swc_tree_grammar_texts.proofs.Cleared.{bare, text_list, text_name, text_span, text_tree}
 use Rattle.swc_tree_grammar_texts.proofs.ClearedStripped.{stripped_texts}
@@ -30,7 +28,7 @@ use Rattle.swc_base_fixer_laws.specs.Sets.Sets.{same, after, around, named, item
 use Rattle.swc_base_fixer_laws.specs.Sets.AllSet.{none, more}
 use Rattle.swc_base_fixer_laws.specs.Sets.FieldsSet.{nil, field}
 use Rattle.swc_base_fixer_laws.proofs.Answer.{due_set}
-use Rattle.swc_base_rename_texts_laws.proofs.Cleared.{bare_there}
+use Rattle.swc_base_fixer_sites.specs.Laws.{FixerStaysClean}
 
 -- no identifier in the tree has a context
 abbrev Bare : Node → Type 0
@@ -113,18 +111,47 @@ mutual
   fields_set nil l = l
   fields_set (field c d) l = (set_bare c l.0, fields_set d l.1)
 
+-- ---- identifiers at paths
+
+get_each : (ts : List Node) (n : ℕ) (c : Node) → Each Bare ts → slice_get ts n ≡ Some c → Bare c
+get_each [] n c l e = absurd (cc)
+get_each (t ∷ ts) zero c l e = let is : t ≡ c = cc in subst Bare is l.0
+get_each (t ∷ ts) (suc n) c l e = get_each ts n c l.1 e
+
+abbrev Kids : Node → Type 0
+Kids t = Bare t → Each Bare (children_in (out-Node t))
+
+none_below : (t : Node) → children_in (out-Node t) ≡ [] → Kids t
+none_below t e h = subst (Each Bare) (sym e) tt
+
+kids : (t : Node) → Kids t
+kids t = by_children Kids (
+  none_below Absent (search (rules, the_lemmas)),
+  λ x. none_below (Flag x) (search (rules, the_lemmas)),
+  λ w. none_below (Word w) (search (rules, the_lemmas)),
+  λ x. none_below (Text x) (search (rules, the_lemmas)),
+  λ s. none_below (Span s) (search (rules, the_lemmas)),
+  λ k i. none_below (Identifier k i) (search (rules, the_lemmas)),
+)
+    (λ ts l h. subst (Each Bare) (sym (ap children_in (outs-List ts))) (list_opens ts h))
+    (λ k ts l h. subst (Each Bare) (sym (ap children_in (outs-Tree k ts))) (tree_opens k ts h)) t
+
+clean_at : (p : Path) (w v : Place) (t : Node) (k : Kind) (i : Ident) → Bare t → place_at w t p ≡ Some (v, Identifier k i) → i.ctxt ≡ []
+clean_at [] w v t k i b h =
+    let e : t ≡ Identifier k i = ap (λ (q : Place × Node). q.1) (some_same (w, t) (v, Identifier k i) h) in
+    ap (λ (i : Ident). i.ctxt) (sym (identifier_same k k (bare i) i (sym (text_name k i) ∙ subst Bare e b)))
+clean_at (n ∷ p) w v t k i b h = by (child t n) refl (λ c e. clean_at p (place_below w t n) v c k i (get_each (children_in (out-Node t)) n c (kids t b) e)) h
+  where
+    by : (o : Option Node) → child t n ≡ o → ((c : Node) → child t n ≡ Some c → place_at (place_below w t n) c p ≡ Some (v, Identifier k i) → i.ctxt ≡ [])
+        → given o None (λ c. place_at (place_below w t n) c p) ≡ Some (v, Identifier k i) → i.ctxt ≡ []
+    by None e below h = absurd (cc)
+    by (Some c) e below h = below c e h
+
 -- ---- the answer
 
-clean : (t : Node) → Bare t → IsClean t
-clean t e p w k i h =
-    let node = some_same (w, Identifier k i) (w, Identifier k (bare i)) (sym h ∙ sym (ap (λ t. place_at program_place t p) e) ∙ bare_there p program_place w t k i h) in
-    ap (λ (i : Ident). i.ctxt) (identifier_same k k i (bare i) (ap (λ (q : Place × Node). q.1) node))
-
-texts_twice : (t : Node) → Bare (by_texts t)
-texts_twice t = twice bare bare t
-
-pub fixed_clean : (place : Places) (t u : Node) (s : Slot) → t ≡ by_texts u → Fits (with_blocks (stripped t)) s → IsClean (fixed place t)
-fixed_clean place t u s e f =
-    let whole : Bare t = subst Bare (sym e) (texts_twice u) in
+pub fixed_clean : FixerStaysClean
+fixed_clean place t u s o f b e p w k i h =
+    let whole : Bare t = subst Bare (sym e) (twice bare bare u) in
     let inner : Bare (stripped t) = sym (stripped_texts t) ∙ ap stripped whole in
-    clean (fixed place t) (set_bare (due_set place (with_blocks (stripped t)) s f) (blocks_bare (stripped t) inner))
+    let fits = unparened_fits t (with_blocks (stripped t)) s b refl o f in
+    clean_at p program_place w (fixed place t) k i (set_bare (due_set place (with_blocks (stripped t)) s fits) (blocks_bare (stripped t) inner)) h
