@@ -10,12 +10,12 @@ use Rattle.swc_tree_scoping.specs.Declares.{Bound, DeclaresFor, First, Means}
 use Rattle.swc_tree_scoping.specs.Resolved.{mark_in}
 use Rattle.swc_tree_scoping.specs.WellScoped.{Stands}
 use Rattle.swc_tree_renaming.specs.Apart.{Belongs, MeanOne, MeanTheirIds, NameAt, SameId}
-use Rattle.swc_tree_renaming.proofs.Core.{binds_or_refers, name_has, taker_declares}
+use Rattle.swc_tree_renaming.proofs.Core.{binds_or_refers, declared_taker, name_has, taker_declares}
 use Rattle.swc_tree_renaming.proofs.Whole.{identifier_same, stands_there}
 use Rattle.swc_base_resolver_laws.specs.Laws.{ResolvedNamesMeanTheirIds}
 use Rattle.swc_base_resolver_laws.proofs.Same.{some_same}
 use Rattle.swc_base_resolver_laws.proofs.Lists.{found, found_none}
-use Rattle.swc_base_resolver_laws.proofs.Names.{Resolving, as_taken, binding_context, contexts, in_program, marks, no_sloppy, one_mark, others_resolved, reference_context, takers_scope}
+use Rattle.swc_base_resolver_laws.proofs.Names.{Resolving, binding_context, contexts, in_program, marks, no_sloppy, one_mark, others_resolved, reference_context, takers_scope}
 use Rattle.swc_base_resolver_laws.proofs.Declared.{declares_bound}
 use Rattle.swc_base_resolver_laws.proofs.OneScope.{settled}
 
@@ -62,7 +62,7 @@ module _ (t u : Node) (g : Resolving t u) where
       binding b =
           let (s, declared, is) = h.binding b in
           let (v, taken, e) = binding_context t u g p r x at b in
-          let same : v ≡ s = some_same v s (sym taken ∙ as_taken t u g t r p s x (no_sloppy t u g p r x at) declared) in
+          let same : v ≡ s = some_same v s (sym taken ∙ declared_taker t r p s x (no_sloppy t u g p r x at) declared) in
           e ∙ ap (λ v. MarkOf (Some v)) same ∙ ap MarkOf (sym is)
 
       reference : IsTrue (is_reference r) → contexts t u g p ≡ MarkOf o
@@ -77,7 +77,7 @@ module _ (t u : Node) (g : Resolving t u) where
       binding : IsTrue (is_binding r) → (v : Standing) × Bound t s v x
       binding b =
           let (z, declared, is) = h.binding b in
-          let taken : taker r t p ≡ Some s = as_taken t u g t r p z x (no_sloppy t u g p r x at) declared ∙ sym is in
+          let taken : taker r t p ≡ Some s = declared_taker t r p z x (no_sloppy t u g p r x at) declared ∙ sym is in
           (r, record { path = p; place = at.place; kind = at.kind; identifier = at.identifier; stands = at.stands; stands_so = at.stands_so; named = at.named; unmarked = g.clean p at.place at.kind at.identifier at.stands; taken = taken })
 
       reference : IsTrue (is_reference r) → (v : Standing) × Bound t s v x

@@ -31,7 +31,7 @@ use Rattle.swc_tree_scoping.proofs.Remarked.{each_remarked, identifier_is, list_
 use Rattle.swc_tree_renaming.proofs.Blank.{layer, out_is, place_at_same, rounds_same, scope_at_same}
 use Rattle.swc_base_resolver_laws.proofs.Same.{by_text, clean_stays, impossible, some_same, texts_stay}
 use Rattle.swc_tree_renaming.proofs.Shape.{place_at_remarked}
-use Rattle.swc_tree_renaming.proofs.Core.{first_in, taken_binds}
+use Rattle.swc_tree_renaming.proofs.Core.{declared_taker, first_in, taken_binds}
 use Rattle.swc_tree_renaming.proofs.Strict.{no_sloppy_in_modules}
 use Rattle.swc_base_resolver_laws.proofs.Lists.{each_at, row_of, taken_there}
 use Rattle.swc_base_resolver_laws.proofs.Fitting.{module_layer}
@@ -262,15 +262,6 @@ module _ (t u : Node) (g : Resolving t u) where
   pub no_sloppy : (p : Path) (r : Standing) (x : List ℕ) → Stands t p r x → r ≢ standing.SloppyFunction
   no_sloppy p r x s e = no_sloppy_in_modules t layer_of.0 layer_of.1 p s.place (Identifier s.kind s.identifier) s.stands (s.stands_so ∙ e)
 
-  -- the scope that declares a binding is the one that takes it
-  pub as_declared : (a : Node) (r : Standing) (p s : Path) (x : List ℕ) → r ≢ standing.SloppyFunction → taker r a p ≡ Some s → DeclaredBy a p r x s
-  as_declared a standing.SloppyFunction p s x n h = absurd (n refl)
-  as_declared a _ p s x n h = h
-
-  pub as_taken : (a : Node) (r : Standing) (p s : Path) (x : List ℕ) → r ≢ standing.SloppyFunction → DeclaredBy a p r x s → taker r a p ≡ Some s
-  as_taken a standing.SloppyFunction p s x n h = absurd (n refl)
-  as_taken a _ p s x n h = h
-
   pub taken_bound : (r : Standing) (p s : Path) → taker r t p ≡ Some s → IsTrue (is_binding r)
   taken_bound r p s e = let (whole, there, f) = first_in (λ s. is_taken r (scope_at program_place t s.0)) (rounds program_place t p) s e in taken_binds r (scope_at program_place t s) f
 
@@ -298,7 +289,7 @@ module _ (t u : Node) (g : Resolving t u) where
   pub binding_context : (p : Path) (r : Standing) (x : List ℕ) → Stands t p r x → IsTrue (is_binding r) → (s : Path) × (taker r t p ≡ Some s) × (contexts p ≡ marks s ∷ [])
   binding_context p r x st h =
       let (s, declared, or) = (context_at p r x st).binding h in
-      let taken = as_taken t r p s x (no_sloppy p r x st) declared in (
+      let taken = declared_taker t r p s x (no_sloppy p r x st) declared in (
         s,
         taken,
         ⊎_elim

@@ -9,8 +9,9 @@ use Rattle.swc_tree_scoping.specs.Declares.{Bound, DeclaredBy, DeclaresFor, Mean
 use Rattle.swc_tree_scoping.specs.Readings.{by_ids}
 use Rattle.swc_tree_scoping.specs.Resolved.{mark_in}
 use Rattle.swc_tree_scoping.specs.WellScoped.{Binds, EachInOneScope, InRegion, Stands}
+use Rattle.swc_tree_renaming.proofs.Core.{taker_declares}
 use Rattle.swc_base_resolver_laws.proofs.Lists.{found, found_none}
-use Rattle.swc_base_resolver_laws.proofs.Names.{Resolving, as_declared, binding_context, contexts, in_program, marks, name_apart, name_is, name_of, no_sloppy, one_mark, others_resolved, reference_context, round_scope, rounds_is, stands_back, taker_is, takers_scope, text_at}
+use Rattle.swc_base_resolver_laws.proofs.Names.{Resolving, binding_context, contexts, in_program, marks, name_apart, name_is, name_of, no_sloppy, one_mark, others_resolved, reference_context, round_scope, rounds_is, stands_back, taker_is, takers_scope, text_at}
 use Rattle.swc_base_resolver_laws.proofs.Declared.{declares_forth}
 
 pub settled : (r : Standing) → r ≢ standing.SloppyFunction → IsTrue (is_settled r)
@@ -31,7 +32,7 @@ module _ (t u : Node) (g : Resolving t u) where
         let (z, there, its) = binding_context t u g q v (text_at t u g q v n c.at) st c.binds in
         let (text, context) = same_id n q p v r c.at b.at in
         let same : z ≡ s = one_mark t u g z s (takers_scope t u g v q z there) (takers_scope t u g r p s taken) (sym its ∙ context ∙ mark) in
-        as_declared t u g (by_ids u) v q s n (no_sloppy t u g q v (text_at t u g q v n c.at) st) (taker_is t u g v q ∙ there ∙ ap (λ z. Some z) same)
+        taker_declares (by_ids u) v q s n (no_sloppy t u g q v (text_at t u g q v n c.at) st) (taker_is t u g v q ∙ there ∙ ap (λ z. Some z) same)
 
     -- a name that the program binds is free nowhere
     not_free : (s : Path) → taker r t p ≡ Some s → contexts t u g p ≡ marks t u g s ∷ [] → (q : Path) (v : Standing) → IsTrue (is_reference v) → (c : Stands (by_ids u) q v n)

@@ -9,8 +9,9 @@ use Rattle.swc_tree_scoping.specs.Scopes.{Round, is_taken, rounds}
 use Rattle.swc_tree_scoping.specs.Declares.{PassesNone, is_lexical}
 use Rattle.swc_tree_scoping.specs.Readings.{by_ids}
 use Rattle.swc_tree_scoping.specs.WellScoped.{IsArrowOrMethod, IsAt, IsLexical, NoCaughtVariable, NoParameterTwice, NoRedeclaration, NoVariablePasses, NoneTwice, Stands, has_unique_parameters, is_catch_parameter, is_method, is_module}
+use Rattle.swc_tree_renaming.proofs.Core.{declared_taker, taker_declares}
 use Rattle.swc_base_resolver_laws.proofs.Same.{impossible}
-use Rattle.swc_base_resolver_laws.proofs.Names.{Resolving, as_declared, as_taken, contexts, layer_of, name_is, name_of, no_redeclaration, no_sloppy, rounds_is, scope_is, stands_back, taker_is, text_at, tree_there}
+use Rattle.swc_base_resolver_laws.proofs.Names.{Resolving, contexts, layer_of, name_is, name_of, no_redeclaration, no_sloppy, rounds_is, scope_is, stands_back, taker_is, text_at, tree_there}
 use Rattle.swc_base_resolver_laws.proofs.Declared.{bound_back}
 use Rattle.swc_base_resolver_laws.proofs.OneScope.{same_id}
 
@@ -35,8 +36,8 @@ module _ (t u : Node) (g : Resolving t u) where
       let rb = no_sloppy t u g q v x sb in
       ⊎_elim inl (λ (h : _). absurd (ra h.0))
       ((no_redeclaration t u g).none_twice x s p q r v (record { at = sa; binds = a.binds }) (record { at = sb; binds = b.binds })
-      (as_declared t u g t r p s x ra (sym (taker_is t u g r p) ∙ as_taken t u g (by_ids u) r p s n ra da))
-      (as_declared t u g t v q s x rb (sym (taker_is t u g v q) ∙ as_taken t u g (by_ids u) v q s n rb db))
+      (taker_declares t r p s x ra (sym (taker_is t u g r p) ∙ declared_taker (by_ids u) r p s n ra da))
+      (taker_declares t v q s x rb (sym (taker_is t u g v q) ∙ declared_taker (by_ids u) v q s n rb db))
       (lexical_back p r lexical))
 
   -- what a variable passes

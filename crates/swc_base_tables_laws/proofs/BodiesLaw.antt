@@ -18,12 +18,12 @@ use Rattle.swc_tree_scoping.specs.Readings.{by_ids, id_name}
 use Rattle.swc_tree_scoping.specs.Resolved.{Resolved, mark_in}
 use Rattle.swc_tree_scoping.specs.WellScoped.{IsClean, IsDeclared, IsFree, NoEarlyErrorOfNames, Stands, WellScoped}
 use Rattle.swc_tree_renaming.specs.Apart.{NameAt}
-use Rattle.swc_tree_renaming.proofs.Core.{head_in}
+use Rattle.swc_tree_renaming.proofs.Core.{head_in, taker_declares}
 use Rattle.swc_tree_renaming.proofs.Whole.{from_ids}
 use Rattle.swc_base_resolver_laws.proofs.Declared.{bound_forth, declares_bound}
 use Rattle.swc_base_resolver_laws.proofs.FreeIds.{free_context}
 use Rattle.swc_base_resolver_laws.proofs.Lists.{found, row_of}
-use Rattle.swc_base_resolver_laws.proofs.Names.{Resolving, as_declared, binding_context, contexts, marks, name_apart, name_is, name_of, no_sloppy, reference_context, round_scope, stands_back, taker_is, takers_scope, text_at}
+use Rattle.swc_base_resolver_laws.proofs.Names.{Resolving, binding_context, contexts, marks, name_apart, name_is, name_of, no_sloppy, reference_context, round_scope, stands_back, taker_is, takers_scope, text_at}
 use Rattle.swc_base_resolver_laws.proofs.Whole.{clean_modules_become_well_scoped}
 use Rattle.swc_base_tables_injection.specs.Alone.{alone, opening}
 use Rattle.swc_base_tables_injection.specs.Bodies.{is_string, put_in}
@@ -119,7 +119,7 @@ module _ (helper global : ℕ) (old new : Table) (W : Node) (statements : List N
           path = p;
           standing = r;
           binds = b;
-          declared = as_declared W V G (by_ids V) r p [] x (no_sloppy W V G p r text before) (taker_is W V G r p ∙ taken ∙ ap (λ s. Some s) top);
+          declared = taker_declares (by_ids V) r p [] x (no_sloppy W V G p r text before) (taker_is W V G r p ∙ taken ∙ ap (λ s. Some s) top);
         }
 
     declared_there : (i : Ident) → i.ctxt ≡ helper ∷ [] → Declares W [] i.sym → IsDeclared (by_ids V) (id_name i)

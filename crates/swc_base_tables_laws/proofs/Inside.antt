@@ -50,15 +50,6 @@ moved_in f (z ∷ zs) s h = ⊎_elim
     (λ later. tail_in (moved f z) (moved f s) (map (moved f) zs) (moved_in f zs s later))
     (cases_in z s zs h)
 
--- without plain functions in blocks of sloppy code, the scope that declares a binding is the one that takes it
-pub as_declared : (a : Node) (r : Standing) (p s : Path) (x : List ℕ) → r ≢ standing.SloppyFunction → taker r a p ≡ Some s → DeclaredBy a p r x s
-as_declared a standing.SloppyFunction p s x n h = absurd (n refl)
-as_declared a _ p s x n h = h
-
-pub as_taken : (a : Node) (r : Standing) (p s : Path) (x : List ℕ) → r ≢ standing.SloppyFunction → DeclaredBy a p r x s → taker r a p ≡ Some s
-as_taken a standing.SloppyFunction p s x n h = absurd (n refl)
-as_taken a _ p s x n h = h
-
 pub not_sloppy : (a : Node) → HasNoSloppy a → (p : Path) (r : Standing) (x : List ℕ) → Stands a p r x → r ≢ standing.SloppyFunction
 not_sloppy a settled p r x s e = settled p s.place s.kind s.identifier s.stands (s.stands_so ∙ e)
 

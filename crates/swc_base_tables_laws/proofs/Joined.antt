@@ -17,8 +17,9 @@ use Rattle.swc_tree_scoping.specs.Declares.{Declares, is_lexical, is_settled}
 use Rattle.swc_tree_scoping.specs.WellScoped.{Binds, EachInOneScope, ExportsDeclared, InExportList, InRegion, IsClean, IsDeclared, NoCaughtVariable, NoRedeclaration, NoVariablePasses, OneScope, Stands, is_catch_parameter, is_module}
 use Rattle.swc_tree_scoping.proofs.First.{last_round}
 use Rattle.swc_tree_renaming.specs.Apart.{DeclaredIn, HasNoSloppy}
+use Rattle.swc_tree_renaming.proofs.Core.{declared_taker}
 use Rattle.swc_tree_renaming.proofs.Strict.{no_sloppy_in_modules}
-use Rattle.swc_base_tables_laws.proofs.Inside.{AllInside, Inside, as_taken, bound_by, declares_forth, in_tree, not_sloppy, region_forth, some_same}
+use Rattle.swc_base_tables_laws.proofs.Inside.{AllInside, Inside, bound_by, declares_forth, in_tree, not_sloppy, region_forth, some_same}
 use Rattle.swc_base_tables_laws.proofs.Sided.{no_parameter_twice, none_twice, one_scope, variable_passes}
 
 abbrev pub IsModuleLayer : Node → Type 0
@@ -138,7 +139,7 @@ module _ (t v u : Node) (j : Joined t v u) (ct : IsClean t) (cv : IsClean v) (cu
   program_declares : (x : List ℕ) → DeclaredIn v [] x → Declares v [] x
   program_declares x d =
       let calm = not_sloppy v nv d.path d.standing x d.binds.at in
-      inl (d.standing, settles d.standing calm, bound_by v cv d.path [] d.standing x d.binds.at (as_taken v d.standing d.path [] x calm d.declared))
+      inl (d.standing, settles d.standing calm, bound_by v cv d.path [] d.standing x d.binds.at (declared_taker v d.standing d.path [] x calm d.declared))
 
   declares_too : (x : List ℕ) → Declares v [] x → Declares u [] x
   declares_too x d = subst (λ s. Declares u s x) j.second.top (declares_forth v u j.g j.There j.second cv cu nv x ([], true) d)
@@ -154,7 +155,7 @@ module _ (t v u : Node) (j : Joined t v u) (ct : IsClean t) (cv : IsClean v) (cu
   top_scope : (x : List ℕ) (o : OneScope v x) → DeclaredIn v [] x → o.scope ≡ []
   top_scope x o d =
       let calm = not_sloppy v nv d.path d.standing x d.binds.at in
-      some_same o.scope [] (sym (as_taken v d.standing d.path o.scope x calm (o.bindings d.path d.standing d.binds)) ∙ as_taken v d.standing d.path [] x calm d.declared)
+      some_same o.scope [] (sym (declared_taker v d.standing d.path o.scope x calm (o.bindings d.path d.standing d.binds)) ∙ declared_taker v d.standing d.path [] x calm d.declared)
 
   refer_second : (x : List ℕ) (d : IsDeclared v x) (o : OneScope v x) (p : Path) (r : Standing) → IsTrue (is_reference r) → Stands u p r x → InRegion u (j.g o.scope) x p
   refer_second x (q, z, c) o p r h s = ⊎_elim

@@ -9,13 +9,14 @@ use Rattle.swc_tree_scoping.specs.Scopes.{rounds, taker, is_reference}
 use Rattle.swc_tree_scoping.specs.Declares.{DeclaredBy, PassesNone}
 use Rattle.swc_tree_scoping.specs.WellScoped.{AreFunctionsOfOneBlock, Binds, InRegion, IsArrowOrMethod, IsClean, IsLexical, NoParameterTwice, NoVariablePasses, NoneTwice, OneScope, Stands, is_module}
 use Rattle.swc_tree_renaming.specs.Apart.{HasNoSloppy}
-use Rattle.swc_base_tables_laws.proofs.Inside.{AllInside, Inside, as_declared, as_taken, in_tree, not_sloppy, passes, some_same, taker_back, taker_forth, taker_in}
+use Rattle.swc_tree_renaming.proofs.Core.{declared_taker, taker_declares}
+use Rattle.swc_base_tables_laws.proofs.Inside.{AllInside, Inside, in_tree, not_sloppy, passes, some_same, taker_back, taker_forth, taker_in}
 
 module _ (t u : Node) (f : Path → Path) (In : Path → Type 0) (inside : Inside t u f In) (clean : IsClean t) (clean_too : IsClean u) (settled : HasNoSloppy t) (settled_too : HasNoSloppy u) (module_ : IsTrue (is_module t)) (x : List ℕ) (here : AllInside t u f x) where
   pub declared_forth : (p s : Path) (r : Standing) → Stands t p r x → DeclaredBy t p r x s → DeclaredBy u (f p) r x (f s)
   declared_forth p s r st d =
       let calm = not_sloppy t settled p r x st in
-      as_declared u r (f p) (f s) x calm (taker_forth t u f In inside clean clean_too settled r p s (in_tree t u f In inside clean clean_too settled p r x st) (as_taken t r p s x calm d))
+      taker_declares u r (f p) (f s) x calm (taker_forth t u f In inside clean clean_too settled r p s (in_tree t u f In inside clean clean_too settled p r x st) (declared_taker t r p s x calm d))
 
   -- one scope declares it
   pub one_scope : (o : OneScope t x) → ((p : Path) (r : Standing) → IsTrue (is_reference r) → Stands u p r x → InRegion u (f o.scope) x p) → OneScope u x
@@ -48,12 +49,12 @@ module _ (t u : Node) (f : Path → Path) (In : Path → Type 0) (inside : Insid
       let (qb, eb, sb) = here q z b in
       let calm = not_sloppy t settled pa r x sa in
       let calm_too = not_sloppy t settled qb z x sb in
-      let (m, tm, fm, im) = taken_there p pa s r ea sa (as_taken u r p s x calm da) in
-      let (n, tn, fn, jn) = taken_there q qb s z eb sb (as_taken u z q s x calm_too db) in
+      let (m, tm, fm, im) = taken_there p pa s r ea sa (declared_taker u r p s x calm da) in
+      let (n, tn, fn, jn) = taken_there q qb s z eb sb (declared_taker u z q s x calm_too db) in
       let same : n ≡ m = inside.one n m jn im (fn ∙ sym fm) in
       ⊎_elim (λ (is : pa ≡ qb). inl (ea ∙ ap f is ∙ sym eb)) (λ (h : _). absurd (calm h.0))
-      (once x m pa qb r z (record { at = sa; binds = a.binds }) (record { at = sb; binds = b.binds }) (as_declared t r pa m x calm tm)
-      (as_declared t z qb m x calm_too (tn ∙ ap (λ n. Some n) same)) (lexical_back p pa r ea sa lexical))
+      (once x m pa qb r z (record { at = sa; binds = a.binds }) (record { at = sb; binds = b.binds }) (taker_declares t r pa m x calm tm)
+      (taker_declares t z qb m x calm_too (tn ∙ ap (λ n. Some n) same)) (lexical_back p pa r ea sa lexical))
 
   pub variable_passes : (ways : Standing → Bool) → NoVariablePasses ways t → (p : Path) → Stands u p standing.Variable x → PassesNone ways u x (rounds program_place u p)
   variable_passes ways none p st =
