@@ -1,11 +1,14 @@
 //! Calls that no program and no tree leads to, and whether they answer as they must.
 use jsbase_engine::{Command, Fault, Kind, ServeFault, report, run};
+use jsbase_reader::{ReadError, read_bytes};
+use jsbase_stream::InputFault;
 use std::alloc::Global;
 use std::fmt::Write;
 use swc_base_resolver::scope::{DeclKind, ScopeKind};
 use swc_tree::{
     EsVersion, Globals, Items, Mark, MarkError, NoMemory, PassError, Text, VarDeclKind,
 };
+use swc_tree_node::Class;
 
 // A list that was changed in each way is as it must be.
 fn changes(alloc: Global) -> Option<bool> {
@@ -128,6 +131,30 @@ fn fault_lines(alloc: Global) -> Option<String> {
     Some(text)
 }
 
+// Texts that are no program: one is no JSON, and in one a statement is no tree.
+const FAULTY: [&str; 2] = [
+    "{",
+    r#"{"marks":[[1,0],[2,0]],"unresolved":1,"top":2,"tree":{"type":"Module","span":[0,0],"shebang":null,"body":[1]}}"#,
+];
+
+// What displays why an input, a tree or a program was not taken.
+fn displays(alloc: Global) -> Option<String> {
+    let mut text = String::new(alloc);
+    for fault in [InputFault::Read, InputFault::NoMemory] {
+        write!(text, "{fault}, ").ok()?;
+    }
+    for fault in [ServeFault::Read, ServeFault::Write(3), ServeFault::NoMemory] {
+        write!(text, "{fault}, ").ok()?;
+    }
+    for faulty in FAULTY {
+        let error = read_bytes(alloc, Class::Module, faulty.as_bytes()).err()?;
+        let fault = run(alloc, Command::Resolve, Kind::Module, faulty.as_bytes()).err()?;
+        write!(text, "{error}, {fault}, ").ok()?;
+    }
+    write!(text, "{}", ReadError::NoMemory).ok()?;
+    Some(text)
+}
+
 const ANCESTORS: [(u32, u32, bool); 13] = [
     (5, 5, true),
     (5, 2, true),
@@ -216,6 +243,7 @@ fn holds(alloc: Global, word: &str) -> Option<bool> {
 /// What is answered to a row of no input.
 pub fn answer(alloc: Global, word: &str) -> Option<String> {
     match word {
+        "displays" => return displays(alloc),
         "errors" => return errors(alloc),
         "faults" => return fault_lines(alloc),
         _ => {}
