@@ -27,14 +27,15 @@ import injection_laws
 import kept_laws
 import naming_laws
 import scoping_laws
+import settled_laws
 import sites_laws
 import substitution_laws
 import units_laws
 
-MODULES = (grammar_laws, headline_laws, injection_laws, kept_laws, naming_laws, scoping_laws, sites_laws, substitution_laws, units_laws)
+MODULES = (grammar_laws, headline_laws, injection_laws, kept_laws, naming_laws, scoping_laws, settled_laws, sites_laws, substitution_laws, units_laws)
 # texts that every law tries first, as modules and as scripts
 WRITTEN = [
-    '#x, y;', '`${#x}`;', 'export var a#1, a#2;', 'export var { a, b: a };', 'let?.[x];', 'let[x];', '(a?.b).c; a?.b.c;',
+    '#x, y;', '`${#x}`;', 'export var a#1, a#2;', 'export var { a, b: a };', 'let?.[x];', 'let[x];', '((let[x])) = 1;', '(a?.b).c; a?.b.c;',
     '(async) => a; new (a()?.b).c();', 'for ((a in b) ? a in b : () => (a in b);;) ;', 'if (a) { if (b) c; } else d;',
     'x = (function() {})(), {}.a;', 'import { a as b } from "m"; export { b as c }; var { __proto__ } = b;',
     'export { a as b } from "m"; var a, b;', '({ set a(...b) {} });', 'a: for (;;) continue a; export { c as a }; var c;',

@@ -1,0 +1,21 @@
+-- Where what the fixer makes of a module with labels is resolved, its own texts are apart where ids meet.
+use Rattle.std.specs.Prelude.{◌≡◌, unwrap_or}
+use Rattle.swc_tree_node.specs.declared.node.Node.{Node}
+use Rattle.swc_tree_scoping.specs.BoundNames.{Id}
+use Rattle.swc_tree_sites.specs.Smaller.{In}
+use Rattle.swc_base_rename_settled_laws.specs.Laws.{ApartWhereMet, own_text}
+use Rattle.swc_base_rename_settled_laws.specs.Meetings.{met}
+use Rattle.swc_base_rename_labels_laws.specs.Labels.{labelled, labelled_changes}
+use Rattle.swc_base_rename_labels_laws.specs.Laws.{HasNewLabels, IsReady, IsResolvedSo}
+
+-- ids that meet in what the fixer makes of a module with labels are the new ones of ids that met
+abbrev pub LabelsMeetAsTheOld : Type 0
+LabelsMeetAsTheOld = (before labels : Node) → IsReady before → (h : HasNewLabels before labels) → (x y : Id) → In {X = Id × Id} (x, y) (met labels).pairs
+    → (z w : Id) × In {X = Id × Id} (z, w) (met (labelled before)).pairs × (unwrap_or (labelled_changes h.new_texts z) z ≡ x) × (unwrap_or (labelled_changes h.new_texts w) w ≡ y)
+
+-- so, resolved without labels, it has texts apart where its ids meet
+abbrev pub LabelledAnswersAreApart : Type 0
+LabelledAnswersAreApart = (before labels u : Node) → IsReady before → HasNewLabels before labels → IsResolvedSo labels u → ApartWhereMet u own_text
+
+abbrev pub LabelledAnswersAreApartGiven : Type 0
+LabelledAnswersAreApartGiven = LabelsMeetAsTheOld → LabelledAnswersAreApart

@@ -1,0 +1,4 @@
+mod Relabelled
+mod Written
+mod Contexts
+mod Labels

@@ -1,0 +1,7 @@
+mod Expressions
+mod Bodies
+mod Looks
+mod Pairs
+mod StrippedLooks
+mod Lists
+mod Stripped

@@ -1,0 +1,7 @@
+mod Calm
+mod Blocks
+mod Pairs
+mod NewNames
+mod Sequences
+mod Stripped
+mod Contexts

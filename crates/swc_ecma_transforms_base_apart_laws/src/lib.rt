@@ -1,0 +1,54 @@
+//! What hygiene and then the fixer answer, the three passes in a chain answer again.
+//!
+//! The laws are stated in lower crates. Each is the contract of a function that does nothing but call those of the laws that it rests on; a caller
+//! calls it, and then knows the law.
+#![tactic(auto)]
+
+ghost use Rattle.swc_base_rename_carried_laws.specs.Laws.{LabelsMeetAsTheOld};
+ghost use Rattle.swc_ecma_transforms_base_settled_laws.specs.Settled.{AnswersAreApart, ChainChangesSpans};
+
+use swc_base_fixer_laws::targets_stand_bare;
+use swc_base_fixer_texts::fixing_needs_no_contexts;
+use swc_base_rename_carried_laws::labelled_answers_are_apart;
+use swc_base_rename_contexts_laws::substitution_needs_no_contexts;
+use swc_base_rename_errors_laws::answer_has_no_early_error_of_names;
+use swc_base_rename_hygiene_laws::{hygiene_stays_fitting, hygiene_stays_writable};
+use swc_base_rename_meetings_laws::{due_pairs_keep_meetings, stripping_adds_no_pairs};
+use swc_base_rename_meetings_names_laws::substitution_keeps_meetings;
+use swc_base_rename_settled_laws::{blocks_add_no_pairs, modules_take_all};
+use swc_ecma_transforms_base_settled_laws::chain_changes_spans;
+use swc_tree_grammar_texts::texts_are_as_writable;
+
+/// Ids that meet in what the fixer makes of a module with labels are the new ones of ids that met.
+pub fn labels_meet_as_the_old()
+    ensures { LabelsMeetAsTheOld }
+{
+    due_pairs_keep_meetings();
+    blocks_add_no_pairs();
+    stripping_adds_no_pairs();
+    modules_take_all();
+    substitution_keeps_meetings();
+    targets_stand_bare();
+}
+
+/// Texts of the resolved answer are apart where its ids meet.
+pub fn answers_are_apart()
+    ensures { AnswersAreApart }
+{
+    hygiene_stays_fitting();
+    hygiene_stays_writable();
+    answer_has_no_early_error_of_names();
+    fixing_needs_no_contexts();
+    substitution_needs_no_contexts();
+    texts_are_as_writable();
+    labels_meet_as_the_old();
+    labelled_answers_are_apart();
+}
+
+/// What hygiene and then the fixer answer, the three passes in a chain answer again, but for spans.
+pub fn a_chain_changes_spans()
+    ensures { ChainChangesSpans }
+{
+    chain_changes_spans();
+    answers_are_apart();
+}

@@ -1,0 +1,49 @@
+-- What hygiene and then the fixer answer is a module without contexts.
+use Rattle.std.proofs.Common.{◌≡◌, refl, sym, ap, ◌∙◌, subst}
+use Rattle.swc_tree_marks.specs.declared.ident.Ident.{Ident}
+use Rattle.swc_tree_node.specs.declared.kind.Class.TheVariants as class
+use Rattle.swc_tree_node.specs.declared.slot.Content.TheVariants as content
+use Rattle.swc_tree_node.specs.declared.slot.Slot.{Slot}
+use Rattle.swc_tree_node.specs.declared.slot.Slot.TheVariants as slot
+use Rattle.swc_tree_node.specs.declared.node.Node.{Node, Identifier}
+use Rattle.swc_tree_node.specs.Fits.{Fits}
+use Rattle.swc_tree_scoping.specs.declared.places.Place.{Place}
+use Rattle.swc_tree_scoping.specs.Places.{place_at, program_place}
+use Rattle.swc_tree_scoping.specs.Readings.{by_texts}
+use Rattle.swc_tree_scoping.specs.WellScoped.{IsClean}
+use Rattle.swc_tree_renaming.proofs.Shape.{some_same, twice}
+use Rattle.swc_tree_renaming.proofs.Whole.{identifier_same}
+use Rattle.swc_tree_grammar.specs.Blocks.{with_blocks}
+use Rattle.swc_tree_grammar.specs.Fixed.{fixed}
+use Rattle.swc_tree_grammar.specs.Stripped.{stripped}
+use Rattle.swc_tree_grammar.proofs.BlocksKept.{blocks_fit}
+use Rattle.swc_tree_grammar.proofs.Kept.{stripped_fits}
+use Rattle.swc_tree_grammar_texts.proofs.Cleared.{bare}
+use Rattle.swc_base_fixer_laws.specs.Laws.{TargetsStandBare}
+use Rattle.swc_base_fixer_laws.proofs.Answer.{due_fits}
+use Rattle.swc_base_fixer_texts.specs.Laws.{FixingNeedsNoContexts}
+use Rattle.swc_base_rename_texts_laws.proofs.Cleared.{bare_there}
+use Rattle.swc_base_rename_hygiene_laws.specs.Laws.{HygieneStaysFitting, HygieneStaysWritable}
+use Rattle.swc_ecma_transforms_base_settled_laws.specs.Settled.{AnswersAreCleanModules}
+
+abbrev module_place : Slot
+module_place = slot.One (content.Node class.Module)
+
+-- a tree that has no contexts to take off has none
+clean : (t : Node) → by_texts t ≡ t → IsClean t
+clean t e p w k i h =
+    let node = some_same (w, Identifier k i) (w, Identifier k (bare i)) (sym h ∙ sym (ap (λ t. place_at program_place t p) e) ∙ bare_there p program_place w t k i h) in
+    ap (λ (i : Ident). i.ctxt) (identifier_same k k i (bare i) (ap (λ (q : Place × Node). q.1) node))
+
+pub answers_are_clean_modules : HygieneStaysFitting → HygieneStaysWritable → TargetsStandBare → FixingNeedsNoContexts → AnswersAreCleanModules
+answers_are_clean_modules fitting stays targets texts answer a =
+    let (given, renamed, cleared) = a.hygienic in
+    let within = fitting a.table a.config a.before a.middle a.finishable.plain a.stands a.hygienic in
+    let writable = stays a.table a.config module_place a.before a.middle a.finishable.plain a.stands a.finishable.writable a.hygienic in
+    let inner = blocks_fit (stripped a.middle) module_place (stripped_fits a.middle module_place (targets a.middle module_place within writable) refl within) in
+    let once : by_texts a.middle ≡ a.middle = ap by_texts cleared ∙ twice bare bare given ∙ sym cleared in
+    let whole : by_texts (fixed a.place a.middle) ≡ fixed a.place a.middle = sym (texts a.place a.middle) ∙ ap (fixed a.place) once in
+    record {
+      fits = subst (λ t. Fits t module_place) (sym a.paired) (due_fits a.place (with_blocks (stripped a.middle)) module_place inner);
+      clean = subst IsClean (sym a.paired) (clean (fixed a.place a.middle) whole);
+    }

@@ -1,0 +1,4 @@
+mod Leaves
+mod Unread
+mod Clean
+mod Chained

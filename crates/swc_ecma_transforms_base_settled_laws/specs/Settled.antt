@@ -1,0 +1,65 @@
+-- What hygiene and then the fixer answer, the three passes in a chain answer again.
+use Rattle.std.specs.Prelude.{◌≡◌, ℕ, false, Contains}
+use Rattle.swc_tree_marks.specs.Globals.{Table, numbers}
+use Rattle.swc_tree_node.specs.declared.kind.Class.TheVariants as class
+use Rattle.swc_tree_node.specs.declared.slot.Content.TheVariants as content
+use Rattle.swc_tree_node.specs.declared.slot.Slot.{Slot}
+use Rattle.swc_tree_node.specs.declared.slot.Slot.TheVariants as slot
+use Rattle.swc_tree_node.specs.declared.node.Node.{Node}
+use Rattle.swc_tree_node.specs.Fits.{Fits}
+use Rattle.swc_tree_scoping.specs.Readings.{by_texts}
+use Rattle.swc_tree_scoping.specs.Resolved.{Resolved}
+use Rattle.swc_tree_scoping.specs.WellScoped.{IsClean, WellScoped}
+use Rattle.swc_tree_grammar.specs.Due.{Places}
+use Rattle.swc_tree_grammar.specs.Fixed.{fixed}
+use Rattle.swc_tree_grammar.specs.Spanless.{SameButForSpans}
+use Rattle.swc_base_rename_substitution.specs.declared.config.Config.{Config}
+use Rattle.swc_base_rename_units.specs.Eval.{HasEval}
+use Rattle.swc_base_rename_program.specs.Renamed.{IsHygienic}
+use Rattle.swc_base_rename_hygiene_laws.specs.Laws.{IsFinishable, IsPlain}
+use Rattle.swc_base_rename_settled_laws.specs.Laws.{ApartWhereMet, own_text}
+
+-- where texts are apart where ids meet, hygiene leaves a tree as it is, but without contexts
+abbrev pub HygieneLeavesApart : Type 0
+HygieneLeavesApart = (table : Table) (config : Config) (t answer : Node) (s : Slot) → IsPlain config t → Fits t s → WellScoped t → ApartWhereMet t own_text
+    → IsHygienic table config t answer → answer ≡ by_texts t
+
+-- what hygiene and then the fixer may answer to a well-scoped module that can be finished and in which nothing reads names
+pub record IsAnswer (answer : Node) : Type 0 where
+  pub table : Table
+  pub config : Config
+  pub place : Places
+  pub before : Node
+  pub middle : Node
+  pub stands : Fits before (slot.One (content.Node class.Module))
+  pub finishable : IsFinishable config before
+  pub unread : ¬ HasEval before
+  pub scoped : WellScoped before
+  pub hygienic : IsHygienic table config before middle
+  pub paired : answer ≡ fixed place middle
+
+-- it is a module without contexts
+pub record IsCleanModule (answer : Node) : Type 0 where
+  pub fits : Fits answer (slot.One (content.Node class.Module))
+  pub clean : IsClean answer
+
+abbrev pub AnswersAreCleanModules : Type 0
+AnswersAreCleanModules = (answer : Node) → IsAnswer answer → IsCleanModule answer
+
+-- and nothing reads names in it
+abbrev pub AnswersReadNoNames : Type 0
+AnswersReadNoNames = (answer : Node) → IsAnswer answer → ¬ HasEval answer
+
+-- and once it is resolved, its own texts are apart where ids meet
+abbrev pub AnswersAreApart : Type 0
+AnswersAreApart = (answer u : Node) (unresolved top : ℕ) (old new : Table) → IsAnswer answer → Contains (numbers old) unresolved
+    → Resolved unresolved top old new answer u → ApartWhereMet u own_text
+
+-- so the chain changes spans alone
+abbrev pub ChainChangesSpans : Type 0
+ChainChangesSpans = (table : Table) (config : Config) (place : Places) (answer u middle : Node) (unresolved top : ℕ) (old new : Table) → IsAnswer answer → config.keep_class_names ≡ false
+    → Contains (numbers old) unresolved → Resolved unresolved top old new answer u → IsHygienic table config u middle → SameButForSpans (fixed place middle) answer
+
+-- the last, as it rests on the one before
+abbrev pub ChainChangesSpansGiven : Type 0
+ChainChangesSpansGiven = AnswersAreApart → ChainChangesSpans

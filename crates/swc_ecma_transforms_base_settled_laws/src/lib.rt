@@ -1,0 +1,65 @@
+//! What hygiene and then the fixer answer is a module without contexts, in which nothing reads names, and a chain answers it again, as far as its texts are apart.
+//!
+//! `specs/Settled.antt` states the laws. The last is an implication: that the texts of a resolved answer are apart where its ids meet is
+//! its premise, which `swc_ecma_transforms_base_apart_laws` gives. Each law is the contract of a function that does nothing but call those of the laws that it rests on.
+#![tactic(auto)]
+
+ghost use Rattle.swc_ecma_transforms_base_settled_laws.specs.Settled.{AnswersAreCleanModules, AnswersReadNoNames, ChainChangesSpansGiven, HygieneLeavesApart};
+
+use swc_base_fixer_laws::{second_run_changes_spans, targets_stand_bare};
+use swc_base_fixer_texts::fixing_needs_no_contexts;
+use swc_base_rename_errors_laws::answer_has_no_early_error_of_names;
+use swc_base_rename_hygiene_laws::{hygiene_stays_fitting, hygiene_stays_writable};
+use swc_base_rename_readers_laws::{
+    blocks_add_no_reader, contexts_add_no_reader, due_pairs_add_no_reader, new_names_add_no_reader,
+    stripping_adds_no_reader,
+};
+use swc_base_rename_settled_laws::hygiene_keeps_apart;
+use swc_base_rename_source_laws::readers_need_no_contexts;
+use swc_base_resolver_laws::a_clean_module_becomes_well_scoped;
+
+/// Where texts are apart where ids meet, hygiene leaves a tree as it is, but without contexts.
+pub fn hygiene_leaves_apart()
+    ensures { HygieneLeavesApart }
+{
+    hygiene_keeps_apart();
+}
+
+/// Where nothing reads names in a module, nothing does in what hygiene and then the fixer answer.
+pub fn answers_read_no_names()
+    ensures { AnswersReadNoNames }
+{
+    hygiene_stays_fitting();
+    hygiene_stays_writable();
+    targets_stand_bare();
+    new_names_add_no_reader();
+    contexts_add_no_reader();
+    stripping_adds_no_reader();
+    blocks_add_no_reader();
+    due_pairs_add_no_reader();
+}
+
+/// What hygiene and then the fixer answer is a module without contexts.
+pub fn answers_are_clean_modules()
+    ensures { AnswersAreCleanModules }
+{
+    hygiene_stays_fitting();
+    hygiene_stays_writable();
+    targets_stand_bare();
+    fixing_needs_no_contexts();
+}
+
+/// A chain changes spans alone of what hygiene and then the fixer answered, if the texts of the resolved answer are apart where its
+/// ids meet.
+pub fn chain_changes_spans()
+    ensures { ChainChangesSpansGiven }
+{
+    hygiene_stays_fitting();
+    answers_read_no_names();
+    answers_are_clean_modules();
+    hygiene_leaves_apart();
+    a_clean_module_becomes_well_scoped();
+    answer_has_no_early_error_of_names();
+    readers_need_no_contexts();
+    second_run_changes_spans();
+}
