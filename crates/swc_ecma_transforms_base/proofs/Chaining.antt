@@ -1,5 +1,5 @@
 -- What chaining leads to, by what the resolver and finishing lead to.
-use Rattle.std.proofs.Common.{◌≡◌, ◌≢◌, ℕ, Result, Ok, Err, IfErr, inl, inr, subst, sym, ◌∙◌}
+use Rattle.std.proofs.Common.{◌≡◌, ◌≢◌, false, ℕ, Result, Ok, Err, IfErr, inl, inr, subst, sym, ◌∙◌}
 use Rattle.swc_base_fixer_unparen.specs.Moves.{Moving}
 use Rattle.swc_base_rename_program.specs.Renamed.{IsHygienic}
 use Rattle.swc_tree_marks.specs.declared.error.PassError.{PassError}
@@ -13,12 +13,14 @@ use Rattle.swc_tree_node.specs.declared.slot.Slot.TheVariants as slot
 use Rattle.swc_tree_node.specs.Fits.{Fits}
 use Rattle.swc_tree_grammar.specs.Pairs.{pairs}
 use Rattle.swc_tree_grammar.specs.Fixed.{recorded}
+use Rattle.swc_tree_grammar.specs.Spanless.{SameButForSpans}
 use Rattle.swc_base_fixer_program.specs.Answers.{answer_to}
 use Rattle.swc_base_resolver.specs.Visits.{ResolvesNode}
 use Rattle.swc_base_resolver_program.specs.Marked.{IsRefusal, MarksOk}
 use Rattle.swc_base_rename_substitution.specs.declared.config.Config.{Config}
 use Rattle.swc_ecma_transforms_base_laws.specs.Sources.{IsSource}
 use Rattle.swc_ecma_transforms_base_laws.specs.Headline.{ChainingKeepsSources, KeepsItsSource}
+use Rattle.swc_ecma_transforms_base_settled_laws.specs.Settled.{ChainChangesSpans, IsAnswer}
 use Rattle.swc_ecma_transforms_base.specs.Chained.{Chains, IsChainRefusal, IsMarked, IsOnceHygienic}
 use Rattle.swc_ecma_transforms_base.specs.Finished.{Finishes, IsFinishRefusal}
 use Rattle.swc_ecma_transforms_base.specs.Lent.{MovesFor, MovesPartly}
@@ -52,6 +54,12 @@ module _ (unresolved top : ℕ) (config : Config) (old : Table) (before : Node) 
   source_kept law after f fits s ok =
       subst (λ t. KeepsItsSource unresolved top old new before t) (sym f.paired)
       (law config (recorded (pairs f.between)) unresolved top old new before resolved f.between fits s ok.0.1 (m.resolved ok) f.hygienic).0
+
+  pub stays : ChainChangesSpans → (after : Node) → Finishes new config resolved after → IsAnswer before → config.keep_class_names ≡ false → MarksOk old unresolved top → SameButForSpans after before
+  unfolding answer_to
+  stays law after f answered keeps ok =
+      subst (λ t. SameButForSpans t before) (sym f.paired)
+      (law new config (recorded (pairs f.between)) before resolved f.between unresolved top old new answered keeps ok.0.1 (m.resolved ok) f.hygienic)
 
   not_target : ChainingKeepsSources → Fits before module_place → IsSource config before → MarksOk old unresolved top → (e : PassError) → IsFinishRefusal new config resolved e → e ≢ error.NotAssignable
   not_target law fits s ok error.NotAssignable h n =

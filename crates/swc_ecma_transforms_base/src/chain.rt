@@ -1,12 +1,14 @@
 //! The resolver, hygiene and the fixer.
-ghost use Rattle.std.specs.Prelude.{◌≡◌, ◌≢◌, OnOk, OnErr, IfErr};
+ghost use Rattle.std.specs.Prelude.{◌≡◌, ◌≢◌, false, OnOk, OnErr, IfErr};
 ghost use Rattle.swc_tree_marks.specs.declared.error.PassError.TheVariants as error;
 ghost use Rattle.swc_tree.specs.Passes.{IsEmptied, IsEmptiedScript};
 ghost use Rattle.swc_tree_modules.specs.Nodes.{module_node, script_node};
+ghost use Rattle.swc_tree_grammar.specs.Spanless.{SameButForSpans};
 ghost use Rattle.swc_base_resolver_program.specs.Marked.{MarksOk};
 ghost use Rattle.swc_ecma_transforms_base_laws.specs.Sources.{IsSource};
 ghost use Rattle.swc_ecma_transforms_base.specs.Chained.{Chains, HasFreshMarks, IsChainRefusal, IsOnceHygienic};
 ghost use Rattle.swc_ecma_transforms_base_laws.specs.Headline.{KeepsItsSource};
+ghost use Rattle.swc_ecma_transforms_base_settled_laws.specs.Settled.{IsAnswer};
 ghost use Rattle.swc_ecma_transforms_base.specs.Lent.{Became, MovesFor, MovesPartly};
 
 use crate::finish::{finish_module_with, finish_script_with};
@@ -14,6 +16,7 @@ use std::alloc::Global;
 use std::mem;
 use swc_base_rename::Config;
 use swc_base_resolver::resolver;
+use swc_ecma_transforms_base_apart_laws::a_chain_changes_spans;
 use swc_ecma_transforms_base_laws::chaining_keeps_sources;
 use swc_tree::{
     Comments, Globals, JsPass, Mark, Module, NoComments, PassError, Script, empty_module,
@@ -27,6 +30,8 @@ use swc_tree::{
 /// keep theirs, becomes one that the grammar derives, with the normal form that it had but for the names that it binds. Two names
 /// of the source have one text and one scope, or one text and no scope, exactly if the resolver gave them one id; two kept names of the
 /// answer have so exactly then, and exactly then get one id, however the answer is resolved. No target of it is to blame.
+///
+/// What `finish_module` answered to a well-scoped module of that kind stays as it is, but for spans.
 ///
 /// # Errors
 ///
@@ -51,6 +56,7 @@ pub fn chain_module<C: Comments>(
     ensures marks { HasFreshMarks top globals.old (module_node program.old) globals.new }
     ensures promises { IsSource config (module_node program.old) → MarksOk globals.old unresolved top → OnOk result (KeepsItsSource unresolved top globals.old globals.new (module_node program.old) (module_node program.new)) }
     ensures no_target { IsSource config (module_node program.old) → MarksOk globals.old unresolved top → IfErr result (λ e. e ≢ error.NotAssignable) }
+    ensures again { IsAnswer (module_node program.old) → config.keep_class_names ≡ false → MarksOk globals.old unresolved top → OnOk result (SameButForSpans (module_node program.new) (module_node program.old)) }
     ensures moved { OnOk result (Became (MovesFor C.moved (IsOnceHygienic unresolved top config globals.old (module_node program.old) globals.new) (module_node program.new)) comments.entry comments.exit) }
     ensures partly { OnErr result (Became (MovesPartly C.moved (IsOnceHygienic unresolved top config globals.old (module_node program.old) globals.new)) comments.entry comments.exit) }
     ensures unmoved { IfErr result (λ e. e ≢ error.NoMemory → Became (λ c d. d ≡ c) comments.entry comments.exit) }
@@ -129,11 +135,13 @@ fn chain_module_with<C: Comments>(
     ensures marks { HasFreshMarks top globals.old (module_node program.old) globals.new }
     ensures promises { IsSource config (module_node program.old) → MarksOk globals.old unresolved top → OnOk result (KeepsItsSource unresolved top globals.old globals.new (module_node program.old) (module_node program.new)) }
     ensures no_target { IsSource config (module_node program.old) → MarksOk globals.old unresolved top → IfErr result (λ e. e ≢ error.NotAssignable) }
+    ensures again { IsAnswer (module_node program.old) → config.keep_class_names ≡ false → MarksOk globals.old unresolved top → OnOk result (SameButForSpans (module_node program.new) (module_node program.old)) }
     ensures moved { OnOk result (MovesFor C.moved (IsOnceHygienic unresolved top config globals.old (module_node program.old) globals.new) (module_node program.new) comments.old comments.new) }
     ensures partly { OnErr result (MovesPartly C.moved (IsOnceHygienic unresolved top config globals.old (module_node program.old) globals.new) comments.old comments.new) }
     ensures unmoved { IfErr result (λ e. e ≢ error.NoMemory → comments.new ≡ comments.old) }
 {
     chaining_keeps_sources();
+    a_chain_changes_spans();
     module_fits(program);
     let mut module = mem::replace(program, empty_module(alloc, program.span));
     let mut resolver = resolver(unresolved, top);
