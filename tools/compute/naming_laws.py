@@ -374,7 +374,8 @@ def layout_scopes(t):
 
 @law(few_names)
 def layout_has_scopes_names_and_uses(t):
-    """one walk lays out the scopes in their order, each with its parent, and the names so that those of a scope are a stretch"""
+    """one walk lays out the scopes in their order, each with the scope that takes all names there, and the names so that those of a scope
+    are a stretch"""
     analysis = Analysis(D.all, t)
     laid = D.all.swc_base_rename_analysis.Walk.laid_out(t)
     return layout_fault(analysis, laid)
@@ -386,9 +387,9 @@ def layout_fault(t, laid):
     if len(laid.regions) != len(paths):
         return Bad('number of scopes', repr((len(laid.regions), paths)))
     for n, (p, region) in enumerate(zip(paths, laid.regions)):
-        around = [number[s] for s, _ in t.around[p]]
-        if region.parent != (tuple(around[:1]) or None):
-            return Bad('parent of', repr((n, p, region.parent, around)))
+        takers = [m for m in (n, *(number[s] for s, _ in t.around[p])) if laid.regions[m].kind == 'Fn']
+        if region.function != (tuple(takers[:1]) or None):
+            return Bad('function of', repr((n, p, region.function, takers)))
     read, numbers = D.all.swc_base_rename_analysis.Read, D.all.swc_base_rename_analysis.Numbers
     known = numbers.known_by(laid.names, len(laid.names))
     sites = sorted((site.scope, site.position, site.id) for site in read.sites_by(laid.regions, laid.names, len(laid.names)))
@@ -401,6 +402,32 @@ def layout_fault(t, laid):
     if {e.id[0] for e in known if read.is_loose(e)} != naming.preserved_texts(t, ()):
         return Bad('loose', '')
     return True if laid.names else None
+
+
+def leaking_count(t):
+    """which names count at a scope: those of scopes that leak everywhere, the others in the scope where they were given and below"""
+    laid = D.all.swc_base_rename_analysis.Walk.laid_out(t.program.tree)
+    last = {(n.ident.sym, n.ident.ctxt): at for at, n in enumerate(laid.names) if n.standing != 'Label'}
+    ends = dict(zip(layout_scopes(t), (region.end for region in laid.regions)))
+    leaking = {s for s, _, x in t.declares if last[x] >= ends[s]}
+    return lambda _, u, s: u in leaking or outer_count(t, u, s)
+
+
+@law(few_names)
+def leaking_names_count_enough(t):
+    """names are those where all earlier ones count if just those count of scopes that leak, so that an id of theirs occurs behind them, and of
+    scopes round, whatever the program and the settings but mangling"""
+    analysis = Analysis(D.all, t)
+    if not analysis.declares:
+        return None
+    counts = leaking_count(analysis)
+    for preserves in ((), some_ids(analysis)):
+        for r in renamings(preserves):
+            if not r.mangles:
+                flat, leaking = Naming(analysis, r).new_texts(), Naming(analysis, r, None, counts).new_texts()
+                if flat != leaking:
+                    return Bad('all:', repr(flat), 'leaking:', repr(leaking))
+    return True
 
 
 @law(few_names)
