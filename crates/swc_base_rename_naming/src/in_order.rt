@@ -168,6 +168,10 @@ fn keep(
     Ok(())
 }
 
+// Up to which counter a search starts anew: where up to three ids of a scope share a text, the few tries that a counter spares the last
+// of them cost less than putting it down, which asks for memory twice.
+const SEARCHED_ANEW: usize = 3;
+
 // The first text of an id that is free at the scope of a site, and the counter after it. The search begins past the counters that
 // were tried for another id of the same text, and where it had to go on, so will the next.
 fn search<N: NewTexts, A: Asked>(
@@ -186,7 +190,7 @@ fn search<N: NewTexts, A: Asked>(
 {
     let mut next = start.max(tried.counter(scope, id.0.as_str()));
     let text = free_at(plan, id, scope, given, whole, &mut next)?;
-    if start > 0 || next <= 2 || !plan.texts.are_alike() {
+    if start > 0 || next <= SEARCHED_ANEW || !plan.texts.are_alike() {
         return Ok((text, next));
     }
     tried.put(plan.alloc, scope, id.0.clone()?, next - 1)?;
