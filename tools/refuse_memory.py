@@ -1,6 +1,7 @@
 #!/usr/bin/env python3
 """refuse_memory.py WORK COMMAND [FILE [NUMBER]]: refuses each request for memory of a work in turn.
-refuse_memory.py --gate: the same for each work, on the rows of tools/memory_rows, in a file for each. It says nothing where all is well.
+refuse_memory.py --gate: the same for each work, on the rows of tools/memory_rows, in a file for each. It says nothing where all
+is well. Each row there is a case, and each command has a row; where there is no `cc`, no more than that is asked.
 
 WORK is `jsbase`, which is run from bytes to bytes, or `pass`, which runs a pass, with comments and renamers too: `gate_replay
 refuse` does both. Or it is a work of `gate_tables refuse`: `make` helpers, `name` them, `insert` a body, `inject` helpers, or
@@ -9,13 +10,13 @@ input, and what comes of it with ample memory. The cases are the rows whose argu
 begin with `pass COMMAND` too, and there none without a tree. A pass `rename` gives every name a new text.
 
 The proved programs of `rt ci` or `rt run` are run, with a `malloc` before the system's that refuses the request of one number
-(NUMBER, else 4000): tools/refuse_memory.c, which the toolchain's clang compiles. First the program says of each case how many requests
+(NUMBER, else 4000): tools/refuse_memory.c, which `cc` compiles. First the program says of each case how many requests
 are granted before its work and after it, up to the refused one: the work makes as many requests as lie between. Then it makes so
 many requests before its work that each of these is the refused one in turn. Each answer must be that memory was refused, or the one
-with ample memory.
+with ample memory, and one of a case at least that memory was refused.
 
 A line for each arguments says how many requests were refused and what was answered, after a line for each case with
-another answer, which ends with status 1; and so does a work without cases, and a case in which nothing is refused."""
+another answer, or without one that memory was refused, which ends with status 1."""
 import os
 import shutil
 import subprocess
@@ -26,9 +27,13 @@ from typing import NamedTuple
 ROOT = os.path.dirname(os.path.dirname(os.path.abspath(__file__)))
 ROWS = os.path.join(ROOT, 'tools', 'memory_rows')
 # The works of `gate_replay`, and how the arguments of their rows begin; then those of `gate_tables`.
-COMMANDS = ('resolve ', 'hygiene ', 'unparen ', 'fix ', 'chain ')
-PASSES = ('resolve ', 'hygiene ', 'unparen ', 'fix ', 'unparen_comments ', 'fix_comments ', 'rename ', 'remap ', 'letters ', 'numbered ', 'suffixed ')
-REPLAYED = {'jsbase': COMMANDS, 'pass': PASSES}
+REPLAYED = {
+    'jsbase': ('resolve ', 'hygiene ', 'unparen ', 'fix ', 'chain '),
+    'pass': (
+        *('resolve ', 'hygiene ', 'hygiene_with_config ', 'unparen ', 'unparen_comments ', 'fix ', 'fix_comments '),
+        *('rename ', 'remap ', 'letters ', 'numbered ', 'suffixed '),
+    ),
+}
 TABLES = {
     'make': ('helpers written out', 'helpers of a package'),
     'name': ('helper names',),
@@ -36,6 +41,7 @@ TABLES = {
     'inject': ('helper of a package in ', 'helper written out in '),
     'finish': ('finish ', 'chain ', 'commented finish ', 'commented chain '),
 }
+WORKS = {**REPLAYED, **TABLES}
 
 
 class Case(NamedTuple):
@@ -54,10 +60,10 @@ def crate_of(work):
 
 
 def command_of(work, words):
-    """The arguments of a row as a command begins them, if it may be a case of the work."""
-    if work == 'pass' and words.startswith('pass '):
-        return words.removeprefix('pass ')
-    return words if words.startswith({**REPLAYED, **TABLES}[work]) else None
+    """The arguments of a row as a command begins them, if one of the work does."""
+    if work == 'pass':
+        words = words.removeprefix('pass ')
+    return words if words.startswith(WORKS[work]) else None
 
 
 def wanted_of(work, ample):
@@ -66,26 +72,30 @@ def wanted_of(work, ample):
     return ample.split(', {')[0] if work not in TABLES and ample.startswith('refused: ') else ample
 
 
-def cases_of(work, command, file):
-    """The cases of a work in a file."""
+def rows_of(file):
+    """The rows of a file: the number of the first line of each, and its three lines."""
     with open(file, encoding='utf-8') as text:
         lines = text.read().split('\n')
+    return [(at + 1, *lines[at:at + 3]) for at in range(0, len(lines) - 2, 3)]
+
+
+def cases_of(work, command, file):
+    """The cases of a work in a file."""
     cases = []
-    for at in range(0, len(lines) - 2, 3):
-        words, given, ample = command_of(work, lines[at]), *lines[at + 1:at + 3]
+    for line, first, given, ample in rows_of(file):
+        words = command_of(work, first)
         if words is None or not words.startswith(command):
             continue
         if not (work == 'pass' and ample.startswith(('not a tree: ', 'usage: '))):
-            cases.append(Case(work, words, given, wanted_of(work, ample), file, at + 1))
+            cases.append(Case(work, words, given, wanted_of(work, ample), file, line))
     return cases
 
 
 def compiled(folder):
     """The library that refuses a request, in a folder."""
     library = os.path.join(folder, 'refuse.so')
-    bin = os.path.join(os.path.dirname(os.path.dirname(os.path.realpath(shutil.which('rt')))), 'toolchain', 'bin')
-    flags = ['-O2', '-shared', '-fPIC', '-nostdlib', '--ld-path=' + os.path.join(bin, 'ld.lld')]
-    subprocess.run([os.path.join(bin, 'clang'), *flags, '-o', library, os.path.join(ROOT, 'tools', 'refuse_memory.c')], check=True)
+    flags = ['-O2', '-fno-builtin', '-shared', '-fPIC', '-nostdlib']
+    subprocess.run(['cc', *flags, '-o', library, os.path.join(ROOT, 'tools', 'refuse_memory.c')], check=True)
     return library
 
 
@@ -112,12 +122,18 @@ def counts(case, granted):
     return range(after + 1, before + 1)
 
 
+def is_good(said):
+    """Whether answers are as they must be, where each request of a case was refused in turn."""
+    return 'refused' in said and set(said) <= {'refused', 'ample'}
+
+
 def report(work, words, found):
     """Says what was answered on the cases of some arguments."""
     for case, said in found:
-        others = [word for word in said if word not in ('refused', 'ample')]
-        if others:
-            print('%s: %d other answers on the case at line %d of %s' % (words, len(others), case.line, case.file))
+        if not is_good(said):
+            others = len([word for word in said if word not in ('refused', 'ample')])
+            what = '%d other answers' % others if others else 'never refused'
+            print('%s: %s on the case at line %d of %s' % (words, what, case.line, case.file))
     every = [word for _, said in found for word in said]
     refused, ample = every.count('refused'), every.count('ample')
     print('%s %s: %d cases, %d requests refused: %d answers refused, %d ample, %d other'
@@ -132,27 +148,44 @@ def refuse(number, cases, is_quiet):
         for case in cases:
             granted = answers(library, number, case, ('before', 'after'))
             said.append(answers(library, number, case, counts(case, granted)))
-    failed = any(not words or set(words) - {'refused', 'ample'} for words in said)
+    failed = not all(is_good(words) for words in said)
     if failed or not is_quiet:
         for key in dict.fromkeys((case.work, case.words) for case in cases):
             report(*key, [(case, words) for case, words in zip(cases, said) if (case.work, case.words) == key])
     return failed
 
 
-def kept():
-    """The cases of each work, on the rows that are kept for it."""
-    cases = []
-    for work in (*REPLAYED, *TABLES):
-        of_work = cases_of(work, '', os.path.join(ROWS, work))
-        if not of_work:
-            sys.exit('%s: no case' % work)
-        cases.extend(of_work)
-    return cases
+def misfits(work, cases):
+    """Which rows that are kept for a work are none of its cases, and which of its commands have no case."""
+    file = os.path.join(ROWS, work)
+    lines = {case.line for case in cases}
+    faults = ['line %d: no case: %s' % (line, words) for line, words, *_ in rows_of(file) if line not in lines]
+    for command in WORKS[work]:
+        if not any(case.words.startswith(command) for case in cases):
+            faults.append('no row begins so: ' + command)
+    with open(file, encoding='utf-8') as text:
+        if text.read().count('\n') % 3:
+            faults.append('not three lines for each row')
+    return ['%s, %s' % (file, fault) for fault in faults]
+
+
+def gate():
+    """Refuses each request of each case that is kept. Whether anything is not as it must be."""
+    cases = {work: cases_of(work, '', os.path.join(ROWS, work)) for work in WORKS}
+    faults = [fault for work in WORKS for fault in misfits(work, cases[work])]
+    faults += ['%s is of no work' % os.path.join(ROWS, name) for name in sorted(set(os.listdir(ROWS)) - set(WORKS))]
+    if faults:
+        print('\n'.join(faults))
+        return True
+    if not shutil.which('cc'):
+        print('tools/refuse_memory.py: skipped, no cc', file=sys.stderr)
+        return False
+    return refuse(4000, [case for of_work in cases.values() for case in of_work], True)
 
 
 def main():
     if sys.argv[1:] == ['--gate']:
-        sys.exit(refuse(4000, kept(), True))
+        sys.exit(gate())
     work, command = sys.argv[1:3]
     file = sys.argv[3] if len(sys.argv) > 3 else os.path.join(ROOT, 'crates', crate_of(work), 'stdin')
     cases = cases_of(work, command, file)
