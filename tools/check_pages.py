@@ -1,19 +1,24 @@
 #!/usr/bin/env python3
-"""check_pages.py: says which paths and names that README and docs/ put in backquotes are not in the repository; status 1 if there are any.
+"""check_pages.py: says which paths and names that pages put in backquotes are not in the repository; status 1 if there are any.
 
-A path stands at the top, below crates/, docs/ or tools/, or in some crate. A name is one of Rust or of the definitions, with `_` or
-a capital in it; one that ends or begins with `_` is the beginning or the end of some name. Of all else in backquotes nothing is said."""
+The pages are those at the top, in docs/, and those of the tools. A path stands at the top, below crates/, docs/ or tools/, in some
+crate, or beside its page; of what is built, below a crate's out/, the crate does. A name is one of Rust or of the definitions, with
+`_` or a capital in it; one that ends or begins with `_` is the beginning or the end of some name. A file of this repository's kinds
+may be named alone. Of all else in backquotes nothing is said."""
 import glob
 import os
 import re
 import sys
 
 ROOT = os.path.dirname(os.path.dirname(os.path.abspath(__file__)))
+PAGES = re.compile(r'\w+\.md|docs/\w+\.md|tools/\w+/README\.md')
 PLACES = ('', 'crates/', 'crates/*/', 'docs/', 'tools/')
 PATH = re.compile(r'[\w.*-]+/[\w./*-]*')
+FILE = re.compile(r'[\w-]+\.(antt|json|md|py|rt|txt)')
 NAME = re.compile(r'\w+(::\w+)*(\(\))?')
-# What stands for any name in a path.
+# What stands for any name in a path, and what of a crate is there once it is built.
 ANY = re.compile(r'\b(CRATE|NAME)\b')
+BUILT = re.compile(r'^(crates/[^/]+)/out/.*')
 
 
 def files_here():
@@ -36,10 +41,10 @@ def words_of(files):
     return words
 
 
-def is_path(path):
-    """Whether a path leads somewhere."""
-    pattern = ANY.sub('*', path)
-    return any(glob.glob(os.path.join(ROOT, place + pattern)) for place in PLACES)
+def is_path(path, page):
+    """Whether a path in a page leads somewhere."""
+    pattern = BUILT.sub(r'\1/src', ANY.sub('*', path))
+    return any(glob.glob(os.path.join(ROOT, place, pattern)) for place in (*PLACES, os.path.dirname(page)))
 
 
 def is_name(name, words):
@@ -51,10 +56,12 @@ def is_name(name, words):
     return name in words
 
 
-def missing(term, words):
-    """Whether a term is a path or a name that is not there."""
+def missing(term, page, files, words):
+    """Whether a term of a page is a path or a name that is not there."""
     if PATH.fullmatch(term):
-        return not is_path(term)
+        return not is_path(term, page)
+    if FILE.fullmatch(term):
+        return ANY.sub('', term) == term and not any(os.path.basename(file) == term for file in files)
     if not NAME.fullmatch(term):
         return False
     names = [name for name in re.findall(r'\w+', term) if '_' in name or re.search('[a-z][A-Z]', name)]
@@ -65,11 +72,11 @@ def main():
     files = files_here()
     words = words_of(files)
     failed = False
-    for page in ['README.md', *(file for file in files if re.fullmatch(r'docs/\w+\.md', file))]:
+    for page in filter(PAGES.fullmatch, files):
         with open(os.path.join(ROOT, page), encoding='utf-8') as text:
             for number, line in enumerate(text, 1):
                 for term in re.findall('`([^`]+)`', line):
-                    if missing(term, words):
+                    if missing(term, page, files, words):
                         failed = True
                         print('%s, line %d: %s is not in the repository' % (page, number, term))
     sys.exit(failed)
