@@ -12,6 +12,7 @@ import sys
 
 ROOT = os.path.dirname(os.path.dirname(os.path.abspath(__file__)))
 PAGES = re.compile(r'\w+\.md|docs/\w+\.md|tools/\w+/README\.md')
+TEXTS = ('.rt', '.antt', '.py', '.js', '.mjs', '.edit', '.md', '.txt')
 PLACES = ('', 'crates/', 'crates/*/', 'docs/', 'tools/')
 PATH = re.compile(r'[\w.*-]+/[\w./*-]*')
 FILE = re.compile(r'[\w-]+\.(antt|json|md|py|rt|txt)')
@@ -31,11 +32,11 @@ def files_here():
 
 
 def words_of(files):
-    """The words of sources and of the names of files."""
+    """The words of sources and of the names of files, but of no page."""
     words = set()
     for file in files:
         words.update(re.findall(r'\w+', file))
-        if file.startswith(('crates/', 'tools/', 'bench/')) and file.endswith(('.rt', '.antt', '.py', '.js', '.mjs', '.edit', '.md', '.txt')):
+        if file.startswith(('crates/', 'tools/', 'bench/')) and file.endswith(TEXTS) and not PAGES.fullmatch(file):
             with open(os.path.join(ROOT, file), encoding='utf-8') as text:
                 words.update(re.findall(r'\w+', text.read()))
     return words
