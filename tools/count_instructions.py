@@ -85,6 +85,8 @@ def memory(run):
 
 def kept(file):
     """The figures that are kept, by their names."""
+    if not os.path.exists(file):
+        return {}
     with open(file, encoding='utf-8') as text:
         pairs = [line.split() for line in text if line.strip() and not line.startswith('#')]
     return {name: int(figure) for name, figure in pairs}
