@@ -7,7 +7,7 @@ WORK is `jsbase`, which is run from bytes to bytes, or `pass`, which runs a pass
 refuse` does both. Or it is a work of `gate_tables refuse`: `make` helpers, `name` them, `insert` a body, `inject` helpers, or
 `finish`, which is also for the chain. FILE, else the `stdin` of that program's crate, has rows of three lines: arguments, an
 input, and what comes of it with ample memory. The cases are the rows whose arguments begin with COMMAND, for `pass` those that
-begin with `pass COMMAND` too, and there none without a tree. A pass `rename` gives every name a new text.
+begin with `pass COMMAND` too, and there none without a tree. A pass `rename` gives every name a new text, so of it these alone.
 
 The proved programs of `rt ci` or `rt run` are run, with a `malloc` before the system's that refuses the request of one number
 (NUMBER, else 4000): tools/refuse_memory.c, which `cc` compiles. First the program says of each case how many requests
@@ -62,7 +62,7 @@ def crate_of(work):
 def command_of(work, words):
     """The arguments of a row as a command begins them, if one of the work does."""
     if work == 'pass':
-        words = words.removeprefix('pass ')
+        words = words.removeprefix('pass ') if not words.startswith('rename ') else ''
     return words if words.startswith(WORKS[work]) else None
 
 
