@@ -1,15 +1,17 @@
 -- Members and items that are read one by one.
-use Rattle.std.proofs.Common.{◌≡◌, ◌-◌, ◌<◌, ◌≤◌, ℕ, suc, List, [], ◌∷◌, ◌++◌, length, Option, Some, None, option_and_then, option_map, unwrap_or, codes, ◌||◌, Ok, bytes_eq, true, false, Bool, cond, refl, sym, ap, ◌∙◌, arith}
+use Rattle.std.proofs.Common.{◌≡◌, ◌-◌, ◌<◌, ◌≤◌, ℕ, zero, suc, List, [], ◌∷◌, ◌++◌, length, Option, Some, None, option_and_then, option_map, unwrap_or, codes, ◌||◌, Ok, Err, bytes_eq, true, false, Bool, cond, refl, sym, ap, ◌∙◌, arith}
 use Rattle.std.specs.Borrow.{Bor}
+use Rattle.std.proofs.Common.{Global, Vec}
 use Rattle.std.specs.List.{list_any}
 use Rattle.std.proofs.lemmas.List.{length-append}
 use Rattle.json.specs.Token.{Token}
-use Rattle.json.specs.Json.{Json, null, array, object, Members, no_members, member, Items, no_items, item, after_end_array, if_last, read_key, members, items, value, parse_map}
+use Rattle.json.specs.Json.{Json, null, array, object, Members, no_members, member, Items, no_items, item, after_end_array, if_last, read_key, members, members_step, items, value, parse_map}
 use Rattle.json.specs.Lex.{tokens}
 use Rattle.json.specs.Find.{as_str, get_member, later_or}
 use Rattle.json.specs.Value.{members_view, value_view}
-use Rattle.json.specs.declared.value.Value.{Value}
-use Rattle.json.proofs.Grammar.{items_end, items_more, members_end, members_more, read_key-shorter, skip_value-shorter, value-begin_array, value-begin_object}
+use Rattle.json.specs.declared.value.Value.{Value, Object}
+use Rattle.json.proofs.Trees.{view-Object}
+use Rattle.json.proofs.Grammar.{items_end, items_fail, items_more, members_end, members_more, members_no_key, read_key-shorter, skip_value-shorter, value-begin_array, value-begin_object}
 use Rattle.swc_tree_marks.specs.Globals.{Table}
 use Rattle.swc_tree_node.specs.declared.kind.Class.{Class}
 use Rattle.swc_tree_node.specs.declared.kind.Class.TheVariants as class
@@ -22,13 +24,14 @@ use Rattle.swc_tree_node.specs.declared.slot.Role.TheVariants as role
 use Rattle.swc_tree_node.specs.Table.{fields_of, is_identifier, kinds_of, name_of}
 use Rattle.swc_tree_node.specs.declared.slot.Content.{Content}
 use Rattle.swc_tree_node.specs.declared.slot.Slot.{Slot}
-use Rattle.jsbase_form.specs.Reads.{◌>>=◌, at, found, index, key as key_part}
+use Rattle.jsbase_form.specs.Reads.{Read, ◌>>=◌, at, found, index, key as key_part}
 use Rattle.jsbase_form.specs.Tables.{table_at}
 use Rattle.jsbase_form.specs.Trees.{body_at, fields_at, items_seen, kind_at, value_of, listed, members_seen, named, seen}
 use Rattle.jsbase_form.proofs.Members.{member_seen}
-use Rattle.jsbase_reader.specs.Streamed.{Ends, HasStatements, IsAround, IsMade, Leads, envelope_in_document, joined}
+use Rattle.jsbase_reader.specs.Parts.{members_in}
+use Rattle.jsbase_reader.specs.Streamed.{Ends, HasStatements, IsMade, Leads, NoMembers, envelope_in_document, envelope_in_tokens, joined, table_among}
 use Rattle.jsbase_reader.specs.declared.envelope.Envelope.{Envelope}
-use Rattle.jsbase_reader.specs.Envelopes.{envelope_in, envelope_of, marks_in, max_depth, options_in}
+use Rattle.jsbase_reader.specs.Envelopes.{envelope_around, envelope_in, envelope_of, marks_in, max_depth, options_in}
 use Rattle.jsbase_reader.proofs.Loops.{after, after-all, after-cons, after-none}
 
 -- the members that were read, and then what is left
@@ -62,12 +65,34 @@ reading_more d n0 old ts s r vs ws m h key read shorter pushed =
           ∙ ap (λ l. parse_map (joined (members_view l)) (members (value d) (h.0 - 1) r)) (sym pushed),
     )
 
+-- the value of a key, and what is left behind it
+led : (d n : ℕ) (key : List ℕ) (ts s : List Token) → length ts ≤ n → read_key ts ≡ Some (Some key, s)
+    → (m : ℕ) × (length s ≤ m) × (members (value d) n ts ≡ option_and_then (λ p. parse_map (member key p.0) (members (value d) m p.1)) (value d s))
+unfolding members
+led d zero key ts s le there = let less = read_key-shorter ts (Some key) s there in absurd (omega (arith, le, less))
+led d (suc n) key ts s le there =
+    let less = read_key-shorter ts (Some key) s there in
+    (n, omega (arith, le, less), ap (option_and_then (λ q. members_step (value d) (members (value d) n) q.0 q.1)) there)
+
+parsed_and : {A : Type 0} (f : Members → Members) (g : A → Option (Members × List Token)) (o : Option A) → parse_map f (option_and_then g o) ≡ option_and_then (λ p. parse_map f (g p)) o
+parsed_and f g None = refl
+parsed_and f g (Some p) = refl
+
 -- the key that was looked for
 pub reading_leads : (d : ℕ) (old ts s : List Token) (before : Members) (key : List ℕ) → Reading d (length old) old before ts → read_key ts ≡ Some (Some key, s) → Leads d key before old s
-reading_leads d old ts s before key h there j rest read =
-    let less = read_key-shorter ts (Some key) s there in
-    let lesser = skip_value-shorter d s rest (ap (option_map (λ p. p.1)) read) in
-    (h.0 - 1, omega (arith, h.1, less, lesser), h.2 ∙ ap (parse_map (joined before)) (members_more (value d) h.0 key ts s rest j (omega (arith, h.1, less)) there read))
+reading_leads d old ts s before key h there =
+    let l = led d h.0 key ts s h.1 there in
+    (l.0, l.1, h.2 ∙ ap (parse_map (joined before)) l.2 ∙ parsed_and (joined before) (λ p. parse_map (member key p.0) (members (value d) l.0 p.1)) (value d s))
+
+-- no key follows, and no end of the object
+pub reading_stops : (d n0 : ℕ) (old ts : List Token) (before : Members) → Reading d n0 old before ts → read_key ts ≡ None → members (value d) n0 old ≡ None
+reading_stops d n0 old ts before h none = h.2 ∙ ap (parse_map (joined before)) (members_no_key (value d) h.0 ts none)
+
+-- a key follows, and no value of it
+pub reading_fails : (d n0 : ℕ) (old ts s : List Token) (before : Members) (key : List ℕ) → Reading d n0 old before ts → read_key ts ≡ Some (Some key, s) → value d s ≡ None → members (value d) n0 old ≡ None
+reading_fails d n0 old ts s before key h there none =
+    let l = led d h.0 key ts s h.1 there in
+    h.2 ∙ ap (parse_map (joined before)) (l.2 ∙ ap (option_and_then (λ p. parse_map (member key p.0) (members (value d) l.0 p.1))) none)
 
 joined_none : (ms : Members) → joined ms no_members ≡ ms
 joined_none no_members = refl
@@ -77,13 +102,39 @@ joined_none (member k j ms) = ap (member k j) (joined_none ms)
 pub reading_ends : (d n0 : ℕ) (old ts r : List Token) (ms : Members) → Reading d n0 old ms ts → read_key ts ≡ Some (None, r) → members (value d) n0 old ≡ Some (ms, r)
 reading_ends d n0 old ts r ms h there = h.2 ∙ ap (parse_map (joined ms)) (members_end (value d) h.0 ts r h.1 there) ∙ ap (λ l. Some (l, r)) (joined_none ms)
 
--- the whole object
-pub object_read : (d : ℕ) (old s new rest : List Token) (before behind : Members) (key : List ℕ) (j : Json) → old ≡ Token.begin_object ∷ s → (t : List Token) → Leads d key before s t → value d t ≡ Some (j, rest) → Ends d behind rest new
-    → value (suc d) old ≡ Some (object (joined before (member key j behind)), new)
-object_read d old s new rest before behind key j opens t leads read ends =
-    let led = leads j rest read in
+-- an object by its members
+object_is : (d : ℕ) (old s : List Token) → old ≡ Token.begin_object ∷ s → value (suc d) old ≡ parse_map object (members (value d) (length s) s)
+object_is d old s opens =
     let less : suc d - 1 ≡ d = omega arith in
-    ap (value (suc d)) opens ∙ value-begin_object (suc d) s (omega arith) ∙ ap (λ e. parse_map object (members (value e) (length s) s)) less ∙ ap (parse_map object) (led.2 ∙ ap (λ o. parse_map (joined before) (parse_map (member key j) o)) (ends led.0 led.1))
+    ap (value (suc d)) opens ∙ value-begin_object (suc d) s (omega arith) ∙ ap (λ e. parse_map object (members (value e) (length s) s)) less
+
+-- the whole object
+pub object_read : (d : ℕ) (old s t new rest : List Token) (before behind : Members) (key : List ℕ) (j : Json) → old ≡ Token.begin_object ∷ s → Leads d key before s t → value d t ≡ Some (j, rest) → Ends d behind rest new
+    → value (suc d) old ≡ Some (object (joined before (member key j behind)), new)
+object_read d old s t new rest before behind key j opens leads read ends =
+    let lesser = skip_value-shorter d t rest (ap (option_map (λ p. p.1)) read) in
+    object_is d old s opens ∙ ap (parse_map object) (leads.2 ∙ ap (option_and_then (λ p. parse_map (joined before) (parse_map (member key p.0) (members (value d) leads.0 p.1)))) read
+    ∙ ap (λ o. parse_map (joined before) (parse_map (member key j) o)) (ends leads.0 (omega (arith, leads.1, lesser))))
+
+-- an object of which no member was read by itself
+pub object_ended : (d : ℕ) (old s new : List Token) (ms : Members) → old ≡ Token.begin_object ∷ s → Ends d ms s new → value (suc d) old ≡ Some (object ms, new)
+object_ended d old s new ms opens ends = object_is d old s opens ∙ ap (parse_map object) (ends (length s) (omega arith))
+
+-- no object, since its first members are none
+pub object_unread : (d : ℕ) (old s : List Token) → old ≡ Token.begin_object ∷ s → NoMembers d s → value (suc d) old ≡ None
+object_unread d old s opens none = object_is d old s opens ∙ ap (parse_map object) (none (length s) (omega arith))
+
+-- no object, since the value of the key is none
+pub object_without : (d : ℕ) (old s t : List Token) (before : Members) (key : List ℕ) → old ≡ Token.begin_object ∷ s → Leads d key before s t → value d t ≡ None → value (suc d) old ≡ None
+object_without d old s t before key opens leads none =
+    object_is d old s opens ∙ ap (parse_map object) (leads.2 ∙ ap (option_and_then (λ p. parse_map (joined before) (parse_map (member key p.0) (members (value d) leads.0 p.1)))) none)
+
+-- no object, since what stands behind the value of the key is no members
+pub object_cut : (d : ℕ) (old s t rest : List Token) (before : Members) (key : List ℕ) (j : Json) → old ≡ Token.begin_object ∷ s → Leads d key before s t → value d t ≡ Some (j, rest) → NoMembers d rest → value (suc d) old ≡ None
+object_cut d old s t rest before key j opens leads read none =
+    let lesser = skip_value-shorter d t rest (ap (option_map (λ p. p.1)) read) in
+    object_is d old s opens ∙ ap (parse_map object) (leads.2 ∙ ap (option_and_then (λ p. parse_map (joined before) (parse_map (member key p.0) (members (value d) leads.0 p.1)))) read
+    ∙ ap (λ o. parse_map (joined before) (parse_map (member key j) o)) (none leads.0 (omega (arith, leads.1, lesser))))
 
 -- ---- looking up
 
@@ -92,23 +143,32 @@ found_later None b d e = ap (λ b. cond b (Some d) None) e
 found_later (Some x) b d e = refl
 
 -- another key is looked up without the one that was read by itself
-pub look_other : {A : Type 0} (k key : List ℕ) (j : Json) (vs ws : List (Bor (List ℕ) × Value A)) → bytes_eq key k ≡ false → get_member k (joined (members_view vs) (member key j (members_view ws))) ≡ get_member k (members_view (vs ++ ws))
-look_other k key j [] ws other = found_later (get_member k (members_view ws)) (bytes_eq key k) j other
-look_other k key j (v ∷ vs) ws other = ap (λ o. later_or o (cond (bytes_eq v.0.now k) (Some (value_view v.1)) None)) (look_other k key j vs ws other)
+pub look_other : (k key : List ℕ) (j : Json) (ms os : Members) → bytes_eq key k ≡ false → get_member k (joined ms (member key j os)) ≡ get_member k (joined ms os)
+look_other k key j no_members os other = found_later (get_member k os) (bytes_eq key k) j other
+look_other k key j (member l i ms) os other = ap (λ o. later_or o (cond (bytes_eq l k) (Some i) None)) (look_other k key j ms os other)
 
 later_some : (o : Option Json) (b : Bool) (x d : Json) → o ≡ Some x → later_or o (cond b (Some d) None) ≡ Some x
 later_some None b x d h = absurd (cc)
 later_some (Some y) b x d h = h
 
 -- the one that was read by itself
-pub look_special : {A : Type 0} (key : List ℕ) (j : Json) (vs ws : List (Bor (List ℕ) × Value A)) → bytes_eq key key ≡ true → get_member key (members_view ws) ≡ None → get_member key (joined (members_view vs) (member key j (members_view ws))) ≡ Some j
-look_special key j [] ws same none = rw (none, same) refl
-look_special key j (v ∷ vs) ws same none = later_some _ (bytes_eq v.0.now key) j (value_view v.1) (look_special key j vs ws same none)
+pub look_special : (key : List ℕ) (j : Json) (ms os : Members) → bytes_eq key key ≡ true → get_member key os ≡ None → get_member key (joined ms (member key j os)) ≡ Some j
+look_special key j no_members os same none = rw (none, same) refl
+look_special key j (member l i ms) os same none = later_some _ (bytes_eq l key) j i (look_special key j ms os same none)
 
 -- what stands before, where nothing behind has the key
-pub look_before : {A : Type 0} (k : List ℕ) (vs ws : List (Bor (List ℕ) × Value A)) → get_member k (members_view ws) ≡ None → get_member k (members_view (vs ++ ws)) ≡ get_member k (members_view vs)
-look_before k [] ws none = none
-look_before k (v ∷ vs) ws none = ap (λ o. later_or o (cond (bytes_eq v.0.now k) (Some (value_view v.1)) None)) (look_before k vs ws none)
+pub look_before : (k : List ℕ) (ms os : Members) → get_member k os ≡ None → get_member k (joined ms os) ≡ get_member k ms
+look_before k no_members os none = none
+look_before k (member l i ms) os none = ap (λ o. later_or o (cond (bytes_eq l k) (Some i) None)) (look_before k ms os none)
+
+-- the members of an object
+pub members_are : (v : Vec (Bor (List ℕ) × Value Global) Global) → members_in (value_view (Object v)) ≡ members_view v.items
+members_are v = ap members_in (view-Object v)
+
+-- members behind others
+pub views_joined : {A : Type 0} (vs ws : List (Bor (List ℕ) × Value A)) → members_view (vs ++ ws) ≡ joined (members_view vs) (members_view ws)
+views_joined [] ws = refl
+views_joined (v ∷ vs) ws = ap (member v.0.now (value_view v.1)) (views_joined vs ws)
 
 -- ---- items
 
@@ -161,6 +221,10 @@ pub taking_ends : (d : ℕ) (table : Table) (c : Content) (s : Slot) (old ts r :
     → (ds : Items) × (items (value d) (length old) old ≡ Some (ds, r)) × (items_seen table 0 ds s ≡ Ok nodes)
 taking_ends d table c s old ts r nodes h ends =
     (items_after h.before no_items, h.read ∙ ap (parse_map (items_after h.before)) (items_end (value d) h.n ts r h.long ends), h.seen no_items ∙ after-all nodes)
+
+-- an item that is none
+pub taking_fails : (d : ℕ) (table : Table) (s : Slot) (old ts : List Token) (nodes : List Node) → Taking d table s old ts nodes → after_end_array ts ≡ None → value d ts ≡ None → items (value d) (length old) old ≡ None
+taking_fails d table s old ts nodes h going none = h.read ∙ ap (parse_map (items_after h.before)) (items_fail (value d) h.n ts going none)
 
 later_none : (o : Option Json) (d : Json) → later_or o (cond false (Some d) None) ≡ o
 later_none None d = refl
@@ -244,25 +308,44 @@ array_read d old s new ds opens read =
     let less : suc d - 1 ≡ d = omega arith in
     ap (value (suc d)) opens ∙ value-begin_array (suc d) s (omega arith) ∙ ap (λ e. parse_map array (items (value e) (length s) s)) less ∙ ap (parse_map array) read
 
+-- no array, since its items are none
+pub array_unread : (d : ℕ) (old s : List Token) → old ≡ Token.begin_array ∷ s → items (value d) (length s) s ≡ None → value (suc d) old ≡ None
+array_unread d old s opens none =
+    let less : suc d - 1 ≡ d = omega arith in
+    ap (value (suc d)) opens ∙ value-begin_array (suc d) s (omega arith) ∙ ap (λ e. parse_map array (items (value e) (length s) s)) less ∙ ap (parse_map array) none
+
 -- ---- envelopes
 
 same_value : (k : List ℕ) (ms os : Members) → get_member k ms ≡ get_member k os → value_of k ms ≡ value_of k os
 same_value k ms os h = ap (λ o. unwrap_or o null) h
 
-pub envelope_made : (c : Class) (ms os : Members) (g : Table) (d : Json) (tree : Node) (e : Envelope) → ((k : List ℕ) → bytes_eq (codes "tree") k ≡ false → get_member k ms ≡ get_member k os)
-    → at (key_part (codes "marks")) (table_at (value_of (codes "marks") os)) ≡ Ok g → get_member (codes "tree") ms ≡ Some d → seen g d (slot.One (content.Node c)) ≡ Ok tree → IsAround g os tree e → envelope_of c ms ≡ Ok e
+-- the envelope of an object, by its table, its tree and its other members
+pub envelope_made : (c : Class) (ms os : Members) (g : Table) (d : Json) (tree : Node) → ((k : List ℕ) → bytes_eq (codes "tree") k ≡ false → get_member k ms ≡ get_member k os)
+    → table_among os ≡ Ok g → get_member (codes "tree") ms ≡ Some d → seen g d (slot.One (content.Node c)) ≡ Ok tree → envelope_of c ms ≡ envelope_around g os tree
 unfolding envelope_of
-envelope_made c ms os g d tree e other marks here is_tree around =
+envelope_made c ms os g d tree other marks here is_tree =
     let marks_are : at (key_part (codes "marks")) (table_at (value_of (codes "marks") ms)) ≡ Ok g = ap (λ v. at (key_part (codes "marks")) (table_at v)) (same_value (codes "marks") ms os (other (codes "marks") refl)) ∙ marks in
     let first = same_value (codes "unresolved") ms os (other (codes "unresolved") refl) in
     let second = same_value (codes "top") ms os (other (codes "top") refl) in
     let third = same_value (codes "keepClassNames") ms os (other (codes "keepClassNames") refl) in
     let fourth = same_value (codes "ignoreEval") ms os (other (codes "ignoreEval") refl) in
-    let marked : marks_in g ms ≡ Ok around.marks = rw (first, second) around.marked in
-    let optional : options_in ms ≡ Ok around.options = rw (third, fourth) around.optional in
     let treed : at (key_part (codes "tree")) (seen g (value_of (codes "tree") ms) (slot.One (content.Node c))) ≡ Ok tree = ap (λ o. at (key_part (codes "tree")) (seen g (unwrap_or o null) (slot.One (content.Node c)))) here ∙ ap (at (key_part (codes "tree"))) is_tree in
-    rw (marks_are, marked, optional, treed) (ap Ok (sym around.is))
+    rw marks_are (simp (first, second, third, fourth, treed))
 
-pub document_streamed : (c : Class) (text : List ℕ) (ts rest : List Token) (whole : Json) (e : Envelope) → ts ≡ tokens text → value max_depth ts ≡ Some (whole, rest) → rest ≡ [] → envelope_in c whole ≡ Ok e → envelope_in_document c text ≡ Ok e
-document_streamed c text ts rest whole e lexed read end is =
-    ap (λ o. found o >>= envelope_in c) (ap (λ l. option_and_then (λ p. if_last p.0 p.1) (value max_depth l)) (sym lexed) ∙ ap (option_and_then (λ p. if_last p.0 p.1)) (read ∙ ap (λ l. Some (whole, l)) end)) ∙ is
+-- the tokens of a text
+pub tokens_streamed : (c : Class) (text : List ℕ) (ts : List Token) (read : Read Envelope) → ts ≡ tokens text → envelope_in_tokens c ts ≡ read → envelope_in_document c text ≡ read
+tokens_streamed c text ts read lexed is = ap (envelope_in_tokens c) (sym lexed) ∙ is
+
+-- a value to the end
+pub tokens_whole : (c : Class) (ts rest : List Token) (whole : Json) → value max_depth ts ≡ Some (whole, rest) → rest ≡ [] → envelope_in_tokens c ts ≡ envelope_in c whole
+tokens_whole c ts rest whole read end =
+    ap (λ o. found (option_and_then (λ p. if_last p.0 p.1) o) >>= envelope_in c) (read ∙ ap (λ l. Some (whole, l)) end)
+
+-- a value, and more behind it
+pub tokens_behind : (c : Class) (ts rest : List Token) (t : Token) (whole : Json) → value max_depth ts ≡ Some (whole, rest) → (more : List Token) → rest ≡ t ∷ more → envelope_in_tokens c ts ≡ Err []
+tokens_behind c ts rest t whole read more end =
+    ap (λ o. found (option_and_then (λ p. if_last p.0 p.1) o) >>= envelope_in c) (read ∙ ap (λ l. Some (whole, l)) end)
+
+-- no value
+pub tokens_none : (c : Class) (ts : List Token) → value max_depth ts ≡ None → envelope_in_tokens c ts ≡ Err []
+tokens_none c ts none = ap (λ o. found (option_and_then (λ p. if_last p.0 p.1) o) >>= envelope_in c) none

@@ -6,10 +6,10 @@ use Rattle.json.specs.Token.{Token}
 use Rattle.json.specs.Lex.{tokens}
 use Rattle.json.specs.Json.{Json, value, if_last}
 use Rattle.json.specs.declared.value.Value.{Value}
-use Rattle.jsbase_form.specs.Reads.{found}
+use Rattle.jsbase_form.specs.Reads.{Read, found}
 use Rattle.jsbase_reader.specs.declared.error.ReadError.{ReadError}
 use Rattle.jsbase_reader.specs.declared.error.ReadError.TheVariants as error
-use Rattle.jsbase_reader.specs.Answers.{Gives, GivesView}
+use Rattle.jsbase_reader.specs.Answers.{Gives, GivesIfRead, GivesView}
 use Rattle.swc_tree_node.specs.declared.kind.Class.{Class}
 use Rattle.jsbase_reader.specs.declared.envelope.Envelope.{Envelope}
 use Rattle.jsbase_reader.specs.Envelopes.{document, envelope_in_text, max_depth, text_in}
@@ -36,5 +36,10 @@ document_there bytes text ts rest d same lexed read end =
     ap (λ l. option_and_then (λ p. if_last p.0 p.1) (value max_depth l)) (sym (lexed ∙ ap tokens same)) ∙ ap (option_and_then (λ p. if_last p.0 p.1)) (read ∙ ap (λ l. Some (d, l)) end)
 
 -- the envelope of the text of bytes
-pub text_envelope : (c : Class) (bytes text : List ℕ) (e : Envelope) → IsUtf8 bytes → text ≡ bytes → envelope_in_document c text ≡ Ok e → envelope_in_text c bytes ≡ Ok e
-text_envelope c bytes text e utf8 same h = rw (is_utf8-from_IsUtf8 bytes utf8, ← same) h
+pub text_envelope : (c : Class) (bytes text : List ℕ) (read : Read Envelope) → IsUtf8 bytes → text ≡ bytes → envelope_in_document c text ≡ read → envelope_in_text c bytes ≡ read
+text_envelope c bytes text read utf8 same h = rw (is_utf8-from_IsUtf8 bytes utf8, ← same) h
+
+-- the same where it was refused
+pub text_refused : (c : Class) (bytes text : List ℕ) (r : Result Envelope ReadError) (e : ReadError) → r ≡ Err e → IsUtf8 bytes → text ≡ bytes → GivesIfRead (Err e) (envelope_in_document c text) → Gives r (envelope_in_text c bytes)
+text_refused c bytes text r error.NoMemory is utf8 same h = rw is tt
+text_refused c bytes text r (error.Fault p) is utf8 same h = rw is (text_envelope c bytes text (Err p) utf8 same h)

@@ -1,5 +1,5 @@
 -- What a reader's answer says.
-use Rattle.std.specs.Prelude.{◌≡◌, List, [], ◌∷◌, ◌++◌, Result, Ok, Err, ⊤}
+use Rattle.std.specs.Prelude.{◌≡◌, List, [], ◌∷◌, ◌++◌, Option, Some, None, Result, Ok, Err, ⊤}
 use Rattle.json.specs.Json.{Json}
 use Rattle.json.specs.Value.{value_view}
 use Rattle.json.specs.declared.value.Value.{Value}
@@ -24,3 +24,10 @@ abbrev pub GivesMore : {A T : Type 0} → Result T ReadError → List A → List
 GivesMore (Ok t) before after read = (x : _) × (read ≡ Ok x) × (after ≡ before ++ x ∷ [])
 GivesMore (Err error.NoMemory) before after read = ⊤
 GivesMore (Err (error.Fault path)) before after read = read ≡ Err path
+
+-- what a function answered is this, unless memory ran out or it did not read
+abbrev pub GivesIfRead : {A : Type 0} → Result (Option A) ReadError → Read A → Type 0
+GivesIfRead (Ok (Some x)) read = read ≡ Ok x
+GivesIfRead (Ok None) read = ⊤
+GivesIfRead (Err error.NoMemory) read = ⊤
+GivesIfRead (Err (error.Fault path)) read = read ≡ Err path

@@ -5,6 +5,7 @@ use Rattle.json.specs.Json.{Json, null, Members, value, if_last}
 use Rattle.json.specs.Find.{as_object}
 use Rattle.json.specs.Lex.{tokens}
 use Rattle.swc_tree_node.specs.declared.kind.Class.{Class}
+use Rattle.swc_tree_node.specs.declared.node.Node.{Node}
 use Rattle.swc_tree_node.specs.declared.slot.Content.TheVariants as content
 use Rattle.swc_tree_node.specs.declared.slot.Slot.TheVariants as slot
 use Rattle.swc_tree_marks.specs.Globals.{Table}
@@ -30,6 +31,12 @@ abbrev pub options_in : Members → Read (Bool × Bool)
 options_in ms = at (key (codes "keepClassNames")) (option_at (value_of (codes "keepClassNames") ms)) >>= (λ keep_class_names.
     at (key (codes "ignoreEval")) (option_at (value_of (codes "ignoreEval") ms)) >>= (λ ignore_eval.
     Ok (keep_class_names, ignore_eval)))
+
+-- the envelope round a tree, of its table of marks and of its other members
+abbrev pub envelope_around : Table → Members → Node → Read Envelope
+envelope_around table ms tree = marks_in table ms >>= (λ marks.
+    options_in ms >>= (λ options.
+    Ok (record { globals = table; unresolved = marks.0; top = marks.1; keep_class_names = options.0; ignore_eval = options.1; tree = tree })))
 
 unfoldable pub envelope_of : Class → Members → Read Envelope
 envelope_of class ms = at (key (codes "marks")) (table_at (value_of (codes "marks") ms)) >>= (λ table.

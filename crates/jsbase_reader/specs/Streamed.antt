@@ -1,10 +1,10 @@
 -- An object of which one member is read by itself, between those before it and those behind it.
-use Rattle.std.specs.Prelude.{◌≡◌, ℕ, ◌<◌, ◌≤◌, List, [], ◌∷◌, ◌++◌, length, codes, Bool, Ok, Some}
+use Rattle.std.specs.Prelude.{◌≡◌, ℕ, ◌<◌, ◌≤◌, List, [], ◌∷◌, ◌++◌, length, codes, Ok, Some, None, Result, option_and_then}
 use Rattle.std.specs.Borrow.{Bor}
 use Rattle.json.specs.Token.{Token}
 use Rattle.json.specs.Value.{value_view}
 use Rattle.json.specs.declared.value.Value.{Value}
-use Rattle.json.specs.Json.{Json, Members, no_members, member, Items, members, items, value, parse_map}
+use Rattle.json.specs.Json.{Json, Members, no_members, member, Items, members, items, value, parse_map, if_last}
 use Rattle.swc_tree_marks.specs.Globals.{Table}
 use Rattle.swc_tree_node.specs.declared.kind.Class.{Class}
 use Rattle.swc_tree_node.specs.declared.kind.Class.TheVariants as class
@@ -14,10 +14,13 @@ use Rattle.swc_tree_node.specs.declared.slot.Content.{Content}
 use Rattle.swc_tree_node.specs.declared.slot.Content.TheVariants as content
 use Rattle.swc_tree_node.specs.declared.slot.Slot.{Slot}
 use Rattle.swc_tree_node.specs.declared.slot.Slot.TheVariants as slot
-use Rattle.jsbase_form.specs.Reads.{Read, ◌>>=◌, found}
-use Rattle.jsbase_form.specs.Trees.{items_seen, kind_at, members_seen, seen}
+use Rattle.jsbase_form.specs.Reads.{Read, ◌>>=◌, at, found, key as key_part}
+use Rattle.jsbase_form.specs.Tables.{table_at}
+use Rattle.jsbase_form.specs.Trees.{items_seen, kind_at, members_seen, seen, value_of}
 use Rattle.jsbase_reader.specs.declared.envelope.Envelope.{Envelope}
-use Rattle.jsbase_reader.specs.Envelopes.{document, envelope_in, marks_in, options_in}
+use Rattle.jsbase_reader.specs.declared.error.ReadError.{ReadError}
+use Rattle.jsbase_reader.specs.Answers.{Gives}
+use Rattle.jsbase_reader.specs.Envelopes.{document, envelope_in, max_depth}
 
 -- members, and others behind them
 abbrev pub joined : Members → Members → Members
@@ -26,12 +29,16 @@ joined (member k j rest) ms = member k j (joined rest ms)
 
 -- the tokens lead over some members to the value of a key
 abbrev pub Leads : ℕ → List ℕ → Members → List Token → List Token → Type 0
-Leads d key before old new = (j : Json) (rest : List Token) → value d new ≡ Some (j, rest)
-    → (n : ℕ) × (length rest ≤ n) × (members (value d) (length old) old ≡ parse_map (joined before) (parse_map (member key j) (members (value d) n rest)))
+Leads d key before old new = (n : ℕ) × (length new ≤ n)
+    × (members (value d) (length old) old ≡ option_and_then (λ p. parse_map (joined before) (parse_map (member key p.0) (members (value d) n p.1))) (value d new))
 
 -- the tokens are the last members of an object, and its end
 abbrev pub Ends : ℕ → Members → List Token → List Token → Type 0
 Ends d ms old new = (n : ℕ) → length old ≤ n → members (value d) n old ≡ Some (ms, new)
+
+-- the tokens are no members of an object, and its end
+abbrev pub NoMembers : ℕ → List Token → Type 0
+NoMembers d old = (n : ℕ) → length old ≤ n → members (value d) n old ≡ None
 
 -- the tokens are the items of an array, and its end, and they are these nodes
 pub record AreItems (d : ℕ) (table : Table) (content : Content) (old new : List Token) (nodes : List Node) : Type 0 where
@@ -79,19 +86,19 @@ pub record IsProgram (d : ℕ) (table : Table) (c : Class) (old new : List Token
   pub read : value d old ≡ Some (program, new)
   pub seen : seen table program (slot.One (content.Node c)) ≡ Ok tree
 
--- a value was read, and it is the envelope
-pub record IsEnvelope (d : ℕ) (c : Class) (old new : List Token) (envelope : Envelope) : Type 0 where
+-- the table of marks among some members
+abbrev pub table_among : Members → Read Table
+table_among ms = at (key_part (codes "marks")) (table_at (value_of (codes "marks") ms))
+
+-- a value was read, and the answer is the envelope that it is, or its fault
+pub record IsWhole (d : ℕ) (c : Class) (old new : List Token) (answer : Result Envelope ReadError) : Type 0 where
   pub whole : Json
   pub read : value d old ≡ Some (whole, new)
-  pub seen : envelope_in c whole ≡ Ok envelope
+  pub gives : Gives answer (envelope_in c whole)
 
--- an envelope round a tree, of its marks and of its other members
-pub record IsAround (table : Table) (others : Members) (tree : Node) (envelope : Envelope) : Type 0 where
-  pub marks : ℕ × ℕ
-  pub marked : marks_in table others ≡ Ok marks
-  pub options : Bool × Bool
-  pub optional : options_in others ≡ Ok options
-  pub is : envelope ≡ record { globals = table; unresolved = marks.0; top = marks.1; keep_class_names = options.0; ignore_eval = options.1; tree = tree }
+-- the envelope of the tokens of a text
+abbrev pub envelope_in_tokens : Class → List Token → Read Envelope
+envelope_in_tokens c ts = found (option_and_then (λ p. if_last p.0 p.1) (value max_depth ts)) >>= envelope_in c
 
 -- the envelope of a text
 abbrev pub envelope_in_document : Class → List ℕ → Read Envelope

@@ -9,7 +9,7 @@ ghost use Rattle.jsbase_form.specs.Known.{MarksKnown};
 ghost use Rattle.swc_tree_node.specs.Fits.{Fits};
 ghost use Rattle.jsbase_reader.specs.Answers.{Gives, GivesView};
 ghost use Rattle.jsbase_reader.specs.Parts.{members_in};
-ghost use Rattle.jsbase_reader.specs.Envelopes.{option_at, marks_in, options_in, envelope_of, envelope_in, text_in, envelope_in_text};
+ghost use Rattle.jsbase_reader.specs.Envelopes.{option_at, marks_in, options_in, envelope_around, envelope_of, envelope_in, text_in, envelope_in_text};
 
 use crate::error::{ReadError, fault, under};
 use crate::leaves::{items_of, read_flag, read_mark, read_pair};
@@ -118,7 +118,7 @@ fn option_in(alloc: Global, object: &Value<'_>, name: &'static str) -> Result<bo
 }
 
 // The mark of names that no scope declares, and that of the outermost scope.
-pub(crate) fn read_marks(
+fn read_marks(
     alloc: Global,
     globals: &Globals,
     object: &Value<'_>,
@@ -155,14 +155,40 @@ fn read_tree(
     }
 }
 
+// The envelope of the members of an object.
 #[tactic(auto, unfolding(crate::specs::Envelopes::envelope_of))]
-fn read_members(alloc: Global, class: Class, object: &Value<'_>) -> Result<Envelope, ReadError>
+pub(crate) fn read_members(
+    alloc: Global,
+    class: Class,
+    object: &Value<'_>,
+) -> Result<Envelope, ReadError>
     ensures { Gives result (envelope_of class (members_in (value_view object.now))) }
 {
     let globals = table_in(alloc, object)?;
     let (unresolved, top) = read_marks(alloc, &globals, object)?;
     let (keep_class_names, ignore_eval) = read_options(alloc, object)?;
     let tree = read_tree(alloc, &globals, class, object)?;
+    Ok(Envelope {
+        globals,
+        unresolved,
+        top,
+        keep_class_names,
+        ignore_eval,
+        tree,
+    })
+}
+
+// The envelope round a tree, of its table of marks and of its other members.
+pub(crate) fn read_around(
+    alloc: Global,
+    globals: Globals,
+    others: &Value<'_>,
+    tree: Node,
+) -> Result<Envelope, ReadError>
+    ensures { Gives result (envelope_around globals (members_in (value_view others.now)) tree) }
+{
+    let (unresolved, top) = read_marks(alloc, &globals, others)?;
+    let (keep_class_names, ignore_eval) = read_options(alloc, others)?;
     Ok(Envelope {
         globals,
         unresolved,
@@ -226,24 +252,24 @@ fn parse<'a>(
     }
 }
 
-// The envelope of a text: statement by statement, and where that is not possible by way of its JSON value, which tells the fault
-// of what has one.
+// The envelope of a text: statement by statement, or by way of its JSON value where a text is other than programs write it, or where
+// the tree itself is at fault: the value tells the path.
 fn read_text(alloc: Global, class: Class, bytes: &[u8]) -> Result<Envelope, ReadError>
     ensures { Gives result (envelope_in_text class bytes.now) }
 {
     let Ok(text) = str::from_utf8(bytes) else {
         return fault(alloc);
     };
-    if let Some(envelope) = read_streamed(alloc, class, text) {
+    let mut scratch = Scratch::new(alloc);
+    if let Some(envelope) = read_streamed(alloc, class, text, &mut scratch)? {
         return Ok(envelope);
     }
-    let mut scratch = Scratch::new(alloc);
     let value = parse(alloc, bytes, &mut scratch)?;
     read_object(alloc, class, &value)
 }
 
-/// The envelope that a text is, whose tree is of a class. A text with a fault in it is read twice: the second reading
-/// finds the path.
+/// The envelope that a text is, whose tree is of a class. What is no JSON is refused where that shows; only a text with a fault in
+/// the tree itself is read twice, and the second reading finds the path.
 ///
 /// # Errors
 ///

@@ -1,26 +1,74 @@
 //! Reading an envelope statement by statement. The JSON value of each statement is let go before the next one is read, so that
 //! no value of the whole text is ever made: it would be the largest thing in memory.
 //!
-//! This is for texts as programs write them: anything else, faults among it, is left to the reading of the whole value.
-ghost use Rattle.std.specs.Prelude.{◌≡◌, ◌∷◌, ◌++◌, [], codes, Ok, IfSome};
+//! This is for texts as programs write them: anything else, and a fault in the tree itself, is left to the reading of the whole value.
+ghost use Rattle.std.specs.Prelude.{◌≡◌, ◌≢◌, ◌<◌, ◌∷◌, [], length, None, Err, Ok, Some, IfOk, IsErrOf, OnOk};
+ghost use Rattle.std.specs.Bool.{MatchBool};
 ghost use Rattle.std.specs.List.{list_any};
 ghost use Rattle.std.specs.Str.{bytes_eq};
+ghost use Rattle.json.specs.Json.{items, value as value_in};
 ghost use Rattle.json.specs.Token.{begin_object as object_begins, begin_array as array_begins};
 ghost use Rattle.json.specs.Value.{members_view, value_view};
-ghost use Rattle.jsbase_form.specs.Reads.{at, key as key_part};
-ghost use Rattle.jsbase_form.specs.Tables.{table_at};
-ghost use Rattle.jsbase_form.specs.Trees.{value_of};
+ghost use Rattle.jsbase_form.specs.Reads.{Read};
 ghost use Rattle.swc_tree_node.specs.declared.node.Node.{List as Many};
+ghost use Rattle.jsbase_reader.specs.declared.streamed.Stop.TheVariants as stop;
+ghost use Rattle.jsbase_reader.specs.Answers.{Gives, GivesIfRead};
 ghost use Rattle.jsbase_reader.specs.Parts.{members_in};
-ghost use Rattle.jsbase_reader.specs.Streamed.{AreItems, Ends, HasStatements, IsAround, IsEnvelope, IsItem, IsMade, IsMember, IsProgram, Leads, envelope_in_document};
+ghost use Rattle.jsbase_reader.specs.Streamed.{AreItems, Ends, HasStatements, IsItem, IsMade, IsMember, IsProgram, IsWhole, Leads, NoMembers, envelope_in_document, envelope_in_tokens, joined as are_joined, table_among};
 
-use crate::envelope::{Envelope, MAX_DEPTH, read_marks, read_options, table_in};
-use crate::nodes::{read, read_kind, read_member};
-use json::{Reader, Scratch, Token, Value};
-use std::alloc::Global;
+use crate::envelope::{Envelope, MAX_DEPTH, read_around, read_members, read_options, table_in};
+use crate::error::{ReadError, fault};
+use crate::leaves::read_mark;
+use crate::nodes::{member, read, read_kind, read_member};
+use json::{Error, Invalid, Reader, Scratch, Token, Value};
+use std::alloc::{AllocError, AllocFailed, Global};
 use swc_tree_items::Items;
 use swc_tree_marks::Globals;
 use swc_tree_node::{Class, Content, Kind, Node, Slot};
+
+/// Why no envelope was read statement by statement.
+#[derive(Clone, Copy, Debug, Drop)]
+pub(crate) enum Stop {
+    /// Memory was refused.
+    NoMemory,
+    /// The text is no JSON, or nests too deep.
+    NoJson,
+    /// The text is to be read by way of its whole value.
+    Otherwise,
+}
+
+impl From<AllocError> for Stop {
+    ghost use Rattle.jsbase_reader.specs.declared.streamed.Stop.TheVariants.{NoMemory};
+    ghost use Rattle.std.specs.Prelude.{◌≡◌};
+
+    ghost from_gives = { λ _ s. s ≡ NoMemory };
+
+    fn from(_refused: AllocError) -> Stop {
+        Stop::NoMemory
+    }
+}
+
+impl<T: Drop> From<AllocFailed<T>> for Stop {
+    ghost use Rattle.jsbase_reader.specs.declared.streamed.Stop.TheVariants.{NoMemory};
+    ghost use Rattle.std.specs.Prelude.{◌≡◌};
+
+    ghost from_gives = { λ _ s. s ≡ NoMemory };
+
+    fn from(_refused: AllocFailed<T>) -> Stop {
+        Stop::NoMemory
+    }
+}
+
+impl From<Invalid> for Stop {
+    ghost use Rattle.jsbase_reader.specs.declared.streamed.Stop.TheVariants.{NoJson};
+    ghost use Rattle.std.specs.Prelude.{◌≡◌};
+
+    ghost from_gives = { λ _ s. s ≡ NoJson };
+
+    fn from(_invalid: Invalid) -> Stop {
+        Stop::NoJson
+    }
+}
 
 type Member<'a> = (&'a str, Value<'a>);
 
@@ -31,52 +79,103 @@ const IN_PROGRAM: usize = MAX_DEPTH - 2;
 
 const IN_STATEMENTS: usize = MAX_DEPTH - 3;
 
-fn object_begins(reader: &mut Reader<'_>) -> Option<()>
-    ensures { IfSome result (λ _. reader.old ≡ object_begins ∷ reader.new) }
+fn object_begins(reader: &mut Reader<'_>) -> Result<(), Stop>
+    ensures begins { OnOk result (reader.old ≡ object_begins ∷ reader.new) }
+    ensures json { result ≢ Err stop.NoJson }
 {
     match reader.next() {
-        Some(Token::BeginObject) => Some(()),
-        _ => None,
+        Some(Token::BeginObject) => Ok(()),
+        _ => Err(Stop::Otherwise),
     }
 }
 
-fn array_begins(reader: &mut Reader<'_>) -> Option<()>
-    ensures { IfSome result (λ _. reader.old ≡ array_begins ∷ reader.new) }
+fn array_begins(reader: &mut Reader<'_>) -> Result<(), Stop>
+    ensures begins { OnOk result (reader.old ≡ array_begins ∷ reader.new) }
+    ensures json { result ≢ Err stop.NoJson }
 {
     match reader.next() {
-        Some(Token::BeginArray) => Some(()),
-        _ => None,
+        Some(Token::BeginArray) => Ok(()),
+        _ => Err(Stop::Otherwise),
     }
 }
 
-// The members of an object before that of a key, whose value is next then.
+// What was read, unless it is at fault: a fault is told by the reading of the whole value.
+fn faultless<T: Drop>(read: Result<T, ReadError>) -> Result<T, Stop>
+    ensures read { (r : Read T) → Gives read r → IfOk result (λ t. r ≡ Ok t) }
+    ensures json { result ≢ Err stop.NoJson }
+{
+    match read {
+        Ok(value) => Ok(value),
+        Err(ReadError::NoMemory) => Err(Stop::NoMemory),
+        Err(ReadError::Fault(_path)) => Err(Stop::Otherwise),
+    }
+}
+
+// The value that is next. It stands apart from what is done with the value, so that the room that reading takes on the stack is
+// given back before that.
+#[inline(never)]
+fn next_value<'a>(alloc: Global, reader: &mut Reader<'a>, depth: usize) -> Result<Value<'a>, Stop>
+    ensures read { IfOk result (λ v. value_in depth reader.old ≡ Some (value_view v, reader.new)) }
+    ensures shorter { OnOk result (length reader.new < length reader.old) }
+    ensures json { IsErrOf result stop.NoJson → value_in depth reader.old ≡ None }
+{
+    match Value::read(alloc, reader, depth) {
+        Ok(value) => Ok(value),
+        Err(Error::OutOfMemory) => Err(Stop::NoMemory),
+        Err(Error::Invalid | Error::TooLong | Error::DuplicateKey) => Err(Stop::NoJson),
+    }
+}
+
+// A member of an object, behind those that were read before it.
+fn read_value<'a>(
+    alloc: Global,
+    reader: &mut Reader<'a>,
+    depth: usize,
+    key: &'a str,
+    members: &mut Vec<Member<'a>>,
+) -> Result<(), Stop>
+    ensures read { OnOk result (IsMember depth key.now reader.old reader.new members.old.items members.new.items) }
+    ensures json { IsErrOf result stop.NoJson → value_in depth reader.old ≡ None }
+{
+    let value = next_value(alloc, reader, depth)?;
+    members.push((key, value))?;
+    Ok(())
+}
+
+// The members of an object before that of a key, as an object, and whether there is one: its value is next then.
 fn members_until<'a>(
     alloc: Global,
     reader: &mut Reader<'a>,
     depth: usize,
     key: &str,
-) -> Option<Vec<Member<'a>>>
-    ensures { IfSome result (λ before. Leads depth key.now (members_view before.items) reader.old reader.new) }
+) -> Result<(Value<'a>, bool), Stop>
+    ensures read { IfOk result (λ read. MatchBool read.1 (Leads depth key.now (members_in (value_view read.0)) reader.old reader.new) (Ends depth (members_in (value_view read.0)) reader.old reader.new)) }
+    ensures json { IsErrOf result stop.NoJson → NoMembers depth reader.old }
 {
     let mut before = Vec::new(alloc);
-    while let Some(next) = reader.next_key().ok()? {
+    while let Some(next) = reader.next_key()? {
         if next == key {
-            return Some(before);
+            return Ok((Value::Object(before), true));
         }
         read_value(alloc, reader, depth, next, &mut before)?;
     }
-    None
+    Ok((Value::Object(before), false))
 }
 
 // The members of an object that are left.
-fn members_left<'a>(alloc: Global, reader: &mut Reader<'a>, depth: usize) -> Option<Vec<Member<'a>>>
-    ensures { IfSome result (λ left. Ends depth (members_view left.items) reader.old reader.new) }
+fn members_left<'a>(
+    alloc: Global,
+    reader: &mut Reader<'a>,
+    depth: usize,
+) -> Result<Vec<Member<'a>>, Stop>
+    ensures read { IfOk result (λ left. Ends depth (members_view left.items) reader.old reader.new) }
+    ensures json { IsErrOf result stop.NoJson → NoMembers depth reader.old }
 {
     let mut left = Vec::new(alloc);
-    while let Some(key) = reader.next_key().ok()? {
+    while let Some(key) = reader.next_key()? {
         read_value(alloc, reader, depth, key, &mut left)?;
     }
-    Some(left)
+    Ok(left)
 }
 
 // The node of one item more of an array.
@@ -87,16 +186,23 @@ fn read_item(
     depth: usize,
     slot: Slot,
     nodes: &mut Items<Node>,
-) -> Option<()>
-    ensures { IfSome result (λ _. IsItem depth globals.now slot reader.old reader.new nodes.old nodes.new) }
+) -> Result<(), Stop>
+    ensures read { OnOk result (IsItem depth globals.now slot reader.old reader.new nodes.old nodes.new) }
+    ensures json { IsErrOf result stop.NoJson → value_in depth reader.old ≡ None }
 {
-    let Ok(value) = Value::read(alloc, reader, depth) else {
-        return None;
-    };
-    let Ok(node) = read(alloc, globals, &value, slot) else {
-        return None;
-    };
-    nodes.push(node).ok()
+    let value = next_value(alloc, reader, depth)?;
+    let node = faultless(read(alloc, globals, &value, slot))?;
+    nodes.push(node)?;
+    Ok(())
+}
+
+// The same nodes, in a list with no more room than they take.
+fn exact(alloc: Global, nodes: Items<Node>) -> Result<Items<Node>, AllocError>
+    ensures { IfOk result (λ list. list ≡ nodes) }
+{
+    let mut list = Items::with_capacity(alloc, nodes.len())?;
+    list.append(nodes)?;
+    Ok(list)
 }
 
 // The nodes of the items of an array.
@@ -106,8 +212,9 @@ fn read_items(
     reader: &mut Reader<'_>,
     depth: usize,
     content: Content,
-) -> Option<Items<Node>>
-    ensures { IfSome result (λ nodes. AreItems depth globals.now content reader.old reader.new nodes) }
+) -> Result<Items<Node>, Stop>
+    ensures read { IfOk result (λ nodes. AreItems depth globals.now content reader.old reader.new nodes) }
+    ensures json { IsErrOf result stop.NoJson → items (value_in depth) (length reader.old) reader.old ≡ None }
 {
     let mut nodes = Items::new(alloc);
     while !reader.take_end_array() {
@@ -120,23 +227,8 @@ fn read_items(
             &mut nodes,
         )?;
     }
-    Some(nodes)
-}
-
-// A member of an object, behind those that were read before it.
-fn read_value<'a>(
-    alloc: Global,
-    reader: &mut Reader<'a>,
-    depth: usize,
-    key: &'a str,
-    members: &mut Vec<Member<'a>>,
-) -> Option<()>
-    ensures { IfSome result (λ _. IsMember depth key.now reader.old reader.new members.old.items members.new.items) }
-{
-    let Ok(value) = Value::read(alloc, reader, depth) else {
-        return None;
-    };
-    members.push((key, value)).ok()
+    let nodes = exact(alloc, nodes)?;
+    Ok(nodes)
 }
 
 // Whether one of the members has a key.
@@ -147,53 +239,48 @@ fn has_key(members: &[Member<'_>], key: &str) -> bool
 }
 
 // The members of an object but for one, as an object: those before it and those behind it.
-fn joined<'a>(alloc: Global, before: Vec<Member<'a>>, behind: Vec<Member<'a>>) -> Option<Value<'a>>
-    ensures { IfSome result (λ v. members_in (value_view v) ≡ members_view (before.entry.items ++ behind.entry.items)) }
+fn joined<'a>(before: Value<'a>, behind: Vec<Member<'a>>) -> Result<Value<'a>, Stop>
+    ensures all { IfOk result (λ v. members_in (value_view v) ≡ are_joined (members_in (value_view before.entry)) (members_view behind.entry.items)) }
+    ensures json { result ≢ Err stop.NoJson }
 {
-    let mut all = Vec::new(alloc);
-    let mut before = before;
     let mut behind = behind;
-    all.append(&mut before).ok()?;
-    all.append(&mut behind).ok()?;
-    Some(Value::Object(all))
-}
-
-// The table of marks among some members, with these.
-fn table_among<'a>(alloc: Global, members: Vec<Member<'a>>) -> Option<(Globals, Vec<Member<'a>>)>
-    ensures { IfSome result (λ found. (found.1.items ≡ members.entry.items)
-        × (at (key_part (codes "marks")) (table_at (value_of (codes "marks") (members_view members.entry.items))) ≡ Ok found.0)) }
-{
-    let object = Value::Object(members);
-    let Ok(globals) = table_in(alloc, &object) else {
-        return None;
-    };
-    match object {
-        Value::Object(members) => Some((globals, members)),
-        Value::Array(_items) => None,
-        Value::Null | Value::Bool(_) | Value::Number(_) | Value::String(_) => None,
+    match before {
+        Value::Object(mut all) => {
+            all.append(&mut behind)?;
+            Ok(Value::Object(all))
+        }
+        Value::Array(_) | Value::Null | Value::Bool(_) | Value::Number(_) | Value::String(_) => {
+            Err(Stop::Otherwise)
+        }
     }
 }
 
 // What the statements of a program are.
-fn statements_of(class: Class) -> Option<Content>
-    ensures { IfSome result (λ content. HasStatements class content) }
+fn statements_of(class: Class) -> Result<Content, Stop>
+    ensures content { IfOk result (λ content. HasStatements class content) }
+    ensures json { result ≢ Err stop.NoJson }
 {
     match class {
-        Class::Module => Some(Content::Node(Class::ModuleItem)),
-        Class::Script => Some(Content::Node(Class::Stmt)),
-        _ => None,
+        Class::Module => Ok(Content::Node(Class::ModuleItem)),
+        Class::Script => Ok(Content::Node(Class::Stmt)),
+        _ => Err(Stop::Otherwise),
     }
 }
 
 // The three fields of a program.
-fn three(alloc: Global, span: Node, body: Items<Node>, shebang: Node) -> Option<Items<Node>>
-    ensures { IfSome result (λ fields. fields ≡ span ∷ Many body ∷ shebang ∷ []) }
+fn three(
+    alloc: Global,
+    span: Node,
+    body: Items<Node>,
+    shebang: Node,
+) -> Result<Items<Node>, AllocError>
+    ensures { IfOk result (λ fields. fields ≡ span ∷ Many body ∷ shebang ∷ []) }
 {
-    let mut fields = Items::with_capacity(alloc, 3).ok()?;
-    fields.push(span).ok()?;
-    fields.push(Node::List(body)).ok()?;
-    fields.push(shebang).ok()?;
-    Some(fields)
+    let mut fields = Items::with_capacity(alloc, 3)?;
+    fields.push(span)?;
+    fields.push(Node::List(body))?;
+    fields.push(shebang)?;
+    Ok(fields)
 }
 
 // A program of its statements and its other members.
@@ -203,21 +290,27 @@ fn program_of(
     class: Class,
     others: &Value<'_>,
     body: Items<Node>,
-) -> Option<Node>
-    ensures { IfSome result (λ tree. IsMade globals.now class (members_in (value_view others.now)) body tree) }
+) -> Result<Node, Stop>
+    ensures made { IfOk result (λ tree. IsMade globals.now class (members_in (value_view others.now)) body tree) }
+    ensures json { result ≢ Err stop.NoJson }
 {
-    let Ok(kind) = read_kind(alloc, class, others) else {
-        return None;
-    };
-    let Ok(span) = read_member(alloc, globals, others, "span", Slot::One(Content::Span)) else {
-        return None;
-    };
+    let kind = faultless(read_kind(alloc, class, others))?;
+    let span = Slot::One(Content::Span);
+    let span = faultless(read_member(alloc, globals, others, "span", span))?;
     let shebang = Slot::Optional(Content::Text);
-    let Ok(shebang) = read_member(alloc, globals, others, "shebang", shebang) else {
-        return None;
-    };
+    let shebang = faultless(read_member(alloc, globals, others, "shebang", shebang))?;
     let fields = three(alloc, span, body, shebang)?;
-    Some(Node::Tree(kind, fields))
+    Ok(Node::Tree(kind, fields))
+}
+
+// Stops at a kind before the statements that is not of the class, before a statement is read.
+fn check_kind(alloc: Global, class: Class, before: &Value<'_>) -> Result<(), Stop>
+    ensures { result ≢ Err stop.NoJson }
+{
+    if member(before, "type").is_some() {
+        let _kind = faultless(read_kind(alloc, class, before))?;
+    }
+    Ok(())
 }
 
 // The program of a class whose value is next.
@@ -226,69 +319,114 @@ fn read_program(
     globals: &Globals,
     class: Class,
     reader: &mut Reader<'_>,
-) -> Option<Node>
-    ensures { IfSome result (λ tree. IsProgram 126 globals.now class reader.old reader.new tree) }
+) -> Result<Node, Stop>
+    ensures read { IfOk result (λ tree. IsProgram 126 globals.now class reader.old reader.new tree) }
+    ensures json { IsErrOf result stop.NoJson → value_in 126 reader.old ≡ None }
 {
     let statements = statements_of(class)?;
     object_begins(reader)?;
-    let before = members_until(alloc, reader, IN_PROGRAM, "body")?;
+    let (before, has_body) = members_until(alloc, reader, IN_PROGRAM, "body")?;
+    if !has_body {
+        return Err(Stop::Otherwise);
+    }
+    check_kind(alloc, class, &before)?;
     array_begins(reader)?;
     let body = read_items(alloc, globals, reader, IN_STATEMENTS, statements)?;
     let behind = members_left(alloc, reader, IN_PROGRAM)?;
     if has_key(behind.as_slice(), "body") {
-        return None;
+        return Err(Stop::Otherwise);
     }
-    let others = joined(alloc, before, behind)?;
+    let others = joined(before, behind)?;
     let tree = program_of(alloc, globals, class, &others, body)?;
-    Some(tree)
+    Ok(tree)
 }
 
-// The envelope of a tree, with its marks, and of its other members.
-fn envelope_of(alloc: Global, globals: Globals, others: &Value<'_>, tree: Node) -> Option<Envelope>
-    ensures { IfSome result (λ envelope. IsAround globals (members_in (value_view others.now)) tree envelope) }
+// Stops at a mark before the tree that is at fault.
+fn check_mark(
+    alloc: Global,
+    globals: &Globals,
+    before: &Value<'_>,
+    name: &'static str,
+) -> Result<(), Stop>
+    ensures { result ≢ Err stop.NoJson }
 {
-    let Ok((unresolved, top)) = read_marks(alloc, &globals, others) else {
-        return None;
-    };
-    let Ok((keep_class_names, ignore_eval)) = read_options(alloc, others) else {
-        return None;
-    };
-    Some(Envelope {
-        globals,
-        unresolved,
-        top,
-        keep_class_names,
-        ignore_eval,
-        tree,
-    })
+    if let Some(value) = member(before, name) {
+        let _mark = faultless(read_mark(alloc, globals, value))?;
+    }
+    Ok(())
 }
 
-// The envelope of a program whose value is next.
-fn read_whole(alloc: Global, class: Class, reader: &mut Reader<'_>) -> Option<Envelope>
-    ensures { IfSome result (λ envelope. IsEnvelope 127 class reader.old reader.new envelope) }
+// The table of marks before the tree. What else stands there is judged too, so that it is not at fault only once the tree was read.
+fn read_table(alloc: Global, before: &Value<'_>) -> Result<Globals, Stop>
+    ensures table { IfOk result (λ globals. table_among (members_in (value_view before.now)) ≡ Ok globals) }
+    ensures json { result ≢ Err stop.NoJson }
+{
+    let globals = faultless(table_in(alloc, before))?;
+    check_mark(alloc, &globals, before, "unresolved")?;
+    check_mark(alloc, &globals, before, "top")?;
+    let _options = faultless(read_options(alloc, before))?;
+    Ok(globals)
+}
+
+// The envelope whose value is next, as the value gives it.
+fn read_whole(
+    alloc: Global,
+    class: Class,
+    reader: &mut Reader<'_>,
+) -> Result<Result<Envelope, ReadError>, Stop>
+    ensures read { IfOk result (IsWhole 127 class reader.old reader.new) }
+    ensures json { IsErrOf result stop.NoJson → value_in 127 reader.old ≡ None }
 {
     object_begins(reader)?;
-    let before = members_until(alloc, reader, IN_ENVELOPE, "tree")?;
-    let (globals, before) = table_among(alloc, before)?;
+    let (before, has_tree) = members_until(alloc, reader, IN_ENVELOPE, "tree")?;
+    if !has_tree {
+        return Ok(read_members(alloc, class, &before));
+    }
+    let globals = read_table(alloc, &before)?;
     let tree = read_program(alloc, &globals, class, reader)?;
     let behind = members_left(alloc, reader, IN_ENVELOPE)?;
     if has_key(behind.as_slice(), "tree") || has_key(behind.as_slice(), "marks") {
-        return None;
+        return Err(Stop::Otherwise);
     }
-    let others = joined(alloc, before, behind)?;
-    let envelope = envelope_of(alloc, globals, &others, tree)?;
-    Some(envelope)
+    let others = joined(before, behind)?;
+    Ok(read_around(alloc, globals, &others, tree))
+}
+
+// The envelope that a whole text is, as its value gives it.
+fn read_document(
+    alloc: Global,
+    class: Class,
+    reader: &mut Reader<'_>,
+) -> Result<Result<Envelope, ReadError>, Stop>
+    ensures read { IfOk result (λ read. Gives read (envelope_in_tokens class reader.old)) }
+    ensures json { IsErrOf result stop.NoJson → envelope_in_tokens class reader.old ≡ Err [] }
+{
+    let read = read_whole(alloc, class, reader)?;
+    match reader.next() {
+        Some(_) => Err(Stop::NoJson),
+        None => Ok(read),
+    }
 }
 
 /// The envelope that a text is, whose tree is of a class, if the text is read statement by statement.
-pub fn read_streamed(alloc: Global, class: Class, text: &str) -> Option<Envelope>
-    ensures { IfSome result (λ envelope. envelope_in_document class text.now ≡ Ok envelope) }
+///
+/// # Errors
+///
+/// As `read_bytes`.
+pub fn read_streamed<'a>(
+    alloc: Global,
+    class: Class,
+    text: &'a str,
+    scratch: &'a mut Scratch,
+) -> Result<Option<Envelope>, ReadError>
+    ensures { GivesIfRead result (envelope_in_document class text.now) }
 {
-    let mut scratch = Scratch::new(alloc);
-    let mut reader = Reader::new(text, &mut scratch).ok()?;
-    let envelope = read_whole(alloc, class, &mut reader)?;
-    match reader.next() {
-        Some(_) => None,
-        None => Some(envelope),
+    let mut reader = Reader::new(text, scratch)?;
+    match read_document(alloc, class, &mut reader) {
+        Ok(Ok(envelope)) => Ok(Some(envelope)),
+        Ok(Err(error)) => Err(error),
+        Err(Stop::NoMemory) => Err(ReadError::NoMemory),
+        Err(Stop::NoJson) => fault(alloc),
+        Err(Stop::Otherwise) => Ok(None),
     }
 }
