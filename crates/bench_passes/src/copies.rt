@@ -36,7 +36,7 @@ fn copy_ident(by: Names<'_>, ident: &Ident) -> Result<Boxed<Ident>, AllocError> 
 }
 
 #[cycle(copy)]
-#[tactic(auto, using(crate::proofs::Alike::lists_alike, crate::proofs::Alike::trees_alike, crate::proofs::Alike::identifiers_alike))]
+#[tactic(auto, using(crate::proofs::Alike::fits_list, crate::proofs::Alike::fits_identifier, crate::proofs::Alike::fits_tree))]
 fn copy(by: Names<'_>, node: &Node) -> Result<Node, AllocError>
     ensures { IfOk result (λ copy. fits copy ≡ fits node.now) }
 {
@@ -71,7 +71,8 @@ fn copy_all(by: Names<'_>, nodes: &[Node]) -> Result<Items<Node>, AllocError>
 #[tactic(auto, using(crate::proofs::Alike::all_alike))]
 pub fn copy_template(alloc: Global, names: &[JsWord], template: &Module) -> Result<Module> {
     let by = Names { alloc, names };
-    let body = copy_all(by, template.body.as_slice())?;
+    let items = template.body.as_slice();
+    let body = copy_all(by, items)?;
     Ok(Module {
         span: template.span,
         body: Trees::from_nodes(body),
