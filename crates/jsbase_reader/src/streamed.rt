@@ -408,6 +408,14 @@ fn read_document(
     }
 }
 
+// Whether a text ends as an object does, but for blanks. One that was cut off mostly doesn't, and then the reading of its whole value
+// tells so with no node made.
+fn ends_as_object(text: &str) -> bool {
+    let mut from_the_end = text.as_bytes().iter().rev();
+    let last = from_the_end.find(|byte| !matches!(**byte, b' ' | b'\t' | b'\n' | b'\r'));
+    matches!(last, Some(b'}'))
+}
+
 /// The envelope that a text is, whose tree is of a class, if the text is read statement by statement.
 ///
 /// # Errors
@@ -421,6 +429,9 @@ pub fn read_streamed<'a>(
 ) -> Result<Option<Envelope>, ReadError>
     ensures { GivesIfRead result (envelope_in_document class text.now) }
 {
+    if !ends_as_object(text) {
+        return Ok(None);
+    }
     let mut reader = Reader::new(text, scratch)?;
     match read_document(alloc, class, &mut reader) {
         Ok(Ok(envelope)) => Ok(Some(envelope)),
