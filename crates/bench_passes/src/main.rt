@@ -6,7 +6,6 @@
 #![tactic(auto)]
 
 mod bindings;
-mod copies;
 mod digest;
 mod files;
 mod lowered;
