@@ -18,7 +18,7 @@ ghost use Rattle.jsbase_reader.specs.Streamed.{AreItems, Ends, HasStatements, Is
 
 use crate::envelope::{Envelope, MAX_DEPTH, read_around, read_members, read_options, table_in};
 use crate::error::{ReadError, fault};
-use crate::leaves::read_mark;
+use crate::leaves::{is_marked, read_mark};
 use crate::nodes::{member, read, read_kind, read_member};
 use json::{Error, Invalid, Reader, Scratch, Token, Value};
 use std::alloc::{AllocError, AllocFailed, Global};
@@ -356,23 +356,36 @@ fn check_mark(
     Ok(())
 }
 
-// The table of marks before the tree. What else stands there is judged too, so that it is not at fault only once the tree was read.
-fn read_table(alloc: Global, before: &Value<'_>) -> Result<Globals, Stop>
+// Stops at a mark behind the tree that the table doesn't know.
+fn check_behind(globals: &Globals, behind: Option<u32>) -> Result<(), Stop>
+    ensures { result ≢ Err stop.NoJson }
+{
+    match behind {
+        Some(number) if !is_marked(globals, number) => Err(Stop::Otherwise),
+        _ => Ok(()),
+    }
+}
+
+// The table of marks before the tree. What else stands there is judged too, and the mark that is seen behind the tree, so that none
+// is at fault only once the tree was read.
+fn read_table(alloc: Global, before: &Value<'_>, behind: Option<u32>) -> Result<Globals, Stop>
     ensures table { IfOk result (λ globals. table_among (members_in (value_view before.now)) ≡ Ok globals) }
     ensures json { result ≢ Err stop.NoJson }
 {
     let globals = faultless(table_in(alloc, before))?;
+    check_behind(&globals, behind)?;
     check_mark(alloc, &globals, before, "unresolved")?;
     check_mark(alloc, &globals, before, "top")?;
     let _options = faultless(read_options(alloc, before))?;
     Ok(globals)
 }
 
-// The envelope whose value is next, as the value gives it.
+// The envelope whose value is next, as the value gives it, with the mark that is seen behind its tree.
 fn read_whole(
     alloc: Global,
     class: Class,
     reader: &mut Reader<'_>,
+    behind: Option<u32>,
 ) -> Result<Result<Envelope, ReadError>, Stop>
     ensures read { IfOk result (IsWhole 127 class reader.old reader.new) }
     ensures json { IsErrOf result stop.NoJson → value_in 127 reader.old ≡ None }
@@ -382,7 +395,7 @@ fn read_whole(
     if !has_tree {
         return Ok(read_members(alloc, class, &before));
     }
-    let globals = read_table(alloc, &before)?;
+    let globals = read_table(alloc, &before, behind)?;
     let tree = read_program(alloc, &globals, class, reader)?;
     let behind = members_left(alloc, reader, IN_ENVELOPE)?;
     if has_key(behind.as_slice(), "tree") || has_key(behind.as_slice(), "marks") {
@@ -392,16 +405,17 @@ fn read_whole(
     Ok(read_around(alloc, globals, &others, tree))
 }
 
-// The envelope that a whole text is, as its value gives it.
+// The envelope that a whole text is, as its value gives it, with the mark that is seen behind its tree.
 fn read_document(
     alloc: Global,
     class: Class,
     reader: &mut Reader<'_>,
+    behind: Option<u32>,
 ) -> Result<Result<Envelope, ReadError>, Stop>
     ensures read { IfOk result (λ read. Gives read (envelope_in_tokens class reader.old)) }
     ensures json { IsErrOf result stop.NoJson → envelope_in_tokens class reader.old ≡ Err [] }
 {
-    let read = read_whole(alloc, class, reader)?;
+    let read = read_whole(alloc, class, reader, behind)?;
     match reader.next() {
         Some(_) => Err(Stop::NoJson),
         None => Ok(read),
@@ -414,6 +428,33 @@ fn ends_as_object(text: &str) -> bool {
     let mut from_the_end = text.as_bytes().iter().rev();
     let last = from_the_end.find(|byte| !matches!(**byte, b' ' | b'\t' | b'\n' | b'\r'));
     matches!(last, Some(b'}'))
+}
+
+// Whether an object is seen to end in the last sixteenth of a text and another to begin right behind it, which no JSON has but in a
+// string: then something stands behind the envelope, and the reading of its whole value tells so with no node made.
+fn goes_on(text: &str) -> bool {
+    let mut has_ended = false;
+    for byte in &text.as_bytes()[text.len() - text.len() / 16..] {
+        match *byte {
+            b'}' => has_ended = true,
+            b'{' if has_ended => return true,
+            b' ' | b'\t' | b'\n' | b'\r' => {}
+            _ => has_ended = false,
+        }
+    }
+    false
+}
+
+// How much of a text's end is looked at for the mark behind the tree.
+const LAST_MEMBER: usize = 64;
+
+// The number of the last member of an envelope as programs write it, in which that is the mark of names that no scope declares.
+fn mark_behind(text: &str) -> Option<u32> {
+    let end = text.get(text.len().saturating_sub(LAST_MEMBER)..)?;
+    let members = end.trim_ascii_end().strip_suffix('}')?;
+    let (_before, value) = members.rsplit_once("\"unresolved\"")?;
+    let number = value.trim_ascii_start().strip_prefix(':')?;
+    number.trim_ascii().parse().ok()
 }
 
 /// The envelope that a text is, whose tree is of a class, if the text is read statement by statement.
@@ -429,11 +470,11 @@ pub fn read_streamed<'a>(
 ) -> Result<Option<Envelope>, ReadError>
     ensures { GivesIfRead result (envelope_in_document class text.now) }
 {
-    if !ends_as_object(text) {
+    if !ends_as_object(text) || goes_on(text) {
         return Ok(None);
     }
     let mut reader = Reader::new(text, scratch)?;
-    match read_document(alloc, class, &mut reader) {
+    match read_document(alloc, class, &mut reader, mark_behind(text)) {
         Ok(Ok(envelope)) => Ok(Some(envelope)),
         Ok(Err(error)) => Err(error),
         Err(Stop::NoMemory) => Err(ReadError::NoMemory),
