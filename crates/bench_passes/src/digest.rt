@@ -1,6 +1,10 @@
-//! A digest of results: the hash of Fowler, Noll and Vo, over 64 bits.
-use swc_tree::{Ident, Span};
-use swc_tree_node::{Kind, Node};
+//! A digest of results: the hash of Fowler, Noll and Vo, over 64 bits, which takes whole numbers too.
+//!
+//! It takes in all that a result holds: of each node which of the forms it has, its kind, how many parts, and what it says.
+//! No memory is asked for.
+use swc_tree::{Globals, Ident, Module, Span};
+use swc_tree_node::Node;
+use swc_tree_walk::Site;
 
 /// What was made so far.
 #[derive(Clone, Copy)]
@@ -21,9 +25,16 @@ impl Digest {
         self.hash
     }
 
-    /// One number more.
-    pub fn number(&mut self, number: u64) {
+    fn number(&mut self, number: u64) {
         self.hash = (self.hash ^ number).wrapping_mul(0x100_0000_01b3);
+    }
+
+    fn flag(&mut self, flag: bool) {
+        self.number(if flag { 1 } else { 0 });
+    }
+
+    fn count(&mut self, count: usize) {
+        self.number(count as u64);
     }
 
     /// Some bytes more.
@@ -35,43 +46,102 @@ impl Digest {
         self.hash = hash;
     }
 
+    // A text: how many bytes it has, and they.
+    fn text(&mut self, text: &str) {
+        self.count(text.len());
+        self.bytes(text.as_bytes());
+    }
+
     fn span(&mut self, span: Span) {
         self.number(u64::from(span.lo));
         self.number(u64::from(span.hi));
     }
 
-    /// One identifier more: its text and its marks.
-    pub fn ident(&mut self, ident: &Ident) {
-        self.bytes(ident.sym.as_str().as_bytes());
-        for mark in ident.ctxt.marks() {
+    fn ident(&mut self, ident: &Ident) {
+        self.span(ident.span);
+        self.text(ident.sym.as_str());
+        let marks = ident.ctxt.marks();
+        self.count(marks.len());
+        for mark in marks {
             self.number(u64::from(mark.as_u32()));
         }
     }
 
-    /// Some trees more: of each node whether it is a pair, its number of parts, its texts and its spans.
-    #[cycle(digest)]
-    pub fn trees(&mut self, nodes: &[Node]) {
-        for node in nodes {
-            self.tree(node);
+    /// A table of marks more: of each mark its number and its parent's.
+    pub fn globals(&mut self, globals: &Globals) {
+        let table = globals.table();
+        self.count(table.len());
+        for (mark, parent) in table {
+            self.number(u64::from(*mark));
+            self.number(u64::from(*parent));
+        }
+    }
+
+    /// A module more, with its `#!` line.
+    pub fn module(&mut self, module: &Module) {
+        self.span(module.span);
+        self.nodes(module.body.as_slice());
+        match &module.shebang {
+            None => self.flag(false),
+            Some(line) => {
+                self.flag(true);
+                self.text(line.as_str());
+            }
+        }
+    }
+
+    /// The names of a tree more: of each as what it stands, what that makes of it, and the identifier.
+    pub fn sites(&mut self, sites: &[Site<'_>]) {
+        self.count(sites.len());
+        for site in sites {
+            self.number(u64::from(site.standing as u8));
+            self.flag(site.is_reference());
+            self.flag(site.is_binding());
+            self.ident(site.ident);
         }
     }
 
     #[cycle(digest)]
-    fn tree(&mut self, node: &Node) {
+    fn nodes(&mut self, nodes: &[Node]) {
+        self.count(nodes.len());
+        for node in nodes {
+            self.node(node);
+        }
+    }
+
+    #[cycle(digest)]
+    fn node(&mut self, node: &Node) {
         match node {
             Node::Absent => self.number(1),
-            Node::Flag(flag) => self.number(if *flag { 2 } else { 3 }),
-            Node::Word(_) => self.number(4),
-            Node::Text(text) => self.bytes(text.as_str().as_bytes()),
-            Node::Span(span) => self.span(*span),
-            Node::Identifier(_, ident) => self.ident(ident.get()),
-            Node::List(items) => {
+            Node::Flag(flag) => {
+                self.number(2);
+                self.flag(*flag);
+            }
+            Node::Word(word) => {
+                self.number(3);
+                self.number(u64::from(*word as u8));
+            }
+            Node::Text(text) => {
+                self.number(4);
+                self.text(text.as_str());
+            }
+            Node::Span(span) => {
                 self.number(5);
-                self.trees(items.as_slice());
+                self.span(*span);
+            }
+            Node::List(items) => {
+                self.number(6);
+                self.nodes(items.as_slice());
+            }
+            Node::Identifier(kind, ident) => {
+                self.number(7);
+                self.number(u64::from(*kind as u8));
+                self.ident(ident.get());
             }
             Node::Tree(kind, fields) => {
-                self.number(if *kind == Kind::ParenExpr { 6 } else { 7 });
-                self.trees(fields.as_slice());
+                self.number(8);
+                self.number(u64::from(*kind as u8));
+                self.nodes(fields.as_slice());
             }
         }
     }

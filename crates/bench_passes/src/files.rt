@@ -1,23 +1,28 @@
 //! Files that are made of the module on standard input.
 use crate::bindings::Bound;
+use crate::copies::copy_template;
 use crate::random::Random;
 use anyhow::{Result, bail};
 use jsbase_reader::read_bytes;
 use std::alloc::Global;
 use std::collections::HashMap;
 use swc_ecma_transforms_base::rename::rename;
-use swc_tree::{Globals, Id, JsPass, JsWord, Mark, Module, Opened};
+use swc_tree::{Globals, JsPass, JsWord, Mark, Module, Opened};
 use swc_tree_items::Text;
 use swc_tree_node::Class;
 
-/// The module that files are made of, the ids that it binds, its marks, and what names are called anew by.
+/// The module that files are made of, its marks, and what names are called anew by.
+///
+/// In the template a number stands for each name that the module binds, which no program has for a name, and what the names
+/// stood for beside is written out. So a copy with other names takes one walk.
 #[derive(Drop)]
 pub struct Source {
     pub globals: Globals,
     pub top: Mark,
     pub unresolved: Mark,
     random: Random,
-    bound: Bound,
+    names: Vec<JsWord>,
+    template: Module,
 }
 
 /// A module with its table of marks.
@@ -37,33 +42,42 @@ impl Source {
         let Ok(envelope) = read_bytes(alloc, Class::Module, input) else {
             bail!("standard input is no envelope of a module, or memory was refused");
         };
+        let Bound {
+            program: mut template,
+            ids,
+        } = Bound::of(alloc, Module::from_node(envelope.tree))?;
+        let mut names = Vec::new(alloc);
+        let mut numbers = HashMap::new(alloc);
+        for (number, id) in ids.into_iter().enumerate() {
+            names.push(id.0.clone()?)?;
+            numbers.insert(id, Text::from_string(format!(in alloc; "{number}")?))?;
+        }
+        let mut globals = Globals::from_table(alloc, envelope.globals.table())?;
+        rename(&numbers).visit_mut_module(alloc, &mut globals, &mut template)?;
         Ok(Source {
             globals: envelope.globals,
             top: envelope.top,
             unresolved: envelope.unresolved,
             random: Random::new(seed),
-            bound: Bound::of(alloc, Module::from_node(envelope.tree))?,
+            names,
+            template,
         })
     }
 
-    // The name that an id has in one copy: each has a number of five digits, by which copies differ.
-    fn texts(&mut self, alloc: Global) -> Result<HashMap<Id, JsWord>> {
-        let mut texts = HashMap::new(alloc);
-        for id in &self.bound.ids {
+    // The names of one copy: each has a number of five digits, by which copies differ.
+    fn names(&mut self, alloc: Global) -> Result<Vec<JsWord>> {
+        let mut names = Vec::with_capacity(alloc, self.names.len())?;
+        for name in &self.names {
             let number = 10_000 + self.random.next() % 90_000;
-            let text = format!(in alloc; "{}{number}", id.0)?;
-            texts.insert((id.0.clone()?, id.1.clone()?), Text::from_string(text))?;
+            names.push(Text::from_string(format!(in alloc; "{name}{number}")?))?;
         }
-        Ok(texts)
+        Ok(names)
     }
 
     // A copy of the module with names of its own.
     fn copy(&mut self, alloc: Global) -> Result<Module> {
-        let texts = self.texts(alloc)?;
-        let mut globals = Globals::from_table(alloc, self.globals.table())?;
-        let mut copy = self.bound.program.clone()?;
-        rename(&texts).visit_mut_module(alloc, &mut globals, &mut copy)?;
-        Ok(copy)
+        let names = self.names(alloc)?;
+        copy_template(alloc, names.as_slice(), &self.template)
     }
 
     /// A file of so many copies.

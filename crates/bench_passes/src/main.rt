@@ -6,6 +6,7 @@
 #![tactic(auto)]
 
 mod bindings;
+mod copies;
 mod digest;
 mod files;
 mod lowered;

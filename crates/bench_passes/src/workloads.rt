@@ -105,7 +105,8 @@ fn finish(
         None::<&mut NoComments>,
         &mut module,
     )?;
-    digest.trees(module.body.as_slice());
+    digest.module(&module);
+    digest.globals(&globals);
     Ok(())
 }
 
@@ -118,18 +119,17 @@ fn minify(alloc: Global, marks: Marks, mut file: File, digest: &mut Digest) -> R
     paren_remover(None::<&mut NoComments>).visit_mut_module(alloc, &mut globals, &mut module)?;
     renamer(Config::default(), Letters).visit_mut_module(alloc, &mut globals, &mut module)?;
     fixer(None::<&mut NoComments>).visit_mut_module(alloc, &mut globals, &mut module)?;
-    digest.trees(module.body.as_slice());
+    digest.module(&module);
+    digest.globals(&globals);
     Ok(())
 }
 
 fn lint(alloc: Global, marks: Marks, mut file: File, digest: &mut Digest) -> Result<()> {
     resolve(alloc, marks, &mut file)?;
-    let tree = file.module.into_node(alloc)?;
-    for site in sites(alloc, &tree)? {
-        if site.is_reference() || site.is_binding() {
-            digest.ident(site.ident);
-        }
-    }
+    let File { globals, module } = file;
+    let tree = module.into_node(alloc)?;
+    digest.sites(sites(alloc, &tree)?.as_slice());
+    digest.globals(&globals);
     Ok(())
 }
 
