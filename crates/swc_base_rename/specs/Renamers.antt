@@ -27,8 +27,8 @@ module _ {X : Type 0} (text : X → Id → ℕ → List ℕ) (preserved : X → 
     pub same : kept.config ≡ pass.config
     pub marks : new ≡ old
 
-  -- a program is refused for want of memory, and where the counters are spent, since so many texts are taken, by a renamer that was asked
-  -- once; configuration and table are as they were
+  -- a program is refused for want of memory, and where the counters are spent: as many texts are preserved and ids named before an id as there
+  -- are counters from its start on; the renamer was asked once, and configuration and table are as they were
   pub record RefusesNames (pass : RenamePass X) (old : Table) (before : Node) (kept : RenamePass X) (new : Table) (e : PassError) : Type 0 where
     pub refusal : IsRenameRefusal old pass.config (renaming_in pass.renamer kept.renamer before) before e
     pub apart : TellsApart (renaming_in pass.renamer kept.renamer before) greatest

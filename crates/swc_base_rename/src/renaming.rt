@@ -75,7 +75,9 @@ impl<R: Renamer> JsPass for RenamePass<R> {
     /// # Errors
     ///
     /// `CounterSpent` where for an id no counter from its start and below the greatest `usize` gives a free text, so that there are
-    /// as many preserved texts and ids named before it, and `NoMemory`. The program is then empty, with its span and no `#!` line.
+    /// as many preserved texts and ids named before it as counters from its start to the greatest, and `NoMemory`. Any start will
+    /// do, but where the renamer goes on counting within a scope, only one behind the counters of the scope's earlier ids. The
+    /// program is then empty, with its span and no `#!` line.
     fn visit_mut_module(
         &mut self,
         alloc: Global,

@@ -38,7 +38,7 @@ module _ (table : Table) (config : Config) (r : Renaming) (t : Node) where
   IsCrowdedByUnits (inl s) = IsCrowded t s.kept (IsPreservedByTop config.top_level_mark t r.preserves) (counting t r) s.spent
   IsCrowdedByUnits (inr s) = IsCrowded s.1 r (IsPreservedInUnit config.top_level_mark t r.preserves s.1) (counting s.1 r) s.3
 
-  -- where the counters are spent there are as many preserved texts and ids named before as there are counters
+  -- where the counters are spent at an id there are as many preserved texts and ids named before it as counters from its start on
   pub record IsCrowdedBy (h : IsSpentBy table config r t) : Type 0 where
     pub whole : (unread : ¬ IsRead config t) → IsCrowded t r (IsPreserved t r.preserves) (counting t r) (h.whole unread)
     pub by_units : (read : IsRead config t) → IsCrowdedByUnits (h.by_units read)

@@ -21,7 +21,8 @@ pub fn maps_have_bounds()
     ensures { MapsHaveBounds }
 {}
 
-/// Where the counters are spent, there are as many preserved texts and ids named before as there are counters.
+/// Where the counters are spent at an id, there are as many preserved texts and ids named before it as there are counters from its
+/// start on.
 pub fn refusals_are_of_crowding()
     ensures { RefusalsAreOfCrowding }
 {}
