@@ -10,15 +10,17 @@ use Rattle.swc_tree_grammar.specs.Targets.{all_bare}
 use Rattle.swc_base_fixer_unparen.specs.Moves.{LeadTo, Moving}
 use Rattle.swc_base_fixer_program.specs.Answers.{answer_to, moves_for}
 use Rattle.swc_base_fixer.specs.Lent.{Behind}
+use Rattle.swc_base_fixer.specs.Promises.{Promises}
 
 module _ {C : Type 0} (R : Moving C) where
-  -- the program has its due pairs, and each parenthesised target took a value; the comments of the pairs that it has no
-  -- more moved, and the table of marks is as it was
+  -- the program has its due pairs, and each parenthesised target took a value; what is promised of such an answer holds; the
+  -- comments of the pairs that it has no more moved, and the table of marks is as it was
   pub record FixesNode (lent : Option (MutBor C)) (old : Table) (before : Node) (kept : Option (MutBor C)) (new : Table) (after : Node) : Type 0 where
     pub answer : after ≡ answer_to before
     pub assignable : all_bare before ≡ true
     pub comments : Behind (λ c d. LeadTo R c (moves_for before) d) lent kept
     pub table : new ≡ old
+    pub promises : Promises before after
 
   abbrev pub Fixes : Option (MutBor C) → Table → Module → Option (MutBor C) → Table → Module → Type 0
   Fixes lent old before kept new after = FixesNode lent old (module_node before) kept new (module_node after)
