@@ -1,4 +1,5 @@
 -- What is promised of a module that is finished, and of a source that is chained, by the laws of each.
+use Rattle.std.proofs.Common.{◌∙◌}
 use Rattle.swc_base_rename_errors_laws.specs.Laws.{AnswerHasNoEarlyErrorOfNames}
 use Rattle.swc_ecma_transforms_base_laws.specs.Finished.{FinishingKeepsIds, FinishingKeepsMeanings, FinishingKeepsModules, FinishingKeepsSpans, FinishingMeetsNoTarget}
 use Rattle.swc_ecma_transforms_base_laws.specs.Headline.{ChainingKeepsSources, FinishingKeepsPromises}
@@ -29,7 +30,8 @@ keeps_sources ready promises bare config place unresolved top old new source res
         ids = kept.ids is.well_scoped;
         meanings = kept.meanings is.well_scoped;
         no_early_error = kept.no_early_error is.well_scoped;
-        spans = kept.spans;
+        spans = is.placed ∙ kept.spans;
+        resolved_spans = kept.spans;
       },
       bare new config resolved middle is.fits is.finishable h,
     )

@@ -43,7 +43,8 @@ pub record KeepsItsPromises (before after : Node) : Type 0 where
   pub no_early_error : WellScoped before → NoEarlyErrorOfNames after
   pub spans : SameButForNames (normal.normal_form before) (normal.normal_form after)
 
--- the same of a source that is resolved first: its names mean the ids that the resolver found, and so do those of the answer
+-- the same of a source that is resolved first: its names mean the ids that the resolver found, and so do those of the answer; what is
+-- in the normal form stands where it stood in the source, and in the resolved one
 pub record KeepsItsSource (unresolved top : ℕ) (old new : Table) (before after : Node) : Type 0 where
   pub resolved : Node
   pub meant : Resolved unresolved top old new before resolved
@@ -53,7 +54,8 @@ pub record KeepsItsSource (unresolved top : ℕ) (old new : Table) (before after
   pub ids : KeepsIds resolved after
   pub meanings : KeepsMeanings resolved after
   pub no_early_error : NoEarlyErrorOfNames after
-  pub spans : SameButForNames (normal.normal_form resolved) (normal.normal_form after)
+  pub spans : SameButForNames (normal.normal_form before) (normal.normal_form after)
+  pub resolved_spans : SameButForNames (normal.normal_form resolved) (normal.normal_form after)
 
 -- there is no other refusal: neither marks nor targets are to blame
 abbrev pub IsOfMemoryOrCounters : PassError → Type 0

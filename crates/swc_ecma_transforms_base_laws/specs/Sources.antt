@@ -9,9 +9,12 @@ use Rattle.swc_tree_node.specs.Fits.{Fits}
 use Rattle.swc_tree_scoping.specs.Resolved.{Resolved}
 use Rattle.swc_tree_scoping.specs.WellScoped.{IsClean, NoEarlyErrorOfNames, WellScoped}
 use Rattle.swc_tree_renaming.specs.Apart.{MeanTheirIds}
+use Rattle.swc_tree_grammar.specs.Normal.{normal_form}
 use Rattle.swc_tree_grammar.specs.Same.{SameButForBoundNames}
 use Rattle.swc_tree_grammar.specs.Writable.{Writable}
 use Rattle.swc_base_rename_substitution.specs.declared.config.Config.{Config}
+use Rattle.swc_base_rename_units.specs.Eval.{HasEval}
+use Rattle.swc_base_rename_laws.specs.NewNames.{SameButForNames}
 use Rattle.swc_base_rename_hygiene_laws.specs.Laws.{IsFinishable, IsPlain}
 
 -- a module without contexts and early errors of names that can be written down, in which nothing reads names and where classes
@@ -23,13 +26,16 @@ pub record IsSource (config : Config) (t : Node) : Type 0 where
   pub plain : IsPlain config t
 
 -- a well-scoped module that hygiene and the fixer may finish, whose ids are what the names of the source mean; what is the same as it
--- but for bound names is so to the source
+-- but for bound names is so to the source; its normal form is the source's, spans too, but for contexts; and nothing reads names in it
+-- where nothing did in the source
 pub record IsReady (config : Config) (source resolved : Node) : Type 0 where
   pub fits : Fits resolved (slot.One (content.Node class.Module))
   pub finishable : IsFinishable config resolved
   pub well_scoped : WellScoped resolved
   pub found : MeanTheirIds source resolved
   pub same : (answer : Node) → SameButForBoundNames resolved answer → SameButForBoundNames source answer
+  pub placed : SameButForNames (normal_form source) (normal_form resolved)
+  pub unread : ¬ HasEval source → ¬ HasEval resolved
 
 -- such a source is ready once it is resolved, where the table has the mark of free names
 abbrev pub ResolvedSourcesAreReady : Type 0
