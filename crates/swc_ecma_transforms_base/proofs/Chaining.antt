@@ -18,7 +18,8 @@ use Rattle.swc_base_fixer_program.specs.Answers.{answer_to}
 use Rattle.swc_base_resolver.specs.Visits.{ResolvesNode}
 use Rattle.swc_base_resolver_program.specs.Marked.{IsRefusal, MarksOk}
 use Rattle.swc_base_rename_substitution.specs.declared.config.Config.{Config}
-use Rattle.swc_ecma_transforms_base_laws.specs.Sources.{IsSource}
+use Rattle.swc_base_rename_units.specs.Eval.{HasEval}
+use Rattle.swc_ecma_transforms_base_laws.specs.Sources.{IsSource, ResolvedSourcesAreReady}
 use Rattle.swc_ecma_transforms_base_laws.specs.Headline.{ChainingKeepsSources, KeepsItsSource}
 use Rattle.swc_ecma_transforms_base_settled_laws.specs.Settled.{ChainChangesSpans, IsAnswer}
 use Rattle.swc_ecma_transforms_base.specs.Chained.{Chains, IsChainRefusal, IsMarked, IsOnceHygienic}
@@ -54,6 +55,24 @@ module _ (unresolved top : ℕ) (config : Config) (old : Table) (before : Node) 
   source_kept law after f fits s ok =
       subst (λ t. KeepsItsSource unresolved top old new before t) (sym f.paired)
       (law config (recorded (pairs f.between)) unresolved top old new before resolved f.between fits s ok.0.1 (m.resolved ok) f.hygienic).0
+
+  pub answered : ResolvedSourcesAreReady → (after : Node) → Finishes new config resolved after → Fits before module_place → IsSource config before → ¬ HasEval before → MarksOk old unresolved top → IsAnswer after
+  unfolding answer_to
+  answered ready after f fits s unread ok =
+      let is = ready config before resolved unresolved top old new fits s ok.0.1 (m.resolved ok) in
+      record {
+        table = new;
+        config = config;
+        place = recorded (pairs f.between);
+        before = resolved;
+        middle = f.between;
+        stands = is.fits;
+        finishable = is.finishable;
+        unread = is.unread unread;
+        scoped = is.well_scoped;
+        hygienic = f.hygienic;
+        paired = f.paired;
+      }
 
   pub stays : ChainChangesSpans → (after : Node) → Finishes new config resolved after → IsAnswer before → config.keep_class_names ≡ false → MarksOk old unresolved top → SameButForSpans after before
   unfolding answer_to

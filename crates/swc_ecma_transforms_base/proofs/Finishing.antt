@@ -9,6 +9,7 @@ use Rattle.swc_tree_node.specs.declared.slot.Content.TheVariants as content
 use Rattle.swc_tree_node.specs.declared.slot.Slot.{Slot}
 use Rattle.swc_tree_node.specs.declared.slot.Slot.TheVariants as slot
 use Rattle.swc_tree_node.specs.Fits.{Fits}
+use Rattle.swc_tree_scoping.specs.WellScoped.{WellScoped}
 use Rattle.swc_tree_grammar.specs.Targets.{all_bare}
 use Rattle.swc_tree_grammar.specs.Pairs.{pairs}
 use Rattle.swc_tree_grammar.specs.Fixed.{recorded}
@@ -16,11 +17,13 @@ use Rattle.swc_base_fixer_unparen.specs.Moves.{LeadPartlyTo, Moving}
 use Rattle.swc_base_fixer_program.specs.Answers.{answer_to, moves_for}
 use Rattle.swc_base_fixer.specs.Unparened.{IsRefusal}
 use Rattle.swc_base_rename_substitution.specs.declared.config.Config.{Config}
+use Rattle.swc_base_rename_units.specs.Eval.{HasEval}
 use Rattle.swc_base_rename_program.specs.Renamed.{IsHygienic}
 use Rattle.swc_base_rename.specs.declared.hygienic.Hygiene.{Hygiene}
 use Rattle.swc_base_rename.specs.Hygiene.{MakesHygienic}
 use Rattle.swc_ecma_transforms_base_laws.specs.Finished.{FinishingMeetsNoTarget}
 use Rattle.swc_ecma_transforms_base_laws.specs.Headline.{FinishingKeepsPromises, IsOfMemoryOrCounters, KeepsItsPromises}
+use Rattle.swc_ecma_transforms_base_settled_laws.specs.Settled.{IsAnswer}
 use Rattle.swc_base_rename_hygiene_laws.specs.Laws.{IsFinishable}
 use Rattle.swc_ecma_transforms_base.specs.Finished.{Finishes, IsFinishRefusal}
 use Rattle.swc_ecma_transforms_base.specs.Lent.{MovesPartly}
@@ -69,6 +72,22 @@ module _ (table : Table) (config : Config) (before : Node) (fits : Fits before m
   pub promised : FinishingKeepsPromises → (after : Node) → Finishes table config before after → KeepsItsPromises before after
   unfolding answer_to
   promised law after f = subst (λ t. KeepsItsPromises before t) (sym f.paired) (law table config (recorded (pairs f.between)) before f.between fits finishable f.hygienic)
+
+  pub answered : ¬ HasEval before → WellScoped before → (after : Node) → Finishes table config before after → IsAnswer after
+  unfolding answer_to
+  answered unread scoped after f = record {
+    table = table;
+    config = config;
+    place = recorded (pairs f.between);
+    before = before;
+    middle = f.between;
+    stands = fits;
+    finishable = finishable;
+    unread = unread;
+    scoped = scoped;
+    hygienic = f.hygienic;
+    paired = f.paired;
+  }
 
   no_target : FinishingMeetsNoTarget → (e : PassError) → IsFinishRefusal table config before e → IsOfMemoryOrCounters e
   no_target law error.NoMemory h = inl refl

@@ -5,6 +5,7 @@ ghost use Rattle.swc_tree.specs.Passes.{IsEmptied, IsEmptiedScript};
 ghost use Rattle.swc_tree_modules.specs.Nodes.{module_node, script_node};
 ghost use Rattle.swc_tree_grammar.specs.Spanless.{SameButForSpans};
 ghost use Rattle.swc_base_resolver_program.specs.Marked.{MarksOk};
+ghost use Rattle.swc_base_rename_units.specs.Eval.{HasEval};
 ghost use Rattle.swc_ecma_transforms_base_laws.specs.Sources.{IsSource};
 ghost use Rattle.swc_ecma_transforms_base.specs.Chained.{Chains, HasFreshMarks, IsChainRefusal, IsOnceHygienic};
 ghost use Rattle.swc_ecma_transforms_base_laws.specs.Headline.{KeepsItsSource};
@@ -17,7 +18,7 @@ use std::mem;
 use swc_base_rename::Config;
 use swc_base_resolver::resolver;
 use swc_ecma_transforms_base_apart_laws::a_chain_changes_spans;
-use swc_ecma_transforms_base_laws::chaining_keeps_sources;
+use swc_ecma_transforms_base_laws::{chaining_keeps_sources, resolved_sources_are_ready};
 use swc_tree::{
     Comments, Globals, JsPass, Mark, Module, NoComments, PassError, Script, empty_module,
     empty_script, module_fits,
@@ -31,7 +32,8 @@ use swc_tree::{
 /// of the source have one text and one scope, or one text and no scope, exactly if the resolver gave them one id; two kept names of the
 /// answer have so exactly then, and exactly then get one id, however the answer is resolved. No target of it is to blame.
 ///
-/// What `finish_module` answered to a well-scoped module of that kind stays as it is, but for spans.
+/// What `finish_module` answered to a well-scoped module of that kind, or this call to such a source, stays as it is, but for spans, if no
+/// direct `eval` and no `with` stood in it, not even an ignored one (`IsAnswer`).
 ///
 /// # Errors
 ///
@@ -55,6 +57,7 @@ pub fn chain_module<C: Comments>(
     ensures cause { IfErr result (IsChainRefusal unresolved top config globals.old (module_node program.old) globals.new) }
     ensures marks { HasFreshMarks top globals.old (module_node program.old) globals.new }
     ensures promises { IsSource config (module_node program.old) → MarksOk globals.old unresolved top → OnOk result (KeepsItsSource unresolved top globals.old globals.new (module_node program.old) (module_node program.new)) }
+    ensures answer { IsSource config (module_node program.old) → ¬ HasEval (module_node program.old) → MarksOk globals.old unresolved top → OnOk result (IsAnswer (module_node program.new)) }
     ensures no_target { IsSource config (module_node program.old) → MarksOk globals.old unresolved top → IfErr result (λ e. e ≢ error.NotAssignable) }
     ensures again { IsAnswer (module_node program.old) → config.keep_class_names ≡ false → MarksOk globals.old unresolved top → OnOk result (SameButForSpans (module_node program.new) (module_node program.old)) }
     ensures moved { OnOk result (Became (MovesFor C.moved (IsOnceHygienic unresolved top config globals.old (module_node program.old) globals.new) (module_node program.new)) comments.entry comments.exit) }
@@ -134,6 +137,7 @@ fn chain_module_with<C: Comments>(
     ensures cause { IfErr result (IsChainRefusal unresolved top config globals.old (module_node program.old) globals.new) }
     ensures marks { HasFreshMarks top globals.old (module_node program.old) globals.new }
     ensures promises { IsSource config (module_node program.old) → MarksOk globals.old unresolved top → OnOk result (KeepsItsSource unresolved top globals.old globals.new (module_node program.old) (module_node program.new)) }
+    ensures answer { IsSource config (module_node program.old) → ¬ HasEval (module_node program.old) → MarksOk globals.old unresolved top → OnOk result (IsAnswer (module_node program.new)) }
     ensures no_target { IsSource config (module_node program.old) → MarksOk globals.old unresolved top → IfErr result (λ e. e ≢ error.NotAssignable) }
     ensures again { IsAnswer (module_node program.old) → config.keep_class_names ≡ false → MarksOk globals.old unresolved top → OnOk result (SameButForSpans (module_node program.new) (module_node program.old)) }
     ensures moved { OnOk result (MovesFor C.moved (IsOnceHygienic unresolved top config globals.old (module_node program.old) globals.new) (module_node program.new) comments.old comments.new) }
@@ -141,6 +145,7 @@ fn chain_module_with<C: Comments>(
     ensures unmoved { IfErr result (λ e. e ≢ error.NoMemory → comments.new ≡ comments.old) }
 {
     chaining_keeps_sources();
+    resolved_sources_are_ready();
     a_chain_changes_spans();
     module_fits(program);
     let mut module = mem::replace(program, empty_module(alloc, program.span));

@@ -3,10 +3,13 @@ ghost use Rattle.std.specs.Prelude.{◌≡◌, ◌≢◌, OnOk, OnErr, IfErr};
 ghost use Rattle.swc_tree.specs.Passes.{IsEmptied, IsEmptiedScript};
 ghost use Rattle.swc_tree_marks.specs.declared.error.PassError.TheVariants as error;
 ghost use Rattle.swc_tree_modules.specs.Nodes.{module_node, script_node};
+ghost use Rattle.swc_tree_scoping.specs.WellScoped.{WellScoped};
+ghost use Rattle.swc_base_rename_units.specs.Eval.{HasEval};
 ghost use Rattle.swc_base_rename_program.specs.Renamed.{IsHygienic};
 ghost use Rattle.swc_base_rename_hygiene_laws.specs.Laws.{IsFinishable};
 ghost use Rattle.swc_ecma_transforms_base.specs.Finished.{Finishes, IsFinishRefusal};
 ghost use Rattle.swc_ecma_transforms_base_laws.specs.Headline.{IsOfMemoryOrCounters, KeepsItsPromises};
+ghost use Rattle.swc_ecma_transforms_base_settled_laws.specs.Settled.{IsAnswer};
 ghost use Rattle.swc_ecma_transforms_base.specs.Lent.{Became, MovesFor, MovesPartly};
 
 use crate::fixed::{fix_module, fix_script};
@@ -25,7 +28,8 @@ use swc_tree::{
 /// A module that can be written down, in which nothing reads names and where classes don't keep theirs, becomes one that the
 /// grammar derives, with the normal form that it had but for the names that it binds; no target of it is to blame then. Where it
 /// is well-scoped, the answer gives two kept names one id exactly if it did, however the answer is resolved; by itself it gives
-/// them one text and one scope, or one text and no scope, exactly then; and it has no early error of names.
+/// them one text and one scope, or one text and no scope, exactly then; and it has no early error of names. If in addition no direct
+/// `eval` and no `with` stands in it, not even an ignored one, `chain_module` answers the answer again, but for spans (`IsAnswer`).
 ///
 /// # Errors
 ///
@@ -42,6 +46,7 @@ pub fn finish_module<C: Comments>(
 ) -> Result<(), PassError>
     ensures done { OnOk result (Finishes globals.old config (module_node program.old) (module_node program.new)) }
     ensures promises { IsFinishable config (module_node program.old) → OnOk result (KeepsItsPromises (module_node program.old) (module_node program.new)) }
+    ensures answer { IsFinishable config (module_node program.old) → ¬ HasEval (module_node program.old) → WellScoped (module_node program.old) → OnOk result (IsAnswer (module_node program.new)) }
     ensures refused { OnErr result (IsEmptied program.old program.new) }
     ensures cause { IfErr result (IsFinishRefusal globals.old config (module_node program.old)) }
     ensures no_target { IsFinishable config (module_node program.old) → IfErr result IsOfMemoryOrCounters }
@@ -92,6 +97,7 @@ pub(crate) fn finish_module_with<C: Comments>(
 ) -> Result<(), PassError>
     ensures done { OnOk result (Finishes globals.old config (module_node program.old) (module_node program.new)) }
     ensures promises { IsFinishable config (module_node program.old) → OnOk result (KeepsItsPromises (module_node program.old) (module_node program.new)) }
+    ensures answer { IsFinishable config (module_node program.old) → ¬ HasEval (module_node program.old) → WellScoped (module_node program.old) → OnOk result (IsAnswer (module_node program.new)) }
     ensures refused { OnErr result (IsEmptied program.old program.new) }
     ensures cause { IfErr result (IsFinishRefusal globals.old config (module_node program.old)) }
     ensures no_target { IsFinishable config (module_node program.old) → IfErr result IsOfMemoryOrCounters }

@@ -1,6 +1,6 @@
 use Rattle.std.proofs.Common.{ap, rules}
 use Rattle.swc_tree_modules.specs.Nodes.{module_node}
-use Rattle.swc_ecma_transforms_base.proofs.Chaining.{chained, marked, moved_once, moved_partly, no_target_later, refused_later, source_kept, stays}
+use Rattle.swc_ecma_transforms_base.proofs.Chaining.{answered, chained, marked, moved_once, moved_partly, no_target_later, refused_later, source_kept, stays}
 use Rattle.swc_ecma_transforms_base.proofs.Finishing.{where_refused}
 use Rattle.swc_ecma_transforms_base.proofs.chain.chain_module_with.Goals as goal
 
@@ -33,6 +33,13 @@ returns-clause-promises g c =
     rw c.finish_module_with.ensures.marks
     (source_kept c.args.unresolved c.args.top c.args.config c.args.globals.now (module_node c.args.program.now) c.visit_mut_module.new.globals (module_node c.visit_mut_module.new.program) m
     c.chaining_keeps_sources.ensures (module_node c.finish_module_with.new.program) c.in_ok-finish_module_with.ensures.done c.module_fits.ensures)
+
+pub returns-clause-answer : goal.returns-clause-answer
+returns-clause-answer g c =
+    let m = marked c.args.unresolved c.args.top c.resolver-resolver.result c.visit_mut_module.new.self c.args.globals.now c.visit_mut_module.new.globals (module_node c.replace-module.result) (module_node c.args.program.now)
+    (module_node c.visit_mut_module.new.program) c.resolver-resolver.ensures (ap module_node c.replace-module.ensures.value) c.in_ok-visit_mut_module.ensures.done in
+    answered c.args.unresolved c.args.top c.args.config c.args.globals.now (module_node c.args.program.now) c.visit_mut_module.new.globals (module_node c.visit_mut_module.new.program) m
+    c.resolved_sources_are_ready.ensures (module_node c.finish_module_with.new.program) c.in_ok-finish_module_with.ensures.done c.module_fits.ensures
 
 pub returns-clause-again : goal.returns-clause-again
 returns-clause-again g c =

@@ -1,7 +1,7 @@
 use Rattle.std.proofs.Common.{ap, rules}
 use Rattle.swc_tree_modules.specs.Nodes.{module_node}
 use Rattle.swc_base_rename_program.specs.Renamed.{IsHygienic}
-use Rattle.swc_ecma_transforms_base.proofs.Finishing.{made_hygienic, meets_none, promised, partly_by_fixer, refused_by_fixer}
+use Rattle.swc_ecma_transforms_base.proofs.Finishing.{answered, made_hygienic, meets_none, promised, partly_by_fixer, refused_by_fixer}
 use Rattle.swc_ecma_transforms_base.proofs.finish.finish_module_with.Goals as goal
 
 -- src/finish.rt
@@ -30,4 +30,11 @@ returns-clause-promises g c =
     let m = made_hygienic c.args.globals.now c.visit_mut_module.new.globals c.args.config c.hygiene_with_config-hygiene.result c.visit_mut_module.new.self (module_node c.replace-module.result) (module_node c.args.program.now)
     (module_node c.visit_mut_module.new.program) c.hygiene_with_config-hygiene.ensures (ap module_node c.replace-module.ensures.value) c.in_ok-visit_mut_module.ensures.done in
     λ f. promised c.args.globals.now c.args.config (module_node c.args.program.now) c.module_fits.ensures f c.finishing_keeps_promises.ensures (module_node c.fix_module.new.program)
+    (record { between = module_node c.visit_mut_module.new.program; hygienic = m; assignable = c.in_ok-fix_module.ensures.assignable; paired = c.in_ok-fix_module.ensures.answer })
+
+pub returns-clause-answer : goal.returns-clause-answer
+returns-clause-answer g c =
+    let m = made_hygienic c.args.globals.now c.visit_mut_module.new.globals c.args.config c.hygiene_with_config-hygiene.result c.visit_mut_module.new.self (module_node c.replace-module.result) (module_node c.args.program.now)
+    (module_node c.visit_mut_module.new.program) c.hygiene_with_config-hygiene.ensures (ap module_node c.replace-module.ensures.value) c.in_ok-visit_mut_module.ensures.done in
+    λ f unread scoped. answered c.args.globals.now c.args.config (module_node c.args.program.now) c.module_fits.ensures f unread scoped (module_node c.fix_module.new.program)
     (record { between = module_node c.visit_mut_module.new.program; hygienic = m; assignable = c.in_ok-fix_module.ensures.assignable; paired = c.in_ok-fix_module.ensures.answer })
