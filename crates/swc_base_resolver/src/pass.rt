@@ -1,10 +1,14 @@
 //! The resolver as a pass.
-ghost use Rattle.std.specs.Prelude.{◌≡◌, ◌≢◌};
+ghost use Rattle.std.specs.Prelude.{◌≡◌, ◌≢◌, IfOk, IfErr};
+ghost use Rattle.swc_tree_node.specs.declared.slot.Slot.{Slot};
+ghost use Rattle.swc_tree_node.specs.Fits.{fits};
+ghost use Rattle.swc_tree.specs.Passes.{IsExtended, IsProgram};
 ghost use Rattle.swc_base_resolver.specs.Visits.{RefusesNode, ResolvesNode};
 ghost use Rattle.swc_base_resolver.specs.Memory.{may_lack_memory};
 
 use std::alloc::Global;
 use std::marker::Model;
+use swc_base_resolver_laws::a_clean_module_becomes_well_scoped;
 use swc_base_resolver_program::resolve_program;
 use swc_tree::ProgramPass;
 use swc_tree_marks::{Globals, Mark, PassError};
@@ -42,12 +46,32 @@ impl Resolver {
     }
 }
 
+// What a resolver of these marks makes of the node of a program.
+fn resolve(
+    alloc: Global,
+    globals: &mut Globals,
+    unresolved: Mark,
+    top: Mark,
+    program: Node,
+) -> Result<Node, PassError>
+    requires { IsProgram program }
+    ensures done { IfOk result (λ answer. ResolvesNode (unresolved, top) globals.old program (unresolved, top) globals.new answer) }
+    ensures place { (s : Slot) → IfOk result (λ answer. fits answer s ≡ fits program s) }
+    ensures cause { IfErr result (RefusesNode (unresolved, top) globals.old program (unresolved, top) globals.new) }
+    ensures marks { IsExtended globals.old globals.new }
+{
+    a_clean_module_becomes_well_scoped();
+    let answer = resolve_program(alloc, globals, unresolved, top, program)?;
+    Ok(answer)
+}
+
 impl ProgramPass for Resolver {
     ghost makes = { ResolvesNode };
 
     ghost declines = { RefusesNode };
 
-    /// Resolves the node of a program. Each run is by itself: the resolver stays as it is.
+    /// Resolves the node of a program. Each run is by itself: the resolver stays as it is. Where `marks_ok` holds of the two marks, a
+    /// module without contexts and without early errors of names becomes well-scoped.
     ///
     /// # Errors
     ///
@@ -60,7 +84,7 @@ impl ProgramPass for Resolver {
         program: Node,
     ) -> Result<Node, PassError> {
         let (unresolved, top) = (self.unresolved_mark, self.top_level_mark);
-        let answer = resolve_program(alloc, globals, unresolved, top, program)?;
+        let answer = resolve(alloc, globals, unresolved, top, program)?;
         Ok(answer)
     }
 

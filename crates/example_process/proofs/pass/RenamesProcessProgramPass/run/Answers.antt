@@ -2,7 +2,7 @@ use Rattle.std.proofs.Common.{◌∙◌, refl, subst, option_map, [], false}
 use Rattle.swc_base_rename_substitution.specs.Names.{if_other_text}
 use Rattle.swc_base_rename_substitution.specs.Substituted.{Substituted}
 use Rattle.swc_base_resolver.proofs.Extended.{with_fresh_marks-extended}
-use Rattle.example_process.proofs.Opens.{opens}
+use Rattle.swc_base_resolver.proofs.Opens.{opens}
 use Rattle.example_process.proofs.pass.RenamesProcessProgramPass.run.Goals as goal
 
 pub returns-in_err-resolved-clause-marks : goal.returns-in_err-resolved-clause-marks
