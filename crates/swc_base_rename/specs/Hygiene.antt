@@ -2,11 +2,7 @@
 use Rattle.std.specs.Prelude.{◌≡◌}
 use Rattle.swc_tree_marks.specs.declared.error.PassError.{PassError}
 use Rattle.swc_tree_marks.specs.Globals.{Table}
-use Rattle.swc_tree_node.specs.declared.kind.Class.TheVariants as class
-use Rattle.swc_tree_node.specs.declared.slot.Content.TheVariants as content
-use Rattle.swc_tree_node.specs.declared.slot.Slot.TheVariants as slot
 use Rattle.swc_tree_node.specs.declared.node.Node.{Node}
-use Rattle.swc_tree_node.specs.Fits.{Fits}
 use Rattle.swc_tree_grammar.specs.Normal.{normal_form}
 use Rattle.swc_tree_grammar.specs.Writable.{Writable}
 use Rattle.swc_base_rename_program.specs.Renamed.{IsHygienic, IsRenameRefusal, hygiene_renaming}
@@ -18,7 +14,13 @@ use Rattle.swc_base_rename.specs.declared.hygienic.Hygiene.{Hygiene}
 -- what it was, spans too, but for texts and contexts; the pass and the table of marks are as they were
 pub record MakesHygienic (pass : Hygiene) (old : Table) (before : Node) (kept : Hygiene) (new : Table) (after : Node) : Type 0 where
   pub hygienic : IsHygienic old pass.config before after
-  pub spans : IsPlain pass.config before → Fits before (slot.One (content.Node class.Module)) → Writable before → SameButForNames (normal_form before) (normal_form after)
+  pub spans : IsPlain pass.config before → Writable before → SameButForNames (normal_form before) (normal_form after)
+  pub same : kept ≡ pass
+  pub marks : new ≡ old
+
+-- so it is of a program of the goal Script, of whose normal form nothing is said
+pub record MakesScriptHygienic (pass : Hygiene) (old : Table) (before : Node) (kept : Hygiene) (new : Table) (after : Node) : Type 0 where
+  pub hygienic : IsHygienic old pass.config before after
   pub same : kept ≡ pass
   pub marks : new ≡ old
 

@@ -1,15 +1,17 @@
 //! The pass after which texts alone tell names apart.
 ghost use Rattle.std.specs.Prelude.{◌≡◌};
-ghost use Rattle.std.proofs.Common.{refl};
-ghost use Rattle.swc_base_rename.specs.Hygiene.{MakesHygienic, RefusesHygiene};
+ghost use Rattle.swc_tree_modules.specs.Nodes.{module_node, script_node};
+ghost use Rattle.swc_base_rename.specs.Hygiene.{MakesHygienic, MakesScriptHygienic, RefusesHygiene};
 
 use std::alloc::Global;
+use std::mem;
 use swc_base_rename_program::hygiene_program;
 use swc_base_rename_substitution::Config;
 use swc_base_rename_texts_laws::hygiene_keeps_spans;
-use swc_tree::ProgramPass;
+use swc_tree::{JsPass, empty_module, empty_script};
+use swc_tree_handle::Opened;
 use swc_tree_marks::{Globals, PassError};
-use swc_tree_node::Node;
+use swc_tree_modules::{Module, Script};
 
 /// Gives names anew where ids of one text would meet, and then clears every context.
 #[derive(Clone, Copy, Debug)]
@@ -26,10 +28,14 @@ impl Hygiene {
     }
 }
 
-impl ProgramPass for Hygiene {
-    ghost makes = { MakesHygienic };
+impl JsPass for Hygiene {
+    ghost visits = { λ pass old before kept new after. MakesHygienic pass old (module_node before) kept new (module_node after) };
 
-    ghost declines = { RefusesHygiene };
+    ghost visits_script = { λ pass old before kept new after. MakesScriptHygienic pass old (script_node before) kept new (script_node after) };
+
+    ghost refuses = { λ pass old before kept new e. RefusesHygiene pass old (module_node before) kept new e };
+
+    ghost refuses_script = { λ pass old before kept new e. RefusesHygiene pass old (script_node before) kept new e };
 
     /// Gives each id that a program declares its own text, or where that is taken its text with the first number behind it
     /// that makes it free, and then clears every context. Where a direct `eval` or a `with` stands in the program, unless
@@ -38,16 +44,37 @@ impl ProgramPass for Hygiene {
     ///
     /// # Errors
     ///
-    /// `CounterSpent` where for an id no counter below the greatest `usize` gives a free text, and `NoMemory`.
-    fn run(
+    /// `CounterSpent` where for an id no counter below the greatest `usize` gives a free text, and `NoMemory`. The program is then
+    /// empty, with its span and no `#!` line.
+    fn visit_mut_module(
         &mut self,
         alloc: Global,
         globals: &mut Globals,
-        program: Node,
-    ) -> Result<Node, PassError> {
+        program: &mut Module,
+    ) -> Result<(), PassError> {
         hygiene_keeps_spans();
-        hygiene_program(alloc, &self.config, globals, program)
+        let module = mem::replace(program, empty_module(alloc, program.span));
+        let node = module.into_node(alloc)?;
+        let answer = hygiene_program(alloc, &self.config, globals, node)?;
+        *program = Module::from_node(answer);
+        Ok(())
     }
 
-    ghost lacks_memory = { λ pass table program. record { refusal = tt; same = refl; marks = refl } };
+    /// Gives the ids of a program of the goal Script their texts, as `visit_mut_module` those of a module.
+    ///
+    /// # Errors
+    ///
+    /// Those of `visit_mut_module`.
+    fn visit_mut_script(
+        &mut self,
+        alloc: Global,
+        globals: &mut Globals,
+        program: &mut Script,
+    ) -> Result<(), PassError> {
+        let script = mem::replace(program, empty_script(alloc, program.span));
+        let node = script.into_node(alloc)?;
+        let answer = hygiene_program(alloc, &self.config, globals, node)?;
+        *program = Script::from_node(answer);
+        Ok(())
+    }
 }

@@ -20,7 +20,7 @@ use Rattle.swc_base_rename_substitution.specs.declared.config.Config.{Config}
 use Rattle.swc_base_rename_units.specs.Eval.{HasEval}
 use Rattle.swc_base_rename_program.specs.Renamed.{IsHygienic}
 use Rattle.swc_base_rename.specs.declared.hygienic.Hygiene.{Hygiene}
-use Rattle.swc_base_rename.specs.Hygiene.{MakesHygienic}
+use Rattle.swc_base_rename.specs.Hygiene.{MakesHygienic, MakesScriptHygienic}
 use Rattle.swc_ecma_transforms_base_laws.specs.Finished.{FinishingMeetsNoTarget}
 use Rattle.swc_ecma_transforms_base_laws.specs.Headline.{FinishingKeepsPromises, IsOfMemoryOrCounters, KeepsItsPromises}
 use Rattle.swc_ecma_transforms_base_settled_laws.specs.Settled.{IsAnswer}
@@ -28,10 +28,17 @@ use Rattle.swc_base_rename_hygiene_laws.specs.Laws.{IsFinishable}
 use Rattle.swc_ecma_transforms_base.specs.Finished.{Finishes, IsFinishRefusal}
 use Rattle.swc_ecma_transforms_base.specs.Lent.{MovesPartly}
 
+hygienic_as : (table : Table) (config config' : Config) (given before middle : Node) → config' ≡ config → given ≡ before → IsHygienic table config' given middle → IsHygienic table config before middle
+hygienic_as table config config' given before middle h same m =
+    subst (λ t. IsHygienic table config t middle) same (subst (λ k. IsHygienic table k given middle) h m)
+
 pub made_hygienic : (table new : Table) (config : Config) (pass kept : Hygiene) (given before middle : Node) → pass.config ≡ config → given ≡ before → MakesHygienic pass table given kept new middle
     → IsHygienic table config before middle
-made_hygienic table new config pass kept given before middle h same m =
-    subst (λ t. IsHygienic table config t middle) same (subst (λ k. IsHygienic table k given middle) h m.hygienic)
+made_hygienic table new config pass kept given before middle h same m = hygienic_as table config pass.config given before middle h same m.hygienic
+
+pub made_script_hygienic : (table new : Table) (config : Config) (pass kept : Hygiene) (given before middle : Node) → pass.config ≡ config → given ≡ before → MakesScriptHygienic pass table given kept new middle
+    → IsHygienic table config before middle
+made_script_hygienic table new config pass kept given before middle h same m = hygienic_as table config pass.config given before middle h same m.hygienic
 
 pub where_refused : {T P : Type 0} (r : Result T PassError) → P → OnErr r P
 where_refused (Ok t) h = tt
