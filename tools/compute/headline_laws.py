@@ -74,6 +74,20 @@ def chained_as_promised(t):
 
 
 @law(clean_module)
+def chained_keeps_spans(t):
+    """a chain keeps the normal form of such a source, in which nothing reads names, spans too, but for texts and contexts, and so does
+    the resolver"""
+    if not is_source(t) or units.HasEval(D.all, t):
+        return None
+    resolved = scoping.resolved(D.all, t, 1, 2)
+    answer = fixed(with_hygiene(resolved))
+    before, between, after = normal_form(t), normal_form(resolved), normal_form(answer)
+    if nameless(before) != nameless(between):
+        return Bad('normal forms:', before, '--', between)
+    return nameless(before) == nameless(after) or Bad('normal forms:', before, '--', after)
+
+
+@law(clean_module)
 def chained_twice_changes_nothing(t):
     """what a chain answers on such a module, it answers again, spans aside"""
     if not is_source(t):
