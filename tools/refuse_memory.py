@@ -1,7 +1,8 @@
 #!/usr/bin/env python3
 """refuse_memory.py WORK COMMAND [FILE [NUMBER]]: refuses each request for memory of a work in turn.
 refuse_memory.py --gate: the same for each work, on the rows of tools/memory_rows, in a file for each. It says nothing where all
-is well. Each row there is a case, and each command has a row; where there is no `cc`, no more than that is asked.
+is well. Each row there is a case, and all arguments that a work knows have a row; where there is no `cc`, no more than that is
+asked.
 
 WORK is `jsbase`, which is run from bytes to bytes, or `pass`, which runs a pass, with comments and renamers too: `gate_replay
 refuse` does both. Or it is a work of `gate_tables refuse`: `make` helpers, `name` them, `insert` a body, `inject` helpers, or
@@ -26,20 +27,32 @@ from typing import NamedTuple
 
 ROOT = os.path.dirname(os.path.dirname(os.path.abspath(__file__)))
 ROWS = os.path.join(ROOT, 'tools', 'memory_rows')
-# The works of `gate_replay`, and how the arguments of their rows begin; then those of `gate_tables`.
+
+
+def of_each(*commands):
+    """The words of commands, for a module and for a script."""
+    return tuple('%s %s' % (command, goal) for command in commands for goal in ('module', 'script'))
+
+
+def in_each_setting(renamer):
+    """A renamer with each of its two settings and without."""
+    return tuple(renamer + mangles + resets for mangles in ('', ' mangles') for resets in ('', ' resets'))
+
+
+# The works of `gate_replay`, and the arguments of their rows; then those of `gate_tables`.
 REPLAYED = {
-    'jsbase': ('resolve ', 'hygiene ', 'unparen ', 'fix ', 'chain '),
-    'pass': (
-        *('resolve ', 'hygiene ', 'hygiene_with_config ', 'unparen ', 'unparen_comments ', 'fix ', 'fix_comments '),
-        *('rename ', 'remap ', 'letters ', 'numbered ', 'suffixed '),
+    'jsbase': of_each('resolve', 'hygiene', 'unparen', 'fix', 'chain'),
+    'pass': of_each(
+        *('resolve', 'hygiene', 'hygiene_with_config', 'unparen', 'unparen_comments', 'fix', 'fix_comments'),
+        *('rename', 'remap', 'letters', *in_each_setting('numbered'), *in_each_setting('suffixed')),
     ),
 }
 TABLES = {
     'make': ('helpers written out', 'helpers of a package'),
     'name': ('helper names',),
-    'insert': ('helper written out in ',),
-    'inject': ('helper of a package in ', 'helper written out in '),
-    'finish': ('finish ', 'chain ', 'commented finish ', 'commented chain '),
+    'insert': of_each('helper written out in a'),
+    'inject': of_each('helper of a package in a', 'helper written out in a'),
+    'finish': of_each('finish', 'chain', 'commented finish', 'commented chain'),
 }
 WORKS = {**REPLAYED, **TABLES}
 
@@ -60,10 +73,10 @@ def crate_of(work):
 
 
 def command_of(work, words):
-    """The arguments of a row as a command begins them, if one of the work does."""
+    """The arguments of a row as the work has them, if it does."""
     if work == 'pass':
         words = words.removeprefix('pass ') if not words.startswith('rename ') else ''
-    return words if words.startswith(WORKS[work]) else None
+    return words if words in WORKS[work] else None
 
 
 def wanted_of(work, ample):
@@ -156,13 +169,11 @@ def refuse(number, cases, is_quiet):
 
 
 def misfits(work, cases):
-    """Which rows that are kept for a work are none of its cases, and which of its commands have no case."""
+    """Which rows that are kept for a work are none of its cases, and which of its arguments have no case."""
     file = os.path.join(ROWS, work)
     lines = {case.line for case in cases}
     faults = ['line %d: no case: %s' % (line, words) for line, words, *_ in rows_of(file) if line not in lines]
-    for command in WORKS[work]:
-        if not any(case.words.startswith(command) for case in cases):
-            faults.append('no row begins so: ' + command)
+    faults += ['no row: ' + words for words in WORKS[work] if words not in {case.words for case in cases}]
     with open(file, encoding='utf-8') as text:
         if text.read().count('\n') % 3:
             faults.append('not three lines for each row')
