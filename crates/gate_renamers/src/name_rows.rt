@@ -5,9 +5,11 @@ ghost use Rattle.swc_base_rename_substitution.specs.Names.{same_id};
 ghost use Rattle.gate_renamers.specs.Flat.{round, round-own, round-same, round-through};
 
 use std::alloc::Global;
-use std::collections::BTreeMap;
+use std::collections::{BTreeMap, BTreeSet};
 use std::fmt::Write;
-use swc_base_rename_naming::{Asked, HygieneTexts, Nesting, names_by_scope, names_in_order};
+use swc_base_rename_naming::{
+    Asked, HygieneTexts, Nesting, names_by_scope, names_in_order, names_with_leaks,
+};
 use swc_tree_items::Text;
 use swc_tree_marks::{Id, JsWord, Mark, SyntaxContext};
 
@@ -90,13 +92,18 @@ fn ids_of(alloc: Global, names: &[(&str, u32)]) -> Option<Vec<Id>> {
     Some(ids)
 }
 
-// Whether these are the texts, each with the number of its id.
-fn are(alloc: Global, texts: &BTreeMap<usize, JsWord>, wanted: &str) -> Option<bool> {
+// The texts, each with the number of its id.
+fn told(alloc: Global, texts: &BTreeMap<usize, JsWord>) -> Option<String> {
     let mut found = String::new(alloc);
     for (number, text) in texts {
         write!(found, "{number} {text} ").ok()?;
     }
-    Some(found.as_str() == wanted)
+    Some(found)
+}
+
+// Whether these are the texts.
+fn are(alloc: Global, texts: &BTreeMap<usize, JsWord>, wanted: &str) -> Option<bool> {
+    Some(told(alloc, texts)?.as_str() == wanted)
 }
 
 // `var b#1; var b1#3; { const b#2; const b1#4; { b1#3; b#2; b#1; b1#4; } }`
@@ -161,12 +168,49 @@ fn scopes(alloc: Global) -> Option<bool> {
     Some(are(alloc, &texts, "0 a 1 a 2 a ")? && are(alloc, &others, "0 a 1 a 2 a1 ")?)
 }
 
+// Whether names in those three scopes are the plain ones, which are given in order: by scope, or where some of them leak.
+#[tactic(auto, using(crate::proofs::Order::in_order))]
+fn are_plain(alloc: Global, places: &Places<'_>, leaking: &[usize]) -> Option<bool> {
+    let mut leaks = BTreeSet::new(alloc);
+    for scope in leaking {
+        leaks.insert(*scope).ok()?;
+    }
+    let sites = [(0, 0), (1, 1), (2, 2)];
+    let texts = if leaking.is_empty() {
+        names_by_scope(alloc, &HygieneTexts, places, true, &sites).ok()?
+    } else {
+        names_with_leaks(alloc, &HygieneTexts, places, true, &leaks, &sites).ok()?
+    };
+    let plain = names_in_order(alloc, &HygieneTexts, places, true, &sites).ok()?;
+    are(alloc, &texts, told(alloc, &plain)?.as_str())
+}
+
+// They are where all scopes leak, or the second alone, whose id occurs in the third; where none leaks they are if no id occurs in
+// a scope beside its own, and else not.
+fn leaks(alloc: Global) -> Option<bool> {
+    let ids = ids_of(alloc, &[("a", 1), ("a", 2), ("a", 3)])?;
+    let places = Places {
+        ids: ids.as_slice(),
+        occurrences: &[(0, 0), (0, 1), (0, 2), (1, 1), (2, 1), (2, 2)],
+        kept: &[],
+        preserved: "x",
+    };
+    let apart = Places {
+        occurrences: &[(0, 0), (0, 1), (0, 2), (1, 1), (2, 2)],
+        ..places
+    };
+    let are_held = are_plain(alloc, &places, &[0, 1, 2])? && are_plain(alloc, &places, &[1])?;
+    let are_others = !are_plain(alloc, &places, &[])? && !are_plain(alloc, &places, &[0, 2])?;
+    Some(are_held && are_others && are_plain(alloc, &apart, &[])?)
+}
+
 /// Whether what the words name is as it must be; nothing where memory is refused, or the words name nothing.
 pub fn holds(alloc: Global, words: &str) -> Option<bool> {
     match words {
         "names go by what occurs" => hygiene(alloc),
         "names apart may be one" => apart(alloc),
         "names are given by scope" => scopes(alloc),
+        "names that leak are plain" => leaks(alloc),
         _ => None,
     }
 }
