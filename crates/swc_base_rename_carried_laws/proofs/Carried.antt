@@ -26,7 +26,8 @@ use Rattle.swc_base_rename_scoped_laws.proofs.ByIds.{from_id, id_of, to_id}
 use Rattle.swc_base_rename_settled_laws.specs.Labels.{Carries, IsNameAt, LabelsCarryApart}
 use Rattle.swc_base_rename_settled_laws.specs.Laws.{HygieneTellsMetApart, MeetingsAreMet, PairsMeet, given_text}
 use Rattle.swc_base_rename_settled_laws.specs.Meetings.{met}
-use Rattle.swc_base_rename_labels_laws.specs.Labels.{id_of_label, label, labelled, labelled_changes, meant, unlabelled}
+use Rattle.swc_base_rename_contexts_laws.specs.Laws.{id_of_label, labelled_changes}
+use Rattle.swc_base_rename_labels_laws.specs.Labels.{label, labelled, meant, unlabelled}
 use Rattle.swc_base_rename_labels_laws.specs.Laws.{HasNewLabels, IsReady, IsResolvedSo, LabelsAreIds, LabelsTellTexts, LooseNamesWereLoose, WasLoose}
 use Rattle.swc_base_rename_labels_laws.proofs.Changed.{changed_there, from_changed, nameless_changed, one_name, one_place}
 use Rattle.swc_base_rename_labels_laws.proofs.Meant.{keeps}

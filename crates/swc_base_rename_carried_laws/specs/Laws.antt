@@ -5,7 +5,8 @@ use Rattle.swc_tree_scoping.specs.BoundNames.{Id}
 use Rattle.swc_tree_sites.specs.Smaller.{In}
 use Rattle.swc_base_rename_settled_laws.specs.Laws.{ApartWhereMet, own_text}
 use Rattle.swc_base_rename_settled_laws.specs.Meetings.{met}
-use Rattle.swc_base_rename_labels_laws.specs.Labels.{labelled, labelled_changes}
+use Rattle.swc_base_rename_contexts_laws.specs.Laws.{labelled_changes}
+use Rattle.swc_base_rename_labels_laws.specs.Labels.{labelled}
 use Rattle.swc_base_rename_labels_laws.specs.Laws.{HasNewLabels, IsReady, IsResolvedSo}
 
 -- ids that meet in what the fixer makes of a module with labels are the new ones of ids that met

@@ -42,7 +42,8 @@ use Rattle.swc_base_rename_analysis.specs.Preserved.{IsLoose, is_name_or_label}
 use Rattle.swc_base_rename_scoped_laws.proofs.ByIds.{IsAt, from_id, id_of, one_name as one_id_name, to_id, to_ids}
 use Rattle.swc_base_rename_scoped_laws.proofs.Exports.{no_body_exported}
 use Rattle.swc_base_rename_scoped_laws.proofs.Homes.{declared}
-use Rattle.swc_base_rename_labels_laws.specs.Labels.{id_of_label, meant, unlabelled}
+use Rattle.swc_base_rename_contexts_laws.specs.Laws.{id_of_label}
+use Rattle.swc_base_rename_labels_laws.specs.Labels.{meant, unlabelled}
 use Rattle.swc_base_rename_labels_laws.specs.Laws.{FixedNamesAreLeft, HasNewLabels, IsReady, IsResolvedSo, LabelsAreIds, LooseNamesWereLoose, WasLoose}
 use Rattle.swc_base_rename_labels_laws.proofs.Changed.{changed_there, fits_changed, from_changed, nameless_changed, one_name}
 use Rattle.swc_base_rename_labels_laws.proofs.Meant.{fits_meant, is_left}

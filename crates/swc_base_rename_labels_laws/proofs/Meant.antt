@@ -34,7 +34,8 @@ use Rattle.swc_base_rename_laws.specs.Laws.{NormalFormHasNewNames}
 use Rattle.swc_base_rename_program.specs.Renamed.{hygiene_renaming}
 use Rattle.swc_base_rename_scoped_laws.specs.Laws.{NamesAreApart}
 use Rattle.swc_base_rename_scoped_laws.proofs.TextsByName.{text_by, text_of_id}
-use Rattle.swc_base_rename_labels_laws.specs.Labels.{KeepsContexts, by_contexts, id_of_label, label, labelled, labelled_changes, meant, name_of_label, named_by, unlabelled}
+use Rattle.swc_base_rename_contexts_laws.specs.Laws.{id_of_label, labelled_changes}
+use Rattle.swc_base_rename_labels_laws.specs.Labels.{KeepsContexts, by_contexts, label, labelled, meant, name_of_label, named_by, unlabelled}
 use Rattle.swc_base_rename_labels_laws.specs.Laws.{FixedNamesAreLeft, HasNewLabels, IsReady, LabelsAreIds, LabelsAreMeant, LabelsTellTexts}
 use Rattle.swc_base_rename_labels_laws.proofs.Changed.{changed_there, fits_changed, from_changed, nameless_changed, one_name}
 use Rattle.swc_base_rename_labels_laws.proofs.Left.{answer_in_normal}

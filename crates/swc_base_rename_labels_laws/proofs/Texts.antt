@@ -30,7 +30,8 @@ use Rattle.swc_base_rename_substitution.specs.Names.{Id, if_other_text, same_tex
 use Rattle.swc_base_rename_substitution.specs.Identifiers.{id_of}
 use Rattle.swc_base_rename_laws.specs.NewNames.{HasNewNames}
 use Rattle.swc_base_rename_laws.proofs.Outline.{identifiers_alike}
-use Rattle.swc_base_rename_labels_laws.specs.Labels.{id_of_label, label, labelled, labelled_changes, text_of_label}
+use Rattle.swc_base_rename_contexts_laws.specs.Laws.{id_of_label, labelled_changes}
+use Rattle.swc_base_rename_labels_laws.specs.Labels.{label, labelled, text_of_label}
 use Rattle.swc_base_rename_labels_laws.proofs.Changed.{fits_changed, from_changed, one_name}
 
 abbrev module_place : Slot

@@ -1,10 +1,11 @@
 -- Trees whose identifiers carry labels: each has for its context the one name of an id.
-use Rattle.std.specs.Prelude.{◌≡◌, ℕ, Option, Some, option_map, unwrap_or, List, [], ◌∷◌, ◌++◌, length, drop, take}
+use Rattle.std.specs.Prelude.{◌≡◌, ℕ, Option, Some, unwrap_or, List, [], ◌∷◌, ◌++◌, length}
 use Rattle.swc_tree_marks.specs.declared.ident.Ident.{Ident}
 use Rattle.swc_tree_node.specs.declared.node.Node.{Node}
 use Rattle.swc_tree_scoping.specs.Readings.{id_name, with_identifiers}
 use Rattle.swc_base_rename_substitution.specs.Identifiers.{Changes}
-use Rattle.swc_base_rename_substitution.specs.Names.{Id, if_other_text}
+use Rattle.swc_base_rename_substitution.specs.Names.{Id}
+use Rattle.swc_base_rename_contexts_laws.specs.Laws.{id_of_label}
 
 -- an identifier with the name for which its context stands
 abbrev pub named_by : (List ℕ → List ℕ) → Ident → Ident
@@ -26,11 +27,6 @@ label i = record i { ctxt = id_name i }
 abbrev pub labelled : Node → Node
 labelled t = with_identifiers label t
 
--- the id for which a label stands
-abbrev pub id_of_label : List ℕ → Id
-id_of_label [] = ([], [])
-id_of_label (n ∷ x) = (take n x, drop n x)
-
 abbrev pub name_of_label : List ℕ → List ℕ
 name_of_label c = length (id_of_label c).0 ∷ ((id_of_label c).0 ++ (id_of_label c).1)
 
@@ -45,7 +41,3 @@ text_of_label new_texts c = unwrap_or (new_texts (id_of_label c)) (id_of_label c
 -- the tree with the ids for which its labels stand
 abbrev pub unlabelled : Node → Node
 unlabelled t = with_identifiers meant t
-
--- the new ids of labelled ones, by a map of the ids, which have the texts of those: the label stays
-abbrev pub labelled_changes : (Id → Option (List ℕ)) → Changes
-labelled_changes new_texts x = if_other_text x (option_map (λ text. (text, x.1)) (new_texts (x.0, (id_of_label x.1).1)))

@@ -22,7 +22,8 @@ use Rattle.swc_base_rename_substitution.specs.Substituted.{Substituted}
 use Rattle.swc_base_rename_analysis.specs.Named.{Named, all_count}
 use Rattle.swc_base_rename_analysis.specs.Preserved.{IsLoose, IsPreserved}
 use Rattle.swc_base_rename_program.specs.Renamed.{hygiene_renaming}
-use Rattle.swc_base_rename_labels_laws.specs.Labels.{KeepsContexts, by_contexts, id_of_label, labelled, labelled_changes, text_of_label, unlabelled}
+use Rattle.swc_base_rename_contexts_laws.specs.Laws.{id_of_label, labelled_changes}
+use Rattle.swc_base_rename_labels_laws.specs.Labels.{KeepsContexts, by_contexts, labelled, text_of_label, unlabelled}
 
 -- A module that can be written down gets new names, and still is one; the fixer then makes of it what is left of the module, where names are
 -- told apart by their contexts: new ids have those of the old ones.

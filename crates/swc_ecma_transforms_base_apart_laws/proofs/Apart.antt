@@ -34,12 +34,12 @@ use Rattle.swc_base_rename_hygiene_laws.specs.Laws.{HygieneStaysFitting, Hygiene
 use Rattle.swc_base_rename_hygiene_laws.proofs.StaysWritable.{plain_names}
 use Rattle.swc_base_rename_texts_laws.proofs.NewTexts.{substituted_given}
 use Rattle.swc_base_rename_errors_laws.specs.Laws.{AnswerHasNoEarlyErrorOfNames}
-use Rattle.swc_base_rename_contexts_laws.specs.Laws.{SubstitutionNeedsNoContexts, new_text, own_label, with_label}
+use Rattle.swc_base_rename_contexts_laws.specs.Laws.{SubstitutionNeedsNoContexts, id_of_label, labelled_changes, new_text, own_label, with_label}
 use Rattle.swc_base_rename_meetings_laws.specs.Laws.{DuePairsKeepMeetings, StrippingAddsNoPairs}
 use Rattle.swc_base_rename_meetings_names_laws.specs.Laws.{SubstitutionKeepsMeetings, anew, other_pair}
 use Rattle.swc_base_rename_settled_laws.specs.Laws.{BlocksAddNoPairs, ModulesTakeAll}
 use Rattle.swc_base_rename_settled_laws.specs.Meetings.{Met, met}
-use Rattle.swc_base_rename_labels_laws.specs.Labels.{id_of_label, labelled, labelled_changes}
+use Rattle.swc_base_rename_labels_laws.specs.Labels.{labelled}
 use Rattle.swc_base_rename_labels_laws.specs.Laws.{HasNewLabels, IsReady, IsResolvedSo}
 use Rattle.swc_base_rename_labels_laws.proofs.Changed.{fits_changed}
 use Rattle.swc_base_rename_labels_laws.proofs.Texts.{fits_labelled}
