@@ -253,6 +253,9 @@ pub fn name_site<N: NewTexts, A: Asked>(
 /// The ids get them in the order of the sites: each the first that is free, at the first site that declares it. An id that keeps
 /// its text gets none. `goes_on` says whether the counter goes on from id to id within a scope, or starts at 0 for each.
 ///
+/// This is the plain form, in which every name counts everywhere. No pass calls it: a row of the gate holds `names_by_scope` and
+/// `names_with_leaks`, by which programs are named, against it. Where every scope leaks, `names_with_leaks` promises the same.
+///
 /// # Errors
 ///
 /// `CounterSpent` where for an id no counter from its start and below the greatest `usize` has a free text, and `NoMemory`.
