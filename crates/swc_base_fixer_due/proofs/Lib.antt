@@ -7,4 +7,5 @@ pub mod Least
 pub mod Leaves
 pub mod Rows
 pub mod Settled
+pub mod Digests
 pub mod Recorded

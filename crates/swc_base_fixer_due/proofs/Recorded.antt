@@ -1,59 +1,67 @@
--- What a record says once it has one pair more.
-use Rattle.std.proofs.Common.{◌≡◌, ℕ, ◌+◌, ◌<◌, Bool, true, false, ◌&&◌, ◌||◌, ◌==◌, List, [], ◌∷◌, ◌++◌, length, take, get_or, reverse, Option, Some, is_some, cond, refl, sym, ap, ◌∙◌, add-one, rules}
+-- What a record says before it has all pairs.
+use Rattle.std.proofs.Common.{◌≡◌, Bool, true, false, ◌||◌, List, [], ◌∷◌, ◌++◌, length, reverse, Option, Some, None, is_some, cond, refl, sym, ap, ◌∙◌, rules, arith}
 use Rattle.std.specs.Prelude.{if◌then◌else◌}
-use Rattle.std.specs.Ordering.{nat_cmp, ordering_then, is_eq}
-use Rattle.std.specs.BTreeMap.{BTreeMap, get, is_at}
 use Rattle.std.specs.List.{list_any}
-use Rattle.std.proofs.Math.Seq.{take-suc}
 use Rattle.std.proofs.lemmas.List.{reverse-append}
+use Rattle.std.specs.Map.{lookup}
+use Rattle.indexmap.specs.IndexMap.{get}
 use Rattle.swc_tree_marks.specs.declared.span.Span.{Span as Range}
 use Rattle.swc_tree_grammar.specs.declared.pairs.Pair.{Pair}
 use Rattle.swc_tree_grammar.specs.Fixed.{recorded, same_span}
-use Rattle.swc_base_fixer_due.specs.Record.{order, place_or, Records}
+use Rattle.swc_base_fixer_due.specs.Record.{same, content_at, place_or, Noted, Notes, Records}
 
-same_keys : (a b c d : ℕ) → is_eq (ordering_then (nat_cmp a c) (nat_cmp b d)) ≡ ((a == c) && (b == d))
-same_keys a b c d = search rules
+-- the map has the pairs behind those that are left, which come first in the list
+pub record Left (pairs left : List Pair) (m : Noted) : Type 0 where
+  pub places : (s : Range) → place_or (recorded (reverse left) s) (get same m (content_at s)) ≡ recorded (reverse pairs) s
+  pub contents : (s : Range) → (is_some (get same m (content_at s)) || list_any (λ p. same_span s p.content) (reverse left)) ≡ list_any (λ p. same_span s p.content) (reverse pairs)
 
-same_place : (p s : Range) → is_at (order (p.lo, p.hi)) (s.lo, s.hi) ≡ same_span p s
-same_place p s = same_keys p.lo p.hi s.lo s.hi
+one_span : (a b : Range) → same_span a b ≡ true → a ≡ b
+one_span a b h = search rules
 
-chosen : (b : Bool) (s w : Range) (o : Option Range) → place_or s (cond b (Some w) o) ≡ (if b then w else place_or s o)
-chosen true s w o = refl
-chosen false s w o = refl
+either_way : (a b : Range) → same_span a b ≡ same_span b a
+either_way a b = search rules
 
-one_more : (ps : List Pair) (p : Pair) (s : Range) → recorded (reverse (ps ++ p ∷ [])) s ≡ (if same_span p.content s then p.whole else recorded (reverse ps) s)
-one_more ps p s = rw (reverse-append ps (p ∷ [])) refl
+place_noted : (b : Bool) (k m : Option Range) (w r : Range) → (b ≡ true → k ≡ m) → place_or r (cond b (Some (place_or w k)) m) ≡ place_or (if b then w else r) m
+place_noted true k None w r e = ap (place_or w) (e refl)
+place_noted true k (Some v) w r e = ap (place_or w) (e refl)
+place_noted false k m w r e = refl
 
-either_way : (a b c d : ℕ) → ((a == c) && (b == d)) ≡ ((c == a) && (d == b))
-either_way a b c d = search rules
+content_noted : (b : Bool) (v : Range) (m : Option Range) (x : Bool) → (is_some (cond b (Some v) m) || x) ≡ (is_some m || (b || x))
+content_noted true v None x = refl
+content_noted true v (Some w) x = refl
+content_noted false v m x = refl
 
-has_chosen : (b : Bool) (w : Range) (o : Option Range) → is_some (cond b (Some w) o) ≡ (b || is_some o)
-has_chosen true w o = refl
-has_chosen false w o = refl
+module _ (pairs before left : List Pair) (p : Pair) (m n : Noted) (split : before ≡ left ++ p ∷ []) (noted : Notes m p n) (was : Left pairs before m) where
+  last_first : reverse before ≡ p ∷ reverse left
+  last_first = ap reverse split ∙ reverse-append left (p ∷ [])
 
-one_more_has : (ps : List Pair) (p : Pair) (s : Range) → list_any (λ p. same_span s p.content) (reverse (ps ++ p ∷ [])) ≡ (same_span s p.content || list_any (λ p. same_span s p.content) (reverse ps))
-one_more_has ps p s = rw (reverse-append ps (p ∷ [])) refl
+  places : (s : Range) → place_or (recorded (reverse left) s) (get same n (content_at s)) ≡ recorded (reverse pairs) s
+  places s =
+      ap (place_or (recorded (reverse left) s)) (noted (content_at s))
+      ∙ place_noted (same_span p.content s) (get same m (content_at p.content)) (get same m (content_at s)) p.whole (recorded (reverse left) s) (λ h. ap (λ r. get same m (content_at r)) (one_span p.content s h))
+      ∙ ap (λ ps. place_or (recorded ps s) (get same m (content_at s))) (sym last_first) ∙ was.places s
 
-abbrev Updated : BTreeMap (ℕ × ℕ) Range → BTreeMap (ℕ × ℕ) Range → ℕ × ℕ → Range → Type 0
-Updated m n k w = (q : ℕ × ℕ) → get order n q ≡ cond (is_at (order k) q) (Some w) (get order m q)
+  contents : (s : Range) → (is_some (get same n (content_at s)) || list_any (λ p. same_span s p.content) (reverse left)) ≡ list_any (λ p. same_span s p.content) (reverse pairs)
+  contents s =
+      let rest = list_any (λ p. same_span s p.content) (reverse left) in
+      ap (λ o. is_some o || rest) (noted (content_at s))
+      ∙ content_noted (same_span p.content s) (place_or p.whole (get same m (content_at p.content))) (get same m (content_at s)) rest
+      ∙ ap (λ b. is_some (get same m (content_at s)) || (b || rest)) (either_way p.content s)
+      ∙ ap (λ ps. is_some (get same m (content_at s)) || list_any (λ p. same_span s p.content) ps) (sym last_first) ∙ was.contents s
 
-more : (m n : BTreeMap (ℕ × ℕ) Range) (ps : List Pair) (p o : Pair) (i : ℕ) (k : ℕ × ℕ) → i < length ps → p ≡ get_or ps i o → k ≡ (p.content.lo, p.content.hi)
-    → Updated m n k p.whole
-    → ((s : Range) → place_or s (get order m (s.lo, s.hi)) ≡ recorded (reverse (take i ps)) s)
-    → (s : Range) → place_or s (get order n (s.lo, s.hi)) ≡ recorded (reverse (take (i + 1) ps)) s
-more m n ps p o i k h e f u r s = (
-    let before : (if same_span p.content s then p.whole else place_or s (get order m (s.lo, s.hi))) ≡ (if same_span p.content s then p.whole else recorded (reverse (take i ps)) s) = ap (λ x. if same_span p.content s then p.whole else x) (r s) in
-    let last : take (i + 1) ps ≡ take i ps ++ p ∷ [] = rw add-one (take-suc ps i o h) ∙ ap (λ x. take i ps ++ x ∷ []) (sym e) in
-    rw (u (s.lo, s.hi), f, same_place p.content s, chosen (same_span p.content s) s p.whole (get order m (s.lo, s.hi)), before, last) (sym (one_more (take i ps) p s)))
+  pub one_noted : Left pairs left n
+  one_noted = record { places = places; contents = contents }
 
-more_has : (m n : BTreeMap (ℕ × ℕ) Range) (ps : List Pair) (p o : Pair) (i : ℕ) (k : ℕ × ℕ) → i < length ps → p ≡ get_or ps i o → k ≡ (p.content.lo, p.content.hi)
-    → Updated m n k p.whole
-    → ((s : Range) → is_some (get order m (s.lo, s.hi)) ≡ list_any (λ p. same_span s p.content) (reverse (take i ps)))
-    → (s : Range) → is_some (get order n (s.lo, s.hi)) ≡ list_any (λ p. same_span s p.content) (reverse (take (i + 1) ps))
-more_has m n ps p o i k h e f u r s = (
-    let last : take (i + 1) ps ≡ take i ps ++ p ∷ [] = rw add-one (take-suc ps i o h) ∙ ap (λ x. take i ps ++ x ∷ []) (sym e) in
-    rw (u (s.lo, s.hi), f, same_place p.content s, has_chosen (same_span p.content s) p.whole (get order m (s.lo, s.hi)), r s, either_way p.content.lo p.content.hi s.lo s.hi, last) (sym (one_more_has (take i ps) p s)))
+pub none_noted : (pairs left : List Pair) (m : Noted) → left ≡ pairs → m.entries ≡ [] → Left pairs left m
+none_noted pairs left m l e = record {
+  places = λ s. ap (λ es. place_or (recorded (reverse left) s) (lookup (same (content_at s)) es)) e ∙ ap (λ ps. recorded (reverse ps) s) l;
+  contents = λ s. ap (λ es. is_some (lookup (same (content_at s)) es) || list_any (λ p. same_span s p.content) (reverse left)) e ∙ ap (λ ps. list_any (λ p. same_span s p.content) (reverse ps)) l;
+}
 
-pub one_recorded : (m n : BTreeMap (ℕ × ℕ) Range) (ps : List Pair) (p o : Pair) (i : ℕ) (k : ℕ × ℕ) → i < length ps → p ≡ get_or ps i o → k ≡ (p.content.lo, p.content.hi)
-    → Updated m n k p.whole → Records (take i ps) (record { places = m }) → Records (take (i + 1) ps) (record { places = n })
-one_recorded m n ps p o i k h e f u r = record { places = more m n ps p o i k h e f u r.places; contents = more_has m n ps p o i k h e f u r.contents }
+or_nothing : (b : Bool) → b ≡ (b || false)
+or_nothing true = refl
+or_nothing false = refl
+
+pub all_noted : (pairs left : List Pair) (m : Noted) → length left ≡ 0 → Left pairs left m → Records pairs (record { places = m })
+all_noted pairs [] m h was = record { places = was.places; contents = λ s. or_nothing (is_some (get same m (content_at s))) ∙ was.contents s }
+all_noted pairs (p ∷ left) m h was = absurd (omega arith)

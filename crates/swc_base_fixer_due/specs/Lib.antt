@@ -1,3 +1,4 @@
+pub mod Keyed
 pub mod Record
 pub mod Leaf
 pub mod Fields

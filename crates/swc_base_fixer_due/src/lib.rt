@@ -7,13 +7,14 @@
 //! - `heads` looks for a bare `in` and a bare `async` in heads of `for`.
 //! - `starts` looks at what statements, default exports and bodies of arrows begin with, which `start` says.
 //!
-//! `record` says where a pair stands, `pair` makes it.
+//! `record` says where a pair stands, `keyed` how the contents of pairs are hashed there, `pair` makes one.
 #![tactic(auto)]
 
 mod demand;
 mod due;
 mod family;
 mod heads;
+mod keyed;
 mod leaf;
 mod level;
 mod levels;

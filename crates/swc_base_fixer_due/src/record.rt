@@ -1,22 +1,29 @@
 //! Where pairs of parentheses stood.
-ghost use Rattle.std.specs.Prelude.{◌≡◌, IfOk};
-ghost use Rattle.swc_base_fixer_due.specs.Record.{has_in, place_in, Records};
+ghost use Rattle.std.specs.Prelude.{◌≡◌, IfOk, OnOk};
+ghost use Rattle.swc_base_fixer_due.specs.Record.{has_in, place_in, Notes, Records};
 
+use crate::keyed::{Content, Keyed};
+use indexmap::IndexMap;
 use std::alloc::{AllocError, Global};
-use std::collections::BTreeMap;
 use swc_tree_grammar::Pair;
 use swc_tree_marks::Span;
 
-/// Where the pair round each content of a program stood. The table is ordered, so that no spans can make it slow.
+type Places = IndexMap<Content, Span, Keyed>;
+
+/// Where the pair round each content of a program stood, in the order of the source. The keys of its hashes come from
+/// all contents, so that none are chosen to make it slow.
 #[derive(Drop)]
 pub struct Record {
-    places: BTreeMap<(u32, u32), Span>,
+    places: Places,
 }
 
-fn key(span: Span) -> (u32, u32)
-    ensures { result ≡ (span.lo, span.hi) }
+// Notes where a pair stood, unless one is noted whose content has the same span.
+fn note(places: &mut Places, pair: Pair) -> Result<(), AllocError>
+    ensures { OnOk result (Notes places.old pair places.new) }
 {
-    (span.lo, span.hi)
+    let content = Content { span: pair.content };
+    places.entry(content)?.or_insert(pair.whole);
+    Ok(())
 }
 
 impl Record {
@@ -25,9 +32,9 @@ impl Record {
     pub fn new(alloc: Global, pairs: &[Pair]) -> Result<Record, AllocError>
         ensures { IfOk result (λ r. Records pairs.now r) }
     {
-        let mut places = BTreeMap::new(alloc);
-        for pair in pairs {
-            places.insert(key(pair.content), pair.whole)?;
+        let mut places = IndexMap::with_capacity_and_hasher(alloc, pairs.len(), Keyed::by(pairs))?;
+        for pair in pairs.iter().rev() {
+            note(&mut places, *pair)?;
         }
         Ok(Record { places })
     }
@@ -36,7 +43,7 @@ impl Record {
     pub fn place(&self, content: Span) -> Span
         ensures { result ≡ place_in self.now content }
     {
-        match self.places.get(&key(content)) {
+        match self.places.get(&Content { span: content }) {
             Some(place) => *place,
             None => content,
         }
@@ -46,6 +53,6 @@ impl Record {
     pub fn has(&self, content: Span) -> bool
         ensures { result ≡ has_in self.now content }
     {
-        self.places.contains_key(&key(content))
+        self.places.contains_key(&Content { span: content })
     }
 }
