@@ -4,8 +4,9 @@
 JSBASE is the built program of that crate. Each shape is a script of N, 2 N and 4 N parts (20,000, if N is not given): blocks side
 by side, the parameters of one function, the functions of one block, catch clauses, labels, pairs of parentheses, the items of a
 sequence, references below 40 blocks, names of one function that the kit's hash can't tell apart, and as many others of their
-length; pairs whose contents have spans of their own, and such that a known mixer of both numbers can't tell apart; functions that each declare the
-same names with a mark of their own, and the same with a reference behind the function that declares it; calls in chains (`a.b().b()`), operators in chains on
+length; pairs whose contents have spans of their own, such that a known mixer of both numbers can't tell apart, and such that are near one another
+in a table hashed by the kit's default hasher, or by its SipHash with fixed keys; functions that each declare the same names with a mark of their own,
+and the same with a reference behind the function that declares it; calls in chains (`a.b().b()`), operators in chains on
 the left and on the right, and arrows in nests, 10 in each and as many as JSON may nest. The time is of the processor for one run of `resolve script`, of `hygiene script` for what
 is renamed, of `unparen script` for pairs and sequences, of `fix script` for pairs that are due, chains and nests; in a table that grows in step with N each number is twice the one before it."""
 import json
@@ -140,6 +141,50 @@ def colliding_spans(n):
     return found
 
 
+def rotated(word, bits):
+    return (word << bits | word >> 64 - bits) & WORD
+
+
+def sip_round(a, b, c, d):
+    a, c = a + b & WORD, c + d & WORD
+    b, d = rotated(b, 13) ^ a, rotated(d, 16) ^ c
+    a, c = rotated(a, 32) + d & WORD, c + b & WORD
+    return a, rotated(b, 17) ^ c, rotated(c, 32), rotated(d, 21) ^ a
+
+
+def by_fixed_keys(word):
+    """The hash of a word by the kit's DefaultHasher, which is SipHash-1-3 with the keys 0."""
+    a, b, c, d = 0x736F6D6570736575, 0x646F72616E646F6D, 0x6C7967656E657261, 0x7465646279746573
+    for fed in [word, 8 << 56]:
+        a, b, c, d = sip_round(a, b, c, d ^ fed)
+        a ^= fed
+    c ^= 0xFF
+    for _ in range(3):
+        a, b, c, d = sip_round(a, b, c, d)
+    return a ^ b ^ c ^ d
+
+
+def by_default(word):
+    """The hash of a word by the hasher that a map of the kit has where none is given."""
+    return folded(SEED ^ word, MULTIPLIER ^ 16)
+
+
+def crowded_spans(n, hash_of):
+    """Spans whose search begins in the first eighth of a table's groups, so that a table by this hash fills one group after another,
+    and a search goes through what is full: 9 to a group on average, whose number is a power of 2."""
+    groups = 1
+    while 9 * groups < n:
+        groups *= 2
+    found = []
+    first = 0
+    while len(found) < n:
+        first += 1
+        whole = hash_of(first | first + 3 << 32)
+        if ((whole ^ whole >> 32) & groups - 1) < groups // 8:
+            found.append([first, first + 3])
+    return found
+
+
 def due_pairs(contents):
     """A statement `(a + a) * a` for each span, which its sum has."""
     def of(content):
@@ -172,6 +217,8 @@ SHAPES = {
     'other names, renamed': ('hygiene', lambda n: body_of(others(n))),
     'due pairs': ('fix', lambda n: due_pairs(spans(n))),
     'due pairs, spans that a mixer puts together': ('fix', lambda n: due_pairs(colliding_spans(n))),
+    'due pairs, spans that the default hasher crowds': ('fix', lambda n: due_pairs(crowded_spans(n, by_default))),
+    'due pairs, spans that fixed keys crowd': ('fix', lambda n: due_pairs(crowded_spans(n, by_fixed_keys))),
     'functions of the same names, renamed': ('hygiene', functions_beside),
     'functions of the same names, and one reference outside, renamed': ('hygiene', lambda n: functions_beside(n) + [statement(reference('a', [3]))]),
     'calls, 10 in a chain': ('fix', nests(10, called)),
