@@ -1,8 +1,9 @@
 //! Whether names are given as they must be.
-ghost use Rattle.std.specs.Prelude.{◌≡◌, ◌==◌, ◌&&◌};
+ghost use Rattle.std.specs.Prelude.{◌≡◌, refl};
 ghost use Rattle.std.specs.List.{list_any, slice_get};
 ghost use Rattle.swc_base_rename_substitution.specs.Names.{same_id};
-ghost use Rattle.gate_renamers.specs.Flat.{round, round-own, round-same, round-through};
+ghost use Rattle.swc_base_rename_naming.specs.Stretches.{is_within};
+ghost use Rattle.gate_renamers.specs.Flat.{positions_at, round, round-own, round-same, round-through, stretch_at};
 
 use std::alloc::Global;
 use std::collections::{BTreeMap, BTreeSet};
@@ -13,12 +14,13 @@ use swc_base_rename_naming::{
 use swc_tree_items::Text;
 use swc_tree_marks::{Id, JsWord, Mark, SyntaxContext};
 
-// The ids by number, at which scopes or below them which occur, which keep their texts, and which text nobody may get. All scopes
-// lie in the first.
+// The ids by number, the positions of each, from where to where each scope goes, which ids keep their texts, and which text nobody
+// may get. All scopes lie in the first.
 #[derive(Clone, Copy)]
 struct Places<'a> {
     ids: &'a [Id],
-    occurrences: &'a [(usize, usize)],
+    positions: &'a [&'a [usize]],
+    stretches: &'a [(usize, usize)],
     kept: &'a [Id],
     preserved: &'a str,
 }
@@ -28,7 +30,11 @@ impl Asked for Places<'_> {
 
     ghost id_of = { λ places k. slice_get places.ids.now k };
 
-    ghost occurs = { λ places s x. list_any (λ o. o.0 == s && o.1 == x) places.occurrences.now };
+    ghost occurs = { λ places s x. list_any (is_within (stretch_at places.stretches.now s)) (positions_at places.positions.now x) };
+
+    ghost positions = { λ places x. positions_at places.positions.now x };
+
+    ghost stretch = { λ places s. stretch_at places.stretches.now s };
 
     ghost keeps = { λ places x. list_any (λ id. same_id id x) places.kept.now };
 
@@ -39,12 +45,27 @@ impl Asked for Places<'_> {
     }
 
     fn occurs(&self, scope: usize, id: usize) -> bool {
-        for occurrence in self.occurrences {
-            if occurrence.0 == scope && occurrence.1 == id {
+        let (start, end) = self.stretch(scope);
+        for position in self.positions(id) {
+            if start <= *position && *position < end {
                 return true;
             }
         }
         false
+    }
+
+    fn positions(&self, id: usize) -> &[usize] {
+        match self.positions.get(id) {
+            Some(positions) => *positions,
+            None => &[],
+        }
+    }
+
+    fn stretch(&self, scope: usize) -> (usize, usize) {
+        match self.stretches.get(scope) {
+            Some(stretch) => *stretch,
+            None => (0, 0),
+        }
     }
 
     fn keeps(&self, id: &Id) -> bool {
@@ -59,6 +80,8 @@ impl Asked for Places<'_> {
     fn is_preserved(&self, text: &str) -> bool {
         text == self.preserved
     }
+
+    ghost placed = { λ _ _ _. refl };
 }
 
 impl Nesting for Places<'_> {
@@ -109,19 +132,10 @@ fn are(alloc: Global, texts: &BTreeMap<usize, JsWord>, wanted: &str) -> Option<b
 // `var b#1; var b1#3; { const b#2; const b1#4; { b1#3; b#2; b#1; b1#4; } }`
 fn hygiene(alloc: Global) -> Option<bool> {
     let ids = ids_of(alloc, &[("b", 1), ("b1", 3), ("b", 2), ("b1", 4)])?;
-    let occurrences = [
-        (0, 0),
-        (0, 1),
-        (0, 2),
-        (0, 3),
-        (1, 0),
-        (1, 1),
-        (1, 2),
-        (1, 3),
-    ];
     let places = Places {
         ids: ids.as_slice(),
-        occurrences: &occurrences,
+        positions: &[&[0, 6], &[1, 4], &[2, 5], &[3, 7]],
+        stretches: &[(0, 8), (2, 8)],
         kept: &[],
         preserved: "x",
     };
@@ -136,7 +150,8 @@ fn apart(alloc: Global) -> Option<bool> {
     let kept = ids_of(alloc, &[("foo", 1)])?;
     let places = Places {
         ids: ids.as_slice(),
-        occurrences: &[(0, 0), (0, 1), (1, 1)],
+        positions: &[&[0, 2], &[1], &[]],
+        stretches: &[(0, 3), (1, 2)],
         kept: &[],
         preserved: "x",
     };
@@ -158,7 +173,8 @@ fn scopes(alloc: Global) -> Option<bool> {
     let ids = ids_of(alloc, &[("a", 1), ("a", 2), ("a", 3)])?;
     let places = Places {
         ids: ids.as_slice(),
-        occurrences: &[(0, 0), (0, 1), (0, 2), (1, 1), (2, 1), (2, 2)],
+        positions: &[&[0], &[1, 2], &[3]],
+        stretches: &[(0, 4), (1, 2), (2, 4)],
         kept: &[],
         preserved: "x",
     };

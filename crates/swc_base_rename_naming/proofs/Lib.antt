@@ -6,3 +6,4 @@ pub mod Stands
 pub mod Inside
 pub mod ByIds
 pub mod GoesOn
+pub mod Marks

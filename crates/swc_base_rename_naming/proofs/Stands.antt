@@ -108,9 +108,9 @@ has_also text id was is pushed x f =
 pub has_no_more : (text : List ℕ) (id : ℕ) (map : ReverseMap) → HasAlso false text id map map
 has_no_more text id map x f = or_none (list_any f (ids_of map x))
 
-pub put_in_whole : (leaks : Bool) (text : List ℕ) (id : ℕ) (given was is : ReverseMap) → leaks ≡ true → IsPushed text id was is → IsPutDown leaks text id (given, was) (given, is)
-put_in_whole true text id given was is e pushed = record { given = has_no_more text id given; whole = has_also text id was is pushed }
-put_in_whole false text id given was is e pushed = absurd (cc)
+pub put_in_whole : (leaks : Bool) (text : List ℕ) (id : ℕ) (given was is : ReverseMap) → leaks ≡ true → HasAlso true text id was is → IsPutDown leaks text id (given, was) (given, is)
+put_in_whole true text id given was is e also = record { given = has_no_more text id given; whole = also }
+put_in_whole false text id given was is e also = absurd (cc)
 
 pub put_in_given : (leaks : Bool) (text : List ℕ) (id : ℕ) (was is whole : ReverseMap) → leaks ≡ false → IsPushed text id was is → IsPutDown leaks text id (was, whole) (is, whole)
 put_in_given true text id was is whole e pushed = absurd (cc)

@@ -4,6 +4,8 @@ pub mod Texts
 pub mod TextLaws
 pub mod Free
 pub mod Chained
+pub mod Stretches
+pub mod Places
 pub mod InOrder
 pub mod Steps
 pub mod Planned

@@ -5,6 +5,8 @@ use swc_tree_marks::Id;
 /// What naming asks of a program, whose ids and scopes are numbered.
 pub trait Asked {
     ghost use Rattle.std.specs.Prelude.{◌≡◌, ℕ, Bool, List, Option, Some, None, MatchOption};
+    ghost use Rattle.std.specs.List.{list_any};
+    ghost use Rattle.swc_base_rename_naming.specs.Stretches.{is_within};
     ghost use Rattle.swc_base_rename_substitution.specs.Names.{Id};
 
     /// The id of a number.
@@ -12,6 +14,12 @@ pub trait Asked {
 
     /// Whether the id of a number occurs at a scope or below it.
     ghost occurs: { Self → ℕ → ℕ → Bool };
+
+    /// The positions of the id of a number.
+    ghost positions: { Self → ℕ → List ℕ };
+
+    /// The stretch of positions of a scope: where it starts, and where it ends.
+    ghost stretch: { Self → ℕ → ℕ × ℕ };
 
     /// Whether an id keeps its text.
     ghost keeps: { Self → Id → Bool };
@@ -27,6 +35,14 @@ pub trait Asked {
     fn occurs(&self, scope: usize, id: usize) -> bool
         ensures { result ≡ occurs self.now scope id };
 
+    /// The positions of the id of a number.
+    fn positions(&self, id: usize) -> &[usize]
+        ensures { result.now ≡ positions self.now id };
+
+    /// The stretch of positions of a scope.
+    fn stretch(&self, scope: usize) -> (usize, usize)
+        ensures { result ≡ stretch self.now scope };
+
     /// Whether an id keeps its text.
     fn keeps(&self, id: &Id) -> bool
         ensures { result ≡ keeps self.now id.now };
@@ -34,6 +50,9 @@ pub trait Asked {
     /// Whether no id may get a text.
     fn is_preserved(&self, text: &str) -> bool
         ensures { result ≡ preserved self.now text.now };
+
+    /// An id occurs at a scope or below it where one of its positions is in the scope's stretch.
+    ghost placed: { (a : Self) (s x : ℕ) → occurs a s x ≡ list_any (is_within (stretch a s)) (positions a x) };
 }
 
 /// How the scopes of a program lie in one another.

@@ -7,6 +7,7 @@ ghost use Rattle.swc_base_rename_naming.specs.Chained.{ids_of};
 ghost use Rattle.swc_base_rename_naming.specs.Free.{FindsFree, IsSearchRefusal};
 ghost use Rattle.swc_base_rename_naming.specs.InOrder.{IsRefused, NamedInOrder};
 ghost use Rattle.swc_base_rename_naming.specs.Tried.{IsTried};
+ghost use Rattle.swc_base_rename_naming.specs.Places.{AreMarked};
 ghost use Rattle.swc_base_rename_naming.specs.Planned.{planned};
 ghost use Rattle.swc_base_rename_naming.specs.Steps.{HasMore, IsKept, IsNamable, IsNameGiven, IsPutDown, all_count, next_at as is_next_at, naming, rules, taken_at, text_at, IsSiteDone, IsSiteRefused};
 
@@ -15,6 +16,7 @@ use crate::free::{Taken, free_text};
 use crate::new_texts::NewTexts;
 use crate::reverse_map::ReverseMap;
 use crate::tried::Tried;
+use crate::whole::{Whole, any_occurs};
 use std::alloc::Global;
 use std::collections::{BTreeMap, BTreeSet};
 use swc_tree_marks::{Id, JsWord, NoMemory, PassError};
@@ -31,33 +33,22 @@ pub struct Plan<'a, N, A> {
 }
 
 // What is taken at a scope: texts that nobody may get, and those of ids that occur there or below.
-#[derive(Clone, Copy)]
-struct AtScope<'a, 'b, A> {
+#[derive(Drop)]
+struct AtScope<'a, 'b, A: Asked> {
     asked: &'a A,
     given: &'a ReverseMap<'b>,
-    whole: &'a ReverseMap<'b>,
+    whole: &'a Whole,
     scope: usize,
-}
-
-// Whether one of the ids that a text was given to occurs at a scope or below it.
-fn any_occurs<A: Asked>(asked: &A, given: &ReverseMap<'_>, scope: usize, text: &str) -> bool
-    ensures { result ≡ list_any (A.occurs asked.now scope) (ids_of given.now text.now) }
-{
-    for id in given.get(text) {
-        if asked.occurs(scope, *id) {
-            return true;
-        }
-    }
-    false
+    ghost marked: { AreMarked (A.positions asked.now) whole.now },
 }
 
 impl<A: Asked> Taken for AtScope<'_, '_, A> {
-    ghost taken = { λ at. taken_at (A.preserved at.asked.now) (A.occurs at.asked.now) (at.given.now, at.whole.now) at.scope };
+    ghost taken = { λ at. taken_at (A.preserved at.asked.now) (A.occurs at.asked.now) (at.given.now, at.whole.now.given) at.scope };
 
     fn is_taken(&self, text: &str) -> bool {
         self.asked.is_preserved(text)
             || any_occurs(self.asked, self.given, self.scope, text)
-            || any_occurs(self.asked, self.whole, self.scope, text)
+            || self.whole.any_occurs(self.asked, self.scope, text)
     }
 }
 
@@ -121,11 +112,12 @@ fn free_at<N: NewTexts, A: Asked>(
     id: &Id,
     scope: usize,
     given: &ReverseMap<'_>,
-    whole: &ReverseMap<'_>,
+    whole: &Whole,
     next: &mut usize,
 ) -> Result<JsWord, PassError>
-    ensures found { IfOk result (FindsFree (N.text plan.now.texts.now id.now) (taken_at (A.preserved plan.now.asked.now) (A.occurs plan.now.asked.now) (given.now, whole.now) scope) next.old next.new) }
-    ensures refused { IfErr result (IsSearchRefusal (N.text plan.now.texts.now id.now) (taken_at (A.preserved plan.now.asked.now) (A.occurs plan.now.asked.now) (given.now, whole.now) scope) next.old) }
+    requires { AreMarked (A.positions plan.now.asked.now) whole.now }
+    ensures found { IfOk result (FindsFree (N.text plan.now.texts.now id.now) (taken_at (A.preserved plan.now.asked.now) (A.occurs plan.now.asked.now) (given.now, whole.now.given) scope) next.old next.new) }
+    ensures refused { IfErr result (IsSearchRefusal (N.text plan.now.texts.now id.now) (taken_at (A.preserved plan.now.asked.now) (A.occurs plan.now.asked.now) (given.now, whole.now.given) scope) next.old) }
 {
     let taken = AtScope {
         asked: plan.asked,
@@ -136,20 +128,23 @@ fn free_at<N: NewTexts, A: Asked>(
     free_text(plan.alloc, plan.texts, id, &taken, next)
 }
 
-// Puts down that an id has got a text: in the map of the whole if its scope leaks, else in that of its scope.
-fn put_down(
-    leaks: bool,
+// Puts down that the id of a site has got a text: in the map of the whole if its scope leaks, else in that of its scope.
+fn put_down<N: NewTexts, A: Asked>(
+    plan: &Plan<'_, N, A>,
     text: JsWord,
-    id: usize,
+    site: (usize, usize),
     given: &mut ReverseMap<'_>,
-    whole: &mut ReverseMap<'_>,
+    whole: &mut Whole,
 ) -> Result<(), NoMemory>
-    ensures { OnOk result (IsPutDown leaks text id (given.old, whole.old) (given.new, whole.new)) }
+    requires { AreMarked (A.positions plan.now.asked.now) whole.old }
+    ensures put { OnOk result (IsPutDown (contains nat_cmp plan.now.leaks.now site.0) text site.1 (given.old, whole.old.given) (given.new, whole.new.given)) }
+    ensures marked { OnOk result (AreMarked (A.positions plan.now.asked.now) whole.new) }
 {
+    let leaks = plan.leaks.contains(&site.0);
     if leaks {
-        whole.push_entry(text, id)
+        whole.push(plan.alloc, plan.asked, text, site.1)
     } else {
-        given.push_entry(text, id)
+        given.push_entry(text, site.1)
     }
 }
 
@@ -180,13 +175,14 @@ fn search<N: NewTexts, A: Asked>(
     scope: usize,
     start: usize,
     given: &ReverseMap<'_>,
-    whole: &ReverseMap<'_>,
+    whole: &Whole,
     tried: &mut Tried,
 ) -> Result<(JsWord, usize), PassError>
-    requires tried { IsTried (N.text plan.now.texts.now) (A.preserved plan.now.asked.now) (A.occurs plan.now.asked.now) (given.now, whole.now) tried.old }
-    ensures found { IfOk result (λ found. FindsFree (N.text plan.now.texts.now id.now) (taken_at (A.preserved plan.now.asked.now) (A.occurs plan.now.asked.now) (given.now, whole.now) scope) start found.1 found.0) }
-    ensures tried { OnOk result (IsTried (N.text plan.now.texts.now) (A.preserved plan.now.asked.now) (A.occurs plan.now.asked.now) (given.now, whole.now) tried.new) }
-    ensures refused { IfErr result (IsSearchRefusal (N.text plan.now.texts.now id.now) (taken_at (A.preserved plan.now.asked.now) (A.occurs plan.now.asked.now) (given.now, whole.now) scope) start) }
+    requires tried { IsTried (N.text plan.now.texts.now) (A.preserved plan.now.asked.now) (A.occurs plan.now.asked.now) (given.now, whole.now.given) tried.old }
+    requires marked { AreMarked (A.positions plan.now.asked.now) whole.now }
+    ensures found { IfOk result (λ found. FindsFree (N.text plan.now.texts.now id.now) (taken_at (A.preserved plan.now.asked.now) (A.occurs plan.now.asked.now) (given.now, whole.now.given) scope) start found.1 found.0) }
+    ensures tried { OnOk result (IsTried (N.text plan.now.texts.now) (A.preserved plan.now.asked.now) (A.occurs plan.now.asked.now) (given.now, whole.now.given) tried.new) }
+    ensures refused { IfErr result (IsSearchRefusal (N.text plan.now.texts.now id.now) (taken_at (A.preserved plan.now.asked.now) (A.occurs plan.now.asked.now) (given.now, whole.now.given) scope) start) }
 {
     let mut next = start.max(tried.counter(scope, id.0.as_str()));
     let text = free_at(plan, id, scope, given, whole, &mut next)?;
@@ -203,25 +199,21 @@ fn give_name<N: NewTexts, A: Asked>(
     id: &Id,
     site: (usize, usize),
     given: &mut ReverseMap<'_>,
-    whole: &mut ReverseMap<'_>,
+    whole: &mut Whole,
     names: &mut GivenTexts,
     tried: &mut Tried,
 ) -> Result<(), PassError>
-    requires tried { IsTried (N.text plan.now.texts.now) (A.preserved plan.now.asked.now) (A.occurs plan.now.asked.now) (given.old, whole.old) tried.old }
-    ensures tried { OnOk result (IsTried (N.text plan.now.texts.now) (A.preserved plan.now.asked.now) (A.occurs plan.now.asked.now) (given.new, whole.new) tried.new) }
-    ensures more { OnOk result (HasMore whole.old whole.new) }
-    ensures named { OnOk result (IsNameGiven (N.text plan.now.texts.now id.now) (taken_at (A.preserved plan.now.asked.now) (A.occurs plan.now.asked.now) (given.old, whole.old) site.0) (is_next_at plan.now.goes_on names.old site.0) (contains nat_cmp plan.now.leaks.now site.0) site names.old names.new (given.old, whole.old) (given.new, whole.new)) }
-    ensures refused { IfErr result (IsSearchRefusal (N.text plan.now.texts.now id.now) (taken_at (A.preserved plan.now.asked.now) (A.occurs plan.now.asked.now) (given.old, whole.old) site.0) (is_next_at plan.now.goes_on names.old site.0)) }
+    requires tried { IsTried (N.text plan.now.texts.now) (A.preserved plan.now.asked.now) (A.occurs plan.now.asked.now) (given.old, whole.old.given) tried.old }
+    requires marked { AreMarked (A.positions plan.now.asked.now) whole.old }
+    ensures tried { OnOk result (IsTried (N.text plan.now.texts.now) (A.preserved plan.now.asked.now) (A.occurs plan.now.asked.now) (given.new, whole.new.given) tried.new) }
+    ensures more { OnOk result (HasMore whole.old.given whole.new.given) }
+    ensures marked { OnOk result (AreMarked (A.positions plan.now.asked.now) whole.new) }
+    ensures named { OnOk result (IsNameGiven (N.text plan.now.texts.now id.now) (taken_at (A.preserved plan.now.asked.now) (A.occurs plan.now.asked.now) (given.old, whole.old.given) site.0) (is_next_at plan.now.goes_on names.old site.0) (contains nat_cmp plan.now.leaks.now site.0) site names.old names.new (given.old, whole.old.given) (given.new, whole.new.given)) }
+    ensures refused { IfErr result (IsSearchRefusal (N.text plan.now.texts.now id.now) (taken_at (A.preserved plan.now.asked.now) (A.occurs plan.now.asked.now) (given.old, whole.old.given) site.0) (is_next_at plan.now.goes_on names.old site.0)) }
 {
     let start = next_at(plan.goes_on, names, site.0);
     let (text, next) = search(plan, id, site.0, start, given, whole, tried)?;
-    put_down(
-        plan.leaks.contains(&site.0),
-        text.clone()?,
-        site.1,
-        given,
-        whole,
-    )?;
+    put_down(plan, text.clone()?, site, given, whole)?;
     keep(text, site, next, names)?;
     Ok(())
 }
@@ -231,15 +223,17 @@ pub fn name_site<N: NewTexts, A: Asked>(
     plan: &Plan<'_, N, A>,
     site: (usize, usize),
     given: &mut ReverseMap<'_>,
-    whole: &mut ReverseMap<'_>,
+    whole: &mut Whole,
     names: &mut GivenTexts,
     tried: &mut Tried,
 ) -> Result<(), PassError>
-    requires tried { IsTried (N.text plan.now.texts.now) (A.preserved plan.now.asked.now) (A.occurs plan.now.asked.now) (given.old, whole.old) tried.old }
-    ensures tried { OnOk result (IsTried (N.text plan.now.texts.now) (A.preserved plan.now.asked.now) (A.occurs plan.now.asked.now) (given.new, whole.new) tried.new) }
-    ensures more { OnOk result (HasMore whole.old whole.new) }
-    ensures named { OnOk result ((counts : ℕ → ℕ → Bool) → IsSiteDone (planned N.text A.keeps A.preserved A.occurs A.id_of plan.now counts) (contains nat_cmp plan.now.leaks.now site.0) site names.old names.new (given.old, whole.old) (given.new, whole.new)) }
-    ensures refused { IfErr result (λ e. (counts : ℕ → ℕ → Bool) → IsSiteRefused (planned N.text A.keeps A.preserved A.occurs A.id_of plan.now counts) site names.old (given.old, whole.old) e) }
+    requires tried { IsTried (N.text plan.now.texts.now) (A.preserved plan.now.asked.now) (A.occurs plan.now.asked.now) (given.old, whole.old.given) tried.old }
+    requires marked { AreMarked (A.positions plan.now.asked.now) whole.old }
+    ensures tried { OnOk result (IsTried (N.text plan.now.texts.now) (A.preserved plan.now.asked.now) (A.occurs plan.now.asked.now) (given.new, whole.new.given) tried.new) }
+    ensures more { OnOk result (HasMore whole.old.given whole.new.given) }
+    ensures marked { OnOk result (AreMarked (A.positions plan.now.asked.now) whole.new) }
+    ensures named { OnOk result ((counts : ℕ → ℕ → Bool) → IsSiteDone (planned N.text A.keeps A.preserved A.occurs A.id_of plan.now counts) (contains nat_cmp plan.now.leaks.now site.0) site names.old names.new (given.old, whole.old.given) (given.new, whole.new.given)) }
+    ensures refused { IfErr result (λ e. (counts : ℕ → ℕ → Bool) → IsSiteRefused (planned N.text A.keeps A.preserved A.occurs A.id_of plan.now counts) site names.old (given.old, whole.old.given) e) }
 {
     match namable(plan.asked, &names.texts, site.1) {
         Some(id) => give_name(plan, id, site, given, whole, names, tried),
@@ -278,7 +272,7 @@ pub fn names_in_order<N: NewTexts, A: Asked>(
         leaks: &leaks,
     };
     let mut given = ReverseMap::new(alloc);
-    let mut whole = ReverseMap::new(alloc);
+    let mut whole = Whole::new(alloc);
     let mut names = GivenTexts::new(alloc);
     let mut tried = Tried::new(alloc);
     for site in sites {

@@ -15,6 +15,7 @@ mod new_texts;
 mod reverse_map;
 mod texts;
 mod tried;
+mod whole;
 
 pub use asked::{Asked, Nesting};
 pub use by_id::texts_by_id;

@@ -4,6 +4,7 @@ ghost use Rattle.std.specs.Ordering.{nat_cmp};
 ghost use Rattle.std.specs.BTreeSet.{contains};
 ghost use Rattle.swc_base_rename_naming.specs.InOrder.{IsRefused, NamedInOrder};
 ghost use Rattle.swc_base_rename_naming.specs.Inside.{IsInPreorder, IsScopeNamed, IsScopeRefused};
+ghost use Rattle.swc_base_rename_naming.specs.Places.{AreMarked};
 ghost use Rattle.swc_base_rename_naming.specs.Planned.{planned};
 ghost use Rattle.swc_base_rename_naming.specs.Steps.{HasMore, counts_with, naming, rules, text_at};
 
@@ -12,6 +13,7 @@ use crate::in_order::{GivenTexts, Plan, name_site};
 use crate::new_texts::NewTexts;
 use crate::reverse_map::ReverseMap;
 use crate::tried::Tried;
+use crate::whole::Whole;
 use std::alloc::Global;
 use std::collections::{BTreeMap, BTreeSet};
 use swc_tree_marks::{JsWord, PassError};
@@ -22,14 +24,16 @@ fn name_scope<N: NewTexts, A: Asked + Nesting>(
     sites: &[(usize, usize)],
     from: usize,
     outer: &ReverseMap<'_>,
-    whole: &mut ReverseMap<'_>,
+    whole: &mut Whole,
     names: &mut GivenTexts,
 ) -> Result<usize, PassError>
     requires within { from < length sites.now }
     requires order { IsInPreorder (A.surrounds plan.now.asked.now) sites.now }
-    ensures named { IfOk result (IsScopeNamed (planned N.text A.keeps A.preserved A.occurs A.id_of plan.now) (contains nat_cmp plan.now.leaks.now) (A.surrounds plan.now.asked.now) sites.now from names.old names.new (outer.now, whole.old) whole.new) }
-    ensures more { OnOk result (HasMore whole.old whole.new) }
-    ensures refused { IfErr result (IsScopeRefused (planned N.text A.keeps A.preserved A.occurs A.id_of plan.now) (contains nat_cmp plan.now.leaks.now) (A.surrounds plan.now.asked.now) sites.now from names.old (outer.now, whole.old)) }
+    requires marked { AreMarked (A.positions plan.now.asked.now) whole.old }
+    ensures named { IfOk result (IsScopeNamed (planned N.text A.keeps A.preserved A.occurs A.id_of plan.now) (contains nat_cmp plan.now.leaks.now) (A.surrounds plan.now.asked.now) sites.now from names.old names.new (outer.now, whole.old.given) whole.new.given) }
+    ensures more { OnOk result (HasMore whole.old.given whole.new.given) }
+    ensures marked { OnOk result (AreMarked (A.positions plan.now.asked.now) whole.new) }
+    ensures refused { IfErr result (IsScopeRefused (planned N.text A.keeps A.preserved A.occurs A.id_of plan.now) (contains nat_cmp plan.now.leaks.now) (A.surrounds plan.now.asked.now) sites.now from names.old (outer.now, whole.old.given)) }
 {
     let scope = sites[from].0;
     let mut given = outer.next(plan.alloc);
@@ -94,7 +98,7 @@ pub fn names_with_leaks<N: NewTexts, A: Asked + Nesting>(
         leaks,
     };
     let outer = ReverseMap::new(alloc);
-    let mut whole = ReverseMap::new(alloc);
+    let mut whole = Whole::new(alloc);
     let mut names = GivenTexts::new(alloc);
     let mut at = 0;
     while at < sites.len() {

@@ -9,3 +9,4 @@ pub mod Ruled
 pub mod Beside
 pub mod Reach
 pub mod Counting
+pub mod Placed

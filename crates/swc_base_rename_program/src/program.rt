@@ -8,6 +8,8 @@ ghost use Rattle.swc_base_rename_naming_laws.specs.Rules.{id_in, occurs_at};
 ghost use Rattle.swc_base_rename_program.specs.Kept.{is_kept};
 ghost use Rattle.swc_base_rename_program.specs.Asked.{is_preserved_text};
 ghost use Rattle.swc_base_rename_program.specs.Spans.{spans as spans_in};
+ghost use Rattle.swc_base_rename_program.specs.Stretches.{positions_in, stretch_in};
+ghost use Rattle.swc_base_rename_program.proofs.Placed.{placed_in};
 
 use crate::kept::Kept;
 use crate::spans::{Span, is_apart};
@@ -34,6 +36,10 @@ impl Asked for Program<'_> {
 
     ghost occurs = { λ p s k. occurs_at p.analysis.now s k };
 
+    ghost positions = { λ p k. positions_in p.analysis.now k };
+
+    ghost stretch = { λ p s. stretch_in p.analysis.now s };
+
     ghost keeps = { λ p x. is_kept p.kept.now x };
 
     ghost preserved = { λ p text. is_preserved_text p.analysis.now p.left.now text };
@@ -53,6 +59,20 @@ impl Asked for Program<'_> {
         self.analysis.occurs(scope, id)
     }
 
+    fn positions(&self, id: usize) -> &[usize] {
+        match self.analysis.ids.get(id) {
+            Some(entry) => entry.positions.as_slice(),
+            None => &[],
+        }
+    }
+
+    fn stretch(&self, scope: usize) -> (usize, usize) {
+        match self.analysis.regions.get(scope) {
+            Some(region) => (region.start, region.end),
+            None => (0, 0),
+        }
+    }
+
     fn keeps(&self, id: &Id) -> bool {
         self.kept.keeps(id)
     }
@@ -60,6 +80,8 @@ impl Asked for Program<'_> {
     fn is_preserved(&self, text: &str) -> bool {
         self.analysis.loose.contains(text) || self.left.contains(text)
     }
+
+    ghost placed = { λ p s k. placed_in p.analysis.now s k };
 }
 
 impl Nesting for Program<'_> {

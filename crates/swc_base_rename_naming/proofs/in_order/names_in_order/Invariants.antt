@@ -1,5 +1,6 @@
 use Rattle.std.proofs.Common.{List, true, false, take}
 use Rattle.swc_base_rename_naming.specs.InOrder.{Choice}
+use Rattle.swc_base_rename_naming.specs.Places.{AreMarked}
 use Rattle.swc_base_rename_naming.specs.Steps.{Holds, Naming, Stands, all_count, naming}
 use Rattle.swc_base_rename_naming.specs.Tried.{IsTried}
 use Rattle.swc_base_rename_naming.proofs.in_order.names_in_order.Given as goal
@@ -8,6 +9,7 @@ abbrev pub invariant-loop-site : goal.invariant-loop-site
 invariant-loop-site g l =
     let n : Naming = naming (g.N.NewTexts.text l.texts) l.goes_on (g.A.Asked.keeps l.asked) (g.A.Asked.preserved l.asked) (g.A.Asked.occurs l.asked) all_count (g.A.Asked.id_of l.asked) in
     record {
-      stood : (choices : List Choice) × Stands n (take l.site-index l.sites) choices l.names × Holds n (λ u. true) choices l.given × Holds n (λ u. false) choices l.whole;
-      tried : IsTried (g.N.NewTexts.text l.texts) (g.A.Asked.preserved l.asked) (g.A.Asked.occurs l.asked) (l.given, l.whole) l.tried;
+      stood : (choices : List Choice) × Stands n (take l.site-index l.sites) choices l.names × Holds n (λ u. true) choices l.given × Holds n (λ u. false) choices l.whole.given;
+      tried : IsTried (g.N.NewTexts.text l.texts) (g.A.Asked.preserved l.asked) (g.A.Asked.occurs l.asked) (l.given, l.whole.given) l.tried;
+      marked : AreMarked (g.A.Asked.positions l.asked) l.whole;
     }

@@ -2,6 +2,7 @@ use Rattle.std.proofs.Common.{◌≡◌, ◌-◌, ◌≤◌, ℕ, Bool, List, le
 use Rattle.std.specs.BTreeSet.{contains}
 use Rattle.swc_base_rename_naming.specs.InOrder.{Choice}
 use Rattle.swc_base_rename_naming.specs.Inside.{MayBegin, scope_at}
+use Rattle.swc_base_rename_naming.specs.Places.{AreMarked}
 use Rattle.swc_base_rename_naming.specs.Planned.{planned}
 use Rattle.swc_base_rename_naming.specs.Steps.{HasMore, Naming, counts_with}
 use Rattle.swc_base_rename_naming.specs.Tried.{IsTried}
@@ -20,9 +21,10 @@ invariant-loop-at g l =
       begun : l.from ≤ l.at;
       fits : l.at ≤ length l.sites;
       scope : l.scope ≡ scope_at l.sites l.from;
-      half : (choices : List Choice) → MayBegin n leaks surrounds l.sites l.from choices l.fn.names (l.outer, l.fn.whole) → Half n leaks surrounds l.sites l.from l.at choices l.names (l.given, l.whole);
-      more : HasMore l.fn.whole l.whole;
-      tried : IsTried (g.N.NewTexts.text l.plan.texts.now) (g.A.Asked.preserved l.plan.asked.now) (g.A.Asked.occurs l.plan.asked.now) (l.given, l.whole) l.tried;
+      half : (choices : List Choice) → MayBegin n leaks surrounds l.sites l.from choices l.fn.names (l.outer, l.fn.whole.given) → Half n leaks surrounds l.sites l.from l.at choices l.names (l.given, l.whole.given);
+      more : HasMore l.fn.whole.given l.whole.given;
+      tried : IsTried (g.N.NewTexts.text l.plan.texts.now) (g.A.Asked.preserved l.plan.asked.now) (g.A.Asked.occurs l.plan.asked.now) (l.given, l.whole.given) l.tried;
+      marked : AreMarked (g.A.Asked.positions l.plan.asked.now) l.whole;
     }
 
 abbrev pub decreases-loop-at : goal.decreases-loop-at

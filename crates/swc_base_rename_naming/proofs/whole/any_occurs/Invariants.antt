@@ -1,7 +1,7 @@
 use Rattle.std.proofs.Common.{◌≡◌}
 use Rattle.std.specs.List.{list_any}
 use Rattle.swc_base_rename_naming.specs.Chained.{ids_left, ids_of}
-use Rattle.swc_base_rename_naming.proofs.in_order.any_occurs.Given as goal
+use Rattle.swc_base_rename_naming.proofs.whole.any_occurs.Given as goal
 
 -- whether one occurs is settled by those that are left
 abbrev pub invariant-loop-id : goal.invariant-loop-id
