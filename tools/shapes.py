@@ -5,10 +5,11 @@ JSBASE is the built program of that crate. Each shape is a script of N, 2 N and 
 by side, the parameters of one function, the functions of one block, catch clauses, labels, pairs of parentheses, the items of a
 sequence, references below 40 blocks, names of one function that the kit's hash can't tell apart, and as many others of their
 length; pairs whose contents have spans of their own, such that a known mixer of both numbers can't tell apart, and such that are near one another
-in a table hashed by the kit's default hasher, or by its SipHash with fixed keys; functions that each declare the same names with a mark of their own,
-and the same with a reference behind the function that declares it; calls in chains (`a.b().b()`), operators in chains on
-the left and on the right, and arrows in nests, 10 in each and as many as JSON may nest. The time is of the processor for one run of `resolve script`, of `hygiene script` for what
-is renamed, of `unparen script` for pairs and sequences, of `fix script` for pairs that are due, chains and nests; in a table that grows in step with N each number is twice the one before it."""
+in a table hashed by the kit's default hasher, or by its SipHash with fixed keys; functions that each declare the
+same names with a mark of their own, the same with a reference behind one function that declares it, and behind each, and functions that declare one id of all and
+one of their own; ids of one text that one function declares; sequences in sequences, 10 and 50 deep; arrows in nests with a call of `eval` in the innermost; calls in
+chains (`a.b().b()`), operators in chains on the left and on the right, and arrows in nests, 10 in each and as many as JSON may nest. The time is of the processor for one run of `resolve script`, of `hygiene script` for what
+is renamed, of `unparen script` for pairs and all sequences, of `fix script` for pairs that are due, chains and nests; in a table that grows in step with N each number is twice the one before it."""
 import json
 import random
 import resource
@@ -202,6 +203,35 @@ def functions_beside(n):
     return [function(f'f{i}', ['a'], [declaration('var', ['b'], [i + 3]), statement(reference('a', [i + 3]))], [i + 3]) for i in range(n)]
 
 
+def functions_of_one_id(n):
+    """Functions that each declare one id of all, so that all leak, and an id of their own of one text."""
+    return [function(f'f{i}', ['a'], [declaration('var', ['b'], [i + 4]), statement(reference('b', [i + 4]))], [3]) for i in range(n)]
+
+
+def leaking_functions(n):
+    """Functions of the same names, behind all of which stand their own."""
+    return functions_beside(n) + [statement(reference('a', [i + 3])) for i in range(n)]
+
+
+def ids_of_one_text(n):
+    declarations = [declaration('var', ['a'], [i + 3]) for i in range(n)]
+    return [function('f', [], declarations)]
+
+
+def sequence(inner):
+    return node('SeqExpr', exprs=[inner, reference('a')])
+
+
+def nests_that_read(depth):
+    """N arrows in nests of a depth, with a call of `eval` in the innermost."""
+    def of(n):
+        inner = node('CallExpr', callee=reference('eval'), args=[])
+        for _ in range(depth):
+            inner = arrow(inner)
+        return [statement(inner)] * (n // depth)
+    return of
+
+
 SHAPES = {
     'blocks': ('resolve', lambda n: [block([declaration('let', ['a']), statement(reference('a'))]) for _ in range(n)]),
     'parameters': ('resolve', lambda n: [function('f', [f'p{i}' for i in range(n)], [])]),
@@ -221,6 +251,13 @@ SHAPES = {
     'due pairs, spans that fixed keys crowd': ('fix', lambda n: due_pairs(crowded_spans(n, by_fixed_keys))),
     'functions of the same names, renamed': ('hygiene', functions_beside),
     'functions of the same names, and one reference outside, renamed': ('hygiene', lambda n: functions_beside(n) + [statement(reference('a', [3]))]),
+    'functions that declare one id, and one of their own, renamed': ('hygiene', functions_of_one_id),
+    'functions of the same names, each with a reference outside, renamed': ('hygiene', leaking_functions),
+    'ids of one text in one scope, renamed': ('hygiene', ids_of_one_text),
+    'sequences, 10 in a nest': ('unparen', nests(10, sequence)),
+    'sequences, 50 in a nest': ('unparen', nests(50, sequence)),
+    'arrows, 10 in a nest that reads names, renamed': ('hygiene', nests_that_read(10)),
+    'arrows, 100 in a nest that reads names, renamed': ('hygiene', nests_that_read(100)),
     'calls, 10 in a chain': ('fix', nests(10, called)),
     'calls, 50 in a chain': ('fix', nests(50, called)),
     'operators, 10 on the left': ('fix', nests(10, lambda left: added(left, reference('a')))),
@@ -230,6 +267,8 @@ SHAPES = {
     'arrows, 10 in a nest': ('fix', nests(10, arrow)),
     'arrows, 100 in a nest': ('fix', nests(100, arrow)),
 }
+
+OF_MANY_MARKS = [shape for shape in SHAPES if shape.startswith(('functions of the same names', 'functions that declare', 'ids of one text'))]
 
 
 def envelope(statements, marks):
@@ -241,7 +280,7 @@ def time_of(program, shape, n):
     """The processor time of one run in seconds."""
     command, statements = SHAPES[shape]
     with tempfile.TemporaryFile('w+') as source:
-        source.write(envelope(statements(n), n + 2 if shape.startswith('functions of the same names') else 2))
+        source.write(envelope(statements(n), n + 3 if shape in OF_MANY_MARKS else 2))
         source.seek(0)
         before = resource.getrusage(resource.RUSAGE_CHILDREN)
         subprocess.run([program, command, 'script'], stdin=source, stdout=subprocess.DEVNULL, check=True)
