@@ -408,10 +408,15 @@ def sameness_goes_by_the_first_tree(t):
 
 
 # -------------------------------------------------------------------------------------------------- a second run
+def paired_anew(place, t):
+    """the stripped tree with its blocks and due pairs, each where the place has it"""
+    return D.grammar.Due.with_due_pairs(place, stripped(t))
+
+
 def set_anew(t):
     """what the fixer answers: each due pair where the tree had one round that content"""
     pairs = D.grammar.Pairs.pairs(t)
-    return D.grammar.Due.with_due_pairs(lambda span: D.grammar.Fixed.recorded(pairs, span), stripped(t))
+    return paired_anew(lambda span: D.grammar.Fixed.recorded(pairs, span), t)
 
 
 def crowded(t):
@@ -438,6 +443,28 @@ def second_run_keeps_spans(t):
         once = set_anew(tree)
         if has_paired_target(once):
             continue
+        twice = set_anew(once)
+        if once != twice:
+            return Bad('once:', once, '-- twice:', twice)
+    return True
+
+
+@law(writable_tree)
+def written_targets_stay_bare(t):
+    """no assignment's target of the fixer's answer to what can be written down stands in a pair"""
+    if not is_writable(t):
+        return None
+    once = set_anew(t)
+    return not has_paired_target(once) or Bad('once:', once)
+
+
+@law(writable_tree)
+def second_run_changes_nothing_written(t):
+    """a second run of the fixer gives the answer to what can be written down again, spans too"""
+    if not is_writable(t):
+        return None
+    for tree in (t, crowded(t)):
+        once = set_anew(tree)
         twice = set_anew(once)
         if once != twice:
             return Bad('once:', once, '-- twice:', twice)

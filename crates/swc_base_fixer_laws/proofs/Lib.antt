@@ -56,4 +56,8 @@ pub mod PlacedLevel
 pub mod PlacedHeads
 pub mod PlacedStarts
 pub mod PlacedAgain
+pub mod PlainMembers
+pub mod BareLevels
+pub mod BareHeads
+pub mod BareStarts
 pub mod AgainLaws

@@ -91,6 +91,14 @@ SecondRunChangesSpans = (first second : Places) (t : Node) (s : Slot) → Fits t
 abbrev pub SecondRunKeepsSpans : Type 0
 SecondRunKeepsSpans = (place : Places) (t : Node) (s : Slot) → IsTrue (is_open s) → Fits t s → IsTrue (all_bare t) → IsTrue (has_bare_targets (fixed place t)) → fixed (recorded (pairs (fixed place t))) (fixed place t) ≡ fixed place t
 
+-- in the answer to what can be written down none does
+abbrev pub TargetsStayBare : Type 0
+TargetsStayBare = (place : Places) (t : Node) (s : Slot) → IsTrue (is_open s) → Fits t s → Writable t → IsTrue (has_bare_targets (fixed place t))
+
+-- so there a second run answers the very answer
+abbrev pub SecondRunChangesNothing : Type 0
+SecondRunChangesNothing = (place : Places) (t : Node) (s : Slot) → IsTrue (is_open s) → Fits t s → Writable t → fixed (recorded (pairs (fixed place t))) (fixed place t) ≡ fixed place t
+
 -- the same said of whatever the fixer answers, which is known but for spans
 abbrev pub FixerKeepsNormalForm : Type 0
 FixerKeepsNormalForm = (t u : Node) (s : Slot) → Fits t s → IsFixed t u → SameButForSpans (normal_form u) (normal_form t)

@@ -6,7 +6,7 @@
 //! is proved.
 #![tactic(auto)]
 
-ghost use Rattle.swc_base_fixer_laws.specs.Laws.{AnswerAgain, AnswerFits, AnswerFitsTable, BlocksKeepWritable, DuePairsArePairs, DuePairsKeepWritable, FixedFits, FixedFitsTable, FixerKeepsNormalForm, FixerPairsOnce, FixerStaysThere, NoPairInPair, NormalFormStays, PlacesChangeSpans, SecondRunChangesSpans, SecondRunKeepsSpans, StrippingKeepsWritable, StrippingUndoesDuePairs, StrippingUndoesFixer, TargetsStandBare};
+ghost use Rattle.swc_base_fixer_laws.specs.Laws.{AnswerAgain, AnswerFits, AnswerFitsTable, BlocksKeepWritable, DuePairsArePairs, DuePairsKeepWritable, FixedFits, FixedFitsTable, FixerKeepsNormalForm, FixerPairsOnce, FixerStaysThere, NoPairInPair, NormalFormStays, PlacesChangeSpans, SecondRunChangesNothing, SecondRunChangesSpans, SecondRunKeepsSpans, StrippingKeepsWritable, StrippingUndoesDuePairs, StrippingUndoesFixer, TargetsStandBare, TargetsStayBare};
 
 /// The due pairs are pairs round expressions, and nothing else changes.
 pub fn due_pairs_are_pairs()
@@ -91,6 +91,16 @@ pub fn second_run_changes_spans()
 /// A second run answers the same tree with its spans, where no assignment's target of it stands in a pair.
 pub fn second_run_keeps_spans()
     ensures { SecondRunKeepsSpans }
+{}
+
+/// In the answer to what can be written down no assignment's target stands in a pair.
+pub fn targets_stay_bare()
+    ensures { TargetsStayBare }
+{}
+
+/// A second run answers the answer to what can be written down with that very answer.
+pub fn second_run_changes_nothing()
+    ensures { SecondRunChangesNothing }
 {}
 
 /// What the fixer answers has the normal form of what it was given, but for spans.
