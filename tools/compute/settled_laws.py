@@ -1,7 +1,9 @@
 """Laws of what hygiene and the fixer answer and a chain of the three passes answers again, and of the ids that meet there."""
+import js
 import naming
 import scoping
 import units
+from grammar_laws import crowded, paired_anew, set_anew
 from lawbook import Bad, D, any_tree, fits_place, fixed, ids_of, is_module, is_writable, law, well_scoped_module, writable_module
 from naming import Analysis, is_name
 from naming_laws import writable_and_well_scoped
@@ -20,17 +22,24 @@ def text_by(m):
 
 
 def finish(t):
-    return fixed(with_hygiene(t))
+    return set_anew(with_hygiene(t))
+
+
+def elsewhere(span):
+    return js.REC(lo=span.hi + 7, hi=span.lo)
 
 
 @law(well_scoped_module)
 def second_chain_changes_nothing(t):
-    """what finishing answers to a well-scoped module that can be written down, a chain answers again, spans and all"""
+    """what finishing answers to a well-scoped module that can be written down, a chain answers again, spans and all, wherever its pairs were put"""
     if not writable_and_well_scoped(t):
         return None
-    once = finish(t)
-    twice = finish(scoping.resolved(D.all, once, 1, 2))
-    return twice == once or Bad('once:', once, 'again:', twice)
+    for tree in (t, crowded(t)):
+        for once in (finish(tree), paired_anew(elsewhere, with_hygiene(tree))):
+            twice = finish(scoping.resolved(D.all, once, 1, 2))
+            if twice != once:
+                return Bad('once:', once, 'again:', twice)
+    return True
 
 
 @law(well_scoped_module)
