@@ -14,6 +14,7 @@ use Rattle.swc_tree_node.proofs.Fit.{tree_closes, fitting}
 use Rattle.swc_tree_handle.specs.Handles.{optional_text}
 use Rattle.swc_tree_grammar.specs.Pairs.{pairs}
 use Rattle.swc_tree_grammar.specs.Fixed.{fixed, recorded}
+use Rattle.swc_base_fixer_laws.proofs.BareStarts.{second_run_changes_nothing}
 use Rattle.swc_base_fixer_laws.proofs.Fixed.{fixed_fits}
 use Rattle.swc_base_fixer_laws.proofs.AgainLaws.{all_normal_form_stays, all_no_pair_in_pair, all_second_run_changes_spans, all_second_run_keeps_spans}
 use Rattle.swc_base_fixer_needs.proofs.StartTrees.{fixed_is_needed}
@@ -45,6 +46,7 @@ answers_keep_promises t s o f = record {
   once = all_no_pair_in_pair (recorded (pairs t)) t s f;
   again = all_second_run_changes_spans (recorded (pairs t)) (recorded (pairs (fixed (recorded (pairs t)) t))) t s f;
   settled = λ b h. all_second_run_keeps_spans (recorded (pairs t)) t s o f b h;
+  unchanged = λ w. second_run_changes_nothing (recorded (pairs t)) t s o f w;
 }
 
 pub module_promised : (m old : Module) (node body : Node) (after : List Node) → m ≡ old → node ≡ Many m.body → Fits node (slot.List (content.Node class.ModuleItem)) → Many after ≡ body → body ≡ answer_to node

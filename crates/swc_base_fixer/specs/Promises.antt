@@ -16,7 +16,7 @@ use Rattle.swc_base_fixer_program.specs.Answers.{answer_to}
 
 -- what could be written down still can and is derived by the grammar, and each of its pairs is needed or stands for a
 -- reader; the normal form is what it was; no pair stands right in another; and a second run changes nothing but spans, nor
--- these where no assignment's target stands in a pair and the first run refused none
+-- these where no assignment's target stands in a pair and the first run refused none, as in all that can be written down
 pub record Promises (before after : Node) : Type 0 where
   pub writable : Writable before → Writable after
   pub derived : Writable before → FitsGrammar after
@@ -25,6 +25,7 @@ pub record Promises (before after : Node) : Type 0 where
   pub once : IsTrue (paired_once after)
   pub again : SameButForSpans (answer_to after) after
   pub settled : IsTrue (all_bare before) → IsTrue (has_bare_targets after) → answer_to after ≡ after
+  pub unchanged : Writable before → answer_to after ≡ after
 
 -- so it is of the answer to what fits a place that takes pairs, as each module and each script does
 abbrev pub AnswersKeepPromises : Type 0

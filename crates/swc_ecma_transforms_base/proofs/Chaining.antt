@@ -13,7 +13,6 @@ use Rattle.swc_tree_node.specs.declared.slot.Slot.TheVariants as slot
 use Rattle.swc_tree_node.specs.Fits.{Fits}
 use Rattle.swc_tree_grammar.specs.Pairs.{pairs}
 use Rattle.swc_tree_grammar.specs.Fixed.{recorded}
-use Rattle.swc_tree_grammar.specs.Spanless.{SameButForSpans}
 use Rattle.swc_base_fixer_program.specs.Answers.{answer_to}
 use Rattle.swc_base_resolver.specs.Visits.{ResolvesNode}
 use Rattle.swc_base_resolver_program.specs.Marked.{IsRefusal, MarksOk}
@@ -21,7 +20,7 @@ use Rattle.swc_base_rename_substitution.specs.declared.config.Config.{Config}
 use Rattle.swc_base_rename_units.specs.Eval.{HasEval}
 use Rattle.swc_ecma_transforms_base_laws.specs.Sources.{IsSource, ResolvedSourcesAreReady}
 use Rattle.swc_ecma_transforms_base_laws.specs.Headline.{ChainingKeepsSources, KeepsItsSource}
-use Rattle.swc_ecma_transforms_base_settled_laws.specs.Settled.{ChainChangesSpans, IsAnswer}
+use Rattle.swc_ecma_transforms_base_settled_laws.specs.Settled.{ChainChangesNothing, IsAnswer}
 use Rattle.swc_ecma_transforms_base.specs.Chained.{Chains, IsChainRefusal, IsMarked, IsOnceHygienic}
 use Rattle.swc_ecma_transforms_base.specs.Finished.{Finishes, IsFinishRefusal}
 use Rattle.swc_ecma_transforms_base.specs.Lent.{MovesFor, MovesPartly}
@@ -74,11 +73,9 @@ module _ (unresolved top : ℕ) (config : Config) (old : Table) (before : Node) 
         paired = f.paired;
       }
 
-  pub stays : ChainChangesSpans → (after : Node) → Finishes new config resolved after → IsAnswer before → config.keep_class_names ≡ false → MarksOk old unresolved top → SameButForSpans after before
+  pub stays : ChainChangesNothing → (after : Node) → Finishes new config resolved after → IsAnswer before → config.keep_class_names ≡ false → MarksOk old unresolved top → after ≡ before
   unfolding answer_to
-  stays law after f answered keeps ok =
-      subst (λ t. SameButForSpans t before) (sym f.paired)
-      (law new config (recorded (pairs f.between)) before resolved f.between unresolved top old new answered keeps ok.0.1 (m.resolved ok) f.hygienic)
+  stays law after f answered keeps ok = f.paired ∙ law new config before resolved f.between unresolved top old new answered keeps ok.0.1 (m.resolved ok) f.hygienic
 
   not_target : ChainingKeepsSources → Fits before module_place → IsSource config before → MarksOk old unresolved top → (e : PassError) → IsFinishRefusal new config resolved e → e ≢ error.NotAssignable
   not_target law fits s ok error.NotAssignable h n =

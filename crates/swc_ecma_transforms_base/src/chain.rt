@@ -3,7 +3,6 @@ ghost use Rattle.std.specs.Prelude.{◌≡◌, ◌≢◌, false, OnOk, OnErr, If
 ghost use Rattle.swc_tree_marks.specs.declared.error.PassError.TheVariants as error;
 ghost use Rattle.swc_tree.specs.Passes.{IsEmptied, IsEmptiedScript};
 ghost use Rattle.swc_tree_modules.specs.Nodes.{module_node, script_node};
-ghost use Rattle.swc_tree_grammar.specs.Spanless.{SameButForSpans};
 ghost use Rattle.swc_base_resolver_program.specs.Marked.{MarksOk};
 ghost use Rattle.swc_base_rename_units.specs.Eval.{HasEval};
 ghost use Rattle.swc_ecma_transforms_base_laws.specs.Sources.{IsSource};
@@ -17,7 +16,7 @@ use std::alloc::Global;
 use std::mem;
 use swc_base_rename::Config;
 use swc_base_resolver::resolver;
-use swc_ecma_transforms_base_apart_laws::a_chain_changes_spans;
+use swc_ecma_transforms_base_apart_laws::a_chain_changes_nothing;
 use swc_ecma_transforms_base_laws::{chaining_keeps_sources, resolved_sources_are_ready};
 use swc_tree::{
     Comments, Globals, JsPass, Mark, Module, NoComments, PassError, Script, empty_module,
@@ -32,7 +31,7 @@ use swc_tree::{
 /// of the source have one text and one scope, or one text and no scope, exactly if the resolver gave them one id; two kept names of the
 /// answer have so exactly then, and exactly then get one id, however the answer is resolved. No target of it is to blame.
 ///
-/// What `finish_module` answered to a well-scoped module of that kind, or this call to such a source, stays as it is, but for spans, if no
+/// What `finish_module` answered to a well-scoped module of that kind, or this call to such a source, stays as it is, spans too, if no
 /// direct `eval` and no `with` stood in it, not even an ignored one (`IsAnswer`).
 ///
 /// # Errors
@@ -59,7 +58,7 @@ pub fn chain_module<C: Comments>(
     ensures promises { IsSource config (module_node program.old) → MarksOk globals.old unresolved top → OnOk result (KeepsItsSource unresolved top globals.old globals.new (module_node program.old) (module_node program.new)) }
     ensures answer { IsSource config (module_node program.old) → ¬ HasEval (module_node program.old) → MarksOk globals.old unresolved top → OnOk result (IsAnswer (module_node program.new)) }
     ensures no_target { IsSource config (module_node program.old) → MarksOk globals.old unresolved top → IfErr result (λ e. e ≢ error.NotAssignable) }
-    ensures again { IsAnswer (module_node program.old) → config.keep_class_names ≡ false → MarksOk globals.old unresolved top → OnOk result (SameButForSpans (module_node program.new) (module_node program.old)) }
+    ensures again { IsAnswer (module_node program.old) → config.keep_class_names ≡ false → MarksOk globals.old unresolved top → OnOk result (module_node program.new ≡ module_node program.old) }
     ensures moved { OnOk result (Became (MovesFor C.moved (IsOnceHygienic unresolved top config globals.old (module_node program.old) globals.new) (module_node program.new)) comments.entry comments.exit) }
     ensures partly { OnErr result (Became (MovesPartly C.moved (IsOnceHygienic unresolved top config globals.old (module_node program.old) globals.new)) comments.entry comments.exit) }
     ensures unmoved { IfErr result (λ e. e ≢ error.NoMemory → Became (λ c d. d ≡ c) comments.entry comments.exit) }
@@ -139,14 +138,14 @@ fn chain_module_with<C: Comments>(
     ensures promises { IsSource config (module_node program.old) → MarksOk globals.old unresolved top → OnOk result (KeepsItsSource unresolved top globals.old globals.new (module_node program.old) (module_node program.new)) }
     ensures answer { IsSource config (module_node program.old) → ¬ HasEval (module_node program.old) → MarksOk globals.old unresolved top → OnOk result (IsAnswer (module_node program.new)) }
     ensures no_target { IsSource config (module_node program.old) → MarksOk globals.old unresolved top → IfErr result (λ e. e ≢ error.NotAssignable) }
-    ensures again { IsAnswer (module_node program.old) → config.keep_class_names ≡ false → MarksOk globals.old unresolved top → OnOk result (SameButForSpans (module_node program.new) (module_node program.old)) }
+    ensures again { IsAnswer (module_node program.old) → config.keep_class_names ≡ false → MarksOk globals.old unresolved top → OnOk result (module_node program.new ≡ module_node program.old) }
     ensures moved { OnOk result (MovesFor C.moved (IsOnceHygienic unresolved top config globals.old (module_node program.old) globals.new) (module_node program.new) comments.old comments.new) }
     ensures partly { OnErr result (MovesPartly C.moved (IsOnceHygienic unresolved top config globals.old (module_node program.old) globals.new) comments.old comments.new) }
     ensures unmoved { IfErr result (λ e. e ≢ error.NoMemory → comments.new ≡ comments.old) }
 {
     chaining_keeps_sources();
     resolved_sources_are_ready();
-    a_chain_changes_spans();
+    a_chain_changes_nothing();
     module_fits(program);
     let mut module = mem::replace(program, empty_module(alloc, program.span));
     let mut resolver = resolver(unresolved, top);

@@ -44,7 +44,7 @@ use Rattle.swc_base_rename_labels_laws.specs.Laws.{HasNewLabels, IsReady, IsReso
 use Rattle.swc_base_rename_labels_laws.proofs.Changed.{fits_changed}
 use Rattle.swc_base_rename_labels_laws.proofs.Texts.{fits_labelled}
 use Rattle.swc_base_rename_carried_laws.specs.Laws.{LabelledAnswersAreApartGiven, LabelsMeetAsTheOld}
-use Rattle.swc_ecma_transforms_base_settled_laws.specs.Settled.{AnswersAreApart, ChainChangesSpans, ChainChangesSpansGiven}
+use Rattle.swc_ecma_transforms_base_settled_laws.specs.Settled.{AnswersAreApart, ChainChangesNothing, ChainChangesNothingGiven, ChainChangesSpans, ChainChangesSpansGiven}
 
 abbrev module_place : Slot
 module_place = slot.One (content.Node class.Module)
@@ -120,3 +120,6 @@ answers_are_apart fitting stays fair fixing needless texts old_pairs law answer 
 
 pub a_chain_changes_spans : ChainChangesSpansGiven → AnswersAreApart → ChainChangesSpans
 a_chain_changes_spans chain apart = chain apart
+
+pub a_chain_changes_nothing : ChainChangesNothingGiven → AnswersAreApart → ChainChangesNothing
+a_chain_changes_nothing chain apart = chain apart

@@ -5,7 +5,7 @@
 #![tactic(auto)]
 
 ghost use Rattle.swc_base_rename_carried_laws.specs.Laws.{LabelsMeetAsTheOld};
-ghost use Rattle.swc_ecma_transforms_base_settled_laws.specs.Settled.{AnswersAreApart, ChainChangesSpans};
+ghost use Rattle.swc_ecma_transforms_base_settled_laws.specs.Settled.{AnswersAreApart, ChainChangesNothing, ChainChangesSpans};
 
 use swc_base_fixer_laws::targets_stand_bare;
 use swc_base_fixer_texts::fixing_needs_no_contexts;
@@ -16,7 +16,7 @@ use swc_base_rename_hygiene_laws::{hygiene_stays_fitting, hygiene_stays_writable
 use swc_base_rename_meetings_laws::{due_pairs_keep_meetings, stripping_adds_no_pairs};
 use swc_base_rename_meetings_names_laws::substitution_keeps_meetings;
 use swc_base_rename_settled_laws::{blocks_add_no_pairs, modules_take_all};
-use swc_ecma_transforms_base_settled_laws::chain_changes_spans;
+use swc_ecma_transforms_base_settled_laws::{chain_changes_nothing, chain_changes_spans};
 use swc_tree_grammar_texts::texts_are_as_writable;
 
 /// Ids that meet in what the fixer makes of a module with labels are the new ones of ids that met.
@@ -50,5 +50,13 @@ pub fn a_chain_changes_spans()
     ensures { ChainChangesSpans }
 {
     chain_changes_spans();
+    answers_are_apart();
+}
+
+/// It answers the very same, spans too, as the fixer puts each pair where the answer has it.
+pub fn a_chain_changes_nothing()
+    ensures { ChainChangesNothing }
+{
+    chain_changes_nothing();
     answers_are_apart();
 }

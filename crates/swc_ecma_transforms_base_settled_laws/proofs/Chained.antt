@@ -1,5 +1,5 @@
 -- What hygiene and then the fixer answer, the three passes in a chain answer again.
-use Rattle.std.proofs.Common.{◌≡◌, ap, sym, ◌∙◌, subst}
+use Rattle.std.proofs.Common.{◌≡◌, refl, ap, sym, ◌∙◌, subst}
 use Rattle.swc_tree_node.specs.declared.kind.Class.TheVariants as class
 use Rattle.swc_tree_node.specs.declared.slot.Content.TheVariants as content
 use Rattle.swc_tree_node.specs.declared.slot.Slot.{Slot}
@@ -8,29 +8,42 @@ use Rattle.swc_tree_node.specs.declared.node.Node.{Node}
 use Rattle.swc_tree_node.specs.Fits.{Fits, fits}
 use Rattle.swc_tree_scoping.specs.WellScoped.{NoEarlyErrorOfNames}
 use Rattle.swc_tree_scoping.proofs.Remarked.{fits-remarked}
-use Rattle.swc_tree_grammar.specs.Fixed.{fixed}
+use Rattle.swc_tree_grammar.specs.Fixed.{fixed, recorded}
+use Rattle.swc_tree_grammar.specs.Pairs.{pairs}
 use Rattle.swc_tree_grammar.specs.Spanless.{SameButForSpans}
-use Rattle.swc_base_fixer_laws.specs.Laws.{SecondRunChangesSpans}
+use Rattle.swc_base_fixer_laws.specs.Laws.{SecondRunChangesNothing, SecondRunChangesSpans}
 use Rattle.swc_base_rename_units.specs.Eval.{HasEval}
-use Rattle.swc_base_rename_hygiene_laws.specs.Laws.{HygieneStaysFitting, IsPlain}
+use Rattle.swc_base_rename_hygiene_laws.specs.Laws.{HygieneStaysFitting, HygieneStaysWritable, IsPlain}
 use Rattle.swc_base_rename_ids_laws.proofs.Exported.{texts_again}
 use Rattle.swc_base_rename_source_laws.specs.Laws.{ReadersNeedNoContexts}
 use Rattle.swc_base_rename_errors_laws.specs.Laws.{AnswerHasNoEarlyErrorOfNames}
 use Rattle.swc_base_resolver_laws.specs.Laws.{CleanModulesBecomeWellScoped}
-use Rattle.swc_ecma_transforms_base_settled_laws.specs.Settled.{AnswersAreCleanModules, AnswersReadNoNames, ChainChangesSpansGiven, HygieneLeavesApart}
+use Rattle.swc_ecma_transforms_base_settled_laws.specs.Settled.{AnswersAreApart, AnswersAreCleanModules, AnswersReadNoNames, ChainChangesNothingGiven, ChainChangesSpansGiven, HygieneGivesAnswersBack, HygieneLeavesApart, IsAnswer}
 
 abbrev module_place : Slot
 module_place = slot.One (content.Node class.Module)
 
-pub chain_changes_spans : HygieneStaysFitting → AnswersReadNoNames → AnswersAreCleanModules → HygieneLeavesApart → CleanModulesBecomeWellScoped → AnswerHasNoEarlyErrorOfNames → ReadersNeedNoContexts → SecondRunChangesSpans → ChainChangesSpansGiven
-chain_changes_spans fitting reads clean_module leaves becomes no_error readers second apart table config place answer u middle unresolved top old new a keeps known r hygienic =
+given_back : AnswersReadNoNames → AnswersAreCleanModules → HygieneLeavesApart → CleanModulesBecomeWellScoped → AnswerHasNoEarlyErrorOfNames → ReadersNeedNoContexts → AnswersAreApart → HygieneGivesAnswersBack
+given_back reads clean_module leaves becomes no_error readers apart table config answer u middle unresolved top old new a keeps known r hygienic =
     let w = clean_module answer a in
     let clear = texts_again answer u r.contexts r.only_contexts w.clean in
     let fits_u : Fits u module_place = ap (λ t. fits t module_place) r.only_contexts ∙ fits-remarked r.contexts answer module_place ∙ w.fits in
     let fair : NoEarlyErrorOfNames answer = subst NoEarlyErrorOfNames (sym a.paired) (no_error a.table a.config a.place a.before a.middle a.stands a.finishable a.scoped a.hygienic) in
     let scoped_u = becomes answer u unresolved top old new w.fits w.clean fair known r in
     let plain_u : IsPlain config u = record { renames_classes = keeps; unread = λ read. reads answer a (subst HasEval clear (readers u read.1)) } in
-    let one : middle ≡ answer = leaves table config u middle module_place plain_u fits_u scoped_u (apart answer u unresolved top old new a known r) hygienic ∙ clear in
-    let within : Fits a.middle module_place = fitting a.table a.config a.before a.middle a.finishable.plain a.stands a.hygienic in
+    leaves table config u middle module_place plain_u fits_u scoped_u (apart answer u unresolved top old new a known r) hygienic ∙ clear
+
+fits_middle : HygieneStaysFitting → {answer : Node} → (a : IsAnswer answer) → Fits a.middle module_place
+fits_middle fitting a = fitting a.table a.config a.before a.middle a.finishable.plain a.stands a.hygienic
+
+pub chain_changes_spans : HygieneStaysFitting → AnswersReadNoNames → AnswersAreCleanModules → HygieneLeavesApart → CleanModulesBecomeWellScoped → AnswerHasNoEarlyErrorOfNames → ReadersNeedNoContexts → SecondRunChangesSpans → ChainChangesSpansGiven
+chain_changes_spans fitting reads clean_module leaves becomes no_error readers second apart table config place answer u middle unresolved top old new a keeps known r hygienic =
+    let one = given_back reads clean_module leaves becomes no_error readers apart table config answer u middle unresolved top old new a keeps known r hygienic in
     subst (λ t. SameButForSpans (fixed place middle) t) (sym a.paired)
-    (subst (λ t. SameButForSpans (fixed place t) (fixed a.place a.middle)) (sym (one ∙ a.paired)) (second a.place place a.middle module_place within))
+    (subst (λ t. SameButForSpans (fixed place t) (fixed a.place a.middle)) (sym (one ∙ a.paired)) (second a.place place a.middle module_place (fits_middle fitting a)))
+
+pub chain_changes_nothing : HygieneStaysFitting → HygieneStaysWritable → AnswersReadNoNames → AnswersAreCleanModules → HygieneLeavesApart → CleanModulesBecomeWellScoped → AnswerHasNoEarlyErrorOfNames → ReadersNeedNoContexts → SecondRunChangesNothing → ChainChangesNothingGiven
+chain_changes_nothing fitting stays reads clean_module leaves becomes no_error readers second apart table config answer u middle unresolved top old new a keeps known r hygienic =
+    let one = given_back reads clean_module leaves becomes no_error readers apart table config answer u middle unresolved top old new a keeps known r hygienic in
+    let writable = stays a.table a.config module_place a.before a.middle a.finishable.plain a.stands a.finishable.writable a.hygienic in
+    ap (λ t. fixed (recorded (pairs t)) t) (one ∙ a.paired) ∙ second a.place a.middle module_place refl (fits_middle fitting a) writable ∙ sym a.paired

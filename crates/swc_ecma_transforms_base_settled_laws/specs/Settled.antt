@@ -11,7 +11,8 @@ use Rattle.swc_tree_scoping.specs.Readings.{by_texts}
 use Rattle.swc_tree_scoping.specs.Resolved.{Resolved}
 use Rattle.swc_tree_scoping.specs.WellScoped.{IsClean, WellScoped}
 use Rattle.swc_tree_grammar.specs.Due.{Places}
-use Rattle.swc_tree_grammar.specs.Fixed.{fixed}
+use Rattle.swc_tree_grammar.specs.Fixed.{fixed, recorded}
+use Rattle.swc_tree_grammar.specs.Pairs.{pairs}
 use Rattle.swc_tree_grammar.specs.Spanless.{SameButForSpans}
 use Rattle.swc_base_rename_substitution.specs.declared.config.Config.{Config}
 use Rattle.swc_base_rename_units.specs.Eval.{HasEval}
@@ -55,11 +56,24 @@ abbrev pub AnswersAreApart : Type 0
 AnswersAreApart = (answer u : Node) (unresolved top : ℕ) (old new : Table) → IsAnswer answer → Contains (numbers old) unresolved
     → Resolved unresolved top old new answer u → ApartWhereMet u own_text
 
--- so the chain changes spans alone
+-- so hygiene gives the answer back
+abbrev pub HygieneGivesAnswersBack : Type 0
+HygieneGivesAnswersBack = (table : Table) (config : Config) (answer u middle : Node) (unresolved top : ℕ) (old new : Table) → IsAnswer answer → config.keep_class_names ≡ false
+    → Contains (numbers old) unresolved → Resolved unresolved top old new answer u → IsHygienic table config u middle → middle ≡ answer
+
+-- and the chain changes spans alone, wherever its fixer puts pairs
 abbrev pub ChainChangesSpans : Type 0
 ChainChangesSpans = (table : Table) (config : Config) (place : Places) (answer u middle : Node) (unresolved top : ℕ) (old new : Table) → IsAnswer answer → config.keep_class_names ≡ false
     → Contains (numbers old) unresolved → Resolved unresolved top old new answer u → IsHygienic table config u middle → SameButForSpans (fixed place middle) answer
 
--- the last, as it rests on the one before
+-- but the fixer puts each pair where the answer has it, so the chain changes nothing
+abbrev pub ChainChangesNothing : Type 0
+ChainChangesNothing = (table : Table) (config : Config) (answer u middle : Node) (unresolved top : ℕ) (old new : Table) → IsAnswer answer → config.keep_class_names ≡ false
+    → Contains (numbers old) unresolved → Resolved unresolved top old new answer u → IsHygienic table config u middle → fixed (recorded (pairs middle)) middle ≡ answer
+
+-- the last two, as they rest on texts apart where ids meet
 abbrev pub ChainChangesSpansGiven : Type 0
 ChainChangesSpansGiven = AnswersAreApart → ChainChangesSpans
+
+abbrev pub ChainChangesNothingGiven : Type 0
+ChainChangesNothingGiven = AnswersAreApart → ChainChangesNothing

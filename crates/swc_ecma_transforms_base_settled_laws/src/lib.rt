@@ -1,12 +1,14 @@
 //! What hygiene and then the fixer answer is a module without contexts, in which nothing reads names, and a chain answers it again, as far as its texts are apart.
 //!
-//! `specs/Settled.antt` states the laws. The last is an implication: that the texts of a resolved answer are apart where its ids meet is
-//! its premise, which `swc_ecma_transforms_base_apart_laws` gives. Each law is the contract of a function that does nothing but call those of the laws that it rests on.
+//! `specs/Settled.antt` states the laws. The last two are implications: that the texts of a resolved answer are apart where its ids meet is
+//! their premise, which `swc_ecma_transforms_base_apart_laws` gives. Each law is the contract of a function that does nothing but call those of the laws that it rests on.
 #![tactic(auto)]
 
-ghost use Rattle.swc_ecma_transforms_base_settled_laws.specs.Settled.{AnswersAreCleanModules, AnswersReadNoNames, ChainChangesSpansGiven, HygieneLeavesApart};
+ghost use Rattle.swc_ecma_transforms_base_settled_laws.specs.Settled.{AnswersAreCleanModules, AnswersReadNoNames, ChainChangesNothingGiven, ChainChangesSpansGiven, HygieneLeavesApart};
 
-use swc_base_fixer_laws::{second_run_changes_spans, targets_stand_bare};
+use swc_base_fixer_laws::{
+    second_run_changes_nothing, second_run_changes_spans, targets_stand_bare,
+};
 use swc_base_fixer_texts::fixing_needs_no_contexts;
 use swc_base_rename_errors_laws::answer_has_no_early_error_of_names;
 use swc_base_rename_hygiene_laws::{hygiene_stays_fitting, hygiene_stays_writable};
@@ -62,4 +64,19 @@ pub fn chain_changes_spans()
     answer_has_no_early_error_of_names();
     readers_need_no_contexts();
     second_run_changes_spans();
+}
+
+/// It changes nothing of it then, spans neither, as the fixer puts each pair where the answer has it.
+pub fn chain_changes_nothing()
+    ensures { ChainChangesNothingGiven }
+{
+    hygiene_stays_fitting();
+    hygiene_stays_writable();
+    answers_read_no_names();
+    answers_are_clean_modules();
+    hygiene_leaves_apart();
+    a_clean_module_becomes_well_scoped();
+    answer_has_no_early_error_of_names();
+    readers_need_no_contexts();
+    second_run_changes_nothing();
 }

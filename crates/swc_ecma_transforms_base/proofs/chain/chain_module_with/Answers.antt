@@ -46,7 +46,7 @@ returns-clause-again g c =
     let m = marked c.args.unresolved c.args.top c.resolver-resolver.result c.visit_mut_module.new.self c.args.globals.now c.visit_mut_module.new.globals (module_node c.replace-module.result) (module_node c.args.program.now)
     (module_node c.visit_mut_module.new.program) c.resolver-resolver.ensures (ap module_node c.replace-module.ensures.value) c.in_ok-visit_mut_module.ensures.done in
     stays c.args.unresolved c.args.top c.args.config c.args.globals.now (module_node c.args.program.now) c.visit_mut_module.new.globals (module_node c.visit_mut_module.new.program) m
-    c.a_chain_changes_spans.ensures (module_node c.finish_module_with.new.program) c.in_ok-finish_module_with.ensures.done
+    c.a_chain_changes_nothing.ensures (module_node c.finish_module_with.new.program) c.in_ok-finish_module_with.ensures.done
 
 pub returns-clause-moved : goal.returns-clause-moved
 returns-clause-moved g c =
