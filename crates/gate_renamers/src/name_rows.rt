@@ -184,7 +184,7 @@ fn scopes(alloc: Global) -> Option<bool> {
     Some(are(alloc, &texts, "0 a 1 a 2 a ")? && are(alloc, &others, "0 a 1 a 2 a1 ")?)
 }
 
-// Whether names in those three scopes are the plain ones, which are given in order: by scope, or where some of them leak.
+// Whether names in those three scopes are the plain ones, which are given in order, where these scopes leak; by scope, where none does.
 #[tactic(auto, using(crate::proofs::Order::in_order))]
 fn are_plain(alloc: Global, places: &Places<'_>, leaking: &[usize]) -> Option<bool> {
     let mut leaks = BTreeSet::new(alloc);
@@ -207,12 +207,13 @@ fn leaks(alloc: Global) -> Option<bool> {
     let ids = ids_of(alloc, &[("a", 1), ("a", 2), ("a", 3)])?;
     let places = Places {
         ids: ids.as_slice(),
-        occurrences: &[(0, 0), (0, 1), (0, 2), (1, 1), (2, 1), (2, 2)],
+        positions: &[&[0], &[1, 2], &[3]],
+        stretches: &[(0, 4), (1, 2), (2, 4)],
         kept: &[],
         preserved: "x",
     };
     let apart = Places {
-        occurrences: &[(0, 0), (0, 1), (0, 2), (1, 1), (2, 2)],
+        positions: &[&[0], &[1], &[3]],
         ..places
     };
     let are_held = are_plain(alloc, &places, &[0, 1, 2])? && are_plain(alloc, &places, &[1])?;

@@ -6,3 +6,4 @@ pub mod Scopes
 pub mod Sites
 pub mod Least
 pub mod Names
+pub mod Placed

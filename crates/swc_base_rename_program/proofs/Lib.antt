@@ -9,4 +9,3 @@ pub mod Ruled
 pub mod Beside
 pub mod Reach
 pub mod Counting
-pub mod Placed

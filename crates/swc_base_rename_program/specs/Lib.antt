@@ -7,4 +7,3 @@ pub mod Left
 pub mod Renamed
 pub mod NewTexts
 pub mod Spans
-pub mod Stretches

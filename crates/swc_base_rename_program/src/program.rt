@@ -8,8 +8,8 @@ ghost use Rattle.swc_base_rename_naming_laws.specs.Rules.{id_in, occurs_at};
 ghost use Rattle.swc_base_rename_program.specs.Kept.{is_kept};
 ghost use Rattle.swc_base_rename_program.specs.Asked.{is_preserved_text};
 ghost use Rattle.swc_base_rename_program.specs.Spans.{spans as spans_in};
-ghost use Rattle.swc_base_rename_program.specs.Stretches.{positions_in, stretch_in};
-ghost use Rattle.swc_base_rename_program.proofs.Placed.{placed_in};
+ghost use Rattle.swc_base_rename_naming_laws.specs.Stretches.{positions_in, stretch_in};
+ghost use Rattle.swc_base_rename_naming_laws.proofs.Placed.{placed_in};
 
 use crate::kept::Kept;
 use crate::spans::{Span, is_apart};

@@ -7,7 +7,7 @@ use Rattle.swc_base_rename_analysis.specs.declared.layout.Region.{Region}
 use Rattle.swc_base_rename_analysis.specs.declared.numbers.Entry.{Entry}
 use Rattle.swc_base_rename_naming.specs.Stretches.{is_within}
 use Rattle.swc_base_rename_naming_laws.specs.Rules.{occurs_at, occurs_between}
-use Rattle.swc_base_rename_program.specs.Stretches.{positions_in, positions_of, stretch_in, stretch_of}
+use Rattle.swc_base_rename_naming_laws.specs.Stretches.{positions_in, positions_of, stretch_in, stretch_of}
 
 none_in_none : (xs : List ℕ) → false ≡ list_any (is_within (0, 0)) xs
 none_in_none [] = refl
