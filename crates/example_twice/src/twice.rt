@@ -1,8 +1,7 @@
 //! Finishing a module, and chaining what came of it.
-ghost use Rattle.std.specs.Prelude.{◌≢◌, IfOk};
+ghost use Rattle.std.specs.Prelude.{◌≡◌, ◌≢◌, IfOk};
 ghost use Rattle.swc_tree_modules.specs.Nodes.{module_node};
 ghost use Rattle.swc_tree_scoping.specs.WellScoped.{WellScoped};
-ghost use Rattle.swc_tree_grammar.specs.Spanless.{SameButForSpans};
 ghost use Rattle.swc_base_resolver_program.specs.Marked.{MarksOk};
 ghost use Rattle.swc_base_rename_units.specs.Eval.{HasEval};
 ghost use Rattle.swc_base_rename_hygiene_laws.specs.Laws.{IsFinishable};
@@ -14,7 +13,7 @@ use swc_ecma_transforms_base::{
 };
 
 /// Finishes a module, and gives back what a chain makes of a copy of the answer. Of a well-scoped module that can be finished and in
-/// which nothing reads names, that is the answer again, but for spans.
+/// which nothing reads names, that is the answer again, spans too.
 ///
 /// # Errors
 ///
@@ -29,7 +28,7 @@ pub fn finish_and_chain(
 ) -> Result<Module, PassError>
     requires unresolved { unresolved ≢ 0 }
     requires top { top ≢ 0 }
-    ensures again { IsFinishable config.now (module_node program.old) → ¬ HasEval (module_node program.old) → WellScoped (module_node program.old) → MarksOk globals.old unresolved top → IfOk result (λ chained. SameButForSpans (module_node chained) (module_node program.new)) }
+    ensures again { IsFinishable config.now (module_node program.old) → ¬ HasEval (module_node program.old) → WellScoped (module_node program.old) → MarksOk globals.old unresolved top → IfOk result (λ chained. module_node chained ≡ module_node program.new) }
 {
     finish_module(alloc, globals, *config, None::<&mut NoComments>, program)?;
     let mut chained = program.clone()?;

@@ -29,7 +29,7 @@ use swc_tree::{
 /// grammar derives, with the normal form that it had but for the names that it binds; no target of it is to blame then. Where it
 /// is well-scoped, the answer gives two kept names one id exactly if it did, however the answer is resolved; by itself it gives
 /// them one text and one scope, or one text and no scope, exactly then; and it has no early error of names. If in addition no direct
-/// `eval` and no `with` stands in it, not even an ignored one, `chain_module` answers the answer again, but for spans (`IsAnswer`).
+/// `eval` and no `with` stands in it, not even an ignored one, `chain_module` answers the answer again, spans too (`IsAnswer`).
 ///
 /// # Errors
 ///
