@@ -6,9 +6,9 @@ ghost use Rattle.std.specs.Prelude.{◌≡◌, ◌≢◌, ◌⊎◌, IfErr};
 ghost use Rattle.std.specs.IoError.{error_kind};
 ghost use Rattle.std.specs.declared.io.ErrorKind.TheVariants as kind;
 ghost use Rattle.swc_tree_marks.specs.declared.error.PassError.TheVariants as refusal;
-ghost use Rattle.jsbase_engine.specs.declared.fault.Fault.TheVariants as fault;
+ghost use Rattle.jsbase_commands.specs.declared.fault.Fault.TheVariants as fault;
 
-use jsbase_engine::{Fault, ServeFault, report, serve, words};
+use jsbase_commands::{Fault, ServeFault, report, serve, words};
 use std::process::ExitCode;
 use std::{env, io};
 use swc_tree_marks::PassError;

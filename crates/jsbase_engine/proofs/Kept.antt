@@ -1,7 +1,8 @@
 -- What is promised of an answer, by the laws of chaining and of the fixer.
-use Rattle.std.proofs.Common.{ℕ, List, IsTrue, refl}
+use Rattle.std.proofs.Common.{◌≡◌, ℕ, List, Ok, IsTrue, inl, inr, refl}
 use Rattle.swc_tree_marks.specs.declared.error.PassError.{PassError}
 use Rattle.swc_tree_marks.specs.declared.error.PassError.TheVariants as refusal
+use Rattle.swc_tree_node.specs.declared.kind.Class.{Class}
 use Rattle.swc_tree_node.specs.declared.slot.Content.TheVariants as content
 use Rattle.swc_tree_node.specs.declared.slot.Slot.TheVariants as slot
 use Rattle.swc_tree_node.specs.Fits.{Fits}
@@ -12,44 +13,71 @@ use Rattle.swc_base_resolver_program.specs.Marked.{MarksOk}
 use Rattle.swc_base_fixer_program.specs.Answers.{answer_to}
 use Rattle.swc_base_fixer.specs.Promises.{AnswersKeepPromises}
 use Rattle.swc_ecma_transforms_base_laws.specs.Headline.{ChainingKeepsSources}
+use Rattle.swc_ecma_transforms_base_settled_laws.specs.Settled.{ChainChangesNothing}
+use Rattle.jsbase_form.proofs.Successes.{bound}
 use Rattle.jsbase_reader.specs.declared.envelope.Envelope.{Envelope}
-use Rattle.jsbase_engine.specs.declared.arguments.Command.{Command}
-use Rattle.jsbase_engine.specs.declared.arguments.Command.TheVariants as command
-use Rattle.jsbase_engine.specs.declared.arguments.Kind.{Kind}
-use Rattle.jsbase_engine.specs.declared.arguments.Kind.TheVariants as kind
-use Rattle.jsbase_engine.specs.Run.{Does, IsRefusalOf, Keeps, SparesTargets, class_of, config_of}
+use Rattle.jsbase_reader.specs.Envelopes.{envelope_in, envelope_in_text, text_in}
+use Rattle.jsbase_reader.proofs.Sound.{envelope_fits}
+use Rattle.jsbase_programs.proofs.Marks.{envelope_marks}
+use Rattle.jsbase_commands.specs.declared.arguments.Command.{Command}
+use Rattle.jsbase_commands.specs.declared.arguments.Command.TheVariants as command
+use Rattle.jsbase_commands.specs.declared.arguments.Kind.{Kind}
+use Rattle.jsbase_commands.specs.declared.arguments.Kind.TheVariants as kind
+use Rattle.jsbase_commands.specs.declared.fault.Fault.TheVariants.{Usage, Refused, NotATree}
+use Rattle.jsbase_commands.specs.Run.{Does, IsRefusalOf, class_of, config_of}
+use Rattle.jsbase_engine.specs.Run.{Keeps, SparesTargets}
+use Rattle.jsbase_engine.specs.Laws.{PromisesAreKept, TargetsAreSpared}
 
 takes_pairs : (k : Kind) → IsTrue (is_open (slot.One (content.Node (class_of k))))
 takes_pairs kind.Module = refl
 takes_pairs kind.Script = refl
 
-module _ (chaining : ChainingKeepsSources) (fixing : AnswersKeepPromises) (envelope : Envelope) where
-  pub kept : (c : Command) (k : Kind) (output : List ℕ) → Fits envelope.tree (slot.One (content.Node (class_of k))) → MarksOk envelope.globals envelope.unresolved envelope.top
+-- the tree of an envelope that was read is of the class asked for
+fits_its_class : (class : Class) (input : List ℕ) (envelope : Envelope) → envelope_in_text class input ≡ Ok envelope → Fits envelope.tree (slot.One (content.Node class))
+fits_its_class class input envelope is = let read = bound (text_in input) (envelope_in class) envelope is in envelope_fits class read.0 envelope read.2
+
+module _ (envelope : Envelope) (ok : MarksOk envelope.globals envelope.unresolved envelope.top) where
+  kept : ChainingKeepsSources → ChainChangesNothing → AnswersKeepPromises → (c : Command) (k : Kind) (output : List ℕ) → Fits envelope.tree (slot.One (content.Node (class_of k)))
       → (done : Does c envelope output) → Keeps c k envelope output done
   unfolding answer_to
-  kept command.Chain kind.Module output fits ok done = λ source.
-      (chaining (config_of envelope) (recorded (pairs done.renamed)) envelope.unresolved envelope.top envelope.globals done.table envelope.tree done.is_renamed.between done.renamed fits source ok.0.1
-      done.is_renamed.resolved done.is_renamed.hygienic).0
-  kept command.Chain kind.Script output fits ok done = tt
-  kept command.Fix k output fits ok done = fixing envelope.tree (slot.One (content.Node (class_of k))) (takes_pairs k) fits
-  kept command.Resolve k output fits ok done = tt
-  kept command.Hygiene k output fits ok done = tt
-  kept command.Unparen k output fits ok done = tt
+  kept chaining changing fixing command.Chain kind.Module output fits done = record {
+    promises = λ source.
+        (chaining (config_of envelope) (recorded (pairs done.renamed)) envelope.unresolved envelope.top envelope.globals done.table envelope.tree done.is_renamed.between done.renamed fits source ok.0.1
+        done.is_renamed.resolved done.is_renamed.hygienic).0;
+    again = λ answered keeps.
+        changing done.table (config_of envelope) envelope.tree done.is_renamed.between done.renamed envelope.unresolved envelope.top envelope.globals done.table answered keeps ok.0.1
+        done.is_renamed.resolved done.is_renamed.hygienic;
+  }
+  kept chaining changing fixing command.Chain kind.Script output fits done = tt
+  kept chaining changing fixing command.Fix k output fits done = fixing envelope.tree (slot.One (content.Node (class_of k))) (takes_pairs k) fits
+  kept chaining changing fixing command.Resolve k output fits done = tt
+  kept chaining changing fixing command.Hygiene k output fits done = tt
+  kept chaining changing fixing command.Unparen k output fits done = tt
 
-  no_target : Fits envelope.tree (slot.One (content.Node (class_of kind.Module))) → MarksOk envelope.globals envelope.unresolved envelope.top → (e : PassError) → IsRefusalOf command.Chain envelope e
+  no_target : ChainingKeepsSources → Fits envelope.tree (slot.One (content.Node (class_of kind.Module))) → (e : PassError) → IsRefusalOf command.Chain envelope e
       → SparesTargets command.Chain kind.Module envelope e
-  no_target fits ok refusal.NotAssignable (table, renamed, is, bare) source same =
+  no_target chaining fits refusal.NotAssignable (table, renamed, is, bare) source same =
       let stands = (chaining (config_of envelope) (recorded (pairs renamed)) envelope.unresolved envelope.top envelope.globals table envelope.tree is.between renamed fits source ok.0.1 is.resolved is.hygienic).1 in
       absurd (cc)
-  no_target fits ok refusal.MarksSpent h source same = absurd (cc same)
-  no_target fits ok refusal.CounterSpent h source same = absurd (cc same)
-  no_target fits ok refusal.NoMemory h source same = absurd (cc same)
+  no_target chaining fits refusal.MarksSpent h source same = absurd (cc same)
+  no_target chaining fits refusal.CounterSpent h source same = absurd (cc same)
+  no_target chaining fits refusal.NoMemory h source same = absurd (cc same)
 
-  pub spared : (c : Command) (k : Kind) (e : PassError) → Fits envelope.tree (slot.One (content.Node (class_of k))) → MarksOk envelope.globals envelope.unresolved envelope.top → IsRefusalOf c envelope e
-      → SparesTargets c k envelope e
-  spared command.Chain kind.Module e fits ok h = no_target fits ok e h
-  spared command.Chain kind.Script e fits ok h = tt
-  spared command.Fix k e fits ok h = tt
-  spared command.Resolve k e fits ok h = tt
-  spared command.Hygiene k e fits ok h = tt
-  spared command.Unparen k e fits ok h = tt
+  spared : ChainingKeepsSources → (c : Command) (k : Kind) (e : PassError) → Fits envelope.tree (slot.One (content.Node (class_of k))) → IsRefusalOf c envelope e → SparesTargets c k envelope e
+  spared chaining command.Chain kind.Module e fits h = no_target chaining fits e h
+  spared chaining command.Chain kind.Script e fits h = tt
+  spared chaining command.Fix k e fits h = tt
+  spared chaining command.Resolve k e fits h = tt
+  spared chaining command.Hygiene k e fits h = tt
+  spared chaining command.Unparen k e fits h = tt
+
+pub promises_are_kept : ChainingKeepsSources → ChainChangesNothing → AnswersKeepPromises → PromisesAreKept
+promises_are_kept chaining changing fixing c k input output (envelope, is, done) =
+    (envelope, is, done, kept envelope (envelope_marks (class_of k) input envelope is) chaining changing fixing c k output (fits_its_class (class_of k) input envelope is) done)
+
+pub targets_are_spared : ChainingKeepsSources → TargetsAreSpared
+targets_are_spared chaining c k input Usage h = h
+targets_are_spared chaining c k input (NotATree text) h = h
+targets_are_spared chaining c k input (Refused e) (inl memory) = inl memory
+targets_are_spared chaining c k input (Refused e) (inr (envelope, is, cause)) =
+    inr (envelope, is, cause, spared envelope (envelope_marks (class_of k) input envelope is) chaining c k e (fits_its_class (class_of k) input envelope is) cause)

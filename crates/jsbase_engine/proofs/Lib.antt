@@ -1,3 +1,2 @@
-pub mod Beginnings
-pub mod Programs
 mod Kept
+mod Streams

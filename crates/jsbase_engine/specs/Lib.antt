@@ -1,4 +1,3 @@
-pub mod Arguments
-pub mod Faults
 pub mod Run
 pub mod Served
+pub mod Laws

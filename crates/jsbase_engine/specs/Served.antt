@@ -1,40 +1,16 @@
--- What becomes of a reader and a writer where what the one gives is answered to the other.
-use Rattle.std.specs.Prelude.{◌≡◌, ℕ, Option, List}
-use Rattle.std.specs.Io.KnownBytes.{Appends}
-use Rattle.jsbase_stream.specs.Bytes.{IsRead, LosesBeginning, TakesBeginning}
-use Rattle.jsbase_engine.specs.declared.arguments.Command.{Command}
-use Rattle.jsbase_engine.specs.declared.arguments.Kind.{Kind}
-use Rattle.jsbase_engine.specs.declared.fault.Fault.{Fault}
-use Rattle.jsbase_engine.specs.declared.fault.ServeFault.{ServeFault}
-use Rattle.jsbase_engine.specs.declared.fault.ServeFault.TheVariants.{Run, Read, Write, NoMemory}
+-- What becomes of a reader and a writer where the engine's answer to what the one gives is given to the other.
+use Rattle.std.specs.Prelude.{ℕ, Option, List}
+use Rattle.jsbase_commands.specs.declared.arguments.Command.{Command}
+use Rattle.jsbase_commands.specs.declared.arguments.Kind.{Kind}
+use Rattle.jsbase_commands.specs.declared.fault.ServeFault.{ServeFault}
+use Rattle.jsbase_commands.specs.Served as by
 use Rattle.jsbase_engine.specs.Run.{Answers, IsFaultOf}
 
 module _ (command : Command) (kind : Kind) (left rest : Option (List ℕ)) where
-  -- the reader gave an input to its end, and the writer took the whole answer to it, and nothing else
-  pub record IsServed (old new : Option (List ℕ)) : Type 0 where
-    pub input : List ℕ
-    pub answer : List ℕ
-    pub is_read : IsRead left rest input
-    pub answers : Answers command kind input answer
-    pub written : Appends old new answer
+  -- the writer took the whole answer to what the reader gave to its end, and nothing else
+  abbrev pub IsServed : Option (List ℕ) → Option (List ℕ) → Type 0
+  IsServed old new = by.IsServed (Answers command kind) left rest old new
 
-  -- of the answer it took the first n bytes, which are not all, and nothing else
-  pub record IsCutOff (old new : Option (List ℕ)) (n : ℕ) : Type 0 where
-    pub input : List ℕ
-    pub answer : List ℕ
-    pub is_read : IsRead left rest input
-    pub answers : Answers command kind input answer
-    pub written : TakesBeginning old new answer n
-
-  -- the reader gave an input to its end, to which there is no answer
-  pub record IsUnanswered (fault : Fault) : Type 0 where
-    pub input : List ℕ
-    pub is_read : IsRead left rest input
-    pub is_fault : IsFaultOf command kind input fault
-
-  -- a fault, by what became of the reader and of the writer: unless that failed, it is as it was
+  -- a fault, by what became of the reader and of the writer
   abbrev pub IsServeFault : {W : Type 0} → (W → Option (List ℕ)) → W → W → ServeFault → Type 0
-  IsServeFault contents old new (Run fault) = IsUnanswered fault × (new ≡ old)
-  IsServeFault contents old new Read = LosesBeginning left rest × (new ≡ old)
-  IsServeFault contents old new NoMemory = LosesBeginning left rest × (new ≡ old)
-  IsServeFault contents old new (Write n) = IsCutOff (contents old) (contents new) n
+  IsServeFault contents old new fault = by.IsServeFault (Answers command kind) (IsFaultOf command kind) left rest contents old new fault

@@ -1,12 +1,10 @@
-//! The engine of `jsbase`: from the bytes of an envelope to the bytes of an envelope, and from a reader to a writer.
+//! The engine of `jsbase`: its commands, with all that the laws of the passes promise of what they make.
 #![tactic(auto)]
 
-mod arguments;
 mod engine;
-mod fault;
+mod laws;
 mod served;
 
-pub use arguments::{Command, Kind, words};
 pub use engine::run;
-pub use fault::{Fault, ServeFault, report};
+pub use jsbase_commands::{Command, Fault, Kind, ServeFault, report, words};
 pub use served::serve;

@@ -2,10 +2,8 @@
 ghost use Rattle.std.specs.Prelude.{MatchResult};
 ghost use Rattle.jsbase_engine.specs.Served.{IsServed, IsServeFault};
 
-use crate::arguments::{Command, Kind};
-use crate::engine::run;
-use crate::fault::ServeFault;
-use jsbase_stream::{read_all, write_counted};
+use crate::laws::{promises_are_kept, targets_are_spared};
+use jsbase_commands::{Command, Kind, ServeFault};
 use std::alloc::Global;
 use std::io::{Read, Write};
 
@@ -28,10 +26,7 @@ pub fn serve<R: Read, W: Write>(
 ) -> Result<(), ServeFault>
     ensures { MatchResult result (λ _. IsServed command kind (R.remaining input.old) (R.remaining input.new) (W.contents output.old) (W.contents output.new)) (IsServeFault command kind (R.remaining input.old) (R.remaining input.new) W.contents output.old output.new) }
 {
-    let read = read_all(alloc, input)?;
-    let answer = run(alloc, command, kind, read.as_slice())?;
-    match write_counted(output, answer.as_slice()) {
-        Ok(()) => Ok(()),
-        Err(taken) => Err(ServeFault::Write(taken)),
-    }
+    promises_are_kept();
+    targets_are_spared();
+    jsbase_commands::serve(alloc, command, kind, input, output)
 }

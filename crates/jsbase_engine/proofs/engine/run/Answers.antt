@@ -1,43 +1,7 @@
-use Rattle.std.proofs.Common.{inl, inr, ⊎_elim, ap, sym, ◌∙◌, subst}
-use Rattle.swc_tree_node.specs.declared.slot.Content.TheVariants as content
-use Rattle.swc_tree_node.specs.declared.slot.Slot.TheVariants as slot
-use Rattle.swc_tree_node.specs.Fits.{Fits}
-use Rattle.jsbase_reader.specs.Envelopes.{envelope_in_text}
-use Rattle.jsbase_engine.specs.Run.{Does, class_of}
-use Rattle.jsbase_programs.proofs.Marks.{envelope_marks}
-use Rattle.jsbase_engine.proofs.Kept.{kept, spared}
-use Rattle.jsbase_engine.proofs.Programs.{is_program}
+use Rattle.std.proofs.lemmas.Result.{MatchResult-weaker}
 use Rattle.jsbase_engine.proofs.engine.run.Goals as goal
 
-pub answer-requires-clause-program : goal.answer-requires-clause-program
-answer-requires-clause-program c = is_program c.args.kind c.in-Ok.envelope.tree
-    (subst (λ class. Fits c.in-Ok.envelope.tree (slot.One (content.Node class))) c.class_of.ensures c.in-Ok.ensures.fits)
-
-pub answer-requires-clause-marks : goal.answer-requires-clause-marks
-answer-requires-clause-marks c = envelope_marks c.class_of.result c.args.input.now c.in-Ok.envelope c.in-Ok.ensures.envelope
-
-pub returns-in-Ok-answer : goal.returns-in-Ok-answer
-returns-in-Ok-answer c =
-    let e = c.in-Ok.envelope in
-    let fits : Fits e.tree (slot.One (content.Node (class_of c.args.kind))) = subst (λ class. Fits e.tree (slot.One (content.Node class))) c.class_of.ensures c.in-Ok.ensures.fits in
-    let marks = envelope_marks c.class_of.result c.args.input.now e c.in-Ok.ensures.envelope in
-    let done = subst (Does c.args.command e) (ap (λ v. v.items) (sym c.into_bytes.ensures.value)) c.in-Ok-answer.ensures in (
-      e,
-      ap (λ class. envelope_in_text class c.args.input.now) (sym c.class_of.ensures) ∙ c.in-Ok.ensures.envelope,
-      done,
-      kept c.chaining_keeps_sources.ensures c.answers_keep_promises.ensures e c.args.command c.args.kind _ fits marks done,
-    )
-
-pub returns-in-Err-answer : goal.returns-in-Err-answer
-returns-in-Err-answer c =
-    let e = c.in-Ok.envelope in
-    let fits : Fits e.tree (slot.One (content.Node (class_of c.args.kind))) = subst (λ class. Fits e.tree (slot.One (content.Node class))) c.class_of.ensures c.in-Ok.ensures.fits in
-    let marks = envelope_marks c.class_of.result c.args.input.now e c.in-Ok.ensures.envelope in
-    ⊎_elim inl
-    (λ cause. inr (
-      e,
-      ap (λ class. envelope_in_text class c.args.input.now) (sym c.class_of.ensures) ∙ c.in-Ok.ensures.envelope,
-      cause,
-      spared c.chaining_keeps_sources.ensures c.answers_keep_promises.ensures e c.args.command c.args.kind _ fits marks cause,
-    ))
-    c.in-Err-answer.ensures
+pub returns : goal.returns
+returns c = MatchResult-weaker c.run.result c.run.ensures
+    (λ output. c.promises_are_kept.ensures c.args.command c.args.kind c.args.input.now output.items)
+    (c.targets_are_spared.ensures c.args.command c.args.kind c.args.input.now)

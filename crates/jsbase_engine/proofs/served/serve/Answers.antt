@@ -1,23 +1,16 @@
-use Rattle.std.proofs.Common.{subst}
-use Rattle.std.specs.Io.KnownBytes.{Appends}
-use Rattle.jsbase_stream.specs.Bytes.{TakesBeginning}
-use Rattle.jsbase_engine.specs.Run.{Answers}
+use Rattle.std.proofs.lemmas.Result.{MatchResult-weaker}
+use Rattle.jsbase_commands.specs.Run.{Makes, IsRunFault}
+use Rattle.jsbase_engine.specs.Run.{Answers, IsFaultOf}
+use Rattle.jsbase_engine.proofs.Streams.{served, faulted}
 use Rattle.jsbase_engine.proofs.served.serve.Goals as goal
 
-pub returns-in-Ok : goal.returns-in-Ok
-returns-in-Ok g c = record {
-  input = c.in_ok-read.read.items;
-  answer = c.in_ok-answer.answer.items;
-  is_read = c.in_ok-read.ensures.whole;
-  answers = subst (λ input. Answers c.args.command c.args.kind input c.in_ok-answer.answer.items) c.as_slice.ensures.value c.in_ok-answer.ensures;
-  written = subst (λ bytes. Appends (g.W.Write.contents c.args.output.now) (g.W.Write.contents c.write_counted.new.writer) bytes) c.as_slice-2.ensures.value c.in-Ok.ensures.whole;
-}
-
 pub returns : goal.returns
-returns g c = record {
-  input = c.in_ok-read.read.items;
-  answer = c.in_ok-answer.answer.items;
-  is_read = c.in_ok-read.ensures.whole;
-  answers = subst (λ input. Answers c.args.command c.args.kind input c.in_ok-answer.answer.items) c.as_slice.ensures.value c.in_ok-answer.ensures;
-  written = subst (λ bytes. TakesBeginning (g.W.Write.contents c.args.output.now) (g.W.Write.contents c.write_counted.new.writer) bytes c.in-Err.taken) c.as_slice-2.ensures.value c.in-Err.ensures.beginning;
-}
+returns g c =
+    let left = g.R.Read.remaining c.args.input.now in
+    let rest = g.R.Read.remaining c.serve.new.input in
+    let k = g.W.Write.contents in
+    let kept = c.promises_are_kept.ensures c.args.command c.args.kind in
+    MatchResult-weaker c.serve.result c.serve.ensures
+    (λ _. served (Makes c.args.command c.args.kind) (Answers c.args.command c.args.kind) kept left rest (k c.args.output.now) (k c.serve.new.output))
+    (faulted (Makes c.args.command c.args.kind) (Answers c.args.command c.args.kind) kept left rest (IsRunFault c.args.command c.args.kind) (IsFaultOf c.args.command c.args.kind)
+    (c.targets_are_spared.ensures c.args.command c.args.kind) k c.args.output.now c.serve.new.output)

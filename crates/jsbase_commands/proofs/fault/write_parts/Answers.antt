@@ -1,8 +1,8 @@
 use Rattle.std.proofs.Common.{subst}
 use Rattle.std.specs.Io.KnownBytes.{Appends}
 use Rattle.jsbase_stream.specs.Bytes.{TakesBeginning}
-use Rattle.jsbase_engine.proofs.Beginnings.{first_is_cut, second_is_cut, third_is_cut, none_is_cut}
-use Rattle.jsbase_engine.proofs.fault.write_parts.Goals as goal
+use Rattle.jsbase_commands.proofs.Beginnings.{first_is_cut, second_is_cut, third_is_cut, none_is_cut}
+use Rattle.jsbase_commands.proofs.fault.write_parts.Goals as goal
 
 pub returns-in_err-write_counted : goal.returns-in_err-write_counted
 returns-in_err-write_counted g c =

@@ -1,9 +1,9 @@
 -- The words of the command line.
 use Rattle.std.specs.Prelude.{ℕ, List, codes}
-use Rattle.jsbase_engine.specs.declared.arguments.Command.{Command}
-use Rattle.jsbase_engine.specs.declared.arguments.Command.TheVariants as command
-use Rattle.jsbase_engine.specs.declared.arguments.Kind.{Kind}
-use Rattle.jsbase_engine.specs.declared.arguments.Kind.TheVariants as kind
+use Rattle.jsbase_commands.specs.declared.arguments.Command.{Command}
+use Rattle.jsbase_commands.specs.declared.arguments.Command.TheVariants as command
+use Rattle.jsbase_commands.specs.declared.arguments.Kind.{Kind}
+use Rattle.jsbase_commands.specs.declared.arguments.Kind.TheVariants as kind
 
 abbrev pub command_word : Command → List ℕ
 command_word command.Resolve = codes "resolve"

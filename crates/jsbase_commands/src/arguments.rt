@@ -1,9 +1,9 @@
 //! The words of the command line.
 ghost use Rattle.std.specs.Prelude.{◌≡◌, ◌≢◌, [], ◌∷◌, map, string_bytes, IfOk, IfErr, IfSome, IfNone};
-ghost use Rattle.jsbase_engine.specs.declared.fault.Fault.TheVariants.{Usage};
-ghost use Rattle.jsbase_engine.specs.declared.arguments.Command.{Command};
-ghost use Rattle.jsbase_engine.specs.declared.arguments.Kind.{Kind};
-ghost use Rattle.jsbase_engine.specs.Arguments.{command_word, kind_word};
+ghost use Rattle.jsbase_commands.specs.declared.fault.Fault.TheVariants.{Usage};
+ghost use Rattle.jsbase_commands.specs.declared.arguments.Command.{Command};
+ghost use Rattle.jsbase_commands.specs.declared.arguments.Kind.{Kind};
+ghost use Rattle.jsbase_commands.specs.Arguments.{command_word, kind_word};
 
 use crate::fault::Fault;
 

@@ -5,10 +5,10 @@ use Rattle.swc_tree_marks.specs.Errors.{name_of}
 use Rattle.swc_tree_marks.specs.declared.error.PassError.TheVariants as refusal
 use Rattle.jsbase_stream.specs.declared.input.InputFault.{InputFault}
 use Rattle.jsbase_stream.specs.declared.input.InputFault.TheVariants as input
-use Rattle.jsbase_engine.specs.declared.fault.Fault.{Fault}
-use Rattle.jsbase_engine.specs.declared.fault.Fault.TheVariants.{Usage, Refused, NotATree}
-use Rattle.jsbase_engine.specs.declared.fault.ServeFault.{ServeFault}
-use Rattle.jsbase_engine.specs.declared.fault.ServeFault.TheVariants.{Run, Read, Write, NoMemory}
+use Rattle.jsbase_commands.specs.declared.fault.Fault.{Fault}
+use Rattle.jsbase_commands.specs.declared.fault.Fault.TheVariants.{Usage, Refused, NotATree}
+use Rattle.jsbase_commands.specs.declared.fault.ServeFault.{ServeFault}
+use Rattle.jsbase_commands.specs.declared.fault.ServeFault.TheVariants.{Run, Read, Write, NoMemory}
 
 -- why an input was not read
 abbrev pub of_input : InputFault → ServeFault

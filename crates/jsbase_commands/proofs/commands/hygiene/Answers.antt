@@ -1,6 +1,6 @@
 use Rattle.std.proofs.Common.{subst}
 use Rattle.swc_base_rename_program.specs.Renamed.{IsHygienic}
-use Rattle.jsbase_engine.proofs.engine.hygiene.Goals as goal
+use Rattle.jsbase_commands.proofs.commands.hygiene.Goals as goal
 
 pub returns : goal.returns
 returns c = record {

@@ -1,4 +1,4 @@
-use Rattle.jsbase_engine.proofs.engine.resolve.Goals as goal
+use Rattle.jsbase_commands.proofs.commands.resolve.Goals as goal
 
 pub returns : goal.returns
 returns c = record {

@@ -8,9 +8,9 @@ use Rattle.swc_tree_grammar.specs.Targets.{all_bare}
 use Rattle.jsbase_reader.specs.declared.envelope.Envelope.{Envelope}
 use Rattle.jsbase_writer.specs.Envelopes.{envelope_text}
 use Rattle.swc_base_rename_program.specs.Renamed.{IsHygienic}
-use Rattle.jsbase_engine.specs.declared.arguments.Command.TheVariants as command
-use Rattle.jsbase_engine.specs.Run.{IsRefusalOf, IsRefusedFor, IsRenamedWith}
-use Rattle.jsbase_engine.proofs.engine.chain.Goals as goal
+use Rattle.jsbase_commands.specs.declared.arguments.Command.TheVariants as command
+use Rattle.jsbase_commands.specs.Run.{IsRefusalOf, IsRefusedFor, IsRenamedWith}
+use Rattle.jsbase_commands.proofs.commands.chain.Goals as goal
 
 true_unless : (b : Bool) → (b ≡ false → ⊥) → b ≡ true
 true_unless true h = refl

@@ -1,7 +1,7 @@
 //! Why there is no answer, and how that is told.
 ghost use Rattle.std.specs.Prelude.{◌≡◌, [], ◌∷◌, ◌++◌};
-ghost use Rattle.jsbase_engine.specs.Faults.{cause_of, status_of, text_of, line_of, of_input, IsBeginning};
-ghost use Rattle.jsbase_engine.specs.declared.fault.ServeFault.TheVariants as serve;
+ghost use Rattle.jsbase_commands.specs.Faults.{cause_of, status_of, text_of, line_of, of_input, IsBeginning};
+ghost use Rattle.jsbase_commands.specs.declared.fault.ServeFault.TheVariants as serve;
 
 use jsbase_stream::{InputFault, write_counted};
 use std::error::Error;

@@ -4,7 +4,7 @@ use Rattle.std.proofs.lemmas.List.{take-append-le}
 use Rattle.std.proofs.Math.Seq.{take-append-add, take-length}
 use Rattle.std.specs.Io.KnownBytes.{Appends}
 use Rattle.jsbase_stream.specs.Bytes.{TakesBeginning}
-use Rattle.jsbase_engine.specs.Faults.{IsBeginning}
+use Rattle.jsbase_commands.specs.Faults.{IsBeginning}
 
 both : (old mid new : Option (List ℕ)) (xs ys : List ℕ) → Appends old mid xs → Appends mid new ys → Appends old new (xs ++ ys)
 both None mid new xs ys a b = tt

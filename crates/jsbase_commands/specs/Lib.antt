@@ -1,0 +1,4 @@
+pub mod Arguments
+pub mod Faults
+pub mod Run
+pub mod Served

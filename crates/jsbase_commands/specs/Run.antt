@@ -1,0 +1,141 @@
+-- What a command makes of an input.
+use Rattle.std.specs.Prelude.{◌≡◌, Bool, true, false, ℕ, ◌+◌, ◌-◌, ◌<◌, ◌⊎◌, List, Ok, Err, string_bytes}
+use Rattle.swc_tree_marks.specs.Globals.{Table, IsTable, greatest}
+use Rattle.swc_tree_marks.specs.declared.error.PassError.{PassError}
+use Rattle.swc_tree_marks.specs.declared.error.PassError.TheVariants as refusal
+use Rattle.swc_tree_node.specs.declared.kind.Class.{Class}
+use Rattle.swc_tree_node.specs.declared.kind.Class.TheVariants as class
+use Rattle.swc_tree_node.specs.declared.node.Node.{Node}
+use Rattle.swc_tree_scoping.specs.Places.{program_place}
+use Rattle.swc_tree_scoping.specs.Scopes.{scope_count}
+use Rattle.swc_tree_scoping.specs.Resolved.{Resolved}
+use Rattle.swc_tree_grammar.specs.Blocks.{with_blocks}
+use Rattle.swc_tree_grammar.specs.Stripped.{stripped}
+use Rattle.swc_tree_grammar.specs.Targets.{all_bare}
+use Rattle.swc_base_fixer_program.specs.Answers.{answer_to}
+use Rattle.swc_base_rename_substitution.specs.declared.config.Config.{Config}
+use Rattle.swc_base_rename_program.specs.Renamed.{IsHygienic, IsRenameRefusal, hygiene_renaming}
+use Rattle.jsbase_form.specs.Reads.{Path, path_text}
+use Rattle.jsbase_reader.specs.declared.envelope.Envelope.{Envelope}
+use Rattle.jsbase_reader.specs.declared.error.ReadError.{ReadError}
+use Rattle.jsbase_reader.specs.declared.error.ReadError.TheVariants as read
+use Rattle.jsbase_reader.specs.Envelopes.{envelope_in_text}
+use Rattle.jsbase_writer.specs.Envelopes.{envelope_text}
+use Rattle.jsbase_commands.specs.declared.arguments.Command.{Command}
+use Rattle.jsbase_commands.specs.declared.arguments.Command.TheVariants as command
+use Rattle.jsbase_commands.specs.declared.arguments.Kind.{Kind}
+use Rattle.jsbase_commands.specs.declared.arguments.Kind.TheVariants as kind
+use Rattle.jsbase_commands.specs.declared.fault.Fault.{Fault}
+use Rattle.jsbase_commands.specs.declared.fault.Fault.TheVariants.{Usage, Refused, NotATree}
+
+-- what a program of the kind is in the tree
+abbrev pub class_of : Kind → Class
+class_of kind.Module = class.Module
+class_of kind.Script = class.Script
+
+-- the output is the envelope of the tree, resolved, with the table of marks that resolving it leads to
+pub record IsResolved (envelope : Envelope) (output : List ℕ) : Type 0 where
+  pub table : Table
+  pub answer : Node
+  pub resolved : Resolved envelope.unresolved envelope.top envelope.globals table envelope.tree answer
+  pub well_formed : IsTable table
+  pub written : output ≡ envelope_text table envelope.top answer envelope.unresolved
+
+-- what hygiene goes by
+abbrev pub config_by : ℕ → Bool → Bool → Config
+config_by top keeps ignores = record { keep_class_names = keeps; safari_10 = false; top_level_mark = top; ignore_eval = ignores }
+
+abbrev pub config_of : Envelope → Config
+config_of envelope = config_by envelope.top envelope.keep_class_names envelope.ignore_eval
+
+-- the output is the envelope of the tree whose names are given anew and whose contexts are empty
+pub record IsMadeHygienic (envelope : Envelope) (output : List ℕ) : Type 0 where
+  pub answer : Node
+  pub hygienic : IsHygienic envelope.globals (config_of envelope) envelope.tree answer
+  pub written : output ≡ envelope_text envelope.globals envelope.top answer envelope.unresolved
+
+-- the output is the envelope of the tree without parentheses, whose parenthesised targets may be assigned to
+pub record IsUnparened (envelope : Envelope) (output : List ℕ) : Type 0 where
+  pub assignable : all_bare envelope.tree ≡ true
+  pub written : output ≡ envelope_text envelope.globals envelope.top (with_blocks (stripped envelope.tree)) envelope.unresolved
+
+-- the output is the envelope of the tree with its parentheses set anew, whose parenthesised targets may be assigned to
+pub record IsFixed (envelope : Envelope) (output : List ℕ) : Type 0 where
+  pub assignable : all_bare envelope.tree ≡ true
+  pub written : output ≡ envelope_text envelope.globals envelope.top (answer_to envelope.tree) envelope.unresolved
+
+-- the tree of an envelope, resolved
+abbrev pub ResolvesTo : Envelope → Table → Node → Type 0
+ResolvesTo envelope table resolved = Resolved envelope.unresolved envelope.top envelope.globals table envelope.tree resolved
+
+-- the tree of an envelope, resolved, and then with its names given anew and its contexts empty
+pub record IsRenamedWith (envelope : Envelope) (table : Table) (renamed : Node) : Type 0 where
+  pub between : Node
+  pub resolved : ResolvesTo envelope table between
+  pub hygienic : IsHygienic table (config_of envelope) between renamed
+
+-- the output is the envelope of the tree that the three passes lead to, one after the other: resolved, hygienic, fixed
+pub record IsChained (envelope : Envelope) (output : List ℕ) : Type 0 where
+  pub table : Table
+  pub renamed : Node
+  pub is_renamed : IsRenamedWith envelope table renamed
+  pub assignable : all_bare renamed ≡ true
+  pub well_formed : IsTable table
+  pub written : output ≡ envelope_text table envelope.top (answer_to renamed) envelope.unresolved
+
+-- what the command is to make of an envelope
+abbrev pub Does : Command → Envelope → List ℕ → Type 0
+Does command.Resolve envelope output = IsResolved envelope output
+Does command.Hygiene envelope output = IsMadeHygienic envelope output
+Does command.Unparen envelope output = IsUnparened envelope output
+Does command.Fix envelope output = IsFixed envelope output
+Does command.Chain envelope output = IsChained envelope output
+
+-- resolving the tree takes more marks than there are
+abbrev pub TakesTooManyMarks : Envelope → Type 0
+TakesTooManyMarks envelope = 4294967295 < greatest envelope.globals + (scope_count program_place envelope.tree - 1)
+
+-- the counters are spent on the tree, once it is resolved
+abbrev pub IsSpentOnceResolved : Envelope → Type 0
+IsSpentOnceResolved envelope = (table : Table) × (resolved : Node) × ResolvesTo envelope table resolved
+    × IsRenameRefusal table (config_of envelope) hygiene_renaming resolved refusal.CounterSpent
+
+-- a parenthesised target takes no value, once the tree has its names
+abbrev pub IsUnassignableOnceRenamed : Envelope → Type 0
+IsUnassignableOnceRenamed envelope = (table : Table) × (renamed : Node) × IsRenamedWith envelope table renamed × (all_bare renamed ≡ false)
+
+-- why the command may be refused on an envelope, beside want of memory
+abbrev pub IsRefusalOf : Command → Envelope → PassError → Type 0
+IsRefusalOf command.Resolve envelope refusal.MarksSpent = TakesTooManyMarks envelope
+IsRefusalOf command.Resolve envelope _ = ⊥
+IsRefusalOf command.Hygiene envelope refusal.CounterSpent = IsRenameRefusal envelope.globals (config_of envelope) hygiene_renaming envelope.tree refusal.CounterSpent
+IsRefusalOf command.Hygiene envelope _ = ⊥
+IsRefusalOf command.Unparen envelope refusal.NotAssignable = all_bare envelope.tree ≡ false
+IsRefusalOf command.Unparen envelope _ = ⊥
+IsRefusalOf command.Fix envelope refusal.NotAssignable = all_bare envelope.tree ≡ false
+IsRefusalOf command.Fix envelope _ = ⊥
+IsRefusalOf command.Chain envelope refusal.MarksSpent = TakesTooManyMarks envelope
+IsRefusalOf command.Chain envelope refusal.CounterSpent = IsSpentOnceResolved envelope
+IsRefusalOf command.Chain envelope refusal.NotAssignable = IsUnassignableOnceRenamed envelope
+IsRefusalOf command.Chain envelope refusal.NoMemory = ⊥
+
+-- memory was refused, or the command's pass for its own cause
+abbrev pub IsRefusedFor : Command → Envelope → PassError → Type 0
+IsRefusedFor c envelope error = (error ≡ refusal.NoMemory) ⊎ IsRefusalOf c envelope error
+
+-- the fault says why an input was not read: the path in it, unless memory was refused
+abbrev pub IsReadFault : ReadError → Fault → Type 0
+IsReadFault read.NoMemory fault = fault ≡ Refused refusal.NoMemory
+IsReadFault (read.Fault path) Usage = ⊥
+IsReadFault (read.Fault path) (Refused error) = error ≡ refusal.NoMemory
+IsReadFault (read.Fault path) (NotATree text) = string_bytes text ≡ path_text path
+
+-- the output is what the command makes of the envelope that the input is
+abbrev pub Makes : Command → Kind → List ℕ → List ℕ → Type 0
+Makes c k input output = (envelope : Envelope) × (envelope_in_text (class_of k) input ≡ Ok envelope) × Does c envelope output
+
+-- the fault is the input's first, by its path; else memory was refused, or the command's pass for its own cause
+abbrev pub IsRunFault : Command → Kind → List ℕ → Fault → Type 0
+IsRunFault c k input Usage = ⊥
+IsRunFault c k input (NotATree text) = (path : Path) × (envelope_in_text (class_of k) input ≡ Err path) × (string_bytes text ≡ path_text path)
+IsRunFault c k input (Refused error) = (error ≡ refusal.NoMemory) ⊎ ((envelope : Envelope) × (envelope_in_text (class_of k) input ≡ Ok envelope) × IsRefusalOf c envelope error)

@@ -1,0 +1,12 @@
+//! The commands of `jsbase`: from the bytes of an envelope to the bytes of an envelope, and from a reader to a writer.
+#![tactic(auto)]
+
+mod arguments;
+mod commands;
+mod fault;
+mod served;
+
+pub use arguments::{Command, Kind, words};
+pub use commands::run;
+pub use fault::{Fault, ServeFault, report};
+pub use served::serve;

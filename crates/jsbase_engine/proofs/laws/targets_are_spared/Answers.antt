@@ -1,0 +1,5 @@
+use Rattle.jsbase_engine.proofs.Kept.{targets_are_spared}
+use Rattle.jsbase_engine.proofs.laws.targets_are_spared.Goals as goal
+
+pub returns : goal.returns
+returns c = targets_are_spared c.chaining_keeps_sources.ensures

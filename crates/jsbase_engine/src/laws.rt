@@ -1,0 +1,24 @@
+//! What the laws of the passes say of what a command makes.
+//!
+//! Each is the contract of a function that does nothing but call the laws that it rests on.
+ghost use Rattle.jsbase_engine.specs.Laws.{PromisesAreKept, TargetsAreSpared};
+
+use swc_base_fixer::answers_keep_promises;
+use swc_ecma_transforms_base_apart_laws::a_chain_changes_nothing;
+use swc_ecma_transforms_base_laws::chaining_keeps_sources;
+
+// What a command makes of an input has all that is promised of it.
+pub fn promises_are_kept()
+    ensures { PromisesAreKept }
+{
+    chaining_keeps_sources();
+    a_chain_changes_nothing();
+    answers_keep_promises();
+}
+
+// Where it is refused, targets are spared.
+pub fn targets_are_spared()
+    ensures { TargetsAreSpared }
+{
+    chaining_keeps_sources();
+}
