@@ -5,6 +5,7 @@ use Rattle.std.specs.Cmp.Lexicographic.{slice_cmp}
 use Rattle.std.specs.Str.{bytes_eq}
 use Rattle.std.specs.BTreeMap.{get_by}
 use Rattle.swc_tree_scoping.specs.Scopes.{is_binding, is_name}
+pub use Rattle.swc_tree_scoping.specs.BoundNames.{same_id}
 use Rattle.swc_tree_scoping.specs.BoundNames.{Id}
 use Rattle.swc_base_rename_analysis.specs.declared.numbers.Entry.{Entry}
 use Rattle.swc_base_rename_analysis.specs.declared.numbers.Entries.{Entries}
@@ -31,9 +32,6 @@ is_analysed_text x = not (bytes_eq x (codes "arguments"))
 
 abbrev pub is_analysed : Id → Bool
 is_analysed x = is_analysed_text x.0
-
-abbrev pub same_id : Id → Id → Bool
-same_id x y = bytes_eq x.0 y.0 && bytes_eq x.1 y.1
 
 -- the number of an id
 abbrev pub number_in : List Known → Id → Option ℕ

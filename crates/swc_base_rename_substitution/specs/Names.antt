@@ -4,19 +4,12 @@ use Rattle.std.specs.Cmp.Lexicographic.{pointwise, slice_cmp}
 use Rattle.std.specs.BTreeMap.{BTreeMap, get_by}
 use Rattle.std.specs.HashMap.{HashMap, get}
 use Rattle.std.specs.Ordering.{nat_cmp, ordering_then}
+pub use Rattle.swc_tree_scoping.specs.BoundNames.{Id, same_id}
 use Rattle.swc_base_rename_substitution.specs.declared.names.Names.{Names}
 use Rattle.swc_base_rename_substitution.specs.declared.names.Names.TheVariants.{Texts, Ordered, Ids}
 
--- a text and a context
-abbrev pub Id : Type 0
-Id = List ℕ × List ℕ
-
 abbrev pub same_text : Id → Id → Bool
 same_text x y = pointwise nat_eq x.0 y.0
-
--- ids are one where their texts and their contexts are
-abbrev pub same_id : Id → Id → Bool
-same_id x y = pointwise nat_eq x.0 y.0 && pointwise nat_eq x.1 y.1
 
 -- a new id counts where its text is another
 abbrev pub if_other_text : Id → Option Id → Option Id

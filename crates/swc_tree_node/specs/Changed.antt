@@ -6,11 +6,28 @@ use Rattle.swc_tree_items.specs.contracts.boxed.Boxed as boxed
 use Rattle.swc_tree_marks.specs.contracts.ident.Ident as ident
 use Rattle.swc_tree_marks.specs.declared.ident.Ident.{Ident}
 use Rattle.swc_tree_node.specs.contracts.node.Node.{the_row}
-use Rattle.swc_tree_node.specs.declared.node.Node.{Node, Identifier, Tree, out-Node, roll-Node}
+use Rattle.swc_tree_node.specs.declared.node.Node.{Node, Identifier, List as Many, Tree, out-Node, roll-Node}
 use Rattle.swc_tree_node.specs.declared.node.Node.TheOpen.{Node-F}
 
 abbrev pub nodes_row : RattleType
 nodes_row = items.the_row the_row
+
+abbrev pub nodes_at : Node-F Node → Option (List Node)
+nodes_at (Node-F.List ts) = Some ts
+nodes_at (Node-F.Tree k ts) = Some ts
+nodes_at _ = None
+
+abbrev pub nodes_in : Node → Option (List Node)
+nodes_in t = nodes_at (out-Node t)
+
+abbrev pub with_children_at : Node-F Node → List Node → Node
+with_children_at (Node-F.List ts) us = Many us
+with_children_at (Node-F.Tree k ts) us = Tree k us
+with_children_at y us = roll-Node y
+
+-- a list or a tree with other nodes right below
+abbrev pub with_children : Node → List Node → Node
+with_children t us = with_children_at (out-Node t) us
 
 abbrev pub items_at : Node-F Node → Option (List Node)
 items_at (Node-F.List ts) = Some ts

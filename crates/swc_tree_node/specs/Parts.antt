@@ -1,5 +1,5 @@
 -- What stands in a node, form by form.
-use Rattle.std.specs.Prelude.{ℕ, List, [], Bool, Option, Some, None, position, slice_get}
+use Rattle.std.specs.Prelude.{ℕ, List, [], Bool, true, false, Option, Some, None, position, slice_get}
 use Rattle.std.specs.Cmp.Lexicographic.{pointwise}
 use Rattle.std.specs.Option.{option_and_then}
 use Rattle.std.specs.Prelude.{nat_eq}
@@ -68,6 +68,25 @@ children_in _ = []
 -- what stands right below: the items of a list, the fields of a tree
 abbrev pub children_of : Node → List Node
 children_of t = children_in (out-Node t)
+
+abbrev pub has_parts_in : {X : Type 0} → Node-F X → Bool
+has_parts_in (Node-F.List ts) = true
+has_parts_in (Node-F.Tree k ts) = true
+has_parts_in _ = false
+
+-- whether nodes may stand below: a list or a tree
+abbrev pub has_parts : Node → Bool
+has_parts t = has_parts_in (out-Node t)
+
+abbrev pub may_hold_names_in : {X : Type 0} → Node-F X → Bool
+may_hold_names_in (Node-F.List ts) = true
+may_hold_names_in (Node-F.Identifier k i) = true
+may_hold_names_in (Node-F.Tree k ts) = true
+may_hold_names_in _ = false
+
+-- whether an identifier may stand in it: one itself, a list or a tree
+abbrev pub may_hold_names : Node → Bool
+may_hold_names t = may_hold_names_in (out-Node t)
 
 -- where a key stands among the fields of a kind
 abbrev pub place_of : Kind → List ℕ → Option ℕ

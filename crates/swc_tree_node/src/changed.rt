@@ -3,7 +3,7 @@ ghost use Rattle.std.specs.Prelude.{◌≡◌, option_map};
 ghost use Rattle.std.specs.Borrow.{LendsIf, sem};
 ghost use Rattle.swc_tree_node.specs.contracts.node.Node.{the_row};
 ghost use Rattle.swc_tree_node.specs.declared.node.Node.{List as Many};
-ghost use Rattle.swc_tree_node.specs.Changed.{fields_in, ident_row, items_in, nodes_row, with_fields, with_ident};
+ghost use Rattle.swc_tree_node.specs.Changed.{fields_in, ident_row, items_in, nodes_in, nodes_row, with_children, with_fields, with_ident};
 ghost use Rattle.swc_tree_node.specs.Parts.{ident_of};
 
 use crate::node::Node;
@@ -11,6 +11,19 @@ use swc_tree_items::{Boxed, Items};
 use swc_tree_marks::Ident;
 
 impl Node {
+    /// What stands right below, to be changed in place: the items of a list, or the fields of a tree.
+    /// `kind` tells which. There is nothing below a leaf or an identifier.
+    pub fn children_mut(&mut self) -> Option<&mut Items<Node>>
+        ensures* writes_back { sem 𝓛 (LendsIf the_row nodes_row self.entry result (with_children self.old) self.old) }
+        ensures value { option_map (λ r. r.now) result ≡ nodes_in self.old }
+    {
+        match self {
+            Node::List(items) => Some(items),
+            Node::Tree(_, fields) => Some(fields),
+            _ => None,
+        }
+    }
+
     /// The items of a list, to be changed in place.
     pub fn items_mut(&mut self) -> Option<&mut Items<Node>>
         ensures* writes_back { sem 𝓛 (LendsIf the_row nodes_row self.entry result Many self.old) }

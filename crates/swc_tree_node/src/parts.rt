@@ -2,7 +2,7 @@
 ghost use Rattle.std.specs.Prelude.{◌≡◌, nat_eq, position};
 ghost use Rattle.std.specs.Cmp.Lexicographic.{pointwise};
 ghost use Rattle.std.specs.Option.{option_copied};
-ghost use Rattle.swc_tree_node.specs.Parts.{kind_of, flag_of, word_of, text_of, span_of, ident_of, children_of, field_of, place_of};
+ghost use Rattle.swc_tree_node.specs.Parts.{kind_of, flag_of, word_of, text_of, span_of, ident_of, children_of, field_of, place_of, has_parts as is_list_or_tree, may_hold_names as is_no_leaf};
 
 use crate::kind::{Kind, Word};
 use crate::node::Node;
@@ -80,6 +80,23 @@ impl Node {
             Node::List(nodes) | Node::Tree(_, nodes) => nodes.as_slice(),
             _ => &[],
         }
+    }
+
+    /// Whether nodes may stand below: whether the node is a list or a tree. Most nodes have no parts,
+    /// and a walk leaves them where they are.
+    #[inline]
+    pub fn has_parts(&self) -> bool
+        ensures { result ≡ is_list_or_tree self.now }
+    {
+        matches!(self, Node::List(_) | Node::Tree(..))
+    }
+
+    /// Whether an identifier may stand in the node: whether it is one, a list or a tree.
+    #[inline]
+    pub fn may_hold_names(&self) -> bool
+        ensures { result ≡ is_no_leaf self.now }
+    {
+        matches!(self, Node::List(_) | Node::Identifier(..) | Node::Tree(..))
     }
 
     /// The field of a key, as the table calls it. No other node than a tree has fields.

@@ -107,6 +107,11 @@ bound_is_name r h = or_left (is_binding r) (is_reference r) h
 reference_is_name : (r : Standing) → IsTrue (is_reference r) → IsTrue (is_name r)
 reference_is_name r h = or_right (is_binding r) (is_reference r) h
 
+-- the scope that declares a binding is the one that takes it
+pub as_declared : (t : Node) (r : Standing) (p s : Path) (x : List ℕ) → r ≢ standing.SloppyFunction → taker r t p ≡ Some s → DeclaredBy t p r x s
+as_declared t standing.SloppyFunction p s x n h = absurd (n refl)
+as_declared t _ p s x n h = h
+
 module _ (A R : Node) (m : List ℕ → List ℕ) (same : SameScopes A R) (clear : IsClean A) (cleared : IsClean R) (texts : HasTexts A m R) (settled : HasNoSloppy A) where
   pub taken_same : (r : Standing) (p : Path) → taker r A p ≡ taker r R p
   taken_same r p =
@@ -179,11 +184,6 @@ module _ (A R : Node) (m : List ℕ → List ℕ) (same : SameScopes A R) (clear
   none_sloppy_there : (s : Path) (y : List ℕ) → Bound R s standing.SloppyFunction y → ⊥
   none_sloppy_there s y b = let (x, a, e) = bound_back s standing.SloppyFunction y b in none_sloppy s x a
 
-  -- the scope that declares a binding is the one that takes it
-  pub as_declared : (r : Standing) (p s : Path) (x : List ℕ) → r ≢ standing.SloppyFunction → taker r A p ≡ Some s → DeclaredBy A p r x s
-  as_declared standing.SloppyFunction p s x n h = absurd (n refl)
-  as_declared _ p s x n h = h
-
   as_taken : (r : Standing) (p s : Path) (x : List ℕ) → r ≢ standing.SloppyFunction → DeclaredBy A p r x s → taker r A p ≡ Some s
   as_taken standing.SloppyFunction p s x n h = absurd (n refl)
   as_taken _ p s x n h = h
@@ -197,7 +197,7 @@ module _ (A R : Node) (m : List ℕ → List ℕ) (same : SameScopes A R) (clear
   pub bound_declared : (s : Path) (r : Standing) (x : List ℕ) → Bound A s r x → DeclaredIn A s x
   bound_declared s r x b =
       let st : Stands A b.path r x = record { place = b.place; kind = b.kind; identifier = b.identifier; stands = b.stands; stands_so = b.stands_so; named = b.named } in
-      record { path = b.path; standing = r; binds = record { at = st; binds = binding_at r b.path s A b.taken }; declared = as_declared r b.path s x (no_sloppy b.path r x st) b.taken }
+      record { path = b.path; standing = r; binds = record { at = st; binds = binding_at r b.path s A b.taken }; declared = as_declared A r b.path s x (no_sloppy b.path r x st) b.taken }
 
   declares_forth : (x : List ℕ) (s : Round) → DeclaresFor A x s → DeclaresFor R (m x) s
   declares_forth x (s, true) (inl (r, ways, b)) = inl (r, ways, bound_forth s r x b)
@@ -357,7 +357,7 @@ module _ (A R : Node) (m : List ℕ → List ℕ) (same : SameScopes A R) (clear
         binding b =
             let (s, declared, e) = h.binding b in
             let there : taker r A p ≡ Some s = taken_same r p ∙ declared_taker R r p s (m x) (no_sloppy p r x at) declared in
-            subst (Owner x) (sym e) (record { path = p; standing = r; binds = record { at = at; binds = b }; declared = as_declared r p s x (no_sloppy p r x at) there })
+            subst (Owner x) (sym e) (record { path = p; standing = r; binds = record { at = at; binds = b }; declared = as_declared A r p s x (no_sloppy p r x at) there })
 
     -- that scope is one, and tells names of one text apart
     pub one_owner : (x : List ℕ) (o n : Option Path) → Owner x o → Owner x n → o ≡ n
@@ -391,7 +391,7 @@ module _ (A R : Node) (m : List ℕ → List ℕ) (same : SameScopes A R) (clear
       taken_by p r x c at (s, e, is) =
           let there : taker r A p ≡ Some s = taken_same r p ∙ e in (
             Some s,
-            record { path = p; standing = r; binds = record { at = at; binds = binding_at r p s A there }; declared = as_declared r p s x (no_sloppy p r x at) there },
+            record { path = p; standing = r; binds = record { at = at; binds = binding_at r p s A there }; declared = as_declared A r p s x (no_sloppy p r x at) there },
             is,
           )
 
@@ -399,7 +399,7 @@ module _ (A R : Node) (m : List ℕ → List ℕ) (same : SameScopes A R) (clear
       declared_by : (p : Path) (r : Standing) (x c : List ℕ) → Stands A p r x → HasDeclarersMark marks R p r (m x) c → HasOwner x c
       declared_by p r x c at (s, declared, which) =
           let there : taker r A p ≡ Some s = taken_same r p ∙ declared_taker R r p s (m x) (no_sloppy p r x at) declared in
-          let owner : DeclaredIn A s x = record { path = p; standing = r; binds = record { at = at; binds = binding_at r p s A there }; declared = as_declared r p s x (no_sloppy p r x at) there } in
+          let owner : DeclaredIn A s x = record { path = p; standing = r; binds = record { at = at; binds = binding_at r p s A there }; declared = as_declared A r p s x (no_sloppy p r x at) there } in
           (Some s, owner, ⊎_elim (λ a. a.2 ∙ ap (λ q. marks q ∷ []) (caught p r x at s owner there a.0 a.1)) (λ b. b.1) which)
         where
           caught : (p : Path) (r : Standing) (x : List ℕ) → Stands A p r x → (s : Path) → DeclaredIn A s x → taker r A p ≡ Some s → (n : Path) → IsCaughtBy R p r (m x) s n → n ≡ s

@@ -1,5 +1,5 @@
 -- A tree with new contexts: its layer, its places, and that it fits where the tree did.
-use Rattle.std.proofs.Common.{◌≡◌, ℕ, zero, suc, Bool, true, false, Some, List, [], ◌∷◌, map, refl, sym, ap, ◌∙◌}
+use Rattle.std.proofs.Common.{◌≡◌, ℕ, zero, suc, false, Some, List, [], ◌∷◌, map, refl, sym, ap, ◌∙◌}
 use Rattle.std.specs.List.{slice_get}
 use Rattle.swc_tree_marks.specs.declared.ident.Ident.{Ident}
 use Rattle.swc_tree_node.specs.declared.kind.Kind.{Kind}
@@ -8,6 +8,7 @@ use Rattle.swc_tree_node.specs.declared.node.Node.{Node, List as Many, Identifie
 use Rattle.swc_tree_node.specs.declared.node.Node.TheOpen.{Node-F}
 use Rattle.swc_tree_node.specs.declared.node.Node.TheVariants.{rolls-Absent, rolls-Flag, rolls-Word, rolls-Text, rolls-Span, rolls-List, rolls-Identifier, rolls-Tree, outs-List, outs-Tree, outs-Identifier}
 use Rattle.swc_tree_node.specs.Fits.{fits, list_fits, tree_fits, single}
+use Rattle.swc_tree_node.specs.Parts.{may_hold_names_in}
 use Rattle.swc_tree_node.proofs.Fit.{fits-List, fits-Tree, fits-Identifier}
 use Rattle.swc_tree_scoping.specs.Places.{children_in, child}
 use Rattle.swc_tree_scoping.specs.Resolved.{Contexts, each_child, remark_step, remarked}
@@ -42,17 +43,11 @@ remarked-Identifier c k i = remarked_out c (Identifier k i) ∙ ap (λ y. remark
 pub rolled : (t : Node) (y : Node-F Node) → out-Node t ≡ y → t ≡ roll-Node y
 rolled t y o = sym (roll-out-Node t) ∙ ap roll-Node o
 
-abbrev pub is_leaf : {X : Type 0} → Node-F X → Bool
-is_leaf (Node-F.List ts) = false
-is_leaf (Node-F.Identifier k i) = false
-is_leaf (Node-F.Tree k ts) = false
-is_leaf _ = true
-
 leaf_out : (c : Contexts) (t : Node) (y : Node-F Node) → out-Node t ≡ y → remarked c t ≡ remark_step (map-Node Node (Contexts → Node) (fold-Node (Contexts → Node) remark_step) y) c
 leaf_out c t y o = remarked_out c t ∙ ap (λ y. remark_step (map-Node Node (Contexts → Node) (fold-Node (Contexts → Node) remark_step) y) c) o
 
 -- what is no identifier, and has none below it, stays
-pub remarked-leaf : (c : Contexts) (t : Node) (y : Node-F Node) → out-Node t ≡ y → is_leaf y ≡ true → remarked c t ≡ t
+pub remarked-leaf : (c : Contexts) (t : Node) (y : Node-F Node) → out-Node t ≡ y → may_hold_names_in y ≡ false → remarked c t ≡ t
 remarked-leaf c t Node-F.Absent o l = leaf_out c t _ o ∙ sym rolls-Absent ∙ sym (rolled t _ o)
 remarked-leaf c t (Node-F.Flag x) o l = leaf_out c t _ o ∙ sym (rolls-Flag x) ∙ sym (rolled t _ o)
 remarked-leaf c t (Node-F.Word w) o l = leaf_out c t _ o ∙ sym (rolls-Word w) ∙ sym (rolled t _ o)

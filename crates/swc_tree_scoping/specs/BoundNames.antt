@@ -1,6 +1,7 @@
 -- The names that a pattern or a declaration binds (ECMA-262, 8.2.1 BoundNames), in the order of the source.
-use Rattle.std.specs.Prelude.{◌≡◌, ℕ, zero, suc, Option, Some, None, List, [], ◌∷◌, ◌++◌, slice_get}
+use Rattle.std.specs.Prelude.{◌≡◌, ℕ, zero, suc, nat_eq, Bool, ◌&&◌, Option, Some, None, List, [], ◌∷◌, ◌++◌, slice_get}
 use Rattle.std.specs.List.{flat_map}
+use Rattle.std.specs.Cmp.Lexicographic.{pointwise}
 use Rattle.swc_tree_marks.specs.declared.ident.Ident.{Ident}
 use Rattle.swc_tree_node.specs.declared.kind.Kind.{Kind}
 use Rattle.swc_tree_node.specs.declared.kind.Kind.TheVariants as kind
@@ -15,6 +16,10 @@ use Rattle.swc_tree_scoping.specs.Places.{field_role}
 -- a text and a context
 abbrev pub Id : Type 0
 Id = List ℕ × List ℕ
+
+-- ids are one where their texts and their contexts are
+abbrev pub same_id : Id → Id → Bool
+same_id x y = pointwise nat_eq x.0 y.0 && pointwise nat_eq x.1 y.1
 
 -- patterns bind by identifiers of their own kind; an identifier expression binds nothing
 abbrev pub own_id : Kind → Ident → List Id

@@ -9,12 +9,12 @@ use Rattle.swc_tree_scoping.specs.Scopes.{Round, is_binding, is_reference, is_ta
 use Rattle.swc_tree_scoping.specs.WellScoped.{EachInOneScope, IsDeclared, Stands}
 use Rattle.swc_tree_scoping.proofs.First.{Nested, rounds_nested}
 use Rattle.swc_tree_renaming.specs.Apart.{CapturesNone, DeclaredIn, IsAtOrAbove, IsFreeName, IsRound}
-use Rattle.swc_tree_renaming.proofs.Core.{first_in}
+use Rattle.swc_tree_renaming.proofs.Core.{as_declared, first_in}
 use Rattle.swc_tree_sites.specs.Sites.{Binding, Entry, counted, entry}
 use Rattle.swc_tree_sites.proofs.Loose.{S}
 use Rattle.swc_tree_sites.proofs.Found.{env_at}
 use Rattle.swc_tree_sites.proofs.Round.{entry_of, env_is, taken_by, taken_is}
-use Rattle.swc_tree_sites.proofs.Transport.{OneTaker, as_declared, binding_names, bound_binds, contains_in, counted_binds, counted_refers, entry_from, entry_to, flat_from, flat_to, found, in_bound, in_contains, not_both, not_sloppy, reference_names, refers_so, region, there, up}
+use Rattle.swc_tree_sites.proofs.Transport.{OneTaker, binding_names, bound_binds, contains_in, counted_binds, counted_refers, entry_from, entry_to, flat_from, flat_to, found, in_bound, in_contains, not_both, not_sloppy, reference_names, refers_so, region, there, up}
 use Rattle.swc_tree_sites.proofs.Whole.{as_taken}
 use Rattle.swc_tree_sites.specs.Smaller.{AreKept, In, IsPlain}
 
@@ -29,7 +29,7 @@ pub in_declared : (t : Node) → IsPlain t → (s : Path) (b : Binding) → In b
 in_declared t plain s b h =
     let x = in_bound t plain s b h in
     let st : Stands t x.path b.0 b.1.sym = record { place = x.place; kind = x.kind; identifier = x.identifier; stands = x.stands; stands_so = x.stands_so; named = x.named } in
-    record { path = x.path; standing = b.0; binds = record { at = st; binds = bound_binds t s b.0 b.1.sym x }; declared = as_declared t plain b.0 x.path s b.1.sym (not_sloppy t plain x.path b.0 b.1.sym st) x.taken }
+    record { path = x.path; standing = b.0; binds = record { at = st; binds = bound_binds t s b.0 b.1.sym x }; declared = as_declared t b.0 x.path s b.1.sym (not_sloppy t plain x.path b.0 b.1.sym st) x.taken }
 
 -- what is declared in a scope it takes
 pub declared_in : (t : Node) → IsPlain t → (s : Path) (x : List ℕ) → DeclaredIn t s x → (b : Binding) × In b (taken_by PP t s) × (b.1.sym ≡ x)

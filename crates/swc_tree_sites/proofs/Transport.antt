@@ -11,7 +11,7 @@ use Rattle.swc_tree_scoping.specs.Places.{Path, program_place}
 use Rattle.swc_tree_scoping.specs.Scopes.{Round, first_that, is_binding, is_reference, is_taken, rounds, scope_at, taker, is_name}
 use Rattle.swc_tree_scoping.specs.Declares.{Bound, DeclaresFor, is_parameter, is_settled, DeclaredBy}
 use Rattle.swc_tree_scoping.specs.WellScoped.{EachInOneScope, InRegion, IsDeclared, Stands}
-use Rattle.swc_tree_renaming.proofs.Core.{taken_binds}
+use Rattle.swc_tree_renaming.proofs.Core.{as_declared, taken_binds}
 use Rattle.swc_tree_sites.specs.Sites.{Site, Binding, Entry, counted, entry}
 use Rattle.swc_tree_sites.proofs.Loose.{S, in_cases, in_left, in_right}
 use Rattle.swc_tree_sites.proofs.Found.{env_at, finds}
@@ -97,10 +97,6 @@ module _ (t : Node) (plain : IsPlain t) where
 
   pub not_sloppy : (p : Path) (r : Standing) (x : List ℕ) → Stands t p r x → r ≢ standing.SloppyFunction
   not_sloppy p r x s e = plain.settled p s.place s.kind s.identifier s.stands (s.stands_so ∙ e)
-
-  pub as_declared : (r : Standing) (p s : Path) (x : List ℕ) → r ≢ standing.SloppyFunction → taker r t p ≡ Some s → DeclaredBy t p r x s
-  as_declared standing.SloppyFunction p s x n h = absurd (n refl)
-  as_declared _ p s x n h = h
 
   -- what a scope declares for a place, it takes
   pub declares_way : (x : List ℕ) (s : Round) → DeclaresFor t x s → (r : Standing) × Bound t s.0 r x × IsTrue (cond s.1 (is_settled r) (is_parameter r))
@@ -197,7 +193,7 @@ module _ (t n : Node) (whole_plain : IsPlain t) (plain : IsPlain n) (kept : AreK
         bindings = λ q z c.
             let (u, other) = plain.takes q z x c in
             let theirs = bound_in n plain u z x (record { path = q; place = c.at.place; kind = c.at.kind; identifier = c.at.identifier; stands = c.at.stands; stands_so = c.at.stands_so; named = c.at.named; unmarked = plain.unmarked q c.at.place c.at.kind c.at.identifier c.at.stands; taken = other }) c.binds in
-            as_declared n plain z q s x (not_sloppy n plain q z x c.at) (other ∙ ap (λ u. Some u) (one_taker u s (z, c.at.identifier) (r, b.at.identifier) theirs mine (c.at.named ∙ sym b.at.named)));
+            as_declared n z q s x (not_sloppy n plain q z x c.at) (other ∙ ap (λ u. Some u) (one_taker u s (z, c.at.identifier) (r, b.at.identifier) theirs mine (c.at.named ∙ sym b.at.named)));
         references = λ q z refers c.
             let (u, inside, d, i, named) = ⊎_elim
             (λ k. let (o, v, st, counts, same) = up q z x c k in let scoped = one x (declared_up x (p, r, b)) in region q o x scoped.scope same (scoped.references o v (refers_so v z counts refers) st))

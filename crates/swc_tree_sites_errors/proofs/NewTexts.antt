@@ -10,9 +10,9 @@ use Rattle.swc_tree_scoping.specs.Declares.{Bound, BoundAs, PassesNone, is_lexic
 use Rattle.swc_tree_scoping.specs.WellScoped.{AreFunctionsOfOneBlock, Binds, IsClean, IsLexical, NoParameterTwice, NoRedeclaration, NoVariablePasses, NoneTwice, Stands, is_module}
 use Rattle.swc_tree_scoping.proofs.First.{Nested, rounds_nested}
 use Rattle.swc_tree_renaming.specs.Apart.{CapturesNone, DeclaredIn, HasTexts, IsAtOrAbove, IsRound, SameScopes}
-use Rattle.swc_tree_renaming.proofs.Core.{bound_back, bound_declared, first_in, head_in, stands_back, tail_in, taken_same}
+use Rattle.swc_tree_renaming.proofs.Core.{as_declared, bound_back, bound_declared, first_in, head_in, stands_back, tail_in, taken_same}
 use Rattle.swc_tree_sites.specs.Smaller.{IsPlain}
-use Rattle.swc_tree_sites.proofs.Transport.{as_declared, binding_names, not_sloppy}
+use Rattle.swc_tree_sites.proofs.Transport.{binding_names, not_sloppy}
 use Rattle.swc_tree_sites.proofs.Whole.{as_taken}
 use Rattle.swc_tree_sites_errors.specs.Laws.{NewTextsRedeclareNone}
 use Rattle.swc_tree_sites_errors.proofs.Modules.{plain_module, strict_name}
@@ -45,7 +45,7 @@ module _ (t n : Node) (text : List ℕ → List ℕ) (module_t : IsTrue (is_modu
   round r p s h = let (whole, there, f) = first_in (λ s. is_taken r (scope_at PP t s.0)) (rounds PP t p) s h in (whole, there)
 
   declared : (p s : Path) (r : Standing) (y : List ℕ) → Binds t p r y → taker r t p ≡ Some s → DeclaredIn t s y
-  declared p s r y b h = record { path = p; standing = r; binds = b; declared = as_declared t plain_t r p s y (not_sloppy t plain_t p r y b.at) h }
+  declared p s r y b h = record { path = p; standing = r; binds = b; declared = as_declared t r p s y (not_sloppy t plain_t p r y b.at) h }
 
   -- two that one scope takes and that have one text have one id
   one_id : (p q s : Path) (r u : Standing) (y z : List ℕ) → Binds t p r y → Binds t q u z → taker r t p ≡ Some s → taker u t q ≡ Some s → text y ≡ text z → y ≡ z
@@ -71,7 +71,7 @@ module _ (t n : Node) (text : List ℕ → List ℕ) (module_t : IsTrue (is_modu
           let one : y ≡ z = one_id p q s r u y z by bz first second (ey ∙ sym ez) in
           let too : Binds t q u y = subst (Binds t q u) (sym one) bz in
           ⊎_elim inl (λ g. absurd (not_sloppy t plain_t p r y sy g.0))
-          (fine.none_twice y s p q r u by too (as_declared t plain_t r p s y (not_sloppy t plain_t p r y sy) first) (as_declared t plain_t u q s y (not_sloppy t plain_t q u y too.at) second) (there lexical))
+          (fine.none_twice y s p q r u by too (as_declared t r p s y (not_sloppy t plain_t p r y sy) first) (as_declared t u q s y (not_sloppy t plain_t q u y too.at) second) (there lexical))
 
   no_parameter_twice : NoParameterTwice n
   no_parameter_twice x f p q b c d e strict = at (was p standing.Parameter x b refl) (was q standing.Parameter x c refl)

@@ -12,14 +12,14 @@ use Rattle.swc_tree_scoping.specs.Places.{Path, program_place}
 use Rattle.swc_tree_scoping.specs.Scopes.{Round, first_that, is_binding, is_name, is_taken, rounds, scope_at, taker}
 use Rattle.swc_tree_scoping.specs.Declares.{Bound, BoundAs, PassesNone, is_lexical}
 use Rattle.swc_tree_scoping.specs.WellScoped.{IsClean, IsLexical, NoParameterTwice, NoRedeclaration, NoVariablePasses, NoneTwice, Stands, is_module}
-use Rattle.swc_tree_renaming.proofs.Core.{first_in}
+use Rattle.swc_tree_renaming.proofs.Core.{as_declared, first_in}
 use Rattle.swc_tree_sites.specs.Sites.{Binding, Entry, counted, entry, set_of}
 use Rattle.swc_tree_sites.specs.Smaller.{In, IsPlain}
 use Rattle.swc_tree_sites.proofs.Apart.{all_paths, leads_in, sets_are}
 use Rattle.swc_tree_sites.proofs.Found.{env_at, finds}
 use Rattle.swc_tree_sites.proofs.Loose.{S}
 use Rattle.swc_tree_sites.proofs.Round.{entry_of, env_is, taken_by, taken_is}
-use Rattle.swc_tree_sites.proofs.Transport.{as_declared, bound_binds, bound_in, flat_from, flat_to, in_bound, not_sloppy}
+use Rattle.swc_tree_sites.proofs.Transport.{bound_binds, bound_in, flat_from, flat_to, in_bound, not_sloppy}
 use Rattle.swc_tree_sites.proofs.Whole.{as_taken}
 use Rattle.swc_tree_sites_errors.specs.Laws.{KeepsScopes, NoRedeclarationStays}
 use Rattle.swc_tree_sites_errors.proofs.Modules.{plain_module, strict_name}
@@ -163,8 +163,8 @@ module _ (t n : Node) (module_t : IsTrue (is_module t)) (module_n : IsTrue (is_m
           against : BothThere s (r, b.at.identifier) (u, c.at.identifier) → ⊥
           against (f, two, top) = ⊎_elim two.apart (λ g. not_sloppy t plain_t two.one.path r x first g.0) (fine.none_twice x f two.one.path two.other.path r u
               (record { at = first; binds = b.binds }) (record { at = second; binds = c.binds })
-              (as_declared t plain_t r two.one.path f x (not_sloppy t plain_t two.one.path r x first) two.one.taken)
-              (as_declared t plain_t u two.other.path f x (not_sloppy t plain_t two.other.path u x second) two.other.taken)
+              (as_declared t r two.one.path f x (not_sloppy t plain_t two.one.path r x first) two.one.taken)
+              (as_declared t u two.other.path f x (not_sloppy t plain_t two.other.path u x second) two.other.taken)
               (there lexical))
             where
               first : Stands t two.one.path r x
