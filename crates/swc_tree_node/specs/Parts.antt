@@ -11,7 +11,7 @@ use Rattle.swc_tree_node.specs.declared.node.Node.{Node, out-Node}
 use Rattle.swc_tree_node.specs.declared.node.Node.TheOpen.{Node-F}
 use Rattle.swc_tree_node.specs.Table.{fields_of}
 
-abbrev kind_in : Node-F Node → Option Kind
+abbrev pub kind_in : Node-F Node → Option Kind
 kind_in (Node-F.Identifier k x) = Some k
 kind_in (Node-F.Tree k ts) = Some k
 kind_in _ = None
