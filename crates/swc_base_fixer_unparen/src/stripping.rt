@@ -5,7 +5,6 @@ ghost use Rattle.swc_tree_node.specs.declared.node.Node.{out-Node};
 ghost use Rattle.swc_tree_node.specs.declared.node.Node.TheOpen.{Node-F};
 ghost use Rattle.swc_tree_grammar.specs.Stripped.{is_member as defines, strip_step, stripped, target as target_of};
 
-use crate::leaf::is_leaf;
 use crate::sequence::{items_of, sequence};
 use std::alloc::{AllocError, Global};
 use std::mem;
@@ -118,14 +117,11 @@ pub fn strip(alloc: Global, node: Node) -> Result<Node, AllocError>
 fn strip_node(alloc: Global, node: &mut Node) -> Result<(), AllocError>
     ensures { OnOk result (node.new ≡ stripped node.old) }
 {
-    if let Some(items) = node.items_mut() {
-        return strip_all(alloc, items);
-    }
-    if let Some(fields) = node.fields_mut() {
-        strip_all(alloc, fields)?;
-        return settle_node(alloc, node);
-    }
-    Ok(())
+    let Some(children) = node.children_mut() else {
+        return Ok(());
+    };
+    strip_all(alloc, children)?;
+    settle_node(alloc, node)
 }
 
 #[cycle(strip)]
@@ -133,10 +129,9 @@ fn strip_all(alloc: Global, items: &mut Items<Node>) -> Result<(), AllocError>
     ensures { OnOk result (items.new ≡ map stripped items.old) }
 {
     for i in 0..items.len() {
-        if is_leaf(&items.as_slice()[i]) {
-            continue;
+        if items.as_slice()[i].has_parts() {
+            strip_node(alloc, items.item_mut(i))?;
         }
-        strip_node(alloc, items.item_mut(i))?;
     }
     Ok(())
 }
