@@ -409,7 +409,7 @@ fn read_document(
     }
 }
 
-// Whether a text ends as an object does, but for blanks. One that was cut off mostly doesn't, and then the reading of its whole value
+// Whether a text ends as an object does, but for blanks. Of one that doesn't, as where it was cut off, the reading of its whole value
 // tells so with no node made.
 fn ends_as_object(text: &str) -> bool {
     let mut from_the_end = text.as_bytes().iter().rev();

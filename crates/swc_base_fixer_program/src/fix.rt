@@ -82,7 +82,7 @@ pub fn fix_parens_with<C: Comments>(
 
 /// Takes every pair of parentheses off a tree, with what is idle in sequences and classes; puts a block round each
 /// first branch of an `if` that ends in an `if` without `else`; and sets the pairs that are due: those without which
-/// the grammar would not take the tree (ECMA-262, 13 to 16), and a few for the reader.
+/// the grammar would not take the tree (ECMA-262, 13 to 16), and some for the reader.
 ///
 /// What fits its place in the table still does, which `swc_base_fixer_laws` proves of the definitions.
 ///
