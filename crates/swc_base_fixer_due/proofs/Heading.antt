@@ -7,9 +7,9 @@ use Rattle.swc_tree_node.specs.declared.kind.Kind.TheVariants as kind
 use Rattle.swc_tree_node.specs.declared.node.Node.{Node, Absent, List as Many, Tree, out-Node, the_lemmas}
 use Rattle.swc_tree_node.specs.declared.node.Node.TheVariants.{rolls-Tree}
 use Rattle.swc_tree_node.specs.declared.node.Node.TheOpen.{Node-F}
-use Rattle.swc_tree_node.specs.Changed.{fields_in, with_fields}
+use Rattle.swc_tree_node.specs.Changed.{nodes_in, with_children}
 use Rattle.swc_tree_node.specs.Parts.{kind_of}
-use Rattle.swc_tree_node.proofs.Lent.{tree_of_fields}
+use Rattle.swc_tree_node.proofs.Lent.{list_of_children, tree_of_children}
 use Rattle.swc_tree_grammar.specs.Levels.{word_of, is_in}
 use Rattle.swc_tree_grammar.specs.Forms.{holds}
 use Rattle.swc_tree_grammar.specs.Grammar.{is_async_name}
@@ -133,8 +133,10 @@ pub heads_list : (p : Places) (ts : List Node) (b : Bool) → Many (each_told (i
 heads_list p ts b = ap Many (sym (all_told (in_heads p) b ts)) ∙ sym (heads_of_list p ts b)
 
 -- a list, once its items have their pairs
-pub heads_items : (p : Places) (t : Node) (ts us : List Node) (b : Bool) → t ≡ Many ts → us ≡ each_told (in_heads p) (flag_at handing.ToAll b) ts → Many us ≡ in_heads p t b
-heads_items p t ts us b is done = ap Many done ∙ heads_list p ts b ∙ ap (λ u. in_heads p u b) (sym is)
+pub heads_items : (p : Places) (t : Node) (ts us : List Node) (b : Bool) → None ≡ kind_of t → Some ts ≡ nodes_in t → us ≡ each_told (in_heads p) (flag_at handing.ToAll b) ts → with_children t us ≡ in_heads p t b
+heads_items p t ts us b no_kind nodes done =
+    let q = list_of_children t ts us no_kind nodes in
+    q.1 ∙ ap Many done ∙ heads_list p ts b ∙ ap (λ u. in_heads p u b) (sym q.0)
 
 bare_head : (p : Places) (b : Bool) (k : Kind) (ts us : List Node) → is_bare_in b (Node-F.Tree k ts) ≡ true → of_headed p k us ≡ Tree k us
 bare_head p b kind.BinExpr ts us h = refl
@@ -149,18 +151,11 @@ tree_done : (p : Places) (k : Kind) (ts us : List Node) (b due : Bool) → due �
 tree_done p k ts us b due d done =
     ap (pair_if due p) done ∙ paired_head p b due k ts _ d ∙ rw d (sym (heads_of_tree p k ts b ∙ step p k ts b (all_kept p ts)))
 
-kind_of_tree : (k : Kind) (ts : List Node) → kind_of (Tree k ts) ≡ Some k
-kind_of_tree k ts = search (rules, the_lemmas)
-
 -- a tree, once its fields have their pairs and it has its own
-pub heads_done : (p : Places) (t : Node) (k : Kind) (ts us vs : List Node) (b due f : Bool) → Some k ≡ kind_of t → Some ts ≡ fields_in t → vs ≡ ts → due ≡ is_bare_in b (Node-F.Tree k vs) → f ≡ (b || due)
-    → Tree k us ≡ of_headed p k (each_told (in_heads p) (flag_at (handing_for (Node-F.Tree k ts)) f) ts) → (u : Node) → u ≡ pair_if due p (with_fields t us) → u ≡ in_heads p t b
-heads_done p t k ts us vs b due f of_kind fields same d free done u made =
-    let q = tree_of_fields t ts us fields in
-    let kinds : Some q.0 ≡ Some k = sym (of_kind ∙ ap kind_of q.1 ∙ kind_of_tree q.0 ts) in
-    let alike : q.0 ≡ k = cc in
-    let is : t ≡ Tree k ts = q.1 ∙ ap (λ k. Tree k ts) alike in
-    let whole : with_fields t us ≡ Tree k us = q.2 ∙ ap (λ k. Tree k us) alike in
-    made ∙ ap (pair_if due p) whole
+pub heads_done : (p : Places) (t : Node) (k : Kind) (ts us vs : List Node) (b due f : Bool) → Some k ≡ kind_of t → Some ts ≡ nodes_in t → vs ≡ ts → due ≡ is_bare_in b (Node-F.Tree k vs) → f ≡ (b || due)
+    → Tree k us ≡ of_headed p k (each_told (in_heads p) (flag_at (handing_for (Node-F.Tree k ts)) f) ts) → (u : Node) → u ≡ pair_if due p (with_children t us) → u ≡ in_heads p t b
+heads_done p t k ts us vs b due f of_kind nodes same d free done u made =
+    let q = tree_of_children t k ts us of_kind nodes in
+    made ∙ ap (pair_if due p) q.1
     ∙ tree_done p k ts us b due (d ∙ ap (λ l. is_bare_in b (Node-F.Tree k l)) same) (done ∙ ap (λ f. of_headed p k (each_told (in_heads p) (flag_at (handing_for (Node-F.Tree k ts)) f) ts)) free)
-    ∙ ap (λ v. in_heads p v b) (sym is)
+    ∙ ap (λ v. in_heads p v b) (sym q.0)

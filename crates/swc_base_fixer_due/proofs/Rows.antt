@@ -1,5 +1,5 @@
 -- What the first step makes of one node.
-use Rattle.std.proofs.Common.{◌≡◌, Bool, true, false, List, [], ◌∷◌, ◌++◌, Option, Some, length, map, slice_set, refl, sym, ap, ◌∙◌, arith, rules}
+use Rattle.std.proofs.Common.{◌≡◌, Bool, true, false, List, [], ◌∷◌, ◌++◌, Option, Some, None, length, map, slice_set, refl, sym, ap, ◌∙◌, arith, rules}
 use Rattle.std.specs.List.{slice_get}
 use Rattle.swc_tree_node.specs.declared.kind.Kind.{Kind}
 use Rattle.swc_tree_node.specs.declared.kind.Kind.TheVariants as kind
@@ -7,6 +7,9 @@ use Rattle.swc_tree_node.specs.declared.kind.Word.{Word as Word'}
 use Rattle.swc_tree_node.specs.declared.kind.Word.TheVariants as word
 use Rattle.swc_tree_node.specs.declared.node.Node.{Node, Absent, List as Many, Tree, out-Node, the_lemmas}
 use Rattle.swc_tree_node.specs.declared.node.Node.TheOpen.{Node-F}
+use Rattle.swc_tree_node.specs.Changed.{nodes_in, with_children}
+use Rattle.swc_tree_node.specs.Parts.{kind_of}
+use Rattle.swc_tree_node.proofs.Lent.{list_of_children}
 use Rattle.swc_tree_grammar.specs.Levels.{word_of}
 use Rattle.swc_tree_grammar.specs.Demands.{left_side, right_side, object}
 use Rattle.swc_tree_grammar.specs.Due.{Places, Pairing, alone, level_step, odd_items, paired_in, sequence_statement}
@@ -143,5 +146,7 @@ level_tree p t k ts us rs b chain is same c done u h =
     h ∙ rw (done, c, same) (sym (level_of_tree p k ts b ∙ stepped p k ts b)) ∙ ap (λ v. by_level p v b) (sym is)
 
 -- a list, once its items have their pairs
-pub level_items : (p : Places) (t : Node) (ts us : List Node) (in_chain : Bool) → t ≡ Many ts → us ≡ each_told (by_level p) (is_base false) ts → Many us ≡ by_level p t in_chain
-level_items p t ts us in_chain is done = ap Many done ∙ level_list p ts in_chain ∙ ap (λ u. by_level p u in_chain) (sym is)
+pub level_items : (p : Places) (t : Node) (ts us : List Node) (in_chain : Bool) → None ≡ kind_of t → Some ts ≡ nodes_in t → us ≡ each_told (by_level p) (is_base false) ts → with_children t us ≡ by_level p t in_chain
+level_items p t ts us in_chain no_kind nodes done =
+    let q = list_of_children t ts us no_kind nodes in
+    q.1 ∙ ap Many done ∙ level_list p ts in_chain ∙ ap (λ u. by_level p u in_chain) (sym q.0)

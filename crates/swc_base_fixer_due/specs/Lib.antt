@@ -1,6 +1,5 @@
 pub mod Keyed
 pub mod Record
-pub mod Leaf
 pub mod Fields
 pub mod Least
 pub mod Family

@@ -11,7 +11,6 @@ ghost use Rattle.swc_base_fixer_due.specs.Heads.{as_expression as as_expression_
 ghost use Rattle.swc_base_fixer_due.specs.Record.{place_in};
 ghost use Rattle.swc_base_fixer_due.specs.Walk.{each_told, in_heads};
 
-use crate::leaf::is_leaf;
 use crate::level::{is_in, word_of};
 use crate::pair::{pair, pair_where};
 use crate::record::Record;
@@ -194,17 +193,18 @@ fn pair_node(
 ) -> Result<(), AllocError>
     ensures { OnOk result (node.new ≡ in_heads (place_in recorded.now) node.old with_in) }
 {
-    if let Some(items) = node.items_mut() {
-        return pair_each(alloc, recorded, Handing::ToAll, with_in, items);
-    }
-    if let Some(kind) = node.kind() {
-        if let Some(fields) = node.fields_mut() {
-            let is_due = is_bare_in(with_in, kind, fields.as_slice());
-            pair_fields(alloc, recorded, with_in || is_due, kind, fields)?;
-            return pair_where(alloc, recorded, is_due, node);
+    let kind = node.kind();
+    let Some(children) = node.children_mut() else {
+        return Ok(());
+    };
+    match kind {
+        Some(kind) => {
+            let is_due = is_bare_in(with_in, kind, children.as_slice());
+            pair_fields(alloc, recorded, with_in || is_due, kind, children)?;
+            pair_where(alloc, recorded, is_due, node)
         }
+        None => pair_each(alloc, recorded, Handing::ToAll, with_in, children),
     }
-    Ok(())
 }
 
 // The fields of a tree with their pairs.
@@ -234,7 +234,7 @@ fn pair_each(
     ensures { OnOk result (nodes.new ≡ each_told (in_heads (place_in recorded.now)) (flag_at handing with_in) nodes.old) }
 {
     for i in 0..nodes.len() {
-        if is_leaf(&nodes.as_slice()[i]) {
+        if !nodes.as_slice()[i].has_parts() {
             continue;
         }
         pair_node(alloc, recorded, handing.flag(with_in, i), nodes.item_mut(i))?;

@@ -9,7 +9,6 @@ ghost use Rattle.swc_base_fixer_due.specs.Row.{ask_at};
 ghost use Rattle.swc_base_fixer_due.specs.Settled.{odd_item as odd_item_of, odd_list as odd_list_of, settled_by};
 ghost use Rattle.swc_base_fixer_due.specs.Walk.{by_level, each_told, is_base as is_base_of, is_chain_in, is_statement_in};
 
-use crate::leaf::is_leaf;
 use crate::pair::pair_if;
 use crate::reader::is_odd_item;
 use crate::record::Record;
@@ -205,15 +204,14 @@ fn pair_node(
 ) -> Result<(), AllocError>
     ensures { OnOk result (node.new ≡ by_level (place_in recorded.now) node.old in_chain) }
 {
-    if let Some(items) = node.items_mut() {
-        return pair_each(alloc, recorded, false, items);
+    let kind = node.kind();
+    let Some(children) = node.children_mut() else {
+        return Ok(());
+    };
+    match kind {
+        Some(kind) => pair_fields(alloc, recorded, in_chain, kind, children),
+        None => pair_each(alloc, recorded, false, children),
     }
-    if let Some(kind) = node.kind() {
-        if let Some(fields) = node.fields_mut() {
-            return pair_fields(alloc, recorded, in_chain, kind, fields);
-        }
-    }
-    Ok(())
 }
 
 #[cycle(levels)]
@@ -241,7 +239,7 @@ fn pair_each(
     ensures { OnOk result (nodes.new ≡ each_told (by_level (place_in recorded.now)) (is_base_of chain) nodes.old) }
 {
     for i in 0..nodes.len() {
-        if is_leaf(&nodes.as_slice()[i]) {
+        if !nodes.as_slice()[i].has_parts() {
             continue;
         }
         pair_node(alloc, recorded, is_base(chain, i), nodes.item_mut(i))?;

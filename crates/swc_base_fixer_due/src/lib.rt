@@ -15,7 +15,6 @@ mod due;
 mod family;
 mod heads;
 mod keyed;
-mod leaf;
 mod level;
 mod levels;
 mod pair;

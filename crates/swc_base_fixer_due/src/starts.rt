@@ -8,7 +8,6 @@ ghost use Rattle.swc_base_fixer_due.specs.Begin.{begins, beginning_for, first_pa
 ghost use Rattle.swc_base_fixer_due.specs.Record.{place_in};
 
 use crate::family::{Family, is_of};
-use crate::leaf::is_leaf;
 use crate::pair::pair;
 use crate::record::Record;
 use crate::start::{Start, leading_field, start_of};
@@ -134,15 +133,14 @@ pub fn pair_at_starts(alloc: Global, recorded: &Record, node: Node) -> Result<No
 fn pair_node(alloc: Global, recorded: &Record, node: &mut Node) -> Result<(), AllocError>
     ensures { OnOk result (node.new ≡ paired_at_starts (place_in recorded.now) node.old) }
 {
-    if let Some(items) = node.items_mut() {
-        return pair_each(alloc, recorded, items);
+    let kind = node.kind();
+    let Some(children) = node.children_mut() else {
+        return Ok(());
+    };
+    match kind {
+        Some(kind) => pair_fields(alloc, recorded, kind, children),
+        None => pair_each(alloc, recorded, children),
     }
-    if let Some(kind) = node.kind() {
-        if let Some(fields) = node.fields_mut() {
-            return pair_fields(alloc, recorded, kind, fields);
-        }
-    }
-    Ok(())
 }
 
 #[cycle(starts)]
@@ -163,7 +161,7 @@ fn pair_each(alloc: Global, recorded: &Record, nodes: &mut Items<Node>) -> Resul
     ensures { OnOk result (nodes.new ≡ map (paired_at_starts (place_in recorded.now)) nodes.old) }
 {
     for i in 0..nodes.len() {
-        if is_leaf(&nodes.as_slice()[i]) {
+        if !nodes.as_slice()[i].has_parts() {
             continue;
         }
         pair_node(alloc, recorded, nodes.item_mut(i))?;
