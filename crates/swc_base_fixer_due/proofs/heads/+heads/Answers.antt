@@ -26,7 +26,6 @@ pair_each-loop-i-preserved-then-not-has_parts t c = (
       (heads_leave (place_in c.args.recorded.now) (flag_at c.args.handing c.args.with_in c.loop-i.i) c.index-as_slice-i.result (sym c.has_parts.ensures ∙ c.if-not-has_parts.true)),
 )
 
-
 pub pair_node-returns-in-None : goal.pair_node-returns-in-None
 pair_node-returns-in-None t c =
     let nodes = sym (ap (option_map (λ r. r.now)) c.in-Some.is) ∙ c.children_mut.ensures.value in
@@ -43,4 +42,4 @@ pair_node-returns-in_ok-pair_fields-in-Some-kind t c =
     let nodes = sym (ap (option_map (λ r. r.now)) c.in-Some.is) ∙ c.children_mut.ensures.value in
     on_ok_weaker c.pair_where.result
     (heads_done (place_in c.args.recorded.now) c.args.node.now c.in-Some-kind.kind c.in-Some.children.now c.pair_fields.new.fields c.as_slice.result.now c.args.with_in due c.if-with_in.pair_fields
-    (sym c.in-Some-kind.is ∙ c.kind-kind.ensures) nodes c.as_slice.ensures c.is_bare_in-is_due.ensures free c.in_ok-pair_fields.ensures c.pair_where.new.expr) c.pair_where.ensures
+    (sym c.in-Some-kind.is ∙ c.kind-kind.ensures) nodes c.as_slice.ensures c.is_bare_in-is_due.ensures free c.in_ok-pair_fields-in-Some-kind.ensures c.pair_where.new.expr) c.pair_where.ensures
