@@ -7,9 +7,6 @@ use Rattle.swc_tree_node.specs.declared.kind.Kind.TheVariants as kind
 use Rattle.swc_tree_node.specs.declared.node.Node.{Node, Absent, List as Many, Tree, out-Node, the_lemmas}
 use Rattle.swc_tree_node.specs.declared.node.Node.TheVariants.{rolls-Tree}
 use Rattle.swc_tree_node.specs.declared.node.Node.TheOpen.{Node-F}
-use Rattle.swc_tree_node.specs.Changed.{nodes_in, with_children}
-use Rattle.swc_tree_node.specs.Parts.{kind_of}
-use Rattle.swc_tree_node.proofs.Lent.{list_of_children, tree_of_children}
 use Rattle.swc_tree_grammar.specs.Levels.{word_of, is_in}
 use Rattle.swc_tree_grammar.specs.Forms.{holds}
 use Rattle.swc_tree_grammar.specs.Grammar.{is_async_name}
@@ -129,14 +126,9 @@ all_kept : (p : Places) (ts : List Node) → Each (Kept p) ts
 all_kept p [] = tt
 all_kept p (t ∷ ts) = (kept p t, all_kept p ts)
 
-pub heads_list : (p : Places) (ts : List Node) (b : Bool) → Many (each_told (in_heads p) (flag_at handing.ToAll b) ts) ≡ in_heads p (Many ts) b
-heads_list p ts b = ap Many (sym (all_told (in_heads p) b ts)) ∙ sym (heads_of_list p ts b)
-
 -- a list, once its items have their pairs
-pub heads_items : (p : Places) (t : Node) (ts us : List Node) (b : Bool) → None ≡ kind_of t → Some ts ≡ nodes_in t → us ≡ each_told (in_heads p) (flag_at handing.ToAll b) ts → with_children t us ≡ in_heads p t b
-heads_items p t ts us b no_kind nodes done =
-    let q = list_of_children t ts us no_kind nodes in
-    q.1 ∙ ap Many done ∙ heads_list p ts b ∙ ap (λ u. in_heads p u b) (sym q.0)
+pub heads_list : (p : Places) (b : Bool) (ts : List Node) → Many (each_told (in_heads p) (flag_at handing.ToAll b) ts) ≡ in_heads p (Many ts) b
+heads_list p b ts = ap Many (sym (all_told (in_heads p) b ts)) ∙ sym (heads_of_list p ts b)
 
 bare_head : (p : Places) (b : Bool) (k : Kind) (ts us : List Node) → is_bare_in b (Node-F.Tree k ts) ≡ true → of_headed p k us ≡ Tree k us
 bare_head p b kind.BinExpr ts us h = refl
@@ -146,16 +138,7 @@ paired_head : (p : Places) (b due : Bool) (k : Kind) (ts us : List Node) → due
 paired_head p b true k ts us h = ap (pair p) (bare_head p b k ts us (sym h))
 paired_head p b false k ts us h = refl
 
-tree_done : (p : Places) (k : Kind) (ts us : List Node) (b due : Bool) → due ≡ is_bare_in b (Node-F.Tree k ts)
-    → Tree k us ≡ of_headed p k (each_told (in_heads p) (flag_at (handing_for (Node-F.Tree k ts)) (b || due)) ts) → pair_if due p (Tree k us) ≡ in_heads p (Tree k ts) b
-tree_done p k ts us b due d done =
-    ap (pair_if due p) done ∙ paired_head p b due k ts _ d ∙ rw d (sym (heads_of_tree p k ts b ∙ step p k ts b (all_kept p ts)))
-
--- a tree, once its fields have their pairs and it has its own
-pub heads_done : (p : Places) (t : Node) (k : Kind) (ts us vs : List Node) (b due f : Bool) → Some k ≡ kind_of t → Some ts ≡ nodes_in t → vs ≡ ts → due ≡ is_bare_in b (Node-F.Tree k vs) → f ≡ (b || due)
-    → Tree k us ≡ of_headed p k (each_told (in_heads p) (flag_at (handing_for (Node-F.Tree k ts)) f) ts) → (u : Node) → u ≡ pair_if due p (with_children t us) → u ≡ in_heads p t b
-heads_done p t k ts us vs b due f of_kind nodes same d free done u made =
-    let q = tree_of_children t k ts us of_kind nodes in
-    made ∙ ap (pair_if due p) q.1
-    ∙ tree_done p k ts us b due (d ∙ ap (λ l. is_bare_in b (Node-F.Tree k l)) same) (done ∙ ap (λ f. of_headed p k (each_told (in_heads p) (flag_at (handing_for (Node-F.Tree k ts)) f) ts)) free)
-    ∙ ap (λ v. in_heads p v b) (sym q.0)
+-- a tree, once its fields have their pairs, the head of a `for` of has its own, and it has its own
+pub heads_tree : (p : Places) (b : Bool) (k : Kind) (ts : List Node)
+    → pair_if (is_bare_in b (Node-F.Tree k ts)) p (of_headed p k (each_told (in_heads p) (flag_at (handing_for (Node-F.Tree k ts)) (b || is_bare_in b (Node-F.Tree k ts))) ts)) ≡ in_heads p (Tree k ts) b
+heads_tree p b k ts = paired_head p b (is_bare_in b (Node-F.Tree k ts)) k ts _ refl ∙ sym (heads_of_tree p k ts b ∙ step p k ts b (all_kept p ts))

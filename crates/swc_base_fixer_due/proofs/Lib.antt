@@ -5,6 +5,7 @@ pub mod Fields
 pub mod Heading
 pub mod Least
 pub mod Leaves
+pub mod Paired
 pub mod Rows
 pub mod Settled
 pub mod Digests

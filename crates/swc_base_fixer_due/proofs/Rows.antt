@@ -1,5 +1,5 @@
 -- What the first step makes of one node.
-use Rattle.std.proofs.Common.{◌≡◌, Bool, true, false, List, [], ◌∷◌, ◌++◌, Option, Some, None, length, map, slice_set, refl, sym, ap, ◌∙◌, arith, rules}
+use Rattle.std.proofs.Common.{◌≡◌, Bool, true, false, List, [], ◌∷◌, ◌++◌, Option, Some, length, map, slice_set, refl, sym, ap, ◌∙◌, arith, rules}
 use Rattle.std.specs.List.{slice_get}
 use Rattle.swc_tree_node.specs.declared.kind.Kind.{Kind}
 use Rattle.swc_tree_node.specs.declared.kind.Kind.TheVariants as kind
@@ -7,9 +7,6 @@ use Rattle.swc_tree_node.specs.declared.kind.Word.{Word as Word'}
 use Rattle.swc_tree_node.specs.declared.kind.Word.TheVariants as word
 use Rattle.swc_tree_node.specs.declared.node.Node.{Node, Absent, List as Many, Tree, out-Node, the_lemmas}
 use Rattle.swc_tree_node.specs.declared.node.Node.TheOpen.{Node-F}
-use Rattle.swc_tree_node.specs.Changed.{nodes_in, with_children}
-use Rattle.swc_tree_node.specs.Parts.{kind_of}
-use Rattle.swc_tree_node.proofs.Lent.{list_of_children}
 use Rattle.swc_tree_grammar.specs.Levels.{word_of}
 use Rattle.swc_tree_grammar.specs.Demands.{left_side, right_side, object}
 use Rattle.swc_tree_grammar.specs.Due.{Places, Pairing, alone, level_step, odd_items, paired_in, sequence_statement}
@@ -133,20 +130,14 @@ level_of_tree p k ts b = search (rules, the_lemmas)
 level_of_list : (p : Places) (ts : List Node) (b : Bool) → by_level p (Many ts) b ≡ Many (map alone (map (by_level p) ts))
 level_of_list p ts b = search (rules, the_lemmas)
 
-pub level_list : (p : Places) (ts : List Node) (b : Bool) → Many (each_told (by_level p) (is_base false) ts) ≡ by_level p (Many ts) b
-level_list p ts b = ap Many (sym (alone_told (by_level p) ts)) ∙ sym (level_of_list p ts b)
+-- a list, once its items have their pairs
+pub level_list : (p : Places) (b : Bool) (ts : List Node) → Many (each_told (by_level p) (is_base false) ts) ≡ by_level p (Many ts) b
+level_list p b ts = ap Many (sym (alone_told (by_level p) ts)) ∙ sym (level_of_list p ts b)
 
 stepped : (p : Places) (k : Kind) (ts : List Node) (b : Bool) → level_step p (Node-F.Tree k (map (by_level p) ts)) b ≡ paired_in p b (Node-F.Tree k (each_told (by_level p) (is_base (is_chain_in (Node-F.Tree k ts))) ts))
 stepped p kind.OptChainExpr (x ∷ y ∷ z ∷ []) b = refl
 stepped p k ts b = ap (λ us. paired_in p b (Node-F.Tree k us)) (alone_told (by_level p) ts)
 
-pub level_tree : (p : Places) (t : Node) (k : Kind) (ts us rs : List Node) (b chain : Bool) → t ≡ Tree k ts → us ≡ ts → chain ≡ is_chain_in (Node-F.Tree k us) → rs ≡ each_told (by_level p) (is_base chain) ts
-    → (u : Node) → u ≡ paired_in p b (Node-F.Tree k rs) → u ≡ by_level p t b
-level_tree p t k ts us rs b chain is same c done u h =
-    h ∙ rw (done, c, same) (sym (level_of_tree p k ts b ∙ stepped p k ts b)) ∙ ap (λ v. by_level p v b) (sym is)
-
--- a list, once its items have their pairs
-pub level_items : (p : Places) (t : Node) (ts us : List Node) (in_chain : Bool) → None ≡ kind_of t → Some ts ≡ nodes_in t → us ≡ each_told (by_level p) (is_base false) ts → with_children t us ≡ by_level p t in_chain
-level_items p t ts us in_chain no_kind nodes done =
-    let q = list_of_children t ts us no_kind nodes in
-    q.1 ∙ ap Many done ∙ level_list p ts in_chain ∙ ap (λ u. by_level p u in_chain) (sym q.0)
+-- a tree, once its fields have their pairs
+pub level_tree : (p : Places) (b : Bool) (k : Kind) (ts : List Node) → paired_in p b (Node-F.Tree k (each_told (by_level p) (is_base (is_chain_in (Node-F.Tree k ts))) ts)) ≡ by_level p (Tree k ts) b
+level_tree p b k ts = sym (level_of_tree p k ts b ∙ stepped p k ts b)

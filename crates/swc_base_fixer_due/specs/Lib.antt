@@ -9,4 +9,5 @@ pub mod Row
 pub mod Settled
 pub mod Walk
 pub mod Heads
+pub mod StepLaws
 pub mod Begin
