@@ -4,7 +4,7 @@ use Rattle.std.specs.Prelude.{if◌then◌else◌}
 use Rattle.std.specs.List.{slice_get}
 use Rattle.swc_tree_node.specs.declared.kind.Kind.{Kind}
 use Rattle.swc_tree_node.specs.declared.kind.Kind.TheVariants as kind
-use Rattle.swc_tree_node.specs.declared.node.Node.{Node, Absent, List as Many, Tree, the_lemmas}
+use Rattle.swc_tree_node.specs.declared.node.Node.{Node, Absent, Tree}
 use Rattle.swc_tree_node.specs.declared.node.Node.TheVariants.{rolls-Tree}
 use Rattle.swc_tree_node.specs.declared.node.Node.TheOpen.{Node-F}
 use Rattle.swc_tree_grammar.specs.Kinds.{has_kind, is_block}
@@ -12,7 +12,6 @@ use Rattle.swc_tree_grammar.specs.Due.{Places, begin_step, begun, paired_at_star
 use Rattle.swc_base_fixer_due.specs.declared.starts.Beginning.{Beginning}
 use Rattle.swc_base_fixer_due.specs.declared.starts.Beginning.TheVariants as beginning
 use Rattle.swc_base_fixer_due.specs.Begin.{beginning_for, may_begin}
-use Rattle.swc_base_fixer_due.specs.Walk.{each_told}
 use Rattle.swc_base_fixer_due.proofs.Fields.{second_is, third_is}
 
 abbrev Found : Type 0
@@ -56,21 +55,3 @@ begun_back p k ts us out back i x e new same there here o n b = rw (b, n, o) (be
 
 pub begun_by_none : (p : Places) (k : Kind) (ts us : List Node) → us ≡ ts → None ≡ beginning_for k us → Tree k ts ≡ begin_step p (Node-F.Tree k ts)
 begun_by_none p k ts us same none = begun_none p k ts (ap (beginning_for k) (sym same) ∙ sym none)
-
-starts_of_tree : (p : Places) (k : Kind) (ts : List Node) → paired_at_starts p (Tree k ts) ≡ begin_step p (Node-F.Tree k (map (paired_at_starts p) ts))
-starts_of_tree p k ts = search (rules, the_lemmas)
-
-starts_of_list : (p : Places) (ts : List Node) → paired_at_starts p (Many ts) ≡ Many (map (paired_at_starts p) ts)
-starts_of_list p ts = search (rules, the_lemmas)
-
-all_told : (p : Places) (ts : List Node) → each_told (λ t _. paired_at_starts p t) (λ _. false) ts ≡ map (paired_at_starts p) ts
-all_told p [] = refl
-all_told p (t ∷ ts) = ap (λ us. paired_at_starts p t ∷ us) (all_told p ts)
-
--- a list, once its items have their pairs
-pub starts_list : (p : Places) (ts : List Node) → Many (each_told (λ t _. paired_at_starts p t) (λ _. false) ts) ≡ paired_at_starts p (Many ts)
-starts_list p ts = ap Many (all_told p ts) ∙ sym (starts_of_list p ts)
-
--- a tree, once its fields have their pairs
-pub starts_tree : (p : Places) (k : Kind) (ts : List Node) → begin_step p (Node-F.Tree k (each_told (λ t _. paired_at_starts p t) (λ _. false) ts)) ≡ paired_at_starts p (Tree k ts)
-starts_tree p k ts = ap (λ us. begin_step p (Node-F.Tree k us)) (all_told p ts) ∙ sym (starts_of_tree p k ts)

@@ -119,25 +119,3 @@ statement_odd p b k ts out back old new h g o n put =
     let s = statement_is k ts h in
     let q = second_of ts out back old new s.1 g o put in
     ap (λ k. Tree k back) s.0 ∙ ap (Tree kind.ExprStmt) (q.2 ∙ ap (λ u. q.0 ∷ u ∷ []) n) ∙ sym (ap (λ us. paired_in p b (Node-F.Tree kind.ExprStmt us)) q.1) ∙ sym (ap (λ k. paired_in p b (Node-F.Tree k ts)) s.0)
-
-alone_told : (f : Node → Pairing) (ts : List Node) → map alone (map f ts) ≡ each_told f (λ i. false) ts
-alone_told f [] = refl
-alone_told f (t ∷ ts) = ap (λ us. f t false ∷ us) (alone_told f ts)
-
-level_of_tree : (p : Places) (k : Kind) (ts : List Node) (b : Bool) → by_level p (Tree k ts) b ≡ level_step p (Node-F.Tree k (map (by_level p) ts)) b
-level_of_tree p k ts b = search (rules, the_lemmas)
-
-level_of_list : (p : Places) (ts : List Node) (b : Bool) → by_level p (Many ts) b ≡ Many (map alone (map (by_level p) ts))
-level_of_list p ts b = search (rules, the_lemmas)
-
--- a list, once its items have their pairs
-pub level_list : (p : Places) (b : Bool) (ts : List Node) → Many (each_told (by_level p) (is_base false) ts) ≡ by_level p (Many ts) b
-level_list p b ts = ap Many (sym (alone_told (by_level p) ts)) ∙ sym (level_of_list p ts b)
-
-stepped : (p : Places) (k : Kind) (ts : List Node) (b : Bool) → level_step p (Node-F.Tree k (map (by_level p) ts)) b ≡ paired_in p b (Node-F.Tree k (each_told (by_level p) (is_base (is_chain_in (Node-F.Tree k ts))) ts))
-stepped p kind.OptChainExpr (x ∷ y ∷ z ∷ []) b = refl
-stepped p k ts b = ap (λ us. paired_in p b (Node-F.Tree k us)) (alone_told (by_level p) ts)
-
--- a tree, once its fields have their pairs
-pub level_tree : (p : Places) (b : Bool) (k : Kind) (ts : List Node) → paired_in p b (Node-F.Tree k (each_told (by_level p) (is_base (is_chain_in (Node-F.Tree k ts))) ts)) ≡ by_level p (Tree k ts) b
-level_tree p b k ts = sym (level_of_tree p k ts b ∙ stepped p k ts b)

@@ -9,5 +9,7 @@ pub mod Row
 pub mod Settled
 pub mod Walk
 pub mod Heads
-pub mod StepLaws
+pub mod LevelLaws
+pub mod HeadLaws
+pub mod StartLaws
 pub mod Begin

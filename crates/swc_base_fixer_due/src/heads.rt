@@ -11,7 +11,7 @@ ghost use Rattle.swc_base_fixer_due.specs.Heads.{as_expression as as_expression_
 ghost use Rattle.swc_base_fixer_due.specs.Record.{place_in};
 ghost use Rattle.swc_base_fixer_due.specs.Walk.{in_heads};
 ghost use Rattle.swc_base_fixer_due.specs.declared.heads.Handing.TheVariants.{ToAll};
-ghost use Rattle.swc_base_fixer_due.specs.StepLaws.{heads_leave, heads_list, heads_tree};
+ghost use Rattle.swc_base_fixer_due.specs.HeadLaws.{heads_leave, heads_list, heads_tree};
 
 use crate::level::{is_in, word_of};
 use crate::pair::pair;

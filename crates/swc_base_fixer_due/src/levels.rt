@@ -8,7 +8,7 @@ ghost use Rattle.swc_base_fixer_due.specs.Record.{place_in};
 ghost use Rattle.swc_base_fixer_due.specs.Row.{ask_at};
 ghost use Rattle.swc_base_fixer_due.specs.Settled.{odd_item as odd_item_of, odd_list as odd_list_of, settled_by};
 ghost use Rattle.swc_base_fixer_due.specs.Walk.{by_level, each_told, is_base as is_base_of, is_chain_in, is_statement_in};
-ghost use Rattle.swc_base_fixer_due.specs.StepLaws.{level_list, level_tree, levels_leave};
+ghost use Rattle.swc_base_fixer_due.specs.LevelLaws.{level_list, level_tree, levels_leave};
 
 use crate::pair::pair_if;
 use crate::pairing::{Pairing, pair_tree};

@@ -6,7 +6,7 @@ ghost use Rattle.swc_tree_node.specs.declared.node.Node.TheOpen.{Node-F};
 ghost use Rattle.swc_tree_grammar.specs.Due.{begin_step, begun as begun_of, paired_at_starts};
 ghost use Rattle.swc_base_fixer_due.specs.Begin.{begins, beginning_for, first_paired as first_in_pair, may_begin as may_begin_with};
 ghost use Rattle.swc_base_fixer_due.specs.Record.{place_in};
-ghost use Rattle.swc_base_fixer_due.specs.StepLaws.{starts_leave, starts_list, starts_tree};
+ghost use Rattle.swc_base_fixer_due.specs.StartLaws.{starts_leave, starts_list, starts_tree};
 
 use crate::family::{Family, is_of};
 use crate::pair::pair;
