@@ -1,5 +1,5 @@
 -- What the third step makes of one node.
-use Rattle.std.proofs.Common.{◌≡◌, ℕ, Bool, true, false, List, [], ◌∷◌, Option, Some, None, map, slice_set, refl, sym, ap, ◌∙◌, rules}
+use Rattle.std.proofs.Common.{◌≡◌, ℕ, Bool, true, false, List, [], ◌∷◌, Option, Some, None, slice_set, refl, sym, ap, ◌∙◌}
 use Rattle.std.specs.Prelude.{if◌then◌else◌}
 use Rattle.std.specs.List.{slice_get}
 use Rattle.swc_tree_node.specs.declared.kind.Kind.{Kind}
@@ -8,7 +8,7 @@ use Rattle.swc_tree_node.specs.declared.node.Node.{Node, Absent, Tree}
 use Rattle.swc_tree_node.specs.declared.node.Node.TheVariants.{rolls-Tree}
 use Rattle.swc_tree_node.specs.declared.node.Node.TheOpen.{Node-F}
 use Rattle.swc_tree_grammar.specs.Kinds.{has_kind, is_block}
-use Rattle.swc_tree_grammar.specs.Due.{Places, begin_step, begun, paired_at_starts}
+use Rattle.swc_tree_grammar.specs.Due.{Places, begin_step, begun}
 use Rattle.swc_base_fixer_due.specs.declared.starts.Beginning.{Beginning}
 use Rattle.swc_base_fixer_due.specs.declared.starts.Beginning.TheVariants as beginning
 use Rattle.swc_base_fixer_due.specs.Begin.{beginning_for, may_begin}

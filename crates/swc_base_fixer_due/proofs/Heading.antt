@@ -1,20 +1,14 @@
 -- What the second step makes of the head of a `for` of.
-use Rattle.std.proofs.Common.{◌≡◌, Bool, true, false, not, ◌&&◌, ◌||◌, List, [], ◌∷◌, Some, None, length, map, slice_set, get_or, refl, sym, ap, ◌∙◌, arith, rules}
+use Rattle.std.proofs.Common.{◌≡◌, Bool, not, ◌&&◌, List, [], ◌∷◌, Some, length, slice_set, get_or, refl, sym, ap, ◌∙◌, arith}
 use Rattle.std.specs.Prelude.{if◌then◌else◌}
 use Rattle.std.specs.List.{slice_get}
-use Rattle.swc_tree_node.specs.declared.kind.Kind.{Kind}
 use Rattle.swc_tree_node.specs.declared.kind.Kind.TheVariants as kind
-use Rattle.swc_tree_node.specs.declared.node.Node.{Node, Absent, List as Many, Tree, out-Node, the_lemmas}
-use Rattle.swc_tree_node.specs.declared.node.Node.TheVariants.{rolls-Tree}
+use Rattle.swc_tree_node.specs.declared.node.Node.{Node, Absent, Tree, out-Node}
 use Rattle.swc_tree_node.specs.declared.node.Node.TheOpen.{Node-F}
-use Rattle.swc_tree_grammar.specs.Levels.{word_of, is_in}
 use Rattle.swc_tree_grammar.specs.Forms.{holds}
 use Rattle.swc_tree_grammar.specs.Grammar.{is_async_name}
-use Rattle.swc_tree_grammar.specs.Due.{Places, Pairing, async_in, free, in_step, of_head, pair, pair_if}
-use Rattle.swc_tree_grammar.proofs.Induction.{Each, by_children}
-use Rattle.swc_base_fixer_due.specs.declared.heads.Handing.TheVariants as handing
-use Rattle.swc_base_fixer_due.specs.Heads.{flag_at, handing_for, is_bare_in, as_expression, of_headed, headed}
-use Rattle.swc_base_fixer_due.specs.Walk.{each_told, in_heads}
+use Rattle.swc_tree_grammar.specs.Due.{Places, async_in, pair}
+use Rattle.swc_base_fixer_due.specs.Heads.{as_expression, of_headed}
 
 named_in : (p : Places) (w : Bool) (t : Node) (x : Node-F Node) → out-Node t ≡ x → async_in p w t x ≡ (if is_async_name t && not w then pair p (as_expression t x) else t)
 named_in p w t (Node-F.Identifier k i) h = refl

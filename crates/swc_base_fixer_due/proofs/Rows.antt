@@ -1,22 +1,22 @@
 -- What the first step makes of one node.
-use Rattle.std.proofs.Common.{◌≡◌, Bool, true, false, List, [], ◌∷◌, ◌++◌, Option, Some, length, map, slice_set, refl, sym, ap, ◌∙◌, arith, rules}
+use Rattle.std.proofs.Common.{◌≡◌, Bool, true, false, List, [], ◌∷◌, ◌++◌, Option, Some, length, map, slice_set, refl, sym, ap, ◌∙◌, arith}
 use Rattle.std.specs.List.{slice_get}
 use Rattle.swc_tree_node.specs.declared.kind.Kind.{Kind}
 use Rattle.swc_tree_node.specs.declared.kind.Kind.TheVariants as kind
 use Rattle.swc_tree_node.specs.declared.kind.Word.{Word as Word'}
 use Rattle.swc_tree_node.specs.declared.kind.Word.TheVariants as word
-use Rattle.swc_tree_node.specs.declared.node.Node.{Node, Absent, List as Many, Tree, out-Node, the_lemmas}
+use Rattle.swc_tree_node.specs.declared.node.Node.{Node, Absent, Tree, out-Node}
 use Rattle.swc_tree_node.specs.declared.node.Node.TheOpen.{Node-F}
 use Rattle.swc_tree_grammar.specs.Levels.{word_of}
 use Rattle.swc_tree_grammar.specs.Demands.{left_side, right_side, object}
-use Rattle.swc_tree_grammar.specs.Due.{Places, Pairing, alone, level_step, odd_items, paired_in, sequence_statement}
+use Rattle.swc_tree_grammar.specs.Due.{Places, odd_items, paired_in, sequence_statement}
 use Rattle.swc_base_fixer_due.specs.declared.row.Ask.TheVariants as ask
 use Rattle.swc_base_fixer_due.specs.declared.row.Row.{Row}
 use Rattle.swc_base_fixer_due.specs.declared.row.Row.TheVariants as row
 use Rattle.swc_base_fixer_due.specs.Test.{asked, left_test, right_test, object_test}
 use Rattle.swc_base_fixer_due.specs.Row.{ask_at, row_for}
 use Rattle.swc_base_fixer_due.specs.Settled.{odd_item, odd_list, settled_by}
-use Rattle.swc_base_fixer_due.specs.Walk.{by_level, each_told, is_base, is_chain_in, is_statement_in}
+use Rattle.swc_base_fixer_due.specs.Walk.{each_told, is_statement_in}
 
 asked_left : (op : Option Word') → asked (left_test op) ≡ left_side op
 asked_left (Some word.LogicalOr) = refl

@@ -202,11 +202,17 @@ impl Pairing for Levels {
     ghost is_due = { λ tree. false };
 
     fn of_list(_told: bool) -> Levels {
-        Levels { in_chain: false, is_chain: false }
+        Levels {
+            in_chain: false,
+            is_chain: false,
+        }
     }
 
     fn of_tree(told: bool, kind: Kind, fields: &[Node]) -> Levels {
-        Levels { in_chain: told, is_chain: is_chain(kind, fields) }
+        Levels {
+            in_chain: told,
+            is_chain: is_chain(kind, fields),
+        }
     }
 
     fn tells(self, index: usize) -> bool {
