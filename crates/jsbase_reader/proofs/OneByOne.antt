@@ -34,7 +34,7 @@ use Rattle.jsbase_form.proofs.Members.{member_seen}
 use Rattle.jsbase_reader.specs.Parts.{members_in}
 use Rattle.jsbase_reader.specs.Streamed.{Ends, HasStatements, IsMade, Leads, LeadsIfAsked, NoMembers, envelope_in_document, envelope_in_tokens, joined, table_among}
 use Rattle.jsbase_reader.specs.declared.envelope.Envelope.{Envelope}
-use Rattle.jsbase_reader.specs.Envelopes.{envelope_around, envelope_in, envelope_of, marks_in, max_depth, options_in}
+use Rattle.jsbase_reader.specs.Envelopes.{envelope_around, envelope_in, envelope_of, max_depth}
 use Rattle.jsbase_reader.proofs.Loops.{after, after-all, after-cons, after-none}
 
 -- the members that were read, and then what is left

@@ -1,4 +1,4 @@
-use Rattle.std.proofs.Common.{◌≡◌, Some, None, sym, subst, ap, ◌∙◌, arith, rules}
+use Rattle.std.proofs.Common.{◌≡◌, Some, None, sym, subst, ◌∙◌, arith}
 use Rattle.json.specs.Json.{read_key}
 use Rattle.json.specs.Value.{members_view}
 use Rattle.jsbase_reader.proofs.OneByOne.{Reading, reading_asked, reading_ends, reading_fails, reading_first, reading_more, reading_stops}

@@ -1,4 +1,4 @@
-use Rattle.std.proofs.Common.{◌≡◌, None, Err, false, codes, bytes_eq, refl, sym, ap, ◌∙◌, rules, arith}
+use Rattle.std.proofs.Common.{◌≡◌, false, codes, bytes_eq, refl, sym, ap, ◌∙◌, rules, arith}
 use Rattle.std.specs.Prelude.{IsErrOf}
 use Rattle.std.specs.List.{list_any}
 use Rattle.json.specs.Json.{Members, array, member, object}

@@ -1,4 +1,4 @@
-use Rattle.std.proofs.Common.{◌≡◌, None, Err, false, codes, bytes_eq, refl, sym, ap, ◌∙◌, rules, arith, subst, Ok}
+use Rattle.std.proofs.Common.{◌≡◌, false, codes, bytes_eq, refl, sym, ap, ◌∙◌, rules, arith, subst, Ok}
 use Rattle.std.specs.Prelude.{IsErrOf, unwrap_or}
 use Rattle.std.specs.List.{list_any}
 use Rattle.json.specs.Json.{Members, member, null, object}
@@ -23,10 +23,10 @@ returns-clause-read c =
     let leads : Leads 126 (codes "tree") before c.object_begins.new.reader c.members_until.new.reader = rw c.if-not-has_tree.false at c.in_ok-before.ensures.read in
     let ms : Members = joined before (member (codes "tree") p.program (members_view behind)) in
     let os : Members = members_in (value_view c.in_ok-others.others) in
-    let ends : Ends 126 (members_view behind) c.read_program.new.reader c.members_until-2.new.reader = all_left _ c.in_ok-behind.ensures.read in
     let others : os ≡ joined before (members_view behind) = c.in_ok-others.ensures.all ∙ ap (λ ms. joined ms (members_view behind)) (members_are c.in_ok-before.before) in
     let no_tree : list_any (λ m. bytes_eq m.0.now (codes "tree")) behind ≡ false = search (rules, c.as_slice.ensures.value) in
     let no_marks : list_any (λ m. bytes_eq m.0.now (codes "marks")) behind ≡ false = search (rules, c.as_slice-else-has_key.ensures.value) in
+    let ends : Ends 126 (members_view behind) c.read_program.new.reader c.members_until-2.new.reader = all_left _ c.in_ok-behind.ensures.read in
     let marks_are : get_member (codes "marks") os ≡ get_member (codes "marks") before = ap (get_member (codes "marks")) others ∙ look_before (codes "marks") before (members_view behind) (none_has (codes "marks") behind no_marks) in
     let marks : table_among os ≡ Ok g = ap (λ o. at (key (codes "marks")) (table_at (unwrap_or o null))) marks_are ∙ ap table_among (sym (members_are c.in_ok-before.before)) ∙ c.in_ok-globals.ensures.table in
     let is = envelope_made c.args.class ms os g p.program c.in_ok-tree.tree (λ k e. look_other k (codes "tree") p.program before (members_view behind) e ∙ ap (get_member k) (sym others)) marks
