@@ -8,7 +8,7 @@ pub mod Stretches
 pub mod Places
 pub mod InOrder
 pub mod Steps
-pub mod Planned
 pub mod Inside
 pub mod ByIds
 pub mod Tried
+pub mod Planned

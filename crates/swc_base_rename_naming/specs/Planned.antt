@@ -1,8 +1,24 @@
--- What names go by, of the parts of a plan.
+-- What names go by, and what stands while they are given, of the parts of a plan.
 use Rattle.std.specs.Prelude.{ℕ, Bool, Option, List}
 use Rattle.swc_base_rename_substitution.specs.Names.{Id}
-use Rattle.swc_base_rename_naming.specs.Steps.{Naming, naming}
+use Rattle.swc_base_rename_naming.specs.Free.{Test}
+use Rattle.swc_base_rename_naming.specs.Steps.{Maps, Naming, naming, taken_at}
+use Rattle.swc_base_rename_naming.specs.Tried.{IsTried}
 use Rattle.swc_base_rename_naming.specs.declared.in_order.Plan.{Plan}
+use Rattle.swc_base_rename_naming.specs.declared.in_order.ProgramNames.{ProgramNames}
+use Rattle.swc_base_rename_naming.specs.declared.in_order.ScopeNames.{ScopeNames}
 
 abbrev pub planned : {N A : Type 0} → (N → Id → ℕ → List ℕ) → (A → Id → Bool) → (A → List ℕ → Bool) → (A → ℕ → ℕ → Bool) → (A → ℕ → Option Id) → Plan N A → (ℕ → ℕ → Bool) → Naming
 planned text keeps preserved occurs id_of plan counts = naming (text plan.texts.now) plan.goes_on (keeps plan.asked.now) (preserved plan.asked.now) (occurs plan.asked.now) counts (id_of plan.asked.now)
+
+-- the map of a scope, and that of the whole
+abbrev pub maps_of : ScopeNames → ProgramNames → Maps
+maps_of in_scope in_program = (in_scope.given, in_program.whole.given)
+
+-- what is taken at a scope
+abbrev pub taken_by : {N A : Type 0} → (A → List ℕ → Bool) → (A → ℕ → ℕ → Bool) → Plan N A → ScopeNames → ProgramNames → ℕ → Test
+taken_by preserved occurs plan in_scope in_program = taken_at (preserved plan.asked.now) (occurs plan.asked.now) (maps_of in_scope in_program)
+
+-- below the counters that were tried each text is taken
+abbrev pub AreTried : {N A : Type 0} → (N → Id → ℕ → List ℕ) → (A → List ℕ → Bool) → (A → ℕ → ℕ → Bool) → Plan N A → ScopeNames → ProgramNames → Type 0
+AreTried text preserved occurs plan in_scope in_program = IsTried (text plan.texts.now) (preserved plan.asked.now) (occurs plan.asked.now) (maps_of in_scope in_program) in_scope.tried

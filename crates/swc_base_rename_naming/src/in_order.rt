@@ -1,14 +1,14 @@
 //! Names for ids, one after the other.
-ghost use Rattle.std.specs.Prelude.{◌≡◌, ◌||◌, ℕ, Bool, None, IfOk, IfErr, OnOk};
+ghost use Rattle.std.specs.Prelude.{◌≡◌, ◌||◌, ℕ, Bool, List, [], None, IfOk, IfErr, OnOk};
 ghost use Rattle.std.specs.Ordering.{nat_cmp};
 ghost use Rattle.std.specs.BTreeSet.{contains};
 ghost use Rattle.std.specs.List.{list_any};
 ghost use Rattle.swc_base_rename_naming.specs.Chained.{ids_of};
 ghost use Rattle.swc_base_rename_naming.specs.Free.{FindsFree, IsSearchRefusal};
 ghost use Rattle.swc_base_rename_naming.specs.InOrder.{IsRefused, NamedInOrder};
-ghost use Rattle.swc_base_rename_naming.specs.Tried.{IsTried};
+ghost use Rattle.swc_base_rename_naming.specs.Tried.{tried_at};
 ghost use Rattle.swc_base_rename_naming.specs.Places.{AreMarked};
-ghost use Rattle.swc_base_rename_naming.specs.Planned.{planned};
+ghost use Rattle.swc_base_rename_naming.specs.Planned.{AreTried, maps_of, planned, taken_by};
 ghost use Rattle.swc_base_rename_naming.specs.Steps.{HasMore, IsKept, IsNamable, IsNameGiven, IsPutDown, all_count, next_at as is_next_at, naming, rules, taken_at, text_at, IsSiteDone, IsSiteRefused};
 
 use crate::asked::Asked;
@@ -30,6 +30,21 @@ pub struct Plan<'a, N, A> {
     pub asked: &'a A,
     pub goes_on: bool,
     pub leaks: &'a BTreeSet<usize>,
+}
+
+/// What naming knows of a scope that is open: which ids of it and of the scopes round it were given which texts, and the counters that
+/// were tried in it.
+#[derive(Drop)]
+pub struct ScopeNames<'a> {
+    pub given: ReverseMap<'a>,
+    pub tried: Tried,
+}
+
+/// What naming knows of the program: which ids of scopes that leak were given which texts, and the texts of all ids.
+#[derive(Drop)]
+pub struct ProgramNames {
+    pub whole: Whole,
+    pub names: GivenTexts,
 }
 
 // What is taken at a scope: texts that nobody may get, and those of ids that occur there or below.
@@ -80,6 +95,34 @@ impl GivenTexts {
     }
 }
 
+impl<'a> ScopeNames<'a> {
+    /// A scope with a map of its own, in which no counter was tried.
+    pub fn new(alloc: Global, given: ReverseMap<'a>) -> ScopeNames<'a>
+        ensures given { result.given ≡ given }
+        ensures tried { (s : ℕ) (x : List ℕ) → tried_at result.tried s x ≡ 0 }
+    {
+        ScopeNames {
+            given,
+            tried: Tried::new(alloc),
+        }
+    }
+}
+
+impl ProgramNames {
+    /// No id has a text.
+    pub fn new(alloc: Global) -> ProgramNames
+        ensures given { (x : List ℕ) → ids_of result.whole.given x ≡ [] }
+        ensures marked { (positions : ℕ → List ℕ) → AreMarked positions result.whole }
+        ensures texts { (x : ℕ) → text_at result.names.texts x ≡ None }
+        ensures next { result.names.next ≡ 0 }
+    {
+        ProgramNames {
+            whole: Whole::new(alloc),
+            names: GivenTexts::new(alloc),
+        }
+    }
+}
+
 // The id of a number, if it is to get a name: it has none yet, and does not keep its text.
 fn namable<'a, A: Asked>(
     asked: &'a A,
@@ -111,18 +154,18 @@ fn free_at<N: NewTexts, A: Asked>(
     plan: &Plan<'_, N, A>,
     id: &Id,
     scope: usize,
-    given: &ReverseMap<'_>,
-    whole: &Whole,
+    in_scope: &ScopeNames<'_>,
+    in_program: &ProgramNames,
     next: &mut usize,
 ) -> Result<JsWord, PassError>
-    requires { AreMarked (A.positions plan.now.asked.now) whole.now }
-    ensures found { IfOk result (FindsFree (N.text plan.now.texts.now id.now) (taken_at (A.preserved plan.now.asked.now) (A.occurs plan.now.asked.now) (given.now, whole.now.given) scope) next.old next.new) }
-    ensures refused { IfErr result (IsSearchRefusal (N.text plan.now.texts.now id.now) (taken_at (A.preserved plan.now.asked.now) (A.occurs plan.now.asked.now) (given.now, whole.now.given) scope) next.old) }
+    requires { AreMarked (A.positions plan.now.asked.now) in_program.now.whole }
+    ensures found { IfOk result (FindsFree (N.text plan.now.texts.now id.now) (taken_by A.preserved A.occurs plan.now in_scope.now in_program.now scope) next.old next.new) }
+    ensures refused { IfErr result (IsSearchRefusal (N.text plan.now.texts.now id.now) (taken_by A.preserved A.occurs plan.now in_scope.now in_program.now scope) next.old) }
 {
     let taken = AtScope {
         asked: plan.asked,
-        given,
-        whole,
+        given: &in_scope.given,
+        whole: &in_program.whole,
         scope,
     };
     free_text(plan.alloc, plan.texts, id, &taken, next)
@@ -173,23 +216,25 @@ fn search<N: NewTexts, A: Asked>(
     plan: &Plan<'_, N, A>,
     id: &Id,
     scope: usize,
-    start: usize,
-    given: &ReverseMap<'_>,
-    whole: &Whole,
-    tried: &mut Tried,
+    in_scope: &mut ScopeNames<'_>,
+    in_program: &ProgramNames,
 ) -> Result<(JsWord, usize), PassError>
-    requires tried { IsTried (N.text plan.now.texts.now) (A.preserved plan.now.asked.now) (A.occurs plan.now.asked.now) (given.now, whole.now.given) tried.old }
-    requires marked { AreMarked (A.positions plan.now.asked.now) whole.now }
-    ensures found { IfOk result (λ found. FindsFree (N.text plan.now.texts.now id.now) (taken_at (A.preserved plan.now.asked.now) (A.occurs plan.now.asked.now) (given.now, whole.now.given) scope) start found.1 found.0) }
-    ensures tried { OnOk result (IsTried (N.text plan.now.texts.now) (A.preserved plan.now.asked.now) (A.occurs plan.now.asked.now) (given.now, whole.now.given) tried.new) }
-    ensures refused { IfErr result (IsSearchRefusal (N.text plan.now.texts.now id.now) (taken_at (A.preserved plan.now.asked.now) (A.occurs plan.now.asked.now) (given.now, whole.now.given) scope) start) }
+    requires tried { AreTried N.text A.preserved A.occurs plan.now in_scope.old in_program.now }
+    requires marked { AreMarked (A.positions plan.now.asked.now) in_program.now.whole }
+    ensures found { IfOk result (λ found. FindsFree (N.text plan.now.texts.now id.now) (taken_by A.preserved A.occurs plan.now in_scope.old in_program.now scope) (is_next_at plan.now.goes_on in_program.now.names scope) found.1 found.0) }
+    ensures given { in_scope.new.given ≡ in_scope.old.given }
+    ensures tried { OnOk result (AreTried N.text A.preserved A.occurs plan.now in_scope.new in_program.now) }
+    ensures refused { IfErr result (IsSearchRefusal (N.text plan.now.texts.now id.now) (taken_by A.preserved A.occurs plan.now in_scope.old in_program.now scope) (is_next_at plan.now.goes_on in_program.now.names scope)) }
 {
-    let mut next = start.max(tried.counter(scope, id.0.as_str()));
-    let text = free_at(plan, id, scope, given, whole, &mut next)?;
+    let start = next_at(plan.goes_on, &in_program.names, scope);
+    let mut next = start.max(in_scope.tried.counter(scope, id.0.as_str()));
+    let text = free_at(plan, id, scope, in_scope, in_program, &mut next)?;
     if start > 0 || next <= SEARCHED_ANEW || !plan.texts.are_alike() {
         return Ok((text, next));
     }
-    tried.put(plan.alloc, scope, id.0.clone()?, next - 1)?;
+    in_scope
+        .tried
+        .put(plan.alloc, scope, id.0.clone()?, next - 1)?;
     Ok((text, next))
 }
 
@@ -198,23 +243,26 @@ fn give_name<N: NewTexts, A: Asked>(
     plan: &Plan<'_, N, A>,
     id: &Id,
     site: (usize, usize),
-    given: &mut ReverseMap<'_>,
-    whole: &mut Whole,
-    names: &mut GivenTexts,
-    tried: &mut Tried,
+    in_scope: &mut ScopeNames<'_>,
+    in_program: &mut ProgramNames,
 ) -> Result<(), PassError>
-    requires tried { IsTried (N.text plan.now.texts.now) (A.preserved plan.now.asked.now) (A.occurs plan.now.asked.now) (given.old, whole.old.given) tried.old }
-    requires marked { AreMarked (A.positions plan.now.asked.now) whole.old }
-    ensures tried { OnOk result (IsTried (N.text plan.now.texts.now) (A.preserved plan.now.asked.now) (A.occurs plan.now.asked.now) (given.new, whole.new.given) tried.new) }
-    ensures more { OnOk result (HasMore whole.old.given whole.new.given) }
-    ensures marked { OnOk result (AreMarked (A.positions plan.now.asked.now) whole.new) }
-    ensures named { OnOk result (IsNameGiven (N.text plan.now.texts.now id.now) (taken_at (A.preserved plan.now.asked.now) (A.occurs plan.now.asked.now) (given.old, whole.old.given) site.0) (is_next_at plan.now.goes_on names.old site.0) (contains nat_cmp plan.now.leaks.now site.0) site names.old names.new (given.old, whole.old.given) (given.new, whole.new.given)) }
-    ensures refused { IfErr result (IsSearchRefusal (N.text plan.now.texts.now id.now) (taken_at (A.preserved plan.now.asked.now) (A.occurs plan.now.asked.now) (given.old, whole.old.given) site.0) (is_next_at plan.now.goes_on names.old site.0)) }
+    requires tried { AreTried N.text A.preserved A.occurs plan.now in_scope.old in_program.old }
+    requires marked { AreMarked (A.positions plan.now.asked.now) in_program.old.whole }
+    ensures tried { OnOk result (AreTried N.text A.preserved A.occurs plan.now in_scope.new in_program.new) }
+    ensures more { OnOk result (HasMore in_program.old.whole.given in_program.new.whole.given) }
+    ensures marked { OnOk result (AreMarked (A.positions plan.now.asked.now) in_program.new.whole) }
+    ensures named { OnOk result (IsNameGiven (N.text plan.now.texts.now id.now) (taken_by A.preserved A.occurs plan.now in_scope.old in_program.old site.0) (is_next_at plan.now.goes_on in_program.old.names site.0) (contains nat_cmp plan.now.leaks.now site.0) site in_program.old.names in_program.new.names (maps_of in_scope.old in_program.old) (maps_of in_scope.new in_program.new)) }
+    ensures refused { IfErr result (IsSearchRefusal (N.text plan.now.texts.now id.now) (taken_by A.preserved A.occurs plan.now in_scope.old in_program.old site.0) (is_next_at plan.now.goes_on in_program.old.names site.0)) }
 {
-    let start = next_at(plan.goes_on, names, site.0);
-    let (text, next) = search(plan, id, site.0, start, given, whole, tried)?;
-    put_down(plan, text.clone()?, site, given, whole)?;
-    keep(text, site, next, names)?;
+    let (text, next) = search(plan, id, site.0, in_scope, in_program)?;
+    put_down(
+        plan,
+        text.clone()?,
+        site,
+        &mut in_scope.given,
+        &mut in_program.whole,
+    )?;
+    keep(text, site, next, &mut in_program.names)?;
     Ok(())
 }
 
@@ -222,21 +270,19 @@ fn give_name<N: NewTexts, A: Asked>(
 pub fn name_site<N: NewTexts, A: Asked>(
     plan: &Plan<'_, N, A>,
     site: (usize, usize),
-    given: &mut ReverseMap<'_>,
-    whole: &mut Whole,
-    names: &mut GivenTexts,
-    tried: &mut Tried,
+    in_scope: &mut ScopeNames<'_>,
+    in_program: &mut ProgramNames,
 ) -> Result<(), PassError>
-    requires tried { IsTried (N.text plan.now.texts.now) (A.preserved plan.now.asked.now) (A.occurs plan.now.asked.now) (given.old, whole.old.given) tried.old }
-    requires marked { AreMarked (A.positions plan.now.asked.now) whole.old }
-    ensures tried { OnOk result (IsTried (N.text plan.now.texts.now) (A.preserved plan.now.asked.now) (A.occurs plan.now.asked.now) (given.new, whole.new.given) tried.new) }
-    ensures more { OnOk result (HasMore whole.old.given whole.new.given) }
-    ensures marked { OnOk result (AreMarked (A.positions plan.now.asked.now) whole.new) }
-    ensures named { OnOk result ((counts : ℕ → ℕ → Bool) → IsSiteDone (planned N.text A.keeps A.preserved A.occurs A.id_of plan.now counts) (contains nat_cmp plan.now.leaks.now site.0) site names.old names.new (given.old, whole.old.given) (given.new, whole.new.given)) }
-    ensures refused { IfErr result (λ e. (counts : ℕ → ℕ → Bool) → IsSiteRefused (planned N.text A.keeps A.preserved A.occurs A.id_of plan.now counts) site names.old (given.old, whole.old.given) e) }
+    requires tried { AreTried N.text A.preserved A.occurs plan.now in_scope.old in_program.old }
+    requires marked { AreMarked (A.positions plan.now.asked.now) in_program.old.whole }
+    ensures tried { OnOk result (AreTried N.text A.preserved A.occurs plan.now in_scope.new in_program.new) }
+    ensures more { OnOk result (HasMore in_program.old.whole.given in_program.new.whole.given) }
+    ensures marked { OnOk result (AreMarked (A.positions plan.now.asked.now) in_program.new.whole) }
+    ensures named { OnOk result ((counts : ℕ → ℕ → Bool) → IsSiteDone (planned N.text A.keeps A.preserved A.occurs A.id_of plan.now counts) (contains nat_cmp plan.now.leaks.now site.0) site in_program.old.names in_program.new.names (maps_of in_scope.old in_program.old) (maps_of in_scope.new in_program.new)) }
+    ensures refused { IfErr result (λ e. (counts : ℕ → ℕ → Bool) → IsSiteRefused (planned N.text A.keeps A.preserved A.occurs A.id_of plan.now counts) site in_program.old.names (maps_of in_scope.old in_program.old) e) }
 {
-    match namable(plan.asked, &names.texts, site.1) {
-        Some(id) => give_name(plan, id, site, given, whole, names, tried),
+    match namable(plan.asked, &in_program.names.texts, site.1) {
+        Some(id) => give_name(plan, id, site, in_scope, in_program),
         None => Ok(()),
     }
 }
@@ -271,12 +317,11 @@ pub fn names_in_order<N: NewTexts, A: Asked>(
         goes_on,
         leaks: &leaks,
     };
-    let mut given = ReverseMap::new(alloc);
-    let mut whole = Whole::new(alloc);
-    let mut names = GivenTexts::new(alloc);
-    let mut tried = Tried::new(alloc);
+    let given = ReverseMap::new(alloc);
+    let mut in_scope = ScopeNames::new(alloc, given);
+    let mut in_program = ProgramNames::new(alloc);
     for site in sites {
-        name_site(&plan, *site, &mut given, &mut whole, &mut names, &mut tried)?;
+        name_site(&plan, *site, &mut in_scope, &mut in_program)?;
     }
-    Ok(names.into_texts())
+    Ok(in_program.names.into_texts())
 }

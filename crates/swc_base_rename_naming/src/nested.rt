@@ -9,11 +9,9 @@ ghost use Rattle.swc_base_rename_naming.specs.Planned.{planned};
 ghost use Rattle.swc_base_rename_naming.specs.Steps.{HasMore, counts_with, naming, rules, text_at};
 
 use crate::asked::{Asked, Nesting};
-use crate::in_order::{GivenTexts, Plan, name_site};
+use crate::in_order::{Plan, ProgramNames, ScopeNames, name_site};
 use crate::new_texts::NewTexts;
 use crate::reverse_map::ReverseMap;
-use crate::tried::Tried;
-use crate::whole::Whole;
 use std::alloc::Global;
 use std::collections::{BTreeMap, BTreeSet};
 use swc_tree_marks::{JsWord, PassError};
@@ -24,28 +22,27 @@ fn name_scope<N: NewTexts, A: Asked + Nesting>(
     sites: &[(usize, usize)],
     from: usize,
     outer: &ReverseMap<'_>,
-    whole: &mut Whole,
-    names: &mut GivenTexts,
+    in_program: &mut ProgramNames,
 ) -> Result<usize, PassError>
     requires within { from < length sites.now }
     requires order { IsInPreorder (A.surrounds plan.now.asked.now) sites.now }
-    requires marked { AreMarked (A.positions plan.now.asked.now) whole.old }
-    ensures named { IfOk result (IsScopeNamed (planned N.text A.keeps A.preserved A.occurs A.id_of plan.now) (contains nat_cmp plan.now.leaks.now) (A.surrounds plan.now.asked.now) sites.now from names.old names.new (outer.now, whole.old.given) whole.new.given) }
-    ensures more { OnOk result (HasMore whole.old.given whole.new.given) }
-    ensures marked { OnOk result (AreMarked (A.positions plan.now.asked.now) whole.new) }
-    ensures refused { IfErr result (IsScopeRefused (planned N.text A.keeps A.preserved A.occurs A.id_of plan.now) (contains nat_cmp plan.now.leaks.now) (A.surrounds plan.now.asked.now) sites.now from names.old (outer.now, whole.old.given)) }
+    requires marked { AreMarked (A.positions plan.now.asked.now) in_program.old.whole }
+    ensures named { IfOk result (IsScopeNamed (planned N.text A.keeps A.preserved A.occurs A.id_of plan.now) (contains nat_cmp plan.now.leaks.now) (A.surrounds plan.now.asked.now) sites.now from in_program.old.names in_program.new.names (outer.now, in_program.old.whole.given) in_program.new.whole.given) }
+    ensures more { OnOk result (HasMore in_program.old.whole.given in_program.new.whole.given) }
+    ensures marked { OnOk result (AreMarked (A.positions plan.now.asked.now) in_program.new.whole) }
+    ensures refused { IfErr result (IsScopeRefused (planned N.text A.keeps A.preserved A.occurs A.id_of plan.now) (contains nat_cmp plan.now.leaks.now) (A.surrounds plan.now.asked.now) sites.now from in_program.old.names (outer.now, in_program.old.whole.given)) }
 {
     let scope = sites[from].0;
-    let mut given = outer.next(plan.alloc);
-    let mut tried = Tried::new(plan.alloc);
+    let given = outer.next(plan.alloc);
+    let mut in_scope = ScopeNames::new(plan.alloc, given);
     let mut at = from;
     while at < sites.len() && plan.asked.surrounds(scope, sites[at].0) {
         let site = sites[at];
         if site.0 == scope {
-            name_site(plan, site, &mut given, whole, names, &mut tried)?;
+            name_site(plan, site, &mut in_scope, in_program)?;
             at += 1;
         } else {
-            at = name_scope(plan, sites, at, &given, whole, names)?;
+            at = name_scope(plan, sites, at, &in_scope.given, in_program)?;
         }
     }
     Ok(at)
@@ -98,11 +95,10 @@ pub fn names_with_leaks<N: NewTexts, A: Asked + Nesting>(
         leaks,
     };
     let outer = ReverseMap::new(alloc);
-    let mut whole = Whole::new(alloc);
-    let mut names = GivenTexts::new(alloc);
+    let mut in_program = ProgramNames::new(alloc);
     let mut at = 0;
     while at < sites.len() {
-        at = name_scope(&plan, sites, at, &outer, &mut whole, &mut names)?;
+        at = name_scope(&plan, sites, at, &outer, &mut in_program)?;
     }
-    Ok(names.into_texts())
+    Ok(in_program.names.into_texts())
 }

@@ -5,8 +5,8 @@ use Rattle.swc_base_rename_naming.proofs.in_order.give_name.Goals as goal
 
 pub returns-clause-tried : goal.returns-clause-tried
 returns-clause-tried g c =
-    tried_put (g.N.NewTexts.text c.args.plan.now.texts.now) (g.A.Asked.preserved c.args.plan.now.asked.now) (g.A.Asked.occurs c.args.plan.now.asked.now) (c.args.given.now, c.args.whole.now.given) (c.put_down.new.given, c.put_down.new.whole.given) c.search.new.tried
+    tried_put (g.N.NewTexts.text c.args.plan.now.texts.now) (g.A.Asked.preserved c.args.plan.now.asked.now) (g.A.Asked.occurs c.args.plan.now.asked.now) (c.args.in_scope.now.given, c.args.in_program.now.whole.given) (c.put_down.new.given, c.put_down.new.whole.given) c.search.new.in_scope.tried
     (contains nat_cmp c.args.plan.now.leaks.now c.args.site.0) c.in_ok-clone.field-0 c.args.site.1 (search rules) (search rules)
 
 pub returns-clause-more : goal.returns-clause-more
-returns-clause-more g c = has_more (contains nat_cmp c.args.plan.now.leaks.now c.args.site.0) c.in_ok-clone.field-0 c.args.site.1 c.args.whole.now.given c.put_down.new.whole.given (search rules)
+returns-clause-more g c = has_more (contains nat_cmp c.args.plan.now.leaks.now c.args.site.0) c.in_ok-clone.field-0 c.args.site.1 c.args.in_program.now.whole.given c.put_down.new.whole.given (search rules)

@@ -17,14 +17,14 @@ loop-at-init g t c =
     let naming : (ℕ → ℕ → Bool) → Naming = planned g.N.NewTexts.text g.A.Asked.keeps g.A.Asked.preserved g.A.Asked.occurs g.A.Asked.id_of plan in
     let n : Naming = naming (counts_with leaks surrounds) in
     let sites = c.args.sites.now in
-    let whole = c.args.whole.now.given in
+    let whole = c.args.in_program.now.whole.given in
     record {
       begun = omega arith;
       fits = omega (arith, c.requires.within);
       scope = refl;
-      half = λ choices begins. half_first n leaks surrounds sites c.args.from choices c.args.names.now c.args.outer.now c.next-given.result whole c.next-given.ensures begins;
+      half = λ choices begins. half_first n leaks surrounds sites c.args.from choices c.args.in_program.now.names c.args.outer.now c.new-in_scope.result.given whole (rw c.new-in_scope.ensures.given c.next-given.ensures) begins;
       more = no_less whole;
-      tried = tried_first (g.N.NewTexts.text plan.texts.now) (g.A.Asked.preserved plan.asked.now) (g.A.Asked.occurs plan.asked.now) (c.next-given.result, whole) c.new-tried.result c.new-tried.ensures;
+      tried = tried_first (g.N.NewTexts.text plan.texts.now) (g.A.Asked.preserved plan.asked.now) (g.A.Asked.occurs plan.asked.now) (c.new-in_scope.result.given, whole) c.new-in_scope.result.tried c.new-in_scope.ensures.tried;
       marked = c.requires.marked;
     }
 
@@ -115,7 +115,7 @@ loop-at-preserved g t c =
           half_child n leaks surrounds sites c.args.from at c.in_ok-at.at choices _ _ _ _ _ laws c.requires.order later round c.if-site-scope.false half
           (done.done (choices ++ half.more) (child_begins n leaks surrounds sites c.args.from at choices _ _ laws within round half));
       more = λ x f h. c.in_ok-at.ensures.more x f (stood.more x f h);
-      tried = tried_more_given (g.N.NewTexts.text plan.texts.now) (g.A.Asked.preserved plan.asked.now) (g.A.Asked.occurs plan.asked.now) (c.loop-at.given, c.loop-at.whole.given) (c.loop-at.given, c.name_scope.new.whole.given) c.loop-at.tried
-          (no_less c.loop-at.given) c.in_ok-at.ensures.more stood.tried;
+      tried = tried_more_given (g.N.NewTexts.text plan.texts.now) (g.A.Asked.preserved plan.asked.now) (g.A.Asked.occurs plan.asked.now) (c.loop-at.in_scope.given, c.loop-at.in_program.whole.given) (c.loop-at.in_scope.given, c.name_scope.new.in_program.whole.given) c.loop-at.in_scope.tried
+          (no_less c.loop-at.in_scope.given) c.in_ok-at.ensures.more stood.tried;
       marked = c.in_ok-at.ensures.marked;
     }

@@ -14,8 +14,8 @@ loop-at-init g c =
     let sites = c.args.sites.now in
     record {
       fits = omega arith;
-      whole = record { choices = []; stands = stands_first n c.new-names.result c.new-names.ensures.texts c.new-names.ensures.next; whole = holds_first n leaks c.new-whole.result.given c.new-whole.ensures.given; over = tt };
-      marked = c.new-whole.ensures.marked (g.A.Asked.positions c.args.asked.now);
+      whole = record { choices = []; stands = stands_first n c.new-in_program.result.names c.new-in_program.ensures.texts c.new-in_program.ensures.next; whole = holds_first n leaks c.new-in_program.result.whole.given c.new-in_program.ensures.given; over = tt };
+      marked = c.new-in_program.ensures.marked (g.A.Asked.positions c.args.asked.now);
     }
 
 pub returns-in_err-at-clause-refused : goal.returns-in_err-at-clause-refused
@@ -27,7 +27,7 @@ returns-in_err-at-clause-refused g c =
     let within : c.loop-at.at < length sites = omega arith in
     let whole = c.loop-at.invariant.whole in
     let refused = err_from_is_err_and c.from_residual.result c.from_residual.ensures.1 in
-    rw (refused.1, refused.2) (c.in_err-at.ensures.refused whole.choices (root_begins n leaks surrounds sites c.loop-at.at c.loop-at.names c.new-outer.result c.loop-at.whole.given within c.new-outer.ensures whole))
+    rw (refused.1, refused.2) (c.in_err-at.ensures.refused whole.choices (root_begins n leaks surrounds sites c.loop-at.at c.loop-at.in_program.names c.new-outer.result c.loop-at.in_program.whole.given within c.new-outer.ensures whole))
 
 pub loop-at-preserved : goal.loop-at-preserved
 loop-at-preserved g c =
@@ -42,7 +42,7 @@ loop-at-preserved g c =
     let later : c.loop-at.at ≤ c.in_ok-at.at = omega (arith, done.further) in
     record {
       fits = done.fits;
-      whole = root_done n leaks surrounds sites c.loop-at.at c.in_ok-at.at c.loop-at.names c.name_scope.new.names c.loop-at.whole.given c.name_scope.new.whole.given laws c.requires later whole
-          (done.done whole.choices (root_begins n leaks surrounds sites c.loop-at.at c.loop-at.names c.new-outer.result c.loop-at.whole.given within c.new-outer.ensures whole));
+      whole = root_done n leaks surrounds sites c.loop-at.at c.in_ok-at.at c.loop-at.in_program.names c.name_scope.new.in_program.names c.loop-at.in_program.whole.given c.name_scope.new.in_program.whole.given laws c.requires later whole
+          (done.done whole.choices (root_begins n leaks surrounds sites c.loop-at.at c.loop-at.in_program.names c.new-outer.result c.loop-at.in_program.whole.given within c.new-outer.ensures whole));
       marked = c.in_ok-at.ensures.marked;
     }

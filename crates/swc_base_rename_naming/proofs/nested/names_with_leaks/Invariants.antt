@@ -10,7 +10,7 @@ invariant-loop-at g l =
     let leaks : ℕ → Bool = contains nat_cmp l.leaks in
     let surrounds = g.A.Nesting.surrounds l.asked in
     let n : Naming = naming (g.N.NewTexts.text l.texts) l.goes_on (g.A.Asked.keeps l.asked) (g.A.Asked.preserved l.asked) (g.A.Asked.occurs l.asked) (counts_with leaks surrounds) (g.A.Asked.id_of l.asked) in
-    record { fits : l.at ≤ length l.sites; whole : Whole n leaks surrounds l.sites l.at l.names l.whole.given; marked : AreMarked (g.A.Asked.positions l.asked) l.whole }
+    record { fits : l.at ≤ length l.sites; whole : Whole n leaks surrounds l.sites l.at l.in_program.names l.in_program.whole.given; marked : AreMarked (g.A.Asked.positions l.asked) l.in_program.whole }
 
 abbrev pub decreases-loop-at : goal.decreases-loop-at
 decreases-loop-at g l = length l.sites - l.at
