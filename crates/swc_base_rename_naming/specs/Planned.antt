@@ -9,11 +9,11 @@ use Rattle.swc_base_rename_naming.specs.declared.in_order.ProgramNames.{ProgramN
 use Rattle.swc_base_rename_naming.specs.declared.in_order.ScopeNames.{ScopeNames}
 
 abbrev pub planned : {N A : Type 0} → (N → Id → ℕ → List ℕ) → (A → Id → Bool) → (A → List ℕ → Bool) → (A → ℕ → ℕ → Bool) → (A → ℕ → Option Id) → Plan N A → (ℕ → ℕ → Bool) → Naming
-planned text keeps preserved occurs id_of plan counts = naming (text plan.texts.now) plan.goes_on (keeps plan.asked.now) (preserved plan.asked.now) (occurs plan.asked.now) counts (id_of plan.asked.now)
+planned text keeps preserved occurs id_of plan counts = naming (text plan.texts.now) plan.counter_goes_on (keeps plan.asked.now) (preserved plan.asked.now) (occurs plan.asked.now) counts (id_of plan.asked.now)
 
--- the map of a scope, and that of the whole
+-- which ids have which texts: in a scope and round it, and of those that leak
 abbrev pub maps_of : ScopeNames → ProgramNames → Maps
-maps_of in_scope in_program = (in_scope.given, in_program.whole.given)
+maps_of in_scope in_program = (in_scope.holders, in_program.leaked.holders)
 
 -- what is taken at a scope
 abbrev pub taken_by : {N A : Type 0} → (A → List ℕ → Bool) → (A → ℕ → ℕ → Bool) → Plan N A → ScopeNames → ProgramNames → ℕ → Test

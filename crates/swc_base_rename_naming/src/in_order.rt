@@ -9,14 +9,14 @@ ghost use Rattle.swc_base_rename_naming.specs.InOrder.{IsRefused, NamedInOrder};
 ghost use Rattle.swc_base_rename_naming.specs.Tried.{tried_at};
 ghost use Rattle.swc_base_rename_naming.specs.Places.{AreMarked};
 ghost use Rattle.swc_base_rename_naming.specs.Planned.{AreTried, maps_of, planned, taken_by};
-ghost use Rattle.swc_base_rename_naming.specs.Steps.{HasMore, IsKept, IsNamable, IsNameGiven, IsPutDown, all_count, next_at as is_next_at, naming, rules, taken_at, text_at, IsSiteDone, IsSiteRefused};
+ghost use Rattle.swc_base_rename_naming.specs.Steps.{HasMore, IsChoiceRecorded, IsNamable, IsNameGiven, IsTextRecorded, all_count, next_at as is_next_at, naming, rules, taken_at, text_at, IsSiteDone, IsSiteRefused};
 
 use crate::asked::Asked;
 use crate::free::{Taken, free_text};
+use crate::leaked::{Leaked, any_occurs};
 use crate::new_texts::NewTexts;
 use crate::reverse_map::ReverseMap;
 use crate::tried::Tried;
-use crate::whole::{Whole, any_occurs};
 use std::alloc::Global;
 use std::collections::{BTreeMap, BTreeSet};
 use swc_tree_marks::{Id, JsWord, NoMemory, PassError};
@@ -28,7 +28,7 @@ pub struct Plan<'a, N, A> {
     pub alloc: Global,
     pub texts: &'a N,
     pub asked: &'a A,
-    pub goes_on: bool,
+    pub counter_goes_on: bool,
     pub leaks: &'a BTreeSet<usize>,
 }
 
@@ -36,14 +36,14 @@ pub struct Plan<'a, N, A> {
 /// were tried in it.
 #[derive(Drop)]
 pub struct ScopeNames<'a> {
-    pub given: ReverseMap<'a>,
+    pub holders: ReverseMap<'a>,
     pub tried: Tried,
 }
 
 /// What naming knows of the program: which ids of scopes that leak were given which texts, and the texts of all ids.
 #[derive(Drop)]
 pub struct ProgramNames {
-    pub whole: Whole,
+    pub leaked: Leaked,
     pub names: GivenTexts,
 }
 
@@ -51,19 +51,19 @@ pub struct ProgramNames {
 #[derive(Drop)]
 struct AtScope<'a, 'b, A: Asked> {
     asked: &'a A,
-    given: &'a ReverseMap<'b>,
-    whole: &'a Whole,
+    holders: &'a ReverseMap<'b>,
+    leaked: &'a Leaked,
     scope: usize,
-    ghost marked: { AreMarked (A.positions asked.now) whole.now },
+    ghost marked: { AreMarked (A.positions asked.now) leaked.now },
 }
 
 impl<A: Asked> Taken for AtScope<'_, '_, A> {
-    ghost taken = { λ at. taken_at (A.preserved at.asked.now) (A.occurs at.asked.now) (at.given.now, at.whole.now.given) at.scope };
+    ghost taken = { λ at. taken_at (A.preserved at.asked.now) (A.occurs at.asked.now) (at.holders.now, at.leaked.now.holders) at.scope };
 
     fn is_taken(&self, text: &str) -> bool {
         self.asked.is_preserved(text)
-            || any_occurs(self.asked, self.given, self.scope, text)
-            || self.whole.any_occurs(self.asked, self.scope, text)
+            || any_occurs(self.asked, self.holders, self.scope, text)
+            || self.leaked.any_occurs(self.asked, self.scope, text)
     }
 }
 
@@ -97,12 +97,12 @@ impl GivenTexts {
 
 impl<'a> ScopeNames<'a> {
     /// A scope with a map of its own, in which no counter was tried.
-    pub fn new(alloc: Global, given: ReverseMap<'a>) -> ScopeNames<'a>
-        ensures given { result.given ≡ given }
+    pub fn new(alloc: Global, holders: ReverseMap<'a>) -> ScopeNames<'a>
+        ensures holders { result.holders ≡ holders }
         ensures tried { (s : ℕ) (x : List ℕ) → tried_at result.tried s x ≡ 0 }
     {
         ScopeNames {
-            given,
+            holders,
             tried: Tried::new(alloc),
         }
     }
@@ -111,13 +111,13 @@ impl<'a> ScopeNames<'a> {
 impl ProgramNames {
     /// No id has a text.
     pub fn new(alloc: Global) -> ProgramNames
-        ensures given { (x : List ℕ) → ids_of result.whole.given x ≡ [] }
-        ensures marked { (positions : ℕ → List ℕ) → AreMarked positions result.whole }
+        ensures holders { (x : List ℕ) → ids_of result.leaked.holders x ≡ [] }
+        ensures marked { (positions : ℕ → List ℕ) → AreMarked positions result.leaked }
         ensures texts { (x : ℕ) → text_at result.names.texts x ≡ None }
         ensures next { result.names.next ≡ 0 }
     {
         ProgramNames {
-            whole: Whole::new(alloc),
+            leaked: Leaked::new(alloc),
             names: GivenTexts::new(alloc),
         }
     }
@@ -139,10 +139,10 @@ fn namable<'a, A: Asked>(
 }
 
 // The counter from which an id of a scope starts.
-fn next_at(goes_on: bool, names: &GivenTexts, scope: usize) -> usize
-    ensures { result ≡ is_next_at goes_on names.now scope }
+fn next_at(counter_goes_on: bool, names: &GivenTexts, scope: usize) -> usize
+    ensures { result ≡ is_next_at counter_goes_on names.now scope }
 {
-    if goes_on && names.scope == scope {
+    if counter_goes_on && names.scope == scope {
         names.next
     } else {
         0
@@ -158,47 +158,47 @@ fn free_at<N: NewTexts, A: Asked>(
     in_program: &ProgramNames,
     next: &mut usize,
 ) -> Result<JsWord, PassError>
-    requires { AreMarked (A.positions plan.now.asked.now) in_program.now.whole }
+    requires { AreMarked (A.positions plan.now.asked.now) in_program.now.leaked }
     ensures found { IfOk result (FindsFree (N.text plan.now.texts.now id.now) (taken_by A.preserved A.occurs plan.now in_scope.now in_program.now scope) next.old next.new) }
     ensures refused { IfErr result (IsSearchRefusal (N.text plan.now.texts.now id.now) (taken_by A.preserved A.occurs plan.now in_scope.now in_program.now scope) next.old) }
 {
     let taken = AtScope {
         asked: plan.asked,
-        given: &in_scope.given,
-        whole: &in_program.whole,
+        holders: &in_scope.holders,
+        leaked: &in_program.leaked,
         scope,
     };
     free_text(plan.alloc, plan.texts, id, &taken, next)
 }
 
-// Puts down that the id of a site has got a text: in the map of the whole if its scope leaks, else in that of its scope.
-fn put_down<N: NewTexts, A: Asked>(
+// Records that the id of a site has got a text: among those that leak if its scope does, else among those of its scope.
+fn record_text<N: NewTexts, A: Asked>(
     plan: &Plan<'_, N, A>,
     text: JsWord,
     site: (usize, usize),
-    given: &mut ReverseMap<'_>,
-    whole: &mut Whole,
+    holders: &mut ReverseMap<'_>,
+    leaked: &mut Leaked,
 ) -> Result<(), NoMemory>
-    requires { AreMarked (A.positions plan.now.asked.now) whole.old }
-    ensures put { OnOk result (IsPutDown (contains nat_cmp plan.now.leaks.now site.0) text site.1 (given.old, whole.old.given) (given.new, whole.new.given)) }
-    ensures marked { OnOk result (AreMarked (A.positions plan.now.asked.now) whole.new) }
+    requires { AreMarked (A.positions plan.now.asked.now) leaked.old }
+    ensures recorded { OnOk result (IsTextRecorded (contains nat_cmp plan.now.leaks.now site.0) text site.1 (holders.old, leaked.old.holders) (holders.new, leaked.new.holders)) }
+    ensures marked { OnOk result (AreMarked (A.positions plan.now.asked.now) leaked.new) }
 {
     let leaks = plan.leaks.contains(&site.0);
     if leaks {
-        whole.push(plan.alloc, plan.asked, text, site.1)
+        leaked.push(plan.alloc, plan.asked, text, site.1)
     } else {
-        given.push_entry(text, site.1)
+        holders.push_entry(text, site.1)
     }
 }
 
-// Keeps a text as that of the id of a site, with the counter after it.
-fn keep(
+// Records the choice of a text for the id of a site, and the counter after it.
+fn record_choice(
     text: JsWord,
     site: (usize, usize),
     next: usize,
     names: &mut GivenTexts,
 ) -> Result<(), NoMemory>
-    ensures { OnOk result (IsKept text site next names.old names.new) }
+    ensures { OnOk result (IsChoiceRecorded text site next names.old names.new) }
 {
     names.texts.insert(site.1, text)?;
     names.scope = site.0;
@@ -220,13 +220,13 @@ fn search<N: NewTexts, A: Asked>(
     in_program: &ProgramNames,
 ) -> Result<(JsWord, usize), PassError>
     requires tried { AreTried N.text A.preserved A.occurs plan.now in_scope.old in_program.now }
-    requires marked { AreMarked (A.positions plan.now.asked.now) in_program.now.whole }
-    ensures found { IfOk result (λ found. FindsFree (N.text plan.now.texts.now id.now) (taken_by A.preserved A.occurs plan.now in_scope.old in_program.now scope) (is_next_at plan.now.goes_on in_program.now.names scope) found.1 found.0) }
-    ensures given { in_scope.new.given ≡ in_scope.old.given }
+    requires marked { AreMarked (A.positions plan.now.asked.now) in_program.now.leaked }
+    ensures found { IfOk result (λ found. FindsFree (N.text plan.now.texts.now id.now) (taken_by A.preserved A.occurs plan.now in_scope.old in_program.now scope) (is_next_at plan.now.counter_goes_on in_program.now.names scope) found.1 found.0) }
+    ensures holders { in_scope.new.holders ≡ in_scope.old.holders }
     ensures tried { OnOk result (AreTried N.text A.preserved A.occurs plan.now in_scope.new in_program.now) }
-    ensures refused { IfErr result (IsSearchRefusal (N.text plan.now.texts.now id.now) (taken_by A.preserved A.occurs plan.now in_scope.old in_program.now scope) (is_next_at plan.now.goes_on in_program.now.names scope)) }
+    ensures refused { IfErr result (IsSearchRefusal (N.text plan.now.texts.now id.now) (taken_by A.preserved A.occurs plan.now in_scope.old in_program.now scope) (is_next_at plan.now.counter_goes_on in_program.now.names scope)) }
 {
-    let start = next_at(plan.goes_on, &in_program.names, scope);
+    let start = next_at(plan.counter_goes_on, &in_program.names, scope);
     let mut next = start.max(in_scope.tried.counter(scope, id.0.as_str()));
     let text = free_at(plan, id, scope, in_scope, in_program, &mut next)?;
     if start > 0 || next <= SEARCHED_ANEW || !plan.texts.are_alike() {
@@ -247,22 +247,22 @@ fn give_name<N: NewTexts, A: Asked>(
     in_program: &mut ProgramNames,
 ) -> Result<(), PassError>
     requires tried { AreTried N.text A.preserved A.occurs plan.now in_scope.old in_program.old }
-    requires marked { AreMarked (A.positions plan.now.asked.now) in_program.old.whole }
+    requires marked { AreMarked (A.positions plan.now.asked.now) in_program.old.leaked }
     ensures tried { OnOk result (AreTried N.text A.preserved A.occurs plan.now in_scope.new in_program.new) }
-    ensures more { OnOk result (HasMore in_program.old.whole.given in_program.new.whole.given) }
-    ensures marked { OnOk result (AreMarked (A.positions plan.now.asked.now) in_program.new.whole) }
-    ensures named { OnOk result (IsNameGiven (N.text plan.now.texts.now id.now) (taken_by A.preserved A.occurs plan.now in_scope.old in_program.old site.0) (is_next_at plan.now.goes_on in_program.old.names site.0) (contains nat_cmp plan.now.leaks.now site.0) site in_program.old.names in_program.new.names (maps_of in_scope.old in_program.old) (maps_of in_scope.new in_program.new)) }
-    ensures refused { IfErr result (IsSearchRefusal (N.text plan.now.texts.now id.now) (taken_by A.preserved A.occurs plan.now in_scope.old in_program.old site.0) (is_next_at plan.now.goes_on in_program.old.names site.0)) }
+    ensures more { OnOk result (HasMore in_program.old.leaked.holders in_program.new.leaked.holders) }
+    ensures marked { OnOk result (AreMarked (A.positions plan.now.asked.now) in_program.new.leaked) }
+    ensures named { OnOk result (IsNameGiven (N.text plan.now.texts.now id.now) (taken_by A.preserved A.occurs plan.now in_scope.old in_program.old site.0) (is_next_at plan.now.counter_goes_on in_program.old.names site.0) (contains nat_cmp plan.now.leaks.now site.0) site in_program.old.names in_program.new.names (maps_of in_scope.old in_program.old) (maps_of in_scope.new in_program.new)) }
+    ensures refused { IfErr result (IsSearchRefusal (N.text plan.now.texts.now id.now) (taken_by A.preserved A.occurs plan.now in_scope.old in_program.old site.0) (is_next_at plan.now.counter_goes_on in_program.old.names site.0)) }
 {
     let (text, next) = search(plan, id, site.0, in_scope, in_program)?;
-    put_down(
+    record_text(
         plan,
         text.clone()?,
         site,
-        &mut in_scope.given,
-        &mut in_program.whole,
+        &mut in_scope.holders,
+        &mut in_program.leaked,
     )?;
-    keep(text, site, next, &mut in_program.names)?;
+    record_choice(text, site, next, &mut in_program.names)?;
     Ok(())
 }
 
@@ -274,10 +274,10 @@ pub fn name_site<N: NewTexts, A: Asked>(
     in_program: &mut ProgramNames,
 ) -> Result<(), PassError>
     requires tried { AreTried N.text A.preserved A.occurs plan.now in_scope.old in_program.old }
-    requires marked { AreMarked (A.positions plan.now.asked.now) in_program.old.whole }
+    requires marked { AreMarked (A.positions plan.now.asked.now) in_program.old.leaked }
     ensures tried { OnOk result (AreTried N.text A.preserved A.occurs plan.now in_scope.new in_program.new) }
-    ensures more { OnOk result (HasMore in_program.old.whole.given in_program.new.whole.given) }
-    ensures marked { OnOk result (AreMarked (A.positions plan.now.asked.now) in_program.new.whole) }
+    ensures more { OnOk result (HasMore in_program.old.leaked.holders in_program.new.leaked.holders) }
+    ensures marked { OnOk result (AreMarked (A.positions plan.now.asked.now) in_program.new.leaked) }
     ensures named { OnOk result ((counts : ℕ → ℕ → Bool) → IsSiteDone (planned N.text A.keeps A.preserved A.occurs A.id_of plan.now counts) (contains nat_cmp plan.now.leaks.now site.0) site in_program.old.names in_program.new.names (maps_of in_scope.old in_program.old) (maps_of in_scope.new in_program.new)) }
     ensures refused { IfErr result (λ e. (counts : ℕ → ℕ → Bool) → IsSiteRefused (planned N.text A.keeps A.preserved A.occurs A.id_of plan.now counts) site in_program.old.names (maps_of in_scope.old in_program.old) e) }
 {
@@ -291,7 +291,7 @@ pub fn name_site<N: NewTexts, A: Asked>(
 /// its id.
 ///
 /// The ids get them in the order of the sites: each the first that is free, at the first site that declares it. An id that keeps
-/// its text gets none. `goes_on` says whether the counter goes on from id to id within a scope, or starts at 0 for each.
+/// its text gets none. `counter_goes_on` says whether the counter goes on from id to id within a scope, or starts at 0 for each.
 ///
 /// This is the plain form, in which every name counts everywhere. No pass calls it: a row of the gate holds `names_by_scope` and
 /// `names_with_leaks`, by which programs are named, against it. Where every scope leaks, `names_with_leaks` promises the same.
@@ -303,22 +303,22 @@ pub fn names_in_order<N: NewTexts, A: Asked>(
     alloc: Global,
     texts: &N,
     asked: &A,
-    goes_on: bool,
+    counter_goes_on: bool,
     sites: &[(usize, usize)],
 ) -> Result<BTreeMap<usize, JsWord>, PassError>
-    ensures named { IfOk result (λ found. NamedInOrder (rules (naming (N.text texts.now) goes_on (A.keeps asked.now) (A.preserved asked.now) (A.occurs asked.now) all_count (A.id_of asked.now))) sites.now (text_at found)) }
-    ensures refused { IfErr result (IsRefused (rules (naming (N.text texts.now) goes_on (A.keeps asked.now) (A.preserved asked.now) (A.occurs asked.now) all_count (A.id_of asked.now))) sites.now) }
+    ensures named { IfOk result (λ found. NamedInOrder (rules (naming (N.text texts.now) counter_goes_on (A.keeps asked.now) (A.preserved asked.now) (A.occurs asked.now) all_count (A.id_of asked.now))) sites.now (text_at found)) }
+    ensures refused { IfErr result (IsRefused (rules (naming (N.text texts.now) counter_goes_on (A.keeps asked.now) (A.preserved asked.now) (A.occurs asked.now) all_count (A.id_of asked.now))) sites.now) }
 {
     let leaks = BTreeSet::new(alloc);
     let plan = Plan {
         alloc,
         texts,
         asked,
-        goes_on,
+        counter_goes_on,
         leaks: &leaks,
     };
-    let given = ReverseMap::new(alloc);
-    let mut in_scope = ScopeNames::new(alloc, given);
+    let holders = ReverseMap::new(alloc);
+    let mut in_scope = ScopeNames::new(alloc, holders);
     let mut in_program = ProgramNames::new(alloc);
     for site in sites {
         name_site(&plan, *site, &mut in_scope, &mut in_program)?;

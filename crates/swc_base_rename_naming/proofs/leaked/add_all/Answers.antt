@@ -3,7 +3,7 @@ use Rattle.std.specs.BTreeSet.{contains}
 use Rattle.std.specs.List.{list_any}
 use Rattle.std.proofs.lemmas.List.Folds.{list_any_more}
 use Rattle.swc_base_rename_naming.proofs.Marks.{one_more, or_grouped}
-use Rattle.swc_base_rename_naming.proofs.whole.add_all.Goals as goal
+use Rattle.swc_base_rename_naming.proofs.leaked.add_all.Goals as goal
 
 pub loop-position-preserved : goal.loop-position-preserved
 loop-position-preserved c = λ p.
