@@ -1,5 +1,5 @@
 -- Texts that were tried in a scope stay taken there.
-use Rattle.std.proofs.Common.{◌≡◌, ℕ, ◌<◌, ◌≤◌, ◌==◌, max, nat_lt, eqb-true, Bool, true, false, not, ◌&&◌, cond, Some, Global, String, string_bytes, ◌||◌, ◌∷◌, List, [], ◌++◌, refl, sym, subst, ap, ◌∙◌, arith}
+use Rattle.std.proofs.Common.{◌≡◌, ℕ, ◌<◌, ◌≤◌, ◌==◌, max, nat_lt, eqb-true, Bool, true, false, not, ◌&&◌, cond, Some, Global, String, string_bytes, ◌||◌, List, refl, sym, subst, ap, ◌∙◌, arith}
 use Rattle.std.specs.Prelude.{if◌then◌else◌, unwrap_or}
 use Rattle.std.specs.BTreeMap as tree
 use Rattle.std.specs.BTreeMap.{BTreeMap, get_by_text}

@@ -15,7 +15,7 @@ use Rattle.swc_base_rename_naming.specs.Chained.{IsPushed, ids_of, outer_ids, ow
 use Rattle.swc_base_rename_naming.specs.Counters.{greatest}
 use Rattle.swc_base_rename_naming.specs.Free.{AllTaken, IsLeastFree, IsSearchRefusal, Test, Texts}
 use Rattle.swc_base_rename_naming.specs.InOrder.{Choice, IsRefused, Rules, Site, chosen_text, is_taken, name_in, past, start}
-use Rattle.swc_base_rename_naming.specs.Steps.{AreHeld, HasAlso, Holds, IsDone, IsNameGiven, IsTextRecorded, Maps, Naming, Stands, any_holder, id_or, is_held, keeps_text, next_at, rules, stays, taken_at, text_at}
+use Rattle.swc_base_rename_naming.specs.Steps.{AreHeld, HasAlso, Holds, IsDone, IsNameGiven, IsTextRecorded, Maps, Naming, Stands, id_or, is_held, keeps_text, next_at, rules, stays, taken_at, text_at}
 use Rattle.swc_base_rename_naming.specs.declared.reverse_map.ReverseMap.{ReverseMap}
 use Rattle.swc_base_rename_naming.specs.declared.in_order.GivenTexts.{GivenTexts}
 use Rattle.swc_base_rename_naming.proofs.Choices.{is_next, is_passed, last-append, no_room, one_chosen, one_name, one_passed}

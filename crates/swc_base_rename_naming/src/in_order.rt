@@ -98,7 +98,7 @@ impl GivenTexts {
 impl<'a> ScopeNames<'a> {
     /// A scope with a map of its own, in which no counter was tried.
     pub fn new(alloc: Global, holders: ReverseMap<'a>) -> ScopeNames<'a>
-        ensures holders { result.holders ≡ holders }
+        ensures holders { result.holders ≡ holders.entry }
         ensures tried { (s : ℕ) (x : List ℕ) → tried_at result.tried s x ≡ 0 }
     {
         ScopeNames {

@@ -1,5 +1,6 @@
-use Rattle.std.proofs.Common.{[], ◌++◌, ◌+◌, ◌<◌, ◌≡◌, not, false, true, drop, get_or, length, nat_cmp, ap, arith, refl, sym}
+use Rattle.std.proofs.Common.{[], ◌++◌, ◌+◌, ◌<◌, ◌≤◌, ◌≡◌, not, false, true, drop, get_or, length, nat_cmp, ap, arith, refl, sym}
 use Rattle.std.specs.BTreeSet.{contains}
+use Rattle.std.proofs.lemmas.List.{take_all}
 use Rattle.std.proofs.lemmas.Result.{err_from_is_err_and}
 use Rattle.swc_base_rename_naming.specs.Steps.{Naming, all_count, naming}
 use Rattle.swc_base_rename_naming.proofs.GoesOn.{tried_first}
@@ -38,4 +39,16 @@ loop-site-preserved g c =
       stood = rw next (choices ++ done.more, done.stands, done.holders (λ u. true) (ap not (sym none)) holders, done.leaked (λ u. false) (sym none) leaked);
       tried = c.in_ok-name_site.ensures.tried;
       marked = c.in_ok-name_site.ensures.marked;
+    }
+
+pub returns-clause-named : goal.returns-clause-named
+returns-clause-named g c =
+    let n : Naming = naming (g.N.NewTexts.text c.args.texts.now) c.args.counter_goes_on (g.A.Asked.keeps c.args.asked.now) (g.A.Asked.preserved c.args.asked.now) (g.A.Asked.occurs c.args.asked.now) all_count (g.A.Asked.id_of c.args.asked.now) in
+    let ended : length c.args.sites.now ≤ c.loop-site.site-index = omega arith in
+    let all = take_all c.loop-site.site-index c.args.sites.now ended in
+    let (choices, stands, held, leaked) = c.loop-site.invariant.stood in
+    record {
+      choices = choices;
+      chosen = rw all at stands.chosen;
+      names = rw c.into_texts.ensures stands.texts;
     }

@@ -1,4 +1,4 @@
-use Rattle.std.proofs.Common.{rules, ◌≡◌, ◌||◌, ◌==◌, ℕ, cond, Some, string_bytes, nat_cmp, subst, ap, sym, ◌∙◌}
+use Rattle.std.proofs.Common.{rules, ◌≡◌, ◌||◌, ◌==◌, ℕ, cond, Some, string_bytes, nat_cmp, subst, ap, ◌∙◌}
 use Rattle.std.specs.BTreeMap.{get_by_text}
 use Rattle.std.specs.BTreeSet.{contains}
 use Rattle.std.specs.List.{list_any}
