@@ -7,6 +7,7 @@ pub mod Chained
 pub mod Stretches
 pub mod Places
 pub mod InOrder
+pub mod Sites
 pub mod Steps
 pub mod Inside
 pub mod ByIds

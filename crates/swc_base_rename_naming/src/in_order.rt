@@ -8,6 +8,7 @@ ghost use Rattle.swc_base_rename_naming.specs.Free.{FindsFree, IsSearchRefusal};
 ghost use Rattle.swc_base_rename_naming.specs.InOrder.{IsRefused, NamedInOrder};
 ghost use Rattle.swc_base_rename_naming.specs.Tried.{tried_at};
 ghost use Rattle.swc_base_rename_naming.specs.Places.{AreMarked};
+ghost use Rattle.swc_base_rename_naming.specs.Sites.{pair_of};
 ghost use Rattle.swc_base_rename_naming.specs.Planned.{AreTried, maps_of, planned, taken_by};
 ghost use Rattle.swc_base_rename_naming.specs.Steps.{HasMore, IsChoiceRecorded, IsNamable, IsNameGiven, IsTextRecorded, all_count, next_at as is_next_at, naming, rules, taken_at, text_at, IsSiteDone, IsSiteRefused};
 
@@ -16,6 +17,7 @@ use crate::free::{Taken, free_text};
 use crate::leaked::{Leaked, any_occurs};
 use crate::new_texts::NewTexts;
 use crate::reverse_map::ReverseMap;
+use crate::site::Site;
 use crate::tried::Tried;
 use std::alloc::Global;
 use std::collections::{BTreeMap, BTreeSet};
@@ -175,33 +177,33 @@ fn free_at<N: NewTexts, A: Asked>(
 fn record_text<N: NewTexts, A: Asked>(
     plan: &Plan<'_, N, A>,
     text: JsWord,
-    site: (usize, usize),
+    site: Site,
     holders: &mut ReverseMap<'_>,
     leaked: &mut Leaked,
 ) -> Result<(), NoMemory>
     requires { AreMarked (A.positions plan.now.asked.now) leaked.old }
-    ensures recorded { OnOk result (IsTextRecorded (contains nat_cmp plan.now.leaks.now site.0) text site.1 (holders.old, leaked.old.holders) (holders.new, leaked.new.holders)) }
+    ensures recorded { OnOk result (IsTextRecorded (contains nat_cmp plan.now.leaks.now site.scope) text site.id (holders.old, leaked.old.holders) (holders.new, leaked.new.holders)) }
     ensures marked { OnOk result (AreMarked (A.positions plan.now.asked.now) leaked.new) }
 {
-    let leaks = plan.leaks.contains(&site.0);
+    let leaks = plan.leaks.contains(&site.scope);
     if leaks {
-        leaked.push(plan.alloc, plan.asked, text, site.1)
+        leaked.push(plan.alloc, plan.asked, text, site.id)
     } else {
-        holders.push_entry(text, site.1)
+        holders.push_entry(text, site.id)
     }
 }
 
 // Records the choice of a text for the id of a site, and the counter after it.
 fn record_choice(
     text: JsWord,
-    site: (usize, usize),
+    site: Site,
     next: usize,
     names: &mut GivenTexts,
 ) -> Result<(), NoMemory>
-    ensures { OnOk result (IsChoiceRecorded text site next names.old names.new) }
+    ensures { OnOk result (IsChoiceRecorded text (pair_of site) next names.old names.new) }
 {
-    names.texts.insert(site.1, text)?;
-    names.scope = site.0;
+    names.texts.insert(site.id, text)?;
+    names.scope = site.scope;
     names.next = next;
     Ok(())
 }
@@ -242,7 +244,7 @@ fn search<N: NewTexts, A: Asked>(
 fn give_name<N: NewTexts, A: Asked>(
     plan: &Plan<'_, N, A>,
     id: &Id,
-    site: (usize, usize),
+    site: Site,
     in_scope: &mut ScopeNames<'_>,
     in_program: &mut ProgramNames,
 ) -> Result<(), PassError>
@@ -251,10 +253,10 @@ fn give_name<N: NewTexts, A: Asked>(
     ensures tried { OnOk result (AreTried N.text A.preserved A.occurs plan.now in_scope.new in_program.new) }
     ensures more { OnOk result (HasMore in_program.old.leaked.holders in_program.new.leaked.holders) }
     ensures marked { OnOk result (AreMarked (A.positions plan.now.asked.now) in_program.new.leaked) }
-    ensures named { OnOk result (IsNameGiven (N.text plan.now.texts.now id.now) (taken_by A.preserved A.occurs plan.now in_scope.old in_program.old site.0) (is_next_at plan.now.counter_goes_on in_program.old.names site.0) (contains nat_cmp plan.now.leaks.now site.0) site in_program.old.names in_program.new.names (maps_of in_scope.old in_program.old) (maps_of in_scope.new in_program.new)) }
-    ensures refused { IfErr result (IsSearchRefusal (N.text plan.now.texts.now id.now) (taken_by A.preserved A.occurs plan.now in_scope.old in_program.old site.0) (is_next_at plan.now.counter_goes_on in_program.old.names site.0)) }
+    ensures named { OnOk result (IsNameGiven (N.text plan.now.texts.now id.now) (taken_by A.preserved A.occurs plan.now in_scope.old in_program.old site.scope) (is_next_at plan.now.counter_goes_on in_program.old.names site.scope) (contains nat_cmp plan.now.leaks.now site.scope) (pair_of site) in_program.old.names in_program.new.names (maps_of in_scope.old in_program.old) (maps_of in_scope.new in_program.new)) }
+    ensures refused { IfErr result (IsSearchRefusal (N.text plan.now.texts.now id.now) (taken_by A.preserved A.occurs plan.now in_scope.old in_program.old site.scope) (is_next_at plan.now.counter_goes_on in_program.old.names site.scope)) }
 {
-    let (text, next) = search(plan, id, site.0, in_scope, in_program)?;
+    let (text, next) = search(plan, id, site.scope, in_scope, in_program)?;
     record_text(
         plan,
         text.clone()?,
@@ -269,7 +271,7 @@ fn give_name<N: NewTexts, A: Asked>(
 /// Gives the id of a site its name, if it is to get one.
 pub fn name_site<N: NewTexts, A: Asked>(
     plan: &Plan<'_, N, A>,
-    site: (usize, usize),
+    site: Site,
     in_scope: &mut ScopeNames<'_>,
     in_program: &mut ProgramNames,
 ) -> Result<(), PassError>
@@ -278,10 +280,10 @@ pub fn name_site<N: NewTexts, A: Asked>(
     ensures tried { OnOk result (AreTried N.text A.preserved A.occurs plan.now in_scope.new in_program.new) }
     ensures more { OnOk result (HasMore in_program.old.leaked.holders in_program.new.leaked.holders) }
     ensures marked { OnOk result (AreMarked (A.positions plan.now.asked.now) in_program.new.leaked) }
-    ensures named { OnOk result ((counts : ℕ → ℕ → Bool) → IsSiteDone (planned N.text A.keeps A.preserved A.occurs A.id_of plan.now counts) (contains nat_cmp plan.now.leaks.now site.0) site in_program.old.names in_program.new.names (maps_of in_scope.old in_program.old) (maps_of in_scope.new in_program.new)) }
-    ensures refused { IfErr result (λ e. (counts : ℕ → ℕ → Bool) → IsSiteRefused (planned N.text A.keeps A.preserved A.occurs A.id_of plan.now counts) site in_program.old.names (maps_of in_scope.old in_program.old) e) }
+    ensures named { OnOk result ((counts : ℕ → ℕ → Bool) → IsSiteDone (planned N.text A.keeps A.preserved A.occurs A.id_of plan.now counts) (contains nat_cmp plan.now.leaks.now site.scope) (pair_of site) in_program.old.names in_program.new.names (maps_of in_scope.old in_program.old) (maps_of in_scope.new in_program.new)) }
+    ensures refused { IfErr result (λ e. (counts : ℕ → ℕ → Bool) → IsSiteRefused (planned N.text A.keeps A.preserved A.occurs A.id_of plan.now counts) (pair_of site) in_program.old.names (maps_of in_scope.old in_program.old) e) }
 {
-    match namable(plan.asked, &in_program.names.texts, site.1) {
+    match namable(plan.asked, &in_program.names.texts, site.id) {
         Some(id) => give_name(plan, id, site, in_scope, in_program),
         None => Ok(()),
     }
@@ -321,7 +323,9 @@ pub fn names_in_order<N: NewTexts, A: Asked>(
     let mut in_scope = ScopeNames::new(alloc, holders);
     let mut in_program = ProgramNames::new(alloc);
     for site in sites {
-        name_site(&plan, *site, &mut in_scope, &mut in_program)?;
+        let (scope, id) = *site;
+        let site = Site { scope, id };
+        name_site(&plan, site, &mut in_scope, &mut in_program)?;
     }
     Ok(in_program.names.into_texts())
 }

@@ -14,6 +14,7 @@ mod leaked;
 mod nested;
 mod new_texts;
 mod reverse_map;
+mod site;
 mod texts;
 mod tried;
 

@@ -12,6 +12,7 @@ use crate::asked::{Asked, Nesting};
 use crate::in_order::{Plan, ProgramNames, ScopeNames, name_site};
 use crate::new_texts::NewTexts;
 use crate::reverse_map::ReverseMap;
+use crate::site::Site;
 use std::alloc::Global;
 use std::collections::{BTreeMap, BTreeSet};
 use swc_tree_marks::{JsWord, PassError};
@@ -32,13 +33,14 @@ fn name_scope<N: NewTexts, A: Asked + Nesting>(
     ensures marked { OnOk result (AreMarked (A.positions plan.now.asked.now) in_program.new.leaked) }
     ensures refused { IfErr result (IsScopeRefused (planned N.text A.keeps A.preserved A.occurs A.id_of plan.now) (contains nat_cmp plan.now.leaks.now) (A.surrounds plan.now.asked.now) sites.now from in_program.old.names (outer.now, in_program.old.leaked.holders)) }
 {
-    let scope = sites[from].0;
+    let (scope, _) = sites[from];
     let holders = outer.next(plan.alloc);
     let mut in_scope = ScopeNames::new(plan.alloc, holders);
     let mut at = from;
     while at < sites.len() && plan.asked.surrounds(scope, sites[at].0) {
-        let site = sites[at];
-        if site.0 == scope {
+        let (of, id) = sites[at];
+        let site = Site { scope: of, id };
+        if site.scope == scope {
             name_site(plan, site, &mut in_scope, in_program)?;
             at += 1;
         } else {
