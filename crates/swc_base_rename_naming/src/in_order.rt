@@ -9,8 +9,8 @@ ghost use Rattle.swc_base_rename_naming.specs.InOrder.{IsRefused, NamedInOrder};
 ghost use Rattle.swc_base_rename_naming.specs.Tried.{tried_at};
 ghost use Rattle.swc_base_rename_naming.specs.Places.{AreMarked};
 ghost use Rattle.swc_base_rename_naming.specs.Sites.{pair_of};
-ghost use Rattle.swc_base_rename_naming.specs.Planned.{AreTried, maps_of, planned, taken_by};
-ghost use Rattle.swc_base_rename_naming.specs.Steps.{HasMore, IsChoiceRecorded, IsNamable, IsNameGiven, IsTextRecorded, all_count, next_at as is_next_at, naming, rules, taken_at, text_at, IsSiteDone, IsSiteRefused};
+ghost use Rattle.swc_base_rename_naming.specs.Planned.{AreTried, IsNameGivenBy, IsSiteDoneBy, maps_of, planned, taken_by};
+ghost use Rattle.swc_base_rename_naming.specs.Steps.{HasMore, IsChoiceRecorded, IsNamable, IsTextRecorded, all_count, next_at as is_next_at, naming, rules, taken_at, text_at, IsSiteRefused};
 
 use crate::asked::Asked;
 use crate::free::{Taken, free_text};
@@ -253,7 +253,7 @@ fn give_name<N: NewTexts, A: Asked>(
     ensures tried { OnOk result (AreTried N.text A.preserved A.occurs plan.now in_scope.new in_program.new) }
     ensures more { OnOk result (HasMore in_program.old.leaked.holders in_program.new.leaked.holders) }
     ensures marked { OnOk result (AreMarked (A.positions plan.now.asked.now) in_program.new.leaked) }
-    ensures named { OnOk result (IsNameGiven (N.text plan.now.texts.now id.now) (taken_by A.preserved A.occurs plan.now in_scope.old in_program.old site.scope) (is_next_at plan.now.counter_goes_on in_program.old.names site.scope) (contains nat_cmp plan.now.leaks.now site.scope) (pair_of site) in_program.old.names in_program.new.names (maps_of in_scope.old in_program.old) (maps_of in_scope.new in_program.new)) }
+    ensures named { OnOk result (IsNameGivenBy N.text A.preserved A.occurs plan.now id.now site in_scope.old in_scope.new in_program.old in_program.new) }
     ensures refused { IfErr result (IsSearchRefusal (N.text plan.now.texts.now id.now) (taken_by A.preserved A.occurs plan.now in_scope.old in_program.old site.scope) (is_next_at plan.now.counter_goes_on in_program.old.names site.scope)) }
 {
     let (text, next) = search(plan, id, site.scope, in_scope, in_program)?;
@@ -280,7 +280,7 @@ pub fn name_site<N: NewTexts, A: Asked>(
     ensures tried { OnOk result (AreTried N.text A.preserved A.occurs plan.now in_scope.new in_program.new) }
     ensures more { OnOk result (HasMore in_program.old.leaked.holders in_program.new.leaked.holders) }
     ensures marked { OnOk result (AreMarked (A.positions plan.now.asked.now) in_program.new.leaked) }
-    ensures named { OnOk result ((counts : ℕ → ℕ → Bool) → IsSiteDone (planned N.text A.keeps A.preserved A.occurs A.id_of plan.now counts) (contains nat_cmp plan.now.leaks.now site.scope) (pair_of site) in_program.old.names in_program.new.names (maps_of in_scope.old in_program.old) (maps_of in_scope.new in_program.new)) }
+    ensures named { OnOk result ((counts : ℕ → ℕ → Bool) → IsSiteDoneBy (planned N.text A.keeps A.preserved A.occurs A.id_of plan.now counts) plan.now site in_scope.old in_scope.new in_program.old in_program.new) }
     ensures refused { IfErr result (λ e. (counts : ℕ → ℕ → Bool) → IsSiteRefused (planned N.text A.keeps A.preserved A.occurs A.id_of plan.now counts) (pair_of site) in_program.old.names (maps_of in_scope.old in_program.old) e) }
 {
     match namable(plan.asked, &in_program.names.texts, site.id) {
