@@ -1,5 +1,5 @@
 -- The walk that tells where a reader of names stands: from child to child, and from the children of a node to the node.
-use Rattle.std.proofs.Common.{◌≡◌, ◌↔◌, ℕ, zero, suc, ◌+◌, ◌<◌, ◌≤◌, Bool, true, false, not, ◌||◌, IsTrue, ◌⊎◌, inl, inr, Some, List, [], ◌∷◌, length, refl, sym, ap, ◌∙◌, subst, arith}
+use Rattle.std.proofs.Common.{◌≡◌, ◌↔◌, ℕ, zero, suc, ◌+◌, ◌<◌, ◌≤◌, Bool, true, false, not, ◌||◌, IsTrue, ◌⊎◌, inl, inr, Some, Result, Ok, Err, IfErr, List, [], ◌∷◌, length, refl, sym, ap, ◌∙◌, subst, arith}
 use Rattle.std.specs.List.{slice_get, slice_set}
 use Rattle.std.proofs.lemmas.Option.{slice_get_within}
 use Rattle.swc_tree_marks.specs.declared.error.PassError.{PassError}
@@ -15,7 +15,7 @@ use Rattle.swc_base_rename_units.specs.Walk.{AreFreeTo, AreNamedTo, AreWalked, E
 use Rattle.swc_base_rename_units.proofs.Fitting.{list_fits_as, tree_fits_as}
 use Rattle.swc_base_rename_units.proofs.Lifted.{list_named, list_refused, tree_named, tree_refused}
 use Rattle.swc_base_rename_units.proofs.Readers.{at_leaf, reads_in, reads_out, some_same}
-use Rattle.swc_base_rename_units.proofs.Steps.{DoneTo, SameFrom, each_named, named_below, one_done, parted, put_elsewhere, put_here, put_length}
+use Rattle.swc_base_rename_units.proofs.Steps.{DoneTo, SameFrom, each_named, named_below, one_done, parted, put_elsewhere, put_here, put_length, whole_refused}
 
 not_true : (b : Bool) → (IsTrue b → ⊥) → b ≡ false
 not_true true n = absurd (n refl)
@@ -248,6 +248,23 @@ free_tree_named becomes is_unit t k ts us len is none all h =
 
 -- ---- the next child
 
+pub either_first : (a b x : Bool) → a ≡ true → x ≡ true → x ≡ (a || b)
+either_first true b x h e = e
+either_first false b x h e = absurd (cc)
+
+pub either_second : (a b x : Bool) → a ≡ false → x ≡ b → x ≡ (a || b)
+either_second true b x h e = absurd (cc)
+either_second false b x h e = e
+
+pub with_reader : (r f : Bool) → r ≡ true → (r || not f) ≡ true
+with_reader true f h = refl
+with_reader false f h = absurd (cc)
+
+pub before_reader : (r f : Bool) → f ≡ false → (r || not f) ≡ true
+before_reader true f h = refl
+before_reader false true h = absurd (cc)
+before_reader false false h = refl
+
 -- one that has a reader, or where none was found before
 pub next_walked : (becomes : Node → Node → Type 0) (found is_unit : Bool) (before after : Node) (read : Bool) → (read || not found) ≡ true → IsWalked becomes before read after → IsNextWalked becomes found is_unit before read after
 next_walked becomes found is_unit before after read test w = record {
@@ -284,3 +301,8 @@ next_named becomes found is_unit before after read none some w last h = record {
   named = λ any. subst (λ n. IsChildNamed becomes is_unit n last) (next_kept becomes before after read none w) h;
   kept = λ n m. absurd (cc);
 }
+
+-- what is refused, of the whole
+pub whole_refusal : (refuses : Node → PassError → Type 0) (before after : Node) (r : Result Node PassError) → after ≡ before → IfErr r (RefusesChild refuses false after) → IfErr r (RefusesUnit refuses before)
+whole_refusal refuses before after (Ok t) same h = tt
+whole_refusal refuses before after (Err e) same h = subst (λ n. RefusesUnit refuses n e) same (whole_refused refuses after e h)
