@@ -248,7 +248,7 @@ free_tree_named becomes is_unit t k ts us len is none all h =
 
 -- ---- the next child
 
-pub either_first : (a b x : Bool) → a ≡ true → x ≡ true → x ≡ (a || b)
+pub either_first : (a b x : Bool) → a ≡ true → x ≡ a → x ≡ (a || b)
 either_first true b x h e = e
 either_first false b x h e = absurd (cc)
 

@@ -1,5 +1,4 @@
 use Rattle.std.proofs.Common.{◌≡◌, ◌≤◌, rules, ◌∙◌, length, arith}
-use Rattle.std.proofs.lemmas.Grind.{common_steps}
 use Rattle.std.proofs.lemmas.Result.{err_from_is_err_and}
 use Rattle.swc_tree_node.specs.declared.node.Node.{Absent, the_lemmas}
 use Rattle.swc_base_rename_units.specs.declared.units.Above.TheVariants.{Items, Fields}
@@ -48,7 +47,7 @@ name_free-returns-in_err-name_before-in-List-clause-refused g t c =
 
 pub name_free-name_before-requires-in-Tree : goal.name_free-name_before-requires-in-Tree
 name_free-name_before-requires-in-Tree g t c κs within =
-    (grind (arith, common_steps, the_lemmas), (search rules, (omega (arith, c.len-in-Tree.ensures), tree_free c.args.node c.in-Tree.kind c.in-Tree.fields c.in-Tree.is c.requires c.len-in-Tree.result)))
+    (search (rules, the_lemmas), (search rules, (omega (arith, c.len-in-Tree.ensures), tree_free c.args.node c.in-Tree.kind c.in-Tree.fields c.in-Tree.is c.requires c.len-in-Tree.result)))
 
 pub name_free-returns-in_err-name_before-in-Tree-clause-refused :
     goal.name_free-returns-in_err-name_before-in-Tree-clause-refused
