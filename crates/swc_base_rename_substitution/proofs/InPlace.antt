@@ -1,14 +1,12 @@
 -- Nodes whose parts are given anew in place.
-use Rattle.std.proofs.Common.{◌≡◌, ℕ, zero, suc, ◌+◌, ◌<◌, Bool, false, Some, None, List, [], ◌∷◌, ◌++◌, length, take, drop, refl, sym, ap, ◌∙◌, arith, add-one}
+use Rattle.std.proofs.Common.{◌≡◌, ℕ, zero, suc, ◌+◌, ◌<◌, Bool, false, Some, List, [], ◌∷◌, ◌++◌, length, take, drop, refl, sym, ap, ◌∙◌, arith, add-one}
 use Rattle.std.specs.List.{list_any, slice_get, slice_set}
 use Rattle.swc_tree_node.specs.declared.kind.Kind.{Kind}
-use Rattle.swc_tree_node.specs.declared.node.Node.{Node, List as Many, Tree, out-Node, roll-Node, roll-out-Node}
-use Rattle.swc_tree_node.specs.declared.node.Node.TheOpen.{Node-F}
+use Rattle.swc_tree_node.specs.declared.node.Node.{Node, List as Many, Tree, out-Node}
 use Rattle.swc_tree_node.specs.declared.node.Node.TheVariants.{outs-List, outs-Tree}
-use Rattle.swc_tree_node.specs.Changed.{nodes_at, nodes_in, with_children, with_children_at}
+use Rattle.swc_tree_node.specs.Changed.{with_children_at}
 use Rattle.swc_tree_scoping.specs.Places.{children_in}
 use Rattle.swc_base_rename_substitution.specs.declared.place.Place.{Place}
-use Rattle.swc_base_rename_substitution.specs.declared.place.Below.{Below}
 use Rattle.swc_base_rename_substitution.specs.declared.place.Below.TheVariants as below
 use Rattle.swc_base_rename_substitution.specs.Places.{has_source}
 use Rattle.swc_base_rename_substitution.specs.Identifiers.{Changes, writes_name}
@@ -31,32 +29,6 @@ tree_stays keeps p t k ts sourced is from kept written m =
     ap (substituted m keeps p) is ∙ sym (unnamed_done m keeps p k ts (each_substituted m keeps (place_in keeps (below.Fields p (has_source ts) k)) ts) kept written refl)
     ∙ ap (λ b. Tree k (each_substituted m keeps (place_in keeps (below.Fields p b k)) ts)) (sym from)
     ∙ sym (ap (λ y. with_children_at y (each_substituted m keeps (place_in keeps (below.Fields p sourced k)) (children_in y))) (ap out-Node is ∙ outs-Tree k ts))
-
--- ---- what they become
-
-children_out : (y : Node-F Node) (ts : List Node) → Some ts ≡ nodes_at y → children_in y ≡ ts
-children_out (Node-F.List us) ts h = cc
-children_out (Node-F.Tree k us) ts h = cc
-children_out Node-F.Absent ts h = absurd (cc)
-children_out (Node-F.Flag b) ts h = absurd (cc)
-children_out (Node-F.Word w) ts h = absurd (cc)
-children_out (Node-F.Text x) ts h = absurd (cc)
-children_out (Node-F.Span s) ts h = absurd (cc)
-children_out (Node-F.Identifier k i) ts h = absurd (cc)
-
-leaf_out : (y : Node-F Node) (us : List Node) → None ≡ nodes_at y → with_children_at y us ≡ roll-Node y
-leaf_out (Node-F.List vs) us h = absurd (cc)
-leaf_out (Node-F.Tree k vs) us h = absurd (cc)
-leaf_out y us h = refl
-
-pub children_done : (m : Changes) (keeps : Bool) (p : Place) (t : Node) (b : Below) (ts us : List Node) → StaysAs keeps p t b → Some ts ≡ nodes_in t → us ≡ each_substituted m keeps (place_in keeps b) ts
-    → with_children t us ≡ substituted m keeps p t
-children_done m keeps p t b ts us stays here new =
-    ap (with_children t) (new ∙ ap (each_substituted m keeps (place_in keeps b)) (sym (children_out (out-Node t) ts here))) ∙ sym (stays m)
-
-pub leaf_done : (m : Changes) (keeps : Bool) (p : Place) (t : Node) (b : Below) → StaysAs keeps p t b → None ≡ nodes_in t → t ≡ substituted m keeps p t
-leaf_done m keeps p t b stays h =
-    sym (roll-out-Node t) ∙ sym (leaf_out (out-Node t) (each_substituted m keeps (place_in keeps b) (children_in (out-Node t))) h) ∙ sym (stays m)
 
 -- ---- one child more
 

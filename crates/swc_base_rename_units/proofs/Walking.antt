@@ -9,9 +9,9 @@ use Rattle.swc_tree_node.specs.declared.node.Node.TheOpen.{Node-F}
 use Rattle.swc_tree_node.specs.declared.node.Node.TheVariants.{outs-List, outs-Tree}
 use Rattle.swc_base_rename_units.specs.declared.units.Above.{Above}
 use Rattle.swc_base_rename_units.specs.declared.units.Above.TheVariants.{Items, Fields}
-use Rattle.swc_base_rename_units.specs.Eval.{AnyHasEval, HasEval, reads_names}
+use Rattle.swc_base_rename_units.specs.Eval.{HasEval, reads_names}
 use Rattle.swc_base_rename_units.specs.Units.{RefusesUnit}
-use Rattle.swc_base_rename_units.specs.Walk.{AreFreeTo, AreNamedTo, AreWalked, EachBecomes, IsChildNamed, IsNextWalked, IsWalked, ReadsAny, RefusesBefore, RefusesChild, RefusesEach, RefusesEachWhereRead, RefusesNext, RefusesWhereRead, is_unit_at, waiting_to}
+use Rattle.swc_base_rename_units.specs.Walk.{AreFreeTo, AreNamedTo, AreWalked, EachBecomes, IsChildNamed, IsNextWalked, IsWalked, ReadsAny, RefusesBefore, RefusesChild, RefusesEachWhereRead, RefusesNext, RefusesWhereRead, is_unit_at, waiting_to}
 use Rattle.swc_base_rename_units.proofs.Fitting.{list_fits_as, tree_fits_as}
 use Rattle.swc_base_rename_units.proofs.Lifted.{list_named, list_refused, tree_named, tree_refused}
 use Rattle.swc_base_rename_units.proofs.Readers.{at_leaf, reads_in, reads_out, some_same}

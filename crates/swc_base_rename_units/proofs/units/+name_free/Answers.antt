@@ -1,4 +1,4 @@
-use Rattle.std.proofs.Common.{◌≡◌, ◌≤◌, rules, ◌∙◌, length, arith}
+use Rattle.std.proofs.Common.{rules, ◌∙◌, arith}
 use Rattle.std.proofs.lemmas.Result.{err_from_is_err_and}
 use Rattle.swc_tree_node.specs.declared.node.Node.{Absent, the_lemmas}
 use Rattle.swc_base_rename_units.specs.declared.units.Above.TheVariants.{Items, Fields}

@@ -1,9 +1,9 @@
-use Rattle.std.proofs.Common.{◌≡◌, ◌≤◌, ◌+◌, ◌||◌, false, true, not, inl, ◌∙◌, length, arith, sym, subst, refl}
+use Rattle.std.proofs.Common.{◌≡◌, ◌≤◌, ◌+◌, ◌||◌, true, not, inl, ◌∙◌, length, arith, sym, subst, refl}
 use Rattle.std.specs.List.{slice_set}
 use Rattle.std.proofs.lemmas.Result.{err_from_is_err_and}
 use Rattle.swc_tree_node.specs.declared.node.Node.{Absent}
 use Rattle.swc_base_rename_units.specs.Walk.{AreFreeTo, AreNamedTo, RefusesBefore, RefusesChild, waiting_to}
-use Rattle.swc_base_rename_units.proofs.Steps.{DoneTo, put_length}
+use Rattle.swc_base_rename_units.proofs.Steps.{put_length}
 use Rattle.swc_base_rename_units.proofs.Walking.{KeptWhere, NoneTo, SoundFor, before_reader, each_walked, either_first, either_second, leaf_walked, list_walk_refused, list_walked, more_done, more_kept, more_none, more_same, more_sound, next_kept, next_named, next_refused, next_walked, tree_walk_refused, tree_walked, waiting_free, waiting_refused, with_reader}
 use Rattle.swc_base_rename_units.proofs.units.+name_where_read.Goals as goal
 use Rattle.swc_base_rename_units.proofs.units.+name_where_read.Goals.{name_each-then-found, name_each-else-found, name_next-then-read-via-then-read, name_next-then-read-via-else-read+then-not-found}

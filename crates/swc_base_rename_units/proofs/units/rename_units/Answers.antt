@@ -1,4 +1,3 @@
-use Rattle.std.proofs.Common.{◌≡◌, false, Result, Ok, Err, IfErr, subst}
 use Rattle.swc_base_rename_units.proofs.Walking.{next_kept, whole_refusal}
 use Rattle.swc_base_rename_units.proofs.units.rename_units.Goals as goal
 
