@@ -1,8 +1,8 @@
-use Rattle.std.proofs.Common.{[], arith, length-set}
+use Rattle.std.proofs.Common.{arith, length-set}
 use Rattle.swc_tree_node.specs.declared.node.Node.{Absent}
 use Rattle.swc_tree_grammar.specs.Stripped.{parts}
 use Rattle.swc_base_fixer_unparen.proofs.Each.{taken, one_more, added}
-use Rattle.swc_base_fixer_unparen.proofs.sequence.flat.Goals as goal
+use Rattle.swc_base_fixer_unparen.proofs.sequence.add_all_parts.Goals as goal
 
 pub loop-i-preserved : goal.loop-i-preserved
 loop-i-preserved c =
@@ -10,5 +10,5 @@ loop-i-preserved c =
     record {
       long = simp (c.replace-expr.ensures.list, length-set) c.loop-i.invariant.long;
       gone = taken Absent c.args.exprs c.loop-i.exprs _ c.loop-i.i _ (omega arith) c.loop-i.invariant.gone c.replace-expr.ensures.taken c.replace-expr.ensures.list;
-      added = added _ c.loop-i.out [] _ _ _ c.in_ok-add_parts.ensures c.loop-i.invariant.added more;
+      added = added _ c.loop-i.out c.args.out.now _ _ _ c.in_ok-add_parts.ensures c.loop-i.invariant.added more;
     }

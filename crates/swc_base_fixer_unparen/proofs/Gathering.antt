@@ -1,0 +1,137 @@
+-- What a sequence is whose items were gathered, and what each form of an item adds.
+use Rattle.std.proofs.Common.{◌≡◌, true, false, List, [], ◌∷◌, ◌++◌, Some, get_or, length, map, slice_set, refl, sym, ap, ◌∙◌, subst, arith, rules}
+use Rattle.std.specs.List.{filter, flat_map, slice_get}
+use Rattle.swc_tree_node.specs.declared.kind.Kind.{Kind}
+use Rattle.swc_tree_node.specs.declared.kind.Kind.TheVariants as kind
+use Rattle.swc_tree_node.specs.declared.node.Node.{Node, Absent, List as Many, Tree, out-Node, the_lemmas}
+use Rattle.swc_tree_node.specs.declared.node.Node.TheVariants.{outs-Tree, rolls-Tree}
+use Rattle.swc_tree_node.specs.declared.node.Node.TheOpen.{Node-F}
+use Rattle.swc_tree_grammar.specs.Shapes.{items_of}
+use Rattle.swc_tree_grammar.specs.Stripped.{is_member, parts, sequence, settled, strip_step, stripped, target}
+use Rattle.swc_tree_grammar.proofs.Items.{items_of_list}
+use Rattle.swc_tree_grammar.proofs.Stripped.{stripped_of_list, stripped_of_tree}
+use Rattle.swc_base_fixer_unparen.specs.Gathered.{Gathered, is_pair, is_sequence, is_sequence_node, parts_left}
+use Rattle.swc_base_fixer_unparen.proofs.Alike.{alike_itself, gathered_as, one_gathered, settled_alike, settled_gathered}
+use Rattle.swc_base_fixer_unparen.proofs.Flat.{parts_of_sequence, parts_of_tree}
+
+-- said once for the kinds that a match leaves
+other_kind : {X : Type 0} → false ≡ true → X
+other_kind h = absurd (cc)
+
+-- ---- sequences and pairs, by kind and fields
+
+pub sequence_kind : (k : Kind) (ts : List Node) → is_sequence k ts ≡ true → k ≡ kind.SeqExpr
+sequence_kind kind.SeqExpr ts h = refl
+sequence_kind k ts h = other_kind h
+
+pub sequence_long : (k : Kind) (ts : List Node) → is_sequence k ts ≡ true → length ts ≡ 2
+sequence_long kind.SeqExpr (a ∷ b ∷ []) h = refl
+sequence_long k ts h = other_kind h
+
+pub pair_long : (k : Kind) (ts : List Node) → is_pair k ts ≡ true → length ts ≡ 2
+pair_long kind.ParenExpr (a ∷ b ∷ []) h = refl
+pair_long k ts h = other_kind h
+
+pub sequence_stays : (k : Kind) (ts : List Node) → is_sequence k (map stripped ts) ≡ is_sequence k ts
+sequence_stays kind.SeqExpr (a ∷ b ∷ []) = refl
+sequence_stays k ts = refl
+
+pub no_sequence_node : (t : Node) (k : Kind) (ts : List Node) → t ≡ Tree k ts → is_sequence k ts ≡ false → is_sequence_node t ≡ false
+no_sequence_node t k ts is h =
+    let e : is_sequence_node (Tree k ts) ≡ is_sequence k ts = search (rules, the_lemmas) in
+    ap is_sequence_node is ∙ e ∙ h
+
+-- ---- what an item adds
+
+pub list_adds : (ts : List Node) → parts_left (Many ts) ≡ Many (map stripped ts) ∷ []
+list_adds ts =
+    let e : parts (Many (map stripped ts)) ≡ Many (map stripped ts) ∷ [] = search (rules, the_lemmas) in
+    ap parts (stripped_of_list ts) ∙ e
+
+pair_adds : (k : Kind) (ts : List Node) (e : Node) → is_pair k ts ≡ true → slice_get ts 1 ≡ Some e → parts_left e ≡ parts_left (Tree k ts)
+pair_adds kind.ParenExpr (a ∷ b ∷ []) e h g = let same : b ≡ e = cc in ap parts (ap stripped (sym same) ∙ sym (stripped_of_tree kind.ParenExpr (a ∷ b ∷ [])))
+pair_adds k ts e h g = other_kind h
+
+sequence_adds : (k : Kind) (ts : List Node) (e : Node) → is_sequence k ts ≡ true → slice_get ts 1 ≡ Some e → settled (flat_map parts (items_of (stripped e))) ≡ parts_left (Tree k ts)
+sequence_adds kind.SeqExpr (a ∷ b ∷ []) e h g =
+    let same : b ≡ e = cc in ap (λ x. settled (flat_map parts (items_of (stripped x)))) (sym same) ∙ sym (parts_of_sequence a b)
+sequence_adds k ts e h g = other_kind h
+
+alone : (k : Kind) (ts : List Node) → is_pair k ts ≡ false → is_sequence k ts ≡ false → parts (strip_step (Node-F.Tree k (map stripped ts))) ≡ strip_step (Node-F.Tree k (map stripped ts)) ∷ []
+alone kind.ParenExpr (a ∷ b ∷ []) h g = absurd (cc)
+alone kind.SeqExpr (a ∷ b ∷ []) h g = absurd (cc)
+alone kind.AssignExpr (span ∷ op ∷ a ∷ b ∷ []) h g = parts_of_tree kind.AssignExpr (stripped span ∷ stripped op ∷ target (stripped a) ∷ stripped b ∷ [])
+alone kind.Class (span ∷ parent ∷ body ∷ []) h g = parts_of_tree kind.Class (stripped span ∷ stripped parent ∷ Many (filter is_member (items_of (stripped body))) ∷ [])
+alone k ts h g = subst (λ t. parts t ≡ t ∷ []) (sym (rolls-Tree k (map stripped ts))) (parts_of_tree k (map stripped ts))
+
+pub pair_gathered : (k : Kind) (ts us : List Node) (e : Node) (before now : List Node) → us ≡ ts → is_pair k us ≡ true → slice_get ts 1 ≡ Some e → Gathered before (parts_left e) now
+    → Gathered before (parts_left (Tree k ts)) now
+pair_gathered k ts us e before now same h g all = gathered_as before now (parts_left e) (parts_left (Tree k ts)) (pair_adds k ts e (ap (is_pair k) (sym same) ∙ h) g) all
+
+pub sequence_gathered : (k : Kind) (ts us : List Node) (e : Node) (before now : List Node) → us ≡ ts → is_sequence k us ≡ true → slice_get ts 1 ≡ Some e
+    → Gathered before (flat_map parts (items_of (stripped e))) now → Gathered before (parts_left (Tree k ts)) now
+sequence_gathered k ts us e before now same h g all =
+    gathered_as before now (settled (flat_map parts (items_of (stripped e)))) (parts_left (Tree k ts)) (sequence_adds k ts e (ap (is_sequence k) (sym same) ∙ h) g)
+    (settled_gathered before now (flat_map parts (items_of (stripped e))) all)
+
+pub tree_gathered : (k : Kind) (ts us ws left before now : List Node) (new : Node) → us ≡ ts → is_pair k us ≡ false → ws ≡ ts → is_sequence k ws ≡ false → left ≡ map stripped ts
+    → new ≡ strip_step (Node-F.Tree k left) → now ≡ before ++ new ∷ [] → Gathered before (parts_left (Tree k ts)) now
+tree_gathered k ts us ws left before now new u p w s l n added =
+    gathered_as before now (new ∷ []) (parts_left (Tree k ts))
+    (ap (λ t. t ∷ []) (n ∙ ap (λ x. strip_step (Node-F.Tree k x)) l) ∙ sym (ap parts (stripped_of_tree k ts) ∙ alone k ts (ap (is_pair k) (sym u) ∙ p) (ap (is_sequence k) (sym w) ∙ s)))
+    (one_gathered before now new added)
+
+pub list_gathered : (t : Node) (ts left before now : List Node) → t ≡ Many ts → left ≡ map stripped ts → now ≡ before ++ Many left ∷ [] → Gathered before (parts_left t) now
+list_gathered t ts left before now is l added =
+    gathered_as before now (Many left ∷ []) (parts_left t) (ap (λ x. Many x ∷ []) l ∙ sym (ap parts_left is ∙ list_adds ts)) (one_gathered before now (Many left) added)
+
+pub leaf_gathered : (t : Node) (before now : List Node) → parts_left t ≡ t ∷ [] → now ≡ before ++ t ∷ [] → Gathered before (parts_left t) now
+leaf_gathered t before now e added = gathered_as before now (t ∷ []) (parts_left t) (sym e) (one_gathered before now t added)
+
+-- ---- all items
+
+parts_of_each : (ts : List Node) → flat_map parts_left ts ≡ flat_map parts (map stripped ts)
+parts_of_each [] = refl
+parts_of_each (t ∷ ts) = ap (λ l. parts_left t ++ l) (parts_of_each ts)
+
+pub items_gathered : (t : Node) (ts before now : List Node) → t ≡ Many ts → Gathered before (flat_map parts_left ts) now → Gathered before (flat_map parts (items_of (stripped t))) now
+items_gathered t ts before now is all =
+    gathered_as before now (flat_map parts_left ts) (flat_map parts (items_of (stripped t)))
+    (parts_of_each ts ∙ ap (flat_map parts) (sym (items_of_list (map stripped ts)) ∙ ap items_of (sym (stripped_of_list ts) ∙ ap stripped (sym is)))) all
+
+pub others_gathered : (t new : Node) (es before now : List Node) → new ≡ stripped t → es ≡ items_of new → now ≡ before ++ flat_map parts es → Gathered before (flat_map parts (items_of (stripped t))) now
+others_gathered t new es before now n i added =
+    gathered_as before now (flat_map parts es) (flat_map parts (items_of (stripped t))) (ap (flat_map parts) (i ∙ ap items_of n)) (flat_map parts es, added, alike_itself (flat_map parts es))
+
+-- the outermost sequence
+outermost : (fields : List Node) (exprs span : Node) (items : List Node) → length fields ≡ 2 → slice_get fields 1 ≡ Some exprs → slice_get (slice_set fields 1 Absent) 0 ≡ Some span
+    → Gathered [] (flat_map parts (items_of (stripped exprs))) items
+    → sequence (get_or (slice_set (slice_set fields 1 Absent) 0 (stripped span)) 0 Absent) (settled items) ≡ stripped (Tree kind.SeqExpr fields)
+outermost (a ∷ b ∷ []) exprs span items h g f all =
+    let same : b ≡ exprs = cc in
+    let first : a ≡ span = cc in
+    ap (sequence (stripped span)) (ap settled all.1 ∙ settled_alike all.0 (flat_map parts (items_of (stripped exprs))) all.2 ∙ ap (λ x. settled (flat_map parts (items_of (stripped x)))) (sym same))
+    ∙ ap (λ x. sequence (stripped x) (settled (flat_map parts (items_of (stripped b))))) (sym first)
+    ∙ sym (stripped_of_tree kind.SeqExpr (a ∷ b ∷ []))
+outermost [] exprs span items h g f all = absurd (omega arith)
+outermost (a ∷ []) exprs span items h g f all = absurd (omega arith)
+outermost (a ∷ b ∷ c ∷ ts) exprs span items h g f all = absurd (omega arith)
+
+pub sequence_stripped : (fields out start items : List Node) (exprs span new tree : Node) → length fields ≡ 2 → slice_get fields 1 ≡ Some exprs → out ≡ slice_set fields 1 Absent → start ≡ []
+    → Gathered start (flat_map parts (items_of (stripped exprs))) items → slice_get out 0 ≡ Some span → new ≡ stripped span
+    → tree ≡ sequence (get_or (slice_set out 0 new) 0 Absent) (settled items) → tree ≡ stripped (Tree kind.SeqExpr fields)
+sequence_stripped fields out start items exprs span new tree h g o s all f n t =
+    t ∙ ap (λ x. sequence (get_or (slice_set x 0 new) 0 Absent) (settled items)) o ∙ ap (λ x. sequence (get_or (slice_set (slice_set fields 1 Absent) 0 x) 0 Absent) (settled items)) n
+    ∙ outermost fields exprs span items h g (ap (λ x. slice_get x 0) (sym o) ∙ f) (subst (λ x. Gathered x (flat_map parts (items_of (stripped exprs))) items) s all)
+
+-- what stands first is not changed by what is set behind it
+pub first_there : (fields out : List Node) (new span : Node) → out ≡ slice_set fields 1 new → slice_get out 0 ≡ Some span → slice_get fields 0 ≡ Some span
+first_there fields out new span o h = stays fields (ap (λ x. slice_get x 0) (sym o) ∙ h)
+  where
+    stays : (ts : List Node) → slice_get (slice_set ts 1 new) 0 ≡ Some span → slice_get ts 0 ≡ Some span
+    stays [] g = g
+    stays (t ∷ ts) g = g
+
+pub sequence_in_place : (t new : Node) (k : Kind) (ts us ws : List Node) → t ≡ Tree k ts → us ≡ ts → is_sequence k us ≡ true → ws ≡ ts → new ≡ stripped (Tree kind.SeqExpr ws) → new ≡ stripped t
+sequence_in_place t new k ts us ws is u h w n =
+    n ∙ ap (λ x. stripped (Tree kind.SeqExpr x)) w ∙ ap (λ j. stripped (Tree j ts)) (sym (sequence_kind k ts (ap (is_sequence k) (sym u) ∙ h))) ∙ ap stripped (sym is)
