@@ -104,9 +104,8 @@ others_gathered t new es before now n i added =
     gathered_as before now (flat_map parts es) (flat_map parts (items_of (stripped t))) (ap (flat_map parts) (i ∙ ap items_of n)) (flat_map parts es, added, alike_itself (flat_map parts es))
 
 -- the outermost sequence
-outermost : (fields : List Node) (exprs span : Node) (items : List Node) → length fields ≡ 2 → slice_get fields 1 ≡ Some exprs → slice_get (slice_set fields 1 Absent) 0 ≡ Some span
-    → Gathered [] (flat_map parts (items_of (stripped exprs))) items
-    → sequence (get_or (slice_set (slice_set fields 1 Absent) 0 (stripped span)) 0 Absent) (settled items) ≡ stripped (Tree kind.SeqExpr fields)
+outermost : (fields : List Node) (exprs span : Node) (items : List Node) → length fields ≡ 2 → slice_get fields 1 ≡ Some exprs → slice_get fields 0 ≡ Some span
+    → Gathered [] (flat_map parts (items_of (stripped exprs))) items → sequence (stripped span) (settled items) ≡ stripped (Tree kind.SeqExpr fields)
 outermost (a ∷ b ∷ []) exprs span items h g f all =
     let same : b ≡ exprs = cc in
     let first : a ≡ span = cc in
@@ -117,20 +116,16 @@ outermost [] exprs span items h g f all = absurd (omega arith)
 outermost (a ∷ []) exprs span items h g f all = absurd (omega arith)
 outermost (a ∷ b ∷ c ∷ ts) exprs span items h g f all = absurd (omega arith)
 
-pub sequence_stripped : (fields out start items : List Node) (exprs span new tree : Node) → length fields ≡ 2 → slice_get fields 1 ≡ Some exprs → out ≡ slice_set fields 1 Absent → start ≡ []
-    → Gathered start (flat_map parts (items_of (stripped exprs))) items → slice_get out 0 ≡ Some span → new ≡ stripped span
-    → tree ≡ sequence (get_or (slice_set out 0 new) 0 Absent) (settled items) → tree ≡ stripped (Tree kind.SeqExpr fields)
-sequence_stripped fields out start items exprs span new tree h g o s all f n t =
-    t ∙ ap (λ x. sequence (get_or (slice_set x 0 new) 0 Absent) (settled items)) o ∙ ap (λ x. sequence (get_or (slice_set (slice_set fields 1 Absent) 0 x) 0 Absent) (settled items)) n
-    ∙ outermost fields exprs span items h g (ap (λ x. slice_get x 0) (sym o) ∙ f) (subst (λ x. Gathered x (flat_map parts (items_of (stripped exprs))) items) s all)
+set_first : (ts : List Node) (new : Node) → length ts ≡ 2 → get_or (slice_set ts 0 new) 0 Absent ≡ new
+set_first [] new h = absurd (omega arith)
+set_first (t ∷ ts) new h = refl
 
--- what stands first is not changed by what is set behind it
-pub first_there : (fields out : List Node) (new span : Node) → out ≡ slice_set fields 1 new → slice_get out 0 ≡ Some span → slice_get fields 0 ≡ Some span
-first_there fields out new span o h = stays fields (ap (λ x. slice_get x 0) (sym o) ∙ h)
-  where
-    stays : (ts : List Node) → slice_get (slice_set ts 1 new) 0 ≡ Some span → slice_get ts 0 ≡ Some span
-    stays [] g = g
-    stays (t ∷ ts) g = g
+pub sequence_stripped : (fields out left start items : List Node) (exprs span new tree : Node) → length fields ≡ 2 → slice_get fields 0 ≡ Some span → slice_get fields 1 ≡ Some exprs → length out ≡ 2
+    → new ≡ stripped span → left ≡ slice_set out 0 new → start ≡ [] → Gathered start (flat_map parts (items_of (stripped exprs))) items → tree ≡ sequence (get_or left 0 Absent) (settled items)
+    → tree ≡ stripped (Tree kind.SeqExpr fields)
+sequence_stripped fields out left start items exprs span new tree h f g o n l s all t =
+    t ∙ ap (λ x. sequence x (settled items)) (ap (λ x. get_or x 0 Absent) l ∙ set_first out new o ∙ n)
+    ∙ outermost fields exprs span items h g f (subst (λ x. Gathered x (flat_map parts (items_of (stripped exprs))) items) s all)
 
 pub sequence_in_place : (t new : Node) (k : Kind) (ts us ws : List Node) → t ≡ Tree k ts → us ≡ ts → is_sequence k us ≡ true → ws ≡ ts → new ≡ stripped (Tree kind.SeqExpr ws) → new ≡ stripped t
 sequence_in_place t new k ts us ws is u h w n =

@@ -1,5 +1,5 @@
 //! The tree without its pairs, and without what is idle in sequences and classes.
-ghost use Rattle.std.specs.Prelude.{◌≡◌, [], true, false, length, map, IfOk, OnOk};
+ghost use Rattle.std.specs.Prelude.{◌≡◌, [], Some, true, false, length, slice_get, map, IfOk, OnOk};
 ghost use Rattle.std.specs.List.{flat_map};
 ghost use Rattle.swc_tree_node.specs.declared.kind.Kind.TheVariants as kind;
 ghost use Rattle.swc_tree_node.specs.declared.node.Node.{out-Node, Tree};
@@ -73,6 +73,18 @@ fn is_sequence(kind: Kind, fields: &[Node]) -> bool
     ensures { result ≡ is_seq kind fields.now }
 {
     matches!(kind, Kind::SeqExpr) && fields.len() == 2
+}
+
+// The two fields of a sequence, taken out.
+fn taken(fields: &mut Items<Node>) -> (Node, Node)
+    requires { length fields.old ≡ 2 }
+    ensures span { slice_get fields.old 0 ≡ Some result.0 }
+    ensures exprs { slice_get fields.old 1 ≡ Some result.1 }
+    ensures length { length fields.new ≡ 2 }
+{
+    let exprs = fields.replace(seq_expr::EXPRS, Node::Absent);
+    let span = fields.replace(seq_expr::SPAN, Node::Absent);
+    (span, exprs)
 }
 
 // A tree, but for a sequence, whose fields are stripped.
@@ -155,10 +167,11 @@ fn strip_sequence(alloc: Global, mut fields: Items<Node>) -> Result<Node, AllocE
     requires { length fields ≡ 2 }
     ensures { IfOk result (λ t. t ≡ stripped (Tree kind.SeqExpr fields)) }
 {
-    let exprs = fields.replace(seq_expr::EXPRS, Node::Absent);
+    let (mut span, exprs) = taken(&mut fields);
+    strip_node(alloc, &mut span)?;
+    fields.set(seq_expr::SPAN, span);
     let mut items = Items::new(alloc);
     gather_items(alloc, exprs, &mut items)?;
-    strip_node(alloc, fields.item_mut(seq_expr::SPAN))?;
     let tree = sequence(alloc, fields, items)?;
     Ok(tree)
 }

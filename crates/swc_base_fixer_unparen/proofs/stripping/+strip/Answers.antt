@@ -1,5 +1,4 @@
-use Rattle.std.proofs.Common.{◌≡◌, Some, arith, length-set, sym, ap, ◌∙◌, length, rules}
-use Rattle.std.specs.List.{slice_get}
+use Rattle.std.proofs.Common.{◌≡◌, arith, length-set, sym, ap, ◌∙◌, length, rules}
 use Rattle.std.proofs.lemmas.Result.{on_ok_weaker}
 use Rattle.swc_tree_node.specs.declared.node.Node.{Absent, the_lemmas}
 use Rattle.swc_tree_grammar.specs.Stripped.{stripped}
@@ -7,7 +6,7 @@ use Rattle.swc_tree_node.proofs.Lent.{looked_at, next_left, set_next, tree_of_ch
 use Rattle.swc_base_fixer_unparen.specs.Gathered.{parts_left}
 use Rattle.swc_base_fixer_unparen.proofs.Alike.{gathered_as, more_gathered}
 use Rattle.swc_base_fixer_unparen.proofs.Each.{one_more, taken}
-use Rattle.swc_base_fixer_unparen.proofs.Gathering.{first_there, items_gathered, pair_gathered, sequence_gathered, sequence_in_place, sequence_stripped, tree_gathered}
+use Rattle.swc_base_fixer_unparen.proofs.Gathering.{items_gathered, pair_gathered, sequence_gathered, sequence_in_place, sequence_stripped, tree_gathered}
 use Rattle.swc_base_fixer_unparen.proofs.Leaves.{strip_leaves}
 use Rattle.swc_base_fixer_unparen.proofs.stripping.+strip.Goals as goal
 use Rattle.swc_base_fixer_unparen.proofs.stripping.+strip.Goals.{strip_all-then-has_parts+in_ok-strip_node, strip_all-else-has_parts}
@@ -28,14 +27,14 @@ strip_all-loop-i-preserved t c = elim c.if-has_parts.branch [
 
 pub strip_node-returns-then-is_sequence : goal.strip_node-returns-then-is_sequence
 strip_node-returns-then-is_sequence t c =
-    let is = tree_of_children c.args.node.now c.in-Some-kind.kind c.in-Some.children.now c.in-Some.children.now (c.in-Some-kind.is ∙ c.kind-kind.ensures) c.in-Some.ensures.value in
+    let is = tree_of_children c.args.node.now c.in-Some-kind.kind c.in-Some.children.now c.in-Some.children.now c.in-Some-kind.ensures c.in-Some.ensures.value in
     sequence_in_place c.args.node.now c.in_ok-node.field-0 c.in-Some-kind.kind c.in-Some.children.now c.as_slice.result.now c.replace-fields.result is.0 c.as_slice.ensures (sym c.is_sequence.ensures ∙ c.if-is_sequence.true)
     c.replace-fields.ensures.value c.in_ok-node.ensures
 
 pub strip_sequence-returns : goal.strip_sequence-returns
 strip_sequence-returns t c =
-    sequence_stripped c.args.fields c.replace-exprs.new.self c.new-items.result c.gather_items.new.out c.replace-exprs.result c.item_mut.result.now c.strip_node.new.node c.in_ok-tree.tree c.requires
-    c.replace-exprs.ensures.taken c.replace-exprs.ensures.list c.new-items.ensures c.in_ok-gather_items.ensures c.item_mut.ensures.value c.in_ok-strip_node.ensures c.in_ok-tree.ensures
+    sequence_stripped c.args.fields c.taken-span.new.fields c.set.new.self c.new-items.result c.gather_items.new.out c.taken-span.result.1 c.taken-span.result.0 c.strip_node.new.node c.in_ok-tree.tree c.requires
+    c.taken-span.ensures.span c.taken-span.ensures.exprs c.taken-span.ensures.length c.in_ok-strip_node.ensures c.set.ensures c.new-items.ensures c.in_ok-gather_items.ensures c.in_ok-tree.ensures
 
 pub gather_each-loop-i-preserved : goal.gather_each-loop-i-preserved
 gather_each-loop-i-preserved t c =
@@ -45,11 +44,6 @@ gather_each-loop-i-preserved t c =
       gone = taken Absent c.args.exprs c.loop-i.exprs _ c.loop-i.i _ (omega arith) c.loop-i.invariant.gone c.replace-expr.ensures.taken c.replace-expr.ensures.list;
       gathered = gathered_as c.args.out.now c.gather.new.out _ _ (sym more) (more_gathered c.args.out.now c.loop-i.out c.gather.new.out _ _ c.loop-i.invariant.gathered c.in_ok-gather.ensures);
     }
-
-pub strip_sequence-strip_node-requires : goal.strip_sequence-strip_node-requires
-strip_sequence-strip_node-requires t c =
-    let here : slice_get c.args.fields 0 ≡ Some c.item_mut.result.now = first_there c.args.fields c.replace-exprs.new.self Absent c.item_mut.result.now c.replace-exprs.ensures.list c.item_mut.ensures.value in
-    search (rules, the_lemmas)
 
 pub gather_items-returns-in-List : goal.gather_items-returns-in-List
 gather_items-returns-in-List t c = on_ok_weaker c.gather_each.result (items_gathered c.args.exprs c.in-List.items c.args.out.now c.gather_each.new.out c.in-List.is) c.gather_each.ensures
