@@ -64,21 +64,21 @@ alone kind.AssignExpr (span ∷ op ∷ a ∷ b ∷ []) h g = parts_of_tree kind.
 alone kind.Class (span ∷ parent ∷ body ∷ []) h g = parts_of_tree kind.Class (stripped span ∷ stripped parent ∷ Many (filter is_member (items_of (stripped body))) ∷ [])
 alone k ts h g = subst (λ t. parts t ≡ t ∷ []) (sym (rolls-Tree k (map stripped ts))) (parts_of_tree k (map stripped ts))
 
-pub pair_gathered : (k : Kind) (ts us : List Node) (e : Node) (before now : List Node) → us ≡ ts → is_pair k us ≡ true → slice_get ts 1 ≡ Some e → Gathered before (parts_left e) now
-    → Gathered before (parts_left (Tree k ts)) now
-pair_gathered k ts us e before now same h g all = gathered_as before now (parts_left e) (parts_left (Tree k ts)) (pair_adds k ts e (ap (is_pair k) (sym same) ∙ h) g) all
+pub pair_gathered : (t : Node) (k : Kind) (ts us : List Node) (e : Node) (before now : List Node) → t ≡ Tree k ts → us ≡ ts → is_pair k us ≡ true → slice_get ts 1 ≡ Some e → Gathered before (parts_left e) now
+    → Gathered before (parts_left t) now
+pair_gathered t k ts us e before now is same h g all = gathered_as before now (parts_left e) (parts_left t) (pair_adds k ts e (ap (is_pair k) (sym same) ∙ h) g ∙ ap parts_left (sym is)) all
 
-pub sequence_gathered : (k : Kind) (ts us : List Node) (e : Node) (before now : List Node) → us ≡ ts → is_sequence k us ≡ true → slice_get ts 1 ≡ Some e
-    → Gathered before (flat_map parts (items_of (stripped e))) now → Gathered before (parts_left (Tree k ts)) now
-sequence_gathered k ts us e before now same h g all =
-    gathered_as before now (settled (flat_map parts (items_of (stripped e)))) (parts_left (Tree k ts)) (sequence_adds k ts e (ap (is_sequence k) (sym same) ∙ h) g)
+pub sequence_gathered : (t : Node) (k : Kind) (ts us : List Node) (e : Node) (before now : List Node) → t ≡ Tree k ts → us ≡ ts → is_sequence k us ≡ true → slice_get ts 1 ≡ Some e
+    → Gathered before (flat_map parts (items_of (stripped e))) now → Gathered before (parts_left t) now
+sequence_gathered t k ts us e before now is same h g all =
+    gathered_as before now (settled (flat_map parts (items_of (stripped e)))) (parts_left t) (sequence_adds k ts e (ap (is_sequence k) (sym same) ∙ h) g ∙ ap parts_left (sym is))
     (settled_gathered before now (flat_map parts (items_of (stripped e))) all)
 
-pub tree_gathered : (k : Kind) (ts us ws left before now : List Node) (new : Node) → us ≡ ts → is_pair k us ≡ false → ws ≡ ts → is_sequence k ws ≡ false → left ≡ map stripped ts
-    → new ≡ strip_step (Node-F.Tree k left) → now ≡ before ++ new ∷ [] → Gathered before (parts_left (Tree k ts)) now
-tree_gathered k ts us ws left before now new u p w s l n added =
-    gathered_as before now (new ∷ []) (parts_left (Tree k ts))
-    (ap (λ t. t ∷ []) (n ∙ ap (λ x. strip_step (Node-F.Tree k x)) l) ∙ sym (ap parts (stripped_of_tree k ts) ∙ alone k ts (ap (is_pair k) (sym u) ∙ p) (ap (is_sequence k) (sym w) ∙ s)))
+pub tree_gathered : (t : Node) (k : Kind) (ts us ws left before now : List Node) (new : Node) → t ≡ Tree k ts → us ≡ ts → is_pair k us ≡ false → ws ≡ ts → is_sequence k ws ≡ false → left ≡ map stripped ts
+    → new ≡ strip_step (Node-F.Tree k left) → now ≡ before ++ new ∷ [] → Gathered before (parts_left t) now
+tree_gathered t k ts us ws left before now new is u p w s l n added =
+    gathered_as before now (new ∷ []) (parts_left t)
+    (ap (λ t. t ∷ []) (n ∙ ap (λ x. strip_step (Node-F.Tree k x)) l) ∙ sym (ap parts_left is ∙ ap parts (stripped_of_tree k ts) ∙ alone k ts (ap (is_pair k) (sym u) ∙ p) (ap (is_sequence k) (sym w) ∙ s)))
     (one_gathered before now new added)
 
 pub list_gathered : (t : Node) (ts left before now : List Node) → t ≡ Many ts → left ≡ map stripped ts → now ≡ before ++ Many left ∷ [] → Gathered before (parts_left t) now

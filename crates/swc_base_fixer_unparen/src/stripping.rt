@@ -161,6 +161,18 @@ fn strip_node(alloc: Global, node: &mut Node) -> Result<(), AllocError>
     Ok(())
 }
 
+#[cycle(strip)]
+fn strip_all(alloc: Global, items: &mut Items<Node>) -> Result<(), AllocError>
+    ensures { OnOk result (items.new ≡ map stripped items.old) }
+{
+    for i in 0..items.len() {
+        if items.as_slice()[i].has_parts() {
+            strip_node(alloc, items.item_mut(i))?;
+        }
+    }
+    Ok(())
+}
+
 // A sequence, by its fields. All its items are gathered before any of them goes.
 #[cycle(strip)]
 fn strip_sequence(alloc: Global, mut fields: Items<Node>) -> Result<Node, AllocError>
@@ -208,42 +220,20 @@ fn gather(alloc: Global, expr: Node, out: &mut Items<Node>) -> Result<(), AllocE
     ensures { OnOk result (Gathered out.old (parts_left expr) out.new) }
 {
     match expr {
-        Node::Tree(kind, fields) => gather_tree(alloc, kind, fields, out),
+        Node::Tree(kind, mut fields) => {
+            if is_pair(kind, fields.as_slice()) {
+                return gather(alloc, fields.replace(paren_expr::EXPR, Node::Absent), out);
+            }
+            if is_sequence(kind, fields.as_slice()) {
+                return gather_items(alloc, fields.replace(seq_expr::EXPRS, Node::Absent), out);
+            }
+            strip_all(alloc, &mut fields)?;
+            out.push(settle(alloc, kind, fields))
+        }
         Node::List(mut items) => {
             strip_all(alloc, &mut items)?;
             out.push(Node::List(items))
         }
         expr => out.push(expr),
     }
-}
-
-#[cycle(strip)]
-fn gather_tree(
-    alloc: Global,
-    kind: Kind,
-    mut fields: Items<Node>,
-    out: &mut Items<Node>,
-) -> Result<(), AllocError>
-    ensures { OnOk result (Gathered out.old (parts_left (Tree kind fields)) out.new) }
-{
-    if is_pair(kind, fields.as_slice()) {
-        return gather(alloc, fields.replace(paren_expr::EXPR, Node::Absent), out);
-    }
-    if is_sequence(kind, fields.as_slice()) {
-        return gather_items(alloc, fields.replace(seq_expr::EXPRS, Node::Absent), out);
-    }
-    strip_all(alloc, &mut fields)?;
-    out.push(settle(alloc, kind, fields))
-}
-
-#[cycle(strip)]
-fn strip_all(alloc: Global, items: &mut Items<Node>) -> Result<(), AllocError>
-    ensures { OnOk result (items.new ≡ map stripped items.old) }
-{
-    for i in 0..items.len() {
-        if items.as_slice()[i].has_parts() {
-            strip_node(alloc, items.item_mut(i))?;
-        }
-    }
-    Ok(())
 }

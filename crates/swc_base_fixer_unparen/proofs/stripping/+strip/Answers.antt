@@ -48,20 +48,20 @@ gather_each-loop-i-preserved t c =
 pub gather_items-returns-in-List : goal.gather_items-returns-in-List
 gather_items-returns-in-List t c = on_ok_weaker c.gather_each.result (items_gathered c.args.exprs c.in-List.items c.args.out.now c.gather_each.new.out c.in-List.is) c.gather_each.ensures
 
-pub gather_tree-returns-then-is_pair : goal.gather_tree-returns-then-is_pair
-gather_tree-returns-then-is_pair t c =
+pub gather-returns-then-is_pair : goal.gather-returns-then-is_pair
+gather-returns-then-is_pair t c =
     on_ok_weaker c.gather.result
-    (pair_gathered c.args.kind c.args.fields c.as_slice.result.now c.replace.result c.args.out.now c.gather.new.out c.as_slice.ensures (sym c.is_pair.ensures ∙ c.if-is_pair.true) c.replace.ensures.taken)
-    c.gather.ensures
+    (pair_gathered c.args.expr c.in-Tree.kind c.in-Tree.fields c.as_slice.result.now c.replace.result c.args.out.now c.gather.new.out c.in-Tree.is c.as_slice.ensures (sym c.is_pair.ensures ∙ c.if-is_pair.true)
+        c.replace.ensures.taken) c.gather.ensures
 
-pub gather_tree-returns-then-is_sequence : goal.gather_tree-returns-then-is_sequence
-gather_tree-returns-then-is_sequence t c =
+pub gather-returns-then-is_sequence : goal.gather-returns-then-is_sequence
+gather-returns-then-is_sequence t c =
     on_ok_weaker c.gather_items.result
-    (sequence_gathered c.args.kind c.args.fields c.as_slice-2.result.now c.replace-then-is_sequence.result c.args.out.now c.gather_items.new.out c.as_slice-2.ensures
+    (sequence_gathered c.args.expr c.in-Tree.kind c.in-Tree.fields c.as_slice-in-Tree.result.now c.replace-then-is_sequence.result c.args.out.now c.gather_items.new.out c.in-Tree.is c.as_slice-in-Tree.ensures
         (sym c.is_sequence.ensures ∙ c.if-is_sequence.true) c.replace-then-is_sequence.ensures.taken) c.gather_items.ensures
 
-pub gather_tree-returns : goal.gather_tree-returns
-gather_tree-returns t c =
+pub gather-returns-in_ok-strip_all-in-Tree : goal.gather-returns-in_ok-strip_all-in-Tree
+gather-returns-in_ok-strip_all-in-Tree t c =
     on_ok_weaker c.push.result
-    (tree_gathered c.args.kind c.args.fields c.as_slice.result.now c.as_slice-2.result.now c.strip_all.new.items c.args.out.now c.push.new.self c.settle.result c.as_slice.ensures
-        (sym c.is_pair.ensures ∙ c.if-is_pair.false) c.as_slice-2.ensures (sym c.is_sequence.ensures ∙ c.if-is_sequence.false) c.in_ok-strip_all.ensures c.settle.ensures) c.push.ensures.ok
+    (tree_gathered c.args.expr c.in-Tree.kind c.in-Tree.fields c.as_slice.result.now c.as_slice-in-Tree.result.now c.strip_all.new.items c.args.out.now c.push.new.self c.settle.result c.in-Tree.is c.as_slice.ensures
+        (sym c.is_pair.ensures ∙ c.if-is_pair.false) c.as_slice-in-Tree.ensures (sym c.is_sequence.ensures ∙ c.if-is_sequence.false) c.in_ok-strip_all-in-Tree.ensures c.settle.ensures) c.push.ensures.ok
