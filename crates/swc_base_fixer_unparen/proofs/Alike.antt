@@ -72,9 +72,6 @@ alike_settled es (y ∷ d) h = alike_through es (y ∷ d) (settled (y ∷ d)) h 
 pub settled_alike : (es fs : List Node) → Alike es fs → settled es ≡ settled fs
 settled_alike es fs h = ap (λ l. l ++ end es) (busy_of_same (doing (front es)) (doing (front fs)) h.1) ∙ ap (λ l. busy (doing (front fs)) ++ l) h.0
 
-pub none_gathered : (before : List Node) → Gathered before [] before
-none_gathered before = ([], sym (append-nil before), alike_itself [])
-
 pub one_gathered : (before now : List Node) (e : Node) → now ≡ before ++ e ∷ [] → Gathered before (e ∷ []) now
 one_gathered before now e h = (e ∷ [], h, alike_itself (e ∷ []))
 

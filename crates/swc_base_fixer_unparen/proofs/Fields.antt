@@ -3,7 +3,6 @@ use Rattle.std.proofs.Common.{◌≡◌, ℕ, List, [], ◌∷◌, ◌++◌, Opt
 use Rattle.std.specs.List.{filter, flat_map, list_all, slice_get}
 use Rattle.swc_tree_node.specs.declared.kind.Kind.{Kind}
 use Rattle.swc_tree_node.specs.declared.kind.Kind.TheVariants as kind
-use Rattle.std.specs.Prelude.{if◌then◌else◌}
 use Rattle.swc_tree_grammar.proofs.Stripped.{effects_of_list, effects_of_tree, effects_of_sequence, effects_of_void, effects_of_other}
 use Rattle.swc_tree_grammar.specs.Blocks.{takes_else, branch, block_step}
 use Rattle.swc_tree_grammar.specs.Targets.{is_simple, is_target}
@@ -13,7 +12,7 @@ use Rattle.swc_base_fixer_unparen.specs.Fields.{field_left, last_statement, cont
 use Rattle.swc_tree_node.specs.declared.node.Node.{Node, Absent, List as Many, Tree}
 use Rattle.swc_tree_node.specs.declared.node.Node.TheOpen.{Node-F}
 use Rattle.swc_tree_grammar.specs.Shapes.{items_of}
-use Rattle.swc_tree_grammar.specs.Stripped.{strip_step, target, is_member, is_idle, busy, is_void, effects, front, end, parts, sequence, settled}
+use Rattle.swc_tree_grammar.specs.Stripped.{strip_step, target, is_member, is_idle, busy, is_void, effects, front, end, sequence, settled}
 
 -- said once for the kinds that a match leaves: `cc` at each of them is dear
 no_field : {X : Type 0} (i : ℕ) → None ≡ Some i → X

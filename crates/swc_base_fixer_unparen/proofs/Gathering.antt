@@ -1,17 +1,17 @@
 -- What a sequence is whose items were gathered, and what each form of an item adds.
-use Rattle.std.proofs.Common.{◌≡◌, true, false, List, [], ◌∷◌, ◌++◌, Some, get_or, length, map, slice_set, refl, sym, ap, ◌∙◌, subst, arith, rules}
+use Rattle.std.proofs.Common.{◌≡◌, true, false, List, [], ◌∷◌, ◌++◌, Some, get_or, length, map, slice_set, refl, sym, ap, ◌∙◌, subst, arith}
 use Rattle.std.specs.List.{filter, flat_map, slice_get}
 use Rattle.swc_tree_node.specs.declared.kind.Kind.{Kind}
 use Rattle.swc_tree_node.specs.declared.kind.Kind.TheVariants as kind
-use Rattle.swc_tree_node.specs.declared.node.Node.{Node, Absent, List as Many, Tree, out-Node, the_lemmas}
-use Rattle.swc_tree_node.specs.declared.node.Node.TheVariants.{outs-Tree, rolls-Tree}
+use Rattle.swc_tree_node.specs.declared.node.Node.{Node, Absent, List as Many, Tree}
+use Rattle.swc_tree_node.specs.declared.node.Node.TheVariants.{rolls-Tree}
 use Rattle.swc_tree_node.specs.declared.node.Node.TheOpen.{Node-F}
 use Rattle.swc_tree_grammar.specs.Shapes.{items_of}
 use Rattle.swc_tree_grammar.specs.Stripped.{is_member, parts, sequence, settled, strip_step, stripped, target}
 use Rattle.swc_tree_grammar.proofs.Items.{items_of_list}
 use Rattle.swc_tree_grammar.proofs.Stripped.{stripped_of_list, stripped_of_tree}
-use Rattle.swc_base_fixer_unparen.specs.Gathered.{Gathered, is_pair, is_sequence, is_sequence_node, parts_left}
-use Rattle.swc_base_fixer_unparen.proofs.Alike.{alike_itself, gathered_as, one_gathered, settled_alike, settled_gathered}
+use Rattle.swc_base_fixer_unparen.specs.Gathered.{Gathered, is_pair, is_sequence, parts_left}
+use Rattle.swc_base_fixer_unparen.proofs.Alike.{gathered_as, one_gathered, settled_alike, settled_gathered}
 use Rattle.swc_base_fixer_unparen.proofs.Flat.{parts_of_sequence, parts_of_tree}
 
 -- said once for the kinds that a match leaves
@@ -24,29 +24,7 @@ pub sequence_kind : (k : Kind) (ts : List Node) → is_sequence k ts ≡ true �
 sequence_kind kind.SeqExpr ts h = refl
 sequence_kind k ts h = other_kind h
 
-pub sequence_long : (k : Kind) (ts : List Node) → is_sequence k ts ≡ true → length ts ≡ 2
-sequence_long kind.SeqExpr (a ∷ b ∷ []) h = refl
-sequence_long k ts h = other_kind h
-
-pub pair_long : (k : Kind) (ts : List Node) → is_pair k ts ≡ true → length ts ≡ 2
-pair_long kind.ParenExpr (a ∷ b ∷ []) h = refl
-pair_long k ts h = other_kind h
-
-pub sequence_stays : (k : Kind) (ts : List Node) → is_sequence k (map stripped ts) ≡ is_sequence k ts
-sequence_stays kind.SeqExpr (a ∷ b ∷ []) = refl
-sequence_stays k ts = refl
-
-pub no_sequence_node : (t : Node) (k : Kind) (ts : List Node) → t ≡ Tree k ts → is_sequence k ts ≡ false → is_sequence_node t ≡ false
-no_sequence_node t k ts is h =
-    let e : is_sequence_node (Tree k ts) ≡ is_sequence k ts = search (rules, the_lemmas) in
-    ap is_sequence_node is ∙ e ∙ h
-
 -- ---- what an item adds
-
-pub list_adds : (ts : List Node) → parts_left (Many ts) ≡ Many (map stripped ts) ∷ []
-list_adds ts =
-    let e : parts (Many (map stripped ts)) ≡ Many (map stripped ts) ∷ [] = search (rules, the_lemmas) in
-    ap parts (stripped_of_list ts) ∙ e
 
 pair_adds : (k : Kind) (ts : List Node) (e : Node) → is_pair k ts ≡ true → slice_get ts 1 ≡ Some e → parts_left e ≡ parts_left (Tree k ts)
 pair_adds kind.ParenExpr (a ∷ b ∷ []) e h g = let same : b ≡ e = cc in ap parts (ap stripped (sym same) ∙ sym (stripped_of_tree kind.ParenExpr (a ∷ b ∷ [])))
@@ -81,13 +59,6 @@ tree_gathered t k ts us ws left before now new is u p w s l n added =
     (ap (λ t. t ∷ []) (n ∙ ap (λ x. strip_step (Node-F.Tree k x)) l) ∙ sym (ap parts_left is ∙ ap parts (stripped_of_tree k ts) ∙ alone k ts (ap (is_pair k) (sym u) ∙ p) (ap (is_sequence k) (sym w) ∙ s)))
     (one_gathered before now new added)
 
-pub list_gathered : (t : Node) (ts left before now : List Node) → t ≡ Many ts → left ≡ map stripped ts → now ≡ before ++ Many left ∷ [] → Gathered before (parts_left t) now
-list_gathered t ts left before now is l added =
-    gathered_as before now (Many left ∷ []) (parts_left t) (ap (λ x. Many x ∷ []) l ∙ sym (ap parts_left is ∙ list_adds ts)) (one_gathered before now (Many left) added)
-
-pub leaf_gathered : (t : Node) (before now : List Node) → parts_left t ≡ t ∷ [] → now ≡ before ++ t ∷ [] → Gathered before (parts_left t) now
-leaf_gathered t before now e added = gathered_as before now (t ∷ []) (parts_left t) (sym e) (one_gathered before now t added)
-
 -- ---- all items
 
 parts_of_each : (ts : List Node) → flat_map parts_left ts ≡ flat_map parts (map stripped ts)
@@ -98,10 +69,6 @@ pub items_gathered : (t : Node) (ts before now : List Node) → t ≡ Many ts �
 items_gathered t ts before now is all =
     gathered_as before now (flat_map parts_left ts) (flat_map parts (items_of (stripped t)))
     (parts_of_each ts ∙ ap (flat_map parts) (sym (items_of_list (map stripped ts)) ∙ ap items_of (sym (stripped_of_list ts) ∙ ap stripped (sym is)))) all
-
-pub others_gathered : (t new : Node) (es before now : List Node) → new ≡ stripped t → es ≡ items_of new → now ≡ before ++ flat_map parts es → Gathered before (flat_map parts (items_of (stripped t))) now
-others_gathered t new es before now n i added =
-    gathered_as before now (flat_map parts es) (flat_map parts (items_of (stripped t))) (ap (flat_map parts) (i ∙ ap items_of n)) (flat_map parts es, added, alike_itself (flat_map parts es))
 
 -- the outermost sequence
 outermost : (fields : List Node) (exprs span : Node) (items : List Node) → length fields ≡ 2 → slice_get fields 1 ≡ Some exprs → slice_get fields 0 ≡ Some span

@@ -204,7 +204,11 @@ fn gather_items(alloc: Global, exprs: Node, out: &mut Items<Node>) -> Result<(),
 }
 
 #[cycle(strip)]
-fn gather_each(alloc: Global, mut exprs: Items<Node>, out: &mut Items<Node>) -> Result<(), AllocError>
+fn gather_each(
+    alloc: Global,
+    mut exprs: Items<Node>,
+    out: &mut Items<Node>,
+) -> Result<(), AllocError>
     ensures { OnOk result (Gathered out.old (flat_map parts_left exprs) out.new) }
 {
     for i in 0..exprs.len() {
