@@ -3,6 +3,7 @@ use Rattle.std.proofs.Common.{◌≡◌, ℕ, List, [], ◌∷◌, ◌++◌, Opt
 use Rattle.std.specs.List.{filter, flat_map, list_all, slice_get}
 use Rattle.swc_tree_node.specs.declared.kind.Kind.{Kind}
 use Rattle.swc_tree_node.specs.declared.kind.Kind.TheVariants as kind
+use Rattle.std.specs.Prelude.{if◌then◌else◌}
 use Rattle.swc_tree_grammar.proofs.Stripped.{effects_of_list, effects_of_tree, effects_of_sequence, effects_of_void, effects_of_other}
 use Rattle.swc_tree_grammar.specs.Blocks.{takes_else, branch, block_step}
 use Rattle.swc_tree_grammar.specs.Targets.{is_simple, is_target}
