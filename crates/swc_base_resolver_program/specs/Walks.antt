@@ -17,6 +17,7 @@ use Rattle.swc_tree_scoping.specs.Scopes.{Round, is_binding, one_if, scope_at, s
 use Rattle.swc_tree_scoping.specs.Resolved.{Contexts, is_global_value, remarked}
 use Rattle.swc_base_resolver_program.specs.declared.names.ScopeNames.{ScopeNames}
 use Rattle.swc_base_resolver_program.specs.declared.env.Views.{Views}
+use Rattle.swc_base_resolver_program.specs.declared.env.Views.TheVariants.{Plain, Opened}
 use Rattle.swc_base_resolver_program.specs.declared.collect.Stage.{Stage}
 use Rattle.swc_base_resolver_program.specs.declared.collect.Stage.TheVariants as stage
 use Rattle.swc_base_resolver_program.specs.declared.walk.Answers.{Answers}
@@ -115,7 +116,8 @@ pick view.Whole x y z = z
 
 -- the scopes that are open at a part of a node, by its view of the scope that the node opens
 abbrev pub sees : Views → View → List Open
-sees s v = pick v (layers s.outside.now) (layers s.parameters) (layers s.whole)
+sees (Plain env) v = layers env.now
+sees (Opened outside parameters whole) v = pick v (layers outside.now) (layers parameters) (layers whole)
 
 -- the same where the node opens a scope of that number, and these are round it
 abbrev pub inside : Scope → ℕ → List Open → View → List Open

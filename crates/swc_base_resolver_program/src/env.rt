@@ -22,24 +22,21 @@ pub enum Env<'a> {
     In(Layer, &'a Env<'a>),
 }
 
-/// What the parts of a node see of the scopes round them, each by its view of the scope that the node opens.
+/// What the parts of a node see of the scopes round them.
 #[derive(Clone, Copy)]
-pub struct Views<'a> {
-    pub outside: &'a Env<'a>,
-    pub parameters: Env<'a>,
-    pub whole: Env<'a>,
+pub enum Views<'a> {
+    /// The node opens no scope, and each part sees what the node does.
+    Plain(&'a Env<'a>),
+    /// It opens one: what is outside of that scope, what its parameters see, and what all else does.
+    Opened(&'a Env<'a>, Env<'a>, Env<'a>),
 }
 
 impl<'a> Views<'a> {
-    /// Of a node that opens no scope: each part sees what the node does.
+    /// Of a node that opens no scope.
     pub fn plain(env: &'a Env<'a>) -> Views<'a>
         ensures { (v : View') → sees result v ≡ layers env.now }
     {
-        Views {
-            outside: env,
-            parameters: *env,
-            whole: *env,
-        }
+        Views::Plain(env)
     }
 
     /// Of a node that opens a scope, which has that number from the front.
@@ -55,21 +52,20 @@ impl<'a> Views<'a> {
             whole: false,
             ..layer
         };
-        Views {
-            outside: env,
-            parameters: Env::In(parameters, env),
-            whole: Env::In(layer, env),
-        }
+        Views::Opened(env, Env::In(parameters, env), Env::In(layer, env))
     }
 
     /// The environment of a part that sees so much.
     pub fn seen(&self, view: View) -> &Env<'a>
         ensures { layers result.now ≡ sees self.now view }
     {
-        match view {
-            View::Outside => self.outside,
-            View::Parameters => &self.parameters,
-            View::Whole => &self.whole,
+        match self {
+            Views::Plain(env) => env,
+            Views::Opened(outside, parameters, whole) => match view {
+                View::Outside => outside,
+                View::Parameters => parameters,
+                View::Whole => whole,
+            },
         }
     }
 }
