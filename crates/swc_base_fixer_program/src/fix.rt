@@ -98,9 +98,8 @@ pub fn fix_parens_with<C: Comments>(
 ///
 /// # Cost
 ///
-/// Time in step with the size of the tree, but for items of nested sequences, which move once for each sequence round
-/// them: where pairs stood is looked up by a hash whose keys come from all of them. The nodes stay where they are in
-/// memory.
+/// Time in step with the size of the tree: where pairs stood is looked up by a hash whose keys come from all of them. The
+/// nodes stay where they are in memory, but for the items of a sequence, which are gathered once.
 pub fn fix_parens<C: Comments>(
     alloc: Global,
     comments: Option<&mut C>,
