@@ -98,8 +98,9 @@ pub fn fix_parens_with<C: Comments>(
 ///
 /// # Cost
 ///
-/// Time in step with the size of the tree: where pairs stood is looked up by a hash whose keys come from all of them. The
-/// nodes stay where they are in memory, but for the items of a sequence, which are gathered once.
+/// Time in step with the size of the tree, but for items of sequences under `void` in a sequence, which move once more
+/// for each such `void` round them: where pairs stood is looked up by a hash whose keys come from all of them. The nodes
+/// stay where they are in memory.
 pub fn fix_parens<C: Comments>(
     alloc: Global,
     comments: Option<&mut C>,
