@@ -121,9 +121,11 @@ module _ (reads : Bool) (ts ys zs vs : List Node) (i : ℕ) (off x y : Node) (ta
         by (inl before) = named.done k c before (else_there k (λ e. omega (arith, e, before)) ∙ kept refl k ∙ there)
         by (inr e) =
             let one : x ≡ c = some_same (sym taken ∙ same i (omega arith) ∙ subst (λ k. slice_get ts k ≡ Some c) e there) in
-            let now : IsChildNamed becomes (is_unit_at above i (out-Node x)) x y = subst (λ b. IsChildNamed becomes b x y) test (next (inr (h.0 refl))) in
-            (y, named.rest k (omega (arith, e)) ∙ ap (slice_get vs) e ∙ here,
-            subst (λ k. IsChildNamed becomes (is_unit_at above k (out-Node c)) c y) (sym e) (subst (λ c. IsChildNamed becomes (is_unit_at above i (out-Node c)) c y) one now))
+            let now : IsChildNamed becomes (is_unit_at above i (out-Node x)) x y = subst (λ b. IsChildNamed becomes b x y) test (next (inr (h.0 refl))) in (
+              y,
+              named.rest k (omega (arith, e)) ∙ ap (slice_get vs) e ∙ here,
+              subst (λ k. IsChildNamed becomes (is_unit_at above k (out-Node c)) c y) (sym e) (subst (λ c. IsChildNamed becomes (is_unit_at above i (out-Node c)) c y) one now),
+            )
 
   -- what is refused
   pub next_refused : (refuses : Node → PassError → Type 0) (above : Above) (found is_unit : Bool) (e : PassError) → is_unit ≡ is_unit_at above i (out-Node x) → SameFrom ts ys i → SoundFor reads ts found
