@@ -8,3 +8,4 @@ pub mod WellScoped
 pub mod Below
 pub mod BoundNames
 pub mod Shorthands
+pub mod Spaces

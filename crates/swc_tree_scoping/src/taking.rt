@@ -8,7 +8,7 @@ use crate::places::{Scope, Standing};
 pub fn is_variable_scope(scope: Scope) -> bool
     ensures { result ≡ takes_variables scope }
 {
-    matches!(scope, Scope::Program | Scope::Function | Scope::StaticBlock)
+    matches!(scope, Scope::Program | Scope::Function | Scope::StaticBlock | Scope::Namespace)
 }
 
 fn is_name_scope(scope: Scope) -> bool
@@ -29,7 +29,7 @@ pub fn takes(standing: Standing, scope: Scope) -> bool
         }
         Standing::Parameter => matches!(scope, Scope::Function | Scope::Program),
         Standing::CatchParameter => matches!(scope, Scope::Catch | Scope::Program),
-        Standing::Import => matches!(scope, Scope::Program),
+        Standing::Import => matches!(scope, Scope::Program | Scope::Namespace),
         Standing::FunctionName => matches!(scope, Scope::FunctionName | Scope::Program),
         Standing::ClassName => matches!(scope, Scope::ClassName | Scope::Program),
         _ => false,

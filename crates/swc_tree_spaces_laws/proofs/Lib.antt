@@ -1,0 +1,2 @@
+mod Standings
+mod Agree
