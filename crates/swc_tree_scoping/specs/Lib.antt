@@ -8,4 +8,3 @@ pub mod WellScoped
 pub mod Below
 pub mod BoundNames
 pub mod Shorthands
-pub mod Spaces

@@ -4,7 +4,8 @@ ghost use Rattle.swc_tree_scoping.specs.Places.{is_inside as is_in, is_there as 
 
 use crate::places::{Place, Scope, Standing, View};
 use swc_tree_node::fields::{
-    arrow_expr, catch_clause, constructor, function, getter_prop, setter_prop, switch_stmt, ts_enum_decl, ts_interface_decl, ts_module_decl, ts_type_alias_decl,
+    arrow_expr, catch_clause, constructor, function, getter_prop, setter_prop, switch_stmt,
+    ts_enum_decl, ts_interface_decl, ts_module_decl, ts_type_alias_decl,
 };
 use swc_tree_node::{Kind, Node};
 
@@ -126,6 +127,7 @@ pub fn nests(scope: Scope, nested: bool) -> bool
     match scope {
         Scope::Block | Scope::Switch | Scope::Catch => true,
         Scope::For | Scope::FunctionName | Scope::ClassName => nested,
-        Scope::Program | Scope::Function | Scope::StaticBlock | Scope::Types | Scope::Namespace => false,
+        Scope::Program | Scope::Function | Scope::StaticBlock | Scope::Types | Scope::Namespace =>
+            false,
     }
 }

@@ -79,13 +79,6 @@ pub enum Scope {
     Namespace,
 }
 
-/// The two name spaces.
-#[derive(Clone, Copy, Debug, PartialEq, Eq)]
-pub enum Space {
-    Values,
-    Types,
-}
-
 /// How much of a scope is seen from a part of the node that opens it.
 #[derive(Clone, Copy, Debug, PartialEq, Eq)]
 pub enum View {

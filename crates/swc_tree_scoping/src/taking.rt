@@ -8,7 +8,10 @@ use crate::places::{Scope, Standing};
 pub fn is_variable_scope(scope: Scope) -> bool
     ensures { result ≡ takes_variables scope }
 {
-    matches!(scope, Scope::Program | Scope::Function | Scope::StaticBlock | Scope::Namespace)
+    matches!(
+        scope,
+        Scope::Program | Scope::Function | Scope::StaticBlock | Scope::Namespace
+    )
 }
 
 fn is_name_scope(scope: Scope) -> bool
