@@ -118,6 +118,7 @@ IsRefusalOf command.Chain envelope refusal.MarksSpent = TakesTooManyMarks envelo
 IsRefusalOf command.Chain envelope refusal.CounterSpent = IsSpentOnceResolved envelope
 IsRefusalOf command.Chain envelope refusal.NotAssignable = IsUnassignableOnceRenamed envelope
 IsRefusalOf command.Chain envelope refusal.NoMemory = ⊥
+IsRefusalOf command.Chain envelope refusal.TypesLeft = ⊥
 
 -- memory was refused, or the command's pass for its own cause
 abbrev pub IsRefusedFor : Command → Envelope → PassError → Type 0

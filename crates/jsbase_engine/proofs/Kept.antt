@@ -62,6 +62,7 @@ module _ (envelope : Envelope) (ok : MarksOk envelope.globals envelope.unresolve
   no_target chaining fits refusal.MarksSpent h source same = absurd (cc same)
   no_target chaining fits refusal.CounterSpent h source same = absurd (cc same)
   no_target chaining fits refusal.NoMemory h source same = absurd (cc same)
+  no_target chaining fits refusal.TypesLeft h source same = absurd (cc same)
 
   spared : ChainingKeepsSources → (c : Command) (k : Kind) (e : PassError) → Fits envelope.tree (slot.One (content.Node (class_of k))) → IsRefusalOf c envelope e → SparesTargets c k envelope e
   spared chaining command.Chain kind.Module e fits h = no_target chaining fits e h

@@ -89,6 +89,8 @@ any_back f w standing.Body p q = no_way q
 any_back f w standing.Branch p q = no_way q
 any_back f w standing.DefaultExport p q = no_way q
 any_back f w standing.Label p q = no_way q
+any_back f w standing.TypeName p q = no_way q
+any_back f w standing.TypeReference p q = no_way q
 any_back f w standing.Imported p q = no_way q
 any_back f w standing.Exported p q = no_way q
 

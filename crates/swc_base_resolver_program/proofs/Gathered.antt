@@ -60,6 +60,8 @@ no_way standing.DefaultExport = refl
 no_way standing.Label = refl
 no_way standing.Imported = refl
 no_way standing.Exported = refl
+no_way standing.TypeName = refl
+no_way standing.TypeReference = refl
 
 -- gains, one after another
 pub gains_none : (old : List ScopeNames) (P : Gained) → ((k : ℕ) (r : Standing) (x : List ℕ) → P k r x → ⊥) → Gains old old P
@@ -404,6 +406,8 @@ way_self standing.DefaultExport h = absurd (cc)
 way_self standing.Label h = absurd (cc)
 way_self standing.Imported h = absurd (cc)
 way_self standing.Exported h = absurd (cc)
+way_self standing.TypeName h = absurd (cc)
+way_self standing.TypeReference h = absurd (cc)
 
 never_taken : (r : Standing) (o : Option Scope) → is_binding r ≡ false → is_taken r o ≡ false
 never_taken r None h = refl

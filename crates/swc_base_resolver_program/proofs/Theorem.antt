@@ -219,6 +219,8 @@ module _ (a : Marking) (t : Node) where
       has_context standing.Label e = of_neither p i.sym _ refl refl
       has_context standing.Imported e = of_neither p i.sym _ refl refl
       has_context standing.Exported e = of_neither p i.sym _ refl refl
+      has_context standing.TypeName e = of_neither p i.sym _ refl refl
+      has_context standing.TypeReference e = of_neither p i.sym _ refl refl
 
     pub contexts_right : (p : Path) (w : Place) (k : Kind) (i : Ident) → place_at program_place t p ≡ Some (w, Identifier k i) → i.ctxt ≡ [] → HasContext mark a.unresolved t p i.sym w.standing (written a [] 0 program_place t p)
     contexts_right p w k i h none =

@@ -108,6 +108,8 @@ with_has w standing.DefaultExport q = none_way w q
 with_has w standing.Label q = none_way w q
 with_has w standing.Imported q = none_way w q
 with_has w standing.Exported q = none_way w q
+with_has w standing.TypeName q = none_way w q
+with_has w standing.TypeReference q = none_way w q
 
 -- ways of one number are one
 way_of : ℕ → Standing
@@ -143,6 +145,8 @@ numbered standing.DefaultExport = inl refl
 numbered standing.Label = inl refl
 numbered standing.Imported = inl refl
 numbered standing.Exported = inl refl
+numbered standing.TypeName = inl refl
+numbered standing.TypeReference = inl refl
 
 pub one_way : (r q : Standing) → IsTrue (is_way r q) → r ≡ q
 one_way r q h =

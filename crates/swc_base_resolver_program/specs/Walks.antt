@@ -144,6 +144,8 @@ is_marked standing.DefaultExport = false
 is_marked standing.Label = false
 is_marked standing.Imported = false
 is_marked standing.Exported = false
+is_marked standing.TypeName = false
+is_marked standing.TypeReference = false
 is_marked _ = true
 
 -- the context of an identifier that had none
@@ -158,6 +160,8 @@ fresh_context a standing.DefaultExport x env = []
 fresh_context a standing.Label x env = []
 fresh_context a standing.Imported x env = []
 fresh_context a standing.Exported x env = []
+fresh_context a standing.TypeName x env = []
+fresh_context a standing.TypeReference x env = []
 fresh_context a r x env = mark_at a (taker_in r env) ∷ []
 
 abbrev pub kept_or : List ℕ → List ℕ → List ℕ

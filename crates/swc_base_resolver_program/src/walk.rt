@@ -175,6 +175,8 @@ fn gets_mark(standing: Standing) -> bool
             | Standing::Exported
             | Standing::Branch
             | Standing::DefaultExport
+            | Standing::TypeName
+            | Standing::TypeReference
     )
 }
 
@@ -200,7 +202,9 @@ fn mark_of(standing: Standing, name: &str, answers: &Answers, env: &Env) -> Opti
         | Standing::Imported
         | Standing::Exported
         | Standing::Branch
-        | Standing::DefaultExport => None,
+        | Standing::DefaultExport
+        | Standing::TypeName
+        | Standing::TypeReference => None,
         _ => Some(mark_at(answers, taker(env, standing))),
     }
 }

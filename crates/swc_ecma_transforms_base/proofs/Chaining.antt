@@ -43,6 +43,7 @@ module _ (unresolved top : ℕ) (config : Config) (old : Table) (before : Node) 
   refused error.CounterSpent h = record { resolved = resolved; marked = m; is_so = h }
   refused error.NotAssignable h = record { resolved = resolved; marked = m; is_so = h }
   refused error.MarksSpent h = absurd h
+  refused error.TypesLeft h = absurd h
 
   pub refused_later : {T : Type 0} (r : Result T PassError) → IfErr r (IsFinishRefusal new config resolved) → IfErr r (IsChainRefusal unresolved top config old before new)
   refused_later (Ok t) h = tt
@@ -83,6 +84,7 @@ module _ (unresolved top : ℕ) (config : Config) (old : Table) (before : Node) 
   not_target law fits s ok error.NoMemory h n = absurd (cc n)
   not_target law fits s ok error.CounterSpent h n = absurd (cc n)
   not_target law fits s ok error.MarksSpent h n = absurd h
+  not_target law fits s ok error.TypesLeft h n = absurd h
 
   pub no_target_later : {T : Type 0} (r : Result T PassError) → ChainingKeepsSources → IfErr r (IsFinishRefusal new config resolved) → Fits before module_place → IsSource config before → MarksOk old unresolved top
       → IfErr r (λ e. e ≢ error.NotAssignable)

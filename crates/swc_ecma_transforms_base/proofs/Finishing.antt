@@ -51,7 +51,9 @@ module _ (table : Table) (config : Config) (before middle : Node) (hygienic : Is
   refused error.CounterSpent (inl q) bare = absurd (cc)
   refused error.CounterSpent (inr q) bare = absurd (cc)
   refused error.MarksSpent (inl q) bare = absurd (cc)
+  refused error.TypesLeft (inl q) bare = absurd (cc)
   refused error.MarksSpent (inr q) bare = absurd (cc)
+  refused error.TypesLeft (inr q) bare = absurd (cc)
 
   pub refused_by_fixer : {T : Type 0} (r : Result T PassError) → IfErr r IsRefusal → IfErr r (λ e. e ≡ error.NotAssignable → all_bare middle ≡ false) → IfErr r (IsFinishRefusal table config before)
   refused_by_fixer (Ok t) h bare = tt
@@ -100,6 +102,7 @@ module _ (table : Table) (config : Config) (before : Node) (fits : Fits before m
   no_target law error.NoMemory h = inl refl
   no_target law error.CounterSpent h = inr refl
   no_target law error.MarksSpent h = absurd h
+  no_target law error.TypesLeft h = absurd h
   no_target law error.NotAssignable h = let stands = law table config before h.between fits finishable h.hygienic in let fails = h.unassignable in absurd (cc)
 
   pub meets_none : {T : Type 0} (r : Result T PassError) → FinishingMeetsNoTarget → IfErr r (IsFinishRefusal table config before) → IfErr r IsOfMemoryOrCounters

@@ -46,6 +46,7 @@ pub record OnceMarked (unresolved top : ℕ) (old : Table) (before : Node) (new 
 abbrev pub IsChainRefusal : ℕ → ℕ → Config → Table → Node → Table → PassError → Type 0
 IsChainRefusal unresolved top config old before new error.NoMemory = Unit {0}
 IsChainRefusal unresolved top config old before new error.MarksSpent = 4294967295 < greatest old + marks_for before
+IsChainRefusal unresolved top config old before new error.TypesLeft = ⊥
 IsChainRefusal unresolved top config old before new error.CounterSpent =
     OnceMarked unresolved top old before new (λ t. IsRenameRefusal new config hygiene_renaming t error.CounterSpent)
 IsChainRefusal unresolved top config old before new error.NotAssignable = OnceMarked unresolved top old before new (λ t. IsUnassignable new config t)

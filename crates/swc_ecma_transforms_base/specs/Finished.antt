@@ -28,3 +28,4 @@ IsFinishRefusal table config before error.NoMemory = Unit {0}
 IsFinishRefusal table config before error.CounterSpent = IsRenameRefusal table config hygiene_renaming before error.CounterSpent
 IsFinishRefusal table config before error.NotAssignable = IsUnassignable table config before
 IsFinishRefusal table config before error.MarksSpent = ⊥
+IsFinishRefusal table config before error.TypesLeft = ⊥

@@ -141,6 +141,8 @@ own_so w k ts i role.ExportLocal r d b h = exported_so (is_there (slice_get ts 2
 own_so w k ts i role.Label r d b h = never standing.Label r false refl b h
 own_so w k ts i role.Imported r d b h = never standing.Imported r false refl b h
 own_so w k ts i role.Exported r d b h = never standing.Exported r false refl b h
+own_so w k ts i role.TypeName r d b h = never standing.TypeName r false refl b h
+own_so w k ts i role.TypeReference r d b h = never standing.TypeReference r false refl b h
 
 -- only where anything may be left does a default export stand
 keyword_default : (ts : List Node) → is_default (by_keyword ts) ≡ true → ⊥
