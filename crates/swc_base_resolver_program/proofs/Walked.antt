@@ -37,6 +37,8 @@ unmarked_stays a standing.DefaultExport env i h = ap (λ c. record i { ctxt = c 
 unmarked_stays a standing.Label env i h = ap (λ c. record i { ctxt = c }) (sym (kept_none i.ctxt))
 unmarked_stays a standing.Imported env i h = ap (λ c. record i { ctxt = c }) (sym (kept_none i.ctxt))
 unmarked_stays a standing.Exported env i h = ap (λ c. record i { ctxt = c }) (sym (kept_none i.ctxt))
+unmarked_stays a standing.TypeName env i h = ap (λ c. record i { ctxt = c }) (sym (kept_none i.ctxt))
+unmarked_stays a standing.TypeReference env i h = ap (λ c. record i { ctxt = c }) (sym (kept_none i.ctxt))
 unmarked_stays a _ env i h = absurd (cc)
 
 module _ (a : Marking) where
