@@ -55,6 +55,10 @@ apart standing.Imported standing.Imported a b = absurd (cc)
 apart standing.Imported _ a b = refl
 apart standing.Exported standing.Exported a b = absurd (cc)
 apart standing.Exported _ a b = refl
+apart standing.TypeName standing.TypeName a b = absurd (cc)
+apart standing.TypeName _ a b = refl
+apart standing.TypeReference standing.TypeReference a b = absurd (cc)
+apart standing.TypeReference _ a b = refl
 apart _ r a b = absurd (cc)
 
 -- the standing of a field, by its role
@@ -204,6 +208,7 @@ surely w kind.GetterProp ts i r c d e there h = h
 surely w kind.SetterProp ts i r c d e there h = h
 surely w kind.StaticBlock ts i r c d e there h = h
 surely w kind.CatchClause ts i r c d e there h = h
+surely w kind.TsModuleDecl ts i r c d e there h = h
 surely w kind.FnExpr ts zero r c d e there h = name_scoped w.standing scope.FunctionName r (is_there (slice_get ts 0)) d (ap is_there e ∙ there) h
 surely w kind.FnExpr ts (suc i) r c d e there h = absurd (cc)
 surely w kind.ClassExpr ts zero r c d e there h = name_scoped w.standing scope.ClassName r (is_there (slice_get ts 0)) d (ap is_there e ∙ there) h
