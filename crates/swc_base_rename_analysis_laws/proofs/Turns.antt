@@ -43,6 +43,7 @@ turn_is_number kind.CatchClause i e = body_first_twice i
 turn_is_number kind.Constructor i e = impossible (sym e)
 turn_is_number kind.GetterProp i e = impossible (sym e)
 turn_is_number kind.SetterProp i e = impossible (sym e)
+turn_is_number kind.TsModuleDecl i e = impossible (sym e)
 turn_is_number k i e = refl
 
 -- where there is one, the key has the first turn, and the others come two later than their numbers

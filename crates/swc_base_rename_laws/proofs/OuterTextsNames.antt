@@ -351,6 +351,10 @@ module _ (m : Changes) (keeps : Bool) where
   same_declaration kind.FnDecl ts us b = same_kind kind.FnDecl _ us (λ i. refl)
   same_declaration kind.VarDecl ts us b = same_kind kind.VarDecl _ us (λ i. refl)
   same_declaration kind.UsingDecl ts us b = same_kind kind.UsingDecl _ us (λ i. refl)
+  same_declaration kind.TsInterfaceDecl ts us b = same_kind kind.TsInterfaceDecl _ us (λ i. refl)
+  same_declaration kind.TsTypeAliasDecl ts us b = same_kind kind.TsTypeAliasDecl _ us (λ i. refl)
+  same_declaration kind.TsEnumDecl ts us b = same_kind kind.TsEnumDecl _ us (λ i. refl)
+  same_declaration kind.TsModuleDecl ts us b = same_kind kind.TsModuleDecl _ us (λ i. refl)
   same_declaration k ts us b = impossible b
 
   declared_stay : (k : Kind) (ts : List Node) → IsTrue (belongs k class.Decl) → FieldsFit (slots_of k) ts → Unchanged (declared_ids (Tree k ts))
