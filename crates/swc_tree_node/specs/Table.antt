@@ -382,7 +382,7 @@ fields_of kind.TsArrayType = (codes "span", slot.One content.Span, role.Plain) �
 fields_of kind.TsUnionType = (codes "span", slot.One content.Span, role.Plain) ∷ (codes "types", slot.List (content.Node class.TsType), role.Plain) ∷ []
 fields_of kind.TsTypeLit = (codes "span", slot.One content.Span, role.Plain) ∷ (codes "members", slot.List (content.Node class.TsPropertySignature), role.Plain) ∷ []
 fields_of kind.TsPropertySignature = (codes "span", slot.One content.Span, role.Plain) ∷ (codes "key", slot.One (content.Node class.IdentName), role.Plain) ∷ (codes "optional", slot.One content.Flag, role.Plain) ∷ (codes "type_ann", slot.One (content.Node class.TsType), role.Plain) ∷ []
-fields_of kind.TsQualifiedName = (codes "span", slot.One content.Span, role.Plain) ∷ (codes "left", slot.One (content.Node class.TsEntityName), role.Inherited) ∷ (codes "right", slot.One (content.Node class.IdentName), role.Plain) ∷ []
+fields_of kind.TsQualifiedName = (codes "span", slot.One content.Span, role.Plain) ∷ (codes "left", slot.One (content.Node class.TsEntityName), role.TypeReference) ∷ (codes "right", slot.One (content.Node class.IdentName), role.Plain) ∷ []
 
 -- the words of a place
 abbrev pub words_of : WordClass → List Word

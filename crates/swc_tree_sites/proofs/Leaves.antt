@@ -131,7 +131,6 @@ leaves_kind kind.ForInStmt = leaves_statements
 leaves_kind kind.ForOfStmt = leaves_statements
 leaves_kind kind.TsEnumDecl = leaves_statements
 leaves_kind kind.TsModuleDecl = leaves_statements
-leaves_kind kind.TsQualifiedName = leaves_own
 leaves_kind _ = leaves_none
 
 abbrev leaves_kinds : List Kind → Leaves
@@ -156,7 +155,7 @@ leaves_slot _ = leaves_none
 -- a kind's number tells what it leaves
 abbrev leaves_number : ℕ → Leaves
 leaves_number n = record {
-  own = (n == 13 || n == 14) || ((nat_le 48 n && nat_le n 53) || (n == 80 || n == 109));
+  own = (n == 13 || n == 14) || ((nat_le 48 n && nat_le n 53) || n == 80);
   by_statements = (nat_le 76 n && (nat_le n 96 && not (n == 80))) || (n == 100 || n == 102);
   parameters = n == 33;
   any = nat_le n 12;

@@ -234,7 +234,7 @@ pub(super) const TS_QUALIFIED_NAME: &[Field] = &[
     Field {
         key: "left",
         slot: Slot::One(Content::Node(Class::TsEntityName)),
-        role: Role::Inherited,
+        role: Role::TypeReference,
     },
     Field {
         key: "right",
