@@ -371,6 +371,10 @@ module _ (m : Changes) (keeps : Bool) where
   declared_stay kind.ClassDecl [] b h u = absurd h
   declared_stay kind.ClassDecl (t ∷ []) b h u = absurd h.1
   declared_stay kind.ClassDecl (t ∷ f ∷ x ∷ xs) b h u = absurd h.1.1
+  declared_stay kind.TsInterfaceDecl ts b h u = declarators_stay kind.TsInterfaceDecl ts (λ us. ap (declared_in (Tree kind.TsInterfaceDecl us)) (outs-Tree kind.TsInterfaceDecl us)) h (λ q. refl) (λ us. same_declaration kind.TsInterfaceDecl ts us b) u
+  declared_stay kind.TsTypeAliasDecl ts b h u = declarators_stay kind.TsTypeAliasDecl ts (λ us. ap (declared_in (Tree kind.TsTypeAliasDecl us)) (outs-Tree kind.TsTypeAliasDecl us)) h (λ q. refl) (λ us. same_declaration kind.TsTypeAliasDecl ts us b) u
+  declared_stay kind.TsEnumDecl ts b h u = declarators_stay kind.TsEnumDecl ts (λ us. ap (declared_in (Tree kind.TsEnumDecl us)) (outs-Tree kind.TsEnumDecl us)) h (λ q. refl) (λ us. same_declaration kind.TsEnumDecl ts us b) u
+  declared_stay kind.TsModuleDecl ts b h u = declarators_stay kind.TsModuleDecl ts (λ us. ap (declared_in (Tree kind.TsModuleDecl us)) (outs-Tree kind.TsModuleDecl us)) h (λ q. refl) (λ us. same_declaration kind.TsModuleDecl ts us b) u
   declared_stay k ts b h u = impossible b
 
   -- the names of an exported declaration
