@@ -79,6 +79,7 @@ pub key_is_first : (k : Kind) (f : ℕ) → key_field k ≡ Some f → turn_in k
 key_is_first kind.Constructor f e = ap (λ b. cond b 0 (f + 2)) ((unsigned_Decides constructor.KEY f).1 (let same : Some constructor.KEY ≡ Some f = e in cc))
 key_is_first kind.GetterProp f e = ap (λ b. cond b 0 (f + 2)) ((unsigned_Decides getter_prop.KEY f).1 (let same : Some getter_prop.KEY ≡ Some f = e in cc))
 key_is_first kind.SetterProp f e = ap (λ b. cond b 0 (f + 2)) ((unsigned_Decides setter_prop.KEY f).1 (let same : Some setter_prop.KEY ≡ Some f = e in cc))
+key_is_first kind.TsModuleDecl f e = ap (λ b. cond b 0 (f + 2)) ((unsigned_Decides ts_module_decl.ID f).1 (let same : Some ts_module_decl.ID ≡ Some f = e in cc))
 key_is_first k f e = not_some e
 
 pub entered_second : (k : Kind) (ts : List Node) (f : ℕ) → key_field k ≡ Some f → entry (Node-F.Tree k ts) ≡ 1 ∷ []
