@@ -152,7 +152,7 @@ ident_slot (slot.One _) h = absurd (cc)
 ident_slot _ h = absurd (cc)
 
 -- which has nothing below it
-ident_leaf : (c d : Node) (i : ℕ) → Fits c (slot.One (content.Node class.Ident)) → child c i ≡ Some d → ⊥
+pub ident_leaf : (c d : Node) (i : ℕ) → Fits c (slot.One (content.Node class.Ident)) → child c i ≡ Some d → ⊥
 ident_leaf c d i fit e = forms (out-Node c) refl
   where
     forms : (y : Node-F Node) → out-Node c ≡ y → ⊥
