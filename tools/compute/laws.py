@@ -22,7 +22,7 @@ import random_nodes
 import random_trees
 import scoping
 import trees
-from lawbook import LAWS, Bad, D, fits_grammar, fixed, is_writable, load, normal_form, stripped
+from lawbook import LAWS, Bad, D, fits_grammar, fixed, has_types, is_writable, load, normal_form, stripped
 import grammar_laws
 import headline_laws
 import injection_laws
@@ -77,10 +77,6 @@ def written_trees():
                 yield read(text)
             except SyntaxError:
                 pass
-
-
-def has_types(t):
-    return any(node[0] == 'Tree' and node[1] in random_nodes.TYPES for _, node in trees.paths(t))
 
 
 def tried(tallies, options):
