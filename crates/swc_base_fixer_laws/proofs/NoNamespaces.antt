@@ -7,7 +7,7 @@ use Rattle.swc_tree_node.specs.declared.slot.Slot.{Slot}
 use Rattle.swc_tree_node.specs.declared.node.Node.{Node, Tree, out-Node, the_lemmas}
 use Rattle.swc_tree_node.specs.declared.node.Node.TheOpen.{Node-F}
 use Rattle.swc_tree_node.specs.Table.{slots_of}
-use Rattle.swc_tree_node.specs.Fits.{Fits}
+use Rattle.swc_tree_node.specs.Fits.{AllFit, FieldsFit, Fits}
 use Rattle.swc_tree_node.proofs.Fit.{both}
 use Rattle.swc_tree_scoping.specs.declared.places.Place.{Place}
 use Rattle.swc_tree_scoping.specs.Places.{Path, child, children_in, place_at, place_below, program_place}
@@ -15,18 +15,20 @@ use Rattle.swc_tree_scoping.proofs.Remarked.{list_is, tree_is}
 use Rattle.swc_tree_scoping.proofs.Under.{no_place_under, place_under}
 use Rattle.swc_tree_spaces.specs.NoTypes.{NoNamespaces}
 use Rattle.swc_tree_grammar.specs.Writable.{Round, Writable, in_head_in, sound_in}
-use Rattle.swc_tree_grammar.proofs.Asked.{asked}
+use Rattle.swc_tree_grammar.proofs.Asked.{asked, sound}
+use Rattle.swc_tree_grammar.proofs.Induction.{Each}
 use Rattle.swc_tree_grammar_laws.specs.Every.{every}
 use Rattle.swc_tree_grammar_laws.proofs.Every.{every_list, every_tree}
-use Rattle.swc_base_fixer_laws.proofs.Quiet.{is_quiet}
+use Rattle.swc_tree_grammar_laws.proofs.Levelled.{also}
+use Rattle.swc_base_fixer_laws.proofs.Quiet.{is_quiet, quiet, quiet_slots}
 use Rattle.swc_base_fixer_laws.proofs.Everywhere.{Everywhere, Parts, everywhere}
 
-abbrev is_other_in : Node-F Node → Bool
+abbrev pub is_other_in : Node-F Node → Bool
 is_other_in (Node-F.Tree kind.TsModuleDecl ts) = false
 is_other_in _ = true
 
 -- no node is a namespace
-abbrev is_free : Node → Bool
+abbrev pub is_free : Node → Bool
 is_free = every is_other_in
 
 no_quiet : (k : Kind) (ts : List Node) → list_all is_quiet (slots_of k) ≡ true → is_other_in (Node-F.Tree k ts) ≡ true
@@ -50,6 +52,31 @@ freeing = record {
   own_sound = no_sound;
   own_head = no_head;
 }
+
+-- no namespace stands in what is sound
+pub sound_is_free : (t : Node) (s : Slot) → Fits t s → (r : Round) → sound t r ≡ true → is_free t ≡ true
+sound_is_free t s f r h = everywhere freeing t s f r h
+
+-- nor in a quiet place
+free_each : (ts : List Node) → Each (λ t. is_free t ≡ true) ts → list_all is_free ts ≡ true
+free_each [] l = refl
+free_each (t ∷ ts) l = also l.0 (free_each ts l.1)
+
+quiet_tree : (k : Kind) (ts : List Node) → list_all is_quiet (slots_of k) ≡ true → Each (λ t. is_free t ≡ true) ts → is_free (Tree k ts) ≡ true
+quiet_tree k ts q l = every_tree is_other_in k ts ∙ also (no_quiet k ts q) (free_each ts l)
+
+pub quiet_is_free : (t : Node) (s : Slot) → is_quiet s ≡ true → Fits t s → is_free t ≡ true
+quiet_is_free t = quiet (λ t. is_free t ≡ true) freeing.of_leaves (λ ts l. every_list is_other_in ts ∙ free_each ts l) (λ k ts q l. quiet_tree k ts (quiet_slots k q) l) t
+
+pub quiet_fields_free : (ss : List Slot) (ts : List Node) → list_all is_quiet ss ≡ true → FieldsFit ss ts → list_all is_free ts ≡ true
+quiet_fields_free [] [] q f = refl
+quiet_fields_free [] (t ∷ ts) q f = absurd f
+quiet_fields_free (s ∷ ss) [] q f = absurd f
+quiet_fields_free (s ∷ ss) (t ∷ ts) q f = let p = both (is_quiet s) (list_all is_quiet ss) q in also (quiet_is_free t s p.0 f.0) (quiet_fields_free ss ts p.1 f.1)
+
+pub quiet_items_free : (s : Slot) (ts : List Node) → is_quiet s ≡ true → AllFit s ts → list_all is_free ts ≡ true
+quiet_items_free s [] q f = refl
+quiet_items_free s (t ∷ ts) q f = also (quiet_is_free t s q f.0) (quiet_items_free s ts q f.1)
 
 -- ---- by paths
 
