@@ -1,5 +1,5 @@
 -- Trees in which no node of types stands, and where export lists stand in them.
-use Rattle.std.specs.Prelude.{◌≡◌, ℕ, false, ⊥, Some, List, [], ◌∷◌}
+use Rattle.std.specs.Prelude.{◌≡◌, ℕ, false, Some, List, [], ◌∷◌}
 use Rattle.swc_tree_node.specs.declared.kind.Kind.{Kind}
 use Rattle.swc_tree_node.specs.declared.kind.Kind.TheVariants as kind
 use Rattle.swc_tree_node.specs.declared.node.Node.{Node, Tree}
