@@ -1,2 +1,3 @@
 mod Standings
 mod Agree
+mod Told
