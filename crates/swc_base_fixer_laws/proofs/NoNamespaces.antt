@@ -105,11 +105,11 @@ none_at : (p : Path) (v w : Place) (t : Node) (ts : List Node) → is_free t ≡
 none_at [] v w t ts h e =
     let is : t ≡ Tree kind.TsModuleDecl ts = ap (λ (q : Place × Node). q.1) (some_same (v, t) (w, Tree kind.TsModuleDecl ts) e) in
     let z : false ≡ true = sym (every_tree is_other_in kind.TsModuleDecl ts) ∙ sym (ap is_free is) ∙ h in absurd (cc)
-none_at (i ∷ p) v w t ts h e = at (child t i) refl
+none_at (i ∷ p) v w t ts h e = at (λ c. none_at p (place_below v t i) w c ts) (child t i) refl
   where
-    at : (o : Option Node) → child t i ≡ o → ⊥
-    at None o = let z : ◌≡◌ {A = Option (Place × Node)} (Some (w, Tree kind.TsModuleDecl ts)) None = sym e ∙ no_place_under v t i p o in absurd (cc)
-    at (Some c) o = none_at p (place_below v t i) w c ts (below t c i (out-Node t) refl h o) (sym (place_under v t c i p o) ∙ e)
+    at : ((c : Node) → is_free c ≡ true → place_at (place_below v t i) c p ≡ Some (w, Tree kind.TsModuleDecl ts) → ⊥) → (o : Option Node) → child t i ≡ o → ⊥
+    at none None o = let z : ◌≡◌ {A = Option (Place × Node)} (Some (w, Tree kind.TsModuleDecl ts)) None = sym e ∙ no_place_under v t i p o in absurd (cc)
+    at none (Some c) o = none c (below t c i (out-Node t) refl h o) (sym (place_under v t c i p o) ∙ e)
 
 pub writable_has_no_namespaces : (t : Node) (s : Slot) → Fits t s → Writable t → NoNamespaces t
 writable_has_no_namespaces t s f w p v ts e = none_at p program_place v t ts (everywhere freeing t s f (record { strict = false; assigned = false }) w) e

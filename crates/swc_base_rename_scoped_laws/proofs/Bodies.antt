@@ -268,7 +268,7 @@ module _ (t : Node) (s : Slot) (fit : Fits t s) (v : Path) (j : ℕ) (a b : Site
 
                   -- it is in no namespace's name, where an identifier stands and nothing below it
                   clear : (i : ℕ) → GoesOn t v l i p → IsInScope (place_below x f j) c i
-                  clear i g k ts o = by (is_outside (place_below x f j) k (has_identifier ts) i) refl
+                  clear i g k ts o = stays (is_outside (place_below x f j) k (has_identifier ts) i) refl
                     where
                       among : IsTrue (belongs k class.Stmt)
                       among =
@@ -284,11 +284,11 @@ module _ (t : Node) (s : Slot) (fit : Fits t s) (v : Path) (j : ℕ) (a b : Site
                           through : Part (v ++ (l ∷ [])) (i ∷ z ∷ q) program_place pv t pn → ⊥
                           through (x', c', y', here', fits', on') = in_name (child c i) refl
                             where
-                              same : c' ≡ c
-                              same = ap (λ (z : Place × Node). z.1) (some_same (x', c') (place_below x f j, c) (sym here' ∙ at_part))
+                              c_is : c' ≡ c
+                              c_is = ap (λ (z : Place × Node). z.1) (some_same (x', c') (place_below x f j, c) (sym here' ∙ at_part))
 
                               stands : place_at x' c (i ∷ z ∷ q) ≡ Some (pv, pn)
-                              stands = ap (λ c. place_at x' c (i ∷ z ∷ q)) (sym same) ∙ on'
+                              stands = ap (λ c. place_at x' c (i ∷ z ∷ q)) (sym c_is) ∙ on'
 
                               in_name : (o' : Option Node) → child c i ≡ o' → ⊥
                               in_name None e' = no_place (pv, pn) (sym stands ∙ no_place_under x' c i (z ∷ q) e')
@@ -301,9 +301,9 @@ module _ (t : Node) (s : Slot) (fit : Fits t s) (v : Path) (j : ℕ) (a b : Site
                                   leaf None e'' = no_place (pv, pn) (sym stands ∙ place_under x' c h i (z ∷ q) e' ∙ no_place_under (place_below x' c i) h z q e'')
                                   leaf (Some m) e'' = ident_leaf h m z name_fits e''
 
-                      by : (b : Bool) → is_outside (place_below x f j) k (has_identifier ts) i ≡ b → is_outside (place_below x f j) k (has_identifier ts) i ≡ false
-                      by false e = e
-                      by true e = let (is, one) = outside_only (place_below x f j) k (has_identifier ts) i among e in absurd (from is one g)
+                      stays : (b : Bool) → is_outside (place_below x f j) k (has_identifier ts) i ≡ b → is_outside (place_below x f j) k (has_identifier ts) i ≡ false
+                      stays false e = e
+                      stays true e = let (is, one) = outside_only (place_below x f j) k (has_identifier ts) i among e in absurd (from is one g)
 
   -- the scope is round the statement
   wide : (rest p : Path) → v ≡ a.0 ++ rest → IsRound t a.0 p → IsSeen t v p → IsAtOrAbove t b.0 a.0

@@ -77,11 +77,11 @@ here k ts h = (either_false (is_of_types k) (list_any has_types ts) (sym (told (
 stands_none : (p : Path) (w : Place) (t : Node) → has_types t ≡ false → (v : Place) (k : Kind) (ts : List Node) → place_at w t p ≡ Some (v, Tree k ts) → is_of_types k ≡ false
 stands_none [] w t h v k ts e =
     let is : t ≡ Tree k ts = ap (λ (q : Place × Node). q.1) (some_same (w, t) (v, Tree k ts) e) in here k ts (subst (λ t. has_types t ≡ false) is h)
-stands_none (i ∷ p) w t h v k ts e = at (child t i) refl
+stands_none (i ∷ p) w t h v k ts e = at (λ c g l. stands_none p (place_below w t i) c g v k ts l) (child t i) refl
   where
-    at : (o : Option Node) → child t i ≡ o → is_of_types k ≡ false
-    at None o = let z : ◌≡◌ {A = Option (Place × Node)} (Some (v, Tree k ts)) None = sym e ∙ no_place_under w t i p o in absurd (cc)
-    at (Some c) o = stands_none p (place_below w t i) c (below t c i (out-Node t) refl h o) v k ts (sym (place_under w t c i p o) ∙ e)
+    at : ((c : Node) → has_types c ≡ false → place_at (place_below w t i) c p ≡ Some (v, Tree k ts) → is_of_types k ≡ false) → (o : Option Node) → child t i ≡ o → is_of_types k ≡ false
+    at none None o = let z : ◌≡◌ {A = Option (Place × Node)} (Some (v, Tree k ts)) None = sym e ∙ no_place_under w t i p o in absurd (cc)
+    at none (Some c) o = none c (below t c i (out-Node t) refl h o) (sym (place_under w t c i p o) ∙ e)
 
 -- ---- none stands, so none is found
 
