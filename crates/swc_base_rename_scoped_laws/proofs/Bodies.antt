@@ -338,13 +338,13 @@ body_comes_last t s fit v r a b p rp ip at_p (j, u, body, lexical) round there p
                       where
                         by : (m' : ℕ) (n' : Path) → p ≡ a.0 ++ (m' ∷ n') → Meets a.0 v → IsAtOrAbove t b.0 a.0
                         by m' n' goes' (inl (rest, e)) = wide t s fit v j a b before u round x f y here f_fits c its is rest p e h there
-                        by m' n' goes' (inr (l, rest, e)) = inner l rest (rest ++ (m' ∷ n')) on e whole
+                        by m' n' goes' (inr (l, rest, e)) = inner l rest (rest ++ (m' ∷ n')) ahead e whole
                           where
                             whole : p ≡ v ++ (l ∷ (rest ++ (m' ∷ n')))
                             whole = goes' ∙ ap (λ a. a ++ (m' ∷ n')) e ∙ regrouped v (l ∷ rest) (m' ∷ n')
 
-                            on : (i : ℕ) (r : Path) → rest ≡ i ∷ r → GoesOn t v l i p
-                            on i r same = let (z, q, more) = goes_further r m' n' in inr (z, q, whole ∙ ap (λ rest. v ++ (l ∷ (rest ++ (m' ∷ n')))) same ∙ ap (λ r. v ++ (l ∷ i ∷ r)) more)
+                            ahead : (i : ℕ) (late : Path) → rest ≡ i ∷ late → GoesOn t v l i p
+                            ahead i late same = let (z, final, more) = goes_further late m' n' in inr (z, final, whole ∙ ap (λ rest. v ++ (l ∷ (rest ++ (m' ∷ n')))) same ∙ ap (λ r. v ++ (l ∷ i ∷ r)) more)
 
                     own : IsOwnName t a.0 p → IsAtOrAbove t b.0 a.0
                     own (q, w', g, at_name, at_function, there_too, uses) = let (rest, e) = last_step v q m fn_decl.IDENT n (sym goes ∙ at_name) in by rest e
@@ -353,14 +353,14 @@ body_comes_last t s fit v r a b p rp ip at_p (j, u, body, lexical) round there p
                         by [] e =
                             let same : g ≡ f = ap (λ (z : Place × Node). z.1) (some_same (w', g) (x, f) (sym there_too ∙ ap (place_at program_place t) (e ∙ nothing_after v) ∙ here)) in
                             absurd (no_function_is_for (out-Node f) j is (subst (λ g. IsTrue (uses_own_name (out-Node g))) same uses))
-                        by (l ∷ rest) e = inner l (rest ++ (fn_decl.FUNCTION ∷ [])) (rest ++ (fn_decl.IDENT ∷ [])) (on rest refl) (at_function ∙ ap (λ q. q ++ (fn_decl.FUNCTION ∷ [])) e ∙ regrouped v (l ∷ rest) (fn_decl.FUNCTION ∷ [])) whole
+                        by (l ∷ rest) e = inner l (rest ++ (fn_decl.FUNCTION ∷ [])) (rest ++ (fn_decl.IDENT ∷ [])) (ahead rest refl) (at_function ∙ ap (λ q. q ++ (fn_decl.FUNCTION ∷ [])) e ∙ regrouped v (l ∷ rest) (fn_decl.FUNCTION ∷ [])) whole
                           where
                             whole : p ≡ v ++ (l ∷ (rest ++ (fn_decl.IDENT ∷ [])))
                             whole = at_name ∙ ap (λ q. q ++ (fn_decl.IDENT ∷ [])) e ∙ regrouped v (l ∷ rest) (fn_decl.IDENT ∷ [])
 
-                            on : (part : Path) → rest ≡ part → (i : ℕ) (r : Path) → rest ++ (fn_decl.FUNCTION ∷ []) ≡ i ∷ r → GoesOn t v l i p
-                            on [] is i r same = inl (w', g, sym (ap (λ rest. place_at program_place t (v ++ (l ∷ rest))) is) ∙ ap (place_at program_place t) (sym e) ∙ there_too, uses)
-                            on (h ∷ k) is i r same =
-                                let one : h ≡ i = first_step (sym (ap (λ rest. rest ++ (fn_decl.FUNCTION ∷ [])) is) ∙ same) in
-                                let (z, q, more) = goes_further k fn_decl.IDENT [] in
-                                inr (z, q, whole ∙ ap (λ rest. v ++ (l ∷ (rest ++ (fn_decl.IDENT ∷ [])))) is ∙ ap (λ k. v ++ (l ∷ h ∷ k)) more ∙ ap (λ h. v ++ (l ∷ h ∷ z ∷ q)) one)
+                            ahead : (way : Path) → rest ≡ way → (i : ℕ) (late : Path) → rest ++ (fn_decl.FUNCTION ∷ []) ≡ i ∷ late → GoesOn t v l i p
+                            ahead [] none i late same = inl (w', g, sym (ap (λ rest. place_at program_place t (v ++ (l ∷ rest))) none) ∙ ap (place_at program_place t) (sym e) ∙ there_too, uses)
+                            ahead (h ∷ k) some i late same =
+                                let one : h ≡ i = first_step (sym (ap (λ rest. rest ++ (fn_decl.FUNCTION ∷ [])) some) ∙ same) in
+                                let (z, final, more) = goes_further k fn_decl.IDENT [] in
+                                inr (z, final, whole ∙ ap (λ rest. v ++ (l ∷ (rest ++ (fn_decl.IDENT ∷ [])))) some ∙ ap (λ k. v ++ (l ∷ h ∷ k)) more ∙ ap (λ h. v ++ (l ∷ h ∷ z ∷ final)) one)
