@@ -463,12 +463,12 @@ def in_order(analysis, r, counts):
     sites = tuple((number[s], ids.index(x)) for s, _, x in rows)
     preserved = naming.preserved_texts(analysis, r.preserves)
     rules = Rec(
-        text=lambda x: lambda k: r.text(ids[x], k), goes_on=naming.counts_on(r), stays=lambda x: ids[x] in r.preserves or ids[x][0] == naming.EVAL,
+        text=lambda x: lambda k: r.text(ids[x], k), counter_goes_on=naming.counts_on(r), stays=lambda x: ids[x] in r.preserves or ids[x][0] == naming.EVAL,
         preserved=lambda text: text in preserved, occurs=lambda s: lambda x: naming.OccursIn(analysis, paths[s], ids[x]),
         counts=lambda u: lambda s: counts(analysis, paths[u], paths[s]))
     choices = ()
     for site in order.named_sites(rules, (), sites):
-        k = order.past(site[0], choices[-1:] or None) if rules.goes_on else 0
+        k = order.past(site[0], choices[-1:] or None) if rules.counter_goes_on else 0
         while order.is_taken(rules, choices, site[0], r.text(ids[site[1]], k)):
             k += 1
         choices += ((site, k),)

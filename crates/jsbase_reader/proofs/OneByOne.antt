@@ -2,8 +2,11 @@
 use Rattle.std.proofs.Common.{◌≡◌, ◌-◌, ◌<◌, ◌≤◌, ℕ, zero, suc, List, [], ◌∷◌, ◌++◌, length, Option, Some, None, option_and_then, option_map, unwrap_or, codes, ◌||◌, Ok, Err, bytes_eq, true, false, Bool, cond, refl, sym, ap, ◌∙◌, arith}
 use Rattle.std.specs.Borrow.{Bor}
 use Rattle.std.proofs.Common.{Global, Vec}
+use Rattle.std.specs.Bool.{MatchBool}
 use Rattle.std.specs.List.{list_any}
+use Rattle.std.specs.Option.{option_eq}
 use Rattle.std.proofs.lemmas.List.{length-append}
+use Rattle.std.proofs.lemmas.Slice.Eq.{bytes_eq-Decides}
 use Rattle.json.specs.Token.{Token}
 use Rattle.json.specs.Json.{Json, null, array, object, Members, no_members, member, Items, no_items, item, after_end_array, if_last, read_key, members, members_step, items, value, parse_map}
 use Rattle.json.specs.Lex.{tokens}
@@ -29,9 +32,9 @@ use Rattle.jsbase_form.specs.Tables.{table_at}
 use Rattle.jsbase_form.specs.Trees.{body_at, fields_at, items_seen, kind_at, value_of, listed, members_seen, named, seen}
 use Rattle.jsbase_form.proofs.Members.{member_seen}
 use Rattle.jsbase_reader.specs.Parts.{members_in}
-use Rattle.jsbase_reader.specs.Streamed.{Ends, HasStatements, IsMade, Leads, NoMembers, envelope_in_document, envelope_in_tokens, joined, table_among}
+use Rattle.jsbase_reader.specs.Streamed.{Ends, HasStatements, IsMade, Leads, LeadsIfAsked, NoMembers, envelope_in_document, envelope_in_tokens, joined, table_among}
 use Rattle.jsbase_reader.specs.declared.envelope.Envelope.{Envelope}
-use Rattle.jsbase_reader.specs.Envelopes.{envelope_around, envelope_in, envelope_of, marks_in, max_depth, options_in}
+use Rattle.jsbase_reader.specs.Envelopes.{envelope_around, envelope_in, envelope_of, max_depth}
 use Rattle.jsbase_reader.proofs.Loops.{after, after-all, after-cons, after-none}
 
 -- the members that were read, and then what is left
@@ -84,6 +87,12 @@ reading_leads d old ts s before key h there =
     let l = led d h.0 key ts s h.1 there in
     (l.0, l.1, h.2 ∙ ap (parse_map (joined before)) l.2 ∙ parsed_and (joined before) (λ p. parse_map (member key p.0) (members (value d) l.0 p.1)) (value d s))
 
+-- the same, where a key may be looked for
+pub reading_asked : (d : ℕ) (old ts s : List Token) (before : Members) (key : Option (Bor (List ℕ))) (next : Bor (List ℕ)) → option_eq (λ x y. bytes_eq x.now y.now) key (Some next) ≡ true → Reading d (length old) old before ts
+    → read_key ts ≡ Some (Some next.now, s) → LeadsIfAsked d key before old s
+reading_asked d old ts s before None next same h there = absurd (cc)
+reading_asked d old ts s before (Some key) next same h there = reading_leads d old ts s before key.now h (there ∙ ap (λ k. Some (Some k, s)) (sym ((bytes_eq-Decides key.now next.now).0 same)))
+
 -- no key follows, and no end of the object
 pub reading_stops : (d n0 : ℕ) (old ts : List Token) (before : Members) → Reading d n0 old before ts → read_key ts ≡ None → members (value d) n0 old ≡ None
 reading_stops d n0 old ts before h none = h.2 ∙ ap (parse_map (joined before)) (members_no_key (value d) h.0 ts none)
@@ -93,6 +102,11 @@ pub reading_fails : (d n0 : ℕ) (old ts s : List Token) (before : Members) (key
 reading_fails d n0 old ts s before key h there none =
     let l = led d h.0 key ts s h.1 there in
     h.2 ∙ ap (parse_map (joined before)) (l.2 ∙ ap (option_and_then (λ p. parse_map (member key p.0) (members (value d) l.0 p.1))) none)
+
+-- no key was looked for, so the end of the object was reached
+pub all_left : {Stops : Type 0} (is_there : Bool) → MatchBool is_there ⊥ Stops → Stops
+all_left true there = absurd (there)
+all_left false ends = ends
 
 joined_none : (ms : Members) → joined ms no_members ≡ ms
 joined_none no_members = refl

@@ -1,5 +1,5 @@
 -- An object of which one member is read by itself, between those before it and those behind it.
-use Rattle.std.specs.Prelude.{◌≡◌, ℕ, ◌<◌, ◌≤◌, List, [], ◌∷◌, ◌++◌, length, codes, Ok, Some, None, Result, option_and_then}
+use Rattle.std.specs.Prelude.{◌≡◌, ℕ, ◌<◌, ◌≤◌, List, [], ◌∷◌, ◌++◌, length, codes, Ok, Option, Some, None, Result, option_and_then}
 use Rattle.std.specs.Borrow.{Bor}
 use Rattle.json.specs.Token.{Token}
 use Rattle.json.specs.Value.{value_view}
@@ -31,6 +31,11 @@ joined (member k j rest) ms = member k j (joined rest ms)
 abbrev pub Leads : ℕ → List ℕ → Members → List Token → List Token → Type 0
 Leads d key before old new = (n : ℕ) × (length new ≤ n)
     × (members (value d) (length old) old ≡ option_and_then (λ p. parse_map (joined before) (parse_map (member key p.0) (members (value d) n p.1))) (value d new))
+
+-- the same of a key that is looked for
+abbrev pub LeadsIfAsked : ℕ → Option (Bor (List ℕ)) → Members → List Token → List Token → Type 0
+LeadsIfAsked d (Some key) before old new = Leads d key.now before old new
+LeadsIfAsked d None before old new = ⊥
 
 -- the tokens are the last members of an object, and its end
 abbrev pub Ends : ℕ → Members → List Token → List Token → Type 0

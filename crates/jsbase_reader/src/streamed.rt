@@ -14,7 +14,7 @@ ghost use Rattle.swc_tree_node.specs.declared.node.Node.{List as Many};
 ghost use Rattle.jsbase_reader.specs.declared.streamed.Stop.TheVariants as stop;
 ghost use Rattle.jsbase_reader.specs.Answers.{Gives, GivesIfRead};
 ghost use Rattle.jsbase_reader.specs.Parts.{members_in};
-ghost use Rattle.jsbase_reader.specs.Streamed.{AreItems, Ends, HasStatements, IsItem, IsMade, IsMember, IsProgram, IsWhole, Leads, NoMembers, envelope_in_document, envelope_in_tokens, joined as are_joined, table_among};
+ghost use Rattle.jsbase_reader.specs.Streamed.{AreItems, Ends, HasStatements, IsItem, IsMade, IsMember, IsProgram, IsWhole, LeadsIfAsked, NoMembers, envelope_in_document, envelope_in_tokens, joined as are_joined, table_among};
 
 use crate::envelope::{Envelope, MAX_DEPTH, read_around, read_members, read_options, table_in};
 use crate::error::{ReadError, fault};
@@ -142,40 +142,25 @@ fn read_value<'a>(
     Ok(())
 }
 
-// The members of an object before that of a key, as an object, and whether there is one: its value is next then.
+// The members of an object before that of a key, or all that are left where no key is looked for, and whether that key is there: its
+// value is next then.
 fn members_until<'a>(
     alloc: Global,
     reader: &mut Reader<'a>,
     depth: usize,
-    key: &str,
-) -> Result<(Value<'a>, bool), Stop>
-    ensures read { IfOk result (λ read. MatchBool read.1 (Leads depth key.now (members_in (value_view read.0)) reader.old reader.new) (Ends depth (members_in (value_view read.0)) reader.old reader.new)) }
+    key: Option<&str>,
+) -> Result<(Vec<Member<'a>>, bool), Stop>
+    ensures read { IfOk result (λ read. MatchBool read.1 (LeadsIfAsked depth key.entry (members_view read.0.items) reader.old reader.new) (Ends depth (members_view read.0.items) reader.old reader.new)) }
     ensures json { IsErrOf result stop.NoJson → NoMembers depth reader.old }
 {
     let mut before = Vec::new(alloc);
     while let Some(next) = reader.next_key()? {
-        if next == key {
-            return Ok((Value::Object(before), true));
+        if key == Some(next) {
+            return Ok((before, true));
         }
         read_value(alloc, reader, depth, next, &mut before)?;
     }
-    Ok((Value::Object(before), false))
-}
-
-// The members of an object that are left.
-fn members_left<'a>(
-    alloc: Global,
-    reader: &mut Reader<'a>,
-    depth: usize,
-) -> Result<Vec<Member<'a>>, Stop>
-    ensures read { IfOk result (λ left. Ends depth (members_view left.items) reader.old reader.new) }
-    ensures json { IsErrOf result stop.NoJson → NoMembers depth reader.old }
-{
-    let mut left = Vec::new(alloc);
-    while let Some(key) = reader.next_key()? {
-        read_value(alloc, reader, depth, key, &mut left)?;
-    }
-    Ok(left)
+    Ok((before, false))
 }
 
 // The node of one item more of an array.
@@ -320,19 +305,20 @@ fn read_program(
     class: Class,
     reader: &mut Reader<'_>,
 ) -> Result<Node, Stop>
-    ensures read { IfOk result (λ tree. IsProgram 126 globals.now class reader.old reader.new tree) }
-    ensures json { IsErrOf result stop.NoJson → value_in 126 reader.old ≡ None }
+    ensures read { IfOk result (λ tree. IsProgram IN_ENVELOPE globals.now class reader.old reader.new tree) }
+    ensures json { IsErrOf result stop.NoJson → value_in IN_ENVELOPE reader.old ≡ None }
 {
     let statements = statements_of(class)?;
     object_begins(reader)?;
-    let (before, has_body) = members_until(alloc, reader, IN_PROGRAM, "body")?;
+    let (before, has_body) = members_until(alloc, reader, IN_PROGRAM, Some("body"))?;
     if !has_body {
         return Err(Stop::Otherwise);
     }
+    let before = Value::Object(before);
     check_kind(alloc, class, &before)?;
     array_begins(reader)?;
     let body = read_items(alloc, globals, reader, IN_STATEMENTS, statements)?;
-    let behind = members_left(alloc, reader, IN_PROGRAM)?;
+    let (behind, _) = members_until(alloc, reader, IN_PROGRAM, None)?;
     if has_key(behind.as_slice(), "body") {
         return Err(Stop::Otherwise);
     }
@@ -387,17 +373,18 @@ fn read_whole(
     reader: &mut Reader<'_>,
     behind: Option<u32>,
 ) -> Result<Result<Envelope, ReadError>, Stop>
-    ensures read { IfOk result (IsWhole 127 class reader.old reader.new) }
-    ensures json { IsErrOf result stop.NoJson → value_in 127 reader.old ≡ None }
+    ensures read { IfOk result (IsWhole MAX_DEPTH class reader.old reader.new) }
+    ensures json { IsErrOf result stop.NoJson → value_in MAX_DEPTH reader.old ≡ None }
 {
     object_begins(reader)?;
-    let (before, has_tree) = members_until(alloc, reader, IN_ENVELOPE, "tree")?;
+    let (before, has_tree) = members_until(alloc, reader, IN_ENVELOPE, Some("tree"))?;
+    let before = Value::Object(before);
     if !has_tree {
         return Ok(read_members(alloc, class, &before));
     }
     let globals = read_table(alloc, &before, behind)?;
     let tree = read_program(alloc, &globals, class, reader)?;
-    let behind = members_left(alloc, reader, IN_ENVELOPE)?;
+    let (behind, _) = members_until(alloc, reader, IN_ENVELOPE, None)?;
     if has_key(behind.as_slice(), "tree") || has_key(behind.as_slice(), "marks") {
         return Err(Stop::Otherwise);
     }
@@ -422,7 +409,7 @@ fn read_document(
     }
 }
 
-// Whether a text ends as an object does, but for blanks. One that was cut off mostly doesn't, and then the reading of its whole value
+// Whether a text ends as an object does, but for blanks. Of one that doesn't, as where it was cut off, the reading of its whole value
 // tells so with no node made.
 fn ends_as_object(text: &str) -> bool {
     let mut from_the_end = text.as_bytes().iter().rev();

@@ -102,7 +102,7 @@ pub(crate) fn write_value(alloc: Global, out: &mut Writer, node: &Node) -> Resul
 }
 
 // A tree that lacks a field of its kind, or has one more. It is kept out of `write_value`, which stands on the stack once for each
-// level of a tree: no tree pays for the list that few make.
+// level of a tree: no level has room for a list that it does not make.
 #[cycle(write)]
 #[inline(never)]
 fn write_sorted(

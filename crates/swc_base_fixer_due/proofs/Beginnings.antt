@@ -1,14 +1,14 @@
 -- What the third step makes of one node.
-use Rattle.std.proofs.Common.{◌≡◌, ℕ, Bool, true, false, List, [], ◌∷◌, Option, Some, None, map, slice_set, refl, sym, ap, ◌∙◌, rules}
+use Rattle.std.proofs.Common.{◌≡◌, ℕ, Bool, true, false, List, [], ◌∷◌, Option, Some, None, slice_set, refl, sym, ap, ◌∙◌}
 use Rattle.std.specs.Prelude.{if◌then◌else◌}
 use Rattle.std.specs.List.{slice_get}
 use Rattle.swc_tree_node.specs.declared.kind.Kind.{Kind}
 use Rattle.swc_tree_node.specs.declared.kind.Kind.TheVariants as kind
-use Rattle.swc_tree_node.specs.declared.node.Node.{Node, Absent, Tree, the_lemmas}
+use Rattle.swc_tree_node.specs.declared.node.Node.{Node, Absent, Tree}
 use Rattle.swc_tree_node.specs.declared.node.Node.TheVariants.{rolls-Tree}
 use Rattle.swc_tree_node.specs.declared.node.Node.TheOpen.{Node-F}
 use Rattle.swc_tree_grammar.specs.Kinds.{has_kind, is_block}
-use Rattle.swc_tree_grammar.specs.Due.{Places, begin_step, begun, paired_at_starts}
+use Rattle.swc_tree_grammar.specs.Due.{Places, begin_step, begun}
 use Rattle.swc_base_fixer_due.specs.declared.starts.Beginning.{Beginning}
 use Rattle.swc_base_fixer_due.specs.declared.starts.Beginning.TheVariants as beginning
 use Rattle.swc_base_fixer_due.specs.Begin.{beginning_for, may_begin}
@@ -55,9 +55,3 @@ begun_back p k ts us out back i x e new same there here o n b = rw (b, n, o) (be
 
 pub begun_by_none : (p : Places) (k : Kind) (ts us : List Node) → us ≡ ts → None ≡ beginning_for k us → Tree k ts ≡ begin_step p (Node-F.Tree k ts)
 begun_by_none p k ts us same none = begun_none p k ts (ap (beginning_for k) (sym same) ∙ sym none)
-
-starts_of_tree : (p : Places) (k : Kind) (ts : List Node) → paired_at_starts p (Tree k ts) ≡ begin_step p (Node-F.Tree k (map (paired_at_starts p) ts))
-starts_of_tree p k ts = search (rules, the_lemmas)
-
-pub starts_tree : (p : Places) (t : Node) (k : Kind) (ts rs : List Node) → t ≡ Tree k ts → rs ≡ map (paired_at_starts p) ts → (u : Node) → u ≡ begin_step p (Node-F.Tree k rs) → u ≡ paired_at_starts p t
-starts_tree p t k ts rs is done u made = made ∙ ap (λ l. begin_step p (Node-F.Tree k l)) done ∙ sym (starts_of_tree p k ts) ∙ ap (paired_at_starts p) (sym is)

@@ -4,7 +4,7 @@ pub mod Each
 pub mod Fields
 pub mod Heading
 pub mod Least
-pub mod Leaves
+pub mod Paired
 pub mod Rows
 pub mod Settled
 pub mod Digests

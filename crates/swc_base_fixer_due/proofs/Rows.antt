@@ -1,22 +1,22 @@
 -- What the first step makes of one node.
-use Rattle.std.proofs.Common.{◌≡◌, Bool, true, false, List, [], ◌∷◌, ◌++◌, Option, Some, length, map, slice_set, refl, sym, ap, ◌∙◌, arith, rules}
+use Rattle.std.proofs.Common.{◌≡◌, Bool, true, false, List, [], ◌∷◌, ◌++◌, Option, Some, length, map, slice_set, refl, sym, ap, ◌∙◌, arith}
 use Rattle.std.specs.List.{slice_get}
 use Rattle.swc_tree_node.specs.declared.kind.Kind.{Kind}
 use Rattle.swc_tree_node.specs.declared.kind.Kind.TheVariants as kind
 use Rattle.swc_tree_node.specs.declared.kind.Word.{Word as Word'}
 use Rattle.swc_tree_node.specs.declared.kind.Word.TheVariants as word
-use Rattle.swc_tree_node.specs.declared.node.Node.{Node, Absent, List as Many, Tree, out-Node, the_lemmas}
+use Rattle.swc_tree_node.specs.declared.node.Node.{Node, Absent, Tree, out-Node}
 use Rattle.swc_tree_node.specs.declared.node.Node.TheOpen.{Node-F}
 use Rattle.swc_tree_grammar.specs.Levels.{word_of}
 use Rattle.swc_tree_grammar.specs.Demands.{left_side, right_side, object}
-use Rattle.swc_tree_grammar.specs.Due.{Places, Pairing, alone, level_step, odd_items, paired_in, sequence_statement}
+use Rattle.swc_tree_grammar.specs.Due.{Places, odd_items, paired_in, sequence_statement}
 use Rattle.swc_base_fixer_due.specs.declared.row.Ask.TheVariants as ask
 use Rattle.swc_base_fixer_due.specs.declared.row.Row.{Row}
 use Rattle.swc_base_fixer_due.specs.declared.row.Row.TheVariants as row
 use Rattle.swc_base_fixer_due.specs.Test.{asked, left_test, right_test, object_test}
 use Rattle.swc_base_fixer_due.specs.Row.{ask_at, row_for}
 use Rattle.swc_base_fixer_due.specs.Settled.{odd_item, odd_list, settled_by}
-use Rattle.swc_base_fixer_due.specs.Walk.{by_level, each_told, is_base, is_chain_in, is_statement_in}
+use Rattle.swc_base_fixer_due.specs.Walk.{each_told, is_statement_in}
 
 asked_left : (op : Option Word') → asked (left_test op) ≡ left_side op
 asked_left (Some word.LogicalOr) = refl
@@ -119,29 +119,3 @@ statement_odd p b k ts out back old new h g o n put =
     let s = statement_is k ts h in
     let q = second_of ts out back old new s.1 g o put in
     ap (λ k. Tree k back) s.0 ∙ ap (Tree kind.ExprStmt) (q.2 ∙ ap (λ u. q.0 ∷ u ∷ []) n) ∙ sym (ap (λ us. paired_in p b (Node-F.Tree kind.ExprStmt us)) q.1) ∙ sym (ap (λ k. paired_in p b (Node-F.Tree k ts)) s.0)
-
-alone_told : (f : Node → Pairing) (ts : List Node) → map alone (map f ts) ≡ each_told f (λ i. false) ts
-alone_told f [] = refl
-alone_told f (t ∷ ts) = ap (λ us. f t false ∷ us) (alone_told f ts)
-
-level_of_tree : (p : Places) (k : Kind) (ts : List Node) (b : Bool) → by_level p (Tree k ts) b ≡ level_step p (Node-F.Tree k (map (by_level p) ts)) b
-level_of_tree p k ts b = search (rules, the_lemmas)
-
-level_of_list : (p : Places) (ts : List Node) (b : Bool) → by_level p (Many ts) b ≡ Many (map alone (map (by_level p) ts))
-level_of_list p ts b = search (rules, the_lemmas)
-
-pub level_list : (p : Places) (ts : List Node) (b : Bool) → Many (each_told (by_level p) (is_base false) ts) ≡ by_level p (Many ts) b
-level_list p ts b = ap Many (sym (alone_told (by_level p) ts)) ∙ sym (level_of_list p ts b)
-
-stepped : (p : Places) (k : Kind) (ts : List Node) (b : Bool) → level_step p (Node-F.Tree k (map (by_level p) ts)) b ≡ paired_in p b (Node-F.Tree k (each_told (by_level p) (is_base (is_chain_in (Node-F.Tree k ts))) ts))
-stepped p kind.OptChainExpr (x ∷ y ∷ z ∷ []) b = refl
-stepped p k ts b = ap (λ us. paired_in p b (Node-F.Tree k us)) (alone_told (by_level p) ts)
-
-pub level_tree : (p : Places) (t : Node) (k : Kind) (ts us rs : List Node) (b chain : Bool) → t ≡ Tree k ts → us ≡ ts → chain ≡ is_chain_in (Node-F.Tree k us) → rs ≡ each_told (by_level p) (is_base chain) ts
-    → (u : Node) → u ≡ paired_in p b (Node-F.Tree k rs) → u ≡ by_level p t b
-level_tree p t k ts us rs b chain is same c done u h =
-    h ∙ rw (done, c, same) (sym (level_of_tree p k ts b ∙ stepped p k ts b)) ∙ ap (λ v. by_level p v b) (sym is)
-
--- a list, once its items have their pairs
-pub level_items : (p : Places) (t : Node) (ts us : List Node) (in_chain : Bool) → t ≡ Many ts → us ≡ each_told (by_level p) (is_base false) ts → Many us ≡ by_level p t in_chain
-level_items p t ts us in_chain is done = ap Many done ∙ level_list p ts in_chain ∙ ap (λ u. by_level p u in_chain) (sym is)

@@ -1,6 +1,5 @@
 pub mod Keyed
 pub mod Record
-pub mod Leaf
 pub mod Fields
 pub mod Least
 pub mod Family
@@ -10,4 +9,7 @@ pub mod Row
 pub mod Settled
 pub mod Walk
 pub mod Heads
+pub mod LevelLaws
+pub mod HeadLaws
+pub mod StartLaws
 pub mod Begin

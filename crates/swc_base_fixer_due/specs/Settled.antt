@@ -21,5 +21,6 @@ settled_by place e (ask.Single test naming) = settled place (asked test) (named 
 abbrev pub odd_item : Places → Node → Node
 odd_item place e = pair_if (is_odd_item e) place e
 
+-- what is no list has no items, so it becomes the list of none; in each tree of the grammar a list stands there
 abbrev pub odd_list : Places → Node → Node
 odd_list place es = Many (odd_items place (items_of es))

@@ -1,6 +1,6 @@
 //! The second step: pairs round a bare `in` in the first part of the head of a `for`, and round a bare `async`
 //! before `of` (ECMA-262, 14.7).
-ghost use Rattle.std.specs.Prelude.{◌≡◌, length, IfOk, OnOk};
+ghost use Rattle.std.specs.Prelude.{◌≡◌, false, ◌||◌, length, IfOk, OnOk};
 ghost use Rattle.swc_tree_node.specs.declared.kind.Kind.TheVariants as kind;
 ghost use Rattle.swc_tree_node.specs.declared.node.Node.TheOpen.{Node-F};
 ghost use Rattle.swc_tree_grammar.specs.Forms.{holds as is_held};
@@ -9,11 +9,13 @@ ghost use Rattle.swc_tree_grammar.specs.Grammar.{is_async_name as is_async_name_
 ghost use Rattle.swc_tree_node.specs.declared.node.Node.{Tree, out-Node};
 ghost use Rattle.swc_base_fixer_due.specs.Heads.{as_expression as as_expression_of, flag_at, handing_for, is_bare_in as is_bare_in_of, of_headed};
 ghost use Rattle.swc_base_fixer_due.specs.Record.{place_in};
-ghost use Rattle.swc_base_fixer_due.specs.Walk.{each_told, in_heads};
+ghost use Rattle.swc_base_fixer_due.specs.Walk.{in_heads};
+ghost use Rattle.swc_base_fixer_due.specs.declared.heads.Handing.TheVariants.{ToAll};
+ghost use Rattle.swc_base_fixer_due.specs.HeadLaws.{heads_leave, heads_list, heads_tree};
 
-use crate::leaf::is_leaf;
 use crate::level::{is_in, word_of};
-use crate::pair::{pair, pair_where};
+use crate::pair::pair;
+use crate::pairing::{Pairing, pair_tree};
 use crate::record::Record;
 use std::alloc::{AllocError, Global};
 use swc_tree_items::Items;
@@ -169,6 +171,70 @@ fn head(
     }
 }
 
+/// A node of the second step, which is told whether `in` may stand bare in it.
+#[derive(Clone, Copy)]
+pub struct Heads {
+    is_bare_in: bool,
+    with_in: bool,
+    handing: Handing,
+}
+
+impl Pairing for Heads {
+    ghost paired = { in_heads };
+
+    ghost in_list = { λ with_in. record { is_bare_in = false; with_in = with_in; handing = ToAll } };
+
+    ghost in_tree = { λ with_in k ts. record { is_bare_in = is_bare_in_of with_in (Node-F.Tree k ts); with_in = with_in || is_bare_in_of with_in (Node-F.Tree k ts); handing = handing_for (Node-F.Tree k ts) } };
+
+    ghost tells = { λ tree i. flag_at tree.handing tree.with_in i };
+
+    ghost settled = { λ place tree k ts. of_headed place k ts };
+
+    ghost is_due = { λ tree. tree.is_bare_in };
+
+    fn of_list(told: bool) -> Heads {
+        Heads {
+            is_bare_in: false,
+            with_in: told,
+            handing: Handing::ToAll,
+        }
+    }
+
+    // In a pair `in` may stand bare.
+    fn of_tree(told: bool, kind: Kind, fields: &[Node]) -> Heads {
+        let is_bare_in = is_bare_in(told, kind, fields);
+        Heads {
+            is_bare_in,
+            with_in: told || is_bare_in,
+            handing: handing_of(kind, fields),
+        }
+    }
+
+    fn tells(self, index: usize) -> bool {
+        self.handing.flag(self.with_in, index)
+    }
+
+    fn settle(
+        self,
+        alloc: Global,
+        recorded: &Record,
+        kind: Kind,
+        fields: &mut Items<Node>,
+    ) -> Result<(), AllocError> {
+        head(alloc, recorded, kind, fields)
+    }
+
+    fn is_due(self) -> bool {
+        self.is_bare_in
+    }
+
+    ghost list_paired = { heads_list };
+
+    ghost tree_paired = { heads_tree };
+
+    ghost stays = { heads_leave };
+}
+
 /// The tree with the pairs that are due in heads of `for`; `with_in` says whether `in` may stand bare in it.
 ///
 /// It goes through the tree once, in place.
@@ -180,64 +246,5 @@ pub fn pair_in_heads(
 ) -> Result<Node, AllocError>
     ensures { IfOk result (λ t. t ≡ in_heads (place_in recorded.now) node with_in) }
 {
-    let mut node = node;
-    pair_node(alloc, recorded, with_in, &mut node)?;
-    Ok(node)
-}
-
-#[cycle(heads)]
-fn pair_node(
-    alloc: Global,
-    recorded: &Record,
-    with_in: bool,
-    node: &mut Node,
-) -> Result<(), AllocError>
-    ensures { OnOk result (node.new ≡ in_heads (place_in recorded.now) node.old with_in) }
-{
-    if let Some(items) = node.items_mut() {
-        return pair_each(alloc, recorded, Handing::ToAll, with_in, items);
-    }
-    if let Some(kind) = node.kind() {
-        if let Some(fields) = node.fields_mut() {
-            let is_due = is_bare_in(with_in, kind, fields.as_slice());
-            pair_fields(alloc, recorded, with_in || is_due, kind, fields)?;
-            return pair_where(alloc, recorded, is_due, node);
-        }
-    }
-    Ok(())
-}
-
-// The fields of a tree with their pairs.
-#[cycle(heads)]
-fn pair_fields(
-    alloc: Global,
-    recorded: &Record,
-    with_in: bool,
-    kind: Kind,
-    fields: &mut Items<Node>,
-) -> Result<(), AllocError>
-    ensures { OnOk result (Tree kind fields.new ≡ of_headed (place_in recorded.now) kind (each_told (in_heads (place_in recorded.now)) (flag_at (handing_for (Node-F.Tree kind fields.old)) with_in) fields.old)) }
-{
-    let handing = handing_of(kind, fields.as_slice());
-    pair_each(alloc, recorded, handing, with_in, fields)?;
-    head(alloc, recorded, kind, fields)
-}
-
-#[cycle(heads)]
-fn pair_each(
-    alloc: Global,
-    recorded: &Record,
-    handing: Handing,
-    with_in: bool,
-    nodes: &mut Items<Node>,
-) -> Result<(), AllocError>
-    ensures { OnOk result (nodes.new ≡ each_told (in_heads (place_in recorded.now)) (flag_at handing with_in) nodes.old) }
-{
-    for i in 0..nodes.len() {
-        if is_leaf(&nodes.as_slice()[i]) {
-            continue;
-        }
-        pair_node(alloc, recorded, handing.flag(with_in, i), nodes.item_mut(i))?;
-    }
-    Ok(())
+    pair_tree::<Heads>(alloc, recorded, with_in, node)
 }

@@ -1,5 +1,5 @@
 //! The first step: pairs round what is not as its place asks, or what the reader's table names there.
-ghost use Rattle.std.specs.Prelude.{◌≡◌, Bool, true, length, map, IfOk, OnOk};
+ghost use Rattle.std.specs.Prelude.{◌≡◌, Bool, true, false, length, map, IfOk, OnOk};
 ghost use Rattle.swc_tree_node.specs.declared.kind.Kind.TheVariants as kind;
 ghost use Rattle.swc_tree_node.specs.declared.node.Node.{Tree, out-Node};
 ghost use Rattle.swc_tree_node.specs.declared.node.Node.TheOpen.{Node-F};
@@ -8,9 +8,10 @@ ghost use Rattle.swc_base_fixer_due.specs.Record.{place_in};
 ghost use Rattle.swc_base_fixer_due.specs.Row.{ask_at};
 ghost use Rattle.swc_base_fixer_due.specs.Settled.{odd_item as odd_item_of, odd_list as odd_list_of, settled_by};
 ghost use Rattle.swc_base_fixer_due.specs.Walk.{by_level, each_told, is_base as is_base_of, is_chain_in, is_statement_in};
+ghost use Rattle.swc_base_fixer_due.specs.LevelLaws.{level_list, level_tree, levels_leave};
 
-use crate::leaf::is_leaf;
 use crate::pair::pair_if;
+use crate::pairing::{Pairing, pair_tree};
 use crate::reader::is_odd_item;
 use crate::record::Record;
 use crate::row::{Row, row_of};
@@ -87,7 +88,8 @@ fn odd_items(
     }
 }
 
-// The list of the items of a sequence that is a statement.
+// The list of the items of a sequence that is a statement. In each tree of the grammar a list stands there; what is no list
+// has no items, so that it becomes the list of none, as the definition says it of every tree.
 fn odd_list(alloc: Global, recorded: &Record, exprs: Node) -> Result<Node, AllocError>
     ensures { IfOk result (λ t. t ≡ odd_list_of (place_in recorded.now) exprs) }
 {
@@ -179,6 +181,65 @@ fn is_base(chain: bool, index: usize) -> bool
     chain && index == opt_chain_expr::BASE
 }
 
+/// A node of the first step, which is told whether it is the base of an optional chain.
+#[derive(Clone, Copy)]
+pub struct Levels {
+    in_chain: bool,
+    is_chain: bool,
+}
+
+impl Pairing for Levels {
+    ghost paired = { by_level };
+
+    ghost in_list = { λ in_chain. record { in_chain = false; is_chain = false } };
+
+    ghost in_tree = { λ in_chain k ts. record { in_chain = in_chain; is_chain = is_chain_in (Node-F.Tree k ts) } };
+
+    ghost tells = { λ tree i. is_base_of tree.is_chain i };
+
+    ghost settled = { λ place tree k ts. paired_fields place tree.in_chain (Node-F.Tree k ts) };
+
+    ghost is_due = { λ tree. false };
+
+    fn of_list(_told: bool) -> Levels {
+        Levels {
+            in_chain: false,
+            is_chain: false,
+        }
+    }
+
+    fn of_tree(told: bool, kind: Kind, fields: &[Node]) -> Levels {
+        Levels {
+            in_chain: told,
+            is_chain: is_chain(kind, fields),
+        }
+    }
+
+    fn tells(self, index: usize) -> bool {
+        is_base(self.is_chain, index)
+    }
+
+    fn settle(
+        self,
+        alloc: Global,
+        recorded: &Record,
+        kind: Kind,
+        fields: &mut Items<Node>,
+    ) -> Result<(), AllocError> {
+        paired(alloc, recorded, self.in_chain, kind, fields)
+    }
+
+    fn is_due(self) -> bool {
+        false
+    }
+
+    ghost list_paired = { level_list };
+
+    ghost tree_paired = { level_tree };
+
+    ghost stays = { levels_leave };
+}
+
 /// The tree with a pair round each expression that is not what its place asks, or that the reader's table names
 /// there; `in_chain` says whether it is the base of an optional chain.
 ///
@@ -191,60 +252,5 @@ pub fn pair_by_level(
 ) -> Result<Node, AllocError>
     ensures { IfOk result (λ t. t ≡ by_level (place_in recorded.now) node in_chain) }
 {
-    let mut node = node;
-    pair_node(alloc, recorded, in_chain, &mut node)?;
-    Ok(node)
-}
-
-#[cycle(levels)]
-fn pair_node(
-    alloc: Global,
-    recorded: &Record,
-    in_chain: bool,
-    node: &mut Node,
-) -> Result<(), AllocError>
-    ensures { OnOk result (node.new ≡ by_level (place_in recorded.now) node.old in_chain) }
-{
-    if let Some(items) = node.items_mut() {
-        return pair_each(alloc, recorded, false, items);
-    }
-    if let Some(kind) = node.kind() {
-        if let Some(fields) = node.fields_mut() {
-            return pair_fields(alloc, recorded, in_chain, kind, fields);
-        }
-    }
-    Ok(())
-}
-
-#[cycle(levels)]
-fn pair_fields(
-    alloc: Global,
-    recorded: &Record,
-    in_chain: bool,
-    kind: Kind,
-    fields: &mut Items<Node>,
-) -> Result<(), AllocError>
-    ensures { OnOk result (Tree kind fields.new ≡ by_level (place_in recorded.now) (Tree kind fields.old) in_chain) }
-{
-    let chain = is_chain(kind, fields.as_slice());
-    pair_each(alloc, recorded, chain, fields)?;
-    paired(alloc, recorded, in_chain, kind, fields)
-}
-
-#[cycle(levels)]
-fn pair_each(
-    alloc: Global,
-    recorded: &Record,
-    chain: bool,
-    nodes: &mut Items<Node>,
-) -> Result<(), AllocError>
-    ensures { OnOk result (nodes.new ≡ each_told (by_level (place_in recorded.now)) (is_base_of chain) nodes.old) }
-{
-    for i in 0..nodes.len() {
-        if is_leaf(&nodes.as_slice()[i]) {
-            continue;
-        }
-        pair_node(alloc, recorded, is_base(chain, i), nodes.item_mut(i))?;
-    }
-    Ok(())
+    pair_tree::<Levels>(alloc, recorded, in_chain, node)
 }

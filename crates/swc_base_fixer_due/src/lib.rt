@@ -1,6 +1,6 @@
 //! Sets the pairs of parentheses that are due in a tree that has none.
 //!
-//! In three steps, each of which goes through the tree once, in place:
+//! In three steps, each of which goes through the tree once, in place, as `pairing` says:
 //!
 //! - `levels` settles what each place asks of the expression in it. `row` says what that is, by `demand`, `reader` and
 //!   `family`; `level` says how tightly an expression binds, `settle` sets the pairs.
@@ -15,10 +15,10 @@ mod due;
 mod family;
 mod heads;
 mod keyed;
-mod leaf;
 mod level;
 mod levels;
 mod pair;
+mod pairing;
 mod reader;
 mod record;
 mod row;

@@ -1,15 +1,16 @@
 //! The third step: pairs where a statement, a default export or the body of an arrow may not begin as it does
 //! (ECMA-262, 14.5, 15.3 and 16.2.3).
-ghost use Rattle.std.specs.Prelude.{◌≡◌, ◌<◌, length, map, IfOk, IfSome, OnOk};
+ghost use Rattle.std.specs.Prelude.{◌≡◌, ◌<◌, false, length, IfOk, IfSome, OnOk};
 ghost use Rattle.swc_tree_node.specs.declared.node.Node.{Tree};
 ghost use Rattle.swc_tree_node.specs.declared.node.Node.TheOpen.{Node-F};
 ghost use Rattle.swc_tree_grammar.specs.Due.{begin_step, begun as begun_of, paired_at_starts};
 ghost use Rattle.swc_base_fixer_due.specs.Begin.{begins, beginning_for, first_paired as first_in_pair, may_begin as may_begin_with};
 ghost use Rattle.swc_base_fixer_due.specs.Record.{place_in};
+ghost use Rattle.swc_base_fixer_due.specs.StartLaws.{starts_leave, starts_list, starts_tree};
 
 use crate::family::{Family, is_of};
-use crate::leaf::is_leaf;
 use crate::pair::pair;
+use crate::pairing::{Pairing, pair_tree};
 use crate::record::Record;
 use crate::start::{Start, leading_field, start_of};
 use std::alloc::{AllocError, Global};
@@ -118,6 +119,56 @@ fn begin(
     Ok(())
 }
 
+/// A node of the third step, which is told nothing.
+#[derive(Clone, Copy)]
+pub struct Starts;
+
+impl Pairing for Starts {
+    ghost paired = { λ place t _. paired_at_starts place t };
+
+    ghost in_list = { λ _. record {} };
+
+    ghost in_tree = { λ _ _ _. record {} };
+
+    ghost tells = { λ _ _. false };
+
+    ghost settled = { λ place _ k ts. begin_step place (Node-F.Tree k ts) };
+
+    ghost is_due = { λ _. false };
+
+    fn of_list(_told: bool) -> Starts {
+        Starts
+    }
+
+    fn of_tree(_told: bool, _kind: Kind, _fields: &[Node]) -> Starts {
+        Starts
+    }
+
+    fn tells(self, _index: usize) -> bool {
+        false
+    }
+
+    fn settle(
+        self,
+        alloc: Global,
+        recorded: &Record,
+        kind: Kind,
+        fields: &mut Items<Node>,
+    ) -> Result<(), AllocError> {
+        begin(alloc, recorded, kind, fields)
+    }
+
+    fn is_due(self) -> bool {
+        false
+    }
+
+    ghost list_paired = { λ place _. starts_list place };
+
+    ghost tree_paired = { λ place _. starts_tree place };
+
+    ghost stays = { λ place _. starts_leave place };
+}
+
 /// The tree with the pairs that are due at the start of statements, default exports and bodies of arrows.
 ///
 /// It goes through the tree once, in place. The start of each such expression is looked at once, and once more where
@@ -125,48 +176,5 @@ fn begin(
 pub fn pair_at_starts(alloc: Global, recorded: &Record, node: Node) -> Result<Node, AllocError>
     ensures { IfOk result (λ t. t ≡ paired_at_starts (place_in recorded.now) node) }
 {
-    let mut node = node;
-    pair_node(alloc, recorded, &mut node)?;
-    Ok(node)
-}
-
-#[cycle(starts)]
-fn pair_node(alloc: Global, recorded: &Record, node: &mut Node) -> Result<(), AllocError>
-    ensures { OnOk result (node.new ≡ paired_at_starts (place_in recorded.now) node.old) }
-{
-    if let Some(items) = node.items_mut() {
-        return pair_each(alloc, recorded, items);
-    }
-    if let Some(kind) = node.kind() {
-        if let Some(fields) = node.fields_mut() {
-            return pair_fields(alloc, recorded, kind, fields);
-        }
-    }
-    Ok(())
-}
-
-#[cycle(starts)]
-fn pair_fields(
-    alloc: Global,
-    recorded: &Record,
-    kind: Kind,
-    fields: &mut Items<Node>,
-) -> Result<(), AllocError>
-    ensures { OnOk result (Tree kind fields.new ≡ paired_at_starts (place_in recorded.now) (Tree kind fields.old)) }
-{
-    pair_each(alloc, recorded, fields)?;
-    begin(alloc, recorded, kind, fields)
-}
-
-#[cycle(starts)]
-fn pair_each(alloc: Global, recorded: &Record, nodes: &mut Items<Node>) -> Result<(), AllocError>
-    ensures { OnOk result (nodes.new ≡ map (paired_at_starts (place_in recorded.now)) nodes.old) }
-{
-    for i in 0..nodes.len() {
-        if is_leaf(&nodes.as_slice()[i]) {
-            continue;
-        }
-        pair_node(alloc, recorded, nodes.item_mut(i))?;
-    }
-    Ok(())
+    pair_tree::<Starts>(alloc, recorded, false, node)
 }

@@ -5,6 +5,8 @@ use Rattle.swc_tree_node.specs.declared.kind.Kind.{Kind}
 use Rattle.swc_tree_node.specs.declared.kind.Kind.TheVariants as kind
 use Rattle.swc_tree_node.specs.declared.node.Node.{Node, Span, List as Many, Tree, the_lemmas}
 use Rattle.swc_tree_node.specs.declared.node.Node.TheOpen.{Node-F}
+use Rattle.swc_tree_node.specs.Parts.{has_parts}
+use Rattle.swc_tree_node.proofs.Leaves.{without_parts}
 use Rattle.swc_tree_grammar.specs.Kinds.{has_kind, is_paren, is_object_pattern}
 use Rattle.swc_tree_grammar.specs.Forms.{holds}
 use Rattle.swc_tree_grammar.specs.Blocks.{span_of}
@@ -12,11 +14,10 @@ use Rattle.swc_tree_grammar.specs.Demands.Demand.{Any, AtLeast}
 use Rattle.swc_tree_grammar.specs.Starts.{Start, start, start_in, is_let_bracket}
 use Rattle.swc_tree_grammar.specs.Starts.Start.{Other, LetBracket}
 use Rattle.swc_tree_grammar.specs.Due.{Places, pair as in_pair, first_in}
-use Rattle.swc_tree_grammar.proofs.Induction.{by_children}
 use Rattle.swc_tree_grammar_laws.proofs.Begins.{spined, first_paired, spine_whole, first_of_tree, first_of_list, start_tree, start_list}
 use Rattle.swc_base_fixer_needs.specs.Sites.{Opening, Site, Spot, clue, asks, spots, first_unless, may_open}
 use Rattle.swc_base_fixer_needs.specs.Sites.Spot.{Hidden, At}
-use Rattle.swc_base_fixer_needs.specs.Reasons.{Label, nothing, labels, Due, AllDue, is_leaf, blank}
+use Rattle.swc_base_fixer_needs.specs.Reasons.{Label, nothing, labels, Due, AllDue, blank}
 use Rattle.swc_base_fixer_needs.specs.Reasons.Label.{Names, OfStatement, OfItems}
 use Rattle.swc_base_fixer_needs.specs.Reasons.Reason.{begins_so}
 use Rattle.swc_base_fixer_needs.specs.Reasons.Extent.{Reasoned}
@@ -130,11 +131,9 @@ other_leads p l a t e d = record {
   first = λ g m n. absurd (cc (sym (ap (may_open a.opening) e ∙ other_opens a.opening) ∙ m));
 }
 
-leaf_start : (t : Node) → is_leaf t ≡ true → start t ≡ Other
-leaf_start t = by_children (λ t. is_leaf t ≡ true → start t ≡ Other)
-    (λ h. search (rules, the_lemmas), λ x h. search (rules, the_lemmas), λ w h. search (rules, the_lemmas), λ x h. search (rules, the_lemmas), λ s h. search (rules, the_lemmas), λ k i h. search (rules, the_lemmas))
-    (λ ts l h. (let e : is_leaf (Many ts) ≡ false = search (rules, the_lemmas) in absurd (cc)))
-    (λ k ts l h. (let e : is_leaf (Tree k ts) ≡ false = search (rules, the_lemmas) in absurd (cc))) t
+leaf_start : (t : Node) → has_parts t ≡ false → start t ≡ Other
+leaf_start t = without_parts (λ t. start t ≡ Other)
+    (search (rules, the_lemmas), λ x. search (rules, the_lemmas), λ w. search (rules, the_lemmas), λ x. search (rules, the_lemmas), λ s. search (rules, the_lemmas)) (λ k i. search (rules, the_lemmas)) t
 
 -- lists
 items_first : (p : Places) (l : Label) (a : Site) (t : Node) (ts : List Node) → AllDue Reasoned (labels l (Node-F.List (t ∷ ts))) (spots a (Node-F.List (map clue (t ∷ ts)))) (t ∷ ts) → Readys p (labels l (Node-F.List (t ∷ ts))) (spots a (Node-F.List (map clue (t ∷ ts)))) (t ∷ ts)

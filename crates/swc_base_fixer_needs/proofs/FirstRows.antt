@@ -5,6 +5,7 @@ use Rattle.swc_tree_node.specs.declared.kind.Kind.{Kind}
 use Rattle.swc_tree_node.specs.declared.kind.Kind.TheVariants as kind
 use Rattle.swc_tree_node.specs.declared.node.Node.{Node, Absent, Flag, Word, Text, Span, List as Many, Identifier, Tree, out-Node, roll-Node, fold-Node, map-Node, the_lemmas}
 use Rattle.swc_tree_node.specs.declared.node.Node.TheOpen.{Node-F}
+use Rattle.swc_tree_node.specs.Parts.{has_parts, has_parts_in}
 use Rattle.swc_tree_grammar.specs.Shapes.{Seq, Assign, Cond, Bin, Update, Member, TaggedTpl, Call, OptChain, OptCall}
 use Rattle.swc_tree_grammar.specs.Kinds.{has_kind, is_paren, is_object_pattern}
 use Rattle.swc_tree_grammar.specs.Forms.{holds}
@@ -22,7 +23,7 @@ use Rattle.swc_base_fixer_needs.specs.Sites.{Opening, Site, Spot, clue, asks, le
 use Rattle.swc_base_fixer_needs.specs.Sites.Mode.{Base}
 use Rattle.swc_base_fixer_needs.specs.Sites.Opening.{Anything, OfStatement as AtStatement, OfExport, OfBody}
 use Rattle.swc_base_fixer_needs.specs.Sites.Spot.{Hidden, At}
-use Rattle.swc_base_fixer_needs.specs.Reasons.{Label, nothing, labels, Due, AllDue, is_leaf}
+use Rattle.swc_base_fixer_needs.specs.Reasons.{Label, nothing, labels, Due, AllDue}
 use Rattle.swc_base_fixer_needs.specs.Reasons.Extent.{Reasoned}
 use Rattle.swc_base_fixer_needs.specs.Reasons.Due.{leaf, unseen, tree}
 use Rattle.swc_base_fixer_needs.specs.Reasons.AllDue.{none, more}
@@ -156,14 +157,13 @@ assign_anywhere p l a s o f r q g b e m c w =
     let x : a.with_in ≡ true = stands_bare a.with_in (led (Tree kind.AssignExpr (s ∷ o ∷ f ∷ r ∷ []))) g (assigns s o f r e) in
     tree kind.AssignExpr (s ∷ o ∷ f ∷ r ∷ []) refl (λ z. absurd (cc)) (more (unseen s (λ z. absurd (cc))) (more (unseen o (λ z. absurd (cc))) (more (q.1.1.0.inner (λ z. absurd (cc (sym x ∙ z))) b (pattern_paired p f e) nothing (leads c (asks Any c.with_in)) w) (more (subst (λ b. Due Reasoned nothing (At (asks (AtLeast 2) b)) r) (x ∙ sym w) q.1.1.1.0.due) none))))
 
-no_let : (t : Node) → is_let_in (out-Node t) ≡ false → is_let_in (out-Node t) ≡ true → is_leaf t ≡ true
-no_let t e h = absurd (cc)
+let_partless : (y : Node-F Node) → is_let_in y ≡ true → has_parts_in y ≡ false
+let_partless (Node-F.List ts) h = absurd (cc)
+let_partless (Node-F.Tree k ts) h = absurd (cc)
+let_partless y h = refl
 
-let_leaf : (t : Node) → is_let_in (out-Node t) ≡ true → is_leaf t ≡ true
-let_leaf t = by_children (λ t. is_let_in (out-Node t) ≡ true → is_leaf t ≡ true)
-    (no_let Absent (search (rules, the_lemmas)), λ x. no_let (Flag x) (search (rules, the_lemmas)), λ w. no_let (Word w) (search (rules, the_lemmas)), λ x. no_let (Text x) (search (rules, the_lemmas)), λ s. no_let (Span s) (search (rules, the_lemmas)), λ k i h. search (rules, the_lemmas))
-    (λ ts l. no_let (Many ts) (search (rules, the_lemmas)))
-    (λ k ts l. no_let (Tree k ts) (search (rules, the_lemmas))) t
+let_leaf : (t : Node) → is_let_in (out-Node t) ≡ true → has_parts t ≡ false
+let_leaf t h = let_partless (out-Node t) h
 
 bracket_is : (s o m : Node) → is_let_bracket (Tree kind.MemberExpr (s ∷ o ∷ m ∷ [])) ≡ (is_let_in (out-Node o) && is_computed_in (out-Node m))
 bracket_is s o m = search (rules, the_lemmas)

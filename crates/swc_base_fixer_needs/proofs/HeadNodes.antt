@@ -5,16 +5,17 @@ use Rattle.swc_tree_node.specs.declared.kind.Kind.TheVariants as kind
 use Rattle.swc_tree_node.specs.declared.node.Node.{Node, List as Many, Tree, the_lemmas}
 use Rattle.swc_tree_node.specs.declared.node.Node.TheOpen.{Node-F}
 use Rattle.swc_tree_node.specs.declared.node.Node.TheVariants.{rolls-Tree}
+use Rattle.swc_tree_node.specs.Parts.{has_parts}
+use Rattle.swc_tree_node.proofs.Leaves.{without_parts}
 use Rattle.swc_tree_grammar.specs.Kinds.{is_paren}
 use Rattle.swc_tree_grammar.specs.Stripped.{is_pairless}
 use Rattle.swc_tree_grammar.specs.Due.{Places, paired_by_level, paired_in_heads}
 use Rattle.swc_tree_grammar.specs.Readers.{is_odd_item}
-use Rattle.swc_tree_grammar.proofs.Induction.{by_children}
 use Rattle.swc_tree_grammar_laws.proofs.Heads.{heading, heading_tree, heading_list}
 use Rattle.swc_base_fixer_needs.specs.Sites.{Opening, Site, Spot, clue, any, spots, other_items}
 use Rattle.swc_base_fixer_needs.specs.Sites.Opening.{Anything}
 use Rattle.swc_base_fixer_needs.specs.Sites.Spot.{Hidden, At}
-use Rattle.swc_base_fixer_needs.specs.Reasons.{Label, nothing, labels, item_labels, Reason, is_of_level, Due, AllDue, is_leaf, blank}
+use Rattle.swc_base_fixer_needs.specs.Reasons.{Label, nothing, labels, item_labels, Reason, is_of_level, Due, AllDue, blank}
 use Rattle.swc_base_fixer_needs.specs.Reasons.Label.{Names, OfStatement, OfItems}
 use Rattle.swc_base_fixer_needs.specs.Reasons.Extent.{Reasoned, ByLevel}
 use Rattle.swc_base_fixer_needs.specs.Reasons.Due.{leaf, pair, many, tree}
@@ -33,11 +34,9 @@ use Rattle.swc_base_fixer_needs.proofs.KeysKept.{names_kept}
 use Rattle.swc_base_fixer_needs.proofs.Seen.{seen_needs}
 use Rattle.swc_base_fixer_needs.proofs.HeadSteps.{Stable, AllStable, nothing_stable, labels_stable, list_stable, kept, by_kind, same_fields}
 
-leaf_heading : (p : Places) (t : Node) (v : Bool) → is_leaf t ≡ true → heading p t v ≡ t
-leaf_heading p t v = by_children (λ t. is_leaf t ≡ true → heading p t v ≡ t)
-    (λ h. search (rules, the_lemmas), λ x h. search (rules, the_lemmas), λ w h. search (rules, the_lemmas), λ x h. search (rules, the_lemmas), λ s h. search (rules, the_lemmas), λ k i h. search (rules, the_lemmas))
-    (λ ts l h. (let e : is_leaf (Many ts) ≡ false = search (rules, the_lemmas) in absurd (cc)))
-    (λ k ts l h. (let e : is_leaf (Tree k ts) ≡ false = search (rules, the_lemmas) in absurd (cc))) t
+leaf_heading : (p : Places) (t : Node) (v : Bool) → has_parts t ≡ false → heading p t v ≡ t
+leaf_heading p t v = without_parts (λ t. heading p t v ≡ t)
+    (search (rules, the_lemmas), λ x. search (rules, the_lemmas), λ w. search (rules, the_lemmas), λ x. search (rules, the_lemmas), λ s. search (rules, the_lemmas)) (λ k i. search (rules, the_lemmas)) t
 
 -- lists
 abbrev listed : Places → List Node → Bool → List Node
@@ -85,7 +84,7 @@ pair_due p l a s e c r g q d w x o y v h =
     subst (λ t. Due Reasoned l (At (move a w x o y)) t) (sym (heading_tree p kind.ParenExpr (s ∷ e ∷ []) v ∙ rolls-Tree kind.ParenExpr (heading p s true ∷ heading p e true ∷ [])))
     (pair (heading p s true) (heading p e true) (λ z. absurd (cc)) (λ z. absurd (cc)) (heading_clue p e true ∙ c) (kept r g q w x o y (heading p e true) (heading_view p e)) (λ z. absurd (cc)) d)
 
-leaf_due : (p : Places) (l : Label) (a : Site) (t : Node) → is_leaf t ≡ true → Family p l a t
+leaf_due : (p : Places) (l : Label) (a : Site) (t : Node) → has_parts t ≡ false → Family p l a t
 leaf_due p l a t n w x o y v h = subst (λ u. Due Reasoned l (At (move a w x o y)) u) (sym (leaf_heading p t v n)) (leaf t n)
 
 tree_due : (p : Places) (l : Label) (a : Site) (k : Kind) (ts : List Node) → is_paren k ≡ false → Readys p (labels l (Node-F.Tree k ts)) (spots a (Node-F.Tree k (map clue ts))) ts → Family p l a (Tree k ts)

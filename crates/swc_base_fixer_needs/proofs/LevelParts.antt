@@ -6,6 +6,7 @@ use Rattle.swc_tree_node.specs.declared.kind.Kind.{Kind}
 use Rattle.swc_tree_node.specs.declared.kind.Kind.TheVariants as kind
 use Rattle.swc_tree_node.specs.declared.node.Node.{Node, Absent, Flag, Word, Text, Span, List as Many, Identifier, Tree, out-Node, the_lemmas}
 use Rattle.swc_tree_node.specs.declared.node.Node.TheOpen.{Node-F}
+use Rattle.swc_tree_node.specs.Parts.{has_parts}
 use Rattle.swc_tree_grammar.specs.Shapes.{items_of}
 use Rattle.swc_tree_grammar.specs.Kinds.{has_kind, is_paren, is_function}
 use Rattle.swc_tree_grammar.specs.Levels.{level_in, is_called, called_step}
@@ -24,7 +25,7 @@ use Rattle.swc_base_fixer_laws.proofs.SetsLevels.{unmet as unmet_pairs}
 use Rattle.swc_base_fixer_needs.specs.Sites.{Site, clue, any, asks, leads, spots, other_items, is_base, is_spine, asks_callee}
 use Rattle.swc_base_fixer_needs.specs.Sites.Opening.{Anything}
 use Rattle.swc_base_fixer_needs.specs.Sites.Spot.{At}
-use Rattle.swc_base_fixer_needs.specs.Reasons.{nothing, Due, AllDue, is_leaf, field_labels}
+use Rattle.swc_base_fixer_needs.specs.Reasons.{nothing, Due, AllDue, field_labels}
 use Rattle.swc_base_fixer_needs.specs.Reasons.Label.{Names, OfStatement}
 use Rattle.swc_base_fixer_needs.specs.Reasons.Reason.{leads_call}
 use Rattle.swc_base_fixer_needs.specs.Reasons.Extent.{ByLevel}
@@ -164,7 +165,7 @@ level_tree p k ts q n = record {
   as_statement = rw (pairing_tree p k ts false) (statement_tree p k ts q n);
 }
 
-level_leaf : (p : Places) (t : Node) → is_leaf t ≡ true → ((b : Bool) → pairing p t b ≡ t) → key_in p t (out-Node t) ≡ t → at_least 18 t ≡ true → items_of t ≡ [] → sequence_statement p t (out-Node t) ≡ t → Level p t
+level_leaf : (p : Places) (t : Node) → has_parts t ≡ false → ((b : Bool) → pairing p t b ≡ t) → key_in p t (out-Node t) ≡ t → at_least 18 t ≡ true → items_of t ≡ [] → sequence_statement p t (out-Node t) ≡ t → Level p t
 level_leaf p t l e k h i s n = record {
   stands = λ f a. rw (e (is_base a.mode)) (leaf t l);
   as_key = λ f a b d. rw (e false, k) (leaf t l);

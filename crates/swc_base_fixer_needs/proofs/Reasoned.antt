@@ -5,6 +5,8 @@ use Rattle.swc_tree_node.specs.declared.kind.Kind.{Kind}
 use Rattle.swc_tree_node.specs.declared.kind.Kind.TheVariants as kind
 use Rattle.swc_tree_node.specs.declared.node.Node.{Node, Absent, Flag, Word, Text, Span, List as Many, Identifier, Tree, out-Node, the_lemmas}
 use Rattle.swc_tree_node.specs.declared.node.Node.TheOpen.{Node-F}
+use Rattle.swc_tree_node.specs.Parts.{has_parts}
+use Rattle.swc_tree_node.proofs.Leaves.{without_parts}
 use Rattle.swc_tree_scoping.specs.Places.{Path, given}
 use Rattle.swc_tree_grammar.specs.Kinds.{is_paren}
 use Rattle.swc_tree_grammar.specs.Levels.{word_of, is_in}
@@ -16,7 +18,7 @@ use Rattle.swc_tree_grammar_laws.proofs.Levelled.{half}
 use Rattle.swc_tree_grammar_laws.proofs.Derived.{judged, whole}
 use Rattle.swc_base_fixer_needs.specs.Sites.{Mode, Site, Spot, clue, any, spots, derives_as, Stands, Stand, AllStand}
 use Rattle.swc_base_fixer_needs.specs.Sites.Spot.{Hidden, At}
-use Rattle.swc_base_fixer_needs.specs.Reasons.{Label, nothing, labels, names_content, Reason, Due, AllDue, takes_tree, is_bare_in, is_leaf, blank}
+use Rattle.swc_base_fixer_needs.specs.Reasons.{Label, nothing, labels, names_content, Reason, Due, AllDue, takes_tree, is_bare_in, blank}
 use Rattle.swc_base_fixer_needs.specs.Reasons.Label.{Names, OfStatement, OfItems}
 use Rattle.swc_base_fixer_needs.specs.Reasons.Reason.{for_reader, unmet, leads_call, in_head, async_before_of, begins_so}
 use Rattle.swc_base_fixer_needs.specs.Reasons.Extent.{Seen}
@@ -130,11 +132,9 @@ no_content k ts h = refl
 no_pair_of : {l : Label} {s : Spot} (t : Node) (p : Path) → is_pair t p ≡ false → is_pair t p ≡ true → Goes l s t p
 no_pair_of t p e h = absurd (cc)
 
-leaf_pairless : (t : Node) → is_leaf t ≡ true → is_pairless t ≡ true
-leaf_pairless t = by_children (λ t. is_leaf t ≡ true → is_pairless t ≡ true)
-    (λ h. search (rules, the_lemmas), λ x h. search (rules, the_lemmas), λ w h. search (rules, the_lemmas), λ x h. search (rules, the_lemmas), λ s h. search (rules, the_lemmas), λ k i h. search (rules, the_lemmas))
-    (λ ts l h. (let e : is_leaf (Many ts) ≡ false = search (rules, the_lemmas) in absurd (cc)))
-    (λ k ts l h. (let e : is_leaf (Tree k ts) ≡ false = search (rules, the_lemmas) in absurd (cc))) t
+leaf_pairless : (t : Node) → has_parts t ≡ false → is_pairless t ≡ true
+leaf_pairless t = without_parts (λ t. is_pairless t ≡ true)
+    (search (rules, the_lemmas), λ x. search (rules, the_lemmas), λ w. search (rules, the_lemmas), λ x. search (rules, the_lemmas), λ s. search (rules, the_lemmas)) (λ k i. search (rules, the_lemmas)) t
 
 mutual
   below : {l : Label} {s : Spot} {t : Node} → Due Seen l s t → (p : Path) → is_pair t p ≡ true → Goes l s t p

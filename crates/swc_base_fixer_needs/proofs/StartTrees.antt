@@ -3,8 +3,10 @@ use Rattle.std.proofs.Common.{◌≡◌, IsTrue, true, false, ◌&&◌, List, []
 use Rattle.std.specs.List.{list_all}
 use Rattle.swc_tree_node.specs.declared.kind.Kind.{Kind}
 use Rattle.swc_tree_node.specs.declared.kind.Kind.TheVariants as kind
-use Rattle.swc_tree_node.specs.declared.node.Node.{Node, List as Many, Tree, the_lemmas}
+use Rattle.swc_tree_node.specs.declared.node.Node.{Node, Tree, the_lemmas}
 use Rattle.swc_tree_node.specs.declared.node.Node.TheOpen.{Node-F}
+use Rattle.swc_tree_node.specs.Parts.{has_parts}
+use Rattle.swc_tree_node.proofs.Leaves.{without_parts}
 use Rattle.swc_tree_node.specs.declared.node.Node.TheVariants.{rolls-Tree}
 use Rattle.swc_tree_node.specs.declared.slot.Slot.{Slot}
 use Rattle.swc_tree_node.specs.Fits.{Fits}
@@ -15,7 +17,6 @@ use Rattle.swc_tree_grammar.specs.Places.{is_open}
 use Rattle.swc_tree_grammar.specs.Writable.{Writable}
 use Rattle.swc_tree_grammar.specs.Fixed.{fixed}
 use Rattle.swc_tree_grammar.specs.Due.{Places, paired_at_starts, with_due_pairs}
-use Rattle.swc_tree_grammar.proofs.Induction.{by_children}
 use Rattle.swc_tree_grammar.proofs.Kept.{stripped_fits}
 use Rattle.swc_tree_grammar.proofs.BlocksKept.{blocks_fit}
 use Rattle.swc_tree_grammar.proofs.Pairless.{unparened_pairless}
@@ -28,7 +29,7 @@ use Rattle.swc_base_fixer_laws.proofs.Fixed.{targets_stand_bare, stripping_keeps
 use Rattle.swc_base_fixer_needs.specs.Keys.{names_constructors}
 use Rattle.swc_base_fixer_needs.specs.Sites.{Site, Spot, any, may_open}
 use Rattle.swc_base_fixer_needs.specs.Sites.Spot.{At}
-use Rattle.swc_base_fixer_needs.specs.Reasons.{Label, nothing, Reason, Due, AllDue, is_leaf}
+use Rattle.swc_base_fixer_needs.specs.Reasons.{Label, nothing, Reason, Due, AllDue}
 use Rattle.swc_base_fixer_needs.specs.Reasons.Reason.{for_reader, unmet, leads_call, in_head, async_before_of, begins_so}
 use Rattle.swc_base_fixer_needs.specs.Reasons.Extent.{Reasoned}
 use Rattle.swc_base_fixer_needs.specs.Reasons.Due.{leaf, unseen, pair, many, tree}
@@ -43,11 +44,9 @@ use Rattle.swc_base_fixer_needs.proofs.WritableNames.{writable_names_constructor
 use Rattle.swc_base_fixer_needs.proofs.CalmLevels.{calm_before_starts}
 use Rattle.swc_base_fixer_needs.proofs.StartNodes.{calm, calm_in, calm_tree, calm_list, step_row, labels_kept}
 
-leaf_starting : (p : Places) (t : Node) → is_leaf t ≡ true → paired_at_starts p t ≡ t
-leaf_starting p t = by_children (λ t. is_leaf t ≡ true → paired_at_starts p t ≡ t)
-    (λ h. search (rules, the_lemmas), λ x h. search (rules, the_lemmas), λ w h. search (rules, the_lemmas), λ x h. search (rules, the_lemmas), λ s h. search (rules, the_lemmas), λ k i h. search (rules, the_lemmas))
-    (λ ts l h. (let e : is_leaf (Many ts) ≡ false = search (rules, the_lemmas) in absurd (cc)))
-    (λ k ts l h. (let e : is_leaf (Tree k ts) ≡ false = search (rules, the_lemmas) in absurd (cc))) t
+leaf_starting : (p : Places) (t : Node) → has_parts t ≡ false → paired_at_starts p t ≡ t
+leaf_starting p t = without_parts (λ t. paired_at_starts p t ≡ t)
+    (search (rules, the_lemmas), λ x. search (rules, the_lemmas), λ w. search (rules, the_lemmas), λ x. search (rules, the_lemmas), λ s. search (rules, the_lemmas)) (λ k i. search (rules, the_lemmas)) t
 
 kept : {l : Label} {a : Site} {e : Node} → (p : Places) → Reason l a e → Stable l → Reason l a (paired_at_starts p e)
 kept {l = l} {e = e} p (for_reader n) s = for_reader (named_still l e (paired_at_starts p e) s (starting_view p e) n)

@@ -4,6 +4,7 @@ use Rattle.swc_tree_node.specs.declared.kind.Kind.{Kind}
 use Rattle.swc_tree_node.specs.declared.kind.Kind.TheVariants as kind
 use Rattle.swc_tree_node.specs.declared.node.Node.{Node, List as Many, Tree, out-Node}
 use Rattle.swc_tree_node.specs.declared.node.Node.TheOpen.{Node-F}
+use Rattle.swc_tree_node.specs.Parts.{has_parts}
 use Rattle.swc_tree_grammar.specs.Shapes.{Seq, Bin, Statement}
 use Rattle.swc_tree_grammar.specs.Kinds.{is_paren}
 use Rattle.swc_tree_grammar.specs.Levels.{word_of, is_in, is_called}
@@ -69,15 +70,6 @@ abbrev pub takes_tree : Mode → Bool
 takes_tree Declarators = false
 takes_tree _ = true
 
-abbrev pub is_leaf_in : Node-F Node → Bool
-is_leaf_in (Node-F.List ts) = false
-is_leaf_in (Node-F.Tree k ts) = false
-is_leaf_in _ = true
-
--- nothing stands below it
-abbrev pub is_leaf : Node → Bool
-is_leaf t = is_leaf_in (out-Node t)
-
 -- a reason that has to do with no first part of a head and with no start
 abbrev pub is_of_level : {l : Label} {a : Site} {e : Node} → Reason l a e → Bool
 is_of_level (for_reader n) = true
@@ -102,7 +94,7 @@ is_seen _ = false
 
 mutual
   pub data Due (x : Extent) : Label → Spot → Node → Type 0 where
-    leaf : {l : Label} {s : Spot} (t : Node) → is_leaf t ≡ true → Due x l s t
+    leaf : {l : Label} {s : Spot} (t : Node) → has_parts t ≡ false → Due x l s t
     unseen : {l : Label} (t : Node) → (is_seen x ≡ true → is_pairless t ≡ true) → Due x l Hidden t
     pair : {l : Label} {a : Site} (s e : Node) → (is_seen x ≡ true → takes_tree a.mode ≡ true) → (is_seen x ≡ true → is_pairless s ≡ true) → clue e ≡ blank
         → (r : Reason l a e) → (is_by_level x ≡ true → is_of_level r ≡ true) → Due x nothing any e → Due x l (At a) (Tree kind.ParenExpr (s ∷ e ∷ []))

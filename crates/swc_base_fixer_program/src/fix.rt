@@ -82,7 +82,7 @@ pub fn fix_parens_with<C: Comments>(
 
 /// Takes every pair of parentheses off a tree, with what is idle in sequences and classes; puts a block round each
 /// first branch of an `if` that ends in an `if` without `else`; and sets the pairs that are due: those without which
-/// the grammar would not take the tree (ECMA-262, 13 to 16), and a few for the reader.
+/// the grammar would not take the tree (ECMA-262, 13 to 16), and some for the reader.
 ///
 /// What fits its place in the table still does, which `swc_base_fixer_laws` proves of the definitions.
 ///
@@ -98,9 +98,9 @@ pub fn fix_parens_with<C: Comments>(
 ///
 /// # Cost
 ///
-/// Time in step with the size of the tree, but for items of nested sequences, which move once for each sequence round
-/// them: where pairs stood is looked up by a hash whose keys come from all of them. The nodes stay where they are in
-/// memory.
+/// Time in step with the size of the tree, but for items of sequences under `void` in a sequence, which move once more
+/// for each such `void` round them: where pairs stood is looked up by a hash whose keys come from all of them. The nodes
+/// stay where they are in memory.
 pub fn fix_parens<C: Comments>(
     alloc: Global,
     comments: Option<&mut C>,

@@ -13,7 +13,7 @@ use Rattle.swc_base_fixer_unparen.specs.Fields.{field_left, last_statement, cont
 use Rattle.swc_tree_node.specs.declared.node.Node.{Node, Absent, List as Many, Tree}
 use Rattle.swc_tree_node.specs.declared.node.Node.TheOpen.{Node-F}
 use Rattle.swc_tree_grammar.specs.Shapes.{items_of}
-use Rattle.swc_tree_grammar.specs.Stripped.{strip_step, target, is_member, is_idle, busy, is_void, effects, front, end, parts, sequence, settled}
+use Rattle.swc_tree_grammar.specs.Stripped.{strip_step, target, is_member, is_idle, busy, is_void, effects, front, end, sequence, settled}
 
 -- said once for the kinds that a match leaves: `cc` at each of them is dear
 no_field : {X : Type 0} (i : ℕ) → None ≡ Some i → X
@@ -92,12 +92,6 @@ effects_itself t k ts us is same there = sym (effects_whole k ts (ap (field_left
 pub effects_of_items : (t : Node) (ts : List Node) → t ≡ Many ts → flat_map effects ts ≡ effects t
 effects_of_items t ts is = sym (effects_of_list ts) ∙ ap effects (sym is)
 
-two_fields : (fields : List Node) (exprs : Node) → length fields ≡ 2 → slice_get fields 1 ≡ Some exprs → (span : Node) × (fields ≡ span ∷ exprs ∷ [])
-two_fields (a ∷ b ∷ []) exprs h g = let same : b ≡ exprs = cc in (a, ap (λ x. a ∷ x ∷ []) same)
-two_fields [] exprs h g = absurd (omega arith)
-two_fields (a ∷ []) exprs h g = absurd (omega arith)
-two_fields (a ∷ b ∷ c ∷ ts) exprs h g = absurd (omega arith)
-
 one_item : (span : Node) (items : List Node) (e : Node) → length items ≡ 1 → slice_get items 0 ≡ Some e → e ≡ sequence span items
 one_item span (x ∷ []) e h g = cc
 one_item span [] e h g = absurd (omega arith)
@@ -108,26 +102,21 @@ more_items span [] h = refl
 more_items span (x ∷ []) h = absurd (h refl)
 more_items span (x ∷ y ∷ items) h = refl
 
-items_put : (fields : List Node) (span exprs : Node) (items : List Node) → fields ≡ span ∷ exprs ∷ [] → slice_set (slice_set fields 1 Absent) 1 (Many items) ≡ span ∷ Many items ∷ []
-items_put fields span exprs items is = rw is refl
-
-stripped_items : (fields : List Node) (span exprs : Node) (es joined items : List Node) → fields ≡ span ∷ exprs ∷ [] → es ≡ items_of exprs → joined ≡ flat_map parts es → items ≡ settled joined
-    → sequence span items ≡ strip_step (Node-F.Tree kind.SeqExpr fields)
-stripped_items fields span exprs es joined items is e j i = rw (is, i, j, e) refl
+second_put : (fields : List Node) (new : Node) → length fields ≡ 2 → slice_set fields 1 new ≡ get_or fields 0 Absent ∷ new ∷ []
+second_put (a ∷ b ∷ []) new h = refl
+second_put [] new h = absurd (omega arith)
+second_put (a ∷ []) new h = absurd (omega arith)
+second_put (a ∷ b ∷ c ∷ ts) new h = absurd (omega arith)
 
 -- a sequence that is left with one item
-pub sequence_of_one : (fields : List Node) (exprs : Node) (es joined items : List Node) (e : Node) → length fields ≡ 2 → slice_get fields 1 ≡ Some exprs → es ≡ items_of exprs → joined ≡ flat_map parts es → items ≡ settled joined
-    → length items ≡ 1 → slice_get items 0 ≡ Some e → e ≡ strip_step (Node-F.Tree kind.SeqExpr fields)
-sequence_of_one fields exprs es joined items e h g a b c one there =
-    let f = two_fields fields exprs h g in
-    one_item f.0 items e one there ∙ stripped_items fields f.0 exprs es joined items f.1 a b c
+pub sequence_of_one : (fields es items : List Node) (e : Node) → items ≡ settled es → length items ≡ 1 → slice_get items 0 ≡ Some e → e ≡ sequence (get_or fields 0 Absent) (settled es)
+sequence_of_one fields es items e i one there = one_item (get_or fields 0 Absent) items e one there ∙ ap (sequence (get_or fields 0 Absent)) i
 
 -- a sequence that is left with more, or with none
-pub sequence_of_more : (fields out back : List Node) (exprs : Node) (es joined items : List Node) → length fields ≡ 2 → slice_get fields 1 ≡ Some exprs → es ≡ items_of exprs → joined ≡ flat_map parts es → items ≡ settled joined
-    → length items ≢ 1 → out ≡ slice_set fields 1 Absent → back ≡ slice_set out 1 (Many items) → Tree kind.SeqExpr back ≡ strip_step (Node-F.Tree kind.SeqExpr fields)
-sequence_of_more fields out back exprs es joined items h g a b c more o put =
-    let f = two_fields fields exprs h g in
-    ap (Tree kind.SeqExpr) (put ∙ ap (λ l. slice_set l 1 (Many items)) o ∙ items_put fields f.0 exprs items f.1) ∙ more_items f.0 items more ∙ stripped_items fields f.0 exprs es joined items f.1 a b c
+pub sequence_of_more : (fields back es items : List Node) → length fields ≡ 2 → items ≡ settled es → length items ≢ 1 → back ≡ slice_set fields 1 (Many items)
+    → Tree kind.SeqExpr back ≡ sequence (get_or fields 0 Absent) (settled es)
+sequence_of_more fields back es items h i more put =
+    ap (Tree kind.SeqExpr) (put ∙ second_put fields (Many items) h) ∙ more_items (get_or fields 0 Absent) items more ∙ ap (sequence (get_or fields 0 Absent)) i
 
 at_fifth : (a b c d l : Node) (ts : List Node) (i : ℕ) (e : Node) → Some 4 ≡ Some i → e ≡ get_or (a ∷ b ∷ c ∷ d ∷ l ∷ ts) i e → l ≡ e
 at_fifth a b c d l ts i e h g = let here : 4 ≡ i = cc in let found = rw (← here) at g in cc

@@ -3,3 +3,7 @@ pub mod Found
 pub mod Each
 pub mod Leaves
 pub mod Fields
+pub mod Busy
+pub mod Flat
+pub mod Alike
+pub mod Gathering

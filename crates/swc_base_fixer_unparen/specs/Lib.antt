@@ -1,3 +1,3 @@
 pub mod Moves
 pub mod Fields
-pub mod Leaf
+pub mod Gathered

@@ -6,7 +6,6 @@ ghost use Rattle.swc_tree_node.specs.declared.node.Node.TheOpen.{Node-F};
 ghost use Rattle.swc_tree_grammar.specs.Blocks.{block as block_of, block_step, branch as branch_of, takes_else as takes_an_else, with_blocks};
 ghost use Rattle.swc_base_fixer_unparen.specs.Fields.{last_statement as last_statement_of};
 
-use crate::leaf::is_leaf;
 use std::alloc::{AllocError, Global};
 use swc_tree_grammar::span_of;
 use swc_tree_items::Items;
@@ -103,15 +102,14 @@ pub fn add_blocks(alloc: Global, node: Node) -> Result<Node, AllocError>
 fn block_node(alloc: Global, node: &mut Node) -> Result<(), AllocError>
     ensures { OnOk result (node.new ≡ with_blocks node.old) }
 {
-    if let Some(items) = node.items_mut() {
-        return block_all(alloc, items);
+    let kind = node.kind();
+    let Some(children) = node.children_mut() else {
+        return Ok(());
+    };
+    match kind {
+        Some(kind) => block_fields(alloc, kind, children),
+        None => block_all(alloc, children),
     }
-    if let Some(kind) = node.kind() {
-        if let Some(fields) = node.fields_mut() {
-            return block_fields(alloc, kind, fields);
-        }
-    }
-    Ok(())
 }
 
 #[cycle(blocks)]
@@ -127,10 +125,9 @@ fn block_all(alloc: Global, items: &mut Items<Node>) -> Result<(), AllocError>
     ensures { OnOk result (items.new ≡ map with_blocks items.old) }
 {
     for i in 0..items.len() {
-        if is_leaf(&items.as_slice()[i]) {
-            continue;
+        if items.as_slice()[i].has_parts() {
+            block_node(alloc, items.item_mut(i))?;
         }
-        block_node(alloc, items.item_mut(i))?;
     }
     Ok(())
 }

@@ -3,7 +3,6 @@
 
 mod blocks;
 mod comments;
-mod leaf;
 mod pairs;
 mod pass;
 mod sequence;

@@ -90,8 +90,8 @@ pub fn remove_parens_with<C: Comments>(
 ///
 /// # Cost
 ///
-/// Time in step with the size of the tree, but for items of nested sequences, which move once for each
-/// sequence round them. The nodes stay where they are in memory.
+/// Time in step with the size of the tree, but for items of sequences under `void` in a sequence, which move
+/// once more for each such `void` round them. The nodes stay where they are in memory.
 pub fn remove_parens<C: Comments>(
     alloc: Global,
     comments: Option<&mut C>,

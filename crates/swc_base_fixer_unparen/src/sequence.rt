@@ -1,10 +1,9 @@
 //! What is left of a sequence.
-ghost use Rattle.std.specs.Prelude.{◌≡◌, ◌++◌, ◌<◌, length, IfOk, OnOk, IfSome};
+ghost use Rattle.std.specs.Prelude.{◌≡◌, ◌++◌, ◌<◌, get_or, length, IfOk, OnOk, IfSome};
 ghost use Rattle.std.specs.List.{flat_map, filter, list_all};
-ghost use Rattle.swc_tree_node.specs.declared.kind.Kind.TheVariants as kind;
-ghost use Rattle.swc_tree_node.specs.declared.node.Node.TheOpen.{Node-F};
+ghost use Rattle.swc_tree_node.specs.declared.node.Node.{Absent};
 ghost use Rattle.swc_tree_grammar.specs.Shapes.{items_of as listed};
-ghost use Rattle.swc_tree_grammar.specs.Stripped.{effects, is_idle as idle, is_void as voids, busy as busy_of, parts, settled as settled_of, strip_step};
+ghost use Rattle.swc_tree_grammar.specs.Stripped.{effects, is_idle as idle, is_void as voids, busy as busy_of, parts, sequence as sequence_of, settled as settled_of};
 ghost use Rattle.swc_base_fixer_unparen.specs.Fields.{field_left as field_left_of};
 
 use std::alloc::{AllocError, Global};
@@ -104,16 +103,19 @@ fn add_parts(alloc: Global, expr: Node, out: &mut Items<Node>) -> Result<(), All
     }
 }
 
-// The expressions with the items of sequences in their place.
-fn flat(alloc: Global, mut exprs: Items<Node>) -> Result<Items<Node>, AllocError>
-    ensures { IfOk result (λ r. r ≡ flat_map parts exprs) }
+/// Adds expressions to a sequence: of sequences among them the items.
+pub fn add_all_parts(
+    alloc: Global,
+    mut exprs: Items<Node>,
+    out: &mut Items<Node>,
+) -> Result<(), AllocError>
+    ensures { OnOk result (out.new ≡ out.old ++ flat_map parts exprs) }
 {
-    let mut out = Items::new(alloc);
     for i in 0..exprs.len() {
         let expr = exprs.replace(i, Node::Absent);
-        add_parts(alloc, expr, &mut out)?;
+        add_parts(alloc, expr, out)?;
     }
-    Ok(out)
+    Ok(())
 }
 
 fn all_idle(exprs: &[Node]) -> bool
@@ -152,14 +154,17 @@ fn settled(alloc: Global, mut exprs: Items<Node>) -> Result<Items<Node>, AllocEr
     }
 }
 
-/// A sequence whose items are stripped.
-pub fn sequence(alloc: Global, mut fields: Items<Node>) -> Result<Node, AllocError>
+/// What is left of a sequence with these items, by its fields. The items are stripped, and no sequence is
+/// among them.
+pub fn sequence(
+    alloc: Global,
+    mut fields: Items<Node>,
+    exprs: Items<Node>,
+) -> Result<Node, AllocError>
     requires { length fields ≡ 2 }
-    ensures { IfOk result (λ t. t ≡ strip_step (Node-F.Tree kind.SeqExpr fields)) }
+    ensures { IfOk result (λ t. t ≡ sequence_of (get_or fields 0 Absent) (settled_of exprs)) }
 {
-    let exprs = items_of(alloc, fields.replace(seq_expr::EXPRS, Node::Absent));
-    let flat = flat(alloc, exprs)?;
-    let mut items = settled(alloc, flat)?;
+    let mut items = settled(alloc, exprs)?;
     if items.len() == 1 {
         return Ok(items.replace(0, Node::Absent));
     }

@@ -1,5 +1,5 @@
 -- The walk at each form of a node.
-use Rattle.std.proofs.Common.{◌≡◌, ℕ, zero, suc, ◌+◌, add-one, Bool, true, false, cond, Option, Some, None, List, [], ◌∷◌, length, refl, sym, ap, ◌∙◌}
+use Rattle.std.proofs.Common.{◌≡◌, ℕ, zero, suc, ◌+◌, add-one, Bool, true, false, cond, ◌⊎◌, inl, inr, Option, Some, None, List, [], ◌∷◌, length, refl, sym, ap, ◌∙◌}
 use Rattle.std.specs.List.{slice_get}
 use Rattle.std.specs.Option.{option_map, option_or}
 use Rattle.swc_tree_marks.specs.declared.ident.Ident.{Ident}
@@ -8,6 +8,7 @@ use Rattle.swc_tree_node.specs.declared.kind.Kind.TheVariants as kind
 use Rattle.swc_tree_node.specs.declared.node.Node.{Node, List as Many, Identifier, Tree, out-Node}
 use Rattle.swc_tree_node.specs.declared.node.Node.TheVariants.{outs-List, outs-Identifier, outs-Tree}
 use Rattle.swc_tree_node.specs.declared.node.Node.TheOpen.{Node-F}
+use Rattle.swc_tree_node.specs.Parts.{may_hold_names, may_hold_names_in}
 use Rattle.swc_tree_scoping.specs.declared.places.Place.{Place}
 use Rattle.swc_tree_scoping.specs.declared.places.Scope.{Scope}
 use Rattle.swc_tree_scoping.specs.declared.below.PlacesBelow.{PlacesBelow}
@@ -19,7 +20,7 @@ use Rattle.swc_tree_scoping.proofs.Under.{fold_in_place_out}
 use Rattle.swc_tree_scoping.proofs.Children.{fields_below, items_below}
 use Rattle.swc_base_rename_analysis.specs.declared.scopes.ScopeKind.{ScopeKind}
 use Rattle.swc_base_rename_analysis.specs.Analysis.{body_kind, has_identifier, key_field}
-use Rattle.swc_base_rename_analysis.specs.Walk.{Laid, Outside, Walk, begin, child_at, end, enter, goes, in_turn, is_leaf, kind_opened, name_outside, own_use, round_field, walk_but, walk_field, walk_fields, walk_in, walk_in_order, walk_inside, walk_items, walk_layer, walk_name, walk_opening, walk_optional, walk_scope, walks_at}
+use Rattle.swc_base_rename_analysis.specs.Walk.{Laid, Outside, Walk, begin, child_at, end, enter, goes, in_turn, kind_opened, name_outside, own_use, round_field, turns_of, walk_but, walk_field, walk_fields, walk_in, walk_inside, walk_items, walk_layer, walk_name, walk_opening, walk_optional, walk_scope, walks_at}
 
 each_at : (places : ℕ → Place) (ts : List Node) (i : ℕ) → slice_get (each_in walk_in places ts) i ≡ walks_at places ts i
 each_at places [] i = refl
@@ -66,24 +67,24 @@ tree_walked w t k ts p e q o l opened is_opened s is_kind =
     ∙ sym (ap (λ f. f o l) (walk_Tree w k ts))
     ∙ sym (ap (λ t. walk_in w t o l) e)
 
--- a leaf
-pub leaf_walked : (w : Place) (t : Node) → true ≡ is_leaf (out-Node t) → (o : Outside) (l : Laid) → walk_in w t o l ≡ l
-leaf_walked w t h o l = ap (λ f. f o l) (walk_out w t) ∙ by (out-Node t) h
+-- where no name stands
+pub nameless_walked : (w : Place) (t : Node) → may_hold_names t ≡ false → (o : Outside) (l : Laid) → walk_in w t o l ≡ l
+nameless_walked w t h o l = ap (λ f. f o l) (walk_out w t) ∙ by (out-Node t) h
   where
-    by : (y : Node-F Node) → true ≡ is_leaf y → walk_layer w y (walks_at (place_below w t) (children_in (out-Node t))) o l ≡ l
+    by : (y : Node-F Node) → may_hold_names_in y ≡ false → walk_layer w y (walks_at (place_below w t) (children_in (out-Node t))) o l ≡ l
     by (Node-F.List ts) h = absurd (cc)
     by (Node-F.Identifier k i) h = absurd (cc)
     by (Node-F.Tree k ts) h = absurd (cc)
     by y h = refl
 
--- a field that is a leaf, one that is none, and one that is not there
+-- a field in which no name stands, another, and one that is not there
 walked_there : (k : Kind) (ts : List Node) (places : ℕ → Place) (i : ℕ) (c : Node) → slice_get ts i ≡ Some c → (o : Outside) (l : Laid)
     → walk_in (places i) c (round_field k ts o i) l ≡ walk_field k ts (walks_at places ts) i o l
 walked_there k ts places i c there o l = ap (λ t. goes (option_map (walk_in (places i)) t) (round_field k ts o i) l) (sym there)
 
-pub leaf_field_walked : (k : Kind) (ts : List Node) (places : ℕ → Place) (i : ℕ) (c : Node) → slice_get ts i ≡ Some c → true ≡ is_leaf (out-Node c)
+pub nameless_field_walked : (k : Kind) (ts : List Node) (places : ℕ → Place) (i : ℕ) (c : Node) → slice_get ts i ≡ Some c → may_hold_names c ≡ false
     → (o : Outside) (l : Laid) → l ≡ walk_field k ts (walks_at places ts) i o l
-leaf_field_walked k ts places i c there leaf o l = sym (leaf_walked (places i) c leaf (round_field k ts o i) l) ∙ walked_there k ts places i c there o l
+nameless_field_walked k ts places i c there nameless o l = sym (nameless_walked (places i) c nameless (round_field k ts o i) l) ∙ walked_there k ts places i c there o l
 
 pub field_walked : (k : Kind) (ts : List Node) (p : PlacesBelow) (i : ℕ) (c : Node) → slice_get ts i ≡ Some c → (w : Place) → w ≡ place_of p i (Some c)
     → (o below : Outside) → below ≡ round_field k ts o i → (l : Laid) → walk_in w c below l ≡ walk_field k ts (walks_at (places_of p ts) ts) i o l
@@ -95,31 +96,37 @@ field_walked k ts p i c there w is_place o below is_below l =
 pub no_field_walked : (k : Kind) (ts : List Node) (places : ℕ → Place) (i : ℕ) → slice_get ts i ≡ None → (o : Outside) (l : Laid) → walk_field k ts (walks_at places ts) i o l ≡ l
 no_field_walked k ts places i none o l = ap (λ t. goes (option_map (walk_in (places i)) t) (round_field k ts o i) l) none
 
--- fields go in order but in a catch clause
-no_turn : (k : Kind) → (k ≡ kind.CatchClause → ⊥) → (i : ℕ) → child_at k i ≡ i
-no_turn kind.CatchClause h i = absurd (h refl)
-no_turn k h i = refl
+-- there is a turn past the last field, or it would be that of no field
+past_turns : (k : Kind) (n : ℕ) → (turns_of k n ≡ n + 1) ⊎ ((turns_of k n ≡ n) × (child_at k n ≡ n))
+past_turns kind.CatchClause n = inl refl
+past_turns k n = inr (refl, refl)
 
 none_at_end : (ts : List Node) → slice_get ts (length ts) ≡ None
 none_at_end [] = refl
 none_at_end (t ∷ ts) = none_at_end ts
 
-pub in_order_walked : (k : Kind) → (k ≡ kind.CatchClause → ⊥) → (ts : List Node) (places : ℕ → Place) (but : Option ℕ) (o : Outside) (l : Laid)
-    → walk_in_order k ts (walks_at places ts) but o l ≡ walk_fields k ts (walks_at places ts) but o l
-in_order_walked k h ts places but o l = sym (last (in_turn f (length ts) l)) ∙ next ∙ ap (λ (turn : ℕ → ℕ). in_turn (λ i. walk_but k ts (walks_at places ts) but (turn i) o) (length ts + 1) l) (λ j i. sym (no_turn k h i) j)
+pub turns_walked : (k : Kind) (ts : List Node) (places : ℕ → Place) (but : Option ℕ) (o : Outside) (l : Laid)
+    → in_turn (λ i. walk_but k ts (walks_at places ts) but (child_at k i) o) (turns_of k (length ts)) l ≡ walk_fields k ts (walks_at places ts) but o l
+turns_walked k ts places but o l = by (past_turns k (length ts))
   where
+    walked : ℕ → Laid → Laid
+    walked i = walk_but k ts (walks_at places ts) but i o
+
     f : ℕ → Laid → Laid
-    f i = walk_but k ts (walks_at places ts) but i o
+    f i = walked (child_at k i)
 
     skipped : (b : Bool) (m : Laid) → cond b m (walk_field k ts (walks_at places ts) (length ts) o m) ≡ m
     skipped true m = refl
     skipped false m = no_field_walked k ts places (length ts) (none_at_end ts) o m
 
-    last : (m : Laid) → f (length ts) m ≡ m
-    last m = skipped (is_at but (length ts)) m
-
     next : f (length ts) (in_turn f (length ts) l) ≡ in_turn f (length ts + 1) l
     next = rw add-one refl
+
+    by : (turns_of k (length ts) ≡ length ts + 1) ⊎ ((turns_of k (length ts) ≡ length ts) × (child_at k (length ts) ≡ length ts)) → in_turn f (turns_of k (length ts)) l ≡ in_turn f (length ts + 1) l
+    by (inl more) = ap (λ n. in_turn f n l) more
+    by (inr (all, own)) =
+        let m = in_turn f (length ts) l in
+        ap (λ n. in_turn f n l) all ∙ sym (ap (λ i. walked i m) own ∙ skipped (is_at but (length ts)) m) ∙ next
 
 -- one turn more
 pub one_turn_more : (f : ℕ → Laid → Laid) (i : ℕ) (a l b : Laid) → l ≡ in_turn f i a → b ≡ f i l → b ≡ in_turn f (i + 1) a

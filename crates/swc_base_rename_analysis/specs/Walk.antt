@@ -147,12 +147,13 @@ abbrev pub child_at : Kind → ℕ → ℕ
 child_at kind.CatchClause i = body_first i
 child_at k i = i
 
+-- how many turns so many fields take: where the parameter of a catch clause is the last field, its turn comes one past it
+abbrev pub turns_of : Kind → ℕ → ℕ
+turns_of kind.CatchClause n = n + 1
+turns_of k n = n
+
 abbrev pub walk_but : Kind → List Node → (ℕ → Option Walk) → Option ℕ → ℕ → Walk
 walk_but k ts walks but i o l = if is_at but i then l else walk_field k ts walks i o l
-
--- all fields but one, in their order
-abbrev pub walk_in_order : Kind → List Node → (ℕ → Option Walk) → Option ℕ → Walk
-walk_in_order k ts walks but o = in_turn (λ i. walk_but k ts walks but i o) (length ts)
 
 -- all fields but one
 abbrev pub walk_fields : Kind → List Node → (ℕ → Option Walk) → Option ℕ → Walk
@@ -185,13 +186,6 @@ walk_items walks n o = in_turn (λ i. goes (walks i) (round_item o)) n
 
 abbrev pub walk_name : Place → Ident → Walk
 walk_name w i o l = if is_name_or_label w.standing then meet (record { ident = i; standing = w.standing; scope = o.scope; exported = o.exported }) l else l
-
--- a node that is no name, and that has none below it
-abbrev pub is_leaf : Node-F Node → Bool
-is_leaf (Node-F.List ts) = false
-is_leaf (Node-F.Identifier k i) = false
-is_leaf (Node-F.Tree k ts) = false
-is_leaf _ = true
 
 abbrev pub walk_layer : Place → Node-F Node → (ℕ → Option Walk) → Walk
 walk_layer w (Node-F.Identifier k i) walks o l = walk_name w i o l

@@ -1,10 +1,10 @@
 //! The walk over a tree that lays out its scopes and names.
 ghost use Rattle.std.specs.Prelude.{◌≡◌, ◌<◌, Some, IfOk, OnOk, length};
 ghost use Rattle.std.specs.Option.{option_copied};
-ghost use Rattle.swc_tree_node.specs.declared.node.Node.{Tree, out-Node};
+ghost use Rattle.swc_tree_node.specs.declared.node.Node.{Tree};
 ghost use Rattle.swc_tree_scoping.specs.Below.{place_of, places_of};
 ghost use Rattle.swc_base_rename_analysis.specs.Preserved.{is_name_or_label as stands_so};
-ghost use Rattle.swc_base_rename_analysis.specs.Walk.{child_at as is_child_at, is_leaf as is_without_names, laid_of, laid_out, outside_of, own_use, round_field as is_round_field, walk_but as but_walked, walk_field as field_walked, walk_fields as fields_walked, walk_in, walk_in_order as order_walked, walk_items as items_walked, walk_name as name_walked, walk_optional as optional_walked, walk_scope as scope_walked, walks_at, walks_of};
+ghost use Rattle.swc_base_rename_analysis.specs.Walk.{child_at as is_child_at, laid_of, laid_out, outside_of, own_use, round_field as is_round_field, turns_of, walk_but as but_walked, walk_field as field_walked, walk_fields as fields_walked, walk_in, walk_items as items_walked, walk_name as name_walked, walk_optional as optional_walked, walk_scope as scope_walked, walks_at, walks_of};
 
 use crate::layout::{Layout, Name};
 use crate::own_names::own_name;
@@ -58,14 +58,6 @@ fn is_name_or_label(standing: Standing) -> bool
     ensures { result ≡ stands_so standing }
 {
     standing == Standing::Label || is_binding(standing) || is_reference(standing)
-}
-
-// Whether a node is a leaf: it is no identifier, and none stands below it. Half of all nodes are leaves, so the walk passes
-// them over before it asks what is round them.
-fn is_leaf(node: &Node) -> bool
-    ensures { result ≡ is_without_names (out-Node node.now) }
-{
-    !matches!(node, Node::List(_) | Node::Identifier(..) | Node::Tree(..))
 }
 
 #[cycle(walk)]
@@ -146,7 +138,7 @@ fn walk_items<'a>(
     Ok(())
 }
 
-// An item of a list, by its index.
+// An item of a list, by its index, if names may stand in it.
 #[cycle(walk)]
 fn walk_item<'a>(
     index: usize,
@@ -157,7 +149,7 @@ fn walk_item<'a>(
 ) -> Result<(), AllocError>
     ensures { OnOk result (laid_of layout.new ≡ walk_in (place_of places.now index (Some item.now)) item.now (outside_of around.now) (laid_of layout.old)) }
 {
-    if is_leaf(item) {
+    if !item.may_hold_names() {
         return Ok(());
     }
     walk(item, places.at(index, item), around, layout)
@@ -243,7 +235,18 @@ fn child_at(kind: Kind, turn: usize) -> usize
     }
 }
 
-// All fields but one.
+// How many turns the fields of a tree take. The parameter of a catch clause has the turn of its body: where the parameter is
+// the last field, as no table has it but a node may, that turn comes one past the last field.
+fn turns(kind: Kind, fields: &[Node]) -> usize
+    ensures { result ≡ turns_of kind (length fields.now) }
+{
+    match kind {
+        Kind::CatchClause => fields.len() + 1,
+        _ => fields.len(),
+    }
+}
+
+// All fields but one, each in its turn.
 #[cycle(walk)]
 fn walk_fields<'a>(
     head: &Head,
@@ -254,41 +257,7 @@ fn walk_fields<'a>(
 ) -> Result<(), AllocError>
     ensures { OnOk result (laid_of layout.new ≡ fields_walked head.now.kind fields.now (walks_of head.now fields.now) but (outside_of around.now) (laid_of layout.old)) }
 {
-    match head.kind {
-        Kind::CatchClause => walk_by_turns(head, fields, around, but, layout),
-        _ => walk_in_order(head, fields, around, but, layout),
-    }
-}
-
-// All fields but one, in their order.
-#[cycle(walk)]
-fn walk_in_order<'a>(
-    head: &Head,
-    fields: &'a [Node],
-    around: &Around<'a>,
-    but: Option<usize>,
-    layout: &mut Layout<'a>,
-) -> Result<(), AllocError>
-    ensures { OnOk result (laid_of layout.new ≡ order_walked head.now.kind fields.now (walks_of head.now fields.now) but (outside_of around.now) (laid_of layout.old)) }
-{
-    for index in 0..fields.len() {
-        walk_but(head, fields, index, around, but, layout)?;
-    }
-    Ok(())
-}
-
-// All fields but one, each in its turn, as those of a catch clause have it.
-#[cycle(walk)]
-fn walk_by_turns<'a>(
-    head: &Head,
-    fields: &'a [Node],
-    around: &Around<'a>,
-    but: Option<usize>,
-    layout: &mut Layout<'a>,
-) -> Result<(), AllocError>
-    ensures { OnOk result (laid_of layout.new ≡ fields_walked head.now.kind fields.now (walks_of head.now fields.now) but (outside_of around.now) (laid_of layout.old)) }
-{
-    for turn in 0..fields.len() + 1 {
+    for turn in 0..turns(head.kind, fields) {
         walk_but(head, fields, child_at(head.kind, turn), around, but, layout)?;
     }
     Ok(())
@@ -324,7 +293,7 @@ fn round_field<'a>(kind: Kind, fields: &'a [Node], index: usize, around: &Around
     }
 }
 
-// A field, if it is there and no leaf.
+// A field, if it is there and names may stand in it.
 #[cycle(walk)]
 fn walk_field<'a>(
     head: &Head,
@@ -336,13 +305,13 @@ fn walk_field<'a>(
     ensures { OnOk result (laid_of layout.new ≡ field_walked head.now.kind fields.now (walks_of head.now fields.now) index (outside_of around.now) (laid_of layout.old)) }
 {
     match fields.get(index) {
-        Some(child) if is_leaf(child) => Ok(()),
+        Some(child) if !child.may_hold_names() => Ok(()),
         Some(_) => walk_branch(head, fields, index, around, layout),
         None => Ok(()),
     }
 }
 
-// A field that is there. It is kept out of the loop over the fields, which thus has little to do for a leaf.
+// A field that is there. It is kept out of the loop over the fields, which thus has little to do where no name stands.
 #[cycle(walk)]
 #[inline(never)]
 fn walk_branch<'a>(

@@ -43,20 +43,20 @@ or_false false b e = sym e
 pub record Half (n : Naming) (leaks : ℕ → Bool) (surrounds : ℕ → ℕ → Bool) (sites : List Site) (from at : ℕ) (choices : List Choice) (names : GivenTexts) (maps : Maps) : Type 0 where
   pub more : List Choice
   pub stands : Stands n (take at sites) (choices ++ more) names
-  pub given : Holds n (is_round leaks surrounds (scope_at sites from)) (choices ++ more) maps.0
-  pub whole : Holds n leaks (choices ++ more) maps.1
+  pub holders : Holds n (is_round leaks surrounds (scope_at sites from)) (choices ++ more) maps.0
+  pub leaked : Holds n leaks (choices ++ more) maps.1
   pub settled : AllByRecursion (IsSettled surrounds sites at (scope_at sites from)) (choices ++ more)
   pub inside : AllByRecursion (λ c. surrounds (scope_at sites from) c.0.0 ≡ true) more
 
-pub half_first : (n : Naming) (leaks : ℕ → Bool) (surrounds : ℕ → ℕ → Bool) (sites : List Site) (from : ℕ) (choices : List Choice) (names : GivenTexts) (outer child whole : ReverseMap)
-    → IsChild outer child → MayBegin n leaks surrounds sites from choices names (outer, whole) → Half n leaks surrounds sites from from choices names (child, whole)
-half_first n leaks surrounds sites from choices names outer child whole is_child begins =
+pub half_first : (n : Naming) (leaks : ℕ → Bool) (surrounds : ℕ → ℕ → Bool) (sites : List Site) (from : ℕ) (choices : List Choice) (names : GivenTexts) (outer child leaked : ReverseMap)
+    → IsChild outer child → MayBegin n leaks surrounds sites from choices names (outer, leaked) → Half n leaks surrounds sites from from choices names (child, leaked)
+half_first n leaks surrounds sites from choices names outer child leaked is_child begins =
     let none = append-nil choices in
     record {
       more = [];
       stands = rw none begins.stands;
-      given = rw none (λ x f. ap (λ own. list_any f (own ++ outer_ids child x)) (is_child.own x) ∙ ap (list_any f) (is_child.outer x) ∙ begins.given x f);
-      whole = rw none begins.whole;
+      holders = rw none (λ x f. ap (λ own. list_any f (own ++ outer_ids child x)) (is_child.own x) ∙ ap (list_any f) (is_child.outer x) ∙ begins.holders x f);
+      leaked = rw none begins.leaked;
       settled = rw none begins.settled;
       inside = tt;
     }
@@ -86,8 +86,8 @@ half_site n leaks surrounds sites from at choices was is maps_were maps_are laws
     record {
       more = half.more ++ done.more;
       stands = rw (next, sym all) done.stands;
-      given = rw (sym all) (done.given (is_round leaks surrounds s) (not_round (not (leaks (scope_at sites at))) (surrounds (scope_at sites at) s) around) half.given);
-      whole = rw (sym all) (done.whole leaks refl half.whole);
+      holders = rw (sym all) (done.holders (is_round leaks surrounds s) (not_round (not (leaks (scope_at sites at))) (surrounds (scope_at sites at) s) around) half.holders);
+      leaked = rw (sym all) (done.leaked leaks refl half.leaked);
       settled = rw (sym all) (all_append _ (choices ++ half.more) done.more
           (all_map _ _ (choices ++ half.more) (λ c. settled_later surrounds sites at (at + 1) s c (omega arith)) half.settled)
           (all_map _ _ done.more (λ c e. inl (ap (λ u. surrounds u s) (itself c e) ∙ laws.own s)) done.own));
@@ -113,9 +113,9 @@ child_begins n leaks surrounds sites from at choices names maps laws within roun
     let v = scope_at sites at in
     record {
       stands = half.stands;
-      given = λ x f. half.given x f ∙ any_same _ _ (choices ++ half.more)
+      holders = λ x f. half.holders x f ∙ any_same _ _ (choices ++ half.more)
           (all_map _ _ (choices ++ half.more) (λ c settled. ap (λ b. (not (leaks c.0.0) && b) && (bytes_eq (chosen_text (rules n) c) x && f c.0.1)) (counts_alike surrounds sites at s c laws within round settled)) half.settled);
-      whole = half.whole;
+      leaked = half.leaked;
       settled = all_map _ _ (choices ++ half.more) (λ c settled. elim settled [ inl h ↦ inl (laws.through c.0.0 s v h round) | inr over ↦ inr over ]) half.settled;
     }
 
@@ -138,23 +138,23 @@ neither true b z e = ap (λ k. k && z) e
 neither false b z e = refl
 
 -- the scope in the scope ended
-pub half_child : (n : Naming) (leaks : ℕ → Bool) (surrounds : ℕ → ℕ → Bool) (sites : List Site) (from at to : ℕ) (choices : List Choice) (was is : GivenTexts) (given whole_was whole_is : ReverseMap)
+pub half_child : (n : Naming) (leaks : ℕ → Bool) (surrounds : ℕ → ℕ → Bool) (sites : List Site) (from at to : ℕ) (choices : List Choice) (was is : GivenTexts) (holders leaked_was leaked_is : ReverseMap)
     → Laws surrounds → IsInPreorder surrounds sites → at ≤ to → surrounds (scope_at sites from) (scope_at sites at) ≡ true → (scope_at sites at ≡ scope_at sites from → ⊥)
-    → (half : Half n leaks surrounds sites from at choices was (given, whole_was))
-    → IsScopeDone n leaks surrounds sites at to (choices ++ half.more) is whole_is
-    → Half n leaks surrounds sites from to choices is (given, whole_is)
-half_child n leaks surrounds sites from at to choices was is given whole_was whole_is laws order later round other half done =
+    → (half : Half n leaks surrounds sites from at choices was (holders, leaked_was))
+    → IsScopeDone n leaks surrounds sites at to (choices ++ half.more) is leaked_is
+    → Half n leaks surrounds sites from to choices is (holders, leaked_is)
+half_child n leaks surrounds sites from at to choices was is holders leaked_was leaked_is laws order later round other half done =
     let s = scope_at sites from in
     let v = scope_at sites at in
     let all = append_assoc choices half.more done.more in
     record {
       more = half.more ++ done.more;
       stands = rw (sym all) done.stands;
-      given = rw (sym all) (λ x f. half.given x f
+      holders = rw (sym all) (λ x f. half.holders x f
           ∙ or_false (list_any _ (choices ++ half.more)) _ (any_none (is_held n (is_round leaks surrounds s) x f) done.more
           (all_map _ _ done.more (λ c inside. neither (not (leaks c.0.0)) (surrounds c.0.0 s) (bytes_eq (chosen_text (rules n) c) x && f c.0.1) (not_outside surrounds s v c laws round other inside)) done.inside))
           ∙ sym (list_any-append (is_held n (is_round leaks surrounds s) x f) (choices ++ half.more) done.more));
-      whole = rw (sym all) done.whole;
+      leaked = rw (sym all) done.leaked;
       settled = rw (sym all) (all_append _ (choices ++ half.more) done.more
           (all_map _ _ (choices ++ half.more) (λ c. settled_later surrounds sites at to s c later) half.settled)
           (all_map _ _ done.more (λ c inside. inr (over_in surrounds sites at to c laws order later done.ended inside)) done.inside));
@@ -162,30 +162,30 @@ half_child n leaks surrounds sites from at to choices was is given whole_was who
     }
 
 -- what stands where no scope is open
-pub record Whole (n : Naming) (leaks : ℕ → Bool) (surrounds : ℕ → ℕ → Bool) (sites : List Site) (at : ℕ) (names : GivenTexts) (map : ReverseMap) : Type 0 where
+pub record NoneOpen (n : Naming) (leaks : ℕ → Bool) (surrounds : ℕ → ℕ → Bool) (sites : List Site) (at : ℕ) (names : GivenTexts) (map : ReverseMap) : Type 0 where
   pub choices : List Choice
   pub stands : Stands n (take at sites) choices names
-  pub whole : Holds n leaks choices map
+  pub leaked : Holds n leaks choices map
   pub over : AllByRecursion (IsOver surrounds sites at) choices
 
 pub root_begins : (n : Naming) (leaks : ℕ → Bool) (surrounds : ℕ → ℕ → Bool) (sites : List Site) (at : ℕ) (names : GivenTexts) (outer map : ReverseMap)
-    → at < length sites → ((x : List ℕ) → ids_of outer x ≡ []) → (whole : Whole n leaks surrounds sites at names map) → MayBegin n leaks surrounds sites at whole.choices names (outer, map)
-root_begins n leaks surrounds sites at names outer map within empty whole = record {
-  stands = whole.stands;
-  given = λ x f. ap (list_any f) (empty x) ∙ sym (any_none (is_held n (is_round leaks surrounds (scope_at sites at)) x f) whole.choices
-      (all_map _ _ whole.choices (λ c over. neither (not (leaks c.0.0)) (surrounds c.0.0 (scope_at sites at)) (bytes_eq (chosen_text (rules n) c) x && f c.0.1) (over at (omega arith) within)) whole.over));
-  whole = whole.whole;
-  settled = all_map _ _ whole.choices (λ c over. inr over) whole.over;
+    → at < length sites → ((x : List ℕ) → ids_of outer x ≡ []) → (leaked : NoneOpen n leaks surrounds sites at names map) → MayBegin n leaks surrounds sites at leaked.choices names (outer, map)
+root_begins n leaks surrounds sites at names outer map within empty leaked = record {
+  stands = leaked.stands;
+  holders = λ x f. ap (list_any f) (empty x) ∙ sym (any_none (is_held n (is_round leaks surrounds (scope_at sites at)) x f) leaked.choices
+      (all_map _ _ leaked.choices (λ c over. neither (not (leaks c.0.0)) (surrounds c.0.0 (scope_at sites at)) (bytes_eq (chosen_text (rules n) c) x && f c.0.1) (over at (omega arith) within)) leaked.over));
+  leaked = leaked.leaked;
+  settled = all_map _ _ leaked.choices (λ c over. inr over) leaked.over;
 }
 
 pub root_done : (n : Naming) (leaks : ℕ → Bool) (surrounds : ℕ → ℕ → Bool) (sites : List Site) (at to : ℕ) (was is : GivenTexts) (map_was map_is : ReverseMap)
-    → Laws surrounds → IsInPreorder surrounds sites → at ≤ to → (whole : Whole n leaks surrounds sites at was map_was) → IsScopeDone n leaks surrounds sites at to whole.choices is map_is → Whole n leaks surrounds sites to is map_is
-root_done n leaks surrounds sites at to was is map_was map_is laws order later whole done = record {
-  choices = whole.choices ++ done.more;
+    → Laws surrounds → IsInPreorder surrounds sites → at ≤ to → (leaked : NoneOpen n leaks surrounds sites at was map_was) → IsScopeDone n leaks surrounds sites at to leaked.choices is map_is → NoneOpen n leaks surrounds sites to is map_is
+root_done n leaks surrounds sites at to was is map_was map_is laws order later leaked done = record {
+  choices = leaked.choices ++ done.more;
   stands = done.stands;
-  whole = done.whole;
-  over = all_append _ whole.choices done.more
-      (all_map _ _ whole.choices (λ c. over_later surrounds sites at to c later) whole.over)
+  leaked = done.leaked;
+  over = all_append _ leaked.choices done.more
+      (all_map _ _ leaked.choices (λ c. over_later surrounds sites at to c later) leaked.over)
       (all_map _ _ done.more (λ c inside. over_in surrounds sites at to c laws order later done.ended inside) done.inside);
 }
 
@@ -201,4 +201,4 @@ pub half_held : (naming : (ℕ → ℕ → Bool) → Naming) (leaks : ℕ → Bo
 half_held naming leaks surrounds counts sites from at choices names maps own half =
     let n = naming (counts_with leaks surrounds) in
     let s = scope_at sites from in
-    rw own (held_of n s (is_round leaks surrounds s) leaks (choices ++ half.more) maps (λ u. either_leaks (leaks u) (surrounds u s) ∙ sym (counts u s)) half.given half.whole)
+    rw own (held_of n s (is_round leaks surrounds s) leaks (choices ++ half.more) maps (λ u. either_leaks (leaks u) (surrounds u s) ∙ sym (counts u s)) half.holders half.leaked)

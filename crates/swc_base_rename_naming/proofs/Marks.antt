@@ -14,7 +14,7 @@ use Rattle.swc_base_rename_naming.specs.Chained.{ids_of}
 use Rattle.swc_base_rename_naming.specs.Places.{AnyWithin, AreMarked, AreMarkedAlso, NoneWithin}
 use Rattle.swc_base_rename_naming.specs.Steps.{HasAlso}
 use Rattle.swc_base_rename_naming.specs.Stretches.{is_at, is_within}
-use Rattle.swc_base_rename_naming.specs.declared.whole.Whole.{Whole}
+use Rattle.swc_base_rename_naming.specs.declared.leaked.Leaked.{Leaked}
 
 either : (a b : Bool) → (a || b) ≡ true → (a ≡ true) ⊎ (b ≡ true)
 either true b h = inl refl
@@ -80,28 +80,28 @@ or_none true = refl
 or_none false = refl
 
 -- the places of one text with those of one id more
-module _ (positions : ℕ → List ℕ) (was : Whole) (text : List ℕ) (id : ℕ) (new : BTreeSet ℕ) (added : (p : ℕ) → contains nat_cmp new p ≡ (list_any (is_at positions p) (ids_of was.given text) || is_at positions p id)) (marked : AreMarked positions was) where
+module _ (positions : ℕ → List ℕ) (was : Leaked) (text : List ℕ) (id : ℕ) (new : BTreeSet ℕ) (added : (p : ℕ) → contains nat_cmp new p ≡ (list_any (is_at positions p) (ids_of was.holders text) || is_at positions p id)) (marked : AreMarked positions was) where
   marked_at : (b : Bool) (x : List ℕ) (places : BTreeSet ℕ) → bytes_eq text x ≡ b → cond b (Some new) (get_by_text was.places x) ≡ Some places
-      → (p : ℕ) → contains nat_cmp places p ≡ (list_any (is_at positions p) (ids_of was.given x) || (b && is_at positions p id))
+      → (p : ℕ) → contains nat_cmp places p ≡ (list_any (is_at positions p) (ids_of was.holders x) || (b && is_at positions p id))
   marked_at true x places same at p =
       sym (ap (λ o. contains nat_cmp (unwrap_or o new) p) at)
       ∙ added p
-      ∙ ap (λ t. list_any (is_at positions p) (ids_of was.given t) || is_at positions p id) ((bytes_eq-Decides text x).0 same)
-  marked_at false x places other at p = marked x places at p ∙ or_none (list_any (is_at positions p) (ids_of was.given x))
+      ∙ ap (λ t. list_any (is_at positions p) (ids_of was.holders t) || is_at positions p id) ((bytes_eq-Decides text x).0 same)
+  marked_at false x places other at p = marked x places at p ∙ or_none (list_any (is_at positions p) (ids_of was.holders x))
 
-  pub marked_also : (is : Whole) → ((x : List ℕ) → get_by_text is.places x ≡ cond (bytes_eq text x) (Some new) (get_by_text was.places x)) → AreMarkedAlso positions text id was is
+  pub marked_also : (is : Leaked) → ((x : List ℕ) → get_by_text is.places x ≡ cond (bytes_eq text x) (Some new) (get_by_text was.places x)) → AreMarkedAlso positions text id was is
   marked_also is sets x places at = marked_at (bytes_eq text x) x places refl (sym (sets x) ∙ at)
 
 -- a text without places gets one id more
-pub none_marked : (positions : ℕ → List ℕ) (was : Whole) (text : List ℕ) (id : ℕ) → get_by_text was.places text ≡ None → AreMarked positions was → AreMarkedAlso positions text id was was
+pub none_marked : (positions : ℕ → List ℕ) (was : Leaked) (text : List ℕ) (id : ℕ) → get_by_text was.places text ≡ None → AreMarked positions was → AreMarkedAlso positions text id was was
 none_marked positions was text id none marked x places at p = by (bytes_eq text x) refl
   where
-    by : (b : Bool) → bytes_eq text x ≡ b → contains nat_cmp places p ≡ (list_any (is_at positions p) (ids_of was.given x) || (b && is_at positions p id))
+    by : (b : Bool) → bytes_eq text x ≡ b → contains nat_cmp places p ≡ (list_any (is_at positions p) (ids_of was.holders x) || (b && is_at positions p id))
     by true same = absurd (cc ((bytes_eq-Decides text x).0 same, none, at))
-    by false other = marked x places at p ∙ or_none (list_any (is_at positions p) (ids_of was.given x))
+    by false other = marked x places at p ∙ or_none (list_any (is_at positions p) (ids_of was.holders x))
 
 -- the ids were given the text
-pub marked_pushed : (positions : ℕ → List ℕ) (text : List ℕ) (id : ℕ) (was mid is : Whole) → AreMarkedAlso positions text id was mid → mid.places ≡ is.places → HasAlso true text id was.given is.given → AreMarked positions is
+pub marked_pushed : (positions : ℕ → List ℕ) (text : List ℕ) (id : ℕ) (was mid is : Leaked) → AreMarkedAlso positions text id was mid → mid.places ≡ is.places → HasAlso true text id was.holders is.holders → AreMarked positions is
 marked_pushed positions text id was mid is also same has x places at p = also x places (ap (λ table. get_by_text table x) same ∙ at) p ∙ sym (has x (is_at positions p))
 
 -- one position more is put in

@@ -15,7 +15,7 @@ use Rattle.swc_base_rename_naming.specs.Chained.{IsPushed, ids_of, outer_ids, ow
 use Rattle.swc_base_rename_naming.specs.Counters.{greatest}
 use Rattle.swc_base_rename_naming.specs.Free.{AllTaken, IsLeastFree, IsSearchRefusal, Test, Texts}
 use Rattle.swc_base_rename_naming.specs.InOrder.{Choice, IsRefused, Rules, Site, chosen_text, is_taken, name_in, past, start}
-use Rattle.swc_base_rename_naming.specs.Steps.{AreHeld, HasAlso, Holds, IsDone, IsNameGiven, IsPutDown, Maps, Naming, Stands, any_given, id_or, is_held, keeps_text, next_at, rules, stays, taken_at, text_at}
+use Rattle.swc_base_rename_naming.specs.Steps.{AreHeld, HasAlso, Holds, IsDone, IsNameGiven, IsTextRecorded, Maps, Naming, Stands, id_or, is_held, keeps_text, next_at, rules, stays, taken_at, text_at}
 use Rattle.swc_base_rename_naming.specs.declared.reverse_map.ReverseMap.{ReverseMap}
 use Rattle.swc_base_rename_naming.specs.declared.in_order.GivenTexts.{GivenTexts}
 use Rattle.swc_base_rename_naming.proofs.Choices.{is_next, is_passed, last-append, no_room, one_chosen, one_name, one_passed}
@@ -108,13 +108,13 @@ has_also text id was is pushed x f =
 pub has_no_more : (text : List ℕ) (id : ℕ) (map : ReverseMap) → HasAlso false text id map map
 has_no_more text id map x f = or_none (list_any f (ids_of map x))
 
-pub put_in_whole : (leaks : Bool) (text : List ℕ) (id : ℕ) (given was is : ReverseMap) → leaks ≡ true → HasAlso true text id was is → IsPutDown leaks text id (given, was) (given, is)
-put_in_whole true text id given was is e also = record { given = has_no_more text id given; whole = also }
-put_in_whole false text id given was is e also = absurd (cc)
+pub recorded_leaked : (leaks : Bool) (text : List ℕ) (id : ℕ) (holders was is : ReverseMap) → leaks ≡ true → HasAlso true text id was is → IsTextRecorded leaks text id (holders, was) (holders, is)
+recorded_leaked true text id holders was is e also = record { holders = has_no_more text id holders; leaked = also }
+recorded_leaked false text id holders was is e also = absurd (cc)
 
-pub put_in_given : (leaks : Bool) (text : List ℕ) (id : ℕ) (was is whole : ReverseMap) → leaks ≡ false → IsPushed text id was is → IsPutDown leaks text id (was, whole) (is, whole)
-put_in_given true text id was is whole e pushed = absurd (cc)
-put_in_given false text id was is whole e pushed = record { given = has_also text id was is pushed; whole = has_no_more text id whole }
+pub recorded_in_scope : (leaks : Bool) (text : List ℕ) (id : ℕ) (was is leaked : ReverseMap) → leaks ≡ false → IsPushed text id was is → IsTextRecorded leaks text id (was, leaked) (is, leaked)
+recorded_in_scope true text id was is leaked e pushed = absurd (cc)
+recorded_in_scope false text id was is leaked e pushed = record { holders = has_also text id was is pushed; leaked = has_no_more text id leaked }
 
 -- one id more
 pub holds_more : (n : Naming) (scopes : ℕ → Bool) (choices : List Choice) (c : Choice) (was is : ReverseMap) (more : Bool) (text : List ℕ) (id : ℕ)
@@ -129,7 +129,7 @@ holds_more n scopes choices c was is more text id before counts texts ids also x
     ∙ ap (λ b. those || b) (or_none _)
     ∙ sym (list_any-append (is_held n scopes x f) choices (c ∷ []))
 
-same_start : (r : Rules) (goes_on : Bool) (names : GivenTexts) (choices : List Choice) (s : ℕ) → (if names.scope == s then names.next else 0) ≡ past s (last_or None choices) → next_at goes_on names s ≡ (if goes_on then past s (last_or None choices) else 0)
+same_start : (r : Rules) (counter_goes_on : Bool) (names : GivenTexts) (choices : List Choice) (s : ℕ) → (if names.scope == s then names.next else 0) ≡ past s (last_or None choices) → next_at counter_goes_on names s ≡ (if counter_goes_on then past s (last_or None choices) else 0)
 same_start r true names choices s e = e
 same_start r false names choices s e = refl
 
@@ -141,13 +141,13 @@ same_search P text text' taken taken' n n' e f g h =
 
 pub by_choices : (n : Naming) (P : Texts → Test → ℕ → Type 0) (done : List Site) (choices : List Choice) (names : GivenTexts) (maps : Maps) (site : Site) (id : Id)
     → Stands n done choices names → AreHeld n site.0 choices maps → n.id_of site.1 ≡ Some id
-    → P (n.text id) (taken_at n.preserved n.occurs maps site.0) (next_at n.goes_on names site.0)
+    → P (n.text id) (taken_at n.preserved n.occurs maps site.0) (next_at n.counter_goes_on names site.0)
     → P (Rules.text (rules n) site.1) (is_taken (rules n) choices site.0) (start (rules n) choices site.0)
 by_choices n P done choices names maps site id stands holds found h =
     same_search P _ _ _ _ _ _
     (ap (λ o k. n.text (id_or o) k) (sym found))
     (λ x. ap (λ b. n.preserved x || b) (holds x (n.occurs site.0)))
-    (same_start (rules n) n.goes_on names choices site.0 (stands.counter site.0))
+    (same_start (rules n) n.counter_goes_on names choices site.0 (stands.counter site.0))
     h
 
 pub stays_not : (n : Naming) (x : ℕ) (id : Id) → n.id_of x ≡ Some id → keeps_text n.keeps id ≡ false → Rules.stays (rules n) x ≡ false
@@ -157,7 +157,7 @@ stays_not n x id found changes = ap (stays n.keeps) found ∙ changes
 one_more : (n : Naming) (done : List Site) (choices : List Choice) (site : Site) (id : Id) (leaks : Bool) (was is : GivenTexts) (maps_were maps_are : Maps)
     → Stands n done choices was → AreHeld n site.0 choices maps_were
     → n.id_of site.1 ≡ Some id → keeps_text n.keeps id ≡ false → text_at was.texts site.1 ≡ None
-    → (g : IsNameGiven (n.text id) (taken_at n.preserved n.occurs maps_were site.0) (next_at n.goes_on was site.0) leaks site was is maps_were maps_are)
+    → (g : IsNameGiven (n.text id) (taken_at n.preserved n.occurs maps_were site.0) (next_at n.counter_goes_on was site.0) leaks site was is maps_were maps_are)
     → Stands n (done ++ site ∷ []) (choices ++ (site, g.counter) ∷ []) is
 one_more n done choices site id leaks was is maps_were maps_are stands holds found changes none g =
     let r = rules n in
@@ -166,26 +166,26 @@ one_more n done choices site id leaks was is maps_were maps_are stands holds fou
     let chosen = by_choices n (λ text taken start. IsLeastFree text taken start g.counter) done choices was maps_were site id stands holds found g.least in
     record {
       chosen = one_chosen r done choices site g.counter stands.chosen named chosen;
-      texts = λ x. g.kept.texts x
+      texts = λ x. g.choice_recorded.texts x
           ∙ ap (λ o. if site.1 == x then Some (n.text id g.counter) else o) (stands.texts x)
           ∙ ap (λ o. if site.1 == x then Some (n.text (id_or o) g.counter) else name_in r choices x) (sym found)
           ∙ sym (one_name r choices (site, g.counter) no_name x);
-      counter = λ u. ap (λ p. if p == u then is.next else 0) g.kept.scope
-          ∙ ap (λ p. if site.0 == u then p else 0) g.kept.next
+      counter = λ u. ap (λ p. if p == u then is.next else 0) g.choice_recorded.scope
+          ∙ ap (λ p. if site.0 == u then p else 0) g.choice_recorded.next
           ∙ ap (past u) (sym (last-append None choices (site, g.counter)));
     }
 
 pub done_named : (n : Naming) (done : List Site) (choices : List Choice) (site : Site) (id : Id) (leaks : Bool) (was is : GivenTexts) (maps_were maps_are : Maps)
     → n.id_of site.1 ≡ Some id → keeps_text n.keeps id ≡ false → text_at was.texts site.1 ≡ None
-    → IsNameGiven (n.text id) (taken_at n.preserved n.occurs maps_were site.0) (next_at n.goes_on was site.0) leaks site was is maps_were maps_are
+    → IsNameGiven (n.text id) (taken_at n.preserved n.occurs maps_were site.0) (next_at n.counter_goes_on was site.0) leaks site was is maps_were maps_are
     → Stands n done choices was → AreHeld n site.0 choices maps_were
     → IsDone n leaks done choices site is maps_were maps_are
 done_named n done choices site id leaks was is maps_were maps_are found changes none g stands holds = record {
   more = (site, g.counter) ∷ [];
   own = (refl, tt);
   stands = one_more n done choices site id leaks was is maps_were maps_are stands holds found changes none g;
-  given = λ scopes same held. holds_more n scopes choices (site, g.counter) maps_were.0 maps_are.0 (not leaks) (n.text id g.counter) site.1 held same (ap (λ o. n.text (id_or o) g.counter) (sym found)) refl g.put.given;
-  whole = λ scopes same held. holds_more n scopes choices (site, g.counter) maps_were.1 maps_are.1 leaks (n.text id g.counter) site.1 held same (ap (λ o. n.text (id_or o) g.counter) (sym found)) refl g.put.whole;
+  holders = λ scopes same held. holds_more n scopes choices (site, g.counter) maps_were.0 maps_are.0 (not leaks) (n.text id g.counter) site.1 held same (ap (λ o. n.text (id_or o) g.counter) (sym found)) refl g.text_recorded.holders;
+  leaked = λ scopes same held. holds_more n scopes choices (site, g.counter) maps_were.1 maps_are.1 leaks (n.text id g.counter) site.1 held same (ap (λ o. n.text (id_or o) g.counter) (sym found)) refl g.text_recorded.leaked;
 }
 
 -- a site at which none did
@@ -200,8 +200,8 @@ done_passed n leaks done choices site names maps why stands holds =
       more = [];
       own = tt;
       stands = rw same (record { chosen = one_passed r done choices site stands.chosen passed; texts = stands.texts; counter = stands.counter });
-      given = λ scopes e held. rw same held;
-      whole = λ scopes e held. rw same held;
+      holders = λ scopes e held. rw same held;
+      leaked = λ scopes e held. rw same held;
     }
 
 -- the sites up to the next
@@ -219,7 +219,7 @@ split_at sites i within =
 -- why names are refused
 pub refused_at : (n : Naming) (done after : List Site) (choices : List Choice) (site : Site) (id : Id) (names : GivenTexts) (maps : Maps) (e : PassError)
     → n.id_of site.1 ≡ Some id → keeps_text n.keeps id ≡ false → text_at names.texts site.1 ≡ None
-    → IsSearchRefusal (n.text id) (taken_at n.preserved n.occurs maps site.0) (next_at n.goes_on names site.0) e
+    → IsSearchRefusal (n.text id) (taken_at n.preserved n.occurs maps site.0) (next_at n.counter_goes_on names site.0) e
     → Stands n done choices names → AreHeld n site.0 choices maps
     → IsRefused (rules n) (done ++ site ∷ after) e
 refused_at n done after choices site id names maps pass.NoMemory found changes none h stands holds = tt

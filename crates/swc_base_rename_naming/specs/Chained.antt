@@ -3,7 +3,7 @@ use Rattle.std.specs.Prelude.{◌≡◌, ℕ, List, [], ◌∷◌, ◌++◌, Str
 use Rattle.std.specs.Option.{option_map_or}
 use Rattle.std.specs.BTreeMap.{BTreeMap, get_by_text}
 use Rattle.std.specs.Str.{bytes_eq}
-use Rattle.swc_base_rename_naming.specs.declared.reverse_map.Given.{Given}
+use Rattle.swc_base_rename_naming.specs.declared.reverse_map.IdsByText.{IdsByText}
 use Rattle.swc_base_rename_naming.specs.declared.reverse_map.Parents.{Parents, fold-Parents}
 use Rattle.swc_base_rename_naming.specs.declared.reverse_map.Parents.TheOpen.{Parents-F}
 use Rattle.swc_base_rename_naming.specs.declared.reverse_map.ReverseMap.{ReverseMap}
@@ -14,12 +14,12 @@ abbrev pub ids_in : {A Z : Type 0} → BTreeMap (String A) (Vec ℕ Z) → List 
 ids_in table x = option_map_or (λ ids. ids.items) (get_by_text table x) []
 
 -- the ids that a text was given to, in the order in which it was
-abbrev pub given_ids : Given → List ℕ → List ℕ
-given_ids given x = ids_in given.ids x
+abbrev pub ids_held : IdsByText → List ℕ → List ℕ
+ids_held table x = ids_in table.ids x
 
 abbrev pub parents_step : Parents-F (List ℕ → List ℕ) → List ℕ → List ℕ
 parents_step Parents-F.Nobody x = []
-parents_step (Parents-F.Chain given parents) x = given_ids given.now x ++ parents.now x
+parents_step (Parents-F.Chain nearest parents) x = ids_held nearest.now x ++ parents.now x
 
 -- those of the parents, the nearest first
 abbrev pub parents_ids : Parents → List ℕ → List ℕ
@@ -27,7 +27,7 @@ parents_ids = fold-Parents (List ℕ → List ℕ) parents_step
 
 -- the map's own
 abbrev pub own_ids : ReverseMap → List ℕ → List ℕ
-own_ids map x = given_ids map.given x
+own_ids map x = ids_held map.own x
 
 -- those of the map that it was made from
 abbrev pub outer_ids : ReverseMap → List ℕ → List ℕ
@@ -42,12 +42,12 @@ abbrev pub ids_left : Iter → List ℕ
 ids_left it = it.own.now ++ parents_ids it.parents it.text.now
 
 -- the text is given to one id more, behind the others
-abbrev pub IsGiven : List ℕ → ℕ → Given → Given → Type 0
-IsGiven text id old new = (x : List ℕ) → given_ids new x ≡ (if bytes_eq text x then given_ids old x ++ id ∷ [] else given_ids old x)
+abbrev pub IsGiven : List ℕ → ℕ → IdsByText → IdsByText → Type 0
+IsGiven text id old new = (x : List ℕ) → ids_held new x ≡ (if bytes_eq text x then ids_held old x ++ id ∷ [] else ids_held old x)
 
 -- each text has the ids that it had
-abbrev pub IsAsBefore : Given → Given → Type 0
-IsAsBefore old new = (x : List ℕ) → given_ids new x ≡ given_ids old x
+abbrev pub IsAsBefore : IdsByText → IdsByText → Type 0
+IsAsBefore old new = (x : List ℕ) → ids_held new x ≡ ids_held old x
 
 -- the map itself has one id more, and what it was made from is the same
 pub record IsPushed (text : List ℕ) (id : ℕ) (old new : ReverseMap) : Type 0 where

@@ -14,7 +14,7 @@ Site = ℕ × ℕ
 -- which texts nobody may get, which ids occur at a scope or below it, and whether names of one scope count at another
 pub record Rules : Type 0 where
   pub text : ℕ → ℕ → List ℕ
-  pub goes_on : Bool
+  pub counter_goes_on : Bool
   pub stays : ℕ → Bool
   pub preserved : List ℕ → Bool
   pub occurs : ℕ → ℕ → Bool
@@ -53,7 +53,7 @@ past s (Some c) = if c.0.0 == s then c.1 + 1 else 0
 -- the counter from which an id of a scope starts: 0, or where it goes on one past that of the choice before, if that one is
 -- of the same scope
 abbrev pub start : Rules → List Choice → ℕ → ℕ
-start r choices s = if r.goes_on then past s (last_or None choices) else 0
+start r choices s = if r.counter_goes_on then past s (last_or None choices) else 0
 
 -- the least counter from the start on whose text is free
 abbrev pub IsChosen : Rules → List Choice → Choice → Type 0

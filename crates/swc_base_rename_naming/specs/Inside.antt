@@ -30,23 +30,23 @@ is_round leaks surrounds s u = not (leaks u) && surrounds u s
 -- what stands where a scope begins
 pub record MayBegin (n : Naming) (leaks : ℕ → Bool) (surrounds : ℕ → ℕ → Bool) (sites : List Site) (at : ℕ) (choices : List Choice) (names : GivenTexts) (maps : Maps) : Type 0 where
   pub stands : Stands n (take at sites) choices names
-  pub given : Holds n (is_round leaks surrounds (scope_at sites at)) choices maps.0
-  pub whole : Holds n leaks choices maps.1
+  pub holders : Holds n (is_round leaks surrounds (scope_at sites at)) choices maps.0
+  pub leaked : Holds n leaks choices maps.1
   pub settled : AllByRecursion (IsSettled surrounds sites at (scope_at sites at)) choices
 
 -- what stands where it ends: the choices since are of scopes in it, and it does not lie round the next site
-pub record IsScopeDone (n : Naming) (leaks : ℕ → Bool) (surrounds : ℕ → ℕ → Bool) (sites : List Site) (from to : ℕ) (choices : List Choice) (is : GivenTexts) (whole_is : ReverseMap) : Type 0 where
+pub record IsScopeDone (n : Naming) (leaks : ℕ → Bool) (surrounds : ℕ → ℕ → Bool) (sites : List Site) (from to : ℕ) (choices : List Choice) (is : GivenTexts) (leaked_is : ReverseMap) : Type 0 where
   pub more : List Choice
   pub stands : Stands n (take to sites) (choices ++ more) is
-  pub whole : Holds n leaks (choices ++ more) whole_is
+  pub leaked : Holds n leaks (choices ++ more) leaked_is
   pub inside : AllByRecursion (λ c. surrounds (scope_at sites from) c.0.0 ≡ true) more
   pub ended : to < length sites → surrounds (scope_at sites from) (scope_at sites to) ≡ false
 
 -- the sites of a scope, and of those in it, are done
-pub record IsScopeNamed (naming : (ℕ → ℕ → Bool) → Naming) (leaks : ℕ → Bool) (surrounds : ℕ → ℕ → Bool) (sites : List Site) (from : ℕ) (was is : GivenTexts) (maps : Maps) (whole_is : ReverseMap) (to : ℕ) : Type 0 where
+pub record IsScopeNamed (naming : (ℕ → ℕ → Bool) → Naming) (leaks : ℕ → Bool) (surrounds : ℕ → ℕ → Bool) (sites : List Site) (from : ℕ) (was is : GivenTexts) (maps : Maps) (leaked_is : ReverseMap) (to : ℕ) : Type 0 where
   pub further : from < to
   pub fits : to ≤ length sites
-  pub done : (choices : List Choice) → MayBegin (naming (counts_with leaks surrounds)) leaks surrounds sites from choices was maps → IsScopeDone (naming (counts_with leaks surrounds)) leaks surrounds sites from to choices is whole_is
+  pub done : (choices : List Choice) → MayBegin (naming (counts_with leaks surrounds)) leaks surrounds sites from choices was maps → IsScopeDone (naming (counts_with leaks surrounds)) leaks surrounds sites from to choices is leaked_is
 
 abbrev pub IsScopeRefused : ((ℕ → ℕ → Bool) → Naming) → (ℕ → Bool) → (ℕ → ℕ → Bool) → List Site → ℕ → GivenTexts → Maps → PassError → Type 0
 IsScopeRefused naming leaks surrounds sites from was maps e = (choices : List Choice) → MayBegin (naming (counts_with leaks surrounds)) leaks surrounds sites from choices was maps → IsRefused (rules (naming (counts_with leaks surrounds))) sites e

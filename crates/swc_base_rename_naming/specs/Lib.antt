@@ -7,8 +7,9 @@ pub mod Chained
 pub mod Stretches
 pub mod Places
 pub mod InOrder
+pub mod Sites
 pub mod Steps
-pub mod Planned
 pub mod Inside
 pub mod ByIds
 pub mod Tried
+pub mod Planned

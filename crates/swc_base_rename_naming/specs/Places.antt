@@ -1,5 +1,5 @@
 -- Where the ids of one text stand.
-use Rattle.std.specs.Prelude.{◌≡◌, ℕ, Bool, true, false, ◌&&◌, ◌||◌, Some, List}
+use Rattle.std.specs.Prelude.{◌≡◌, ℕ, true, false, ◌&&◌, ◌||◌, Some, List}
 use Rattle.std.specs.Ordering.{nat_cmp}
 use Rattle.std.specs.BTreeMap.{get_by_text}
 use Rattle.std.specs.BTreeSet.{BTreeSet, contains}
@@ -7,15 +7,15 @@ use Rattle.std.specs.List.{list_any}
 use Rattle.std.specs.Str.{bytes_eq}
 use Rattle.swc_base_rename_naming.specs.Chained.{ids_of}
 use Rattle.swc_base_rename_naming.specs.Stretches.{is_at, is_within}
-use Rattle.swc_base_rename_naming.specs.declared.whole.Whole.{Whole}
+use Rattle.swc_base_rename_naming.specs.declared.leaked.Leaked.{Leaked}
 
 -- where a text has places, these are the positions of its ids
-abbrev pub AreMarked : (ℕ → List ℕ) → Whole → Type 0
-AreMarked positions whole = (x : List ℕ) (places : BTreeSet ℕ) → get_by_text whole.places x ≡ Some places → (p : ℕ) → contains nat_cmp places p ≡ list_any (is_at positions p) (ids_of whole.given x)
+abbrev pub AreMarked : (ℕ → List ℕ) → Leaked → Type 0
+AreMarked positions leaked = (x : List ℕ) (places : BTreeSet ℕ) → get_by_text leaked.places x ≡ Some places → (p : ℕ) → contains nat_cmp places p ≡ list_any (is_at positions p) (ids_of leaked.holders x)
 
 -- the same, where a text has one id more
-abbrev pub AreMarkedAlso : (ℕ → List ℕ) → List ℕ → ℕ → Whole → Whole → Type 0
-AreMarkedAlso positions text id was is = (x : List ℕ) (places : BTreeSet ℕ) → get_by_text is.places x ≡ Some places → (p : ℕ) → contains nat_cmp places p ≡ (list_any (is_at positions p) (ids_of was.given x) || (bytes_eq text x && is_at positions p id))
+abbrev pub AreMarkedAlso : (ℕ → List ℕ) → List ℕ → ℕ → Leaked → Leaked → Type 0
+AreMarkedAlso positions text id was is = (x : List ℕ) (places : BTreeSet ℕ) → get_by_text is.places x ≡ Some places → (p : ℕ) → contains nat_cmp places p ≡ (list_any (is_at positions p) (ids_of was.holders x) || (bytes_eq text x && is_at positions p id))
 
 -- one of some places is in a stretch
 abbrev pub AnyWithin : BTreeSet ℕ → ℕ × ℕ → Type 0

@@ -37,7 +37,7 @@ counts_with leaks surrounds u s = leaks u || surrounds u s
 -- nobody may get, which ids occur at a scope or below it, whether names of one scope count at another, and the id of a number
 pub record Naming : Type 0 where
   pub text : Id → ℕ → List ℕ
-  pub goes_on : Bool
+  pub counter_goes_on : Bool
   pub keeps : Id → Bool
   pub preserved : List ℕ → Bool
   pub occurs : ℕ → ℕ → Bool
@@ -45,9 +45,9 @@ pub record Naming : Type 0 where
   pub id_of : ℕ → Option Id
 
 abbrev pub naming : (Id → ℕ → List ℕ) → Bool → (Id → Bool) → (List ℕ → Bool) → (ℕ → ℕ → Bool) → (ℕ → ℕ → Bool) → (ℕ → Option Id) → Naming
-naming text goes_on keeps preserved occurs counts id_of = record {
+naming text counter_goes_on keeps preserved occurs counts id_of = record {
   text = text;
-  goes_on = goes_on;
+  counter_goes_on = counter_goes_on;
   keeps = keeps;
   preserved = preserved;
   occurs = occurs;
@@ -62,7 +62,7 @@ id_at n x = id_or (n.id_of x)
 abbrev pub rules : Naming → Rules
 rules n = record {
   text = λ x k. n.text (id_at n x) k;
-  goes_on = n.goes_on;
+  counter_goes_on = n.counter_goes_on;
   stays = λ x. stays n.keeps (n.id_of x);
   preserved = n.preserved;
   occurs = n.occurs;
@@ -79,17 +79,17 @@ IsNamable keeps id_of texts number found = MatchOption found
     ((stays keeps (id_of number) ≡ true) ⊎ (is_some (text_at texts number) ≡ true))
     (λ id. (id_of number ≡ Some id.now) × ((keeps_text keeps id.now ≡ false) × (text_at texts number ≡ None)))
 
--- the map of a scope, and that of the whole
+-- the map of a scope, and that of the scopes that leak
 abbrev pub Maps : Type 0
 Maps = ReverseMap × ReverseMap
 
 -- one of the ids that a text was given to passes the test
-abbrev pub any_given : (ℕ → Bool) → Maps → List ℕ → Bool
-any_given f maps x = list_any f (ids_of maps.0 x) || list_any f (ids_of maps.1 x)
+abbrev pub any_holder : (ℕ → Bool) → Maps → List ℕ → Bool
+any_holder f maps x = list_any f (ids_of maps.0 x) || list_any f (ids_of maps.1 x)
 
 -- what is taken at a scope
 abbrev pub taken_at : (List ℕ → Bool) → (ℕ → ℕ → Bool) → Maps → ℕ → Test
-taken_at preserved occurs maps scope text = preserved text || any_given (occurs scope) maps text
+taken_at preserved occurs maps scope text = preserved text || any_holder (occurs scope) maps text
 
 -- a text has in a map the ids that it had there, and maybe more
 abbrev pub HasMore : ReverseMap → ReverseMap → Type 0
@@ -99,27 +99,27 @@ HasMore was is = (x : List ℕ) (f : ℕ → Bool) → list_any f (ids_of was x)
 abbrev pub HasAlso : Bool → List ℕ → ℕ → ReverseMap → ReverseMap → Type 0
 HasAlso more text id was is = (x : List ℕ) (f : ℕ → Bool) → list_any f (ids_of is x) ≡ (list_any f (ids_of was x) || (more && (bytes_eq text x && f id)))
 
--- an id that got a text is in the map of the whole if its scope leaks, else in that of the scope
-pub record IsPutDown (leaks : Bool) (text : List ℕ) (id : ℕ) (was is : Maps) : Type 0 where
-  pub given : HasAlso (not leaks) text id was.0 is.0
-  pub whole : HasAlso leaks text id was.1 is.1
+-- an id that got a text is in the map of those that leak if its scope does, else in that of the scope
+pub record IsTextRecorded (leaks : Bool) (text : List ℕ) (id : ℕ) (was is : Maps) : Type 0 where
+  pub holders : HasAlso (not leaks) text id was.0 is.0
+  pub leaked : HasAlso leaks text id was.1 is.1
 
 -- the counter from which an id of a scope starts
 abbrev pub next_at : Bool → GivenTexts → ℕ → ℕ
-next_at goes_on names scope = if goes_on && (names.scope == scope) then names.next else 0
+next_at counter_goes_on names scope = if counter_goes_on && (names.scope == scope) then names.next else 0
 
--- a text is kept for the id of a number, and the counter after it
-pub record IsKept (text : List ℕ) (site : Site) (after : ℕ) (was is : GivenTexts) : Type 0 where
+-- a text is recorded for the id of a number, and the counter after it
+pub record IsChoiceRecorded (text : List ℕ) (site : Site) (after : ℕ) (was is : GivenTexts) : Type 0 where
   pub texts : (x : ℕ) → text_at is.texts x ≡ (if site.1 == x then Some text else text_at was.texts x)
   pub scope : is.scope ≡ site.0
   pub next : is.next ≡ after
 
--- an id got the text of the least counter from its start on that is free, and it was put down
+-- an id got the text of the least counter from its start on that is free, and it was recorded
 pub record IsNameGiven (text : Texts) (taken : Test) (start : ℕ) (leaks : Bool) (site : Site) (was is : GivenTexts) (maps_were maps_are : Maps) : Type 0 where
   pub counter : ℕ
   pub least : IsLeastFree text taken start counter
-  pub kept : IsKept (text counter) site (counter + 1) was is
-  pub put : IsPutDown leaks (text counter) site.1 maps_were maps_are
+  pub choice_recorded : IsChoiceRecorded (text counter) site (counter + 1) was is
+  pub text_recorded : IsTextRecorded leaks (text counter) site.1 maps_were maps_are
 
 -- whether the scope of a choice is one of these, and it has the text and its id passes the test
 abbrev pub is_held : Naming → (ℕ → Bool) → List ℕ → (ℕ → Bool) → Choice → Bool
@@ -131,7 +131,7 @@ Holds n scopes choices map = (x : List ℕ) (f : ℕ → Bool) → list_any f (i
 
 -- the maps have the ids of the choices whose scopes count at a scope
 abbrev pub AreHeld : Naming → ℕ → List Choice → Maps → Type 0
-AreHeld n s choices maps = (x : List ℕ) (f : ℕ → Bool) → any_given f maps x ≡ list_any (is_held n (λ u. n.counts u s) x f) choices
+AreHeld n s choices maps = (x : List ℕ) (f : ℕ → Bool) → any_holder f maps x ≡ list_any (is_held n (λ u. n.counts u s) x f) choices
 
 -- the ids of the sites that are done were named in order, and texts and counter are those of the choices
 pub record Stands (n : Naming) (done : List Site) (choices : List Choice) (names : GivenTexts) : Type 0 where
@@ -143,13 +143,13 @@ pub record Stands (n : Naming) (done : List Site) (choices : List Choice) (names
 abbrev pub HoldsOn : Naming → (ℕ → Bool) → List Choice → List Choice → ReverseMap → ReverseMap → Type 0
 HoldsOn n scopes choices more was is = Holds n scopes choices was → Holds n scopes (choices ++ more) is
 
--- one site more is done, with a choice of its scope or none, whose id is in the map of the whole if the scope leaks
+-- one site more is done, with a choice of its scope or none, whose id is in the map of those that leak if the scope does
 pub record IsDone (n : Naming) (leaks : Bool) (done : List Site) (choices : List Choice) (site : Site) (is : GivenTexts) (maps_were maps_are : Maps) : Type 0 where
   pub more : List Choice
   pub own : AllByRecursion (λ c. c.0.0 ≡ site.0) more
   pub stands : Stands n (done ++ site ∷ []) (choices ++ more) is
-  pub given : (scopes : ℕ → Bool) → scopes site.0 ≡ not leaks → HoldsOn n scopes choices more maps_were.0 maps_are.0
-  pub whole : (scopes : ℕ → Bool) → scopes site.0 ≡ leaks → HoldsOn n scopes choices more maps_were.1 maps_are.1
+  pub holders : (scopes : ℕ → Bool) → scopes site.0 ≡ not leaks → HoldsOn n scopes choices more maps_were.0 maps_are.0
+  pub leaked : (scopes : ℕ → Bool) → scopes site.0 ≡ leaks → HoldsOn n scopes choices more maps_were.1 maps_are.1
 
 abbrev pub IsSiteDone : Naming → Bool → Site → GivenTexts → GivenTexts → Maps → Maps → Type 0
 IsSiteDone n leaks site was is maps_were maps_are = (done : List Site) (choices : List Choice) → Stands n done choices was → AreHeld n site.0 choices maps_were → IsDone n leaks done choices site is maps_were maps_are

@@ -10,12 +10,13 @@ mod asked;
 mod by_id;
 mod free;
 mod in_order;
+mod leaked;
 mod nested;
 mod new_texts;
 mod reverse_map;
+mod site;
 mod texts;
 mod tried;
-mod whole;
 
 pub use asked::{Asked, Nesting};
 pub use by_id::texts_by_id;

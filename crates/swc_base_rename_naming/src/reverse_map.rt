@@ -2,7 +2,7 @@
 ghost use Rattle.std.specs.Prelude.{◌≡◌, ℕ, List, [], OnOk, OnErr, MatchOption, ◌∷◌, ◌++◌, string_bytes, if◌then◌else◌};
 ghost use Rattle.std.specs.Str.{bytes_eq};
 ghost use Rattle.std.specs.Iterator.{YieldsFirstRef, item_count};
-ghost use Rattle.swc_base_rename_naming.specs.Chained.{IsAsBefore, IsChild, IsGiven, IsPushed, given_ids, ids_in, ids_left, ids_of, parents_ids};
+ghost use Rattle.swc_base_rename_naming.specs.Chained.{IsAsBefore, IsChild, IsGiven, IsPushed, ids_held, ids_in, ids_left, ids_of, parents_ids};
 
 use std::alloc::{AllocError, Global};
 use std::collections::BTreeMap;
@@ -13,21 +13,21 @@ use swc_tree_marks::{JsWord, NoMemory};
 /// A look-up costs the logarithm of how many texts there are, whatever the texts: a hash of a seed that is fixed would let a
 /// program choose names that all collide.
 #[derive(Drop)]
-struct Given {
+struct IdsByText {
     ids: BTreeMap<String, Vec<usize>>,
 }
 
-impl Given {
-    fn new(alloc: Global) -> Given
-        ensures { (x : List ℕ) → given_ids result x ≡ [] }
+impl IdsByText {
+    fn new(alloc: Global) -> IdsByText
+        ensures { (x : List ℕ) → ids_held result x ≡ [] }
     {
-        Given {
+        IdsByText {
             ids: BTreeMap::new(alloc),
         }
     }
 
     fn get(&self, text: &str) -> &[usize]
-        ensures { result.now ≡ given_ids self.now text.now }
+        ensures { result.now ≡ ids_held self.now text.now }
     {
         match self.ids.get(text) {
             Some(ids) => ids.as_slice(),
@@ -46,11 +46,15 @@ impl Given {
 }
 
 // Gives a text to one id more. Where memory is refused, each text has the ids that it had.
-fn give(given: &mut BTreeMap<String, Vec<usize>>, text: String, id: usize) -> Result<(), AllocError>
-    ensures pushed { OnOk result ((x : List ℕ) → ids_in given.new x ≡ (if bytes_eq (string_bytes text) x then ids_in given.old x ++ id ∷ [] else ids_in given.old x)) }
-    ensures refused { OnErr result ((x : List ℕ) → ids_in given.new x ≡ ids_in given.old x) }
+fn give(
+    holders: &mut BTreeMap<String, Vec<usize>>,
+    text: String,
+    id: usize,
+) -> Result<(), AllocError>
+    ensures pushed { OnOk result ((x : List ℕ) → ids_in holders.new x ≡ (if bytes_eq (string_bytes text) x then ids_in holders.old x ++ id ∷ [] else ids_in holders.old x)) }
+    ensures refused { OnErr result ((x : List ℕ) → ids_in holders.new x ≡ ids_in holders.old x) }
 {
-    given.entry(text)?.or_default().push(id)?;
+    holders.entry(text)?.or_default().push(id)?;
     Ok(())
 }
 
@@ -58,7 +62,7 @@ fn give(given: &mut BTreeMap<String, Vec<usize>>, text: String, id: usize) -> Re
 #[derive(Clone, Copy)]
 enum Parents<'a> {
     Nobody,
-    Chain(&'a Given, &'a Parents<'a>),
+    Chain(&'a IdsByText, &'a Parents<'a>),
 }
 
 /// The ids that a text was given to, in a map and in those that it was made from.
@@ -66,7 +70,7 @@ enum Parents<'a> {
 /// A map borrows the one that it was made from. That one stays as it is, and its ids come after the map's own.
 #[derive(Drop)]
 pub struct ReverseMap<'a> {
-    given: Given,
+    own: IdsByText,
     parents: Parents<'a>,
 }
 
@@ -76,7 +80,7 @@ impl ReverseMap<'_> {
         ensures { (x : List ℕ) → ids_of result x ≡ [] }
     {
         ReverseMap {
-            given: Given::new(alloc),
+            own: IdsByText::new(alloc),
             parents: Parents::Nobody,
         }
     }
@@ -86,8 +90,8 @@ impl ReverseMap<'_> {
         ensures { IsChild self.now result }
     {
         ReverseMap {
-            given: Given::new(alloc),
-            parents: Parents::Chain(&self.given, &self.parents),
+            own: IdsByText::new(alloc),
+            parents: Parents::Chain(&self.own, &self.parents),
         }
     }
 
@@ -100,7 +104,7 @@ impl ReverseMap<'_> {
         ensures pushed { OnOk result (IsPushed text id self.old self.new) }
         ensures refused { OnErr result ((x : List ℕ) → ids_of self.new x ≡ ids_of self.old x) }
     {
-        self.given.push(text, id)
+        self.own.push(text, id)
     }
 
     /// The ids that a text was given to: the map's own, in order, and then those of the map that it was made from.
@@ -109,7 +113,7 @@ impl ReverseMap<'_> {
     {
         Iter {
             text,
-            own: self.given.get(text),
+            own: self.own.get(text),
             parents: self.parents,
         }
     }
@@ -136,7 +140,7 @@ fn first_left<'a>(
         Some((first, others)) => Some((first, others, *parents)),
         None => match parents {
             Parents::Nobody => None,
-            Parents::Chain(given, outer) => first_left(text, given.get(text), outer),
+            Parents::Chain(nearest, outer) => first_left(text, nearest.get(text), outer),
         },
     }
 }

@@ -60,8 +60,8 @@ module _ (r : Rules) (sites : List Site) where
   last_there o [] x = refl
   last_there o (y ∷ xs) x = last_there (Some y) xs x
 
-  start_on : (choices : List Choice) (s : ℕ) → r.goes_on ≡ true → start r choices s ≡ past s (last_or None choices)
-  start_on choices s on = cond-true r.goes_on (past s (last_or None choices)) 0 on
+  start_on : (choices : List Choice) (s : ℕ) → r.counter_goes_on ≡ true → start r choices s ≡ past s (last_or None choices)
+  start_on choices s on = cond-true r.counter_goes_on (past s (last_or None choices)) 0 on
 
   past_last : (choices : List Choice) (b : List Choice) (e : Choice) (s : ℕ) → choices ≡ b ++ e ∷ [] → past s (last_or None choices) ≡ (if e.0.0 == s then e.1 + 1 else 0)
   past_last choices b e s f = ap (λ l. past s (last_or None l)) f ∙ ap (past s) (last_there None b e)
@@ -70,7 +70,7 @@ module _ (r : Rules) (sites : List Site) where
   abbrev pub StandTogether : Type 0
   StandTogether = (j m i : ℕ) (z w v : Site) → j ≤ m → m ≤ i → slice_get sites j ≡ Some z → slice_get sites m ≡ Some w → slice_get sites i ≡ Some v → z.0 ≡ v.0 → w.0 ≡ v.0
 
-  module _ (together : StandTogether) (on : r.goes_on ≡ true) where
+  module _ (together : StandTogether) (on : r.counter_goes_on ≡ true) where
     -- where the counter goes on, those of the scope are below its start
     rising : (n i : ℕ) (choices : List Choice) (v : Site) (d : Choice) → length choices ≤ n → AreChosen r (take i sites) choices → slice_get sites i ≡ Some v → Contains choices d → d.0.0 ≡ v.0 → d.1 < start r choices v.0
     rising zero i choices v d short chosen at there same = let (k, l, e) = there in absurd (omega (arith, short, l))
@@ -102,10 +102,10 @@ module _ (r : Rules) (sites : List Site) where
     below_start i choices v d chosen at there same = rising (length choices) i choices v d (omega arith) chosen at there same
 
   -- a counter behind those of the scope is at its start or behind that
-  pub start_below : (choices : List Choice) (s n : ℕ) → (r.goes_on ≡ true → (d : Choice) → Contains choices d → d.0.0 ≡ s → d.1 < n) → start r choices s ≤ n
-  start_below choices s n behind = by r.goes_on refl
+  pub start_below : (choices : List Choice) (s n : ℕ) → (r.counter_goes_on ≡ true → (d : Choice) → Contains choices d → d.0.0 ≡ s → d.1 < n) → start r choices s ≤ n
+  start_below choices s n behind = by r.counter_goes_on refl
     where
-      by : (b : Bool) → r.goes_on ≡ b → (if b then past s (last_or None choices) else 0) ≤ n
+      by : (b : Bool) → r.counter_goes_on ≡ b → (if b then past s (last_or None choices) else 0) ≤ n
       by false off = omega arith
       by true on = at (snoc choices)
         where

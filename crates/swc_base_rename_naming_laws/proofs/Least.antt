@@ -91,14 +91,14 @@ module _ (t : Node) (r : Renaming) (a : Analysis) (scopes places : List Path) (m
     pub start_to : (m : ℕ) → IsFromStart t r taken b m → start n choices one.scope ≤ m
     start_to m h = start_below n (numbered_sites a) choices one.scope m (λ on c at same.
         let (d, y, e, is) = choice_earlier c at in
-        let less = h (sym fits.goes_on ∙ on) d y e (at_scope c d y is same) in
+        let less = h (sym fits.counter_goes_on ∙ on) d y e (at_scope c d y is same) in
         let took = taken_is c d y is in
         omega (arith, less, took))
 
     pub start_from : (m : ℕ) → start n choices one.scope ≤ m → IsFromStart t r taken b m
     start_from m h on d y e same =
         let (c, is) = earlier_choice d y e in
-        let less = below_start n (numbered_sites a) (stand_together t a scopes places means n) (fits.goes_on ∙ on) i choices (numbers_of t a scopes places means one) c chosen (there t a scopes places means i one here.found) is.at (in_scope c d y is same) in
+        let less = below_start n (numbered_sites a) (stand_together t a scopes places means n) (fits.counter_goes_on ∙ on) i choices (numbers_of t a scopes places means one) c chosen (there t a scopes places means i one here.found) is.at (in_scope c d y is same) in
         let took = taken_is c d y is in
         omega (arith, less, h, took)
 

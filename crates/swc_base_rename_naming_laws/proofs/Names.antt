@@ -86,7 +86,7 @@ module _ (t : Node) (r : Renaming) (a : Analysis) (scopes places : List Path) (m
   rules_fit : Fits t r a scopes Preserved (counting t r) (rules_of r a preserved)
   rules_fit = record {
     text = λ k x m is. (let (e, at, same) = is in ap (λ o. text_of r o m) at ∙ ap (λ x. r.text x m) same);
-    goes_on = refl;
+    counter_goes_on = refl;
     changes = λ k x is. (changes_to r (slice_get a.ids.items k) x is, changes_from r (slice_get a.ids.items k) x is);
     preserved_text = λ text. ((λ h. h), (λ h. h));
     occurs = λ m k s x at is. (

@@ -29,7 +29,7 @@ use Rattle.swc_base_rename_naming_laws.proofs.Surrounds.{one_id, surrounds_same}
 -- rules over numbers say what a renamer does with ids and scopes
 pub record Fits (t : Node) (r : Renaming) (a : Analysis) (scopes : List Path) (preserved : List ℕ → Type 0) (counts : Counting) (n : Rules) : Type 0 where
   pub text : (k : ℕ) (x : Id) (m : ℕ) → IsIdOf a k x → n.text k m ≡ r.text x m
-  pub goes_on : n.goes_on ≡ counts_on r
+  pub counter_goes_on : n.counter_goes_on ≡ counts_on r
   pub changes : (k : ℕ) (x : Id) → IsIdOf a k x → (n.stays k ≡ false) ↔ ((¬ IsTrue (r.preserves x)) × (x.0 ≢ codes "eval"))
   pub preserved_text : (text : List ℕ) → (n.preserved text ≡ true) ↔ preserved text
   pub occurs : (m k : ℕ) (s : Path) (x : Id) → slice_get scopes m ≡ Some s → IsIdOf a k x → (n.occurs m k ≡ true) ↔ OccursIn t s x

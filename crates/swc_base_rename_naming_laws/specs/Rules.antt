@@ -38,7 +38,7 @@ counts_at r a m n = if r.mangles then surrounds a m n else true
 abbrev pub rules_of : Renaming → Analysis → (List ℕ → Bool) → Rules
 rules_of r a preserved = record {
   text = λ k n. text_of r (slice_get a.ids.items k) n;
-  goes_on = counts_on r;
+  counter_goes_on = counts_on r;
   stays = λ k. stays_as r (slice_get a.ids.items k);
   preserved = preserved;
   occurs = occurs_at a;

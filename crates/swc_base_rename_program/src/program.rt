@@ -51,7 +51,7 @@ impl Asked for Program<'_> {
         }
     }
 
-    // Most ids that have a text occur elsewhere alone, which their first and last positions tell at once.
+    // An id whose first and last positions tell that it occurs elsewhere alone is not looked up.
     fn occurs(&self, scope: usize, id: usize) -> bool {
         if is_apart(self.analysis.regions.as_slice(), self.spans, scope, id) {
             return false;

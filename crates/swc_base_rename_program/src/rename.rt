@@ -38,7 +38,7 @@ use swc_tree_node::Node;
 /// Time in step with the size of the tree, but for logarithms of the numbers of ids, sites and positions, and for the texts
 /// that are tried: at most one more for an id than are taken. Each is looked up in the scope and in those round it and, where an
 /// id occurs behind a scope that declares it and `mode.mangles` is off, also among the names that such scopes gave before.
-/// Where something reads names, a unit is looked through once more for each unit with a reader that lies round it.
+/// Where something reads names, two walks more go over each node at most once.
 pub fn rename_program<T: NewTexts>(
     alloc: Global,
     texts: &T,

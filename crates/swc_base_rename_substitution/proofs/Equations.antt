@@ -1,5 +1,5 @@
 -- What the definition says at each form of a node.
-use Rattle.std.proofs.Common.{◌≡◌, ℕ, Bool, List, [], ◌∷◌, ◌++◌, map, rules, refl, sym, ap, ◌∙◌, subst}
+use Rattle.std.proofs.Common.{◌≡◌, ℕ, Bool, false, List, [], ◌∷◌, ◌++◌, map, rules, refl, sym, ap, ◌∙◌, subst}
 use Rattle.std.specs.List.{flat_map}
 use Rattle.swc_tree_marks.specs.declared.span.Span.{Span as Span'}
 use Rattle.swc_tree_marks.specs.declared.ident.Ident.{Ident}
@@ -8,6 +8,8 @@ use Rattle.swc_tree_node.specs.declared.kind.Word.{Word as Word'}
 use Rattle.swc_tree_node.specs.declared.node.Node.{Node, Absent, Flag, Word, Text, Span, List as Many, Identifier, Tree, roll-Node, map-Node, ind-Node, the_lemmas}
 use Rattle.swc_tree_node.specs.declared.node.Node.TheVariants.{rolls-List, rolls-Tree}
 use Rattle.swc_tree_node.specs.declared.node.Node.TheOpen.{Node-F}
+use Rattle.swc_tree_node.specs.Parts.{may_hold_names}
+use Rattle.swc_tree_node.proofs.Leaves.{without_names}
 use Rattle.swc_base_rename_substitution.specs.declared.place.Place.{Place}
 use Rattle.swc_base_rename_substitution.specs.Identifiers.{Changes, changed, identifier_to}
 use Rattle.swc_base_rename_substitution.specs.Exports.{items_for}
@@ -90,5 +92,10 @@ pub substituted_tree : (m : Changes) (keeps : Bool) (p : Place) (k : Kind) (ts :
 substituted_tree m keeps p k ts =
     folded-Tree m keeps p k ts
     ∙ ap (λ us. tree_for m keeps p k us (each_at (places keeps p k us) (map (renewed m keeps) ts))) (all_before_are m keeps ts)
+
+-- a node in which no name stands
+pub substituted_leaf : (m : Changes) (keeps : Bool) (p : Place) (t : Node) → may_hold_names t ≡ false → substituted m keeps p t ≡ t
+substituted_leaf m keeps p = without_names (λ t. substituted m keeps p t ≡ t)
+    (substituted-Absent m keeps p, substituted-Flag m keeps p, substituted-Word m keeps p, substituted-Text m keeps p, substituted-Span m keeps p)
 
 pub ruleset substituted_leaves = (substituted-Absent, substituted-Flag, substituted-Word, substituted-Text, substituted-Span)

@@ -1,19 +1,17 @@
 -- Nodes whose parts are given anew in place.
-use Rattle.std.proofs.Common.{◌≡◌, ℕ, zero, suc, ◌+◌, ◌<◌, Bool, false, Some, None, List, [], ◌∷◌, ◌++◌, length, take, drop, refl, sym, ap, ◌∙◌, arith, add-one}
+use Rattle.std.proofs.Common.{◌≡◌, ℕ, zero, suc, ◌+◌, ◌<◌, Bool, false, Some, List, [], ◌∷◌, ◌++◌, length, take, drop, refl, sym, ap, ◌∙◌, arith, add-one}
 use Rattle.std.specs.List.{list_any, slice_get, slice_set}
 use Rattle.swc_tree_node.specs.declared.kind.Kind.{Kind}
-use Rattle.swc_tree_node.specs.declared.node.Node.{Node, List as Many, Tree, out-Node, roll-Node, roll-out-Node}
-use Rattle.swc_tree_node.specs.declared.node.Node.TheOpen.{Node-F}
+use Rattle.swc_tree_node.specs.declared.node.Node.{Node, List as Many, Tree, out-Node}
 use Rattle.swc_tree_node.specs.declared.node.Node.TheVariants.{outs-List, outs-Tree}
-use Rattle.swc_tree_node.specs.Changed.{items_at, items_in, fields_at, fields_in, with_fields, with_fields_at}
+use Rattle.swc_tree_node.specs.Changed.{with_children_at}
 use Rattle.swc_tree_scoping.specs.Places.{children_in}
 use Rattle.swc_base_rename_substitution.specs.declared.place.Place.{Place}
-use Rattle.swc_base_rename_substitution.specs.declared.place.Below.{Below}
 use Rattle.swc_base_rename_substitution.specs.declared.place.Below.TheVariants as below
 use Rattle.swc_base_rename_substitution.specs.Places.{has_source}
 use Rattle.swc_base_rename_substitution.specs.Identifiers.{Changes, writes_name}
 use Rattle.swc_base_rename_substitution.specs.Substituted.{keeps_name, substituted}
-use Rattle.swc_base_rename_substitution.specs.Walk.{StaysAs, each_substituted, is_exported_declaration, place_in, with_parts_in}
+use Rattle.swc_base_rename_substitution.specs.Walk.{StaysAs, each_substituted, is_exported_declaration, place_in}
 use Rattle.swc_base_rename_substitution.proofs.Equations.{substituted_list}
 use Rattle.swc_base_rename_substitution.proofs.Lists.{no_exports}
 use Rattle.swc_base_rename_substitution.proofs.Trees.{unnamed_done}
@@ -23,56 +21,14 @@ use Rattle.swc_base_rename_substitution.proofs.Trees.{unnamed_done}
 pub list_stays : (keeps : Bool) (p : Place) (t : Node) (ts xs : List Node) → t ≡ Many ts → xs ≡ ts → list_any is_exported_declaration xs ≡ false → StaysAs keeps p t (below.Items p)
 list_stays keeps p t ts xs is same none m =
     ap (substituted m keeps p) is ∙ substituted_list m keeps p ts ∙ ap Many (no_exports m keeps p ts (sym (ap (list_any is_exported_declaration) same) ∙ none))
-    ∙ sym (ap (λ y. with_parts_in y (each_substituted m keeps (place_in keeps (below.Items p)) (children_in y))) (ap out-Node is ∙ outs-List ts))
+    ∙ sym (ap (λ y. with_children_at y (each_substituted m keeps (place_in keeps (below.Items p)) (children_in y))) (ap out-Node is ∙ outs-List ts))
 
 pub tree_stays : (keeps : Bool) (p : Place) (t : Node) (k : Kind) (ts : List Node) (sourced : Bool) → t ≡ Tree k ts → sourced ≡ has_source ts → keeps_name keeps p k ≡ false → writes_name k ts ≡ false
     → StaysAs keeps p t (below.Fields p sourced k)
 tree_stays keeps p t k ts sourced is from kept written m =
     ap (substituted m keeps p) is ∙ sym (unnamed_done m keeps p k ts (each_substituted m keeps (place_in keeps (below.Fields p (has_source ts) k)) ts) kept written refl)
     ∙ ap (λ b. Tree k (each_substituted m keeps (place_in keeps (below.Fields p b k)) ts)) (sym from)
-    ∙ sym (ap (λ y. with_parts_in y (each_substituted m keeps (place_in keeps (below.Fields p sourced k)) (children_in y))) (ap out-Node is ∙ outs-Tree k ts))
-
--- ---- what they become
-
-list_out : (y : Node-F Node) (ts : List Node) → Some ts ≡ items_at y → y ≡ Node-F.List ts
-list_out (Node-F.List us) ts h = let same : us ≡ ts = cc in ap (λ l. Node-F.List l) same
-list_out Node-F.Absent ts h = absurd (cc)
-list_out (Node-F.Flag b) ts h = absurd (cc)
-list_out (Node-F.Word w) ts h = absurd (cc)
-list_out (Node-F.Text x) ts h = absurd (cc)
-list_out (Node-F.Span s) ts h = absurd (cc)
-list_out (Node-F.Identifier k i) ts h = absurd (cc)
-list_out (Node-F.Tree k us) ts h = absurd (cc)
-
-tree_out : (y : Node-F Node) (ts us : List Node) → Some ts ≡ fields_at y → (with_parts_in y us ≡ with_fields_at y us) × (children_in y ≡ ts)
-tree_out (Node-F.Tree k vs) ts us h = let same : vs ≡ ts = cc in (refl, same)
-tree_out Node-F.Absent ts us h = absurd (cc)
-tree_out (Node-F.Flag b) ts us h = absurd (cc)
-tree_out (Node-F.Word w) ts us h = absurd (cc)
-tree_out (Node-F.Text x) ts us h = absurd (cc)
-tree_out (Node-F.Span s) ts us h = absurd (cc)
-tree_out (Node-F.Identifier k i) ts us h = absurd (cc)
-tree_out (Node-F.List vs) ts us h = absurd (cc)
-
-leaf_out : (y : Node-F Node) (us : List Node) → None ≡ items_at y → None ≡ fields_at y → with_parts_in y us ≡ roll-Node y
-leaf_out (Node-F.List vs) us h g = absurd (cc)
-leaf_out (Node-F.Tree k vs) us h g = absurd (cc)
-leaf_out y us h g = refl
-
-pub list_done : (m : Changes) (keeps : Bool) (p : Place) (t : Node) (b : Below) (ts us : List Node) → StaysAs keeps p t b → Some ts ≡ items_in t → us ≡ each_substituted m keeps (place_in keeps b) ts
-    → Many us ≡ substituted m keeps p t
-list_done m keeps p t b ts us stays here new =
-    ap Many new ∙ sym (ap (λ y. with_parts_in y (each_substituted m keeps (place_in keeps b) (children_in y))) (list_out (out-Node t) ts here)) ∙ sym (stays m)
-
-pub tree_done : (m : Changes) (keeps : Bool) (p : Place) (t : Node) (b : Below) (ts us : List Node) → StaysAs keeps p t b → Some ts ≡ fields_in t → us ≡ each_substituted m keeps (place_in keeps b) ts
-    → with_fields t us ≡ substituted m keeps p t
-tree_done m keeps p t b ts us stays here new =
-    let out = tree_out (out-Node t) ts us here in
-    sym out.0 ∙ ap (with_parts_in (out-Node t)) (new ∙ ap (each_substituted m keeps (place_in keeps b)) (sym out.1)) ∙ sym (stays m)
-
-pub leaf_done : (m : Changes) (keeps : Bool) (p : Place) (t : Node) (b : Below) → StaysAs keeps p t b → None ≡ items_in t → None ≡ fields_in t → t ≡ substituted m keeps p t
-leaf_done m keeps p t b stays h g =
-    sym (roll-out-Node t) ∙ sym (leaf_out (out-Node t) (each_substituted m keeps (place_in keeps b) (children_in (out-Node t))) h g) ∙ sym (stays m)
+    ∙ sym (ap (λ y. with_children_at y (each_substituted m keeps (place_in keeps (below.Fields p sourced k)) (children_in y))) (ap out-Node is ∙ outs-Tree k ts))
 
 -- ---- one child more
 

@@ -6,4 +6,3 @@ pub mod Exports
 pub mod Substituted
 pub mod Walk
 pub mod Room
-pub mod Leaf

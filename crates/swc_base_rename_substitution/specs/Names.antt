@@ -1,5 +1,5 @@
 -- The new names of ids, as a map has them.
-use Rattle.std.specs.Prelude.{ℕ, nat_eq, Bool, ◌&&◌, Option, Some, None, option_map, List, [], if◌then◌else◌}
+use Rattle.std.specs.Prelude.{ℕ, nat_eq, Bool, Option, Some, None, option_map, List, [], if◌then◌else◌}
 use Rattle.std.specs.Cmp.Lexicographic.{pointwise, slice_cmp}
 use Rattle.std.specs.BTreeMap.{BTreeMap, get_by}
 use Rattle.std.specs.HashMap.{HashMap, get}

@@ -4,8 +4,9 @@ use Rattle.std.specs.List.{flat_map}
 use Rattle.swc_tree_marks.specs.declared.ident.Ident.{Ident}
 use Rattle.swc_tree_node.specs.declared.kind.Kind.{Kind}
 use Rattle.swc_tree_node.specs.declared.kind.Kind.TheVariants as kind
-use Rattle.swc_tree_node.specs.declared.node.Node.{Node, List as Many, Tree, Identifier, out-Node, roll-Node}
+use Rattle.swc_tree_node.specs.declared.node.Node.{Node, Identifier, out-Node}
 use Rattle.swc_tree_node.specs.declared.node.Node.TheOpen.{Node-F}
+use Rattle.swc_tree_node.specs.Changed.{with_children}
 use Rattle.swc_base_rename_substitution.specs.declared.place.Place.{Place}
 use Rattle.swc_base_rename_substitution.specs.declared.place.Place.TheVariants as place
 use Rattle.swc_base_rename_substitution.specs.declared.place.Below.{Below}
@@ -31,14 +32,9 @@ each_substituted m keeps ps ts = each_at ps (map (renewed m keeps) ts)
 abbrev pub items_substituted : Changes → Bool → Place → List Node → List Node
 items_substituted m keeps p ts = flat_map (λ t. items_for m t (substituted m keeps p t)) ts
 
-abbrev pub with_parts_in : Node-F Node → List Node → Node
-with_parts_in (Node-F.List ts) us = Many us
-with_parts_in (Node-F.Tree k ts) us = Tree k us
-with_parts_in y us = roll-Node y
-
 -- at its place the node becomes what it is, with parts that are given anew each at its own
 abbrev pub StaysAs : Bool → Place → Node → Below → Type 0
-StaysAs keeps p t b = (m : Changes) → substituted m keeps p t ≡ with_parts_in (out-Node t) (each_substituted m keeps (place_in keeps b) (children_in (out-Node t)))
+StaysAs keeps p t b = (m : Changes) → substituted m keeps p t ≡ with_children t (each_substituted m keeps (place_in keeps b) (children_in (out-Node t)))
 
 -- `t` is a node of that kind with these fields, with the identifier in the second renamed as at place `p`
 abbrev pub IsRenamed : Changes → Place → Kind → List Node → Node → Type 0

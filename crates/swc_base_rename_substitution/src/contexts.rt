@@ -2,7 +2,6 @@
 ghost use Rattle.std.specs.Prelude.{◌≡◌, map};
 ghost use Rattle.swc_tree_scoping.specs.Readings.{by_texts};
 
-use crate::leaf::is_leaf;
 use std::alloc::Global;
 use swc_tree_items::Items;
 use swc_tree_marks::SyntaxContext;
@@ -23,10 +22,8 @@ pub fn clear_contexts(alloc: Global, node: Node) -> Node
 fn clear(alloc: Global, node: &mut Node)
     ensures { node.new ≡ by_texts node.old }
 {
-    if let Some(items) = node.items_mut() {
-        clear_all(alloc, items);
-    } else if let Some(fields) = node.fields_mut() {
-        clear_all(alloc, fields);
+    if let Some(children) = node.children_mut() {
+        clear_all(alloc, children);
     } else if let Node::Identifier(_, ident) = node {
         ident.get_mut().ctxt = SyntaxContext::empty(alloc);
     }
@@ -37,7 +34,7 @@ fn clear_all(alloc: Global, nodes: &mut Items<Node>)
     ensures { nodes.new ≡ map by_texts nodes.old }
 {
     for i in 0..nodes.len() {
-        if is_leaf(&nodes.as_slice()[i]) {
+        if !nodes.as_slice()[i].may_hold_names() {
             continue;
         }
         clear(alloc, nodes.item_mut(i));

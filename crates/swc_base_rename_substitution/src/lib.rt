@@ -8,7 +8,6 @@ mod config;
 mod contexts;
 mod exports;
 mod identifiers;
-mod leaf;
 mod names;
 mod pass;
 mod place;

@@ -9,7 +9,6 @@ ghost use Rattle.swc_base_rename_substitution.specs.Walk.{StaysAs, place_in, eac
 use crate::classes::{identifier_at, kept_class};
 use crate::exports::{any_exported, exports_of_all, with_all_exports};
 use crate::identifiers::substitute_identifier;
-use crate::leaf::is_leaf;
 use crate::names::Names;
 use crate::place::{Below, Place};
 use crate::written_out::rename_named;
@@ -126,7 +125,7 @@ fn substitute_all(
     ensures { OnOk result (nodes.new ≡ each_substituted (new_id names.entry) keeps_classes (place_in keeps_classes below) nodes.old) }
 {
     for i in 0..nodes.len() {
-        if is_leaf(&nodes.as_slice()[i]) {
+        if !nodes.as_slice()[i].may_hold_names() {
             continue;
         }
         let place = below.place(keeps_classes, i);
@@ -172,12 +171,10 @@ fn substitute_parts(
     requires { StaysAs keeps_classes place node.old parts }
     ensures { OnOk result (node.new ≡ substituted (new_id names.entry) keeps_classes place node.old) }
 {
-    if let Some(items) = node.items_mut() {
-        substitute_all(alloc, names, keeps_classes, parts, items)?;
-    } else if let Some(fields) = node.fields_mut() {
-        substitute_all(alloc, names, keeps_classes, parts, fields)?;
-    }
-    Ok(())
+    let Some(children) = node.children_mut() else {
+        return Ok(());
+    };
+    substitute_all(alloc, names, keeps_classes, parts, children)
 }
 
 // A node of that kind and with these fields.

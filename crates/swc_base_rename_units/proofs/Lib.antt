@@ -3,3 +3,4 @@ pub mod Outermost
 pub mod Lifted
 pub mod Fitting
 pub mod Steps
+pub mod Walking

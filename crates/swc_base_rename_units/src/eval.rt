@@ -38,8 +38,8 @@ fn is_eval_within(kind: Kind, fields: &[Node]) -> bool
     }
 }
 
-// Whether a node itself reads names: a call of `eval` that is not optional, or `with`.
-fn reads_names(kind: Kind, fields: &[Node]) -> bool
+/// Whether a node itself reads names: a call of `eval` that is not optional, or `with`.
+pub fn reads_names(kind: Kind, fields: &[Node]) -> bool
     ensures { result ≡ is_reading (Node-F.Tree kind fields.now) }
 {
     match kind {

@@ -10,6 +10,7 @@ use Rattle.swc_tree_marks.specs.declared.ident.Ident.{Ident}
 use Rattle.swc_tree_node.specs.declared.kind.Kind.{Kind}
 use Rattle.swc_tree_node.specs.declared.node.Node.{Node, Identifier, List as Many, Tree, out-Node}
 use Rattle.swc_tree_node.specs.declared.node.Node.TheOpen.{Node-F}
+use Rattle.swc_tree_node.specs.Parts.{may_hold_names, may_hold_names_in}
 use Rattle.swc_tree_node.specs.declared.node.Node.TheVariants.{outs-Identifier, outs-List, outs-Tree}
 use Rattle.swc_tree_scoping.specs.declared.places.Standing.{Standing}
 use Rattle.swc_tree_scoping.specs.declared.places.Standing.TheVariants as standing
@@ -32,9 +33,8 @@ use Rattle.swc_base_resolver_program.specs.declared.collect.Stage.{Stage}
 use Rattle.swc_base_resolver_program.specs.declared.collect.Stage.TheVariants as stage
 use Rattle.swc_base_resolver_program.specs.Names.{has_way, is_way, no_ways, ways_if, ways_of, with_way}
 use Rattle.swc_base_resolver_program.specs.Inserted.{IsInserted}
-use Rattle.swc_base_resolver_program.specs.Leaves.{is_leaf, is_leaf_in}
 use Rattle.swc_base_resolver_program.specs.Lookup.{Open, taker_in}
-use Rattle.swc_base_resolver_program.specs.Walks.{Gains, IsAdded, Reaches, ReachesBelow, ReachesHere, TakeAlike, Takes, before, entered, has_at, is_sought, open_at, open_round, pick, target_in}
+use Rattle.swc_base_resolver_program.specs.Walks.{Gains, IsAdded, Reaches, ReachesBelow, ReachesHere, TakeAlike, Takes, before, entered, has_at, inside, is_sought, open_at, open_round, pick, target_in}
 use Rattle.swc_base_resolver_program.proofs.Counted.{count_out}
 use Rattle.swc_base_resolver_program.proofs.Ways.{is_true, one_way, or_cases, or_left, or_right, with_has}
 
@@ -287,11 +287,6 @@ module _ (s : Stage) (envs : ℕ → List Open) (n : ℕ) (places : ℕ → Plac
       (λ k r x. one_below m c here k r x)
 
 -- the environments of a node's children
-pub picked : {A B : Type 0} (f : A → B) (x y z : A) (v u : View) → u ≡ v → f (pick u x y z) ≡ pick v (f x) (f y) (f z)
-picked f x y z view.Outside u e = ap (λ u. f (pick u x y z)) e
-picked f x y z view.Parameters u e = ap (λ u. f (pick u x y z)) e
-picked f x y z view.Whole u e = ap (λ u. f (pick u x y z)) e
-
 pub pick_same : {A : Type 0} (v : View) (x : A) → pick v x x x ≡ x
 pick_same view.Outside x = refl
 pick_same view.Parameters x = refl
@@ -302,18 +297,16 @@ module _ (env : List Open) (n : ℕ) (w : Place) (t : Node) where
   plain_at None v e = refl
   plain_at (Some s) v e = absurd (cc)
 
-  pub plain_envs : opened w t ≡ None → (views : ℕ → View) → (λ i. pick (views i) env env env) ≡ entered env n w t
-  plain_envs e views = λ j i. (pick_same (views i) env ∙ plain_at (opened w t) (view_in (out-Node t) i) e) j
+  pub plain_envs : opened w t ≡ None → (seen : View → List Open) → ((v : View) → seen v ≡ env) → (views : ℕ → View) → (λ i. seen (views i)) ≡ entered env n w t
+  plain_envs e seen same views = λ j i. (same (views i) ∙ plain_at (opened w t) (view_in (out-Node t) i) e) j
 
-  opened_at : (s : Scope) (v : View) → opened w t ≡ Some s
-      → pick v env (record { scope = Some s; number = n; whole = false } ∷ env) (record { scope = Some s; number = n; whole = true } ∷ env) ≡ map (open_at n w t) (seen_as (Some s) v) ++ env
+  opened_at : (s : Scope) (v : View) → opened w t ≡ Some s → inside s n env v ≡ map (open_at n w t) (seen_as (Some s) v) ++ env
   opened_at s view.Outside e = refl
   opened_at s view.Parameters e = let m : n ≡ n + 0 = omega arith in ap (λ (z : Option Scope × ℕ). record { scope = z.0; number = z.1; whole = false } ∷ env) (ap (λ o. (o, n)) (sym e) ∙ ap (λ n. (opened w t, n)) m)
   opened_at s view.Whole e = let m : n ≡ n + 0 = omega arith in ap (λ (z : Option Scope × ℕ). record { scope = z.0; number = z.1; whole = true } ∷ env) (ap (λ o. (o, n)) (sym e) ∙ ap (λ n. (opened w t, n)) m)
 
-  pub opened_envs : (s : Scope) → opened w t ≡ Some s → (views : ℕ → View) → views ≡ view_in (out-Node t)
-      → (λ i. pick (views i) env (record { scope = Some s; number = n; whole = false } ∷ env) (record { scope = Some s; number = n; whole = true } ∷ env)) ≡ entered env n w t
-  opened_envs s e views v = λ j i. (opened_at s (views i) e ∙ ap (λ v. map (open_at n w t) (seen_as (Some s) v) ++ env) (ap (λ f. f i) v) ∙ ap (λ o. map (open_at n w t) (seen_as o (view_in (out-Node t) i)) ++ env) (sym e)) j
+  pub opened_envs : (s : Scope) → opened w t ≡ Some s → (seen : View → List Open) → ((v : View) → seen v ≡ inside s n env v) → (views : ℕ → View) → views ≡ view_in (out-Node t) → (λ i. seen (views i)) ≡ entered env n w t
+  opened_envs s e seen same views v = λ j i. (same (views i) ∙ opened_at s (views i) e ∙ ap (λ v. map (open_at n w t) (seen_as (Some s) v) ++ env) (ap (λ f. f i) v) ∙ ap (λ o. map (open_at n w t) (seen_as o (view_in (out-Node t) i)) ++ env) (sym e)) j
 
 -- a node, by what the code knows of its children
 module _ (w : Place) (t : Node) (ts : List Node) (pl : PlacesBelow) where
@@ -358,28 +351,26 @@ module _ (w : Place) (t : Node) (ts : List Node) (pl : PlacesBelow) where
           ∙ ap (λ ts. ReachesBelow s (entered env n w t) (n + one_if (is_some (opened w t))) (place_below w t) ts (length ts)) known.children in
           gains_alike old new (Below s env n w t) (Reaches s env n w t) (subst (Gains old new) is g) (λ k r x. by_children s env n w t known.other k r x)
 
-      pub plain_gains : None ≡ scope_of_fields pl → Gains old new (ReachesBelow s (λ i. pick (view_of pl i) env env env) n (places_of pl ts) ts (length ts)) → Gains old new (Reaches s env n w t)
-      plain_gains nothing g =
+      pub plain_gains : None ≡ scope_of_fields pl → (seen : View → List Open) → ((v : View) → seen v ≡ env) → Gains old new (ReachesBelow s (λ i. seen (view_of pl i)) n (places_of pl ts) ts (length ts)) → Gains old new (Reaches s env n w t)
+      plain_gains nothing seen same g =
           let none : opened w t ≡ None = sym known.opens ∙ sym nothing in
-          joined (λ i. pick (view_of pl i) env env env) n (plain_envs env n w t none (view_of pl))
+          joined (λ i. seen (view_of pl i)) n (plain_envs env n w t none seen same (view_of pl))
           (let z : one_if (is_some (opened w t)) ≡ 0 = ap (λ (o : Option Scope). one_if (is_some o)) none in omega (arith, z)) g
 
-      pub opened_gains : (sc : Scope) (parameters whole : List Open) (m : ℕ) → Some sc ≡ scope_of_fields pl
-          → parameters ≡ record { scope = Some sc; number = n; whole = false } ∷ env → whole ≡ record { scope = Some sc; number = n; whole = true } ∷ env → m ≡ n + 1
-          → Gains old new (ReachesBelow s (λ i. pick (view_of pl i) env parameters whole) m (places_of pl ts) ts (length ts)) → Gains old new (Reaches s env n w t)
-      opened_gains sc parameters whole m something p q e g =
+      pub opened_gains : (sc : Scope) (seen : View → List Open) (m : ℕ) → Some sc ≡ scope_of_fields pl → ((v : View) → seen v ≡ inside sc n env v) → m ≡ n + 1
+          → Gains old new (ReachesBelow s (λ i. seen (view_of pl i)) m (places_of pl ts) ts (length ts)) → Gains old new (Reaches s env n w t)
+      opened_gains sc seen m something same e g =
           let some : opened w t ≡ Some sc = sym known.opens ∙ sym something in
-          joined (λ i. pick (view_of pl i) env parameters whole) m
-          (ap (λ p. λ i. pick (view_of pl i) env p whole) p ∙ ap (λ q. λ i. pick (view_of pl i) env (record { scope = Some sc; number = n; whole = false } ∷ env) q) q ∙ opened_envs env n w t sc some (view_of pl) known.views)
+          joined (λ i. seen (view_of pl i)) m (opened_envs env n w t sc some seen same (view_of pl) known.views)
           (let z : one_if (is_some (opened w t)) ≡ 1 = ap (λ (o : Option Scope). one_if (is_some o)) some in omega (arith, z, e)) g
 
 -- a leaf
-pub record IsLeaf (t : Node) : Type 0 where
-  pub other : is_ident (out-Node t) ≡ false
-  pub childless : children_in (out-Node t) ≡ []
-  pub closed : (w : Place) → opened w t ≡ None
+record IsLeaf (t : Node) : Type 0 where
+  other : is_ident (out-Node t) ≡ false
+  childless : children_in (out-Node t) ≡ []
+  closed : (w : Place) → opened w t ≡ None
 
-pub leaf_gains : (s : Stage) (env : List Open) (n : ℕ) (w : Place) (t : Node) (old : List ScopeNames) → is_ident (out-Node t) ≡ false → children_in (out-Node t) ≡ [] → Gains old old (Reaches s env n w t)
+leaf_gains : (s : Stage) (env : List Open) (n : ℕ) (w : Place) (t : Node) (old : List ScopeNames) → is_ident (out-Node t) ≡ false → children_in (out-Node t) ≡ [] → Gains old old (Reaches s env n w t)
 leaf_gains s env n w t old other none = gains_none old (Reaches s env n w t)
     (λ k r x h. let (i, c, l, g, b) = (by_children s env n w t other k r x).0 h in let gone : slice_get (children_in (out-Node t)) i ≡ None = ap (λ ts. slice_get ts i) none in let q = sym gone ∙ g in absurd (cc))
 
@@ -484,32 +475,30 @@ pub no_marks : (xs ys : List ℕ) → true ≡ (length xs == 0) → xs ≡ ys �
 no_marks [] ys h e = sym e
 no_marks (x ∷ xs) ys h e = absurd (grind (arith, nat_tests))
 
--- what is no list, no identifier and no tree
-pub leaf : (t : Node) → ((ts : List Node) → t ≡ Many ts → ⊥) → ((k : Kind) (i : Ident) → t ≡ Identifier k i → ⊥) → ((k : Kind) (ts : List Node) → t ≡ Tree k ts → ⊥) → IsLeaf t
-leaf t no_list no_ident no_tree = at (out-Node t) refl
+told_leaf : (t : Node) → may_hold_names t ≡ false → IsLeaf t
+told_leaf t h = at (out-Node t) refl h
   where
-    at : (y : Node-F Node) → out-Node t ≡ y → IsLeaf t
-    at Node-F.Absent o = record { other = ap is_ident o; childless = ap children_in o; closed = λ w. ap (opened_in w) o }
-    at (Node-F.Flag x) o = record { other = ap is_ident o; childless = ap children_in o; closed = λ w. ap (opened_in w) o }
-    at (Node-F.Word x) o = record { other = ap is_ident o; childless = ap children_in o; closed = λ w. ap (opened_in w) o }
-    at (Node-F.Text x) o = record { other = ap is_ident o; childless = ap children_in o; closed = λ w. ap (opened_in w) o }
-    at (Node-F.Span x) o = record { other = ap is_ident o; childless = ap children_in o; closed = λ w. ap (opened_in w) o }
+    at : (y : Node-F Node) → out-Node t ≡ y → may_hold_names_in y ≡ false → IsLeaf t
+    at (Node-F.List ts) o h = absurd (cc)
+    at (Node-F.Identifier k i) o h = absurd (cc)
+    at (Node-F.Tree k ts) o h = absurd (cc)
+    at y o h = record { other = ap is_ident o; childless = ap children_in o; closed = λ w. ap (opened_in w) o }
+
+-- what is no list, no identifier and no tree
+pub nameless : (t : Node) → ((ts : List Node) → t ≡ Many ts → ⊥) → ((k : Kind) (i : Ident) → t ≡ Identifier k i → ⊥) → ((k : Kind) (ts : List Node) → t ≡ Tree k ts → ⊥) → may_hold_names t ≡ false
+nameless t no_list no_ident no_tree = at (out-Node t) refl
+  where
+    at : (y : Node-F Node) → out-Node t ≡ y → may_hold_names_in y ≡ false
     at (Node-F.List ts) o = absurd (no_list ts (list_is t ts o))
     at (Node-F.Identifier k i) o = absurd (no_ident k i (identifier_is t k i o))
     at (Node-F.Tree k ts) o = absurd (no_tree k ts (tree_is t k ts o))
-
-pub leaf_count : (w : Place) (t : Node) → IsLeaf t → scope_count w t ≡ 0
-leaf_count w t l = count_out w t ∙ ap (λ o. one_if (is_some o) + total (each_in scope_count (place_below w t) (children_in (out-Node t)))) (l.closed w) ∙ ap (λ ts. 0 + total (each_in scope_count (place_below w t) ts)) l.childless
+    at y o = refl
 
 -- what the walks pass over
-pub told_leaf : (t : Node) → is_leaf t ≡ true → IsLeaf t
-told_leaf t h = leaf t
-    (λ ts e. let q : true ≡ false = sym h ∙ ap is_leaf e ∙ ap is_leaf_in (outs-List ts) in absurd (cc))
-    (λ k i e. let q : true ≡ false = sym h ∙ ap is_leaf e ∙ ap is_leaf_in (outs-Identifier k i) in absurd (cc))
-    (λ k ts e. let q : true ≡ false = sym h ∙ ap is_leaf e ∙ ap is_leaf_in (outs-Tree k ts) in absurd (cc))
-
-pub leaf_gains_nothing : (s : Stage) (env : List Open) (n : ℕ) (w : Place) (t : Node) (old : List ScopeNames) → is_leaf t ≡ true → Gains old old (Reaches s env n w t)
+pub leaf_gains_nothing : (s : Stage) (env : List Open) (n : ℕ) (w : Place) (t : Node) (old : List ScopeNames) → may_hold_names t ≡ false → Gains old old (Reaches s env n w t)
 leaf_gains_nothing s env n w t old h = let l = told_leaf t h in leaf_gains s env n w t old l.other l.childless
 
-pub leaf_counts_none : (w : Place) (t : Node) → is_leaf t ≡ true → scope_count w t ≡ 0
-leaf_counts_none w t h = leaf_count w t (told_leaf t h)
+pub leaf_counts_none : (w : Place) (t : Node) → may_hold_names t ≡ false → scope_count w t ≡ 0
+leaf_counts_none w t h =
+    let l = told_leaf t h in
+    count_out w t ∙ ap (λ o. one_if (is_some o) + total (each_in scope_count (place_below w t) (children_in (out-Node t)))) (l.closed w) ∙ ap (λ ts. 0 + total (each_in scope_count (place_below w t) ts)) l.childless

@@ -1,18 +1,17 @@
 -- What the last walk leaves of a node.
-use Rattle.std.proofs.Common.{◌≡◌, ℕ, zero, suc, ◌+◌, ◌<◌, ◌≤◌, true, false, Option, Some, None, List, [], ◌∷◌, ◌++◌, take, drop, length, refl, sym, ap, ◌∙◌, arith, add-one}
+use Rattle.std.proofs.Common.{◌≡◌, ℕ, zero, suc, ◌+◌, ◌<◌, ◌≤◌, false, Option, Some, None, List, [], ◌∷◌, ◌++◌, take, drop, length, refl, sym, ap, ◌∙◌, arith, add-one}
 use denote.Param.Weighed.{most}
 use Rattle.std.specs.List.{slice_get, slice_set}
 use Rattle.std.specs.Option.{is_some}
 use Rattle.swc_tree_node.specs.declared.kind.Kind.{Kind}
-use Rattle.swc_tree_node.specs.declared.node.Node.{Node, List as Many, Tree, out-Node, roll-Node, roll-out-Node}
-use Rattle.swc_tree_node.specs.declared.node.Node.TheOpen.{Node-F}
-use Rattle.swc_tree_node.specs.declared.node.Node.TheVariants.{rolls-List}
-use Rattle.swc_tree_node.specs.Changed.{items_at, items_in}
+use Rattle.swc_tree_node.specs.declared.node.Node.{Node, List as Many, Tree, out-Node}
+use Rattle.swc_tree_node.specs.Parts.{may_hold_names}
 use Rattle.swc_tree_marks.specs.declared.ident.Ident.{Ident}
 use Rattle.swc_tree_scoping.specs.declared.places.Standing.{Standing}
 use Rattle.swc_tree_scoping.specs.declared.places.Standing.TheVariants as standing
 use Rattle.swc_tree_scoping.specs.declared.places.Place.{Place}
 use Rattle.swc_tree_scoping.specs.declared.places.Scope.{Scope}
+use Rattle.swc_tree_scoping.specs.declared.places.View.{View}
 use Rattle.swc_tree_scoping.specs.declared.below.PlacesBelow.{PlacesBelow}
 use Rattle.swc_tree_scoping.specs.Below.{places_of, scope_of_fields, view_of}
 use Rattle.swc_tree_scoping.specs.Places.{Path, children_in, child, given, opened, place_at, place_below}
@@ -20,9 +19,8 @@ use Rattle.swc_tree_scoping.specs.Folds.{each_in}
 use Rattle.swc_tree_scoping.specs.Scopes.{one_if, total, scope_count}
 use Rattle.swc_tree_scoping.specs.Resolved.{Contexts, remarked}
 use Rattle.swc_tree_scoping.proofs.Remarked.{each_remarked, remarked-leaf, remarked-List, remarked-Tree}
-use Rattle.swc_base_resolver_program.specs.Leaves.{is_leaf}
 use Rattle.swc_base_resolver_program.specs.Lookup.{Open}
-use Rattle.swc_base_resolver_program.specs.Walks.{Marking, before, entered, open_round, context_at, context_of, is_marked, kept_or, pick, walked, written}
+use Rattle.swc_base_resolver_program.specs.Walks.{Marking, before, entered, open_round, context_at, context_of, is_marked, inside, kept_or, walked, written}
 use Rattle.swc_base_resolver_program.proofs.Gathered.{Known, opened_envs, plain_envs}
 
 -- an identifier that has no mark stays as it is
@@ -70,28 +68,26 @@ module _ (a : Marking) where
         ∙ ap (λ ts. walked a (entered env n w t) (n + one_if (is_some (opened w t))) (place_below w t) ts) known.children
         ∙ sym (children_walked env n w t) ∙ ap (each_remarked (λ i p. written a env n w t (i ∷ p))) (sym known.children)
 
-    plain : (rs : List Node) → None ≡ scope_of_fields pl → rs ≡ walked a (λ i. pick (view_of pl i) env env env) n (places_of pl ts) ts → rs ≡ each_remarked (λ i p. written a env n w t (i ∷ p)) ts
-    plain rs nothing h =
-        let none : opened w t ≡ None = sym known.opens ∙ sym nothing in
-        joined (λ i. pick (view_of pl i) env env env) n rs (plain_envs env n w t none (view_of pl)) (let z : one_if (is_some (opened w t)) ≡ 0 = ap (λ (o : Option Scope). one_if (is_some o)) none in omega (arith, z)) h
+    module _ (rs : List Node) (seen : View → List Open) where
+      plain : None ≡ scope_of_fields pl → ((v : View) → seen v ≡ env) → rs ≡ walked a (λ i. seen (view_of pl i)) n (places_of pl ts) ts → rs ≡ each_remarked (λ i p. written a env n w t (i ∷ p)) ts
+      plain nothing same h =
+          let none : opened w t ≡ None = sym known.opens ∙ sym nothing in
+          joined (λ i. seen (view_of pl i)) n rs (plain_envs env n w t none seen same (view_of pl)) (let z : one_if (is_some (opened w t)) ≡ 0 = ap (λ (o : Option Scope). one_if (is_some o)) none in omega (arith, z)) h
 
-    pub list_done : (rs : List Node) → t ≡ Many ts → None ≡ scope_of_fields pl → rs ≡ walked a (λ i. pick (view_of pl i) env env env) n (places_of pl ts) ts → Many rs ≡ remarked (written a env n w t) t
-    list_done rs is nothing h = ap (λ l. Many l) (plain rs nothing h) ∙ sym (remarked-List (written a env n w t) ts) ∙ ap (remarked (written a env n w t)) (sym is)
+      pub list_done : t ≡ Many ts → None ≡ scope_of_fields pl → ((v : View) → seen v ≡ env) → rs ≡ walked a (λ i. seen (view_of pl i)) n (places_of pl ts) ts → Many rs ≡ remarked (written a env n w t) t
+      list_done is nothing same h = ap (λ l. Many l) (plain nothing same h) ∙ sym (remarked-List (written a env n w t) ts) ∙ ap (remarked (written a env n w t)) (sym is)
 
-    pub plain_done : (k : Kind) (rs : List Node) (outside whole : List Open) → t ≡ Tree k ts → None ≡ scope_of_fields pl → outside ≡ env → whole ≡ env
-        → rs ≡ walked a (λ i. pick (view_of pl i) outside env whole) n (places_of pl ts) ts → Tree k rs ≡ remarked (written a env n w t) t
-    plain_done k rs outside whole is nothing o e h =
-        ap (λ l. Tree k l) (plain rs nothing (h ∙ ap (λ x. walked a (λ i. pick (view_of pl i) x env whole) n (places_of pl ts) ts) o ∙ ap (λ y. walked a (λ i. pick (view_of pl i) env env y) n (places_of pl ts) ts) e)) ∙ sym (remarked-Tree (written a env n w t) k ts) ∙ ap (remarked (written a env n w t)) (sym is)
+      pub plain_done : (k : Kind) → t ≡ Tree k ts → None ≡ scope_of_fields pl → ((v : View) → seen v ≡ env)
+          → rs ≡ walked a (λ i. seen (view_of pl i)) n (places_of pl ts) ts → Tree k rs ≡ remarked (written a env n w t) t
+      plain_done k is nothing same h = ap (λ l. Tree k l) (plain nothing same h) ∙ sym (remarked-Tree (written a env n w t) k ts) ∙ ap (remarked (written a env n w t)) (sym is)
 
-    pub scope_done : (k : Kind) (rs : List Node) (sc : Scope) (parameters whole : List Open) (m : ℕ) → t ≡ Tree k ts → Some sc ≡ scope_of_fields pl
-        → parameters ≡ record { scope = Some sc; number = n; whole = false } ∷ env → whole ≡ record { scope = Some sc; number = n; whole = true } ∷ env → m ≡ n + 1
-        → rs ≡ walked a (λ i. pick (view_of pl i) env parameters whole) m (places_of pl ts) ts → Tree k rs ≡ remarked (written a env n w t) t
-    scope_done k rs sc parameters whole m is something p q e h =
-        let some : opened w t ≡ Some sc = sym known.opens ∙ sym something in
-        ap (λ l. Tree k l) (joined (λ i. pick (view_of pl i) env parameters whole) m rs
-        (ap (λ p. λ i. pick (view_of pl i) env p whole) p ∙ ap (λ q. λ i. pick (view_of pl i) env (record { scope = Some sc; number = n; whole = false } ∷ env) q) q ∙ opened_envs env n w t sc some (view_of pl) known.views)
-        (let z : one_if (is_some (opened w t)) ≡ 1 = ap (λ (o : Option Scope). one_if (is_some o)) some in omega (arith, z, e)) h)
-        ∙ sym (remarked-Tree (written a env n w t) k ts) ∙ ap (remarked (written a env n w t)) (sym is)
+      pub scope_done : (k : Kind) (sc : Scope) (m : ℕ) → t ≡ Tree k ts → Some sc ≡ scope_of_fields pl → ((v : View) → seen v ≡ inside sc n env v) → m ≡ n + 1
+          → rs ≡ walked a (λ i. seen (view_of pl i)) m (places_of pl ts) ts → Tree k rs ≡ remarked (written a env n w t) t
+      scope_done k sc m is something same e h =
+          let some : opened w t ≡ Some sc = sym known.opens ∙ sym something in
+          ap (λ l. Tree k l) (joined (λ i. seen (view_of pl i)) m rs (opened_envs env n w t sc some seen same (view_of pl) known.views)
+          (let z : one_if (is_some (opened w t)) ≡ 1 = ap (λ (o : Option Scope). one_if (is_some o)) some in omega (arith, z, e)) h)
+          ∙ sym (remarked-Tree (written a env n w t) k ts) ∙ ap (remarked (written a env n w t)) (sym is)
 
   -- one child more
   got_there : (envs : ℕ → List Open) (ts : List Node) (places : ℕ → Place) (n i : ℕ) → i < length ts → slice_get (walked a envs n places (take i ts) ++ drop i ts) i ≡ slice_get ts i
@@ -107,12 +103,12 @@ module _ (a : Marking) where
       ap (λ l. remarked (written a (envs zero) n (places zero) t) t ∷ l) (set_there (λ i. envs (suc i)) ts (λ i. places (suc i)) (n + scope_count (places zero) t) i nx c h (omega (arith, e)))
 
   -- what stays as it is needs no walk
-  stays_there : (envs : ℕ → List Open) (ts : List Node) (places : ℕ → Place) (n i : ℕ) (c : Node) → slice_get ts i ≡ Some c → is_leaf c ≡ true
+  stays_there : (envs : ℕ → List Open) (ts : List Node) (places : ℕ → Place) (n i : ℕ) (c : Node) → slice_get ts i ≡ Some c → may_hold_names c ≡ false
       → walked a envs n places (take i ts) ++ drop i ts ≡ walked a envs n places (take (suc i) ts) ++ drop (suc i) ts
   stays_there envs [] places n i c h e = absurd (cc)
   stays_there envs (t ∷ ts) places n zero c h e =
       let same : c ≡ t = cc in
-      ap (λ u. u ∷ ts) (sym (remarked-leaf (written a (envs zero) n (places zero) t) t (out-Node t) refl (ap is_leaf (sym same) ∙ e)))
+      ap (λ u. u ∷ ts) (sym (remarked-leaf (written a (envs zero) n (places zero) t) t (out-Node t) refl (ap may_hold_names (sym same) ∙ e)))
   stays_there envs (t ∷ ts) places n (suc i) c h e =
       ap (λ l. remarked (written a (envs zero) n (places zero) t) t ∷ l) (stays_there (λ i. envs (suc i)) ts (λ i. places (suc i)) (n + scope_count (places zero) t) i c h e)
 
@@ -121,7 +117,7 @@ module _ (a : Marking) where
     pub child_is : slice_get ts i ≡ Some c
     child_is = sym (got_there envs ts places n i l) ∙ ap (λ ys. slice_get ys i) (sym was) ∙ here
 
-    pub leaf_done : is_leaf c ≡ true → ys ≡ walked a envs n places (take (i + 1) ts) ++ drop (i + 1) ts
+    pub leaf_done : may_hold_names c ≡ false → ys ≡ walked a envs n places (take (i + 1) ts) ++ drop (i + 1) ts
     leaf_done e = was ∙ rw add-one (stays_there envs ts places n i c child_is e)
 
     pub child_done : (start : nx ≡ n + total (each_in scope_count places (take i ts))) (env : List Open) (w : Place) → env ≡ envs i → w ≡ places i
@@ -133,20 +129,6 @@ pub got_at_most : (μ : Node → ℕ) (ts : List Node) (i : ℕ) (t : Node) → 
 got_at_most μ [] i t h = absurd (cc)
 got_at_most μ (x ∷ ts) zero t h = let same : x ≡ t = cc in let e = ap μ same in omega (arith, e)
 got_at_most μ (x ∷ ts) (suc i) t h = let r = got_at_most μ ts i t h in omega (arith, r)
-
--- a list, by its items
-items_out : (y : Node-F Node) (ts : List Node) → Some ts ≡ items_at y → y ≡ Node-F.List ts
-items_out (Node-F.List us) ts h = let same : us ≡ ts = cc in ap (λ l. Node-F.List l) same
-items_out Node-F.Absent ts h = absurd (cc)
-items_out (Node-F.Flag b) ts h = absurd (cc)
-items_out (Node-F.Word w) ts h = absurd (cc)
-items_out (Node-F.Text x) ts h = absurd (cc)
-items_out (Node-F.Span s) ts h = absurd (cc)
-items_out (Node-F.Identifier k i) ts h = absurd (cc)
-items_out (Node-F.Tree k us) ts h = absurd (cc)
-
-pub list_of_items : (t : Node) (ts : List Node) → Some ts ≡ items_in t → t ≡ Many ts
-list_of_items t ts h = sym (roll-out-Node t) ∙ ap roll-Node (items_out (out-Node t) ts h) ∙ rolls-List ts
 
 pub some_same : {X : Type 0} {a b : X} → Some a ≡ Some b → a ≡ b
 some_same h = cc

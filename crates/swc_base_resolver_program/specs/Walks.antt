@@ -8,6 +8,7 @@ use Rattle.swc_tree_node.specs.declared.node.Node.TheOpen.{Node-F}
 use Rattle.swc_tree_scoping.specs.declared.places.Standing.{Standing}
 use Rattle.swc_tree_scoping.specs.declared.places.Standing.TheVariants as standing
 use Rattle.swc_tree_scoping.specs.declared.places.Place.{Place}
+use Rattle.swc_tree_scoping.specs.declared.places.Scope.{Scope}
 use Rattle.swc_tree_scoping.specs.declared.places.View.{View}
 use Rattle.swc_tree_scoping.specs.declared.places.View.TheVariants as view
 use Rattle.swc_tree_scoping.specs.Places.{Path, children_in, child, given, opened, place_below, place_at}
@@ -15,11 +16,13 @@ use Rattle.swc_tree_scoping.specs.Folds.{each_in}
 use Rattle.swc_tree_scoping.specs.Scopes.{Round, is_binding, one_if, scope_at, scope_count, seen_as, total, view_in}
 use Rattle.swc_tree_scoping.specs.Resolved.{Contexts, is_global_value, remarked}
 use Rattle.swc_base_resolver_program.specs.declared.names.ScopeNames.{ScopeNames}
+use Rattle.swc_base_resolver_program.specs.declared.env.Views.{Views}
+use Rattle.swc_base_resolver_program.specs.declared.env.Views.TheVariants.{Plain, Opened}
 use Rattle.swc_base_resolver_program.specs.declared.collect.Stage.{Stage}
 use Rattle.swc_base_resolver_program.specs.declared.collect.Stage.TheVariants as stage
 use Rattle.swc_base_resolver_program.specs.declared.walk.Answers.{Answers}
 use Rattle.swc_base_resolver_program.specs.Names.{has_way, is_way, ways_in}
-use Rattle.swc_base_resolver_program.specs.Lookup.{Open, Tables, function_owner_in, hoists_in, meaning_in, meets_in, names_in, same_number, tables_in, taker_in, variable_owner_in}
+use Rattle.swc_base_resolver_program.specs.Lookup.{Open, Tables, function_owner_in, hoists_in, layers, meaning_in, meets_in, names_in, same_number, tables_in, taker_in, variable_owner_in}
 
 -- the number of scopes that begin before a child, its parent counted in
 abbrev pub before : Place → Node → ℕ → ℕ
@@ -110,6 +113,15 @@ abbrev pub pick : {A : Type 0} → View → A → A → A → A
 pick view.Outside x y z = x
 pick view.Parameters x y z = y
 pick view.Whole x y z = z
+
+-- the scopes that are open at a part of a node, by its view of the scope that the node opens
+abbrev pub sees : Views → View → List Open
+sees (Plain env) v = layers env.now
+sees (Opened outside parameters whole) v = pick v (layers outside.now) (layers parameters) (layers whole)
+
+-- the same where the node opens a scope of that number, and these are round it
+abbrev pub inside : Scope → ℕ → List Open → View → List Open
+inside s n env v = pick v env (record { scope = Some s; number = n; whole = false } ∷ env) (record { scope = Some s; number = n; whole = true } ∷ env)
 
 -- the marks of the scopes: the top mark and then the following fresh ones
 abbrev pub marks_from : ℕ → ℕ → ℕ → List ℕ

@@ -6,10 +6,9 @@ ghost use Rattle.swc_tree_scoping.specs.Folds.{each_in};
 ghost use Rattle.swc_tree_scoping.specs.Places.{program_place};
 ghost use Rattle.swc_tree_scoping.specs.Scopes.{scope_count, total};
 ghost use Rattle.swc_base_resolver_program.specs.Lookup.{layers, same_number};
-ghost use Rattle.swc_base_resolver_program.specs.Walks.{AreBelow, Gains, IsAdded, Reaches, ReachesBelow, ReachesHere, TakeAlike, Takes, is_sought, pick, target_in};
+ghost use Rattle.swc_base_resolver_program.specs.Walks.{AreBelow, Gains, IsAdded, Reaches, ReachesBelow, ReachesHere, TakeAlike, Takes, is_sought, sees, target_in};
 
-use crate::env::{Env, Layer, hoists, meets, seen, taker, variable_scope};
-use crate::leaves::is_leaf;
+use crate::env::{Env, Views, hoists, meets, taker, variable_scope};
 use crate::lookup::TakenNames;
 use crate::names::ScopeNames;
 use std::alloc::{AllocError, Global};
@@ -57,8 +56,7 @@ pub fn gather_reached(
     requires { Takes bound.scopes.now (Reaches Stage.Bind [] 0 program_place program.now) }
     ensures { IfOk result (λ tables. Takes tables.items (Reaches (Stage.Settle bound.entry) [] 0 program_place program.now)) }
 {
-    // What reaches a scope is first taken by one, as a variable or as such a function. Code of today has neither, and
-    // is spared the walk.
+    // What reaches a scope is first taken by one, as a variable or as such a function.
     if !bound.any_can_reach() {
         return Ok(Vec::new(alloc));
     }
@@ -87,7 +85,8 @@ fn gather(
         Node::List(items) => {
             let items = items.as_slice();
             let places = places_of_items(place);
-            gather_children(alloc, stage, items, places, &*env, &*env, &*env, tables)?;
+            let views = Views::plain(&*env);
+            gather_children(alloc, stage, items, places, &views, tables)?;
             Ok(())
         }
         Node::Tree(kind, fields) => {
@@ -96,33 +95,13 @@ fn gather(
             match places.opened() {
                 Some(scope) => {
                     let number = add_table(alloc, tables)?;
-                    let layer = Layer {
-                        scope,
-                        number,
-                        whole: true,
-                    };
-                    let parameters = Env::In(
-                        Layer {
-                            whole: false,
-                            ..layer
-                        },
-                        &*env,
-                    );
-                    let whole = Env::In(layer, &*env);
-                    gather_children(
-                        alloc,
-                        stage,
-                        fields,
-                        places,
-                        &*env,
-                        &parameters,
-                        &whole,
-                        tables,
-                    )?;
+                    let views = Views::opened(scope, number, &*env);
+                    gather_children(alloc, stage, fields, places, &views, tables)?;
                     Ok(())
                 }
                 None => {
-                    gather_children(alloc, stage, fields, places, &*env, &*env, &*env, tables)?;
+                    let views = Views::plain(&*env);
+                    gather_children(alloc, stage, fields, places, &views, tables)?;
                     Ok(())
                 }
             }
@@ -137,22 +116,20 @@ fn gather_children(
     stage: Stage,
     nodes: &[Node],
     places: PlacesBelow,
-    outside: &Env,
-    parameters: &Env,
-    whole: &Env,
+    views: &Views,
     tables: &mut Vec<ScopeNames>,
 ) -> Result<(), AllocError>
-    requires { (v : View) → AreBelow (length tables.old.items) (pick v (layers outside.now) (layers parameters.now) (layers whole.now)) }
+    requires { (v : View) → AreBelow (length tables.old.items) (sees views.now v) }
     ensures size { OnOk result (length tables.new.items ≡ length tables.old.items + total (each_in scope_count (places_of places nodes.now) nodes.now)) }
-    ensures tables { OnOk result (Gains tables.old.items tables.new.items (ReachesBelow stage.entry (λ i. pick (view_of places i) (layers outside.now) (layers parameters.now) (layers whole.now)) (length tables.old.items) (places_of places nodes.now) nodes.now (length nodes.now))) }
+    ensures tables { OnOk result (Gains tables.old.items tables.new.items (ReachesBelow stage.entry (λ i. sees views.now (view_of places i)) (length tables.old.items) (places_of places nodes.now) nodes.now (length nodes.now))) }
 {
     for i in 0..nodes.len() {
         let node = &nodes[i];
-        // Most children are leaves, in which there is nothing to gather: no place is worked out for them.
-        if is_leaf(node) {
+        // Where no identifier can stand there is nothing to gather, and no place is worked out.
+        if !node.may_hold_names() {
             continue;
         }
-        let env = seen(places.view(i), &*outside, &*parameters, &*whole);
+        let env = views.seen(places.view(i));
         gather(alloc, stage, node, places.at(i, node), env, tables)?;
     }
     Ok(())
@@ -182,7 +159,7 @@ fn gather_identifier(
     ensures size { OnOk result (length tables.new.items ≡ length tables.old.items) }
     ensures tables { OnOk result (Gains tables.old.items tables.new.items (ReachesHere stage.entry (layers env.now) standing ident.now)) }
 {
-    // Most identifiers bind nothing: they are told by where they stand, with no look at their own memory.
+    // What the stage does not look for is told by where it stands, with no look at its own memory.
     if !seeks(stage, standing) {
         return Ok(());
     }

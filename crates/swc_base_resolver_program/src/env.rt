@@ -1,7 +1,8 @@
 //! The scopes that are open at a node.
 ghost use Rattle.std.specs.Prelude.{◌≡◌};
+ghost use Rattle.swc_tree_scoping.specs.declared.places.View.{View as View'};
 ghost use Rattle.swc_base_resolver_program.specs.Lookup.{hoists_from as hoists_from_in, hoists_in, layers, meets_in, names_in, open_of, passes_in, taker_in};
-ghost use Rattle.swc_base_resolver_program.specs.Walks.{pick};
+ghost use Rattle.swc_base_resolver_program.specs.Walks.{inside, sees};
 
 use crate::lookup::TakenNames;
 use swc_tree_scoping::{Scope, Standing, View, takes};
@@ -21,19 +22,51 @@ pub enum Env<'a> {
     In(Layer, &'a Env<'a>),
 }
 
-/// The environment of a child that sees so much of the scope that its parent opens.
-pub fn seen<'a>(
-    view: View,
-    outside: &'a Env<'a>,
-    parameters: &'a Env<'a>,
-    whole: &'a Env<'a>,
-) -> &'a Env<'a>
-    ensures { result.now ≡ pick view outside.now parameters.now whole.now }
-{
-    match view {
-        View::Outside => outside,
-        View::Parameters => parameters,
-        View::Whole => whole,
+/// What the parts of a node see of the scopes round them.
+#[derive(Clone, Copy)]
+pub enum Views<'a> {
+    /// The node opens no scope, and each part sees what the node does.
+    Plain(&'a Env<'a>),
+    /// It opens one: what is outside of that scope, what its parameters see, and what all else does.
+    Opened(&'a Env<'a>, Env<'a>, Env<'a>),
+}
+
+impl<'a> Views<'a> {
+    /// Of a node that opens no scope.
+    pub fn plain(env: &'a Env<'a>) -> Views<'a>
+        ensures { (v : View') → sees result v ≡ layers env.now }
+    {
+        Views::Plain(env)
+    }
+
+    /// Of a node that opens a scope, which has that number from the front.
+    pub fn opened(scope: Scope, number: usize, env: &'a Env<'a>) -> Views<'a>
+        ensures { (v : View') → sees result v ≡ inside scope number (layers env.now) v }
+    {
+        let layer = Layer {
+            scope,
+            number,
+            whole: true,
+        };
+        let parameters = Layer {
+            whole: false,
+            ..layer
+        };
+        Views::Opened(env, Env::In(parameters, env), Env::In(layer, env))
+    }
+
+    /// The environment of a part that sees so much.
+    pub fn seen(&self, view: View) -> &Env<'a>
+        ensures { layers result.now ≡ sees self.now view }
+    {
+        match self {
+            Views::Plain(env) => env,
+            Views::Opened(outside, parameters, whole) => match view {
+                View::Outside => outside,
+                View::Parameters => parameters,
+                View::Whole => whole,
+            },
+        }
     }
 }
 

@@ -3,7 +3,6 @@
 
 mod collect;
 mod env;
-mod leaves;
 mod lookup;
 mod marks;
 mod names;

@@ -7,10 +7,9 @@ ghost use Rattle.swc_tree_scoping.specs.Places.{program_place};
 ghost use Rattle.swc_tree_scoping.specs.Scopes.{scope_count, total};
 ghost use Rattle.swc_tree_scoping.specs.Resolved.{is_global_value as names_global_value, is_script as is_script_node, remarked};
 ghost use Rattle.swc_base_resolver_program.specs.Lookup.{layers};
-ghost use Rattle.swc_base_resolver_program.specs.Walks.{context_of, fresh_context, is_marked, mark_at as mark_by, marking_in, own_number, pick, walked, written};
+ghost use Rattle.swc_base_resolver_program.specs.Walks.{context_of, fresh_context, is_marked, mark_at as mark_by, marking_in, own_number, sees, walked, written};
 
-use crate::env::{Env, Layer, seen, taker};
-use crate::leaves::is_leaf;
+use crate::env::{Env, Views, taker};
 use crate::lookup::{Declarations, function_owner, meaning, variable_owner};
 use std::alloc::AllocError;
 use swc_tree_items::Items;
@@ -54,19 +53,20 @@ fn resolve(
     ensures answer { OnOk result (node.new ≡ remarked (written (marking_in answers.now) (layers env.now) next.old place node.old) node.old) }
     ensures next { OnOk result (next.new ≡ next.old + scope_count place node.old) }
 {
-    if let Some(ident) = node.ident_mut() {
+    if let Node::Identifier(_, ident) = node {
         return mark_identifier(ident.get_mut(), place.standing, &*answers, &*env);
     }
-    if let Some(items) = node.items_mut() {
-        let places = places_of_items(place);
-        return resolve_children(items, places, &*answers, &*env, &*env, &*env, next);
-    }
-    if let Some(kind) = node.kind() {
-        if let Some(fields) = node.fields_mut() {
-            return resolve_fields(kind, fields, place, &*answers, &*env, next);
+    let kind = node.kind();
+    let Some(children) = node.children_mut() else {
+        return Ok(());
+    };
+    match kind {
+        Some(kind) => resolve_fields(kind, children, place, &*answers, &*env, next),
+        None => {
+            let views = Views::plain(&*env);
+            resolve_children(children, places_of_items(place), &*answers, &views, next)
         }
     }
-    Ok(())
 }
 
 // The same for the fields of a tree of that kind.
@@ -87,25 +87,14 @@ fn resolve_fields(
     match places.opened() {
         Some(scope) => {
             prove!(*next < answers.marks.len());
-            let layer = Layer {
-                scope,
-                number: *next,
-                whole: true,
-            };
+            let inside = Views::opened(scope, *next, &*env);
             *next += 1;
-            let parameters = Env::In(
-                Layer {
-                    whole: false,
-                    ..layer
-                },
-                &*env,
-            );
-            let whole = Env::In(layer, &*env);
-            resolve_children(fields, places, &*answers, &*env, &parameters, &whole, next)?;
+            resolve_children(fields, places, &*answers, &inside, next)?;
             Ok(())
         }
         None => {
-            resolve_children(fields, places, &*answers, &*env, &*env, &*env, next)?;
+            let views = Views::plain(&*env);
+            resolve_children(fields, places, &*answers, &views, next)?;
             Ok(())
         }
     }
@@ -116,23 +105,21 @@ fn resolve_children(
     nodes: &mut Items<Node>,
     places: PlacesBelow,
     answers: &Answers,
-    outside: &Env,
-    parameters: &Env,
-    whole: &Env,
+    views: &Views,
     next: &mut usize,
 ) -> Result<(), AllocError>
     requires { next.old + total (each_in scope_count (places_of places nodes.old) nodes.old) ≤ length answers.now.marks.now }
-    ensures answer { OnOk result (nodes.new ≡ walked (marking_in answers.now) (λ i. pick (view_of places i) (layers outside.now) (layers parameters.now) (layers whole.now)) next.old (places_of places nodes.old) nodes.old) }
+    ensures answer { OnOk result (nodes.new ≡ walked (marking_in answers.now) (λ i. sees views.now (view_of places i)) next.old (places_of places nodes.old) nodes.old) }
     ensures next { OnOk result (next.new ≡ next.old + total (each_in scope_count (places_of places nodes.old) nodes.old)) }
 {
     for i in 0..nodes.len() {
         let node = &nodes.as_slice()[i];
-        // Most children are leaves, in which there is nothing to mark.
-        if is_leaf(node) {
+        // Where no identifier can stand there is nothing to mark, and no place is worked out.
+        if !node.may_hold_names() {
             continue;
         }
         let place = places.at(i, node);
-        let env = seen(places.view(i), &*outside, &*parameters, &*whole);
+        let env = views.seen(places.view(i));
         resolve(nodes.item_mut(i), place, &*answers, env, next)?;
     }
     Ok(())

@@ -1,12 +1,13 @@
 -- What a walk finds, by the form of a node, and one child after another.
-use Rattle.std.proofs.Common.{◌≡◌, ℕ, zero, suc, ◌+◌, true, false, Some, List, [], ◌∷◌, ◌++◌, take, length, refl, sym, ap, ◌∙◌, append_assoc, append-nil, ◌<◌, get_or, add-one}
+use Rattle.std.proofs.Common.{◌≡◌, ℕ, zero, suc, ◌+◌, false, Some, List, [], ◌∷◌, ◌++◌, take, length, refl, sym, ap, ◌∙◌, append_assoc, append-nil, ◌<◌, get_or, add-one}
 use Rattle.std.specs.List.{slice_get}
 use Rattle.std.proofs.lemmas.Option.{slice_get_read}
 use Rattle.swc_tree_marks.specs.declared.ident.Ident.{Ident}
 use Rattle.swc_tree_node.specs.declared.kind.Kind.{Kind}
-use Rattle.swc_tree_node.specs.declared.node.Node.{Node, List as Many, Identifier, Tree, out-Node, roll-Node, roll-out-Node}
+use Rattle.swc_tree_node.specs.declared.node.Node.{Node, List as Many, Identifier, Tree, out-Node}
 use Rattle.swc_tree_node.specs.declared.node.Node.TheOpen.{Node-F}
-use Rattle.swc_tree_node.specs.declared.node.Node.TheVariants.{outs-List, outs-Tree, outs-Identifier, rolls-List, rolls-Tree, rolls-Identifier}
+use Rattle.swc_tree_node.specs.Parts.{may_hold_names, may_hold_names_in}
+use Rattle.swc_tree_node.specs.declared.node.Node.TheVariants.{outs-List, outs-Tree, outs-Identifier}
 use Rattle.swc_tree_scoping.specs.declared.places.Place.{Place}
 use Rattle.swc_tree_scoping.specs.declared.places.Standing.{Standing}
 use Rattle.swc_tree_scoping.specs.declared.below.PlacesBelow.{PlacesBelow}
@@ -16,13 +17,12 @@ use Rattle.swc_tree_scoping.specs.Folds.{each_in}
 use Rattle.swc_tree_scoping.specs.Places.{children_in, place_below}
 use Rattle.swc_tree_scoping.proofs.Children.{fields_below, items_below}
 use Rattle.swc_tree_scoping.proofs.Under.{fold_in_place_out}
-use Rattle.swc_tree_walk.specs.Leaf.{is_leaf, is_leaf_in}
 use Rattle.swc_tree_walk.specs.Sites.{joined, own_sites, sites}
 
 pub sites_out : (w : Place) (t : Node) → sites w t ≡ own_sites w (out-Node t) ++ joined (each_in sites (place_below w t) (children_in (out-Node t)))
 sites_out = fold_in_place_out (λ w t below. own_sites w (out-Node t) ++ joined below)
 
--- what is found in a list, in the fields of a tree, in an identifier, and in a leaf
+-- what is found in a list, in the fields of a tree, and in an identifier
 pub sites_list : (w : Place) (t : Node) (ts : List Node) (pl : PlacesBelow) → t ≡ Many ts → pl ≡ below.Items w → sites w t ≡ joined (each_in sites (places_of pl ts) ts)
 sites_list w t ts pl is stood =
     ap (sites w) is ∙ sites_out w (Many ts)
@@ -40,21 +40,15 @@ sites_identifier w t k i is =
     ap (sites w) is ∙ sites_out w (Identifier k i)
     ∙ ap (λ y. own_sites w y ++ joined (each_in sites (place_below w (Identifier k i)) (children_in y))) (outs-Identifier k i)
 
-pub sites_leaf : (w : Place) (t : Node) → ((ts : List Node) → t ≡ Many ts → ⊥) → ((k : Kind) (ts : List Node) → t ≡ Tree k ts → ⊥) → ((k : Kind) (i : Ident) → t ≡ Identifier k i → ⊥) → sites w t ≡ []
-sites_leaf w t no_list no_tree no_identifier = sites_out w t ∙ by (out-Node t) (sym (roll-out-Node t))
-  where
-    by : (y : Node-F Node) → t ≡ roll-Node y → own_sites w y ++ joined (each_in sites (place_below w t) (children_in y)) ≡ []
-    by (Node-F.List ts) e = absurd (no_list ts (e ∙ rolls-List ts))
-    by (Node-F.Tree k ts) e = absurd (no_tree k ts (e ∙ rolls-Tree k ts))
-    by (Node-F.Identifier k i) e = absurd (no_identifier k i (e ∙ rolls-Identifier k i))
-    by y e = refl
-
 -- what the walk passes over
-pub none_in_leaf : (w : Place) (t : Node) → is_leaf t ≡ true → sites w t ≡ []
-none_in_leaf w t h = sites_leaf w t
-    (λ ts e. let q : true ≡ false = sym h ∙ ap is_leaf e ∙ ap is_leaf_in (outs-List ts) in absurd (cc))
-    (λ k ts e. let q : true ≡ false = sym h ∙ ap is_leaf e ∙ ap is_leaf_in (outs-Tree k ts) in absurd (cc))
-    (λ k i e. let q : true ≡ false = sym h ∙ ap is_leaf e ∙ ap is_leaf_in (outs-Identifier k i) in absurd (cc))
+pub none_in_leaf : (w : Place) (t : Node) → may_hold_names t ≡ false → sites w t ≡ []
+none_in_leaf w t h = sites_out w t ∙ by (out-Node t) h
+  where
+    by : (y : Node-F Node) → may_hold_names_in y ≡ false → own_sites w y ++ joined (each_in sites (place_below w t) (children_in y)) ≡ []
+    by (Node-F.List ts) h = absurd (cc)
+    by (Node-F.Tree k ts) h = absurd (cc)
+    by (Node-F.Identifier k i) h = absurd (cc)
+    by y h = refl
 
 -- one child more
 one_more : {A : Type 0} (g : Place → Node → List A) (places : ℕ → Place) (ts : List Node) (i : ℕ) (c : Node) → slice_get ts i ≡ Some c
@@ -76,7 +70,7 @@ found_more pl ts i c w old mid new within is stood before found =
     ∙ ap (λ n. old ++ joined (each_in sites (places_of pl ts) (take n ts))) (sym (add-one i))
 
 -- a leaf more
-pub found_no_more : (pl : PlacesBelow) (ts : List Node) (i : ℕ) (c : Node) (old now : List (Standing × Ident)) → i < length ts → c ≡ get_or ts i c → is_leaf c ≡ true
+pub found_no_more : (pl : PlacesBelow) (ts : List Node) (i : ℕ) (c : Node) (old now : List (Standing × Ident)) → i < length ts → c ≡ get_or ts i c → may_hold_names c ≡ false
     → now ≡ old ++ joined (each_in sites (places_of pl ts) (take i ts)) → now ≡ old ++ joined (each_in sites (places_of pl ts) (take (i + 1) ts))
 found_no_more pl ts i c old now within is leaf before =
     let w = place_of pl i (Some c) in

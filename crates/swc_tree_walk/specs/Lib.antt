@@ -1,4 +1,3 @@
-pub mod Leaf
 pub mod Nodes
 pub mod Rewritten
 pub mod Sites

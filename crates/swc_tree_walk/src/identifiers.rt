@@ -7,7 +7,6 @@ ghost use Rattle.swc_tree_scoping.specs.Folds.{each_in};
 ghost use Rattle.swc_tree_scoping.specs.Places.{program_place};
 ghost use Rattle.swc_tree_walk.specs.Sites.{StandsIn, joined, site_of, sites};
 
-use crate::leaf::is_leaf;
 use std::alloc::{AllocError, Global};
 use swc_tree_marks::Ident;
 use swc_tree_node::Node;
@@ -88,8 +87,8 @@ fn add_sites_below<'a>(
 {
     for i in 0..nodes.len() {
         let node = &nodes[i];
-        // Most children are leaves, in which no identifier stands: no place is worked out for them.
-        if is_leaf(node) {
+        // Where no identifier can stand, no place is worked out.
+        if !node.may_hold_names() {
             continue;
         }
         add_sites(node, places.at(i, node), found)?;

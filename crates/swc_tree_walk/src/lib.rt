@@ -5,7 +5,6 @@
 mod finder;
 mod identifiers;
 mod kinds;
-mod leaf;
 mod rewriter;
 
 pub use finder::{Finder, any_has_node, has_node};

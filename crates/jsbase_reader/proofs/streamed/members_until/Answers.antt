@@ -1,7 +1,7 @@
-use Rattle.std.proofs.Common.{◌≡◌, Some, None, sym, subst, ap, ◌∙◌, arith, rules}
+use Rattle.std.proofs.Common.{◌≡◌, Some, None, sym, subst, ◌∙◌, arith}
 use Rattle.json.specs.Json.{read_key}
 use Rattle.json.specs.Value.{members_view}
-use Rattle.jsbase_reader.proofs.OneByOne.{Reading, members_are, reading_ends, reading_fails, reading_first, reading_leads, reading_more, reading_stops}
+use Rattle.jsbase_reader.proofs.OneByOne.{Reading, reading_asked, reading_ends, reading_fails, reading_first, reading_more, reading_stops}
 use Rattle.jsbase_reader.proofs.streamed.members_until.Goals as goal
 
 pub loop-before-init : goal.loop-before-init
@@ -17,13 +17,12 @@ loop-before-preserved c = λ n le.
 pub returns-then-eq-clause-read : goal.returns-then-eq-clause-read
 returns-then-eq-clause-read c =
     let key : read_key c.loop-before.reader ≡ Some (Some c.in-Some.next.now, c.next_key.new.self) = grind arith in
-    let same : c.in-Some.next.now ≡ c.args.key.now = search rules in
-    rw (members_are c.loop-before.before) (reading_leads c.args.depth c.args.reader.now c.loop-before.reader c.next_key.new.self (members_view c.loop-before.before.items) c.args.key.now (c.loop-before.invariant _ (omega arith)) (key ∙ ap (λ k. Some (Some k, c.next_key.new.self)) same))
+    reading_asked c.args.depth c.args.reader.now c.loop-before.reader c.next_key.new.self (members_view c.loop-before.before.items) c.args.key c.in-Some.next (sym c.eq.ensures ∙ c.if-eq.true) (c.loop-before.invariant _ (omega arith)) key
 
 pub returns-clause-read : goal.returns-clause-read
 returns-clause-read c = λ n le.
     let ends : read_key c.loop-before.reader ≡ Some (None, c.next_key.new.self) = grind arith in
-    rw (members_are c.loop-before.before) (reading_ends c.args.depth n c.args.reader.now c.loop-before.reader c.next_key.new.self (members_view c.loop-before.before.items) (c.loop-before.invariant n le) ends)
+    reading_ends c.args.depth n c.args.reader.now c.loop-before.reader c.next_key.new.self (members_view c.loop-before.before.items) (c.loop-before.invariant n le) ends
 
 pub returns-in_err-next-clause-json : goal.returns-in_err-next-clause-json
 returns-in_err-next-clause-json c = λ _ n le.

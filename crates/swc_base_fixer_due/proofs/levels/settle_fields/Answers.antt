@@ -3,7 +3,7 @@ use Rattle.swc_base_fixer_due.specs.Record.{place_in}
 use Rattle.swc_base_fixer_due.specs.Row.{ask_at}
 use Rattle.swc_base_fixer_due.specs.Settled.{settled_by}
 use Rattle.swc_base_fixer_due.proofs.Each.{told_back, told_left}
-use Rattle.swc_base_fixer_due.proofs.Leaves.{looked_at}
+use Rattle.swc_tree_node.proofs.Lent.{looked_at}
 use Rattle.swc_base_fixer_due.proofs.levels.settle_fields.Goals as goal
 
 pub loop-i-preserved : goal.loop-i-preserved

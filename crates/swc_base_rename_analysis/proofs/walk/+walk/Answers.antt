@@ -1,9 +1,9 @@
-use Rattle.std.proofs.Common.{◌≡◌, OnOk, refl, sym, ap, ◌∙◌, subst}
+use Rattle.std.proofs.Common.{◌≡◌, OnOk, length, arith, refl, sym, ap, ◌∙◌, subst}
 use Rattle.std.proofs.lemmas.Option.{slice_get_past, slice_get_read}
 use Rattle.swc_tree_node.specs.declared.node.Node.{List as Many, Tree}
 use Rattle.swc_tree_scoping.specs.Below.{places_of}
-use Rattle.swc_base_rename_analysis.specs.Walk.{child_at, laid_of, outside_of, walk_but, walk_in, walks_at}
-use Rattle.swc_base_rename_analysis.proofs.Layers.{field_walked, in_order_walked, leaf_field_walked, list_walked, name_walked, no_field_walked, one_turn_more, scope_walked, tree_walked}
+use Rattle.swc_base_rename_analysis.specs.Walk.{child_at, in_turn, laid_of, outside_of, turns_of, walk_but, walk_in, walks_at}
+use Rattle.swc_base_rename_analysis.proofs.Layers.{field_walked, list_walked, name_walked, nameless_field_walked, no_field_walked, one_turn_more, scope_walked, tree_walked, turns_walked}
 use Rattle.swc_base_rename_analysis.proofs.walk.+walk.Goals as goal
 
 -- src/walk.rt
@@ -40,8 +40,8 @@ walk_tree-returns-in-Some t c =
     (outside_of c.args.around.now) (laid_of c.args.layout.now) c.opened.result c.opened.ensures _ c.in-Some.ensures)
     c.walk_scope.ensures
 
-pub walk_by_turns-loop-turn-preserved : goal.walk_by_turns-loop-turn-preserved
-walk_by_turns-loop-turn-preserved t c =
+pub walk_fields-loop-turn-preserved : goal.walk_fields-loop-turn-preserved
+walk_fields-loop-turn-preserved t c =
     one_turn_more (λ i. walk_but c.args.head.now.kind c.args.fields.now (walks_at (places_of c.args.head.now.places c.args.fields.now) c.args.fields.now) c.args.but (child_at c.args.head.now.kind i) (outside_of c.args.around.now))
     c.loop-turn.turn (laid_of c.args.layout.now) (laid_of c.loop-turn.layout) (laid_of c.walk_but.new.layout) c.loop-turn.invariant
     (c.in_ok-walk_but.ensures
@@ -57,22 +57,21 @@ walk_scope-returns t c =
     c.or.result c.or.ensures (laid_of c.walk_fields.new.layout) c.in_ok-walk_fields.ensures
     (laid_of c.end.new.self) c.end.ensures
 
-pub walk_fields-returns-in_default : goal.walk_fields-returns-in_default
-walk_fields-returns-in_default t c =
-    subst (λ l. OnOk c.walk_in_order.result (laid_of c.walk_in_order.new.layout ≡ l))
-    (in_order_walked c.args.head.now.kind c.in_default.not-CatchClause c.args.fields.now (places_of c.args.head.now.places c.args.fields.now) c.args.but (outside_of c.args.around.now) (laid_of c.args.layout.now))
-    c.walk_in_order.ensures
-
-pub walk_in_order-loop-index-preserved : goal.walk_in_order-loop-index-preserved
-walk_in_order-loop-index-preserved t c =
-    one_turn_more (λ i. walk_but c.args.head.now.kind c.args.fields.now (walks_at (places_of c.args.head.now.places c.args.fields.now) c.args.fields.now) c.args.but i (outside_of c.args.around.now))
-    c.loop-index.index (laid_of c.args.layout.now) (laid_of c.loop-index.layout) (laid_of c.walk_but.new.layout) c.loop-index.invariant c.in_ok-walk_but.ensures
+pub walk_fields-returns : goal.walk_fields-returns
+walk_fields-returns t c =
+    let k = c.args.head.now.kind in
+    let ts = c.args.fields.now in
+    let places = places_of c.args.head.now.places ts in
+    let ended : c.loop-turn.turn ≡ turns_of k (length ts) = omega arith in
+    c.loop-turn.invariant
+    ∙ ap (λ n. in_turn (λ i. walk_but k ts (walks_at places ts) c.args.but (child_at k i) (outside_of c.args.around.now)) n (laid_of c.args.layout.now)) ended
+    ∙ turns_walked k ts places c.args.but (outside_of c.args.around.now) (laid_of c.args.layout.now)
 
 pub walk_field-returns-in-Some : goal.walk_field-returns-in-Some
 walk_field-returns-in-Some t c =
     let found = c.in-Some.ensures.lookup in
     let there = slice_get_read c.args.fields.now _ c.args.index c.in-Some.child.now refl found.3.0 found.1 in
-    leaf_field_walked c.args.head.now.kind c.args.fields.now (places_of c.args.head.now.places c.args.fields.now) c.args.index c.in-Some.child.now there c.if-is_leaf.ensures (outside_of c.args.around.now) (laid_of c.args.layout.now)
+    nameless_field_walked c.args.head.now.kind c.args.fields.now (places_of c.args.head.now.places c.args.fields.now) c.args.index c.in-Some.child.now there (sym c.may_hold_names.ensures ∙ c.if-not-may_hold_names.true) (outside_of c.args.around.now) (laid_of c.args.layout.now)
 
 pub walk_branch-returns : goal.walk_branch-returns
 walk_branch-returns t c =

@@ -6,10 +6,6 @@ use Rattle.swc_base_rename_analysis.proofs.walk.+walk.Given as goal
 abbrev pub invariant-walk_items-loop-i : goal.invariant-walk_items-loop-i
 invariant-walk_items-loop-i l = laid_of l.layout ≡ in_turn (λ i. goes (walks_at (places_of l.places l.items) l.items i) (round_item (outside_of l.around))) l.i (laid_of l.initial.layout)
 
-abbrev pub invariant-walk_by_turns-loop-turn : goal.invariant-walk_by_turns-loop-turn
-invariant-walk_by_turns-loop-turn l =
+abbrev pub invariant-walk_fields-loop-turn : goal.invariant-walk_fields-loop-turn
+invariant-walk_fields-loop-turn l =
     laid_of l.layout ≡ in_turn (λ i. walk_but l.head.kind l.fields (walks_at (places_of l.head.places l.fields) l.fields) l.but (child_at l.head.kind i) (outside_of l.around)) l.turn (laid_of l.initial.layout)
-
-abbrev pub invariant-walk_in_order-loop-index : goal.invariant-walk_in_order-loop-index
-invariant-walk_in_order-loop-index l =
-    laid_of l.layout ≡ in_turn (λ i. walk_but l.head.kind l.fields (walks_at (places_of l.head.places l.fields) l.fields) l.but i (outside_of l.around)) l.index (laid_of l.initial.layout)

@@ -4,7 +4,7 @@ use Rattle.std.proofs.lemmas.Result.{err_from_is_err_and}
 use Rattle.swc_base_rename_naming.specs.Inside.{scope_at}
 use Rattle.swc_base_rename_naming.specs.Planned.{planned}
 use Rattle.swc_base_rename_naming.specs.Steps.{Naming, counts_with}
-use Rattle.swc_base_rename_naming.proofs.GoesOn.{no_less, tried_first, tried_more_given}
+use Rattle.swc_base_rename_naming.proofs.GoesOn.{no_less, tried_first, tried_more_holders}
 use Rattle.swc_base_rename_naming.proofs.Inside.{Laws, child_begins, half_child, half_first, half_held, half_site}
 use Rattle.swc_base_rename_naming.proofs.Stands.{split_at}
 use Rattle.swc_base_rename_naming.proofs.nested.+name_scope.Goals as goal
@@ -17,14 +17,14 @@ loop-at-init g t c =
     let naming : (ℕ → ℕ → Bool) → Naming = planned g.N.NewTexts.text g.A.Asked.keeps g.A.Asked.preserved g.A.Asked.occurs g.A.Asked.id_of plan in
     let n : Naming = naming (counts_with leaks surrounds) in
     let sites = c.args.sites.now in
-    let whole = c.args.whole.now.given in
+    let leaked = c.args.in_program.now.leaked.holders in
     record {
       begun = omega arith;
       fits = omega (arith, c.requires.within);
       scope = refl;
-      half = λ choices begins. half_first n leaks surrounds sites c.args.from choices c.args.names.now c.args.outer.now c.next-given.result whole c.next-given.ensures begins;
-      more = no_less whole;
-      tried = tried_first (g.N.NewTexts.text plan.texts.now) (g.A.Asked.preserved plan.asked.now) (g.A.Asked.occurs plan.asked.now) (c.next-given.result, whole) c.new-tried.result c.new-tried.ensures;
+      half = λ choices begins. half_first n leaks surrounds sites c.args.from choices c.args.in_program.now.names c.args.outer.now c.new-in_scope.result.holders leaked (rw c.new-in_scope.ensures.holders c.next-holders.ensures) begins;
+      more = no_less leaked;
+      tried = tried_first (g.N.NewTexts.text plan.texts.now) (g.A.Asked.preserved plan.asked.now) (g.A.Asked.occurs plan.asked.now) (c.new-in_scope.result.holders, leaked) c.new-in_scope.result.tried c.new-in_scope.ensures.tried;
       marked = c.requires.marked;
     }
 
@@ -115,7 +115,7 @@ loop-at-preserved g t c =
           half_child n leaks surrounds sites c.args.from at c.in_ok-at.at choices _ _ _ _ _ laws c.requires.order later round c.if-site-scope.false half
           (done.done (choices ++ half.more) (child_begins n leaks surrounds sites c.args.from at choices _ _ laws within round half));
       more = λ x f h. c.in_ok-at.ensures.more x f (stood.more x f h);
-      tried = tried_more_given (g.N.NewTexts.text plan.texts.now) (g.A.Asked.preserved plan.asked.now) (g.A.Asked.occurs plan.asked.now) (c.loop-at.given, c.loop-at.whole.given) (c.loop-at.given, c.name_scope.new.whole.given) c.loop-at.tried
-          (no_less c.loop-at.given) c.in_ok-at.ensures.more stood.tried;
+      tried = tried_more_holders (g.N.NewTexts.text plan.texts.now) (g.A.Asked.preserved plan.asked.now) (g.A.Asked.occurs plan.asked.now) (c.loop-at.in_scope.holders, c.loop-at.in_program.leaked.holders) (c.loop-at.in_scope.holders, c.name_scope.new.in_program.leaked.holders) c.loop-at.in_scope.tried
+          (no_less c.loop-at.in_scope.holders) c.in_ok-at.ensures.more stood.tried;
       marked = c.in_ok-at.ensures.marked;
     }

@@ -21,10 +21,10 @@ invariant-loop-at g l =
       begun : l.from ≤ l.at;
       fits : l.at ≤ length l.sites;
       scope : l.scope ≡ scope_at l.sites l.from;
-      half : (choices : List Choice) → MayBegin n leaks surrounds l.sites l.from choices l.fn.names (l.outer, l.fn.whole.given) → Half n leaks surrounds l.sites l.from l.at choices l.names (l.given, l.whole.given);
-      more : HasMore l.fn.whole.given l.whole.given;
-      tried : IsTried (g.N.NewTexts.text l.plan.texts.now) (g.A.Asked.preserved l.plan.asked.now) (g.A.Asked.occurs l.plan.asked.now) (l.given, l.whole.given) l.tried;
-      marked : AreMarked (g.A.Asked.positions l.plan.asked.now) l.whole;
+      half : (choices : List Choice) → MayBegin n leaks surrounds l.sites l.from choices l.fn.in_program.names (l.outer, l.fn.in_program.leaked.holders) → Half n leaks surrounds l.sites l.from l.at choices l.in_program.names (l.in_scope.holders, l.in_program.leaked.holders);
+      more : HasMore l.fn.in_program.leaked.holders l.in_program.leaked.holders;
+      tried : IsTried (g.N.NewTexts.text l.plan.texts.now) (g.A.Asked.preserved l.plan.asked.now) (g.A.Asked.occurs l.plan.asked.now) (l.in_scope.holders, l.in_program.leaked.holders) l.in_scope.tried;
+      marked : AreMarked (g.A.Asked.positions l.plan.asked.now) l.in_program.leaked;
     }
 
 abbrev pub decreases-loop-at : goal.decreases-loop-at

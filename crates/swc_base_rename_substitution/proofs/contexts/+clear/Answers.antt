@@ -1,8 +1,7 @@
 use Rattle.std.proofs.Common.{arith, length-set, sym, ◌∙◌}
 use Rattle.swc_tree_scoping.specs.Readings.{by_texts}
-use Rattle.swc_tree_node.proofs.Lent.{set_next}
-use Rattle.swc_base_rename_substitution.proofs.Cleared.{next_left}
-use Rattle.swc_base_rename_substitution.proofs.Leaves.{cleared_leaf, looked_at}
+use Rattle.swc_tree_node.proofs.Lent.{looked_at, next_left, set_next}
+use Rattle.swc_base_rename_substitution.proofs.Cleared.{cleared_leaf}
 use Rattle.swc_base_rename_substitution.proofs.contexts.+clear.Goals as goal
 
 pub clear_all-loop-i-preserved : goal.clear_all-loop-i-preserved
@@ -11,10 +10,10 @@ clear_all-loop-i-preserved t c = record {
   done = set_next by_texts c.args.nodes.now c.loop-i.nodes c.loop-i.i c.item_mut.result.now c.clear.new.node (omega arith) c.loop-i.invariant.done c.item_mut.ensures.value c.clear.ensures;
 }
 
-pub clear_all-loop-i-preserved-then-is_leaf : goal.clear_all-loop-i-preserved-then-is_leaf
-clear_all-loop-i-preserved-then-is_leaf t c = record {
+pub clear_all-loop-i-preserved-then-not-may_hold_names : goal.clear_all-loop-i-preserved-then-not-may_hold_names
+clear_all-loop-i-preserved-then-not-may_hold_names t c = record {
   size = c.loop-i.invariant.size;
   done = next_left by_texts c.args.nodes.now c.loop-i.nodes c.loop-i.i c.index-as_slice-i.result (omega arith) c.loop-i.invariant.done
       (looked_at c.loop-i.nodes c.as_slice.result.now c.loop-i.i c.index-as_slice-i.result (omega arith) c.as_slice.ensures c.index-as_slice-i.is)
-      (cleared_leaf c.index-as_slice-i.result (sym c.is_leaf.ensures ∙ c.if-is_leaf.true));
+      (cleared_leaf c.index-as_slice-i.result (sym c.may_hold_names.ensures ∙ c.if-not-may_hold_names.true));
 }

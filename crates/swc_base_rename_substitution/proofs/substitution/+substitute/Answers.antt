@@ -1,7 +1,8 @@
 use Rattle.std.proofs.Common.{arith, sym, ◌∙◌, length-set}
 use Rattle.std.proofs.lemmas.Result.{IfOk-weaker}
 use Rattle.swc_base_rename_substitution.specs.Names.{new_id}
-use Rattle.swc_base_rename_substitution.proofs.Leaves.{looked_at, substituted_leaf}
+use Rattle.swc_tree_node.proofs.Lent.{looked_at}
+use Rattle.swc_base_rename_substitution.proofs.Equations.{substituted_leaf}
 use Rattle.swc_base_rename_substitution.proofs.Lists.{one_left, one_more, same_lengths, exports_done}
 use Rattle.swc_base_rename_substitution.proofs.Trees.{unnamed_done, class_done, named_done, longer}
 use Rattle.swc_base_rename_substitution.proofs.substitution.+substitute.Goals as goal
@@ -55,10 +56,10 @@ substitute_all-loop-i-preserved t c =
       })
     ]
 
-pub substitute_all-loop-i-preserved-then-is_leaf : goal.substitute_all-loop-i-preserved-then-is_leaf
-substitute_all-loop-i-preserved-then-is_leaf t c = record {
+pub substitute_all-loop-i-preserved-then-not-may_hold_names : goal.substitute_all-loop-i-preserved-then-not-may_hold_names
+substitute_all-loop-i-preserved-then-not-may_hold_names t c = record {
   size = c.loop-i.invariant.size;
   done = one_left (new_id c.args.names) c.args.keeps_classes (place_in c.args.keeps_classes c.args.below) c.args.nodes.now c.loop-i.nodes c.loop-i.i c.index-as_slice-i.result (omega arith) c.loop-i.invariant.done
       (looked_at c.loop-i.nodes c.as_slice.result.now c.loop-i.i c.index-as_slice-i.result (omega arith) c.as_slice.ensures c.index-as_slice-i.is)
-      (substituted_leaf (new_id c.args.names) c.args.keeps_classes (place_in c.args.keeps_classes c.args.below c.loop-i.i) c.index-as_slice-i.result (sym c.is_leaf.ensures ∙ c.if-is_leaf.true));
+      (substituted_leaf (new_id c.args.names) c.args.keeps_classes (place_in c.args.keeps_classes c.args.below c.loop-i.i) c.index-as_slice-i.result (sym c.may_hold_names.ensures ∙ c.if-not-may_hold_names.true));
 }

@@ -1,31 +1,28 @@
-use Rattle.std.proofs.Common.{◌≡◌, ℕ, ◌<◌, Bool, true, false, Some, List, ◌∷◌, length, arith, rules, refl, sym, ap, ◌∙◌, subst}
+use Rattle.std.proofs.Common.{◌≡◌, ℕ, ◌<◌, List, length, arith, rules, refl, sym, ap, ◌∙◌, subst}
 use Rattle.std.specs.Option.{is_some}
 use Rattle.std.proofs.lemmas.Option.{slice_get_read}
 use Rattle.swc_tree_node.specs.declared.node.Node.{Identifier, List as Many, Tree, the_lemmas}
 use Rattle.swc_tree_scoping.specs.Below.{place_of, places_of, scope_of_fields, view_of}
 use Rattle.swc_tree_scoping.specs.Scopes.{one_if, scope_count}
 use Rattle.swc_base_resolver_program.specs.Lookup.{Open, layers}
-use Rattle.swc_base_resolver_program.specs.Walks.{AreBelow, Gains, Reaches, ReachesBelow, ReachesHere, pick}
+use Rattle.swc_base_resolver_program.specs.Walks.{AreBelow, Gains, Reaches, ReachesBelow, ReachesHere, inside, sees}
 use Rattle.swc_base_resolver_program.proofs.Counted.{total_next}
-use Rattle.swc_base_resolver_program.proofs.Gathered.{by_itself, child_gains, picked, counted, gains_after, gains_alike, known_list, known_tree, leaf, leaf_count, leaf_counts_none, leaf_gains, leaf_gains_nothing, opened_gains, plain_gains}
+use Rattle.swc_base_resolver_program.proofs.Gathered.{by_itself, child_gains, counted, gains_after, gains_alike, known_list, known_tree, leaf_counts_none, leaf_gains_nothing, nameless, opened_gains, plain_gains}
 use Rattle.swc_base_resolver_program.proofs.Below.{below_more, pick_below}
-use Rattle.swc_base_resolver_program.proofs.Open.{layers_inside}
 use Rattle.swc_base_resolver_program.proofs.collect.+gather.Goals as goal
 
 pub gather-gather_children-requires : goal.gather-gather_children-requires
-gather-gather_children-requires t c = (search (rules, the_lemmas), pick_below _ _ _ _ c.requires c.requires c.requires)
+gather-gather_children-requires t c = (search (rules, the_lemmas), λ v. subst (AreBelow (length c.args.tables.now.items)) (sym (c.plain-views.ensures v)) c.requires)
 
 pub gather-gather_children-requires-in-Some : goal.gather-gather_children-requires-in-Some
 gather-gather_children-requires-in-Some t c =
     let size : ℕ = length c.add_table.new.tables.items in
     let outside = below_more _ size (layers c.args.env.now) (omega (arith, c.in_ok-number-in-Some.ensures.size)) c.requires in
     let own : c.in_ok-number-in-Some.number < size = omega (arith, c.in_ok-number-in-Some.ensures.size, c.in_ok-number-in-Some.ensures.number) in
-    let parameters = subst (AreBelow size) (sym (layers_inside _ _)) (own, outside) in
-    let whole = subst (AreBelow size) (sym (layers_inside _ _)) (own, outside) in
-    (search (rules, the_lemmas), pick_below _ _ _ _ outside parameters whole)
+    (search (rules, the_lemmas), λ v. subst (AreBelow size) (sym (c.opened-views.ensures v)) (pick_below size _ _ _ outside (own, outside) (own, outside) v))
 
 pub gather-gather_children-requires-in-None : goal.gather-gather_children-requires-in-None
-gather-gather_children-requires-in-None t c = (search (rules, the_lemmas), pick_below _ _ _ _ c.requires c.requires c.requires)
+gather-gather_children-requires-in-None t c = (search (rules, the_lemmas), λ v. subst (AreBelow (length c.args.tables.now.items)) (sym (c.plain-views-in-None.ensures v)) c.requires)
 
 pub gather-returns-in_ok-gather_identifier-in-Identifier-clause-tables : goal.gather-returns-in_ok-gather_identifier-in-Identifier-clause-tables
 gather-returns-in_ok-gather_identifier-in-Identifier-clause-tables t c =
@@ -44,7 +41,7 @@ pub gather-returns-in_ok-gather_children-in-List-clause-tables : goal.gather-ret
 gather-returns-in_ok-gather_children-in-List-clause-tables t c =
     let known = known_list c.args.place c.args.node.now c.as_slice-items.result.now c.places_of_items-places.result (c.in-List.is ∙ ap (λ ts. Many ts) (sym c.as_slice-items.ensures)) c.places_of_items-places.ensures in
     plain_gains c.args.place c.args.node.now c.as_slice-items.result.now c.places_of_items-places.result known c.args.stage (layers c.args.env.now) (length c.args.tables.now.items) c.args.tables.now.items _
-    (sym (ap scope_of_fields c.places_of_items-places.ensures)) c.in_ok-gather_children-in-List.ensures.tables
+    (sym (ap scope_of_fields c.places_of_items-places.ensures)) (sees c.plain-views.result) c.plain-views.ensures c.in_ok-gather_children-in-List.ensures.tables
 
 pub gather-returns-in_ok-gather_children-in-None-clause-size : goal.gather-returns-in_ok-gather_children-in-None-clause-size
 gather-returns-in_ok-gather_children-in-None-clause-size t c =
@@ -57,7 +54,7 @@ pub gather-returns-in_ok-gather_children-in-None-clause-tables : goal.gather-ret
 gather-returns-in_ok-gather_children-in-None-clause-tables t c =
     let known = known_tree c.args.place c.args.node.now c.as_slice-fields.result.now c.places_of_fields-places.result c.in-Tree.kind (c.in-Tree.is ∙ ap (λ ts. Tree c.in-Tree.kind ts) (sym c.as_slice-fields.ensures)) c.places_of_fields-places.ensures in
     plain_gains c.args.place c.args.node.now c.as_slice-fields.result.now c.places_of_fields-places.result known c.args.stage (layers c.args.env.now) (length c.args.tables.now.items) c.args.tables.now.items _
-    c.in-None.ensures c.in_ok-gather_children-in-None.ensures.tables
+    c.in-None.ensures (sees c.plain-views-in-None.result) c.plain-views-in-None.ensures c.in_ok-gather_children-in-None.ensures.tables
 
 pub gather-returns-in_ok-gather_children-in-Some-clause-size : goal.gather-returns-in_ok-gather_children-in-Some-clause-size
 gather-returns-in_ok-gather_children-in-Some-clause-size t c =
@@ -69,25 +66,23 @@ gather-returns-in_ok-gather_children-in-Some-clause-size t c =
 pub gather-returns-in_ok-gather_children-in-Some-clause-tables : goal.gather-returns-in_ok-gather_children-in-Some-clause-tables
 gather-returns-in_ok-gather_children-in-Some-clause-tables t c =
     let known = known_tree c.args.place c.args.node.now c.as_slice-fields.result.now c.places_of_fields-places.result c.in-Tree.kind (c.in-Tree.is ∙ ap (λ ts. Tree c.in-Tree.kind ts) (sym c.as_slice-fields.ensures)) c.places_of_fields-places.ensures in
-    let inside : Bool → ℕ → List Open = λ whole n. record { scope = Some c.in-Some.scope; number = n; whole = whole } ∷ layers c.args.env.now in
     gains_after c.args.tables.now.items c.add_table.new.tables.items _ _ c.in_ok-number-in-Some.ensures.alike
     (opened_gains c.args.place c.args.node.now c.as_slice-fields.result.now c.places_of_fields-places.result known c.args.stage (layers c.args.env.now) (length c.args.tables.now.items) c.add_table.new.tables.items _
-    c.in-Some.scope _ _ _ c.in-Some.ensures (layers_inside _ _ ∙ ap (inside false) c.in_ok-number-in-Some.ensures.number) (layers_inside _ _ ∙ ap (inside true) c.in_ok-number-in-Some.ensures.number)
+    c.in-Some.scope (sees c.opened-views.result) _ c.in-Some.ensures (λ v. c.opened-views.ensures v ∙ ap (λ n. inside c.in-Some.scope n (layers c.args.env.now) v) c.in_ok-number-in-Some.ensures.number)
     c.in_ok-number-in-Some.ensures.size c.in_ok-gather_children-in-Some.ensures.tables)
 
 pub gather-returns-in_default : goal.gather-returns-in_default
 gather-returns-in_default t c =
-    let is_leaf = leaf c.args.node.now c.in_default.not-List c.in_default.not-Identifier c.in_default.not-Tree in
-    let none = leaf_count c.args.place c.args.node.now is_leaf in
+    let told = nameless c.args.node.now c.in_default.not-List c.in_default.not-Identifier c.in_default.not-Tree in
+    let none = leaf_counts_none c.args.place c.args.node.now told in
     record {
       size = omega (arith, none);
-      tables = leaf_gains c.args.stage (layers c.args.env.now) (length c.args.tables.now.items) c.args.place c.args.node.now c.args.tables.now.items is_leaf.other is_leaf.childless;
+      tables = leaf_gains_nothing c.args.stage (layers c.args.env.now) (length c.args.tables.now.items) c.args.place c.args.node.now c.args.tables.now.items told;
     }
 
 pub gather_children-gather-requires : goal.gather_children-gather-requires
 gather_children-gather-requires t c =
-    let env_is = ap layers c.seen-env.ensures ∙ picked layers _ _ _ c.view.result c.view.result refl in
-    (search (rules, the_lemmas), subst (λ env. AreBelow (length c.loop-i.tables.items) env) (sym env_is) (below_more _ _ _ (omega (arith, c.loop-i.invariant.size)) (c.requires c.view.result)))
+    (search (rules, the_lemmas), subst (λ env. AreBelow (length c.loop-i.tables.items) env) (sym c.seen-env.ensures) (below_more _ _ _ (omega (arith, c.loop-i.invariant.size)) (c.requires c.view.result)))
 
 pub gather_children-loop-i-preserved : goal.gather_children-loop-i-preserved
 gather_children-loop-i-preserved t c =
@@ -95,23 +90,23 @@ gather_children-loop-i-preserved t c =
     let next = total_next (places_of c.args.places c.args.nodes.now) c.args.nodes.now c.loop-i.i c.index-nodes-i.result here in
     let stood = c.at.ensures ∙ ap (place_of c.args.places c.loop-i.i) (sym here) in
     let same = ap (λ w. scope_count w c.index-nodes-i.result) stood in
-    let envs : ℕ → List Open = λ i. pick (view_of c.args.places i) (layers c.args.outside.now) (layers c.args.parameters.now) (layers c.args.whole.now) in
-    let env_is = ap layers c.seen-env.ensures in
+    let envs : ℕ → List Open = λ i. sees c.args.views.now (view_of c.args.places i) in
+    let env_is = c.seen-env.ensures ∙ ap (sees c.args.views.now) c.view.ensures in
     record {
       size = omega (arith, next, same, c.loop-i.invariant.size, c.in_ok-gather.ensures.size);
       tables = child_gains c.args.stage envs (length c.args.tables.now.items) (places_of c.args.places c.args.nodes.now) c.args.nodes.now c.loop-i.i c.index-nodes-i.result here c.args.tables.now.items c.loop-i.tables.items _ c.loop-i.invariant.tables
-          (layers c.seen-env.result.now) (length c.loop-i.tables.items) c.at.result (env_is ∙ picked layers _ _ _ (view_of c.args.places c.loop-i.i) c.view.result c.view.ensures) c.loop-i.invariant.size stood c.in_ok-gather.ensures.tables;
+          (layers c.seen-env.result.now) (length c.loop-i.tables.items) c.at.result env_is c.loop-i.invariant.size stood c.in_ok-gather.ensures.tables;
     }
 
-pub gather_children-loop-i-preserved-then-is_leaf : goal.gather_children-loop-i-preserved-then-is_leaf
-gather_children-loop-i-preserved-then-is_leaf t c =
+pub gather_children-loop-i-preserved-then-not-may_hold_names : goal.gather_children-loop-i-preserved-then-not-may_hold_names
+gather_children-loop-i-preserved-then-not-may_hold_names t c =
     let item = c.index-nodes-i.result in
     let here = slice_get_read c.args.nodes.now _ c.loop-i.i item refl (omega arith) c.index-nodes-i.is in
     let next = total_next (places_of c.args.places c.args.nodes.now) c.args.nodes.now c.loop-i.i item here in
-    let told = sym c.is_leaf.ensures ∙ c.if-is_leaf.true in
+    let told = sym c.may_hold_names.ensures ∙ c.if-not-may_hold_names.true in
     let place = places_of c.args.places c.args.nodes.now c.loop-i.i in
     let none = leaf_counts_none place item told in
-    let envs : ℕ → List Open = λ i. pick (view_of c.args.places i) (layers c.args.outside.now) (layers c.args.parameters.now) (layers c.args.whole.now) in
+    let envs : ℕ → List Open = λ i. sees c.args.views.now (view_of c.args.places i) in
     record {
       size = omega (arith, next, none, c.loop-i.invariant.size);
       tables = child_gains c.args.stage envs (length c.args.tables.now.items) (places_of c.args.places c.args.nodes.now) c.args.nodes.now c.loop-i.i item here c.args.tables.now.items c.loop-i.tables.items _ c.loop-i.invariant.tables
@@ -120,6 +115,6 @@ gather_children-loop-i-preserved-then-is_leaf t c =
 
 pub gather_children-returns-clause-tables : goal.gather_children-returns-clause-tables
 gather_children-returns-clause-tables t c =
-    let envs : ℕ → List Open = λ i. pick (view_of c.args.places i) (layers c.args.outside.now) (layers c.args.parameters.now) (layers c.args.whole.now) in
+    let envs : ℕ → List Open = λ i. sees c.args.views.now (view_of c.args.places i) in
     let ended : c.loop-i.i ≡ length c.args.nodes.now = omega arith in
     subst (λ m. Gains c.args.tables.now.items c.loop-i.tables.items (ReachesBelow c.args.stage envs (length c.args.tables.now.items) (places_of c.args.places c.args.nodes.now) c.args.nodes.now m)) ended c.loop-i.invariant.tables

@@ -4,48 +4,53 @@ use Rattle.std.specs.Option.{is_some, option_map}
 use Rattle.std.proofs.lemmas.Result.{on_ok_weaker}
 use Rattle.std.proofs.lemmas.Option.{slice_get_read}
 use Rattle.swc_tree_node.specs.declared.node.Node.{Node, Tree, the_lemmas}
+use Rattle.swc_tree_node.proofs.Lent.{list_of_children, tree_of_children}
 use Rattle.swc_tree_scoping.specs.declared.below.PlacesBelow.TheVariants.{Fields}
 use Rattle.swc_tree_scoping.specs.Folds.{each_in}
 use Rattle.swc_tree_scoping.specs.Below.{fields_are, place_of, places_of, scope_of_fields, view_of}
 use Rattle.swc_tree_scoping.specs.Scopes.{one_if, scope_count, total}
 use Rattle.swc_base_resolver_program.specs.Lookup.{Open, layers}
-use Rattle.swc_base_resolver_program.specs.Walks.{marking_in, pick, written}
+use Rattle.swc_base_resolver_program.specs.Walks.{marking_in, sees, written}
 use Rattle.swc_tree_scoping.specs.Resolved.{remarked}
 use Rattle.swc_base_resolver_program.proofs.Counted.{total_next, total_part}
-use Rattle.swc_base_resolver_program.proofs.Gathered.{counted, known_list, known_tree, leaf_counts_none, picked}
-use Rattle.swc_base_resolver_program.proofs.Open.{layers_inside}
-use Rattle.swc_base_resolver_program.proofs.Walked.{list_done, plain_done, scope_done, child_is, child_done, got_at_most, leaf_done, list_of_items, some_same}
+use Rattle.swc_base_resolver_program.proofs.Gathered.{counted, known_list, known_tree, leaf_counts_none}
+use Rattle.swc_base_resolver_program.proofs.Walked.{list_done, plain_done, scope_done, child_is, child_done, got_at_most, leaf_done, some_same}
 use Rattle.swc_base_resolver_program.proofs.walk.+resolve.Goals as goal
+
+pub resolve-resolve_fields-requires : goal.resolve-resolve_fields-requires
+resolve-resolve_fields-requires t c =
+    let fields = c.in-Some.children.now in
+    let tree = tree_of_children c.args.node.now c.in-Some-kind.kind fields fields (sym c.in-Some-kind.is ∙ c.kind-kind.ensures) (sym (ap (option_map (λ r. r.now)) c.in-Some.is) ∙ c.children_mut.ensures.value) in
+    let is = tree.0 in
+    let same = ap (scope_count c.args.place) is in
+    (search (rules, the_lemmas, is), omega (arith, same, c.requires))
 
 pub resolve-resolve_children-requires : goal.resolve-resolve_children-requires
 resolve-resolve_children-requires t c =
-    let items = c.in-Some-items_mut.items.now in
+    let items = c.in-Some.children.now in
     let node = c.args.node.now in
-    let is = list_of_items node items (sym (ap (option_map (λ r. r.now)) c.in-Some-items_mut.is) ∙ c.items_mut.ensures.value) in
-    let known = known_list c.args.place node items c.places_of_items-places.result is c.places_of_items-places.ensures in
-    let all = counted c.args.place node items c.places_of_items-places.result known in
-    let none = ap (λ p. one_if (is_some (scope_of_fields p))) c.places_of_items-places.ensures in
+    let list = list_of_children node items items (sym c.in-None.is ∙ c.kind-kind.ensures) (sym (ap (option_map (λ r. r.now)) c.in-Some.is) ∙ c.children_mut.ensures.value) in
+    let is = list.0 in
+    let known = known_list c.args.place node items c.places_of_items.result is c.places_of_items.ensures in
+    let all = counted c.args.place node items c.places_of_items.result known in
+    let none = ap (λ p. one_if (is_some (scope_of_fields p))) c.places_of_items.ensures in
     (search (rules, the_lemmas, is), omega (arith, all, none, c.requires))
 
-pub resolve-returns-in-Some-items_mut-clause-answer : goal.resolve-returns-in-Some-items_mut-clause-answer
-resolve-returns-in-Some-items_mut-clause-answer t c =
-    let items = c.in-Some-items_mut.items.now in
+pub resolve-returns-in-None : goal.resolve-returns-in-None
+resolve-returns-in-None t c =
+    let items = c.in-Some.children.now in
     let node = c.args.node.now in
-    let is = list_of_items node items (sym (ap (option_map (λ r. r.now)) c.in-Some-items_mut.is) ∙ c.items_mut.ensures.value) in
-    let known = known_list c.args.place node items c.places_of_items-places.result is c.places_of_items-places.ensures in
-    on_ok_weaker c.resolve_children.result
-    (list_done (marking_in c.args.answers.now) c.args.place node items c.places_of_items-places.result known (layers c.args.env.now) c.args.next.now c.resolve_children.new.nodes is (sym (ap scope_of_fields c.places_of_items-places.ensures)))
-    c.resolve_children.ensures.answer
-
-pub resolve-returns-in-Some-items_mut-clause-next : goal.resolve-returns-in-Some-items_mut-clause-next
-resolve-returns-in-Some-items_mut-clause-next t c =
-    let items = c.in-Some-items_mut.items.now in
-    let node = c.args.node.now in
-    let is = list_of_items node items (sym (ap (option_map (λ r. r.now)) c.in-Some-items_mut.is) ∙ c.items_mut.ensures.value) in
-    let known = known_list c.args.place node items c.places_of_items-places.result is c.places_of_items-places.ensures in
-    let all = counted c.args.place node items c.places_of_items-places.result known in
-    let none = ap (λ p. one_if (is_some (scope_of_fields p))) c.places_of_items-places.ensures in
-    on_ok_weaker c.resolve_children.result (λ next. omega (arith, all, none, next)) c.resolve_children.ensures.next
+    let list = list_of_children node items c.resolve_children.new.nodes (sym c.in-None.is ∙ c.kind-kind.ensures) (sym (ap (option_map (λ r. r.now)) c.in-Some.is) ∙ c.children_mut.ensures.value) in
+    let known = known_list c.args.place node items c.places_of_items.result list.0 c.places_of_items.ensures in
+    let all = counted c.args.place node items c.places_of_items.result known in
+    let none = ap (λ p. one_if (is_some (scope_of_fields p))) c.places_of_items.ensures in
+    record {
+      answer = on_ok_weaker c.resolve_children.result
+          (λ done. list.1 ∙ list_done (marking_in c.args.answers.now) c.args.place node items c.places_of_items.result known (layers c.args.env.now) c.args.next.now c.resolve_children.new.nodes (sees c.plain-views.result)
+          list.0 (sym (ap scope_of_fields c.places_of_items.ensures)) c.plain-views.ensures done)
+          c.resolve_children.ensures.answer;
+      next = on_ok_weaker c.resolve_children.result (λ next. omega (arith, all, none, next)) c.resolve_children.ensures.next;
+    }
 
 pub resolve_fields-resolve_children-requires : goal.resolve_fields-resolve_children-requires
 resolve_fields-resolve_children-requires t c =
@@ -87,7 +92,7 @@ resolve_fields-returns-in_ok-resolve_children-in-None-clause-answer t c =
     let kind = c.args.kind in
     let ts = c.args.fields.now in
     let known = known_tree c.args.place (Tree kind ts) ts c.places_of_fields-places.result kind refl (c.places_of_fields-places.ensures ∙ ap (λ ts. Fields (fields_are c.args.place kind ts)) c.as_slice.ensures) in
-    plain_done (marking_in c.args.answers.now) c.args.place (Tree kind ts) ts c.places_of_fields-places.result known (layers c.args.env.now) c.args.next.now kind _ _ _ refl c.in-None.ensures (search rules) (search rules) c.in_ok-resolve_children-in-None.ensures.answer
+    plain_done (marking_in c.args.answers.now) c.args.place (Tree kind ts) ts c.places_of_fields-places.result known (layers c.args.env.now) c.args.next.now _ (sees c.plain-views.result) kind refl c.in-None.ensures c.plain-views.ensures c.in_ok-resolve_children-in-None.ensures.answer
 
 pub resolve_fields-returns-in_ok-resolve_children-in-None-clause-next : goal.resolve_fields-returns-in_ok-resolve_children-in-None-clause-next
 resolve_fields-returns-in_ok-resolve_children-in-None-clause-next t c =
@@ -106,7 +111,7 @@ resolve_fields-returns-in_ok-resolve_children-in-Some-clause-answer t c =
     let kind = c.args.kind in
     let ts = c.args.fields.now in
     let known = known_tree c.args.place (Tree kind ts) ts c.places_of_fields-places.result kind refl (c.places_of_fields-places.ensures ∙ ap (λ ts. Fields (fields_are c.args.place kind ts)) c.as_slice.ensures) in
-    scope_done (marking_in c.args.answers.now) c.args.place (Tree kind ts) ts c.places_of_fields-places.result known (layers c.args.env.now) c.args.next.now kind _ c.in-Some.scope _ _ _ refl c.in-Some.ensures (layers_inside _ _) (layers_inside _ _) refl c.in_ok-resolve_children-in-Some.ensures.answer
+    scope_done (marking_in c.args.answers.now) c.args.place (Tree kind ts) ts c.places_of_fields-places.result known (layers c.args.env.now) c.args.next.now _ (sees c.opened-inside.result) kind c.in-Some.scope _ refl c.in-Some.ensures c.opened-inside.ensures refl c.in_ok-resolve_children-in-Some.ensures.answer
 
 pub resolve_fields-returns-in_ok-resolve_children-in-Some-clause-next : goal.resolve_fields-returns-in_ok-resolve_children-in-Some-clause-next
 resolve_fields-returns-in_ok-resolve_children-in-Some-clause-next t c =
@@ -126,7 +131,7 @@ resolve_children-resolve-requires t c =
     let ts = c.args.nodes.now in
     let ps = places_of c.args.places ts in
     let i = c.loop-i.i in
-    let envs : ℕ → List Open = λ i. pick (view_of c.args.places i) (layers c.args.outside.now) (layers c.args.parameters.now) (layers c.args.whole.now) in
+    let envs : ℕ → List Open = λ i. sees c.args.views.now (view_of c.args.places i) in
     let item = c.index-as_slice-i.result in
     let long = ap length c.as_slice.ensures in
     let taken = sym (ap (λ ts. slice_get ts i) c.as_slice.ensures) ∙ slice_get_read c.as_slice.result.now _ i item refl (omega (arith, long)) c.index-as_slice-i.is in
@@ -144,7 +149,7 @@ resolve_children-loop-i-preserved t c =
     let ts = c.args.nodes.now in
     let ps = places_of c.args.places ts in
     let i = c.loop-i.i in
-    let envs : ℕ → List Open = λ i. pick (view_of c.args.places i) (layers c.args.outside.now) (layers c.args.parameters.now) (layers c.args.whole.now) in
+    let envs : ℕ → List Open = λ i. sees c.args.views.now (view_of c.args.places i) in
     let item = c.index-as_slice-i.result in
     let long = ap length c.as_slice.ensures in
     let taken = sym (ap (λ ts. slice_get ts i) c.as_slice.ensures) ∙ slice_get_read c.as_slice.result.now _ i item refl (omega (arith, long)) c.index-as_slice-i.is in
@@ -153,7 +158,7 @@ resolve_children-loop-i-preserved t c =
     let stood = c.at-place.ensures ∙ ap (place_of c.args.places i) (sym here) in
     let same = ap (λ w. scope_count w c.item_mut.result.now) stood ∙ ap (scope_count (ps i)) got in
     let next = total_next ps ts i item here in
-    let env_is = ap layers c.seen-env.ensures ∙ picked layers _ _ _ (view_of c.args.places i) c.view.result c.view.ensures in
+    let env_is = c.seen-env.ensures ∙ ap (sees c.args.views.now) c.view.ensures in
     record {
       size = simp length-set c.loop-i.invariant.size;
       done = child_done a envs ts c.loop-i.nodes ps c.args.next.now i c.loop-i.next item (omega arith) c.loop-i.invariant.done taken
@@ -161,18 +166,18 @@ resolve_children-loop-i-preserved t c =
       count = omega (arith, next, same, c.loop-i.invariant.count, c.in_ok-resolve.ensures.next);
     }
 
-pub resolve_children-loop-i-preserved-then-is_leaf : goal.resolve_children-loop-i-preserved-then-is_leaf
-resolve_children-loop-i-preserved-then-is_leaf t c =
+pub resolve_children-loop-i-preserved-then-not-may_hold_names : goal.resolve_children-loop-i-preserved-then-not-may_hold_names
+resolve_children-loop-i-preserved-then-not-may_hold_names t c =
     let a = marking_in c.args.answers.now in
     let ts = c.args.nodes.now in
     let ps = places_of c.args.places ts in
     let i = c.loop-i.i in
-    let envs : ℕ → List Open = λ i. pick (view_of c.args.places i) (layers c.args.outside.now) (layers c.args.parameters.now) (layers c.args.whole.now) in
+    let envs : ℕ → List Open = λ i. sees c.args.views.now (view_of c.args.places i) in
     let item = c.index-as_slice-i.result in
     let long = ap length c.as_slice.ensures in
     let taken = sym (ap (λ ts. slice_get ts i) c.as_slice.ensures) ∙ slice_get_read c.as_slice.result.now _ i item refl (omega (arith, long)) c.index-as_slice-i.is in
     let here = child_is a envs ts c.loop-i.nodes ps c.args.next.now i c.loop-i.next item (omega arith) c.loop-i.invariant.done taken in
-    let told = sym c.is_leaf.ensures ∙ c.if-is_leaf.true in
+    let told = sym c.may_hold_names.ensures ∙ c.if-not-may_hold_names.true in
     let next = total_next ps ts i item here in
     let none = leaf_counts_none (ps i) item told in
     record {

@@ -21,7 +21,7 @@ add_sites_below-loop-i-preserved t c =
     found_more c.args.places c.args.nodes.now c.loop-i.i c.index-nodes-i.result c.at.result (map site_of c.args.found.now.items) (map site_of c.loop-i.found.items) (map site_of c.add_sites.new.found.items)
     c.loop-i-test.true c.index-nodes-i.is c.at.ensures c.loop-i.invariant c.in_ok-add_sites.ensures
 
-pub add_sites_below-loop-i-preserved-then-is_leaf : goal.add_sites_below-loop-i-preserved-then-is_leaf
-add_sites_below-loop-i-preserved-then-is_leaf t c =
+pub add_sites_below-loop-i-preserved-then-not-may_hold_names : goal.add_sites_below-loop-i-preserved-then-not-may_hold_names
+add_sites_below-loop-i-preserved-then-not-may_hold_names t c =
     found_no_more c.args.places c.args.nodes.now c.loop-i.i c.index-nodes-i.result (map site_of c.args.found.now.items) (map site_of c.loop-i.found.items)
-    c.loop-i-test.true c.index-nodes-i.is (sym c.is_leaf.ensures ∙ c.if-is_leaf.true) c.loop-i.invariant
+    c.loop-i-test.true c.index-nodes-i.is (sym c.may_hold_names.ensures ∙ c.if-not-may_hold_names.true) c.loop-i.invariant
