@@ -1,7 +1,7 @@
 """Laws of bringing helpers into a module, by imports or by bodies that are written out."""
 import js
 import scoping
-from lawbook import Bad, D, fits_place, is_module, is_name, kind, law, with_text
+from lawbook import Bad, D, fits_place, is_module, is_name, kind, law, lists_are_items, with_text
 from trees import ABSENT, SPAN, with_identifiers
 
 # the mark of free names and the helper mark; both may be one
@@ -138,7 +138,7 @@ def offered_by(bodies):
 
 def are_bodies(bodies):
     t = bodies_alone(bodies)
-    return fits_place(t) and scoping.IsClean(D.all, t) and scoping.NoEarlyErrorOfNames(D.all, t)
+    return fits_place(t) and lists_are_items(t) and scoping.IsClean(D.all, t) and scoping.NoEarlyErrorOfNames(D.all, t)
 
 
 def known_marks(t):

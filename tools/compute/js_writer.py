@@ -19,7 +19,14 @@ class Writer:
         text = self.ungrouped(node)
         return '«' + text + '»' if self.groups is None or number in self.groups else text
 
+    def part(self, v):
+        if hasattr(v, 'type'):
+            return self.show(v)
+        return '[' + ', '.join(map(self.part, v)) + ']' if isinstance(v, list) else str(v)
+
     def ungrouped(self, node):
+        if node.type not in WAYS:
+            return '<%s %s>' % (node.type, ' '.join(self.part(v) for k, v in node.__dict__.items() if k not in ('type', 'span')))
         try:
             return WAYS[node.type](self, node)
         except (AttributeError, TypeError):     # a node that fits no place: its parts

@@ -8,7 +8,7 @@ import scoping
 import trees
 import units
 from grammar_laws import is_same
-from lawbook import Bad, D, fits_place, fixed, identity, is_module, is_writable, kind, law, normal_form, well_scoped_module, writable_module
+from lawbook import Bad, D, fits_place, fixed, identity, is_module, is_writable, kind, law, lists_are_items, normal_form, well_scoped_module, writable_module
 from naming_laws import writable_and_well_scoped
 from naming_rows import with_hygiene
 from sites_laws import is_copy, sites, without_some
@@ -166,8 +166,8 @@ def written_out_exports_what_is_taken(t):
 
 @law(listing_module)
 def export_lists_are_listed(t):
-    """the references in the export lists of a module that fits its place are what it exports by its lists"""
-    if not is_fitting_module(t):
+    """the references in the export lists of a module that fits its place, each an item of it, are what it exports by its lists"""
+    if not is_fitting_module(t) or not lists_are_items(t):
         return None
     program, listed = scoping.Program(D.all, t), exported_locals(t)
     found = [p for p, standing, _ in scoping.Stands(program) if standing == 'Reference' and scoping.InExportList(program, p)]

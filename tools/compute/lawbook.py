@@ -136,6 +136,16 @@ def of_kind(t, wanted):
     return [path for path, node in paths(t) if kind(node) == wanted]
 
 
+def has_types(t):
+    """whether an interface, an alias, an enum or a namespace stands in the tree"""
+    return any(of_kind(t, wanted) for wanted in ('TsInterfaceDecl', 'TsTypeAliasDecl', 'TsEnumDecl', 'TsModuleDecl'))
+
+
+def lists_are_items(t):
+    """whether each export list of the tree is an item of the program"""
+    return all(len(path) == 2 and path[0] == 1 for path in of_kind(t, 'NamedExport'))
+
+
 def identifiers(t):
     """(path, identifier) of each identifier"""
     return [(path, node[2]) for path, node in paths(t) if node[0] == 'Identifier']

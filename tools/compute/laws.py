@@ -6,6 +6,7 @@
     python3 tools/compute/laws.py . names_apart --text 'let a#1;'   one law on a tree that is written down
     python3 tools/compute/laws.py . fits_with_due_pairs --expressions   a law on nests of expressions, each in one place
     python3 tools/compute/laws.py . --show 'let a#1;' [--script]    what the definitions say of a module or a script
+    python3 tools/compute/laws.py . --types              on trees with declarations of types, enums and namespaces alone
     python3 tools/compute/laws.py . --kinds              which kinds of nodes the random trees have
 
 A law is tried until so many trees met its premise, or the seconds are over. Laws of one source of trees are tried on
@@ -17,10 +18,11 @@ import time
 
 import expressions
 import js
+import random_nodes
 import random_trees
 import scoping
 import trees
-from lawbook import LAWS, Bad, D, fits_grammar, fixed, is_writable, load, normal_form, stripped
+from lawbook import LAWS, Bad, D, fits_grammar, fixed, has_types, is_writable, load, normal_form, stripped
 import grammar_laws
 import headline_laws
 import injection_laws
@@ -80,7 +82,7 @@ def written_trees():
 def tried(tallies, options):
     """tries the laws of one source"""
     random, end = random_trees.Random(options.seed), time.time() + options.seconds
-    for t in written_trees():
+    for t in () if options.types else written_trees():
         for tally in tallies:
             tally.try_on(t)
     active = tallies
@@ -88,6 +90,8 @@ def tried(tallies, options):
         share = max(min(tally.met for tally in active) / options.trees, 1 - (end - time.time()) / options.seconds)
         source = expressions.expressions if options.expressions else active[0].source
         t = source(random, FEWEST + int((options.biggest - FEWEST) * share))
+        if options.types and (t is None or not has_types(t)):
+            continue
         for tally in active:
             tally.try_on(t)
         active = [tally for tally in active if tally.met < options.trees]
@@ -174,6 +178,7 @@ def arguments():
     parser.add_argument('--expressions', action='store_true', help='on programs of one nest of expressions in place of random trees')
     parser.add_argument('--text', help='a tree that is written down, for one law')
     parser.add_argument('--show', help='a tree that is written down, of which the definitions are asked')
+    parser.add_argument('--types', action='store_true', help='on trees with declarations of types, enums and namespaces alone')
     parser.add_argument('--script', action='store_true', help='it is a script')
     parser.add_argument('--kinds', action='store_true')
     return parser.parse_args()
@@ -191,6 +196,7 @@ def main():
         print('no law of the name %s; there are: %s' % (unknown[0], ' '.join(LAWS)))
         return 2
     load(options.checkout)
+    random_nodes.Choices.with_types = 0.3 if options.types else 0
     if options.show is not None:
         show(options.show, js.script if options.script else js.module)
     elif options.kinds:

@@ -6,7 +6,7 @@ from contextlib import contextmanager
 from naming import ARGUMENTS, EVAL, counts_on
 
 FUNCTIONS = ('Module', 'Script', 'Function', 'ArrowExpr', 'StaticBlock')
-WITH_KEY = ('Constructor', 'GetterProp', 'SetterProp')
+WITH_KEY = ('Constructor', 'GetterProp', 'SetterProp', 'TsModuleDecl')
 LOOPS = ('ForStmt', 'ForInStmt', 'ForOfStmt')
 STAY = ('Lexical', 'CatchParameter', 'FunctionName', 'ClassName')
 

@@ -5,13 +5,14 @@ from collections import namedtuple
 import js
 from trees import ABSENT
 
-DECLARING = {'VarDecl', 'UsingDecl', 'FnDecl', 'ClassDecl'}
+DECLARING = {'VarDecl', 'UsingDecl', 'FnDecl', 'ClassDecl', 'TsModuleDecl', 'TsInterfaceDecl', 'TsTypeAliasDecl', 'TsEnumDecl'}
 LEAVES = ['Ident', 'Ident', 'Ident', 'Number', 'ThisExpr', 'Str', 'Null']
 OFTEN = ['BinExpr', 'MemberExpr', 'CallExpr', 'NewExpr', 'OptChainExpr', 'SeqExpr', 'AssignExpr', 'ArrowExpr', 'ObjectLit', 'FnExpr',
          'ClassExpr', 'UnaryExpr', 'YieldExpr', 'AwaitExpr', 'CondExpr', 'TaggedTpl', 'Tpl']
 SCOPED = ['BlockStmt', 'BlockStmt', 'FnDecl', 'FnDecl', 'TryStmt', 'ForStmt', 'ForInStmt', 'ForOfStmt', 'SwitchStmt', 'ClassDecl',
           'VarDecl', 'VarDecl', 'VarDecl', 'ExprStmt', 'ExprStmt', 'IfStmt', 'LabeledStmt', 'WithStmt']
 SCOPED_EXPRESSIONS = ['Ident', 'Ident', 'Ident', 'ArrowExpr', 'FnExpr', 'ClassExpr', 'AssignExpr', 'ObjectLit', 'CallExpr', 'SeqExpr']
+TYPES = ['TsModuleDecl', 'TsModuleDecl', 'TsModuleDecl', 'TsInterfaceDecl', 'TsTypeAliasDecl', 'TsEnumDecl']
 OPERATORS = ['In', 'Exp', 'NullishCoalescing', 'LogicalOr', 'LogicalAnd', 'InstanceOf', 'EqEq']
 POOLS = [['a', 'b'], ['a', 'b', 'c'], ['a'], ['a', 'f', 'undefined'], ['a', 'b', 'async', 'of', '__proto__']]
 ODD = ['let', 'eval', 'arguments', 'async', 'of', 'using', '__proto__', 'static', 'get', 'await', 'yield']
@@ -29,10 +30,14 @@ def is_rest(t):
 
 
 class Choices:
-    """random choices; `style` is wild, writable or names, `left` the rough number of nodes that may still be made"""
+    """random choices; `style` is wild, writable or names, `left` the rough number of nodes that may still be made; `types`
+    is the share of declarations that are of types, enums and namespaces"""
+    with_types = 0
+
     def __init__(self, seed):
         self.random = random.Random(seed)
         self.style, self.pool, self.left, self.made, self.marks, self.odd, self.favoured = 'wild', ['a', 'b'], 0, 0, 0, 0, ()
+        self.types = Choices.with_types
 
     def chance(self, share):
         return self.random.random() < share
@@ -104,10 +109,12 @@ class Choices:
     def statement_kind(self, where, small):
         if small:
             kind = self.pick(['EmptyStmt', 'ExprStmt', 'ExprStmt', 'VarDecl'])
+        elif self.chance(self.types):
+            kind = self.pick(TYPES)
         elif self.style == 'names':
             kind = self.pick(SCOPED)
         else:
-            kind = self.pick(['ExprStmt', 'ExprStmt', 'IfStmt'] + js.CLASSES['Stmt'])
+            kind = self.pick(['ExprStmt', 'ExprStmt', 'IfStmt'] + self.without_types(js.CLASSES['Stmt']))
         if self.style == 'wild':
             return kind
         is_body = where.key in ('body', 'cons', 'alt') and where.parent not in ('Module', 'Script', 'SwitchCase')
@@ -127,13 +134,18 @@ class Choices:
             return 'Ident'
         if cls == 'ModuleItem':
             return self.pick(js.CLASSES['ModuleDecl'] + ['ImportDecl', 'ExportDecl'])
+        if cls == 'Decl' and self.chance(self.types):
+            return self.pick(TYPES)
         if cls == 'Decl' and not wild:
             return self.pick(['VarDecl', 'VarDecl', 'FnDecl', 'ClassDecl'])
         if cls == 'ExportSpecifier' and not wild and self.chance(0.9):
             return 'ExportNamedSpecifier'
         if cls == 'ModuleExportName' and self.chance(0.8):
             return 'Ident'
-        return self.pick(kinds)
+        return self.pick(self.without_types(kinds))
+
+    def without_types(self, kinds):
+        return [kind for kind in kinds if kind not in TYPES] if kinds != ['TsModuleDecl'] else kinds
 
 
 class Parts(Choices):

@@ -5,7 +5,7 @@ import js
 import scoping
 import trees
 from lawbook import (Bad, D, any_tree, bound_ids, clean_module, clean_program, expressions_as_names, identity, is_module, is_name, kind,
-                     law, same, well_scoped_module)
+                     law, lists_are_items, same, well_scoped_module)
 from trees import at, paths
 
 
@@ -28,8 +28,8 @@ def walk_gives_places_and_rounds(t):
 
 @law(clean_module)
 def clean_becomes_well_scoped(t):
-    """a clean module without early error of names is well-scoped when it is resolved"""
-    if not is_module(t) or not scoping.IsClean(D.all, t) or not scoping.NoEarlyErrorOfNames(D.all, t):
+    """a clean module without early error of names, each export list an item of it, is well-scoped when it is resolved"""
+    if not is_module(t) or not lists_are_items(t) or not scoping.IsClean(D.all, t) or not scoping.NoEarlyErrorOfNames(D.all, t):
         return None
     for unresolved, top in ((1, 2), (1, 1)):
         answer = scoping.resolved(D.all, t, unresolved, top)

@@ -1,7 +1,7 @@
 """Laws of the substitution of names."""
 import js
 import scoping
-from lawbook import (Bad, D, any_tree, declaration_ids, declared_ids, definition, expressions_as_names, fits_place, identifiers, ids_of, identity,
+from lawbook import (Bad, D, any_tree, declaration_ids, declared_ids, definition, expressions_as_names, fits_place, has_types, identifiers, ids_of, identity,
                      is_name, is_writable, kind, law, normal_form, writable_tree)
 from grammar_laws import exports, is_same
 import trees
@@ -189,9 +189,9 @@ def exported_expressions(random, size):
 @law(exported_expressions)
 def exports_bind_what_scoping_binds(t):
     """the ids of an exported declaration, in order, are those of the identifiers in it that scoping calls bindings of
-    the program"""
+    the program, where no type, enum or namespace is declared"""
     found = [path for path, node in paths(t) if kind(node) == 'ExportDecl']
-    if not fits_place(t) or not found:
+    if not fits_place(t) or not found or has_types(t):
         return None
     program = scoping.Program(D.all, t)
     for path in found:

@@ -14,7 +14,7 @@ SHORT = {'Expr': 'Ident', 'Pat': 'BindingIdent', 'Stmt': 'EmptyStmt', 'ModuleIte
 
 
 # The families from programs down to names.
-ORDER = ['swc_tree_' + name for name in ('modules', 'statements', 'functions', 'expressions', 'operations', 'patterns', 'leaves')]
+ORDER = ['swc_tree_' + name for name in ('modules', 'statements', 'types', 'functions', 'expressions', 'operations', 'patterns', 'leaves')]
 
 
 def type_of(tree, field):

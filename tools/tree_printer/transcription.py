@@ -4,7 +4,8 @@ import re
 ROLES = {'': 'Plain', 'reference': 'Reference', 'inherited': 'Inherited', 'declared': 'Declared',
          'function': 'Function', 'class': 'Class', 'own_name': 'OwnName', 'parameter': 'Parameter', 'catch': 'Catch',
          'import': 'Import', 'lexical': 'Lexical', 'body': 'FunctionBody', 'label': 'Label', 'imported': 'Imported',
-         'exported': 'Exported', 'export_local': 'ExportLocal'}
+         'exported': 'Exported', 'export_local': 'ExportLocal',
+         'type_name': 'TypeName', 'type_reference': 'TypeReference'}
 
 # The forms of places, each with what is written for it; `X` stands for a type.
 SLOTS = [('Pairs', r'Pairs()'), ('OptionalList', r'\[(\w+)\]\?'), ('Holes', r'\[(\w+)\?\]'), ('List', r'\[(\w+)\]'),

@@ -6,7 +6,7 @@ use Rattle.swc_tree_marks.specs.declared.error.PassError.TheVariants as refusal
 use Rattle.swc_tree_node.specs.declared.node.Node.{Node}
 use Rattle.swc_tree_scoping.specs.Places.{program_place}
 use Rattle.swc_tree_scoping.specs.Scopes.{scope_count}
-use Rattle.swc_tree_scoping.specs.Resolved.{Resolved}
+use Rattle.swc_tree_spaces.specs.Spaces.{ResolvedBy}
 use Rattle.jsbase_reader.specs.declared.envelope.Envelope.{Envelope}
 use Rattle.jsbase_reader.specs.Envelopes.{envelope_in_text}
 use Rattle.jsbase_programs.specs.declared.programs.Goal.{Goal}
@@ -25,7 +25,7 @@ lines (x ∷ xs) = x ++ 10 ∷ lines xs
 pub record HasNames (envelope : Envelope) (text : List ℕ) : Type 0 where
   pub table : Table
   pub program : Node
-  pub resolved : Resolved envelope.unresolved envelope.top envelope.globals table envelope.tree program
+  pub resolved : ResolvedBy envelope.unresolved envelope.top envelope.globals table envelope.tree program
   pub written : text ≡ lines (free_names envelope.unresolved program)
 
 -- memory was refused, or the table has no room for a mark to each scope but the program

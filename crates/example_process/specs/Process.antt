@@ -4,7 +4,7 @@ use Rattle.swc_tree_marks.specs.declared.error.PassError.{PassError}
 use Rattle.swc_tree_marks.specs.declared.error.PassError.TheVariants as error
 use Rattle.swc_tree_marks.specs.Globals.{Table}
 use Rattle.swc_tree_node.specs.declared.node.Node.{Node}
-use Rattle.swc_tree_scoping.specs.Resolved.{Resolved}
+use Rattle.swc_tree_spaces.specs.Spaces.{ResolvedBy}
 use Rattle.swc_base_resolver_program.specs.Marked.{MarksOk}
 use Rattle.swc_base_rename_substitution.specs.Names.{Id, if_other_text, same_id}
 use Rattle.swc_base_rename_substitution.specs.Substituted.{Substituted}
@@ -21,7 +21,7 @@ new_id_of unresolved text x = if_other_text x (option_map (λ text. (text, [])) 
 -- the program is resolved, and then each free `process` has the text, and no other name changes
 pub record HasOtherProcess (pass : RenamesProcess) (old new : Table) (before after : Node) : Type 0 where
   pub between : Node
-  pub resolved : Resolved pass.unresolved pass.top old new before between
+  pub resolved : ResolvedBy pass.unresolved pass.top old new before between
   pub renamed : Substituted (new_id_of pass.unresolved pass.text) false between after
 
 -- so it is where the two marks are known; the pass stays as it is

@@ -1,5 +1,5 @@
 //! The pass over the resolver and the substitution of names.
-ghost use Rattle.std.specs.Prelude.{◌≡◌, IfOk, IfErr, Some, None, if◌then◌else◌};
+ghost use Rattle.std.specs.Prelude.{◌≡◌, false, IfOk, IfErr, Some, None, if◌then◌else◌};
 ghost use Rattle.std.specs.HashMap.{get};
 ghost use Rattle.std.proofs.Common.{inl, refl};
 ghost use Rattle.swc_base_rename_substitution.specs.Names.{Id as Id', same_id};
@@ -46,6 +46,12 @@ impl RenamesProcess {
 }
 
 impl ProgramPass for RenamesProcess {
+    ghost takes_types = { false };
+
+    fn takes_types(&self) -> bool {
+        false
+    }
+
     ghost makes = { Renames };
 
     ghost declines = { Declines };

@@ -22,6 +22,7 @@ impl Answers for OfRows {
             | "deep"
             | "fold"
             | "items"
+            | "types"
             | "rename"
             | "remap"
             | "letters"

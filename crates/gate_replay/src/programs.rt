@@ -4,12 +4,13 @@
 //! `unparen_comments` and `fix_comments` how many moves are granted under `room`; `letters`, `refusing`, `numbered` and `suffixed` are renamers. What is wanted is the envelope of what is left, behind the
 //! moves that were asked for and the name of a refusal. Behind `twice` the same pass is run on the program two times, and
 //! what is left the second time is wanted. Behind `deep` the statements of a script stand in 200 blocks, one in another, as the pass
-//! is run, more than JSON may nest, and are taken out again. `fold` hands the program by value to the pass that does nothing, and `items`
-//! asks a check whether there are items.
+//! is run, more than JSON may nest, and are taken out again. `fold` hands the program by value to the pass that does nothing, `items`
+//! asks a check whether there are items, and `types` whether declarations of types stand in the program.
 mod check;
 mod names;
 mod passes;
 mod renamers;
+mod types;
 
 use anyhow::{Result, bail};
 use gate_rows::Given;
@@ -63,6 +64,7 @@ pub fn answer(alloc: Global, words: &str, input: &str) -> Result<String> {
     let class = class_of(class)?;
     match command {
         "items" => check::answer(alloc, &Given::read(alloc, class, input)?),
+        "types" => types::answer(alloc, &Given::read(alloc, class, input)?),
         "fold" => Given::read(alloc, class, input)?.folded(alloc, &mut noop()),
         _ => {
             if let Some(word) = command.strip_prefix("deep ") {

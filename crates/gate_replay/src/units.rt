@@ -181,11 +181,12 @@ fn finds_ancestors(alloc: Global) -> Option<bool> {
     Some(are_found)
 }
 
-const PASS_ERRORS: [PassError; 4] = [
+const PASS_ERRORS: [PassError; 5] = [
     PassError::NoMemory,
     PassError::MarksSpent,
     PassError::CounterSpent,
     PassError::NotAssignable,
+    PassError::TypesLeft,
 ];
 
 const MARK_ERRORS: [MarkError; 3] = [

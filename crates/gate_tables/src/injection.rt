@@ -1,5 +1,6 @@
 //! Rows of helpers that are brought into programs. The input is an envelope, and behind a tab, where helpers are written out, the
 //! envelope of a script that is the body of the helper `throw`. The helper mark is 7, and the global mark is the unresolved one.
+//! Where the helper is refused, what is left stands behind the name of the refusal.
 use crate::finished::{Task, run};
 use gate_rows::{Given, Program};
 use jsbase_writer::write;
@@ -96,7 +97,9 @@ fn injected(
     let mut given = Given::read(alloc, class, program_of(input)).ok()?;
     let settings = given.settings;
     let mut pass = pass_of(alloc, settings.unresolved, external, input)?;
-    given.visit(alloc, &mut pass).ok()?;
+    if let Err(error) = given.visit(alloc, &mut pass) {
+        return given.left(alloc, Err(error)).ok();
+    }
     match then {
         Then::Nothing => {}
         Then::Hygiene => given.visit(alloc, &mut hygiene()).ok()?,

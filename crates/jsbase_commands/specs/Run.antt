@@ -8,7 +8,7 @@ use Rattle.swc_tree_node.specs.declared.kind.Class.TheVariants as class
 use Rattle.swc_tree_node.specs.declared.node.Node.{Node}
 use Rattle.swc_tree_scoping.specs.Places.{program_place}
 use Rattle.swc_tree_scoping.specs.Scopes.{scope_count}
-use Rattle.swc_tree_scoping.specs.Resolved.{Resolved}
+use Rattle.swc_tree_spaces.specs.Spaces.{ResolvedBy, has_types}
 use Rattle.swc_tree_grammar.specs.Blocks.{with_blocks}
 use Rattle.swc_tree_grammar.specs.Stripped.{stripped}
 use Rattle.swc_tree_grammar.specs.Targets.{all_bare}
@@ -33,11 +33,11 @@ abbrev pub class_of : Kind → Class
 class_of kind.Module = class.Module
 class_of kind.Script = class.Script
 
--- the output is the envelope of the tree, resolved, with the table of marks that resolving it leads to
+-- the output is the envelope of the tree, resolved over both name spaces, with the table of marks that resolving it leads to
 pub record IsResolved (envelope : Envelope) (output : List ℕ) : Type 0 where
   pub table : Table
   pub answer : Node
-  pub resolved : Resolved envelope.unresolved envelope.top envelope.globals table envelope.tree answer
+  pub resolved : ResolvedBy envelope.unresolved envelope.top envelope.globals table envelope.tree answer
   pub well_formed : IsTable table
   pub written : output ≡ envelope_text table envelope.top answer envelope.unresolved
 
@@ -48,25 +48,30 @@ config_by top keeps ignores = record { keep_class_names = keeps; safari_10 = fal
 abbrev pub config_of : Envelope → Config
 config_of envelope = config_by envelope.top envelope.keep_class_names envelope.ignore_eval
 
--- the output is the envelope of the tree whose names are given anew and whose contexts are empty
+-- the output is the envelope of the tree, in which no types stand, with its names given anew and its contexts empty
 pub record IsMadeHygienic (envelope : Envelope) (output : List ℕ) : Type 0 where
+  pub no_types : has_types envelope.tree ≡ false
   pub answer : Node
   pub hygienic : IsHygienic envelope.globals (config_of envelope) envelope.tree answer
   pub written : output ≡ envelope_text envelope.globals envelope.top answer envelope.unresolved
 
--- the output is the envelope of the tree without parentheses, whose parenthesised targets may be assigned to
+-- the output is the envelope of the tree without parentheses, in which no types stand and whose parenthesised targets may be
+-- assigned to
 pub record IsUnparened (envelope : Envelope) (output : List ℕ) : Type 0 where
+  pub no_types : has_types envelope.tree ≡ false
   pub assignable : all_bare envelope.tree ≡ true
   pub written : output ≡ envelope_text envelope.globals envelope.top (with_blocks (stripped envelope.tree)) envelope.unresolved
 
--- the output is the envelope of the tree with its parentheses set anew, whose parenthesised targets may be assigned to
+-- the output is the envelope of the tree with its parentheses set anew, in which no types stand and whose parenthesised
+-- targets may be assigned to
 pub record IsFixed (envelope : Envelope) (output : List ℕ) : Type 0 where
+  pub no_types : has_types envelope.tree ≡ false
   pub assignable : all_bare envelope.tree ≡ true
   pub written : output ≡ envelope_text envelope.globals envelope.top (answer_to envelope.tree) envelope.unresolved
 
 -- the tree of an envelope, resolved
 abbrev pub ResolvesTo : Envelope → Table → Node → Type 0
-ResolvesTo envelope table resolved = Resolved envelope.unresolved envelope.top envelope.globals table envelope.tree resolved
+ResolvesTo envelope table resolved = ResolvedBy envelope.unresolved envelope.top envelope.globals table envelope.tree resolved
 
 -- the tree of an envelope, resolved, and then with its names given anew and its contexts empty
 pub record IsRenamedWith (envelope : Envelope) (table : Table) (renamed : Node) : Type 0 where
@@ -74,8 +79,10 @@ pub record IsRenamedWith (envelope : Envelope) (table : Table) (renamed : Node) 
   pub resolved : ResolvesTo envelope table between
   pub hygienic : IsHygienic table (config_of envelope) between renamed
 
--- the output is the envelope of the tree that the three passes lead to, one after the other: resolved, hygienic, fixed
+-- the output is the envelope of the tree that the three passes lead to, one after the other: resolved, hygienic, fixed; no
+-- types stood in the tree
 pub record IsChained (envelope : Envelope) (output : List ℕ) : Type 0 where
+  pub no_types : has_types envelope.tree ≡ false
   pub table : Table
   pub renamed : Node
   pub is_renamed : IsRenamedWith envelope table renamed
@@ -104,22 +111,38 @@ IsSpentOnceResolved envelope = (table : Table) × (resolved : Node) × ResolvesT
 abbrev pub IsUnassignableOnceRenamed : Envelope → Type 0
 IsUnassignableOnceRenamed envelope = (table : Table) × (renamed : Node) × IsRenamedWith envelope table renamed × (all_bare renamed ≡ false)
 
--- why the command may be refused on an envelope, beside want of memory
-abbrev pub IsRefusalOf : Command → Envelope → PassError → Type 0
-IsRefusalOf command.Resolve envelope refusal.MarksSpent = TakesTooManyMarks envelope
-IsRefusalOf command.Resolve envelope _ = ⊥
-IsRefusalOf command.Hygiene envelope refusal.CounterSpent = IsRenameRefusal envelope.globals (config_of envelope) hygiene_renaming envelope.tree refusal.CounterSpent
-IsRefusalOf command.Hygiene envelope _ = ⊥
-IsRefusalOf command.Unparen envelope refusal.NotAssignable = all_bare envelope.tree ≡ false
-IsRefusalOf command.Unparen envelope _ = ⊥
-IsRefusalOf command.Fix envelope refusal.NotAssignable = all_bare envelope.tree ≡ false
-IsRefusalOf command.Fix envelope _ = ⊥
-IsRefusalOf command.Chain envelope refusal.MarksSpent = TakesTooManyMarks envelope
-IsRefusalOf command.Chain envelope refusal.CounterSpent = IsSpentOnceResolved envelope
-IsRefusalOf command.Chain envelope refusal.NotAssignable = IsUnassignableOnceRenamed envelope
-IsRefusalOf command.Chain envelope refusal.NoMemory = ⊥
+-- why the passes of the command may be refused on an envelope in which no types stand, beside want of memory
+abbrev pub IsCauseOf : Command → Envelope → PassError → Type 0
+IsCauseOf command.Resolve envelope refusal.MarksSpent = TakesTooManyMarks envelope
+IsCauseOf command.Resolve envelope _ = ⊥
+IsCauseOf command.Hygiene envelope refusal.CounterSpent = IsRenameRefusal envelope.globals (config_of envelope) hygiene_renaming envelope.tree refusal.CounterSpent
+IsCauseOf command.Hygiene envelope _ = ⊥
+IsCauseOf command.Unparen envelope refusal.NotAssignable = all_bare envelope.tree ≡ false
+IsCauseOf command.Unparen envelope _ = ⊥
+IsCauseOf command.Fix envelope refusal.NotAssignable = all_bare envelope.tree ≡ false
+IsCauseOf command.Fix envelope _ = ⊥
+IsCauseOf command.Chain envelope refusal.MarksSpent = TakesTooManyMarks envelope
+IsCauseOf command.Chain envelope refusal.CounterSpent = IsSpentOnceResolved envelope
+IsCauseOf command.Chain envelope refusal.NotAssignable = IsUnassignableOnceRenamed envelope
+IsCauseOf command.Chain envelope refusal.NoMemory = ⊥
+IsCauseOf command.Chain envelope refusal.TypesLeft = ⊥
 
--- memory was refused, or the command's pass for its own cause
+-- memory was refused, or a pass of the command for its own cause
+abbrev pub IsCausedFor : Command → Envelope → PassError → Type 0
+IsCausedFor c envelope error = (error ≡ refusal.NoMemory) ⊎ IsCauseOf c envelope error
+
+-- types stand in the tree, and the command takes none
+abbrev pub refuses_types : Command → Envelope → Bool
+refuses_types command.Resolve envelope = false
+refuses_types c envelope = has_types envelope.tree
+
+-- why the command may be refused on an envelope, beside want of memory: for its types; or it takes those, and it is for another
+-- cause
+abbrev pub IsRefusalOf : Command → Envelope → PassError → Type 0
+IsRefusalOf c envelope refusal.TypesLeft = refuses_types c envelope ≡ true
+IsRefusalOf c envelope error = (refuses_types c envelope ≡ false) × IsCauseOf c envelope error
+
+-- memory was refused, or the command
 abbrev pub IsRefusedFor : Command → Envelope → PassError → Type 0
 IsRefusedFor c envelope error = (error ≡ refusal.NoMemory) ⊎ IsRefusalOf c envelope error
 

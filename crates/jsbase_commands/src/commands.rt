@@ -1,9 +1,10 @@
 //! From the bytes of an envelope to the bytes of an envelope.
-ghost use Rattle.std.specs.Prelude.{◌≡◌, ◌≢◌, Some, MatchResult, string_bytes};
+ghost use Rattle.std.specs.Prelude.{◌≡◌, ◌≢◌, Some, false, MatchResult, string_bytes};
 ghost use Rattle.swc_tree_scoping.specs.declared.places.Scope.TheVariants as scope;
 ghost use Rattle.swc_tree_scoping.specs.Places.{opened, program_place};
+ghost use Rattle.swc_tree_spaces.specs.Spaces.{has_types as has_any_types};
 ghost use Rattle.swc_base_resolver_program.specs.Marked.{MarksOk};
-ghost use Rattle.jsbase_commands.specs.Run.{class_of as class_in, config_by, Makes, Does, IsChained, IsRunFault, IsMadeHygienic, IsResolved, IsFixed, IsUnparened, IsRefusedFor, IsReadFault};
+ghost use Rattle.jsbase_commands.specs.Run.{class_of as class_in, config_by, Makes, Does, IsChained, IsRunFault, IsMadeHygienic, IsResolved, IsFixed, IsUnparened, IsCausedFor, IsRefusedFor, IsReadFault, refuses_types};
 
 use crate::arguments::{Command, Kind};
 use crate::fault::Fault;
@@ -16,6 +17,7 @@ use swc_base_rename_program::hygiene_program;
 use swc_base_rename_substitution::Config;
 use swc_base_resolver_program::resolve_program;
 use swc_tree_comments::NoComments;
+use swc_tree_has_types::has_types;
 use swc_tree_marks::{Mark, PassError};
 use swc_tree_node::Class;
 
@@ -27,7 +29,8 @@ use swc_tree_node::Class;
 /// # Errors
 ///
 /// `NotATree` with the path of the first fault where the input is no envelope with a tree of the kind;
-/// `Refused` where the command's pass is refused, or memory is. Never `Usage`.
+/// `Refused` where declarations of types stand in the tree and the command takes none, as all but `Resolve`; and where the
+/// command's pass is refused, or memory is. Never `Usage`.
 pub fn run(alloc: Global, command: Command, kind: Kind, input: &[u8]) -> Result<Vec<u8>, Fault>
     ensures { MatchResult result (λ output. Makes command kind input.now output.items) (IsRunFault command kind input.now) }
 {
@@ -63,11 +66,36 @@ fn read_fault(alloc: Global, error: ReadError) -> Fault
     }
 }
 
-// The envelope that a command makes of an envelope.
+// The envelope that a command makes of an envelope. Declarations of types are looked for first.
 fn answer(alloc: Global, command: Command, envelope: Envelope) -> Result<String, PassError>
     requires program { opened program_place envelope.tree ≡ Some scope.Program }
     requires marks { MarksOk envelope.globals envelope.unresolved envelope.top }
     ensures { MatchResult result (λ text. Does command envelope (string_bytes text)) (IsRefusedFor command envelope) }
+{
+    if refuses_types(command, &envelope) {
+        return Err(PassError::TypesLeft);
+    }
+    make(alloc, command, envelope)
+}
+
+// Whether the command is refused for declarations of types in the tree.
+fn refuses_types(command: Command, envelope: &Envelope) -> bool
+    ensures { result ≡ refuses_types command envelope.now }
+{
+    match command {
+        Command::Resolve => false,
+        Command::Hygiene | Command::Unparen | Command::Fix | Command::Chain => {
+            has_types(&envelope.tree)
+        }
+    }
+}
+
+// What a command makes of an envelope whose types it takes.
+fn make(alloc: Global, command: Command, envelope: Envelope) -> Result<String, PassError>
+    requires program { opened program_place envelope.tree ≡ Some scope.Program }
+    requires marks { MarksOk envelope.globals envelope.unresolved envelope.top }
+    requires types { refuses_types command envelope ≡ false }
+    ensures { MatchResult result (λ text. Does command envelope (string_bytes text)) (IsCausedFor command envelope) }
 {
     match command {
         Command::Resolve => resolve(alloc, envelope),
@@ -82,7 +110,7 @@ fn answer(alloc: Global, command: Command, envelope: Envelope) -> Result<String,
 fn resolve(alloc: Global, envelope: Envelope) -> Result<String, PassError>
     requires program { opened program_place envelope.tree ≡ Some scope.Program }
     requires marks { MarksOk envelope.globals envelope.unresolved envelope.top }
-    ensures { MatchResult result (λ text. IsResolved envelope (string_bytes text)) (IsRefusedFor Command.Resolve envelope) }
+    ensures { MatchResult result (λ text. IsResolved envelope (string_bytes text)) (IsCausedFor Command.Resolve envelope) }
 {
     let Envelope {
         mut globals,
@@ -110,7 +138,8 @@ fn config(top_level_mark: Mark, keep_class_names: bool, ignore_eval: bool) -> Co
 
 // Gives the names of the program of an envelope anew, and clears its contexts.
 fn hygiene(alloc: Global, envelope: Envelope) -> Result<String, PassError>
-    ensures { MatchResult result (λ text. IsMadeHygienic envelope (string_bytes text)) (IsRefusedFor Command.Hygiene envelope) }
+    requires { has_any_types envelope.tree ≡ false }
+    ensures { MatchResult result (λ text. IsMadeHygienic envelope (string_bytes text)) (IsCausedFor Command.Hygiene envelope) }
 {
     let Envelope {
         globals,
@@ -128,7 +157,8 @@ fn hygiene(alloc: Global, envelope: Envelope) -> Result<String, PassError>
 
 // Takes the parentheses off the program of an envelope.
 fn unparen(alloc: Global, envelope: Envelope) -> Result<String, PassError>
-    ensures { MatchResult result (λ text. IsUnparened envelope (string_bytes text)) (IsRefusedFor Command.Unparen envelope) }
+    requires { has_any_types envelope.tree ≡ false }
+    ensures { MatchResult result (λ text. IsUnparened envelope (string_bytes text)) (IsCausedFor Command.Unparen envelope) }
 {
     let Envelope {
         globals,
@@ -144,7 +174,8 @@ fn unparen(alloc: Global, envelope: Envelope) -> Result<String, PassError>
 
 // Sets the parentheses of the program of an envelope anew.
 fn fix(alloc: Global, envelope: Envelope) -> Result<String, PassError>
-    ensures { MatchResult result (λ text. IsFixed envelope (string_bytes text)) (IsRefusedFor Command.Fix envelope) }
+    requires { has_any_types envelope.tree ≡ false }
+    ensures { MatchResult result (λ text. IsFixed envelope (string_bytes text)) (IsCausedFor Command.Fix envelope) }
 {
     let Envelope {
         globals,
@@ -162,7 +193,8 @@ fn fix(alloc: Global, envelope: Envelope) -> Result<String, PassError>
 fn chain(alloc: Global, envelope: Envelope) -> Result<String, PassError>
     requires program { opened program_place envelope.tree ≡ Some scope.Program }
     requires marks { MarksOk envelope.globals envelope.unresolved envelope.top }
-    ensures { MatchResult result (λ text. IsChained envelope (string_bytes text)) (IsRefusedFor Command.Chain envelope) }
+    requires types { has_any_types envelope.tree ≡ false }
+    ensures { MatchResult result (λ text. IsChained envelope (string_bytes text)) (IsCausedFor Command.Chain envelope) }
 {
     let Envelope {
         mut globals,

@@ -1,11 +1,16 @@
 -- What is promised of an answer, by the laws of chaining and of the fixer.
-use Rattle.std.proofs.Common.{◌≡◌, ℕ, List, Ok, IsTrue, inl, inr, refl}
+use Rattle.std.proofs.Common.{◌≡◌, false, ℕ, List, Ok, IsTrue, inl, inr, refl}
 use Rattle.swc_tree_marks.specs.declared.error.PassError.{PassError}
 use Rattle.swc_tree_marks.specs.declared.error.PassError.TheVariants as refusal
 use Rattle.swc_tree_node.specs.declared.kind.Class.{Class}
 use Rattle.swc_tree_node.specs.declared.slot.Content.TheVariants as content
 use Rattle.swc_tree_node.specs.declared.slot.Slot.TheVariants as slot
+use Rattle.swc_tree_node.specs.declared.node.Node.{Node}
 use Rattle.swc_tree_node.specs.Fits.{Fits}
+use Rattle.swc_tree_marks.specs.Globals.{Table}
+use Rattle.swc_tree_scoping.specs.Resolved.{Resolved}
+use Rattle.swc_tree_spaces.specs.Spaces.{has_types}
+use Rattle.swc_tree_spaces_laws.specs.Laws.{ResolvedAlike, TypesAreTold}
 use Rattle.swc_tree_grammar.specs.Fixed.{recorded}
 use Rattle.swc_tree_grammar.specs.Pairs.{pairs}
 use Rattle.swc_tree_grammar.specs.Places.{is_open}
@@ -24,7 +29,7 @@ use Rattle.jsbase_commands.specs.declared.arguments.Command.TheVariants as comma
 use Rattle.jsbase_commands.specs.declared.arguments.Kind.{Kind}
 use Rattle.jsbase_commands.specs.declared.arguments.Kind.TheVariants as kind
 use Rattle.jsbase_commands.specs.declared.fault.Fault.TheVariants.{Usage, Refused, NotATree}
-use Rattle.jsbase_commands.specs.Run.{Does, IsRefusalOf, class_of, config_of}
+use Rattle.jsbase_commands.specs.Run.{Does, IsRefusalOf, ResolvesTo, class_of, config_of}
 use Rattle.jsbase_engine.specs.Run.{Keeps, SparesTargets}
 use Rattle.jsbase_engine.specs.Laws.{PromisesAreKept, TargetsAreSpared}
 
@@ -36,17 +41,21 @@ takes_pairs kind.Script = refl
 fits_its_class : (class : Class) (input : List ℕ) (envelope : Envelope) → envelope_in_text class input ≡ Ok envelope → Fits envelope.tree (slot.One (content.Node class))
 fits_its_class class input envelope is = let read = bound (text_in input) (envelope_in class) envelope is in envelope_fits class read.0 envelope read.2
 
-module _ (envelope : Envelope) (ok : MarksOk envelope.globals envelope.unresolved envelope.top) where
+module _ (told : TypesAreTold) (alike : ResolvedAlike) (envelope : Envelope) (ok : MarksOk envelope.globals envelope.unresolved envelope.top) where
+  -- where no types stand in the tree, it is resolved over values alone
+  by_values : (table : Table) (t : Node) → has_types envelope.tree ≡ false → ResolvesTo envelope table t → Resolved envelope.unresolved envelope.top envelope.globals table envelope.tree t
+  by_values table t none r = (alike envelope.unresolved envelope.top envelope.globals table envelope.tree t ((told envelope.tree).0 none)).1 r
+
   kept : ChainingKeepsSources → ChainChangesNothing → AnswersKeepPromises → (c : Command) (k : Kind) (output : List ℕ) → Fits envelope.tree (slot.One (content.Node (class_of k)))
       → (done : Does c envelope output) → Keeps c k envelope output done
   unfolding answer_to
   kept chaining changing fixing command.Chain kind.Module output fits done = record {
     promises = λ source.
         (chaining (config_of envelope) (recorded (pairs done.renamed)) envelope.unresolved envelope.top envelope.globals done.table envelope.tree done.is_renamed.between done.renamed fits source ok.0.1
-        done.is_renamed.resolved done.is_renamed.hygienic).0;
+        (by_values done.table done.is_renamed.between done.no_types done.is_renamed.resolved) done.is_renamed.hygienic).0;
     again = λ answered keeps.
         changing done.table (config_of envelope) envelope.tree done.is_renamed.between done.renamed envelope.unresolved envelope.top envelope.globals done.table answered keeps ok.0.1
-        done.is_renamed.resolved done.is_renamed.hygienic;
+        (by_values done.table done.is_renamed.between done.no_types done.is_renamed.resolved) done.is_renamed.hygienic;
   }
   kept chaining changing fixing command.Chain kind.Script output fits done = tt
   kept chaining changing fixing command.Fix k output fits done = fixing envelope.tree (slot.One (content.Node (class_of k))) (takes_pairs k) fits
@@ -56,12 +65,13 @@ module _ (envelope : Envelope) (ok : MarksOk envelope.globals envelope.unresolve
 
   no_target : ChainingKeepsSources → Fits envelope.tree (slot.One (content.Node (class_of kind.Module))) → (e : PassError) → IsRefusalOf command.Chain envelope e
       → SparesTargets command.Chain kind.Module envelope e
-  no_target chaining fits refusal.NotAssignable (table, renamed, is, bare) source same =
-      let stands = (chaining (config_of envelope) (recorded (pairs renamed)) envelope.unresolved envelope.top envelope.globals table envelope.tree is.between renamed fits source ok.0.1 is.resolved is.hygienic).1 in
+  no_target chaining fits refusal.NotAssignable (none, (table, renamed, is, bare)) source same =
+      let stands = (chaining (config_of envelope) (recorded (pairs renamed)) envelope.unresolved envelope.top envelope.globals table envelope.tree is.between renamed fits source ok.0.1 (by_values table is.between none is.resolved) is.hygienic).1 in
       absurd (cc)
   no_target chaining fits refusal.MarksSpent h source same = absurd (cc same)
   no_target chaining fits refusal.CounterSpent h source same = absurd (cc same)
   no_target chaining fits refusal.NoMemory h source same = absurd (cc same)
+  no_target chaining fits refusal.TypesLeft h source same = absurd (cc same)
 
   spared : ChainingKeepsSources → (c : Command) (k : Kind) (e : PassError) → Fits envelope.tree (slot.One (content.Node (class_of k))) → IsRefusalOf c envelope e → SparesTargets c k envelope e
   spared chaining command.Chain kind.Module e fits h = no_target chaining fits e h
@@ -71,13 +81,13 @@ module _ (envelope : Envelope) (ok : MarksOk envelope.globals envelope.unresolve
   spared chaining command.Hygiene k e fits h = tt
   spared chaining command.Unparen k e fits h = tt
 
-pub promises_are_kept : ChainingKeepsSources → ChainChangesNothing → AnswersKeepPromises → PromisesAreKept
-promises_are_kept chaining changing fixing c k input output (envelope, is, done) =
-    (envelope, is, done, kept envelope (envelope_marks (class_of k) input envelope is) chaining changing fixing c k output (fits_its_class (class_of k) input envelope is) done)
+pub promises_are_kept : TypesAreTold → ResolvedAlike → ChainingKeepsSources → ChainChangesNothing → AnswersKeepPromises → PromisesAreKept
+promises_are_kept told alike chaining changing fixing c k input output (envelope, is, done) =
+    (envelope, is, done, kept told alike envelope (envelope_marks (class_of k) input envelope is) chaining changing fixing c k output (fits_its_class (class_of k) input envelope is) done)
 
-pub targets_are_spared : ChainingKeepsSources → TargetsAreSpared
-targets_are_spared chaining c k input Usage h = h
-targets_are_spared chaining c k input (NotATree text) h = h
-targets_are_spared chaining c k input (Refused e) (inl memory) = inl memory
-targets_are_spared chaining c k input (Refused e) (inr (envelope, is, cause)) =
-    inr (envelope, is, cause, spared envelope (envelope_marks (class_of k) input envelope is) chaining c k e (fits_its_class (class_of k) input envelope is) cause)
+pub targets_are_spared : TypesAreTold → ResolvedAlike → ChainingKeepsSources → TargetsAreSpared
+targets_are_spared told alike chaining c k input Usage h = h
+targets_are_spared told alike chaining c k input (NotATree text) h = h
+targets_are_spared told alike chaining c k input (Refused e) (inl memory) = inl memory
+targets_are_spared told alike chaining c k input (Refused e) (inr (envelope, is, cause)) =
+    inr (envelope, is, cause, spared told alike envelope (envelope_marks (class_of k) input envelope is) chaining c k e (fits_its_class (class_of k) input envelope is) cause)

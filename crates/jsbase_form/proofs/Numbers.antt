@@ -11,7 +11,7 @@ use Rattle.swc_tree_node.specs.declared.kind.Word.TheVariants as word
 use Rattle.swc_tree_node.specs.Table.{kind_number, name_of, word_number, spelling_of}
 
 kinds : List Kind
-kinds = kind.Module ∷ kind.Script ∷ kind.ImportDecl ∷ kind.ImportNamedSpecifier ∷ kind.ImportDefaultSpecifier ∷ kind.ImportStarAsSpecifier ∷ kind.ExportDecl ∷ kind.NamedExport ∷ kind.ExportNamespaceSpecifier ∷ kind.ExportNamedSpecifier ∷ kind.ExportDefaultDecl ∷ kind.ExportDefaultExpr ∷ kind.ExportAll ∷ kind.Ident ∷ kind.BindingIdent ∷ kind.IdentName ∷ kind.PrivateName ∷ kind.Str ∷ kind.Bool ∷ kind.Null ∷ kind.Number ∷ kind.BigInt ∷ kind.Regex ∷ kind.TplElement ∷ kind.ThisExpr ∷ kind.Super ∷ kind.Import ∷ kind.MetaPropExpr ∷ kind.EmptyStmt ∷ kind.DebuggerStmt ∷ kind.BreakStmt ∷ kind.ContinueStmt ∷ kind.Function ∷ kind.Param ∷ kind.FnExpr ∷ kind.ArrowExpr ∷ kind.Class ∷ kind.ClassExpr ∷ kind.Constructor ∷ kind.ClassMethod ∷ kind.PrivateMethod ∷ kind.ClassProp ∷ kind.PrivateProp ∷ kind.StaticBlock ∷ kind.ComputedPropName ∷ kind.MethodProp ∷ kind.GetterProp ∷ kind.SetterProp ∷ kind.ArrayPat ∷ kind.RestPat ∷ kind.ObjectPat ∷ kind.AssignPat ∷ kind.KeyValuePatProp ∷ kind.AssignPatProp ∷ kind.ArrayLit ∷ kind.ExprOrSpread ∷ kind.ObjectLit ∷ kind.SpreadElement ∷ kind.KeyValueProp ∷ kind.UnaryExpr ∷ kind.UpdateExpr ∷ kind.BinExpr ∷ kind.AssignExpr ∷ kind.MemberExpr ∷ kind.SuperPropExpr ∷ kind.CondExpr ∷ kind.CallExpr ∷ kind.NewExpr ∷ kind.SeqExpr ∷ kind.ParenExpr ∷ kind.AwaitExpr ∷ kind.YieldExpr ∷ kind.Tpl ∷ kind.TaggedTpl ∷ kind.OptChainExpr ∷ kind.OptCall ∷ kind.ClassDecl ∷ kind.FnDecl ∷ kind.VarDecl ∷ kind.UsingDecl ∷ kind.VarDeclarator ∷ kind.BlockStmt ∷ kind.ExprStmt ∷ kind.WithStmt ∷ kind.ReturnStmt ∷ kind.ThrowStmt ∷ kind.LabeledStmt ∷ kind.IfStmt ∷ kind.SwitchStmt ∷ kind.SwitchCase ∷ kind.TryStmt ∷ kind.CatchClause ∷ kind.WhileStmt ∷ kind.DoWhileStmt ∷ kind.ForStmt ∷ kind.ForInStmt ∷ kind.ForOfStmt ∷ []
+kinds = kind.Module ∷ kind.Script ∷ kind.ImportDecl ∷ kind.ImportNamedSpecifier ∷ kind.ImportDefaultSpecifier ∷ kind.ImportStarAsSpecifier ∷ kind.ExportDecl ∷ kind.NamedExport ∷ kind.ExportNamespaceSpecifier ∷ kind.ExportNamedSpecifier ∷ kind.ExportDefaultDecl ∷ kind.ExportDefaultExpr ∷ kind.ExportAll ∷ kind.Ident ∷ kind.BindingIdent ∷ kind.IdentName ∷ kind.PrivateName ∷ kind.Str ∷ kind.Bool ∷ kind.Null ∷ kind.Number ∷ kind.BigInt ∷ kind.Regex ∷ kind.TplElement ∷ kind.ThisExpr ∷ kind.Super ∷ kind.Import ∷ kind.MetaPropExpr ∷ kind.EmptyStmt ∷ kind.DebuggerStmt ∷ kind.BreakStmt ∷ kind.ContinueStmt ∷ kind.Function ∷ kind.Param ∷ kind.FnExpr ∷ kind.ArrowExpr ∷ kind.Class ∷ kind.ClassExpr ∷ kind.Constructor ∷ kind.ClassMethod ∷ kind.PrivateMethod ∷ kind.ClassProp ∷ kind.PrivateProp ∷ kind.StaticBlock ∷ kind.ComputedPropName ∷ kind.MethodProp ∷ kind.GetterProp ∷ kind.SetterProp ∷ kind.ArrayPat ∷ kind.RestPat ∷ kind.ObjectPat ∷ kind.AssignPat ∷ kind.KeyValuePatProp ∷ kind.AssignPatProp ∷ kind.ArrayLit ∷ kind.ExprOrSpread ∷ kind.ObjectLit ∷ kind.SpreadElement ∷ kind.KeyValueProp ∷ kind.UnaryExpr ∷ kind.UpdateExpr ∷ kind.BinExpr ∷ kind.AssignExpr ∷ kind.MemberExpr ∷ kind.SuperPropExpr ∷ kind.CondExpr ∷ kind.CallExpr ∷ kind.NewExpr ∷ kind.SeqExpr ∷ kind.ParenExpr ∷ kind.AwaitExpr ∷ kind.YieldExpr ∷ kind.Tpl ∷ kind.TaggedTpl ∷ kind.OptChainExpr ∷ kind.OptCall ∷ kind.ClassDecl ∷ kind.FnDecl ∷ kind.VarDecl ∷ kind.UsingDecl ∷ kind.VarDeclarator ∷ kind.BlockStmt ∷ kind.ExprStmt ∷ kind.WithStmt ∷ kind.ReturnStmt ∷ kind.ThrowStmt ∷ kind.LabeledStmt ∷ kind.IfStmt ∷ kind.SwitchStmt ∷ kind.SwitchCase ∷ kind.TryStmt ∷ kind.CatchClause ∷ kind.WhileStmt ∷ kind.DoWhileStmt ∷ kind.ForStmt ∷ kind.ForInStmt ∷ kind.ForOfStmt ∷ kind.TsInterfaceDecl ∷ kind.TsTypeAliasDecl ∷ kind.TsTypeParam ∷ kind.TsEnumDecl ∷ kind.TsEnumMember ∷ kind.TsModuleDecl ∷ kind.TsKeywordType ∷ kind.TsTypeRef ∷ kind.TsArrayType ∷ kind.TsUnionType ∷ kind.TsTypeLit ∷ kind.TsPropertySignature ∷ kind.TsQualifiedName ∷ []
 
 kind_back : (x : Kind) → slice_index_or kinds (kind_number x) kind.Module ≡ x
 unfolding kinds

@@ -109,5 +109,18 @@ pub fn order_of(kind: Kind) -> &'static [usize]
         Kind::ForStmt => &[4, 1, 0, 2, 5, 3],
         Kind::ForInStmt => &[3, 1, 2, 0, 4],
         Kind::ForOfStmt => &[4, 1, 2, 3, 0, 5],
+        Kind::TsInterfaceDecl => &[4, 3, 1, 0, 5, 2],
+        Kind::TsTypeAliasDecl => &[1, 0, 4, 3, 2],
+        Kind::TsTypeParam => &[2, 3, 1, 0, 4],
+        Kind::TsEnumDecl => &[1, 2, 0, 3],
+        Kind::TsEnumMember => &[1, 2, 0, 3],
+        Kind::TsModuleDecl => &[2, 1, 0, 3],
+        Kind::TsKeywordType => &[1, 0, 2],
+        Kind::TsTypeRef => &[1, 0, 3, 2],
+        Kind::TsArrayType => &[1, 0, 2],
+        Kind::TsUnionType => &[0, 2, 1],
+        Kind::TsTypeLit => &[1, 0, 2],
+        Kind::TsPropertySignature => &[1, 2, 0, 4, 3],
+        Kind::TsQualifiedName => &[1, 2, 0, 3],
     }
 }

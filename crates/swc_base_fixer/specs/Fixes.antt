@@ -7,6 +7,8 @@ use Rattle.swc_tree_modules.specs.declared.script.Script.{Script}
 use Rattle.swc_tree_modules.specs.Nodes.{module_node, script_node}
 use Rattle.swc_tree_node.specs.declared.node.Node.{Node}
 use Rattle.swc_tree_grammar.specs.Targets.{all_bare}
+use Rattle.swc_tree.specs.Types.{IsMade}
+use Rattle.swc_tree_spaces.specs.Spaces.{has_types}
 use Rattle.swc_base_fixer_unparen.specs.Moves.{LeadTo, Moving}
 use Rattle.swc_base_fixer_program.specs.Answers.{answer_to, moves_for}
 use Rattle.swc_base_fixer.specs.Lent.{Behind}
@@ -22,8 +24,9 @@ module _ {C : Type 0} (R : Moving C) where
     pub table : new ≡ old
     pub promises : Promises before after
 
+  -- so it is of a program in which no types stand
   abbrev pub Fixes : Option (MutBor C) → Table → Module → Option (MutBor C) → Table → Module → Type 0
-  Fixes lent old before kept new after = FixesNode lent old (module_node before) kept new (module_node after)
+  Fixes lent old before kept new after = IsMade (has_types (module_node before)) (FixesNode lent old (module_node before) kept new (module_node after))
 
   abbrev pub FixesScript : Option (MutBor C) → Table → Script → Option (MutBor C) → Table → Script → Type 0
-  FixesScript lent old before kept new after = FixesNode lent old (script_node before) kept new (script_node after)
+  FixesScript lent old before kept new after = IsMade (has_types (script_node before)) (FixesNode lent old (script_node before) kept new (script_node after))

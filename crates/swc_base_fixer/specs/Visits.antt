@@ -8,6 +8,8 @@ use Rattle.swc_tree_modules.specs.Nodes.{module_node, script_node}
 use Rattle.swc_tree_node.specs.declared.node.Node.{Node}
 use Rattle.swc_tree_grammar.specs.Pairs.{moves}
 use Rattle.swc_tree_grammar.specs.Targets.{all_bare}
+use Rattle.swc_tree.specs.Types.{IsMade}
+use Rattle.swc_tree_spaces.specs.Spaces.{has_types}
 use Rattle.swc_base_fixer_unparen.specs.Moves.{LeadTo, Moving}
 use Rattle.swc_base_fixer.specs.Lent.{Behind}
 use Rattle.swc_base_fixer.specs.Unparened.{Unparened}
@@ -20,8 +22,9 @@ module _ {C : Type 0} (R : Moving C) where
     pub comments : Behind (λ c d. LeadTo R c (moves before) d) lent kept
     pub table : new ≡ old
 
+  -- so it is of a program in which no types stand
   abbrev pub Unparens : Option (MutBor C) → Table → Module → Option (MutBor C) → Table → Module → Type 0
-  Unparens lent old before kept new after = UnparensNode lent old (module_node before) kept new (module_node after)
+  Unparens lent old before kept new after = IsMade (has_types (module_node before)) (UnparensNode lent old (module_node before) kept new (module_node after))
 
   abbrev pub UnparensScript : Option (MutBor C) → Table → Script → Option (MutBor C) → Table → Script → Type 0
-  UnparensScript lent old before kept new after = UnparensNode lent old (script_node before) kept new (script_node after)
+  UnparensScript lent old before kept new after = IsMade (has_types (script_node before)) (UnparensNode lent old (script_node before) kept new (script_node after))

@@ -9,7 +9,7 @@ use std::hash::{BuildHasher, DefaultHasher, Hash, Hasher};
 use swc_tree_grammar::Pair;
 use swc_tree_marks::Span;
 
-/// The span of what stands in a pair. It is hashed as one word, which costs half of what its two numbers would.
+/// The span of what stands in a pair. It is hashed as one word.
 #[derive(Clone, Copy, PartialEq, Eq)]
 pub struct Content {
     pub span: Span,

@@ -36,7 +36,7 @@ fn settle_fields(
     }
     for i in 0..fields.len() {
         let ask = row.at(i);
-        // Few fields get a pair: the others stay where they are.
+        // A field that gets no pair stays where it is.
         if stays(ask, &fields.as_slice()[i]) {
             continue;
         }

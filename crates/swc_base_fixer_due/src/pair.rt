@@ -10,7 +10,8 @@ use swc_tree_grammar::span_of;
 use swc_tree_items::Items;
 use swc_tree_node::{Kind, Node};
 
-/// The expression in a pair of parentheses.
+/// The expression in a pair of parentheses. It is kept out of the walks, which thus have little to do where none is due.
+#[inline(never)]
 pub fn pair(alloc: Global, recorded: &Record, expr: Node) -> Result<Node, AllocError>
     ensures { IfOk result (λ t. t ≡ paired (place_in recorded.now) expr) }
 {

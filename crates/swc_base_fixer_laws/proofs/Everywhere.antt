@@ -141,6 +141,10 @@ module _ {holds : Node → Bool} {own : Kind → List Node → Bool} (test : Eve
   row kind.ExportDecl (more a _ (more _ x none)) r h = let p = half h in also (a refl) (also (x.by_sound r p.1) refl)
   row kind.Module (more a _ (more _ x (more b _ none))) r h = also (a refl) (also (x.by_sound (strictly true r) h) (also (b refl) refl))
   row kind.Script (more a _ (more _ x (more b _ none))) r h = let p = half h in also (a refl) (also (x.by_sound _ p.1) (also (b refl) refl))
+  row kind.TsInterfaceDecl d r h = absurd (cc)
+  row kind.TsTypeAliasDecl d r h = absurd (cc)
+  row kind.TsEnumDecl d r h = absurd (cc)
+  row kind.TsModuleDecl d r h = absurd (cc)
   row k d r h = all d (binding r) h
 
   head_row : (k : Kind) {ts : List Node} → Parts holds (slots_of k) ts → (r : Round) → in_head_in (Node-F.Tree k (map asked ts)) r ≡ true → list_all holds ts ≡ true

@@ -45,6 +45,10 @@ form_hidden kind.VarDecl ts h = absurd (cc)
 form_hidden kind.FnDecl ts h = absurd (cc)
 form_hidden kind.ClassDecl ts h = absurd (cc)
 form_hidden kind.UsingDecl ts h = absurd (cc)
+form_hidden kind.TsInterfaceDecl ts h = absurd (cc)
+form_hidden kind.TsTypeAliasDecl ts h = absurd (cc)
+form_hidden kind.TsEnumDecl ts h = absurd (cc)
+form_hidden kind.TsModuleDecl ts h = absurd (cc)
 form_hidden k ts h = refl
 
 form_rows : (k : Kind) (ts us : List Node) → FieldsSet (slots_of k) ts us → form_in (Node-F.Tree k us) ≡ form_in (Node-F.Tree k ts)

@@ -61,3 +61,4 @@ pub mod BareLevels
 pub mod BareHeads
 pub mod BareStarts
 pub mod AgainLaws
+pub mod NoNamespaces

@@ -62,6 +62,10 @@ form_hidden kind.VarDecl ts h = absurd (cc)
 form_hidden kind.FnDecl ts h = absurd (cc)
 form_hidden kind.ClassDecl ts h = absurd (cc)
 form_hidden kind.UsingDecl ts h = absurd (cc)
+form_hidden kind.TsInterfaceDecl ts h = absurd (cc)
+form_hidden kind.TsTypeAliasDecl ts h = absurd (cc)
+form_hidden kind.TsEnumDecl ts h = absurd (cc)
+form_hidden kind.TsModuleDecl ts h = absurd (cc)
 form_hidden k ts h = refl
 
 form_special : (k : Kind) (ts : List Node) → is_special k ≡ true → form_in (Node-F.Tree k ts) ≡ Ordinary
@@ -69,6 +73,10 @@ form_special kind.VarDecl ts h = absurd (cc)
 form_special kind.FnDecl ts h = absurd (cc)
 form_special kind.ClassDecl ts h = absurd (cc)
 form_special kind.UsingDecl ts h = absurd (cc)
+form_special kind.TsInterfaceDecl ts h = absurd (cc)
+form_special kind.TsTypeAliasDecl ts h = absurd (cc)
+form_special kind.TsEnumDecl ts h = absurd (cc)
+form_special kind.TsModuleDecl ts h = absurd (cc)
 form_special k ts h = refl
 
 form_rows : (k : Kind) (ts us : List Node) → FieldsRecast (slots_of k) ts us → form_in (Node-F.Tree k us) ≡ form_in (Node-F.Tree k ts)

@@ -255,6 +255,10 @@ row kind.Script (also_kept a _ _ (also_kept {t = t} {u = u} c f x (also_kept d g
     let p = half h in
     also (bool_at (λ t. list_all (λ t. not (is_using t)) (items_of t)) c (no_using_same c) p.0)
     (ap (λ b. sound u (strictly b r)) (same_at (λ t. has_use_strict (items_of t)) c (x.leads (strictly (has_use_strict (items_of (asked t).whole)) r) p.1)) ∙ x.keeps (strictly (has_use_strict (items_of (asked t).whole)) r) p.1)
+row kind.TsInterfaceDecl d r h = absurd (cc)
+row kind.TsTypeAliasDecl d r h = absurd (cc)
+row kind.TsEnumDecl d r h = absurd (cc)
+row kind.TsModuleDecl d r h = absurd (cc)
 row k d r h = all d (binding r) h
 
 head_row : (k : Kind) {ts us : List Node} → Kept (slots_of k) ts us → (r : Round) → in_head_in (Node-F.Tree k (map asked ts)) r ≡ true → in_head_in (Node-F.Tree k (map asked us)) r ≡ true

@@ -227,6 +227,10 @@ row kind.Script e (also_kept a _ _ (also_kept {t = t} {u = u} c f x (also_kept d
     let p = half h in
     also (at (λ t. list_all (λ t. not (is_using t)) (items_of t)) c (no_using_kept c) p.0)
     (ap (λ b. sound u (strictly b r)) (same_at (λ t. has_use_strict (items_of t)) c (strict_list c)) ∙ x.keeps (strictly (has_use_strict (items_of (asked t).whole)) r) p.1)
+row kind.TsInterfaceDecl e d r h = absurd (cc)
+row kind.TsTypeAliasDecl e d r h = absurd (cc)
+row kind.TsEnumDecl e d r h = absurd (cc)
+row kind.TsModuleDecl e d r h = absurd (cc)
 row k e d r h = all d (binding r) h
 
 head_row : (k : Kind) {ts us : List Node} → Kept (slots_of k) ts us → (r : Round) → in_head_in (Node-F.Tree k (map asked ts)) r ≡ true → in_head_in (Node-F.Tree k (map asked us)) r ≡ true

@@ -113,14 +113,22 @@ fn is_settled(node: &Node) -> bool
     )
 }
 
-// The same in place. Few nodes are not left as they are.
+// The same in place.
 fn settle_node(alloc: Global, node: &mut Node)
     requires { is_sequence_node node.old ≡ false }
     ensures { node.new ≡ strip_step (out-Node node.old) }
 {
-    if is_settled(node) {
-        return;
+    if !is_settled(node) {
+        settle_apart(alloc, node);
     }
+}
+
+// The same of a node that may not be left as it is. It is kept out of the walk, which thus has little to do elsewhere.
+#[inline(never)]
+fn settle_apart(alloc: Global, node: &mut Node)
+    requires { is_sequence_node node.old ≡ false }
+    ensures { node.new ≡ strip_step (out-Node node.old) }
+{
     match mem::replace(node, Node::Absent) {
         Node::Tree(kind, fields) => *node = settle(alloc, kind, fields),
         other => *node = other,
@@ -173,8 +181,9 @@ fn strip_all(alloc: Global, items: &mut Items<Node>) -> Result<(), AllocError>
     Ok(())
 }
 
-// A sequence, by its fields. All its items are gathered before any of them goes.
+// A sequence, by its fields. All its items are gathered before any of them goes. It is kept out of the walk, too.
 #[cycle(strip)]
+#[inline(never)]
 fn strip_sequence(alloc: Global, mut fields: Items<Node>) -> Result<Node, AllocError>
     requires { length fields ≡ 2 }
     ensures { IfOk result (λ t. t ≡ stripped (Tree kind.SeqExpr fields)) }

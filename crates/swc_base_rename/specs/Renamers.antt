@@ -3,7 +3,9 @@ use Rattle.std.specs.Prelude.{◌≡◌, ℕ, Bool, List}
 use Rattle.swc_tree_marks.specs.declared.error.PassError.{PassError}
 use Rattle.swc_tree_marks.specs.Globals.{Table}
 use Rattle.swc_tree_node.specs.declared.node.Node.{Node}
+use Rattle.swc_tree.specs.Types.{IsDeclined, IsMade}
 use Rattle.swc_tree_scoping.specs.BoundNames.{Id}
+use Rattle.swc_tree_spaces.specs.Spaces.{has_types}
 use Rattle.swc_base_rename_analysis.specs.Named.{Renaming}
 use Rattle.swc_base_rename_program.specs.Renamed.{IsRenameRefusal, IsRenamedBy}
 use Rattle.swc_base_rename_naming.specs.Counters.{greatest}
@@ -36,3 +38,10 @@ module _ {X : Type 0} (text : X → Id → ℕ → List ℕ) (preserved : X → 
     pub once : asked pass.renamer before kept.renamer
     pub same : kept.config ≡ pass.config
     pub marks : new ≡ old
+
+  -- so it is of a program in which no types stand; where some do, they are to blame, and the renamer was not asked
+  abbrev pub RenamesProgram : RenamePass X → Table → Node → RenamePass X → Table → Node → Type 0
+  RenamesProgram pass old before kept new after = IsMade (has_types before) (RenamesNames pass old before kept new after)
+
+  abbrev pub RefusesProgram : RenamePass X → Table → Node → RenamePass X → Table → PassError → Type 0
+  RefusesProgram pass old before kept new e = IsDeclined (has_types before) pass old kept new e (RefusesNames pass old before kept new e)

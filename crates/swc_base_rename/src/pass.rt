@@ -45,6 +45,12 @@ pub fn remap(map: &HashMap<Id, Id>, config: Config) -> RenameWith<'_>
 }
 
 impl ProgramPass for RenameWith<'_> {
+    ghost takes_types = { false };
+
+    fn takes_types(&self) -> bool {
+        false
+    }
+
     ghost makes = { RenamesNode };
 
     ghost declines = { λ pass old before kept new e. RefusesNode pass old kept new e };

@@ -41,8 +41,12 @@ parameters false = refl
 seen_too : (w : Place) (k : Kind) (b named : Bool) (i : ℕ) (a : ScopeKind) → own_kind w k b ≡ Some a → is_outside w k named i ≡ false → (k ≡ kind.ClassExpr) ⊎ (is_inside (view_from k i) ≡ true)
 seen_too w kind.Constructor b named i a e n = inr (ap (λ o. is_inside (cond o view.Outside (cond (is_at (Some 2) i) view.Parameters view.Whole))) n ∙ parameters (is_at (Some 2) i))
 seen_too w kind.GetterProp b named i a e n = inr (ap (λ o. is_inside (cond o view.Outside view.Whole)) n)
+seen_too w kind.TsModuleDecl b named i a e n = inr (ap (λ o. is_inside (cond o view.Outside view.Whole)) n)
 seen_too w kind.SetterProp b named i a e n = inr (ap (λ o. is_inside (cond o view.Outside (cond (is_at (Some 2) i) view.Parameters view.Whole))) n ∙ parameters (is_at (Some 2) i))
 seen_too w kind.SwitchStmt b named i a e n = absurd (cc)
+seen_too w kind.TsInterfaceDecl b named i a e n = absurd (cc)
+seen_too w kind.TsTypeAliasDecl b named i a e n = absurd (cc)
+seen_too w kind.TsEnumDecl b named i a e n = absurd (cc)
 seen_too w kind.ClassExpr b named i a e n = inl refl
 seen_too w kind.Function b named i a e n = inr (parameters (is_at (Some 1) i))
 seen_too w kind.ArrowExpr b named i a e n = inr (parameters (is_at (Some 1) i))

@@ -46,9 +46,10 @@ block_same _ o e = some_same e
 
 abbrev is_switch : Scope → Bool
 is_switch scope.Switch = true
+is_switch scope.Types = true
 is_switch _ = false
 
--- only a `switch` opens the scope of its cases
+-- only a `switch` opens the scope of its cases, and only a type or an enum that of types
 no_cases : (w : Place) (k : Kind) (b : Bool) (s : Scope) → opened_as w k b ≡ Some s → is_left_out k ≡ false → is_switch s ≡ false
 no_cases w kind.Module b s e n = ap is_switch (sym (some_same e))
 no_cases w kind.Script b s e n = ap is_switch (sym (some_same e))
@@ -65,8 +66,12 @@ no_cases w kind.ForInStmt b s e n = ap is_switch (sym (some_same e))
 no_cases w kind.ForOfStmt b s e n = ap is_switch (sym (some_same e))
 no_cases w kind.CatchClause b s e n = ap is_switch (sym (some_same e))
 no_cases w kind.StaticBlock b s e n = ap is_switch (sym (some_same e))
+no_cases w kind.TsModuleDecl b s e n = ap is_switch (sym (some_same e))
 no_cases w kind.FnDecl b s e n = impossible (sym n)
 no_cases w kind.SwitchStmt b s e n = impossible (sym n)
+no_cases w kind.TsInterfaceDecl b s e n = impossible (sym n)
+no_cases w kind.TsTypeAliasDecl b s e n = impossible (sym n)
+no_cases w kind.TsEnumDecl b s e n = impossible (sym n)
 no_cases w _ b s e n = absurd (cc)
 
 -- any other is one of the analysis
@@ -80,6 +85,8 @@ kind_there scope.Block n = (Block, refl)
 kind_there scope.For n = (Block, refl)
 kind_there scope.Catch n = (Block, refl)
 kind_there scope.Switch n = impossible (sym n)
+kind_there scope.Types n = impossible (sym n)
+kind_there scope.Namespace n = (Fn, refl)
 
 own_there : (w : Place) (k : Kind) (b : Bool) (s : Scope) → opened_as w k b ≡ Some s → is_left_out k ≡ false → (a : ScopeKind) × (own_kind w k b ≡ Some a)
 own_there w kind.ClassExpr b s e n = (Fn, refl)
@@ -90,6 +97,7 @@ own_there w k b s e n = let (a, h) = kind_there s (no_cases w k b s e n) in (a, 
 key_seen : (k : Kind) (i : ℕ) → is_at (key_field k) i ≡ true → is_inside (view_from k i) ≡ false
 key_seen kind.Constructor i h = ap (λ b. is_inside (cond b view.Outside (cond (is_at (Some 2) i) view.Parameters view.Whole))) h
 key_seen kind.GetterProp i h = ap (λ b. is_inside (cond b view.Outside view.Whole)) h
+key_seen kind.TsModuleDecl i h = ap (λ b. is_inside (cond b view.Outside view.Whole)) h
 key_seen kind.SetterProp i h = ap (λ b. is_inside (cond b view.Outside (cond (is_at (Some 2) i) view.Parameters view.Whole))) h
 key_seen _ i h = impossible h
 

@@ -96,6 +96,14 @@ field_walked k ts p i c there w is_place o below is_below l =
 pub no_field_walked : (k : Kind) (ts : List Node) (places : ℕ → Place) (i : ℕ) → slice_get ts i ≡ None → (o : Outside) (l : Laid) → walk_field k ts (walks_at places ts) i o l ≡ l
 no_field_walked k ts places i none o l = ap (λ t. goes (option_map (walk_in (places i)) t) (round_field k ts o i) l) none
 
+pub nameless_but_walked : (k : Kind) (ts : List Node) (places : ℕ → Place) (but : Option ℕ) (i : ℕ) (c : Node) → slice_get ts i ≡ Some c → may_hold_names c ≡ false
+    → (o : Outside) (l : Laid) → l ≡ walk_but k ts (walks_at places ts) but i o l
+nameless_but_walked k ts places but i c there nameless o l = skipped (is_at but i)
+  where
+    skipped : (b : Bool) → l ≡ cond b l (walk_field k ts (walks_at places ts) i o l)
+    skipped true = refl
+    skipped false = nameless_field_walked k ts places i c there nameless o l
+
 -- there is a turn past the last field, or it would be that of no field
 past_turns : (k : Kind) (n : ℕ) → (turns_of k n ≡ n + 1) ⊎ ((turns_of k n ≡ n) × (child_at k n ≡ n))
 past_turns kind.CatchClause n = inl refl

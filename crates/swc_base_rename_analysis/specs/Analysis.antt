@@ -18,6 +18,7 @@ use Rattle.swc_tree_node.specs.declared.kind.Kind.{Kind}
 use Rattle.swc_tree_node.specs.declared.kind.Kind.TheVariants as kind
 use Rattle.swc_tree_node.specs.declared.node.Node.{Node, out-Node}
 use Rattle.swc_tree_node.specs.declared.node.Node.TheOpen.{Node-F}
+use Rattle.swc_tree_node.specs.declared.fields.types.ts_module_decl.TheConstants as ts_module_decl
 use Rattle.swc_tree_scoping.specs.declared.places.Standing.{Standing}
 use Rattle.swc_tree_scoping.specs.declared.places.Standing.TheVariants as standing
 use Rattle.swc_tree_scoping.specs.declared.places.Place.{Place}
@@ -41,6 +42,8 @@ kind_of scope.Block = Some Block
 kind_of scope.For = Some Block
 kind_of scope.Catch = Some Block
 kind_of scope.Switch = None
+kind_of scope.Types = None
+kind_of scope.Namespace = Some Fn
 
 -- the scope that a node opens: a class expression one also without a name, a function declaration none also as a branch
 abbrev pub own_kind : Place → Kind → Bool → Option ScopeKind
@@ -68,6 +71,7 @@ abbrev pub key_field : Kind → Option ℕ
 key_field kind.Constructor = Some constructor.KEY
 key_field kind.GetterProp = Some getter_prop.KEY
 key_field kind.SetterProp = Some setter_prop.KEY
+key_field kind.TsModuleDecl = Some ts_module_decl.ID
 key_field _ = None
 
 abbrev pub is_default_export : Standing → Bool

@@ -41,11 +41,14 @@ EachTreesSitesAreInOrder = (t : Node) → SitesAreInOrder t
 abbrev pub CostIsOne : Type 0
 CostIsOne = (t : Node) (s : Path) (one other : ℕ) → RenameCost t s one → RenameCost t s other → one ≡ other
 
--- scopes of the language that are none of the analysis: the cases of a `switch`, and the block of a function that is a
--- branch of an `if`
+-- scopes of the language that are none of the analysis: the cases of a `switch`, the block of a function that is a branch of
+-- an `if`, and what an interface, an alias or an enum opens, where no name of a value is bound
 abbrev pub is_left_out : Kind → Bool
 is_left_out kind.SwitchStmt = true
 is_left_out kind.FnDecl = true
+is_left_out kind.TsInterfaceDecl = true
+is_left_out kind.TsTypeAliasDecl = true
+is_left_out kind.TsEnumDecl = true
 is_left_out _ = false
 
 -- a scope of the language that stands round a path is one of the analysis there

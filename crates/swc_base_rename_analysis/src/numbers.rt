@@ -55,7 +55,7 @@ pub struct Entries<'a> {
     pub entries: Vec<Entry>,
 }
 
-// An id by its hash first: two that differ are nearly always told apart by one comparison of numbers.
+// An id by its hash first: two whose hashes differ are told apart by one comparison of numbers.
 type Key<'a> = (u64, (&'a JsWord, &'a SyntaxContext));
 
 // How the id of an identifier is looked up.

@@ -6,6 +6,7 @@ ghost use Rattle.swc_base_rename_analysis.specs.Walk.{kind_opened, name_outside 
 
 use swc_tree_node::fields::{
     class_expr, constructor, for_in_stmt, for_of_stmt, for_stmt, getter_prop, setter_prop,
+    ts_module_decl,
 };
 use swc_tree_node::{Kind, Node};
 use swc_tree_scoping::{Place, Scope, Standing};
@@ -28,9 +29,10 @@ fn kind_of(scope: Scope) -> Option<ScopeKind>
         | Scope::Function
         | Scope::FunctionName
         | Scope::ClassName
-        | Scope::StaticBlock => Some(ScopeKind::Fn),
+        | Scope::StaticBlock
+        | Scope::Namespace => Some(ScopeKind::Fn),
         Scope::Block | Scope::For | Scope::Catch => Some(ScopeKind::Block),
-        Scope::Switch => None,
+        Scope::Switch | Scope::Types => None,
     }
 }
 
@@ -85,6 +87,7 @@ pub fn key_field(kind: Kind) -> Option<usize>
         Kind::Constructor => Some(constructor::KEY),
         Kind::GetterProp => Some(getter_prop::KEY),
         Kind::SetterProp => Some(setter_prop::KEY),
+        Kind::TsModuleDecl => Some(ts_module_decl::ID),
         _ => None,
     }
 }

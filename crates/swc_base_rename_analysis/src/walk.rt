@@ -3,6 +3,7 @@ ghost use Rattle.std.specs.Prelude.{◌≡◌, ◌<◌, Some, IfOk, OnOk, length
 ghost use Rattle.std.specs.Option.{option_copied};
 ghost use Rattle.swc_tree_node.specs.declared.node.Node.{Tree};
 ghost use Rattle.swc_tree_scoping.specs.Below.{place_of, places_of};
+ghost use Rattle.swc_tree_scoping.specs.Places.{is_at};
 ghost use Rattle.swc_base_rename_analysis.specs.Preserved.{is_name_or_label as stands_so};
 ghost use Rattle.swc_base_rename_analysis.specs.Walk.{child_at as is_child_at, laid_of, laid_out, outside_of, own_use, round_field as is_round_field, turns_of, walk_but as but_walked, walk_field as field_walked, walk_fields as fields_walked, walk_in, walk_items as items_walked, walk_name as name_walked, walk_optional as optional_walked, walk_scope as scope_walked, walks_at, walks_of};
 
@@ -263,7 +264,17 @@ fn walk_fields<'a>(
     Ok(())
 }
 
-// A field, unless it is that one.
+// Whether a field is that one.
+fn is_that(but: Option<usize>, index: usize) -> bool
+    ensures { result ≡ is_at but index }
+{
+    match but {
+        Some(but) => but == index,
+        None => false,
+    }
+}
+
+// A field, unless it is that one, if it is there and names may stand in it.
 #[cycle(walk)]
 fn walk_but<'a>(
     head: &Head,
@@ -275,10 +286,16 @@ fn walk_but<'a>(
 ) -> Result<(), AllocError>
     ensures { OnOk result (laid_of layout.new ≡ but_walked head.now.kind fields.now (walks_of head.now fields.now) but index (outside_of around.now) (laid_of layout.old)) }
 {
-    match but {
-        Some(but) if but == index => Ok(()),
-        _ => walk_field(head, fields, index, around, layout),
+    let Some(child) = fields.get(index) else {
+        return Ok(());
+    };
+    if !child.may_hold_names() {
+        return Ok(());
     }
+    if is_that(but, index) {
+        return Ok(());
+    }
+    walk_branch(head, fields, index, around, layout)
 }
 
 // What is round a field, beside its place.

@@ -10,6 +10,7 @@ use Rattle.swc_tree_node.specs.declared.fields.functions.class_expr.TheConstants
 use Rattle.swc_tree_node.specs.declared.fields.functions.constructor.TheConstants as constructor
 use Rattle.swc_tree_node.specs.declared.fields.functions.getter_prop.TheConstants as getter_prop
 use Rattle.swc_tree_node.specs.declared.fields.functions.setter_prop.TheConstants as setter_prop
+use Rattle.swc_tree_node.specs.declared.fields.types.ts_module_decl.TheConstants as ts_module_decl
 use Rattle.swc_tree_node.specs.declared.kind.Kind.{Kind}
 use Rattle.swc_tree_node.specs.declared.kind.Kind.TheVariants as kind
 use Rattle.swc_tree_node.specs.declared.node.Node.{Node, out-Node}
@@ -51,6 +52,7 @@ outside_first w kind.ClassExpr named i j h g = by (is_default_export w.standing)
 outside_first w kind.Constructor named i j h g = key_turn constructor.KEY i j h g
 outside_first w kind.GetterProp named i j h g = key_turn getter_prop.KEY i j h g
 outside_first w kind.SetterProp named i j h g = key_turn setter_prop.KEY i j h g
+outside_first w kind.TsModuleDecl named i j h g = key_turn ts_module_decl.ID i j h g
 outside_first w k named i j h g = impossible h
 
 -- how far the turns of the other fields are from their numbers
@@ -64,6 +66,7 @@ pub turn_shifted : (w : Place) (k : Kind) (named : Bool) (i : ℕ) → is_at (ou
 turn_shifted w kind.Constructor named i h = behind constructor.KEY i h
 turn_shifted w kind.GetterProp named i h = behind getter_prop.KEY i h
 turn_shifted w kind.SetterProp named i h = behind setter_prop.KEY i h
+turn_shifted w kind.TsModuleDecl named i h = behind ts_module_decl.ID i h
 turn_shifted w kind.CatchClause named i h = turn_is_number kind.CatchClause i refl ∙ omega arith
 turn_shifted w k named i h = omega arith
 
@@ -76,6 +79,7 @@ pub key_is_first : (k : Kind) (f : ℕ) → key_field k ≡ Some f → turn_in k
 key_is_first kind.Constructor f e = ap (λ b. cond b 0 (f + 2)) ((unsigned_Decides constructor.KEY f).1 (let same : Some constructor.KEY ≡ Some f = e in cc))
 key_is_first kind.GetterProp f e = ap (λ b. cond b 0 (f + 2)) ((unsigned_Decides getter_prop.KEY f).1 (let same : Some getter_prop.KEY ≡ Some f = e in cc))
 key_is_first kind.SetterProp f e = ap (λ b. cond b 0 (f + 2)) ((unsigned_Decides setter_prop.KEY f).1 (let same : Some setter_prop.KEY ≡ Some f = e in cc))
+key_is_first kind.TsModuleDecl f e = ap (λ b. cond b 0 (f + 2)) ((unsigned_Decides ts_module_decl.ID f).1 (let same : Some ts_module_decl.ID ≡ Some f = e in cc))
 key_is_first k f e = not_some e
 
 pub entered_second : (k : Kind) (ts : List Node) (f : ℕ) → key_field k ≡ Some f → entry (Node-F.Tree k ts) ≡ 1 ∷ []

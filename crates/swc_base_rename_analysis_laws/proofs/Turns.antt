@@ -35,6 +35,11 @@ keyed_opens f w kind.SetterProp b i e n = by f n
     by : (f : Bool) → body_kind f (kind_opened kind.SetterProp (opened_as w kind.SetterProp b)) ≡ None → ⊥
     by true n = impossible (sym n)
     by false n = impossible (sym n)
+keyed_opens f w kind.TsModuleDecl b i e n = by f n
+  where
+    by : (f : Bool) → body_kind f (kind_opened kind.TsModuleDecl (opened_as w kind.TsModuleDecl b)) ≡ None → ⊥
+    by true n = impossible (sym n)
+    by false n = impossible (sym n)
 keyed_opens f w k b i e n = impossible e
 
 -- the child whose turn it is has that turn, where there is no key
@@ -43,6 +48,7 @@ turn_is_number kind.CatchClause i e = body_first_twice i
 turn_is_number kind.Constructor i e = impossible (sym e)
 turn_is_number kind.GetterProp i e = impossible (sym e)
 turn_is_number kind.SetterProp i e = impossible (sym e)
+turn_is_number kind.TsModuleDecl i e = impossible (sym e)
 turn_is_number k i e = refl
 
 -- where there is one, the key has the first turn, and the others come two later than their numbers
@@ -50,4 +56,5 @@ pub turn_behind_key : (k : Kind) (f i : ℕ) → key_field k ≡ Some f → turn
 turn_behind_key kind.Constructor f i e = refl
 turn_behind_key kind.GetterProp f i e = refl
 turn_behind_key kind.SetterProp f i e = refl
+turn_behind_key kind.TsModuleDecl f i e = refl
 turn_behind_key k f i e = impossible e

@@ -50,6 +50,7 @@ use Rattle.swc_base_fixer_laws.proofs.AgainNormal.{normal_form_stays}
 use Rattle.swc_base_fixer_laws.proofs.AgainStill.{fits_well}
 use Rattle.swc_base_fixer_laws.proofs.Answer.{answer_fits_table}
 use Rattle.swc_base_fixer_laws.proofs.Fixed.{fixed_fits, targets_stand_bare}
+use Rattle.swc_base_fixer_laws.proofs.NoNamespaces.{writable_has_no_namespaces}
 use Rattle.swc_base_fixer_sites.proofs.Answers.{fits_module, stripping_answers_loses_none}
 use Rattle.swc_base_rename_substitution.specs.declared.config.Config.{Config}
 use Rattle.swc_base_rename_program.specs.Renamed.{IsHygienic, hygiene_renaming}
@@ -62,6 +63,7 @@ use Rattle.swc_base_rename_errors_laws.specs.Laws.{AnswerDeclaresByTheRules, Ans
 use Rattle.swc_base_rename_errors_laws.proofs.Listing.{Local, found}
 use Rattle.swc_tree_exports_laws.specs.Exported.{exported_locals}
 use Rattle.swc_tree_exports_laws.specs.Laws.{ProgramTakes}
+use Rattle.swc_base_resolver_laws.proofs.ExportLists.{lists_are_items}
 use Rattle.swc_tree_exports_laws.proofs.Paths.{export_lists_are_listed}
 use Rattle.swc_tree_exports_laws.proofs.Written.{stripped_exports_the_same, written_out_exports}
 use Rattle.swc_tree_scoping.specs.declared.places.Scope.{Scope}
@@ -327,7 +329,7 @@ module _ (apart : NamesAreApart) (texts : HygieneGivesNormalFormNewTexts) (stays
   exports_declared p name inside at =
       let b = bare after fits_after writable_after in
       let (l, y, e, is) = from_named by_text after p at.place at.kind at.identifier at.stands in
-      let own = export_lists_are_listed after fits_after p at.place l y (list_back by_text after p inside) e at.stands_so in
+      let own = export_lists_are_listed after fits_after (lists_are_items after fits_after (writable_has_no_namespaces after module_place fits_after writable_after)) p at.place l y (list_back by_text after p inside) e at.stands_so in
       let left_there = subst (In y) (sym (stripped_exports_the_same after fits_after b)) own in
       let written = (written_out_exports (stripped after) (stripped_fits after module_place b refl fits_after) (modules_tame after fits_after writable_after)).kept y left_there in
       let f = found K N y (sym given.normal.shape) (subst (λ t. In y (exported_locals t)) same_form written) in

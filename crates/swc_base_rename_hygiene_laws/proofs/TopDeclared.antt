@@ -16,13 +16,14 @@ use Rattle.swc_tree_scoping.specs.declared.places.Place.{Place}
 use Rattle.swc_tree_scoping.specs.declared.places.Scope.TheVariants as scope
 use Rattle.swc_tree_scoping.specs.Places.{Path, child, children_in, field_role, function_standing, given, has_own_name, is_plain_function, named, opened, opened_as, opened_in, own_block, place_at, place_below, place_in, program_place}
 use Rattle.swc_tree_scoping.specs.Scopes.{is_binding, rounds, seen_as, view_in}
-use Rattle.swc_tree_scoping.specs.BoundNames.{Id, declared_ids, declared_in, id_of, name_in}
+use Rattle.swc_tree_scoping.specs.BoundNames.{Id, bound_ids, declared_ids, declared_in, id_of, name_in}
 use Rattle.swc_tree_scoping.proofs.Under.{lower, place_under}
 use Rattle.swc_tree_grammar.specs.Writable.{is_bindable}
 use Rattle.swc_tree_grammar.proofs.Induction.{Each}
 use Rattle.swc_base_rename_analysis.specs.declared.scopes.ScopeKind.TheVariants.{Fn}
 use Rattle.swc_base_rename_analysis.specs.Analysis.{is_for_body, opened_round, scopes_below}
 use Rattle.swc_base_rename_laws.proofs.Impossible.{impossible}
+use Rattle.swc_base_rename_laws.proofs.WritableStaysNames.{binds, unbound}
 use Rattle.swc_base_rename_hygiene_laws.proofs.Apart.{AtTop}
 use Rattle.swc_base_rename_hygiene_laws.proofs.BindableNames.{no_arguments, no_eval}
 use Rattle.swc_base_rename_hygiene_laws.proofs.Found.{AllOf, Found, Patterns, lift, none_seen, patterns, tree_found, under}
@@ -62,6 +63,10 @@ no_inherited_using (suc zero) e = absurd (cc)
 no_inherited_using (suc (suc zero)) e = absurd (cc)
 no_inherited_using (suc (suc (suc i))) e = absurd (cc)
 
+-- what has no part that binds declares nothing
+none_found : (w : Place) (k : Kind) (ts : List Node) → binds k ≡ false → AllOf (Found w (Tree k ts)) (bound_ids (Tree k ts))
+none_found w k ts none = subst (AllOf (Found w (Tree k ts))) (sym (unbound k ts none)) tt
+
 decl_row : (k : Kind) (ts : List Node) → IsTrue (belongs k class.Decl) → (w : Place) → own_block w ≡ false → AllOf (Found w (Tree k ts)) (declared_in (Tree k ts) (Node-F.Tree k ts))
 decl_row kind.FnDecl [] b w e = tt
 decl_row kind.FnDecl (a ∷ ts) b w e = first_found w kind.FnDecl a ts (name_in (out-Node a)) refl refl refl (ap (λ b. named b scope.Block) e) (function_binding w (is_plain_function (slice_get ts 0)))
@@ -69,6 +74,10 @@ decl_row kind.ClassDecl [] b w e = tt
 decl_row kind.ClassDecl (a ∷ ts) b w e = first_found w kind.ClassDecl a ts (name_in (out-Node a)) refl refl refl refl refl
 decl_row kind.VarDecl ts b w e = tree_found w kind.VarDecl ts refl (every_pattern ts) (λ i r. absurd (no_inherited_var i r))
 decl_row kind.UsingDecl ts b w e = tree_found w kind.UsingDecl ts refl (every_pattern ts) (λ i r. absurd (no_inherited_using i r))
+decl_row kind.TsInterfaceDecl ts b w e = none_found w kind.TsInterfaceDecl ts refl
+decl_row kind.TsTypeAliasDecl ts b w e = none_found w kind.TsTypeAliasDecl ts refl
+decl_row kind.TsEnumDecl ts b w e = none_found w kind.TsEnumDecl ts refl
+decl_row kind.TsModuleDecl ts b w e = none_found w kind.TsModuleDecl ts refl
 decl_row k ts b w e = impossible b
 
 pub decl_found : (k : Kind) (ts : List Node) → IsTrue (belongs k class.Decl) → (w : Place) → own_block w ≡ false → AllOf (Found w (Tree k ts)) (declared_ids (Tree k ts))

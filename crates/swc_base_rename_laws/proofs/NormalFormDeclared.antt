@@ -438,6 +438,10 @@ declaration_of kind.VarDecl (x ∷ y ∷ z ∷ t ∷ ts) r b f u h = absurd f.1.
 declaration_of kind.VarDecl (x ∷ y ∷ z ∷ []) r b f u h =
     let l = listed z (content.Node class.VarDeclarator) f.1.1.0 in
     subst (λ z. Declares (Tree kind.VarDecl (x ∷ y ∷ z ∷ []))) (sym l.is) (variables_of x y l.items r l.fit (subst (λ z. sound (Tree kind.VarDecl (x ∷ y ∷ z ∷ [])) r ≡ true) l.is h))
+declaration_of kind.TsInterfaceDecl ts r b f u h = absurd (cc (sym (sound_tree kind.TsInterfaceDecl ts r) ∙ h))
+declaration_of kind.TsTypeAliasDecl ts r b f u h = absurd (cc (sym (sound_tree kind.TsTypeAliasDecl ts r) ∙ h))
+declaration_of kind.TsEnumDecl ts r b f u h = absurd (cc (sym (sound_tree kind.TsEnumDecl ts r) ∙ h))
+declaration_of kind.TsModuleDecl ts r b f u h = absurd (cc (sym (sound_tree kind.TsModuleDecl ts r) ∙ h))
 declaration_of k ts r b f u h = impossible b
 
 declares : (d : Node) (r : Round) → Fits d (slot.One (content.Node class.Decl)) → not (is_using d) ≡ true → sound d r ≡ true → Declares d

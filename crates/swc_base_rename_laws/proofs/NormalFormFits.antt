@@ -32,10 +32,12 @@ use Rattle.swc_base_rename_substitution.specs.Exports.{exported_ids, exported_in
 use Rattle.swc_base_rename_substitution.specs.Substituted.{if_changed, substituted}
 use Rattle.swc_base_rename_substitution.specs.Walk.{each_substituted, items_substituted}
 use Rattle.swc_base_rename_substitution.proofs.Equations.{substituted-Absent, substituted-Flag, substituted-Word, substituted-Text, substituted-Span, substituted_identifier, substituted_list}
+use Rattle.swc_tree_grammar_laws.proofs.Every.{every_list, every_tree}
+use Rattle.swc_base_fixer_laws.proofs.NoNamespaces.{is_free, is_other_in}
 use Rattle.swc_base_rename_laws.proofs.NormalFormPairs.{All, Alike, Becomes, Fields, Spot, Trees, even_property, flag_below, is_double, needed, part, spots, property}
 use Rattle.swc_base_rename_laws.proofs.NormalFormSame.{within_is}
 use Rattle.swc_base_rename_laws.proofs.NormalFormViews.{weaken}
-use Rattle.swc_base_rename_laws.proofs.NormalFormTable.{Row, allowed, allowed_there, fair, fair_content, fair_row, fields, is_plain, left, no_object, place_of_row, plain_tree, plain_within, right, rows_fair, tree_is}
+use Rattle.swc_base_rename_laws.proofs.NormalFormTable.{Row, allowed, allowed_there, fair, fair_content, fair_row, fields, is_plain, left, no_object, no_space, place_of_row, plain_tree, plain_within, right, rows_fair, tree_is}
 use Rattle.swc_base_rename_laws.proofs.Impossible.{impossible}
 
 -- ---- what fits
@@ -257,9 +259,9 @@ module _ (m : Changes) (declared : Node → List Id) where
       (e.0.0.0 f.1 (ps zero) (flag_below b f.2) (q zero f refl).0 (q zero f refl).1 (left (fair (flag_below b f.2) f.1) _ (left (fair_row b f) _ r)) h.0)
       (fields_begin fs (λ i. ps (suc i)) b ts (λ i. q (suc i)) (right (fair_row b f) _ r) h.1 e.1)
 
-  pub fields_at : (p : Place) (b : Bool) (k : Kind) (ts : List Node) → is_name p ≡ b → allowed b k ≡ true → no_object k ≡ true → FieldsFit (slots_of k) ts → Each Whole ts
+  pub fields_at : (p : Place) (b : Bool) (k : Kind) (ts : List Node) → is_name p ≡ b → allowed b k ≡ true → no_object k ≡ true → no_space k ≡ true → FieldsFit (slots_of k) ts → Each Whole ts
       → Fields m declared (spots b k) ts (fields m p k ts)
-  fields_at p b k ts n a o h e = fields_begin (fields_of k) (places false p k ts) b ts (λ i f g. place_of_row p b k ts i f n a o g) (rows_fair b k a) h e
+  fields_at p b k ts n a o v h e = fields_begin (fields_of k) (places false p k ts) b ts (λ i f g. place_of_row p b k ts i f n a o v g) (rows_fair b k a v) h e
 
   pub plain_one : (g : Bool) (s : Spot) (p : Place) (k : Kind) (ts us : List Node) → writes_out k ≡ false → fields m p k ts ≡ us → Trees m declared s k ts k us → B g s (Tree k ts) (substituted m false p (Tree k ts))
   plain_one g s p k ts us w e h = to g s _ _ _ (plain_tree m p k ts w ∙ ap (Tree k) e) (Becomes.tree g s k k ts us h)
@@ -271,7 +273,7 @@ module _ (m : Changes) (declared : Node → List Id) where
 
   pair_begins : (g b : Bool) (p : Place) (ts : List Node) → is_name p ≡ b → allowed b kind.ParenExpr ≡ true → FieldsFit (slots_of kind.ParenExpr) ts → Each Whole ts
       → B g (part b) (Tree kind.ParenExpr ts) (substituted m false p (Tree kind.ParenExpr ts))
-  pair_begins g true p ts n a f e = plain_one g (part true) p kind.ParenExpr ts _ refl refl (pair_fields ts _ (fields_at p true kind.ParenExpr ts n a refl f e))
+  pair_begins g true p ts n a f e = plain_one g (part true) p kind.ParenExpr ts _ refl refl (pair_fields ts _ (fields_at p true kind.ParenExpr ts n a refl refl f e))
   pair_begins g false p ts n a f e = absurd (cc)
 
   pub span_at : (p : Place) (a : Node) → is_plain p ≡ true → is_name p ≡ false → Part a → Fits a (slot.One content.Span) → B true (part false) a (substituted m false p a)
@@ -433,7 +435,7 @@ module _ (m : Changes) (declared : Node → List Id) where
   export_begins g true p ts n a f e = absurd (cc)
   export_begins g false p ts n a f e =
       to g (part false) _ _ _ (tree_is m p kind.ExportNamedSpecifier ts ∙ ap (λ o. written_out_if kind.ExportNamedSpecifier o (fields m p kind.ExportNamedSpecifier ts)) (no_change p (identifier_at ts 1) n))
-      (Becomes.tree g (part false) _ _ _ _ (Trees.even (part false) kind.ExportNamedSpecifier ts _ refl (fields_at p false kind.ExportNamedSpecifier ts n a refl f e)))
+      (Becomes.tree g (part false) _ _ _ _ (Trees.even (part false) kind.ExportNamedSpecifier ts _ refl (fields_at p false kind.ExportNamedSpecifier ts n a refl refl f e)))
 
   -- ---- the whole
 
@@ -445,17 +447,17 @@ module _ (m : Changes) (declared : Node → List Id) where
   no_module true = refl
   no_module false = refl
 
-  pub tree_of : (g b : Bool) (p : Place) (k : Kind) (ts : List Node) → is_name p ≡ b → allowed b k ≡ true → FieldsFit (slots_of k) ts → Each Whole ts → B g (part b) (Tree k ts) (substituted m false p (Tree k ts))
-  tree_of g b p kind.ParenExpr ts n a f e = pair_begins g b p ts n a f e
-  tree_of g b p kind.SeqExpr ts n a f e = sequence_begins g b p ts a f e
-  tree_of g b p kind.ObjectLit ts n a f e = object_begins g b p ts f e
-  tree_of g b p kind.AssignPatProp ts n a f e = key_begins g b p ts n f e
-  tree_of g b p kind.ImportNamedSpecifier ts n a f e = import_begins g b p ts f e
-  tree_of g b p kind.ExportNamedSpecifier ts n a f e = export_begins g b p ts n a f e
-  tree_of g b p kind.NamedExport ts n a f e = let no = no_list b in absurd (cc)
-  tree_of g b p kind.Module ts n a f e = let no = no_module b in absurd (cc)
-  tree_of g b p kind.ExportDecl ts n a f e = let no = not_exported b in absurd (cc)
-  tree_of g b p k ts n a f e = plain_one g (part b) p k ts _ refl refl (Trees.even (part b) k ts _ refl (fields_at p b k ts n a refl f e))
+  pub tree_of : (g b : Bool) (p : Place) (k : Kind) (ts : List Node) → is_name p ≡ b → allowed b k ≡ true → no_space k ≡ true → FieldsFit (slots_of k) ts → Each Whole ts → B g (part b) (Tree k ts) (substituted m false p (Tree k ts))
+  tree_of g b p kind.ParenExpr ts n a v f e = pair_begins g b p ts n a f e
+  tree_of g b p kind.SeqExpr ts n a v f e = sequence_begins g b p ts a f e
+  tree_of g b p kind.ObjectLit ts n a v f e = object_begins g b p ts f e
+  tree_of g b p kind.AssignPatProp ts n a v f e = key_begins g b p ts n f e
+  tree_of g b p kind.ImportNamedSpecifier ts n a v f e = import_begins g b p ts f e
+  tree_of g b p kind.ExportNamedSpecifier ts n a v f e = export_begins g b p ts n a f e
+  tree_of g b p kind.NamedExport ts n a v f e = let no = no_list b in absurd (cc)
+  tree_of g b p kind.Module ts n a v f e = let no = no_module b in absurd (cc)
+  tree_of g b p kind.ExportDecl ts n a v f e = let no = not_exported b in absurd (cc)
+  tree_of g b p k ts n a v f e = plain_one g (part b) p k ts _ refl refl (Trees.even (part b) k ts _ refl (fields_at p b k ts n a refl v f e))
 
   prop_kind : (k : Kind) → IsTrue (not (is_identifier k)) → IsTrue (belongs k class.PropOrSpread) → even_property k ≡ true
   prop_kind kind.SpreadElement h g = refl
@@ -466,18 +468,18 @@ module _ (m : Changes) (declared : Node → List Id) where
   prop_kind kind.Ident h g = impossible h
   prop_kind k h g = impossible g
 
-  prop_plain : (k : Kind) → even_property k ≡ true → (writes_out k ≡ false) × (no_object k ≡ true)
-  prop_plain kind.SpreadElement h = (refl, refl)
-  prop_plain kind.KeyValueProp h = (refl, refl)
-  prop_plain kind.GetterProp h = (refl, refl)
-  prop_plain kind.SetterProp h = (refl, refl)
-  prop_plain kind.MethodProp h = (refl, refl)
+  prop_plain : (k : Kind) → even_property k ≡ true → (writes_out k ≡ false) × (no_object k ≡ true) × (no_space k ≡ true)
+  prop_plain kind.SpreadElement h = (refl, refl, refl)
+  prop_plain kind.KeyValueProp h = (refl, refl, refl)
+  prop_plain kind.GetterProp h = (refl, refl, refl)
+  prop_plain kind.SetterProp h = (refl, refl, refl)
+  prop_plain kind.MethodProp h = (refl, refl, refl)
   prop_plain k h = impossible h
 
-  tree_part : (k : Kind) (ts : List Node) → Each Whole ts → Part (Tree k ts)
-  tree_part k ts e s p b h n f a =
+  tree_part : (k : Kind) (ts : List Node) → no_space k ≡ true → Each Whole ts → Part (Tree k ts)
+  tree_part k ts v e s p b h n f a =
       let w = stands k ts s a in
-      tree_of (needed s) b p k ts n (allowed_there b k w.in_class (fair_single b s (content.Node w.in_class) w.place f) w.belonging) w.fields e
+      tree_of (needed s) b p k ts n (allowed_there b k w.in_class (fair_single b s (content.Node w.in_class) w.place f) w.belonging) v w.fields e
 
   tree_prop : (k : Kind) (ts : List Node) → Each Whole ts → Prop (Tree k ts)
   tree_prop k ts e a =
@@ -487,7 +489,7 @@ module _ (m : Changes) (declared : Node → List Id) where
       let even' = prop_kind k w.no_identifier belongs' in
       let plain' = prop_plain k even' in
       plain_one true property place.Shorthand k ts _ plain'.0 refl
-      (Trees.even property k ts _ even' (fields_at place.Shorthand true k ts refl (allowed_there true k class.PropOrSpread refl belongs') plain'.1 w.fields e))
+      (Trees.even property k ts _ even' (fields_at place.Shorthand true k ts refl (allowed_there true k class.PropOrSpread refl belongs') plain'.1 plain'.2 w.fields e))
 
   pub first_of : (ts : List Node) → Each Whole ts → Each One ts
   first_of [] e = tt
@@ -499,39 +501,62 @@ module _ (m : Changes) (declared : Node → List Id) where
   list_part : (ts : List Node) → Each One ts → Part (Many ts)
   list_part ts e s p b h n f a = to (needed s) (part b) _ _ _ (substituted_list m false p ts) (list_begins s p b ts h n f e a)
 
+  -- what no namespace stands in
+  abbrev Begins : Node → Type 0
+  Begins t = is_free t ≡ true → Whole t
+
+  all_whole : (ts : List Node) → Each Begins ts → list_all is_free ts ≡ true → Each Whole ts
+  all_whole [] e v = tt
+  all_whole (t ∷ ts) e v = (e.0 (left (is_free t) _ v), all_whole ts e.1 (right (is_free t) _ v))
+
+  pub spaceless : (k : Kind) (ts : List Node) → is_other_in (Node-F.Tree k ts) ≡ true → no_space k ≡ true
+  spaceless kind.TsModuleDecl ts v = v
+  spaceless k ts v = refl
+
+  list_whole : (ts : List Node) → Each Begins ts → Begins (Many ts)
+  list_whole ts e v =
+      let l = all_whole ts e (sym (every_list is_other_in ts) ∙ v) in
+      ((list_part ts (first_of ts l), λ h. absurd (cc (sym (fits-List ts props) ∙ h))), subst (Each One) (sym (all_kept ts)) (first_of ts l))
+
+  tree_whole : (k : Kind) (ts : List Node) → Each Begins ts → Begins (Tree k ts)
+  tree_whole k ts e v =
+      let free = sym (every_tree is_other_in k ts) ∙ v in
+      let l = all_whole ts e (right (is_other_in (Node-F.Tree k ts)) _ free) in
+      ((tree_part k ts (spaceless k ts (left (is_other_in (Node-F.Tree k ts)) _ free)) l, tree_prop k ts l), no_items (Tree k ts) _ (outs-Tree k ts) refl)
+
   -- a node stands beside what it becomes at its place
-  pub begins : (t : Node) → Whole t
-  begins t = by_children Whole (
-    ((absent_part, λ h. absurd (cc (sym (fits-Absent props) ∙ h))), no_items Absent _ outs-Absent refl),
-    λ x. (
+  pub begins : (t : Node) → Begins t
+  begins t = by_children Begins (
+    λ v. ((absent_part, λ h. absurd (cc (sym (fits-Absent props) ∙ h))), no_items Absent _ outs-Absent refl),
+    λ x v. (
       (
         λ s p b h n f a. to (needed s) (part b) _ _ _ (substituted-Flag m false p x) (Becomes.a_flag (needed s) (part b) x),
         λ h. to true property _ _ _ (substituted-Flag m false place.Shorthand x) (Becomes.a_flag true property x),
       ),
       no_items (Flag x) _ (outs-Flag x) refl,
     ),
-    λ x. (
+    λ x v. (
       (
         λ s p b h n f a. to (needed s) (part b) _ _ _ (substituted-Word m false p x) (Becomes.a_word (needed s) (part b) x),
         λ h. to true property _ _ _ (substituted-Word m false place.Shorthand x) (Becomes.a_word true property x),
       ),
       no_items (Word x) _ (outs-Word x) refl,
     ),
-    λ x. (
+    λ x v. (
       (
         λ s p b h n f a. to (needed s) (part b) _ _ _ (substituted-Text m false p x) (Becomes.a_text (needed s) (part b) x),
         λ h. to true property _ _ _ (substituted-Text m false place.Shorthand x) (Becomes.a_text true property x),
       ),
       no_items (Text x) _ (outs-Text x) refl,
     ),
-    λ x. (
+    λ x v. (
       (
         λ s p b h n f a. to (needed s) (part b) _ _ _ (substituted-Span m false p x) (Becomes.a_span (needed s) (part b) x),
         λ h. to true property _ _ _ (substituted-Span m false place.Shorthand x) (Becomes.a_span true property x),
       ),
       no_items (Span x) _ (outs-Span x) refl,
     ),
-    λ k i. (
+    λ k i v. (
       (
         λ s p b h n f a. to (needed s) (part b) _ _ _ (substituted_identifier m false p k i) (name_by (needed s) p b k i (changed m p i) h n refl),
         λ h. to true property _ _ _ (substituted_identifier m false place.Shorthand k i) (short_by k i (m (id_of i)) refl),
@@ -539,5 +564,4 @@ module _ (m : Changes) (declared : Node → List Id) where
       no_items (Identifier k i) _ (outs-Identifier k i) refl,
     ),
   )
-      (λ ts e. ((list_part ts (first_of ts e), λ h. absurd (cc (sym (fits-List ts props) ∙ h))), subst (Each One) (sym (all_kept ts)) (first_of ts e)))
-      (λ k ts e. ((tree_part k ts e, tree_prop k ts e), no_items (Tree k ts) _ (outs-Tree k ts) refl)) t
+      list_whole tree_whole t

@@ -3,7 +3,7 @@ use Rattle.std.proofs.Common.{◌≡◌, ◌⊎◌, Bool, true, false, not, ◌&
 use Rattle.std.specs.Prelude.{if◌then◌else◌, is_some}
 use Rattle.std.specs.Cmp.{unsigned_Decides}
 use Rattle.std.specs.Cmp.Lexicographic.{pointwise, pointwise_decides}
-use Rattle.std.specs.List.{list_any}
+use Rattle.std.specs.List.{list_all, list_any}
 use Rattle.swc_tree_marks.specs.declared.ident.Ident.{Ident}
 use Rattle.swc_tree_node.specs.declared.kind.Kind.{Kind}
 use Rattle.swc_tree_node.specs.declared.kind.Kind.TheVariants as kind
@@ -33,7 +33,9 @@ use Rattle.swc_base_rename_substitution.specs.Walk.{items_substituted}
 use Rattle.swc_base_rename_substitution.proofs.Equations.{substituted-Absent, substituted_identifier, substituted_list}
 use Rattle.swc_base_rename_laws.proofs.NormalFormPairs.{All, Becomes, Fields, Items, Spot, Trees, part, spots, specifier}
 use Rattle.swc_base_rename_laws.proofs.NormalFormTable.{allowed, fields, plain_tree, tree_is}
-use Rattle.swc_base_rename_laws.proofs.NormalFormFits.{Given, Named, One, Whole, absent_or, all_begin, begins, double_by, fields_at, first_of, given, item_alone, item_begins, name_there, plain_one, span_at, to, tree_of}
+use Rattle.swc_tree_grammar_laws.proofs.Every.{every_tree}
+use Rattle.swc_base_fixer_laws.proofs.NoNamespaces.{is_free, is_other_in, quiet_fields_free, quiet_is_free, quiet_items_free}
+use Rattle.swc_base_rename_laws.proofs.NormalFormFits.{Given, Named, One, Whole, absent_or, all_begin, begins, double_by, fields_at, first_of, given, item_alone, item_begins, name_there, plain_one, spaceless, span_at, to, tree_of}
 use Rattle.swc_base_rename_laws.proofs.Impossible.{impossible}
 
 -- ---- names that change, each once
@@ -141,28 +143,31 @@ module _ (m : Changes) (declared : Node → List Id) where
   abbrev B : Bool → Spot → Node → Node → Type 0
   B = Becomes m declared
 
-  every : (ts : List Node) → Each (Whole m declared) ts
-  every [] = tt
-  every (t ∷ ts) = (begins m declared t, every ts)
+  every : (ts : List Node) → list_all is_free ts ≡ true → Each (Whole m declared) ts
+  every [] v = tt
+  every (t ∷ ts) v = let p = both (is_free t) (list_all is_free ts) v in (begins m declared t p.0, every ts p.1)
 
-  firsts : (ts : List Node) → Each (One m declared) ts
-  firsts ts = first_of m declared ts (every ts)
+  firsts : (ts : List Node) → list_all is_free ts ≡ true → Each (One m declared) ts
+  firsts ts v = first_of m declared ts (every ts v)
+
+  free_span : (a : Node) → Fits a (slot.One content.Span) → is_free a ≡ true
+  free_span a f = quiet_is_free a (slot.One content.Span) refl f
 
   span_stays : (a : Node) → Fits a (slot.One content.Span) → B true (part false) a (substituted m false place.Other a)
-  span_stays a f = span_at m declared place.Other a refl refl (begins m declared a).0.0 f
+  span_stays a f = span_at m declared place.Other a refl refl (begins m declared a (free_span a f)).0.0 f
 
   string_fields : (p : Place) (xs : List Node) → FieldsFit (slots_of kind.Str) xs → Fields m declared (spots false kind.Str) xs (fields m p kind.Str xs)
-  string_fields place.Name xs f = fields_at m declared place.Name true kind.Str xs refl refl refl f (every xs)
-  string_fields place.Shorthand xs f = fields_at m declared place.Shorthand true kind.Str xs refl refl refl f (every xs)
-  string_fields place.ClassName xs f = fields_at m declared place.ClassName true kind.Str xs refl refl refl f (every xs)
-  string_fields place.Exported xs f = fields_at m declared place.Exported false kind.Str xs refl refl refl f (every xs)
-  string_fields place.Other xs f = fields_at m declared place.Other false kind.Str xs refl refl refl f (every xs)
+  string_fields place.Name xs f = fields_at m declared place.Name true kind.Str xs refl refl refl refl f (every xs (quiet_fields_free (slots_of kind.Str) xs refl f))
+  string_fields place.Shorthand xs f = fields_at m declared place.Shorthand true kind.Str xs refl refl refl refl f (every xs (quiet_fields_free (slots_of kind.Str) xs refl f))
+  string_fields place.ClassName xs f = fields_at m declared place.ClassName true kind.Str xs refl refl refl refl f (every xs (quiet_fields_free (slots_of kind.Str) xs refl f))
+  string_fields place.Exported xs f = fields_at m declared place.Exported false kind.Str xs refl refl refl refl f (every xs (quiet_fields_free (slots_of kind.Str) xs refl f))
+  string_fields place.Other xs f = fields_at m declared place.Other false kind.Str xs refl refl refl refl f (every xs (quiet_fields_free (slots_of kind.Str) xs refl f))
 
   string_at : (s : Bool) (p : Place) (xs : List Node) → FieldsFit (slots_of kind.Str) xs → B true (part s) (Tree kind.Str xs) (substituted m false p (Tree kind.Str xs))
   string_at s p xs f = plain_one m declared true (part s) p kind.Str xs _ refl refl (Trees.even (part s) kind.Str xs _ refl (string_fields p xs f))
 
   other_at : (v : Node) → Fits v (slot.Optional (content.Node class.ModuleExportName)) → Given m declared false v (substituted m false place.Other v)
-  other_at v f = given m declared place.Other false class.ModuleExportName v refl refl refl (begins m declared v).0.0 f
+  other_at v f = given m declared place.Other false class.ModuleExportName v refl refl refl (begins m declared v (quiet_is_free v (slot.Optional (content.Node class.ModuleExportName)) refl f)).0.0 f
 
   named_export : (a : Node) (l : Kind) (i : Ident) (v : Node) → Fits a (slot.One content.Span) → Fits v (slot.Optional (content.Node class.ModuleExportName))
       → B true specifier (Tree kind.ExportNamedSpecifier (a ∷ Identifier l i ∷ v ∷ [])) (substituted m false place.Name (Tree kind.ExportNamedSpecifier (a ∷ Identifier l i ∷ v ∷ [])))
@@ -205,7 +210,7 @@ module _ (m : Changes) (declared : Node → List Id) where
   specifier_of : (k : Kind) (ts : List Node) → IsTrue (belongs k class.ExportSpecifier) → FieldsFit (slots_of k) ts → Specified (Tree k ts)
   specifier_of kind.ExportNamespaceSpecifier ts b f =
       plain_one m declared true specifier place.Name kind.ExportNamespaceSpecifier ts _ refl refl
-      (Trees.even specifier kind.ExportNamespaceSpecifier ts _ refl (fields_at m declared place.Name true kind.ExportNamespaceSpecifier ts refl refl refl f (every ts)))
+      (Trees.even specifier kind.ExportNamespaceSpecifier ts _ refl (fields_at m declared place.Name true kind.ExportNamespaceSpecifier ts refl refl refl refl f (every ts (quiet_fields_free (slots_of kind.ExportNamespaceSpecifier) ts refl f))))
   specifier_of kind.ExportNamedSpecifier [] b f = absurd f
   specifier_of kind.ExportNamedSpecifier (x ∷ []) b f = absurd f.1
   specifier_of kind.ExportNamedSpecifier (x ∷ y ∷ []) b f = absurd f.1.1
@@ -231,7 +236,7 @@ module _ (m : Changes) (declared : Node → List Id) where
   names_at src = if not (absent_in (out-Node src)) then place.Other else place.Name
 
   attributes : (d : Node) → Fits d slot.Pairs → B false (part false) d (substituted m false place.Other d)
-  attributes d f = (begins m declared d).0.0 slot.Pairs place.Other false refl refl refl f
+  attributes d f = (begins m declared d (quiet_is_free d slot.Pairs refl f)).0.0 slot.Pairs place.Other false refl refl refl f
 
   exports_by : (a : Node) (ts : List Node) (src d : Node) → Fits a (slot.One content.Span) → AllFit specs ts → Fits d slot.Pairs → (src ≡ Absent) ⊎ Fits src (slot.One (content.Node class.Str))
       → Stays (Tree kind.NamedExport (a ∷ Many ts ∷ src ∷ d ∷ []))
@@ -250,7 +255,7 @@ module _ (m : Changes) (declared : Node → List Id) where
       ∙ ap (λ y. Tree kind.NamedExport (substituted m false place.Other a ∷ substituted m false (if not (absent_in y) then place.Other else place.Name) (Many ts) ∷ substituted m false place.Other (Tree kind.Str xs) ∷ substituted m false place.Other d ∷ [])) (outs-Tree kind.Str xs)
       ∙ (λ i. Tree kind.NamedExport (substituted m false place.Other a ∷ substituted_list m false place.Other ts i ∷ plain_tree m place.Other kind.Str xs refl i ∷ substituted m false place.Other d ∷ [])))
       (Becomes.tree true (part false) _ _ _ _
-      (Trees.reexports false a _ ts _ xs _ d _ (span_stays a f) (all_begin m declared specs place.Other false ts refl refl refl (firsts ts) g) (string_fields place.Other xs k) (attributes d h))))
+      (Trees.reexports false a _ ts _ xs _ d _ (span_stays a f) (all_begin m declared specs place.Other false ts refl refl refl (firsts ts (quiet_items_free specs ts refl g)) g) (string_fields place.Other xs k) (attributes d h))))
 
   exports_of_fields : (ts : List Node) → FieldsFit (slots_of kind.NamedExport) ts → Stays (Tree kind.NamedExport ts)
   exports_of_fields [] f = absurd f
@@ -275,15 +280,15 @@ module _ (m : Changes) (declared : Node → List Id) where
       (sym (ap (declaration_in (Tree kind.ExportDecl (c ∷ e ∷ []))) (outs-Tree kind.ExportDecl (c ∷ e ∷ [])))) (Items.split a d e ts us k l)
   exported_by false a c d e ts us n h k l = Items.whole a c d e ts us h k (sym (any_distinct m (declared d)) ∙ n) l
 
-  exported_item : (a d : Node) (ts us : List Node) → Fits a (slot.One content.Span) → Fits d (slot.One (content.Node class.Decl)) → declared d ≡ declared_ids d → Items m declared ts us
+  exported_item : (a d : Node) (ts us : List Node) → is_free d ≡ true → Fits a (slot.One content.Span) → Fits d (slot.One (content.Node class.Decl)) → declared d ≡ declared_ids d → Items m declared ts us
       → Items m declared (Tree kind.ExportDecl (a ∷ d ∷ []) ∷ ts) (items_for m (Tree kind.ExportDecl (a ∷ d ∷ [])) (substituted m false place.Other (Tree kind.ExportDecl (a ∷ d ∷ []))) ++ us)
-  exported_item a d ts us f g same l =
+  exported_item a d ts us v f g same l =
       let t = Tree kind.ExportDecl (a ∷ d ∷ []) in
       let ids : exported_ids t ≡ distinct (declared d) = ap exported_in (outs-Tree kind.ExportDecl (a ∷ d ∷ [])) ∙ ap distinct (sym same) in
       subst (λ us. Items m declared (t ∷ ts) us) (sym (λ i. with_exports (plain_tree m place.Other kind.ExportDecl (a ∷ d ∷ []) refl i) (exports_of m (ids i)) ++ us))
       (exported_by (changes (distinct (declared d))) a _ d _ ts us refl
-      (span_at m declared place.Exported a refl refl (begins m declared a).0.0 f)
-      ((begins m declared d).0.0 (slot.One (content.Node class.Decl)) place.Exported false refl refl refl g) l)
+      (span_at m declared place.Exported a refl refl (begins m declared a (free_span a f)).0.0 f)
+      ((begins m declared d v).0.0 (slot.One (content.Node class.Decl)) place.Exported false refl refl refl g) l)
 
   -- ---- modules
 
@@ -306,6 +311,9 @@ module _ (m : Changes) (declared : Node → List Id) where
   item_allowed kind.NamedExport b e = impossible (sym e)
   item_allowed k b e = refl
 
+  free_parts : (k : Kind) (ts : List Node) → is_free (Tree k ts) ≡ true → (is_other_in (Node-F.Tree k ts) ≡ true) × (list_all is_free ts ≡ true)
+  free_parts k ts v = both (is_other_in (Node-F.Tree k ts)) (list_all is_free ts) (sym (every_tree is_other_in k ts) ∙ v)
+
   -- what an exported declaration declares is what is written out
   abbrev pub Exported : Node → Type 0
   Exported t = (a d : Node) → t ≡ Tree kind.ExportDecl (a ∷ d ∷ []) → declared d ≡ declared_ids d
@@ -321,27 +329,28 @@ module _ (m : Changes) (declared : Node → List Id) where
   other_item k xs ts us e h l =
       subst (λ v. Items m declared (Tree k xs ∷ ts) (v ++ us)) (sym (item_alone m (Tree k xs) (substituted m false place.Other (Tree k xs)) e)) (Items.item (Tree k xs) _ ts us h l)
 
-  item_of : (k : Kind) (xs ts us : List Node) → IsTrue (belongs k class.ModuleItem) → FieldsFit (slots_of k) xs → Exported (Tree k xs) → Items m declared ts us → With (Tree k xs) ts us
-  item_of kind.ExportDecl [] ts us b f e l = absurd f
-  item_of kind.ExportDecl (x ∷ []) ts us b f e l = absurd f.1
-  item_of kind.ExportDecl (x ∷ y ∷ z ∷ xs) ts us b f e l = absurd f.1.1
-  item_of kind.ExportDecl (x ∷ y ∷ []) ts us b f e l = exported_item x y ts us f.0 f.1.0 (e x y refl) l
-  item_of kind.NamedExport xs ts us b f e l = other_item kind.NamedExport xs ts us (ap exported_in (outs-Tree kind.NamedExport xs)) (exports_of_fields xs f) l
-  item_of k xs ts us b f e l =
-      other_item k xs ts us (ap exported_in (outs-Tree k xs)) (tree_of m declared true false place.Other k xs refl (item_allowed k b refl) f (every xs)) l
+  item_of : (k : Kind) (xs ts us : List Node) → is_free (Tree k xs) ≡ true → IsTrue (belongs k class.ModuleItem) → FieldsFit (slots_of k) xs → Exported (Tree k xs) → Items m declared ts us → With (Tree k xs) ts us
+  item_of kind.ExportDecl [] ts us v b f e l = absurd f
+  item_of kind.ExportDecl (x ∷ []) ts us v b f e l = absurd f.1
+  item_of kind.ExportDecl (x ∷ y ∷ z ∷ xs) ts us v b f e l = absurd f.1.1
+  item_of kind.ExportDecl (x ∷ y ∷ []) ts us v b f e l = exported_item x y ts us (both (is_free y) true (both (is_free x) (is_free y && true) (free_parts kind.ExportDecl (x ∷ y ∷ []) v).1).1).0 f.0 f.1.0 (e x y refl) l
+  item_of kind.NamedExport xs ts us v b f e l = other_item kind.NamedExport xs ts us (ap exported_in (outs-Tree kind.NamedExport xs)) (exports_of_fields xs f) l
+  item_of k xs ts us v b f e l =
+      other_item k xs ts us (ap exported_in (outs-Tree k xs)) (tree_of m declared true false place.Other k xs refl (item_allowed k b refl) (spaceless m declared k xs (free_parts k xs v).0) f (every xs (free_parts k xs v).1)) l
 
-  pub all_items : (ts : List Node) → AllFit (slot.One (content.Node class.ModuleItem)) ts → Each Exported ts → Items m declared ts (items_substituted m false place.Other ts)
-  all_items [] f e = Items.nothing
-  all_items (t ∷ ts) f e =
+  pub all_items : (ts : List Node) → list_all is_free ts ≡ true → AllFit (slot.One (content.Node class.ModuleItem)) ts → Each Exported ts → Items m declared ts (items_substituted m false place.Other ts)
+  all_items [] v f e = Items.nothing
+  all_items (t ∷ ts) v f e =
+      let p = both (is_free t) (list_all is_free ts) v in
       let x = tree_only class.ModuleItem refl refl t f.0 in
-      subst (λ t. With t ts (items_substituted m false place.Other ts)) (sym x.2) (item_of x.0 x.1 ts _ x.4 x.5 (subst Exported x.2 e.0) (all_items ts f.1 e.1))
+      subst (λ t. With t ts (items_substituted m false place.Other ts)) (sym x.2) (item_of x.0 x.1 ts _ (subst (λ t. is_free t ≡ true) x.2 p.0) x.4 x.5 (subst Exported x.2 e.0) (all_items ts p.1 f.1 e.1))
 
-  pub module_becomes : (a : Node) (ts : List Node) (c : Node) → Fits a (slot.One content.Span) → AllFit (slot.One (content.Node class.ModuleItem)) ts → Fits c (slot.Optional content.Text) → Each Exported ts
+  pub module_becomes : (a : Node) (ts : List Node) (c : Node) → list_all is_free ts ≡ true → Fits a (slot.One content.Span) → AllFit (slot.One (content.Node class.ModuleItem)) ts → Fits c (slot.Optional content.Text) → Each Exported ts
       → Becomes m declared true (part false) (Tree kind.Module (a ∷ Many ts ∷ c ∷ [])) (substituted m false place.Other (Tree kind.Module (a ∷ Many ts ∷ c ∷ [])))
-  module_becomes a ts c f g h e =
+  module_becomes a ts c v f g h e =
       plain_one m declared true (part false) place.Other kind.Module (a ∷ Many ts ∷ c ∷ []) _ refl
       (ap (λ x. substituted m false place.Other a ∷ x ∷ substituted m false place.Other c ∷ []) (substituted_list m false place.Other ts))
-      (Trees.program false a _ ts _ c _ (span_stays a f) (all_items ts g e) ((begins m declared c).0.0 (slot.Optional content.Text) place.Other false refl refl refl h))
+      (Trees.program false a _ ts _ c _ (span_stays a f) (all_items ts v g e) ((begins m declared c (quiet_is_free c (slot.Optional content.Text) refl h)).0.0 (slot.Optional content.Text) place.Other false refl refl refl h))
 
-  pub script_becomes : (t : Node) → Fits t (slot.One (content.Node class.Script)) → Becomes m declared true (part false) t (substituted m false place.Other t)
-  script_becomes t f = (begins m declared t).0.0 (slot.One (content.Node class.Script)) place.Other false refl refl refl f
+  pub script_becomes : (t : Node) → is_free t ≡ true → Fits t (slot.One (content.Node class.Script)) → Becomes m declared true (part false) t (substituted m false place.Other t)
+  script_becomes t v f = (begins m declared t v).0.0 (slot.One (content.Node class.Script)) place.Other false refl refl refl f

@@ -39,6 +39,8 @@ flag_below b role.Plain = false
 flag_below b role.Label = false
 flag_below b role.Imported = false
 flag_below b role.Exported = false
+flag_below b role.TypeName = false
+flag_below b role.TypeReference = false
 flag_below b r = true
 
 -- whether something must stand there

@@ -1,5 +1,6 @@
 -- The normal form of a program stays but for the names that are given anew.
 use Rattle.std.proofs.Common.{◌≡◌, Bool, true, false, ◌&&◌, IsTrue, List, [], ◌∷◌, map, refl, sym, ◌∙◌, subst, inl, inr}
+use Rattle.std.specs.List.{list_all}
 use Rattle.swc_tree_node.specs.declared.kind.Kind.{Kind}
 use Rattle.swc_tree_node.specs.declared.kind.Kind.TheVariants as kind
 use Rattle.swc_tree_node.specs.declared.kind.Class.TheVariants as class
@@ -25,6 +26,8 @@ use Rattle.swc_base_rename_laws.proofs.NormalFormPairs.{Becomes, Items, Like, pa
 use Rattle.swc_base_rename_laws.proofs.NormalFormSame.{same_like}
 use Rattle.swc_base_rename_laws.proofs.NormalFormStripped.{strip_becomes}
 use Rattle.swc_base_rename_laws.proofs.NormalFormWritten.{written_becomes}
+use Rattle.swc_tree_grammar_laws.proofs.Levelled.{also}
+use Rattle.swc_base_fixer_laws.proofs.NoNamespaces.{is_free, sound_is_free}
 use Rattle.swc_base_rename_laws.proofs.NormalFormModule.{Exported, all_items, module_becomes, script_becomes, tree_only}
 use Rattle.swc_base_rename_laws.proofs.NormalFormDeclared.{exported_declares}
 use Rattle.swc_base_rename_laws.proofs.Impossible.{impossible}
@@ -52,9 +55,13 @@ module _ (m : Changes) where
   all_exported [] r f h = tt
   all_exported (t ∷ ts) r f h = (exported t r f.0 (both_right _ _ (both_left _ _ h)), all_exported ts r f.1 (both_right _ _ h))
 
+  items_free : (ts : List Node) (r : Round) → AllFit (slot.One (content.Node class.ModuleItem)) ts → all_sound (map of ts) r ≡ true → list_all is_free ts ≡ true
+  items_free [] r f h = refl
+  items_free (t ∷ ts) r f h = also (sound_is_free t (slot.One (content.Node class.ModuleItem)) f.0 r (both_right _ _ (both_left _ _ h))) (items_free ts r f.1 (both_right _ _ h))
+
   -- the items of a module become those with their names
   pub items_become : (ts : List Node) (r : Round) → AllFit (slot.One (content.Node class.ModuleItem)) ts → all_sound (map of ts) r ≡ true → Items m before ts (items_substituted m false place.Other ts)
-  items_become ts r f h = all_items m before ts f (all_exported ts r f h)
+  items_become ts r f h = all_items m before ts (items_free ts r f h) f (all_exported ts r f h)
 
   pub like_normal : (t u : Node) → Becomes m before true (part false) t u → Like m false (normal_form t) (normal_form u)
   like_normal t u h = written_becomes m true (part false) _ _ (strip_becomes m before after (λ t. refl) true (part false) t u h)
@@ -65,7 +72,8 @@ module _ (m : Changes) where
   module_of : (a : Node) (ts : List Node) (c : Node) (r : Round) → Fits a (slot.One content.Span) → AllFit (slot.One (content.Node class.ModuleItem)) ts → Fits c (slot.Optional content.Text)
       → sound (Tree kind.Module (a ∷ Many ts ∷ c ∷ [])) r ≡ true → Stands (Tree kind.Module (a ∷ Many ts ∷ c ∷ []))
   module_of a ts c r f g h s =
-      module_becomes m before a ts c f g h (all_exported ts (strictly true r) g (sym (sound_list ts (strictly true r)) ∙ sym (sound_tree kind.Module (a ∷ Many ts ∷ c ∷ []) r) ∙ s))
+      let items : all_sound (map of ts) (strictly true r) ≡ true = sym (sound_list ts (strictly true r)) ∙ sym (sound_tree kind.Module (a ∷ Many ts ∷ c ∷ []) r) ∙ s in
+      module_becomes m before a ts c (items_free ts (strictly true r) g items) f g h (all_exported ts (strictly true r) g items)
 
   of_kind : (k : Kind) (ts : List Node) (r : Round) → IsTrue (belongs k class.Module) → FieldsFit (slots_of k) ts → sound (Tree k ts) r ≡ true → Stands (Tree k ts)
   of_kind kind.Module [] r b f s = absurd f
@@ -87,7 +95,7 @@ module _ (m : Changes) where
 
 pub normal_forms_like : (m : Changes) (tree answer : Node) → IsProgram tree → IsTrue (is_writable tree) → Substituted m false tree answer → Like m false (normal_form tree) (normal_form answer)
 normal_forms_like m tree answer (inl f) w e = rw e (like m tree (module_stands m tree _ f w))
-normal_forms_like m tree answer (inr f) w e = rw e (like m tree (script_becomes m before tree f))
+normal_forms_like m tree answer (inr f) w e = rw e (like m tree (script_becomes m before tree (sound_is_free tree (slot.One (content.Node class.Script)) f _ w) f))
 
 pub normal_form_stays : NormalFormStays
 normal_form_stays m changing tree answer named f w e = same_like m changing named false _ _ (normal_forms_like m tree answer f w e) program_place refl

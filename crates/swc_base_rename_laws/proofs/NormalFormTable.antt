@@ -88,28 +88,35 @@ allowed_there b k c f h = among (number_allowed b) (kind_number k) (kinds_of c) 
 abbrev pub Row : Type 0
 Row = List ℕ × Slot × Role
 
+-- a namespace holds exported declarations, as a module does
+abbrev pub no_space : Kind → Bool
+no_space kind.TsModuleDecl = false
+no_space k = true
+
 abbrev pub fair_row : Bool → Row → Bool
 fair_row b f = fair (flag_below b f.2) f.1 && not_local f.2
 
-rows_true : (k : Kind) → allowed true k ≡ true → list_all (fair_row true) (fields_of k) ≡ true
-rows_true kind.NamedExport a = impossible a
-rows_true kind.Module a = impossible a
-rows_true k a = refl
+rows_true : (k : Kind) → allowed true k ≡ true → no_space k ≡ true → list_all (fair_row true) (fields_of k) ≡ true
+rows_true kind.NamedExport a v = impossible a
+rows_true kind.Module a v = impossible a
+rows_true kind.TsModuleDecl a v = impossible v
+rows_true k a v = refl
 
-rows_false : (k : Kind) → allowed false k ≡ true → list_all (fair_row false) (fields_of k) ≡ true
-rows_false kind.NamedExport a = impossible a
-rows_false kind.Module a = impossible a
-rows_false kind.ArrayPat a = impossible a
-rows_false kind.RestPat a = impossible a
-rows_false kind.ObjectPat a = impossible a
-rows_false kind.AssignPat a = impossible a
-rows_false kind.KeyValuePatProp a = impossible a
-rows_false kind.VarDeclarator a = impossible a
-rows_false k a = refl
+rows_false : (k : Kind) → allowed false k ≡ true → no_space k ≡ true → list_all (fair_row false) (fields_of k) ≡ true
+rows_false kind.NamedExport a v = impossible a
+rows_false kind.Module a v = impossible a
+rows_false kind.ArrayPat a v = impossible a
+rows_false kind.RestPat a v = impossible a
+rows_false kind.ObjectPat a v = impossible a
+rows_false kind.AssignPat a v = impossible a
+rows_false kind.KeyValuePatProp a v = impossible a
+rows_false kind.VarDeclarator a v = impossible a
+rows_false kind.TsModuleDecl a v = impossible v
+rows_false k a v = refl
 
-pub rows_fair : (b : Bool) (k : Kind) → allowed b k ≡ true → list_all (fair_row b) (fields_of k) ≡ true
-rows_fair true k a = rows_true k a
-rows_fair false k a = rows_false k a
+pub rows_fair : (b : Bool) (k : Kind) → allowed b k ≡ true → no_space k ≡ true → list_all (fair_row b) (fields_of k) ≡ true
+rows_fair true k a v = rows_true k a v
+rows_fair false k a v = rows_false k a v
 
 -- ---- places
 
@@ -159,11 +166,11 @@ row_at g (x ∷ fs) zero f l e = let same : x ≡ f = cc in ap g (sym same) ∙ 
 row_at g (x ∷ fs) (suc i) f l e = row_at g fs i f (right (g x) _ l) e
 
 -- the place of a field, by its row
-pub place_of_row : (p : Place) (b : Bool) (k : Kind) (ts : List Node) (i : ℕ) (f : Row) → is_name p ≡ b → allowed b k ≡ true → no_object k ≡ true → slice_get (fields_of k) i ≡ Some f
+pub place_of_row : (p : Place) (b : Bool) (k : Kind) (ts : List Node) (i : ℕ) (f : Row) → is_name p ≡ b → allowed b k ≡ true → no_object k ≡ true → no_space k ≡ true → slice_get (fields_of k) i ≡ Some f
     → (is_plain (places false p k ts i) ≡ true) × (is_name (places false p k ts i) ≡ flag_below b f.2)
-place_of_row p b k ts i f n a o e =
+place_of_row p b k ts i f n a o v e =
     let role : field_role k i ≡ f.2 = role_of_row k i f e in
-    let not_there : not_local (field_role k i) ≡ true = ap not_local role ∙ right (fair (flag_below b f.2) f.1) _ (row_at (fair_row b) (fields_of k) i f (rows_fair b k a) e) in (
+    let not_there : not_local (field_role k i) ≡ true = ap not_local role ∙ right (fair (flag_below b f.2) f.1) _ (row_at (fair_row b) (fields_of k) i f (rows_fair b k a v) e) in (
       kind_plain k _ o (plain_role p (has_source ts) (field_role k i)),
       kind_is false k (by_role p (has_source ts) (field_role k i)) ∙ below_is p (has_source ts) (field_role k i) not_there ∙ (λ x. flag_below (n x) (role x)),
     )

@@ -106,6 +106,8 @@ role_is w k ts i role.FunctionBody = refl
 role_is w k ts i role.Label = refl
 role_is w k ts i role.Imported = refl
 role_is w k ts i role.Exported = refl
+role_is w k ts i role.TypeName = refl
+role_is w k ts i role.TypeReference = refl
 role_is w k ts i role.ExportLocal = local _
 
 -- the place of a child goes by that of the node

@@ -351,6 +351,10 @@ module _ (m : Changes) (keeps : Bool) where
   same_declaration kind.FnDecl ts us b = same_kind kind.FnDecl _ us (λ i. refl)
   same_declaration kind.VarDecl ts us b = same_kind kind.VarDecl _ us (λ i. refl)
   same_declaration kind.UsingDecl ts us b = same_kind kind.UsingDecl _ us (λ i. refl)
+  same_declaration kind.TsInterfaceDecl ts us b = same_kind kind.TsInterfaceDecl _ us (λ i. refl)
+  same_declaration kind.TsTypeAliasDecl ts us b = same_kind kind.TsTypeAliasDecl _ us (λ i. refl)
+  same_declaration kind.TsEnumDecl ts us b = same_kind kind.TsEnumDecl _ us (λ i. refl)
+  same_declaration kind.TsModuleDecl ts us b = same_kind kind.TsModuleDecl _ us (λ i. refl)
   same_declaration k ts us b = impossible b
 
   declared_stay : (k : Kind) (ts : List Node) → IsTrue (belongs k class.Decl) → FieldsFit (slots_of k) ts → Unchanged (declared_ids (Tree k ts))
@@ -367,6 +371,10 @@ module _ (m : Changes) (keeps : Bool) where
   declared_stay kind.ClassDecl [] b h u = absurd h
   declared_stay kind.ClassDecl (t ∷ []) b h u = absurd h.1
   declared_stay kind.ClassDecl (t ∷ f ∷ x ∷ xs) b h u = absurd h.1.1
+  declared_stay kind.TsInterfaceDecl ts b h u = declarators_stay kind.TsInterfaceDecl ts (λ us. ap (declared_in (Tree kind.TsInterfaceDecl us)) (outs-Tree kind.TsInterfaceDecl us)) h (λ q. refl) (λ us. same_declaration kind.TsInterfaceDecl ts us b) u
+  declared_stay kind.TsTypeAliasDecl ts b h u = declarators_stay kind.TsTypeAliasDecl ts (λ us. ap (declared_in (Tree kind.TsTypeAliasDecl us)) (outs-Tree kind.TsTypeAliasDecl us)) h (λ q. refl) (λ us. same_declaration kind.TsTypeAliasDecl ts us b) u
+  declared_stay kind.TsEnumDecl ts b h u = declarators_stay kind.TsEnumDecl ts (λ us. ap (declared_in (Tree kind.TsEnumDecl us)) (outs-Tree kind.TsEnumDecl us)) h (λ q. refl) (λ us. same_declaration kind.TsEnumDecl ts us b) u
+  declared_stay kind.TsModuleDecl ts b h u = declarators_stay kind.TsModuleDecl ts (λ us. ap (declared_in (Tree kind.TsModuleDecl us)) (outs-Tree kind.TsModuleDecl us)) h (λ q. refl) (λ us. same_declaration kind.TsModuleDecl ts us b) u
   declared_stay k ts b h u = impossible b
 
   -- the names of an exported declaration

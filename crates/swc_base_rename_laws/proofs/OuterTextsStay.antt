@@ -329,6 +329,29 @@ module _ (m : Changes) (keeps : Bool) where
   placeless o short kind.UsingDecl (t ∷ []) ps b f = absurd f.1
   placeless o short kind.UsingDecl (t ∷ u ∷ []) ps b f = absurd f.1.1
   placeless o short kind.UsingDecl (t ∷ u ∷ v ∷ x ∷ xs) ps b f = absurd f.1.1.1
+  placeless o short kind.TsInterfaceDecl (t ∷ u ∷ v ∷ x ∷ y ∷ []) ps b f = texts_tree o short kind.TsInterfaceDecl _ ∙ sym (texts_tree false false kind.TsInterfaceDecl _)
+  placeless o short kind.TsTypeAliasDecl (t ∷ u ∷ v ∷ x ∷ []) ps b f = texts_tree o short kind.TsTypeAliasDecl _ ∙ sym (texts_tree false false kind.TsTypeAliasDecl _)
+  placeless o short kind.TsEnumDecl (t ∷ u ∷ v ∷ []) ps b f = texts_tree o short kind.TsEnumDecl _ ∙ sym (texts_tree false false kind.TsEnumDecl _)
+  placeless o short kind.TsModuleDecl (t ∷ u ∷ v ∷ []) ps b f = texts_tree o short kind.TsModuleDecl _ ∙ sym (texts_tree false false kind.TsModuleDecl _)
+  placeless o short kind.TsInterfaceDecl [] ps b f = absurd f
+  placeless o short kind.TsInterfaceDecl (t ∷ []) ps b f = absurd f.1
+  placeless o short kind.TsInterfaceDecl (t ∷ u ∷ []) ps b f = absurd f.1.1
+  placeless o short kind.TsInterfaceDecl (t ∷ u ∷ v ∷ []) ps b f = absurd f.1.1.1
+  placeless o short kind.TsInterfaceDecl (t ∷ u ∷ v ∷ x ∷ []) ps b f = absurd f.1.1.1.1
+  placeless o short kind.TsInterfaceDecl (t ∷ u ∷ v ∷ x ∷ y ∷ z ∷ xs) ps b f = absurd f.1.1.1.1.1
+  placeless o short kind.TsTypeAliasDecl [] ps b f = absurd f
+  placeless o short kind.TsTypeAliasDecl (t ∷ []) ps b f = absurd f.1
+  placeless o short kind.TsTypeAliasDecl (t ∷ u ∷ []) ps b f = absurd f.1.1
+  placeless o short kind.TsTypeAliasDecl (t ∷ u ∷ v ∷ []) ps b f = absurd f.1.1.1
+  placeless o short kind.TsTypeAliasDecl (t ∷ u ∷ v ∷ x ∷ y ∷ xs) ps b f = absurd f.1.1.1.1
+  placeless o short kind.TsEnumDecl [] ps b f = absurd f
+  placeless o short kind.TsEnumDecl (t ∷ []) ps b f = absurd f.1
+  placeless o short kind.TsEnumDecl (t ∷ u ∷ []) ps b f = absurd f.1.1
+  placeless o short kind.TsEnumDecl (t ∷ u ∷ v ∷ x ∷ xs) ps b f = absurd f.1.1.1
+  placeless o short kind.TsModuleDecl [] ps b f = absurd f
+  placeless o short kind.TsModuleDecl (t ∷ []) ps b f = absurd f.1
+  placeless o short kind.TsModuleDecl (t ∷ u ∷ []) ps b f = absurd f.1.1
+  placeless o short kind.TsModuleDecl (t ∷ u ∷ v ∷ x ∷ xs) ps b f = absurd f.1.1.1
   placeless o short k ts ps b f = impossible b
 
   moved : (o short : Bool) (t : Node) → Fits t (slot.One (content.Node class.Decl)) → texts o short (substituted m keeps place.Exported t) ≡ texts false false (substituted m keeps place.Exported t)

@@ -227,6 +227,10 @@ module _ (m : Changes) (g : GivesNames m) where
   row_of kind.AssignPatProp w = absurd (cc)
   row_of kind.ImportNamedSpecifier w = absurd (cc)
   row_of kind.ExportNamedSpecifier w = absurd (cc)
+  row_of kind.TsInterfaceDecl w = λ p ts l f r h. absurd (cc)
+  row_of kind.TsTypeAliasDecl w = λ p ts l f r h. absurd (cc)
+  row_of kind.TsEnumDecl w = λ p ts l f r h. absurd (cc)
+  row_of kind.TsModuleDecl w = λ p ts l f r h. absurd (cc)
   row_of k w = λ p ts l f r. other_le m g p k ts l r
 
   abbrev Stays : Kind → Type 0

@@ -137,6 +137,10 @@ module _ (w v : Place) where
   layer_alike kind.FnDecl ts ms f own b = refl
   layer_alike kind.VarDecl ts ms f own b = refl
   layer_alike kind.UsingDecl ts ms f own b = refl
+  layer_alike kind.TsInterfaceDecl ts ms f own b = refl
+  layer_alike kind.TsTypeAliasDecl ts ms f own b = refl
+  layer_alike kind.TsEnumDecl ts ms f own b = refl
+  layer_alike kind.TsModuleDecl ts ms f own b = refl
   layer_alike k ts ms f own b = impossible b
 
   pub declaration_alike : (k : Kind) (ts : List Node) (f : Bool) (own : Option Ident) → IsTrue (belongs k class.Decl) → M w (Tree k ts) f own ≡ M v (Tree k ts) f own

@@ -82,6 +82,7 @@ module _ (text : Id → ℕ → List ℕ) (preserved : List ℕ → Bool) (occur
   refused_earlier maps tried s x start pass.CounterSpent h why = earlier maps tried s x start greatest h why
   refused_earlier maps tried s x start pass.MarksSpent h why = why
   refused_earlier maps tried s x start pass.NotAssignable h why = why
+  refused_earlier maps tried s x start pass.TypesLeft h why = why
 
   -- what one id could not get, no other of its text can
   pub tried_more : (maps : Maps) (was is : Tried) (scope : ℕ) (x : Id) (word : List ℕ) (counter : ℕ) → ((y z : Id) → y.0 ≡ z.0 → (n : ℕ) → text y n ≡ text z n) → word ≡ x.0 → AllTaken (text x) (taken_at preserved occurs maps scope) 0 counter

@@ -235,3 +235,4 @@ refused_at n done after choices site id names maps pass.CounterSpent found chang
 }
 refused_at n done after choices site id names maps pass.MarksSpent found changes none h stands holds = absurd h
 refused_at n done after choices site id names maps pass.NotAssignable found changes none h stands holds = absurd h
+refused_at n done after choices site id names maps pass.TypesLeft found changes none h stands holds = absurd h

@@ -23,6 +23,7 @@ IsOfMemoryOr spent pass.NoMemory = Unit {0}
 IsOfMemoryOr spent pass.CounterSpent = spent
 IsOfMemoryOr spent pass.MarksSpent = ⊥
 IsOfMemoryOr spent pass.NotAssignable = ⊥
+IsOfMemoryOr spent pass.TypesLeft = ⊥
 
 -- a text may be refused for want of memory, and where the counter is spent
 abbrev pub IsRefusal : PassError → ℕ → ℕ → Type 0

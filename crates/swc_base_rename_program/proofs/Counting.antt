@@ -132,3 +132,4 @@ module _ (r : Rules) where
   all_refused sites h pass.CounterSpent refused = all_spent sites h refused
   all_refused sites h pass.MarksSpent refused = refused
   all_refused sites h pass.NotAssignable refused = refused
+  all_refused sites h pass.TypesLeft refused = refused

@@ -113,6 +113,7 @@ refusal_alike same r t pass.NoMemory h = tt
 refusal_alike same r t pass.CounterSpent h = spent_alike same t r (counting t r) _ h
 refusal_alike same r t pass.MarksSpent h = h
 refusal_alike same r t pass.NotAssignable h = h
+refusal_alike same r t pass.TypesLeft h = h
 
 module _ {S : Type 0} (top : ℕ) (r : Renaming) (t : Node) (left : BTreeSet (String S)) (are : AreLeftTexts top r.preserves t left) where
   pub units_alike : (keeps : Bool) (after : Node) → HasUnits (λ unit. HasNames r (IsLeft unit left) keeps unit) t after → HasUnits (λ unit. HasNames r (IsPreservedInUnit top t r.preserves unit) keeps unit) t after
@@ -126,6 +127,7 @@ module _ {S : Type 0} (top : ℕ) (r : Renaming) (t : Node) (left : BTreeSet (St
   unit_refused table pass.CounterSpent (p, u, o, h) = inr (p, u, o, spent_alike (left_in_unit top t r.preserves left are u) u r (counting u r) _ h)
   unit_refused table pass.MarksSpent (p, u, o, h) = h
   unit_refused table pass.NotAssignable (p, u, o, h) = h
+  unit_refused table pass.TypesLeft (p, u, o, h) = h
 
 -- a refusal of the program's names is one of all
 pub top_refused : (table : Table) (top : ℕ) (r : Renaming) (t : Node) (e : PassError) → IsTopRefusal table top r t e → IsUnitsRefusal table top r t e
@@ -133,6 +135,7 @@ top_refused table top r t pass.NoMemory h = tt
 top_refused table top r t pass.CounterSpent h = inl h
 top_refused table top r t pass.MarksSpent h = h
 top_refused table top r t pass.NotAssignable h = h
+top_refused table top r t pass.TypesLeft h = h
 
 pub refused_at_top : {S : Type 0} (table : Table) (ok : IsTable table) (top : ℕ) (text : Id → ℕ → List ℕ) (mode : Mode) (keeps : Id → Bool) (t : Node) (left : BTreeSet (String S)) → AreLeftTexts top keeps t left → (e : PassError)
     → IsNameRefusal (renaming text mode (λ x. keeps x || descends_from table top x)) (IsLeft t left) t e → IsTopRefusal table top (renaming text mode keeps) t e
@@ -142,6 +145,7 @@ refused_at_top table ok top text mode keeps t left are pass.CounterSpent h =
     record { kept = kept; is_kept = kept_by_top table ok top text mode keeps; spent = spent_alike (left_by_top top t keeps left are) t kept (counting t kept) _ h }
 refused_at_top table ok top text mode keeps t left are pass.MarksSpent h = h
 refused_at_top table ok top text mode keeps t left are pass.NotAssignable h = h
+refused_at_top table ok top text mode keeps t left are pass.TypesLeft h = h
 
 -- the names of the program, where those are left alone whose outer mark descends from the top mark
 module _ {S : Type 0} (table : Table) (ok : IsTable table) (top : ℕ) (text : Id → ℕ → List ℕ) (mode : Mode) (keeps : Id → Bool) (t : Node) (a : Analysis) (read : IsRead (laid_out t) a) (left : BTreeSet (String S))
@@ -174,9 +178,11 @@ whole_refused table config r t ids left same are not_read pass.CounterSpent h = 
 }
 whole_refused table config r t ids left same are not_read pass.MarksSpent h = h
 whole_refused table config r t ids left same are not_read pass.NotAssignable h = h
+whole_refused table config r t ids left same are not_read pass.TypesLeft h = h
 
 pub units_refused : (table : Table) (config : Config) (r : Renaming) (t : Node) → IsReading config t → (e : PassError) → IsUnitsRefusal table config.top_level_mark r t e → IsRenameRefusal table config r t e
 units_refused table config r t read pass.NoMemory h = tt
 units_refused table config r t read pass.CounterSpent h = record { whole = λ not_read. absurd (not_read read); by_units = λ _. h }
 units_refused table config r t read pass.MarksSpent h = h
 units_refused table config r t read pass.NotAssignable h = h
+units_refused table config r t read pass.TypesLeft h = h

@@ -40,6 +40,7 @@ refusal_means t r a scopes places means preserved same pass.NoMemory h = tt
 refusal_means t r a scopes places means preserved same pass.CounterSpent h = spent_alike same t r (counting t r) greatest (spent_in_order_is_spent t r a scopes places means preserved h)
 refusal_means t r a scopes places means preserved same pass.MarksSpent h = h
 refusal_means t r a scopes places means preserved same pass.NotAssignable h = h
+refusal_means t r a scopes places means preserved same pass.TypesLeft h = h
 
 -- the texts that are asked for are those that are left
 pub left_test : {S : Type 0} (t : Node) (a : Analysis) (scopes places : List Path) → Means t a scopes places → (texts : BTreeSet (String S)) (text : List ℕ) → IsAmong (is_preserved_text a texts) text ↔ IsLeft t texts text

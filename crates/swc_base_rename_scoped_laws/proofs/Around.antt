@@ -87,6 +87,7 @@ impossible h = absurd (cc)
 key_seen : (k : Kind) (i : ℕ) → is_at (key_field k) i ≡ true → is_inside (view_from k i) ≡ false
 key_seen kind.Constructor i h = ap (λ b. is_inside (cond b view.Outside (cond (is_at (Some 2) i) view.Parameters view.Whole))) h
 key_seen kind.GetterProp i h = ap (λ b. is_inside (cond b view.Outside view.Whole)) h
+key_seen kind.TsModuleDecl i h = ap (λ b. is_inside (cond b view.Outside view.Whole)) h
 key_seen kind.SetterProp i h = ap (λ b. is_inside (cond b view.Outside (cond (is_at (Some 2) i) view.Parameters view.Whole))) h
 key_seen _ i h = impossible h
 

@@ -25,7 +25,9 @@ use Rattle.swc_tree_scoping.specs.declared.places.Scope.TheVariants as scope
 use Rattle.swc_tree_scoping.specs.Places.{Path, child, given, has_own_name, is_at, is_inside, opened_in, place_at, place_below, program_place}
 use Rattle.swc_tree_scoping.specs.Scopes.{view_in}
 use Rattle.swc_tree_scoping.proofs.Under.{no_place_under, place_under}
+use Rattle.swc_tree_renaming.proofs.Core.{none_in}
 use Rattle.swc_tree_sites.proofs.Leaves.{Field}
+use Rattle.swc_base_rename_analysis.specs.declared.scopes.ScopeKind.{ScopeKind}
 use Rattle.swc_base_rename_analysis.specs.Analysis.{IsAtOrAbove, IsOwnName, IsRound, body_field, body_kind, has_identifier, is_for_body, is_outside, opened_here, opened_round, own_kind, uses_own_name}
 use Rattle.swc_base_rename_analysis.specs.Laws.{is_body_at}
 use Rattle.swc_base_rename_analysis.specs.Order.{IsBefore, Site, entry, site_cmp, turn, turns}
@@ -37,6 +39,7 @@ use Rattle.swc_base_rename_scoped_laws.proofs.Around.{IsSeen, IsSeenIn, surround
 use Rattle.swc_base_rename_scoped_laws.proofs.ByIds.{IsAt}
 use Rattle.swc_base_rename_scoped_laws.proofs.Exports.{Part, part_fits}
 use Rattle.swc_base_rename_scoped_laws.proofs.Fields.{field_at, layer}
+use Rattle.swc_base_rename_scoped_laws.proofs.Reached.{ident_leaf}
 use Rattle.swc_base_rename_scoped_laws.proofs.Takers.{IsBodyOf}
 
 -- a site whose scope is entered later comes later
@@ -153,26 +156,40 @@ body_slot kind.ForOfStmt j f h e = let n : j ≡ 4 = grind arith in at (sym (ap 
     at e = sym (ap (λ (f : Field). f.1) (some_field e))
 body_slot _ j f h e = absurd (cc)
 
--- the scope of a statement stands round all its parts
-outside_none : (w : Place) (k : Kind) (named : Bool) (i : ℕ) → IsTrue (belongs k class.Stmt) → is_outside w k named i ≡ false
-outside_none w kind.ClassExpr named i h = absurd (cc)
-outside_none w kind.Constructor named i h = absurd (cc)
-outside_none w kind.GetterProp named i h = absurd (cc)
-outside_none w kind.SetterProp named i h = absurd (cc)
-outside_none w _ named i h = refl
+-- the scope of a statement stands round all its parts, but for the name of a namespace
+outside_only : (w : Place) (k : Kind) (named : Bool) (i : ℕ) → IsTrue (belongs k class.Stmt) → is_outside w k named i ≡ true → (k ≡ kind.TsModuleDecl) × (i ≡ 1)
+outside_only w kind.ClassExpr named i h e = absurd (cc)
+outside_only w kind.Constructor named i h e = absurd (cc)
+outside_only w kind.GetterProp named i h e = absurd (cc)
+outside_only w kind.SetterProp named i h e = absurd (cc)
+outside_only w kind.TsModuleDecl named i h e = (refl, grind arith)
+outside_only w _ named i h e = absurd (cc)
 
-alike : (f : Bool) (w : Place) (t : Node) (y : Node-F Node) (m l : ℕ) → out-Node t ≡ y → Fits t (slot.One (content.Node class.Stmt)) → opened_round f w y m ≡ opened_round f w y l
-alike f w t (Node-F.Tree k ts) m l o fit =
-    let p = both (not (is_identifier k)) (belongs k class.Stmt && each_fits (slots_of k) (map fits ts)) (layer t (Node-F.Tree k ts) (slot.One (content.Node class.Stmt)) o fit) in
-    let q = both (belongs k class.Stmt) (each_fits (slots_of k) (map fits ts)) p.1 in
-    ap (λ b. if b then [] else opened_here (body_kind f (own_kind w k (has_own_name ts)))) (outside_none w k (has_identifier ts) m q.0 ∙ sym (outside_none w k (has_identifier ts) l q.0))
-alike f w t Node-F.Absent m l o fit = refl
-alike f w t _ m l o fit = refl
+named_slot : (k : Kind) (i : ℕ) (f : Field) → k ≡ kind.TsModuleDecl → i ≡ 1 → slice_get (fields_of k) i ≡ Some f → f.1 ≡ slot.One (content.Node class.Ident)
+named_slot k i f is one e = at (sym (ap (λ k. slice_get (fields_of k) i) is ∙ ap (slice_get (fields_of kind.TsModuleDecl)) one) ∙ e)
+  where
+    at : slice_get (fields_of kind.TsModuleDecl) 1 ≡ Some f → f.1 ≡ slot.One (content.Node class.Ident)
+    at e = sym (ap (λ (f : Field). f.1) (some_field e))
 
-inside_alike : (u : Path) (m l : ℕ) (n r : Path) (f : Bool) (w x : Place) (t c : Node) → place_at w t u ≡ Some (x, c) → Fits c (slot.One (content.Node class.Stmt)) → IsRoundIn f w t u (u ++ (m ∷ n)) → IsRoundIn f w t u (u ++ (l ∷ r))
-inside_alike [] m l n r f w x t c e fit (k, h) =
-    (k, subst (λ l. Contains l ([], k)) (alike f w t (out-Node t) m l refl (subst (λ c. Fits c (slot.One (content.Node class.Stmt))) (ap (λ (z : Place × Node). z.1) (sym (some_same (w, t) (x, c) e))) fit)) h)
-inside_alike (i ∷ u) m l n r f w x t c e fit (d, (b, there, h)) = (d, (b, there, inside_alike u m l n r (is_for_body (out-Node t) i) (place_below w t i) x b c (sym (place_under w t b i u there) ∙ e) fit h))
+no_own_name : (k : Kind) (ts : List Node) → k ≡ kind.TsModuleDecl → IsTrue (uses_own_name (Node-F.Tree k ts)) → ⊥
+no_own_name k ts is u = let z : false ≡ true = sym (ap (λ k. uses_own_name (Node-F.Tree k ts)) is) ∙ u in absurd (cc)
+
+-- a part that the node's scope stands round
+abbrev IsInScope : Place → Node → ℕ → Type 0
+IsInScope w t i = (k : Kind) (ts : List Node) → out-Node t ≡ Node-F.Tree k ts → is_outside w k (has_identifier ts) i ≡ false
+
+alike : (f : Bool) (w : Place) (t : Node) (y : Node-F Node) (m l : ℕ) (a : ScopeKind) → out-Node t ≡ y → IsInScope w t l → Contains (opened_round f w y m) ([], a) → Contains (opened_round f w y l) ([], a)
+alike f w t (Node-F.Tree k ts) m l a o clear h = by (is_outside w k (has_identifier ts) m) refl
+  where
+    by : (b : Bool) → is_outside w k (has_identifier ts) m ≡ b → Contains (opened_round f w (Node-F.Tree k ts) l) ([], a)
+    by true e = absurd (none_in ([], a) (subst (λ b. Contains (if b then [] else opened_here (body_kind f (own_kind w k (has_own_name ts)))) ([], a)) e h))
+    by false e = subst (λ b. Contains (if b then [] else opened_here (body_kind f (own_kind w k (has_own_name ts)))) ([], a)) (sym (clear k ts o)) (subst (λ b. Contains (if b then [] else opened_here (body_kind f (own_kind w k (has_own_name ts)))) ([], a)) e h)
+alike f w t Node-F.Absent m l a o clear h = h
+alike f w t _ m l a o clear h = h
+
+inside_alike : (u : Path) (m l : ℕ) (n r : Path) (f : Bool) (w x : Place) (t c : Node) → place_at w t u ≡ Some (x, c) → IsInScope x c l → IsRoundIn f w t u (u ++ (m ∷ n)) → IsRoundIn f w t u (u ++ (l ∷ r))
+inside_alike [] m l n r f w x t c e clear (k, h) = (k, alike f w t (out-Node t) m l k refl (subst (λ (z : Place × Node). IsInScope z.0 z.1 l) (sym (some_same (w, t) (x, c) e)) clear) h)
+inside_alike (i ∷ u) m l n r f w x t c e clear (d, (b, there, h)) = (d, (b, there, inside_alike u m l n r (is_for_body (out-Node t) i) (place_below w t i) x b c (sym (place_under w t b i u there) ∙ e) clear h))
 
 no_function_is_for : (y : Node-F Node) (j : ℕ) → is_for_body y j ≡ true → IsTrue (uses_own_name y) → ⊥
 no_function_is_for (Node-F.Tree k ts) j h u = kinds k h u
@@ -203,11 +220,20 @@ pub child_of : (o : Option Node) (b : Bool) → given o false (λ c. b) ≡ true
 child_of None b h = absurd (cc)
 child_of (Some c) b h = (c, refl, h)
 
+-- a path goes on below a part of a part, or the part is a function that uses its own name
+abbrev GoesOn : Node → Path → ℕ → ℕ → Path → Type 0
+GoesOn t v l i p = ((w : Place) × (g : Node) × (place_at program_place t (v ++ (l ∷ [])) ≡ Some (w, g)) × IsTrue (uses_own_name (out-Node g))) ⊎ ((z : ℕ) × (q : Path) × (p ≡ v ++ (l ∷ i ∷ z ∷ q)))
+
+goes_further : (r : Path) (m : ℕ) (n : Path) → (z : ℕ) × (q : Path) × (r ++ (m ∷ n) ≡ z ∷ q)
+goes_further [] m n = (m, n, refl)
+goes_further (i ∷ r) m n = (i, r ++ (m ∷ n), refl)
+
 module _ (t : Node) (s : Slot) (fit : Fits t s) (v : Path) (j : ℕ) (a b : Site) (before : IsBefore t b a) (u : b.0 ≡ v ++ (j ∷ [])) (round : IsRound t b.0 b.1) (x : Place) (f : Node) (y : Slot) (here : place_at program_place t v ≡ Some (x, f)) (f_fits : Fits f y)
     (c : Node) (there : child f j ≡ Some c) (body : is_for_body (out-Node f) j ≡ true) where
   -- the scope is a part of the statement
-  deep : (l : ℕ) (rest : Path) (d : Node) → child f l ≡ Some d → a.0 ≡ v ++ (l ∷ rest) → IsAtOrAbove t b.0 a.0
-  deep l rest d part e = by (for_form (out-Node f) j body)
+  deep : (l : ℕ) (rest : Path) (d : Node) (p : Path) (pv : Place) (pn : Node) → place_at program_place t p ≡ Some (pv, pn) → ((i : ℕ) (r : Path) → rest ≡ i ∷ r → GoesOn t v l i p) → child f l ≡ Some d → a.0 ≡ v ++ (l ∷ rest)
+      → IsAtOrAbove t b.0 a.0
+  deep l rest d p pv pn on goes_on part e = by (for_form (out-Node f) j body)
     where
       by : (k : Kind) × (ts : List Node) × (out-Node f ≡ Node-F.Tree k ts) × (is_at (body_field k) j ≡ true) → IsAtOrAbove t b.0 a.0
       by (k, ts, o, is) =
@@ -221,7 +247,7 @@ module _ (t : Node) (s : Slot) (fit : Fits t s) (v : Path) (j : ℕ) (a b : Site
               absurd (not_before t a b ((λ i. slice_cmp nat_cmp (turns entry t (e i)) (turns entry t (u i))) ∙ turns_part entry v l j rest [] program_place t x f here turns_rise) before)
 
           same : l ≡ j → IsAtOrAbove t b.0 a.0
-          same n = below rest (e ∙ ap (λ l. v ++ (l ∷ rest)) n ∙ sym (regrouped v (j ∷ []) rest) ∙ ap (λ u. u ++ rest) (sym u))
+          same n = below rest refl (e ∙ ap (λ l. v ++ (l ∷ rest)) n ∙ sym (regrouped v (j ∷ []) rest) ∙ ap (λ u. u ++ rest) (sym u))
             where
               c_fits : Fits c (slot.One (content.Node class.Stmt))
               c_fits = let (fd, number, g) = field_at f c k ts y j o f_fits there in subst (Fits c) (body_slot k j fd is number) g
@@ -229,13 +255,55 @@ module _ (t : Node) (s : Slot) (fit : Fits t s) (v : Path) (j : ℕ) (a b : Site
               at_body : place_at program_place t b.0 ≡ Some (place_below x f j, c)
               at_body = ap (place_at program_place t) u ∙ place_below_at v j program_place t x f c here there
 
-              below : (rest : Path) → a.0 ≡ b.0 ++ rest → IsAtOrAbove t b.0 a.0
-              below [] e = inl (sym (e ∙ nothing_after b.0))
-              below (i ∷ r) e =
+              below : (part : Path) → rest ≡ part → a.0 ≡ b.0 ++ part → IsAtOrAbove t b.0 a.0
+              below [] is e = inl (sym (e ∙ nothing_after b.0))
+              below (i ∷ r) is e =
                   let (m, n, goes) = round_goes_on t b.0 b.1 round in
                   let inner : IsRoundIn false program_place t b.0 (b.0 ++ (m ∷ n)) = subst (IsRoundIn false program_place t b.0) goes (step_by_step b.1 b.0 false program_place t round.0 round.1) in
-                  let outer : IsRoundIn false program_place t b.0 a.0 = subst (IsRoundIn false program_place t b.0) (sym e) (inside_alike b.0 m i n r false program_place (place_below x f j) t c at_body c_fits inner) in
+                  let outer : IsRoundIn false program_place t b.0 a.0 = subst (IsRoundIn false program_place t b.0) (sym e) (inside_alike b.0 m i n r false program_place (place_below x f j) t c at_body (clear i (goes_on i r is)) inner) in
                   inr (all_steps a.0 b.0 false program_place t outer)
+                where
+                  at_part : place_at program_place t (v ++ (l ∷ [])) ≡ Some (place_below x f j, c)
+                  at_part = ap (λ l. place_at program_place t (v ++ (l ∷ []))) n ∙ ap (place_at program_place t) (sym u) ∙ at_body
+
+                  -- it is in no namespace's name, where an identifier stands and nothing below it
+                  clear : (i : ℕ) → GoesOn t v l i p → IsInScope (place_below x f j) c i
+                  clear i g k ts o = stays (is_outside (place_below x f j) k (has_identifier ts) i) refl
+                    where
+                      among : IsTrue (belongs k class.Stmt)
+                      among =
+                          let p = both (not (is_identifier k)) (belongs k class.Stmt && each_fits (slots_of k) (map fits ts)) (layer c (Node-F.Tree k ts) (slot.One (content.Node class.Stmt)) o c_fits) in
+                          (both (belongs k class.Stmt) (each_fits (slots_of k) (map fits ts)) p.1).0
+
+                      from : k ≡ kind.TsModuleDecl → i ≡ 1 → GoesOn t v l i p → ⊥
+                      from is one (inl (w', g, at, uses)) =
+                          let same : g ≡ c = ap (λ (z : Place × Node). z.1) (some_same (w', g) (place_below x f j, c) (sym at ∙ at_part)) in
+                          no_own_name k ts is (subst (λ y. IsTrue (uses_own_name y)) (ap out-Node same ∙ o) uses)
+                      from is one (inr (z, q, path)) = through (part_fits (v ++ (l ∷ [])) (i ∷ z ∷ q) program_place pv t pn s fit (ap (place_at program_place t) (regrouped v (l ∷ []) (i ∷ z ∷ q) ∙ sym path) ∙ on))
+                        where
+                          through : Part (v ++ (l ∷ [])) (i ∷ z ∷ q) program_place pv t pn → ⊥
+                          through (x', c', y', here', fits', on') = in_name (child c i) refl
+                            where
+                              c_is : c' ≡ c
+                              c_is = ap (λ (z : Place × Node). z.1) (some_same (x', c') (place_below x f j, c) (sym here' ∙ at_part))
+
+                              stands : place_at x' c (i ∷ z ∷ q) ≡ Some (pv, pn)
+                              stands = ap (λ c. place_at x' c (i ∷ z ∷ q)) (sym c_is) ∙ on'
+
+                              in_name : (o' : Option Node) → child c i ≡ o' → ⊥
+                              in_name None e' = no_place (pv, pn) (sym stands ∙ no_place_under x' c i (z ∷ q) e')
+                              in_name (Some h) e' = leaf (child h z) refl
+                                where
+                                  name_fits : Fits h (slot.One (content.Node class.Ident))
+                                  name_fits = let (fd, number, fit') = field_at c h k ts (slot.One (content.Node class.Stmt)) i o c_fits e' in subst (Fits h) (named_slot k i fd is one number) fit'
+
+                                  leaf : (o'' : Option Node) → child h z ≡ o'' → ⊥
+                                  leaf None e'' = no_place (pv, pn) (sym stands ∙ place_under x' c h i (z ∷ q) e' ∙ no_place_under (place_below x' c i) h z q e'')
+                                  leaf (Some m) e'' = ident_leaf h m z name_fits e''
+
+                      stays : (b : Bool) → is_outside (place_below x f j) k (has_identifier ts) i ≡ b → is_outside (place_below x f j) k (has_identifier ts) i ≡ false
+                      stays false e = e
+                      stays true e = let (is, one) = outside_only (place_below x f j) k (has_identifier ts) i among e in absurd (from is one g)
 
   -- the scope is round the statement
   wide : (rest p : Path) → v ≡ a.0 ++ rest → IsRound t a.0 p → IsSeen t v p → IsAtOrAbove t b.0 a.0
@@ -260,17 +328,23 @@ body_comes_last t s fit v r a b p rp ip at_p (j, u, body, lexical) round there p
                 part None z = absurd (no_place (at_p.place, Identifier at_p.kind ip) (sym on ∙ no_place_under x f m n z))
                 part (Some d) z = ⊎_elim around own place
                   where
-                    inner : (l : ℕ) (rest more : Path) → a.0 ≡ v ++ (l ∷ rest) → p ≡ v ++ (l ∷ more) → IsAtOrAbove t b.0 a.0
-                    inner l rest more e g =
+                    inner : (l : ℕ) (rest more : Path) → ((i : ℕ) (r : Path) → rest ≡ i ∷ r → GoesOn t v l i p) → a.0 ≡ v ++ (l ∷ rest) → p ≡ v ++ (l ∷ more) → IsAtOrAbove t b.0 a.0
+                    inner l rest more goes_on e g =
                         let one : m ≡ l = first_step (same_after v (m ∷ n) (l ∷ more) (sym goes ∙ g)) in
-                        deep t s fit v j a b before u round x f y here f_fits c its is l rest d (sym (ap (child f) one) ∙ z) e
+                        deep t s fit v j a b before u round x f y here f_fits c its is l rest d p at_p.place (Identifier at_p.kind ip) at_p.stands goes_on (sym (ap (child f) one) ∙ z) e
 
                     around : IsRound t a.0 p → IsAtOrAbove t b.0 a.0
                     around h = let (m', n', goes') = round_goes_on t a.0 p h in by m' n' goes' (parted a.0 v (m' ∷ n') (m ∷ n) (sym goes' ∙ goes))
                       where
                         by : (m' : ℕ) (n' : Path) → p ≡ a.0 ++ (m' ∷ n') → Meets a.0 v → IsAtOrAbove t b.0 a.0
                         by m' n' goes' (inl (rest, e)) = wide t s fit v j a b before u round x f y here f_fits c its is rest p e h there
-                        by m' n' goes' (inr (l, rest, e)) = inner l rest (rest ++ (m' ∷ n')) e (goes' ∙ ap (λ a. a ++ (m' ∷ n')) e ∙ regrouped v (l ∷ rest) (m' ∷ n'))
+                        by m' n' goes' (inr (l, rest, e)) = inner l rest (rest ++ (m' ∷ n')) ahead e whole
+                          where
+                            whole : p ≡ v ++ (l ∷ (rest ++ (m' ∷ n')))
+                            whole = goes' ∙ ap (λ a. a ++ (m' ∷ n')) e ∙ regrouped v (l ∷ rest) (m' ∷ n')
+
+                            ahead : (i : ℕ) (late : Path) → rest ≡ i ∷ late → GoesOn t v l i p
+                            ahead i late same = let (z, final, more) = goes_further late m' n' in inr (z, final, whole ∙ ap (λ rest. v ++ (l ∷ (rest ++ (m' ∷ n')))) same ∙ ap (λ r. v ++ (l ∷ i ∷ r)) more)
 
                     own : IsOwnName t a.0 p → IsAtOrAbove t b.0 a.0
                     own (q, w', g, at_name, at_function, there_too, uses) = let (rest, e) = last_step v q m fn_decl.IDENT n (sym goes ∙ at_name) in by rest e
@@ -279,6 +353,14 @@ body_comes_last t s fit v r a b p rp ip at_p (j, u, body, lexical) round there p
                         by [] e =
                             let same : g ≡ f = ap (λ (z : Place × Node). z.1) (some_same (w', g) (x, f) (sym there_too ∙ ap (place_at program_place t) (e ∙ nothing_after v) ∙ here)) in
                             absurd (no_function_is_for (out-Node f) j is (subst (λ g. IsTrue (uses_own_name (out-Node g))) same uses))
-                        by (l ∷ rest) e =
-                            inner l (rest ++ (fn_decl.FUNCTION ∷ [])) (rest ++ (fn_decl.IDENT ∷ [])) (at_function ∙ ap (λ q. q ++ (fn_decl.FUNCTION ∷ [])) e ∙ regrouped v (l ∷ rest) (fn_decl.FUNCTION ∷ []))
-                            (at_name ∙ ap (λ q. q ++ (fn_decl.IDENT ∷ [])) e ∙ regrouped v (l ∷ rest) (fn_decl.IDENT ∷ []))
+                        by (l ∷ rest) e = inner l (rest ++ (fn_decl.FUNCTION ∷ [])) (rest ++ (fn_decl.IDENT ∷ [])) (ahead rest refl) (at_function ∙ ap (λ q. q ++ (fn_decl.FUNCTION ∷ [])) e ∙ regrouped v (l ∷ rest) (fn_decl.FUNCTION ∷ [])) whole
+                          where
+                            whole : p ≡ v ++ (l ∷ (rest ++ (fn_decl.IDENT ∷ [])))
+                            whole = at_name ∙ ap (λ q. q ++ (fn_decl.IDENT ∷ [])) e ∙ regrouped v (l ∷ rest) (fn_decl.IDENT ∷ [])
+
+                            ahead : (way : Path) → rest ≡ way → (i : ℕ) (late : Path) → rest ++ (fn_decl.FUNCTION ∷ []) ≡ i ∷ late → GoesOn t v l i p
+                            ahead [] none i late same = inl (w', g, sym (ap (λ rest. place_at program_place t (v ++ (l ∷ rest))) none) ∙ ap (place_at program_place t) (sym e) ∙ there_too, uses)
+                            ahead (h ∷ k) some i late same =
+                                let one : h ≡ i = first_step (sym (ap (λ rest. rest ++ (fn_decl.FUNCTION ∷ [])) some) ∙ same) in
+                                let (z, final, more) = goes_further k fn_decl.IDENT [] in
+                                inr (z, final, whole ∙ ap (λ rest. v ++ (l ∷ (rest ++ (fn_decl.IDENT ∷ [])))) some ∙ ap (λ k. v ++ (l ∷ h ∷ k)) more ∙ ap (λ h. v ++ (l ∷ h ∷ z ∷ final)) one)

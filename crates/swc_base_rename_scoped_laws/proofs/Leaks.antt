@@ -44,6 +44,7 @@ could role.Reference = false
 could role.Label = false
 could role.FunctionBody = false
 could role.Function = false
+could role.TypeName = false
 could _ = true
 
 abbrev is_known : Role → Bool
@@ -55,6 +56,7 @@ is_known role.Function = true
 is_known role.Declared = true
 is_known role.Class = true
 is_known role.Lexical = true
+is_known role.TypeName = true
 is_known _ = false
 
 -- through which fields of a statement a lexical name may go
@@ -73,6 +75,8 @@ leaks kind.DoWhileStmt i = i == 1
 leaks kind.VarDecl i = i == 2
 leaks kind.ClassDecl i = true
 leaks kind.UsingDecl i = true
+leaks kind.TsEnumDecl i = true
+leaks kind.TsModuleDecl i = true
 leaks _ i = false
 
 abbrev field_fine : Kind → ℕ → Field → Bool
@@ -125,6 +129,9 @@ reference_not e = absurd (cc)
 label_not : standing.Label ≢ standing.Lexical
 label_not e = absurd (cc)
 
+type_not : standing.TypeName ≢ standing.Lexical
+type_not e = absurd (cc)
+
 body_not : standing.Body ≢ standing.Lexical
 body_not e = absurd (cc)
 
@@ -133,6 +140,7 @@ could_so w k ts i role.Plain h = never (plain_standing k i) false (plain_not k i
 could_so w k ts i role.Reference h = never standing.Reference false reference_not h
 could_so w k ts i role.Label h = never standing.Label false label_not h
 could_so w k ts i role.FunctionBody h = never standing.Body false body_not h
+could_so w k ts i role.TypeName h = never standing.TypeName false type_not h
 could_so w k ts i role.Function h = never (function_standing w (is_plain_function (slice_get ts 1))) false (function_not _ _) h
 could_so w k ts i _ h = refl
 
@@ -207,6 +215,7 @@ default_not w k ts i role.Label h q = λ e. absurd (cc)
 default_not w k ts i role.FunctionBody h q = λ e. absurd (cc)
 default_not w k ts i role.Class h q = λ e. absurd (cc)
 default_not w k ts i role.Lexical h q = λ e. absurd (cc)
+default_not w k ts i role.TypeName h q = λ e. absurd (cc)
 default_not w k ts i _ h q = absurd (cc)
 
 -- blocks and catch clauses keep their lexical names
@@ -423,6 +432,8 @@ ways w kind.DoWhileStmt ts j strict a lk p b = inl refl
 ways w kind.VarDecl ts j strict a lk p b = inr (inr (inr refl))
 ways w kind.ClassDecl ts j strict a lk p b = absurd (cc)
 ways w kind.UsingDecl ts j strict a lk p b = absurd (cc)
+ways w kind.TsEnumDecl ts j strict a lk p b = absurd (cc)
+ways w kind.TsModuleDecl ts j strict a lk p b = absurd (cc)
 ways w _ ts j strict a lk p b = absurd (cc)
 
 some_field : {f g : Field} → Some f ≡ Some g → f ≡ g

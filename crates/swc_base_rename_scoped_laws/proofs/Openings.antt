@@ -49,6 +49,7 @@ analysed kind.Constructor r = true
 analysed kind.GetterProp r = true
 analysed kind.SetterProp r = true
 analysed kind.StaticBlock r = true
+analysed kind.TsModuleDecl r = true
 analysed kind.FnExpr r = true
 analysed kind.ClassExpr r = true
 analysed _ r = false
@@ -63,6 +64,7 @@ taken_there kind.Constructor i r = takes r scope.Function
 taken_there kind.GetterProp i r = takes r scope.Function
 taken_there kind.SetterProp i r = takes r scope.Function
 taken_there kind.StaticBlock i r = takes r scope.StaticBlock
+taken_there kind.TsModuleDecl i r = takes r scope.Namespace
 taken_there kind.CatchClause i r = takes r scope.Catch
 taken_there kind.BlockStmt i r = takes r scope.Block
 taken_there kind.ForStmt i r = takes r scope.For
@@ -88,6 +90,10 @@ is_named kind.FnExpr = true
 is_named kind.ClassExpr = true
 is_named _ = false
 
+abbrev is_space : Kind → Bool
+is_space kind.TsModuleDecl = true
+is_space _ = false
+
 abbrev is_plain_role : Kind → Role → Bool
 is_plain_role k role.Plain = true
 is_plain_role k role.Reference = true
@@ -95,6 +101,7 @@ is_plain_role k role.FunctionBody = true
 is_plain_role k role.Parameter = true
 is_plain_role k role.Catch = true
 is_plain_role k role.OwnName = is_named k
+is_plain_role k role.Class = is_space k
 is_plain_role k _ = false
 
 abbrev implies : Bool → Bool → Bool
@@ -205,6 +212,7 @@ so w k ts i role.FunctionBody r d b p h = never standing.Body r (bound_so k role
 so w k ts i role.Parameter r d b p h = parameter_so (is_identifier_expression (slice_get ts i)) r b h
 so w k ts i role.Catch r d b p h = catch_so (is_identifier_expression (slice_get ts i)) r b h
 so w k ts i role.OwnName r d b p h = name_so k w.standing r (d p) h
+so w k ts i role.Class r d b p h = refl
 so w k ts i _ r d b p h = absurd (cc)
 
 no_export : (k : Kind) (r : Standing) (i : ℕ) → analysed k r ≡ true → is_default_export (plain_standing k i) ≡ false
@@ -229,6 +237,7 @@ field_not_default w k ts i role.FunctionBody r a p = refl
 field_not_default w k ts i role.Parameter r a p = chosen (is_identifier_expression (slice_get ts i)) standing.Parameter refl
 field_not_default w k ts i role.Catch r a p = chosen (is_identifier_expression (slice_get ts i)) standing.CatchParameter refl
 field_not_default w k ts i role.OwnName r a p = name_not_default k w.standing
+field_not_default w k ts i role.Class r a p = refl
 field_not_default w k ts i _ r a p = absurd (cc)
 
 pub may_more : (g : Leaves) (x y : Bool) (r : Standing) → (x ≡ true → y ≡ true) → may g x r ≡ true → may g y r ≡ true
@@ -251,6 +260,7 @@ opens_analysed w kind.Constructor b a r e h = refl
 opens_analysed w kind.GetterProp b a r e h = refl
 opens_analysed w kind.SetterProp b a r e h = refl
 opens_analysed w kind.StaticBlock b a r e h = refl
+opens_analysed w kind.TsModuleDecl b a r e h = refl
 opens_analysed w kind.FnExpr b a r e h = refl
 opens_analysed w kind.ClassExpr b a r e h = refl
 opens_analysed w kind.ForStmt b a r e h = let z : Block ≡ a = cc in ap (λ a. takes_all a r) z ∙ h
@@ -290,6 +300,7 @@ opens_taken w kind.Constructor ts i r a d there e h = h
 opens_taken w kind.GetterProp ts i r a d there e h = h
 opens_taken w kind.SetterProp ts i r a d there e h = h
 opens_taken w kind.StaticBlock ts i r a d there e h = h
+opens_taken w kind.TsModuleDecl ts i r a d there e h = h
 opens_taken w kind.CatchClause ts i r a d there e h = h
 opens_taken w kind.ForStmt ts i r a d there e h = h
 opens_taken w kind.ForInStmt ts i r a d there e h = h
@@ -309,8 +320,12 @@ parameters_inside false = refl
 pub seen_too : (w : Place) (k : Kind) (b named : Bool) (i : ℕ) (a : ScopeKind) → own_kind w k b ≡ Some a → is_outside w k named i ≡ false → is_inside (view_from k i) ≡ true
 seen_too w kind.Constructor b named i a e n = ap (λ o. is_inside (cond o view.Outside (cond (is_at (Some 2) i) view.Parameters view.Whole))) n ∙ parameters_inside (is_at (Some 2) i)
 seen_too w kind.GetterProp b named i a e n = ap (λ o. is_inside (cond o view.Outside view.Whole)) n
+seen_too w kind.TsModuleDecl b named i a e n = ap (λ o. is_inside (cond o view.Outside view.Whole)) n
 seen_too w kind.SetterProp b named i a e n = ap (λ o. is_inside (cond o view.Outside (cond (is_at (Some 2) i) view.Parameters view.Whole))) n ∙ parameters_inside (is_at (Some 2) i)
 seen_too w kind.SwitchStmt b named i a e n = absurd (cc)
+seen_too w kind.TsInterfaceDecl b named i a e n = absurd (cc)
+seen_too w kind.TsTypeAliasDecl b named i a e n = absurd (cc)
+seen_too w kind.TsEnumDecl b named i a e n = absurd (cc)
 seen_too w kind.Function b named i a e n = parameters_inside (is_at (Some 1) i)
 seen_too w kind.ArrowExpr b named i a e n = parameters_inside (is_at (Some 1) i)
 seen_too w kind.CatchClause b named i a e n = parameters_inside (is_at (Some 1) i)

@@ -152,7 +152,7 @@ ident_slot (slot.One _) h = absurd (cc)
 ident_slot _ h = absurd (cc)
 
 -- which has nothing below it
-ident_leaf : (c d : Node) (i : ℕ) → Fits c (slot.One (content.Node class.Ident)) → child c i ≡ Some d → ⊥
+pub ident_leaf : (c d : Node) (i : ℕ) → Fits c (slot.One (content.Node class.Ident)) → child c i ≡ Some d → ⊥
 ident_leaf c d i fit e = forms (out-Node c) refl
   where
     forms : (y : Node-F Node) → out-Node c ≡ y → ⊥
@@ -195,6 +195,7 @@ stays_out w kind.Constructor b i h = not_so (is_inside (view_from kind.Construct
 stays_out w kind.GetterProp b i h = not_so (is_inside (view_from kind.GetterProp i)) h
 stays_out w kind.SetterProp b i h = not_so (is_inside (view_from kind.SetterProp i)) h
 stays_out w kind.StaticBlock b i h = not_so (is_inside (view_from kind.StaticBlock i)) h
+stays_out w kind.TsModuleDecl b i h = not_so (is_inside (view_from kind.TsModuleDecl i)) h
 stays_out w kind.FnExpr b zero h = refl
 stays_out w kind.FnExpr b (suc i) h = refl
 stays_out w kind.ClassExpr b zero h = refl
@@ -270,6 +271,7 @@ variable_there kind.Constructor i w b h = refl
 variable_there kind.GetterProp i w b h = refl
 variable_there kind.SetterProp i w b h = refl
 variable_there kind.StaticBlock i w b h = refl
+variable_there kind.TsModuleDecl i w b h = refl
 variable_there kind.FnExpr zero w b h = absurd (cc)
 variable_there kind.FnExpr (suc i) w b h = absurd (cc)
 variable_there kind.ClassExpr zero w b h = absurd (cc)

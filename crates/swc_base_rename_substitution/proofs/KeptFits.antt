@@ -35,21 +35,31 @@ abbrev exports_room : Option Content → Bool
 exports_room (Some c) = takes_exports c
 exports_room None = true
 
--- what holds of the four kinds of declarations holds of each kind of their class
-of_declarations : (b : Kind → Bool) → IsTrue (b kind.ClassDecl) → IsTrue (b kind.FnDecl) → IsTrue (b kind.VarDecl) → IsTrue (b kind.UsingDecl) → (k : Kind) → IsTrue (belongs k class.Decl) → IsTrue (b k)
-of_declarations b c f v u kind.ClassDecl h = c
-of_declarations b c f v u kind.FnDecl h = f
-of_declarations b c f v u kind.VarDecl h = v
-of_declarations b c f v u kind.UsingDecl h = u
-of_declarations b c f v u k h = absurd (cc)
+-- what holds of the eight kinds of declarations holds of each kind of their class
+of_declarations : (b : Kind → Bool) → IsTrue (b kind.ClassDecl) → IsTrue (b kind.FnDecl) → IsTrue (b kind.VarDecl) → IsTrue (b kind.UsingDecl)
+    → IsTrue (b kind.TsInterfaceDecl) → IsTrue (b kind.TsTypeAliasDecl) → IsTrue (b kind.TsEnumDecl) → IsTrue (b kind.TsModuleDecl) → (k : Kind) → IsTrue (belongs k class.Decl) → IsTrue (b k)
+of_declarations b c f v u i a e m kind.ClassDecl h = c
+of_declarations b c f v u i a e m kind.FnDecl h = f
+of_declarations b c f v u i a e m kind.VarDecl h = v
+of_declarations b c f v u i a e m kind.UsingDecl h = u
+of_declarations b c f v u i a e m kind.TsInterfaceDecl h = i
+of_declarations b c f v u i a e m kind.TsTypeAliasDecl h = a
+of_declarations b c f v u i a e m kind.TsEnumDecl h = e
+of_declarations b c f v u i a e m kind.TsModuleDecl h = m
+of_declarations b c f v u i a e m k h = absurd (cc)
 
-declarations_wide : (c : Class) → (belongs kind.NamedExport c && (belongs kind.ClassDecl c && (belongs kind.FnDecl c && (belongs kind.VarDecl c && belongs kind.UsingDecl c)))) ≡ true
+declarations_wide : (c : Class) → (belongs kind.NamedExport c && (belongs kind.ClassDecl c && (belongs kind.FnDecl c && (belongs kind.VarDecl c && (belongs kind.UsingDecl c
+    && (belongs kind.TsInterfaceDecl c && (belongs kind.TsTypeAliasDecl c && (belongs kind.TsEnumDecl c && belongs kind.TsModuleDecl c)))))))) ≡ true
     → (k : Kind) → IsTrue (belongs k class.Decl) → IsTrue (belongs k c)
 declarations_wide c r =
     let classes = right (belongs kind.NamedExport c) _ r in
     let functions = right (belongs kind.ClassDecl c) _ classes in
     let variables = right (belongs kind.FnDecl c) _ functions in
-    of_declarations (λ k. belongs k c) (left _ _ classes) (left _ _ functions) (left _ _ variables) (right (belongs kind.VarDecl c) _ variables)
+    let usings = right (belongs kind.VarDecl c) _ variables in
+    let interfaces = right (belongs kind.UsingDecl c) _ usings in
+    let aliases = right (belongs kind.TsInterfaceDecl c) _ interfaces in
+    let enums = right (belongs kind.TsTypeAliasDecl c) _ aliases in
+    of_declarations (λ k. belongs k c) (left _ _ classes) (left _ _ functions) (left _ _ variables) (left _ _ usings) (left _ _ interfaces) (left _ _ aliases) (left _ _ enums) (right (belongs kind.TsEnumDecl c) _ enums)
 
 declaration_fits : (y : Node-F Node) (u : Node) (s : Slot) → u ≡ roll-Node y → exports_room (single s) ≡ true → Fits u s → Fits (declaration_in u y) s
 declaration_fits (Node-F.Tree kind.ExportDecl (a ∷ d ∷ [])) u s e r h =

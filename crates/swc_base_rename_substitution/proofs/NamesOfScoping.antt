@@ -124,6 +124,8 @@ role_is p w k ts i role.FunctionBody h = refl
 role_is p w k ts i role.Label h = refl
 role_is p w k ts i role.Imported h = refl
 role_is p w k ts i role.Exported h = refl
+role_is p w k ts i role.TypeName h = refl
+role_is p w k ts i role.TypeReference h = refl
 role_is p w k ts i role.ExportLocal h = local _
 
 child_is : (keeps : Bool) (p : Place) (w : ScopingPlace) (y : Node-F Node) (i : ℕ) → is_name p ≡ binds_or_refers w.standing

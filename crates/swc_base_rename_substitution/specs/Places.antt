@@ -29,6 +29,8 @@ by_role whole sourced role.Plain = place.Other
 by_role whole sourced role.Label = place.Other
 by_role whole sourced role.Imported = place.Other
 by_role whole sourced role.Exported = place.Other
+by_role whole sourced role.TypeName = place.Other
+by_role whole sourced role.TypeReference = place.Other
 by_role whole sourced role.ExportLocal = if sourced then place.Other else place.Name
 by_role whole sourced r = place.Name
 

@@ -20,7 +20,8 @@ takes_written c = true
 -- where an exported declaration may stand, so may the declaration and an export list
 abbrev pub takes_exports : Content → Bool
 takes_exports (content.Node c) =
-    implies (belongs kind.ExportDecl c) (belongs kind.NamedExport c && (belongs kind.ClassDecl c && (belongs kind.FnDecl c && (belongs kind.VarDecl c && belongs kind.UsingDecl c))))
+    implies (belongs kind.ExportDecl c) (belongs kind.NamedExport c && (belongs kind.ClassDecl c && (belongs kind.FnDecl c && (belongs kind.VarDecl c && (belongs kind.UsingDecl c
+    && (belongs kind.TsInterfaceDecl c && (belongs kind.TsTypeAliasDecl c && (belongs kind.TsEnumDecl c && belongs kind.TsModuleDecl c))))))))
 takes_exports c = true
 
 -- a place that takes what is written out there. Each place of the table is one, and so are those of modules,

@@ -46,6 +46,7 @@ fn by_role(place: Place, sourced: bool, role: Role) -> Place
     match role {
         Role::Inherited => within(place),
         Role::Plain | Role::Label | Role::Imported | Role::Exported => Place::Other,
+        Role::TypeName | Role::TypeReference => Place::Other,
         Role::ExportLocal if sourced => Place::Other,
         _ => Place::Name,
     }

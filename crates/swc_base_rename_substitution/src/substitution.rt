@@ -113,7 +113,7 @@ fn substitute_each(
     Ok(nodes)
 }
 
-// The same in place. Most nodes that have parts stay what they are, and are not taken out of their list.
+// The same in place. A node that stays what it is is not taken out of its list.
 #[cycle(substitute)]
 fn substitute_all(
     alloc: Global,

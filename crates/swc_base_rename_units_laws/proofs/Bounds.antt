@@ -49,6 +49,7 @@ module _ (table : Table) (config : Config) (r : Renaming) (t : Node) where
   of_crowding pass.NoMemory h = tt
   of_crowding pass.MarksSpent h = h
   of_crowding pass.NotAssignable h = h
+  of_crowding pass.TypesLeft h = h
 
 pub refusals_are_of_crowding : RefusalsAreOfCrowding
 refusals_are_of_crowding = of_crowding

@@ -48,6 +48,7 @@ module _ (table : Table) (config : Config) (r : Renaming) (t : Node) where
   IsOfCrowding pass.NoMemory h = Unit {0}
   IsOfCrowding pass.MarksSpent h = ⊥
   IsOfCrowding pass.NotAssignable h = ⊥
+  IsOfCrowding pass.TypesLeft h = ⊥
 
 -- all of it follows from what a renamer makes of a tree that fits some place, as each module and each script does, and from why it refuses one
 abbrev pub MapsHaveBounds : Type 0

@@ -1,5 +1,5 @@
 //! The resolver as a pass.
-ghost use Rattle.std.specs.Prelude.{◌≡◌, ◌≢◌, IfOk, IfErr};
+ghost use Rattle.std.specs.Prelude.{◌≡◌, ◌≢◌, true, IfOk, IfErr};
 ghost use Rattle.swc_tree_node.specs.declared.slot.Slot.{Slot};
 ghost use Rattle.swc_tree_node.specs.Fits.{fits};
 ghost use Rattle.swc_tree.specs.Passes.{IsExtended, IsProgram};
@@ -8,7 +8,9 @@ ghost use Rattle.swc_base_resolver.specs.Memory.{may_lack_memory};
 
 use std::alloc::Global;
 use std::marker::Model;
-use swc_base_resolver_laws::a_clean_module_becomes_well_scoped;
+use swc_base_resolver_laws::{
+    a_clean_module_becomes_well_scoped, lists_are_items_without_namespaces,
+};
 use swc_base_resolver_program::resolve_program;
 use swc_tree::ProgramPass;
 use swc_tree_marks::{Globals, Mark, PassError};
@@ -61,17 +63,25 @@ fn resolve(
     ensures marks { IsExtended globals.old globals.new }
 {
     a_clean_module_becomes_well_scoped();
+    lists_are_items_without_namespaces();
     let answer = resolve_program(alloc, globals, unresolved, top, program)?;
     Ok(answer)
 }
 
 impl ProgramPass for Resolver {
+    ghost takes_types = { true };
+
+    fn takes_types(&self) -> bool {
+        true
+    }
+
     ghost makes = { ResolvesNode };
 
     ghost declines = { RefusesNode };
 
-    /// Resolves the node of a program. Each run is by itself: the resolver stays as it is. Where `marks_ok` holds of the two marks, a
-    /// module without contexts and without early errors of names becomes well-scoped.
+    /// Resolves the node of a program, names of values and names of types. Each run is by itself: the resolver stays as it is. Where
+    /// `marks_ok` holds of the two marks, a module without declarations of types and types, without contexts and without early errors of
+    /// names becomes well-scoped.
     ///
     /// # Errors
     ///

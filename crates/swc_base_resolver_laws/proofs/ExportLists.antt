@@ -1,5 +1,5 @@
--- Round what an export list names there is the program alone: an export list is an item of the module, and in it nothing
--- opens a scope.
+-- Round what an export list names there is the program alone, where no namespace stands: an export list is an item of the
+-- module, and in it nothing opens a scope.
 use Rattle.std.proofs.Common.{◌≡◌, ℕ, zero, suc, Bool, true, false, not, ◌&&◌, ◌||◌, ◌==◌, Option, Some, None, List, [], ◌∷◌, ◌++◌, map, refl, sym, ap, ◌∙◌, subst}
 use Rattle.std.specs.List.{list_all, slice_get}
 use Rattle.std.specs.Prelude.{option_map, unwrap_or}
@@ -16,8 +16,8 @@ use Rattle.swc_tree_node.specs.declared.node.Node.{Node, Tree, out-Node}
 use Rattle.swc_tree_node.specs.declared.node.Node.TheOpen.{Node-F}
 use Rattle.swc_tree_node.specs.declared.node.Node.TheVariants.{outs-Tree}
 use Rattle.swc_tree_node.specs.Table.{fields_of, kind_number, kinds_of, slots_of}
-use Rattle.swc_tree_node.specs.Fits.{Fits}
-use Rattle.swc_tree_node.proofs.Fit.{both, list_opens, tree_opens}
+use Rattle.swc_tree_node.specs.Fits.{Fits, fits}
+use Rattle.swc_tree_node.proofs.Fit.{both, fields_open, list_opens, tree_opens}
 use Rattle.swc_tree_scoping.specs.declared.places.Place.{Place}
 use Rattle.swc_tree_scoping.specs.declared.places.Scope.{Scope}
 use Rattle.swc_tree_scoping.specs.declared.places.Scope.TheVariants as scope
@@ -27,8 +27,10 @@ use Rattle.swc_tree_scoping.specs.Scopes.{rounds, seen_as, view_in}
 use Rattle.swc_tree_scoping.specs.WellScoped.{InExportList}
 use Rattle.swc_tree_scoping.proofs.Remarked.{list_is, tree_is}
 use Rattle.swc_tree_scoping.proofs.Under.{lower, no_place_under, no_rounds_under, place_under, rounds_under}
+use Rattle.swc_tree_spaces.specs.NoTypes.{ListsAreItems}
+use Rattle.swc_base_resolver_laws.specs.Laws.{ListsAreItemsWithoutNamespaces}
 use Rattle.swc_base_resolver_laws.proofs.Same.{impossible, some_same}
-use Rattle.swc_base_resolver_laws.proofs.Fitting.{all_at, all_true, among, below_passes, child_passes, field_at, kind_passes, layer_fits, module_fields, module_layer, passes}
+use Rattle.swc_base_resolver_laws.proofs.Fitting.{all_at, all_true, among, child_passes, field_at, item_at, kind_passes, layer_fits, module_fields, module_layer, of_tree, passes}
 
 -- ---- kinds that stand in an export list: none opens a scope
 
@@ -74,27 +76,59 @@ listed_rounds (i ∷ p) w t s f h = at (child t i) refl (λ x c u g z. listed_ro
         let (u, g, z) = child_passes listed listed_rows t c i s (out-Node t) refl f h o in
         rounds_through w t c i p o (listed_node w t s (out-Node t) refl f h) (below (place_below w t i) c u g z)
 
--- ---- a module's items alone are export lists
+-- ---- where no namespace stands, a module's items alone are export lists
 
 abbrev inner : ℕ → Bool
 inner n = not (n == kind_number kind.Module) && not (n == kind_number kind.NamedExport)
-
--- each node below but a module has none of these below it
-inner_fields : (k : Kind) → not (kind_number k == kind_number kind.Module) ≡ true → list_all (passes inner) (slots_of k) ≡ true
-inner_fields kind.Module h = impossible h
-inner_fields _ h = refl
 
 left : (a b : Bool) → (a && b) ≡ true → a ≡ true
 left true b h = refl
 left false b h = h
 
-inner_rows : (k : Kind) → inner (kind_number k) ≡ true → list_all (passes inner) (slots_of k) ≡ true
-inner_rows k h = inner_fields k (left (not (kind_number k == kind_number kind.Module)) (not (kind_number k == kind_number kind.NamedExport)) h)
+-- no namespace stands in a tree that stands in a place
+abbrev NoneAt : Place → Node → Type 0
+NoneAt w t = (q : Path) (v : Place) (ts : List Node) → place_at w t q ≡ Some (v, Tree kind.TsModuleDecl ts) → ⊥
 
-none_inside : (q : Path) (w v : Place) (t : Node) (ts : List Node) (s : Slot) → Fits t s → passes inner s ≡ true → place_at w t q ≡ Some (v, Tree kind.NamedExport ts) → ⊥
-none_inside q w v t ts s f h e =
-    let (u, g, z) = below_passes inner inner_rows q w v t (Tree kind.NamedExport ts) s f h e in
-    impossible (kind_passes inner inner_rows (Tree kind.NamedExport ts) kind.NamedExport ts u (outs-Tree kind.NamedExport ts) g z)
+none_below : (w : Place) (t c : Node) (i : ℕ) → child t i ≡ Some c → NoneAt w t → NoneAt (place_below w t i) c
+none_below w t c i o n q v ts e = n (i ∷ q) v ts (place_under w t c i q o ∙ e)
+
+-- each node but a module and a namespace takes no export lists
+inner_fields : (w : Place) (t : Node) (k : Kind) (ts : List Node) → out-Node t ≡ Node-F.Tree k ts → NoneAt w t → not (kind_number k == kind_number kind.Module) ≡ true → list_all (passes inner) (slots_of k) ≡ true
+inner_fields w t kind.Module ts o n h = impossible h
+inner_fields w t kind.TsModuleDecl ts o n h = absurd (n [] w ts (ap (λ z. Some (w, z)) (tree_is t kind.TsModuleDecl ts o)))
+inner_fields w t _ ts o n h = refl
+
+inner_kind : (t : Node) (k : Kind) (ts : List Node) (s : Slot) → out-Node t ≡ Node-F.Tree k ts → Fits t s → passes inner s ≡ true → inner (kind_number k) ≡ true
+inner_kind t k ts s o f h =
+    let (c, content, belong, fields) = of_tree k (map fits ts) s (layer_fits t (Node-F.Tree k ts) s o f) in
+    among inner (kind_number k) (kinds_of c) belong (sym (content inner) ∙ h)
+
+-- a child of what takes no export lists takes none
+inner_child : (w : Place) (t c : Node) (i : ℕ) (s : Slot) (y : Node-F Node) → out-Node t ≡ y → Fits t s → passes inner s ≡ true → NoneAt w t → child t i ≡ Some c → (u : Slot) × Fits c u × (passes inner u ≡ true)
+inner_child w t c i s (Node-F.List ts) o f h n e = item_at inner s ts i c (layer_fits t (Node-F.List ts) s o f) h (sym (ap (λ y. slice_get (children_in y) i) o) ∙ e)
+inner_child w t c i s (Node-F.Tree k ts) o f h n e =
+    let (cl, content, belong, fields) = of_tree k (map fits ts) s (layer_fits t (Node-F.Tree k ts) s o f) in
+    let (u, there, g) = field_at (slots_of k) ts i c (fields_open (slots_of k) ts fields) (sym (ap (λ y. slice_get (children_in y) i) o) ∙ e) in
+    let no_module = left (not (kind_number k == kind_number kind.Module)) (not (kind_number k == kind_number kind.NamedExport)) (inner_kind t k ts s o f h) in
+    (u, g, all_true (passes inner) (slots_of k) i u (inner_fields w t k ts o n no_module) there)
+inner_child w t c i s Node-F.Absent o f h n e = let z : Some c ≡ None = sym e ∙ ap (λ y. slice_get (children_in y) i) o in absurd (cc)
+inner_child w t c i s (Node-F.Flag x) o f h n e = let z : Some c ≡ None = sym e ∙ ap (λ y. slice_get (children_in y) i) o in absurd (cc)
+inner_child w t c i s (Node-F.Word x) o f h n e = let z : Some c ≡ None = sym e ∙ ap (λ y. slice_get (children_in y) i) o in absurd (cc)
+inner_child w t c i s (Node-F.Text x) o f h n e = let z : Some c ≡ None = sym e ∙ ap (λ y. slice_get (children_in y) i) o in absurd (cc)
+inner_child w t c i s (Node-F.Span x) o f h n e = let z : Some c ≡ None = sym e ∙ ap (λ y. slice_get (children_in y) i) o in absurd (cc)
+inner_child w t c i s (Node-F.Identifier k x) o f h n e = let z : Some c ≡ None = sym e ∙ ap (λ y. slice_get (children_in y) i) o in absurd (cc)
+
+none_inside : (q : Path) (w v : Place) (t : Node) (ts : List Node) (s : Slot) → Fits t s → passes inner s ≡ true → NoneAt w t → place_at w t q ≡ Some (v, Tree kind.NamedExport ts) → ⊥
+none_inside [] w v t ts s f h n e =
+    let is : t ≡ Tree kind.NamedExport ts = ap (λ (z : Place × Node). z.1) (some_same (w, t) (v, Tree kind.NamedExport ts) e) in
+    impossible (inner_kind t kind.NamedExport ts s (ap out-Node is ∙ outs-Tree kind.NamedExport ts) f h)
+none_inside (i ∷ q) w v t ts s f h n e = at (child t i) refl (λ x c u g z m. none_inside q x v c ts u g z m)
+  where
+    at : (o : Option Node) → child t i ≡ o → ((x : Place) (c : Node) (u : Slot) → Fits c u → passes inner u ≡ true → NoneAt x c → place_at x c q ≡ Some (v, Tree kind.NamedExport ts) → ⊥) → ⊥
+    at None o below = let z : ◌≡◌ {A = Option (Place × Node)} (Some (v, Tree kind.NamedExport ts)) None = sym e ∙ no_place_under w t i q o in absurd (cc)
+    at (Some c) o below =
+        let (u, g, z) = inner_child w t c i s (out-Node t) refl f h n o in
+        below (place_below w t i) c u g z (none_below w t c i o n) (sym (place_under w t c i q o) ∙ e)
 
 -- what has children is a tree, where one node is to stand, and a list, where a list is
 only_trees : (t c : Node) (i : ℕ) (x : Content) (y : Node-F Node) → out-Node t ≡ y → Fits t (slot.One x) → child t i ≡ Some c → (k : Kind) × (ts : List Node) × (out-Node t ≡ Node-F.Tree k ts)
@@ -124,8 +158,8 @@ abbrev Items : Slot
 Items = slot.List (content.Node class.ModuleItem)
 
 -- an export list has none below it, nor has another item
-none_in_item : (q : Path) (j : ℕ) (w v : Place) (e : Node) (ts : List Node) → Fits e Item → place_at w e (j ∷ q) ≡ Some (v, Tree kind.NamedExport ts) → ⊥
-none_in_item q j w v e ts f h = at (child e j) refl
+none_in_item : (q : Path) (j : ℕ) (w v : Place) (e : Node) (ts : List Node) → Fits e Item → NoneAt w e → place_at w e (j ∷ q) ≡ Some (v, Tree kind.NamedExport ts) → ⊥
+none_in_item q j w v e ts f n h = at (child e j) refl
   where
     at : (o : Option Node) → child e j ≡ o → ⊥
     at None o = let z : ◌≡◌ {A = Option (Place × Node)} (Some (v, Tree kind.NamedExport ts)) None = sym h ∙ no_place_under w e j q o in absurd (cc)
@@ -134,7 +168,47 @@ none_in_item q j w v e ts f h = at (child e j) refl
         let (ident, belong, fields) = tree_opens k us class.ModuleItem (subst (λ e. Fits e Item) (tree_is e k us is) f) in
         let (u, there, g) = field_at (slots_of k) us j c fields (sym (ap (λ y. slice_get (children_in y) j) is) ∙ o) in
         let no_module = among (λ n. not (n == kind_number kind.Module)) (kind_number k) (kinds_of class.ModuleItem) belong refl in
-        none_inside q (place_below w e j) v c ts u g (all_true (passes inner) (slots_of k) j u (inner_fields k no_module) there) (sym (place_under w e c j q o) ∙ h)
+        none_inside q (place_below w e j) v c ts u g (all_true (passes inner) (slots_of k) j u (inner_fields w e k us is n no_module) there) (none_below w e c j o n) (sym (place_under w e c j q o) ∙ h)
+
+-- an export list among items is one of them
+list_is_item : (q : Path) (w v : Place) (b : Node) (ts : List Node) → Fits b Items → NoneAt w b → place_at w b q ≡ Some (v, Tree kind.NamedExport ts) → (n : ℕ) × (q ≡ n ∷ [])
+list_is_item [] w v b ts f n h =
+    let is : b ≡ Tree kind.NamedExport ts = ap (λ (z : Place × Node). z.1) (some_same (w, b) (v, Tree kind.NamedExport ts) h) in
+    impossible (layer_fits b (Node-F.Tree kind.NamedExport ts) Items (ap out-Node is ∙ outs-Tree kind.NamedExport ts) f)
+list_is_item (j ∷ q) w v b ts f n h = at (child b j) refl
+  where
+    at : (o : Option Node) → child b j ≡ o → (n : ℕ) × (j ∷ q ≡ n ∷ [])
+    at None o = let z : ◌≡◌ {A = Option (Place × Node)} (Some (v, Tree kind.NamedExport ts)) None = sym h ∙ no_place_under w b j q o in absurd (cc)
+    at (Some e) o =
+        let (is, l) = only_lists b (content.Node class.ModuleItem) (out-Node b) refl f in
+        let one = all_at Item is j e (list_opens is (content.Node class.ModuleItem) (subst (λ b. Fits b Items) (list_is b is l) f)) (sym (ap (λ y. slice_get (children_in y) j) l) ∙ o) in
+        item q one (sym (place_under w b e j q o) ∙ h)
+      where
+        item : (q : Path) → Fits e Item → place_at (place_below w b j) e q ≡ Some (v, Tree kind.NamedExport ts) → (n : ℕ) × (j ∷ q ≡ n ∷ [])
+        item [] one h = (j, refl)
+        item (l ∷ q) one h = absurd (none_in_item q l (place_below w b j) v e ts one (none_below w b e j o n) h)
+
+-- each export list of a module without namespaces is one of its items
+pub lists_are_items : ListsAreItemsWithoutNamespaces
+lists_are_items t f n [] v ts h =
+    let is : t ≡ Tree kind.NamedExport ts = ap (λ (z : Place × Node). z.1) (some_same (program_place, t) (v, Tree kind.NamedExport ts) h) in
+    let (us, o) = module_layer t f in
+    let e : Node-F.Tree kind.NamedExport ts ≡ Node-F.Tree kind.Module us = sym (outs-Tree kind.NamedExport ts) ∙ ap out-Node (sym is) ∙ o in
+    absurd (cc)
+lists_are_items t f n (i ∷ q) v ts h = at (child t i) refl
+  where
+    at : (o : Option Node) → child t i ≡ o → (n : ℕ) × (i ∷ q ≡ 1 ∷ n ∷ [])
+    at None o = let z : ◌≡◌ {A = Option (Place × Node)} (Some (v, Tree kind.NamedExport ts)) None = sym h ∙ no_place_under program_place t i q o in absurd (cc)
+    at (Some b) o =
+        let (us, is) = module_layer t f in
+        let (u, there, g) = field_at (slots_of kind.Module) us i b (module_fields t us is f) (sym (ap (λ y. slice_get (children_in y) i) is) ∙ o) in
+        field i u there g (place_below program_place t i) (none_below program_place t b i o n) (sym (place_under program_place t b i q o) ∙ h)
+      where
+        field : (i : ℕ) (u : Slot) → slice_get (slots_of kind.Module) i ≡ Some u → Fits b u → (w : Place) → NoneAt w b → place_at w b q ≡ Some (v, Tree kind.NamedExport ts) → (n : ℕ) × (i ∷ q ≡ 1 ∷ n ∷ [])
+        field zero u there g w m h = absurd (none_inside q w v b ts u g (ap (passes inner) (sym (some_same (slot.One content.Span) u there))) m h)
+        field (suc zero) u there g w m h = let (n, e) = list_is_item q w v b ts (subst (λ u. Fits b u) (sym (some_same Items u there)) g) m h in (n, ap (λ q. 1 ∷ q) e)
+        field (suc (suc zero)) u there g w m h = absurd (none_inside q w v b ts u g (ap (passes inner) (sym (some_same (slot.Optional content.Text) u there))) m h)
+        field (suc (suc (suc i))) u there g w m h = absurd (cc)
 
 -- nothing but the program stands round what an export list names
 item_rounds : (w : Place) (e : Node) (ts : List Node) (p : Path) → out-Node e ≡ Node-F.Tree kind.NamedExport ts → Fits e Item → rounds w e (1 ∷ p) ≡ []
@@ -147,51 +221,29 @@ item_rounds w e ts p is f = at (child e 1) refl
         let (u, there, g) = field_at (slots_of kind.NamedExport) ts 1 c fields (sym (ap (λ y. slice_get (children_in y) 1) is) ∙ o) in
         rounds_through w e c 1 p o (ap (opened_in w) is) (listed_rounds p (place_below w e 1) c u g (all_true (passes listed) (slots_of kind.NamedExport) 1 u refl there))
 
-items_rounds : (q p : Path) (w v : Place) (b : Node) (ts : List Node) → Fits b Items → place_at w b q ≡ Some (v, Tree kind.NamedExport ts) → rounds w b (q ++ (1 ∷ p)) ≡ []
-items_rounds [] p w v b ts f h =
-    let is : b ≡ Tree kind.NamedExport ts = ap (λ (z : Place × Node). z.1) (some_same (w, b) (v, Tree kind.NamedExport ts) h) in
-    impossible (layer_fits b (Node-F.Tree kind.NamedExport ts) Items (ap out-Node is ∙ outs-Tree kind.NamedExport ts) f)
-items_rounds (j ∷ q) p w v b ts f h = at (child b j) refl
+items_rounds : (n : ℕ) (p : Path) (w v : Place) (b : Node) (ts : List Node) → Fits b Items → place_at w b (n ∷ []) ≡ Some (v, Tree kind.NamedExport ts) → rounds w b (n ∷ 1 ∷ p) ≡ []
+items_rounds n p w v b ts f h = at (child b n) refl
   where
-    at : (o : Option Node) → child b j ≡ o → rounds w b (j ∷ (q ++ (1 ∷ p))) ≡ []
-    at None o = let z : ◌≡◌ {A = Option (Place × Node)} (Some (v, Tree kind.NamedExport ts)) None = sym h ∙ no_place_under w b j q o in absurd (cc)
+    at : (o : Option Node) → child b n ≡ o → rounds w b (n ∷ 1 ∷ p) ≡ []
+    at None o = let z : ◌≡◌ {A = Option (Place × Node)} (Some (v, Tree kind.NamedExport ts)) None = sym h ∙ no_place_under w b n [] o in absurd (cc)
     at (Some e) o =
         let (is, l) = only_lists b (content.Node class.ModuleItem) (out-Node b) refl f in
-        let one = all_at Item is j e (list_opens is (content.Node class.ModuleItem) (subst (λ b. Fits b Items) (list_is b is l) f)) (sym (ap (λ y. slice_get (children_in y) j) l) ∙ o) in
-        rounds_through w b e j (q ++ (1 ∷ p)) o (ap (opened_in w) l) (item q one (sym (place_under w b e j q o) ∙ h))
-      where
-        item : (q : Path) → Fits e Item → place_at (place_below w b j) e q ≡ Some (v, Tree kind.NamedExport ts) → rounds (place_below w b j) e (q ++ (1 ∷ p)) ≡ []
-        item [] one h =
-            let is : e ≡ Tree kind.NamedExport ts = ap (λ (z : Place × Node). z.1) (some_same (place_below w b j, e) (v, Tree kind.NamedExport ts) h) in
-            item_rounds (place_below w b j) e ts p (ap out-Node is ∙ outs-Tree kind.NamedExport ts) one
-        item (l ∷ q) one h = absurd (none_in_item q l (place_below w b j) v e ts one h)
+        let one = all_at Item is n e (list_opens is (content.Node class.ModuleItem) (subst (λ b. Fits b Items) (list_is b is l) f)) (sym (ap (λ y. slice_get (children_in y) n) l) ∙ o) in
+        let same : e ≡ Tree kind.NamedExport ts = ap (λ (z : Place × Node). z.1) (some_same (place_below w b n, e) (v, Tree kind.NamedExport ts) (sym (place_under w b e n [] o) ∙ h)) in
+        rounds_through w b e n (1 ∷ p) o (ap (opened_in w) l) (item_rounds (place_below w b n) e ts p (ap out-Node same ∙ outs-Tree kind.NamedExport ts) one)
 
-module_rounds : (t : Node) (q p : Path) (v : Place) (ts : List Node) → Fits t (slot.One (content.Node class.Module)) → place_at program_place t q ≡ Some (v, Tree kind.NamedExport ts)
-    → rounds program_place t (q ++ (1 ∷ p)) ≡ ([], true) ∷ []
-module_rounds t [] p v ts f h =
-    let is : t ≡ Tree kind.NamedExport ts = ap (λ (z : Place × Node). z.1) (some_same (program_place, t) (v, Tree kind.NamedExport ts) h) in
-    let (us, o) = module_layer t f in
-    let e : Node-F.Tree kind.NamedExport ts ≡ Node-F.Tree kind.Module us = sym (outs-Tree kind.NamedExport ts) ∙ ap out-Node (sym is) ∙ o in
-    absurd (cc)
-module_rounds t (i ∷ q) p v ts f h = at (child t i) refl
+module_rounds : (t : Node) (n : ℕ) (p : Path) (v : Place) (ts : List Node) → Fits t (slot.One (content.Node class.Module)) → place_at program_place t (1 ∷ n ∷ []) ≡ Some (v, Tree kind.NamedExport ts)
+    → rounds program_place t (1 ∷ n ∷ 1 ∷ p) ≡ ([], true) ∷ []
+module_rounds t n p v ts f h = at (child t 1) refl
   where
-    at : (o : Option Node) → child t i ≡ o → rounds program_place t (i ∷ (q ++ (1 ∷ p))) ≡ ([], true) ∷ []
-    at None o = let z : ◌≡◌ {A = Option (Place × Node)} (Some (v, Tree kind.NamedExport ts)) None = sym h ∙ no_place_under program_place t i q o in absurd (cc)
+    at : (o : Option Node) → child t 1 ≡ o → rounds program_place t (1 ∷ n ∷ 1 ∷ p) ≡ ([], true) ∷ []
+    at None o = let z : ◌≡◌ {A = Option (Place × Node)} (Some (v, Tree kind.NamedExport ts)) None = sym h ∙ no_place_under program_place t 1 (n ∷ []) o in absurd (cc)
     at (Some b) o =
         let (us, is) = module_layer t f in
-        let (u, there, g) = field_at (slots_of kind.Module) us i b (module_fields t us is f) (sym (ap (λ y. slice_get (children_in y) i) is) ∙ o) in
-        field i u there g (sym (place_under program_place t b i q o) ∙ h) (rounds_under program_place t b i (q ++ (1 ∷ p)) o)
-        (ap (opened_in program_place) is) (ap (λ y. view_in y i) is)
-      where
-        field : (i : ℕ) (u : Slot) → slice_get (slots_of kind.Module) i ≡ Some u → Fits b u → place_at (place_below program_place t i) b q ≡ Some (v, Tree kind.NamedExport ts)
-            → rounds program_place t (i ∷ (q ++ (1 ∷ p))) ≡ map (lower i) (rounds (place_below program_place t i) b (q ++ (1 ∷ p))) ++ seen_as (opened program_place t) (view_in (out-Node t) i)
-            → opened program_place t ≡ Some scope.Program → view_in (out-Node t) i ≡ view_in (Node-F.Tree kind.Module []) i → rounds program_place t (i ∷ (q ++ (1 ∷ p))) ≡ ([], true) ∷ []
-        field zero u there g h r opens seen = absurd (none_inside q (place_below program_place t 0) v b ts u g (ap (passes inner) (sym (some_same (slot.One content.Span) u there))) h)
-        field (suc zero) u there g h r opens seen =
-            let none = items_rounds q p (place_below program_place t 1) v b ts (subst (λ u. Fits b u) (sym (some_same Items u there)) g) h in
-            r ∙ ap (λ l. map (lower 1) l ++ seen_as (opened program_place t) (view_in (out-Node t) 1)) none ∙ ap (λ o. seen_as o (view_in (out-Node t) 1)) opens ∙ ap (seen_as (Some scope.Program)) seen
-        field (suc (suc zero)) u there g h r opens seen = absurd (none_inside q (place_below program_place t 2) v b ts u g (ap (passes inner) (sym (some_same (slot.Optional content.Text) u there))) h)
-        field (suc (suc (suc i))) u there g h r opens seen = absurd (cc)
+        let (u, there, g) = field_at (slots_of kind.Module) us 1 b (module_fields t us is f) (sym (ap (λ y. slice_get (children_in y) 1) is) ∙ o) in
+        let none = items_rounds n p (place_below program_place t 1) v b ts (subst (λ u. Fits b u) (sym (some_same Items u there)) g) (sym (place_under program_place t b 1 (n ∷ []) o) ∙ h) in
+        rounds_under program_place t b 1 (n ∷ 1 ∷ p) o ∙ ap (λ l. map (lower 1) l ++ seen_as (opened program_place t) (view_in (out-Node t) 1)) none
+        ∙ ap (λ o. seen_as o (view_in (out-Node t) 1)) (ap (opened_in program_place) is) ∙ ap (λ y. seen_as (Some scope.Program) (view_in y 1)) is
 
 -- the field of an export list
 abbrev not_local : Role → Bool
@@ -214,7 +266,9 @@ local_field kind.NamedExport (suc (suc (suc zero))) h = absurd (cc)
 local_field kind.NamedExport (suc (suc (suc (suc i)))) h = absurd (cc)
 local_field k i h = absurd (local_role (fields_of k) i refl h)
 
-pub export_rounds : (t : Node) (p : Path) → Fits t (slot.One (content.Node class.Module)) → InExportList t p → rounds program_place t p ≡ ([], true) ∷ []
-export_rounds t p f (q, r, i, w, k, ts, e, h, l) =
+pub export_rounds : (t : Node) (p : Path) → Fits t (slot.One (content.Node class.Module)) → ListsAreItems t → InExportList t p → rounds program_place t p ≡ ([], true) ∷ []
+export_rounds t p f lists (q, r, i, w, k, ts, e, h, l) =
     let (is, one) = local_field k i l in
-    ap (rounds program_place t) (e ∙ ap (λ i. q ++ (i ∷ r)) one) ∙ module_rounds t q r w ts f (h ∙ ap (λ k. Some (w, Tree k ts)) is)
+    let there : place_at program_place t q ≡ Some (w, Tree kind.NamedExport ts) = h ∙ ap (λ k. Some (w, Tree k ts)) is in
+    let (n, at) = lists q w ts there in
+    ap (rounds program_place t) (e ∙ ap (λ i. q ++ (i ∷ r)) one ∙ ap (λ q. q ++ (1 ∷ r)) at) ∙ module_rounds t n r w ts f (ap (place_at program_place t) (sym at) ∙ there)

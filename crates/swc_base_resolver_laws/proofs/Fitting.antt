@@ -79,7 +79,7 @@ pair_passes p zero s e = ap (passes p) (sym (some_same (slot.One content.Text) s
 pair_passes p (suc zero) s e = ap (passes p) (sym (some_same (slot.One content.Text) s e))
 pair_passes p (suc (suc i)) s e = absurd (cc)
 
-item_at : (p : ℕ → Bool) (s : Slot) (ts : List Node) (i : ℕ) (c : Node) → IsTrue (list_fits (map fits ts) s) → passes p s ≡ true → slice_get ts i ≡ Some c → (u : Slot) × Fits c u × (passes p u ≡ true)
+pub item_at : (p : ℕ → Bool) (s : Slot) (ts : List Node) (i : ℕ) (c : Node) → IsTrue (list_fits (map fits ts) s) → passes p s ≡ true → slice_get ts i ≡ Some c → (u : Slot) × Fits c u × (passes p u ≡ true)
 item_at p (slot.List x) ts i c h g e = (slot.One x, all_at (slot.One x) ts i c (all_open (slot.One x) ts h) e, g)
 item_at p (slot.Holes x) ts i c h g e = (slot.Optional x, all_at (slot.Optional x) ts i c (all_open (slot.Optional x) ts h) e, g)
 item_at p (slot.OptionalList x) ts i c h g e = (slot.One x, all_at (slot.One x) ts i c (all_open (slot.One x) ts h) e, g)

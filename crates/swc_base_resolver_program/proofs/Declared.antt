@@ -1,29 +1,39 @@
 -- The tables of the first two walks say what the scopes declare.
 use Rattle.std.proofs.Common.{◌≡◌, ℕ, Bool, true, false, not, ◌&&◌, ◌||◌, ◌==◌, IsTrue, ◌⊎◌, ◌↔◌, inl, inr, ⊎_elim, Option, Some, None, List, [], ◌∷◌, ◌++◌, map, refl, sym, ap, ◌∙◌, subst, arith, cond}
-use Rattle.std.specs.Option.{option_map}
+use Rattle.std.specs.List.{slice_get}
+use Rattle.std.specs.Option.{is_some, option_and_then, option_map}
+use Rattle.std.proofs.lemmas.Option.{get_or_from_slice_get, slice_get_read}
 use Rattle.swc_tree_marks.specs.declared.ident.Ident.{Ident}
 use Rattle.swc_tree_node.specs.declared.kind.Kind.{Kind}
-use Rattle.swc_tree_node.specs.declared.node.Node.{Node, Identifier}
+use Rattle.swc_tree_node.specs.declared.kind.Kind.TheVariants as kind
+use Rattle.swc_tree_node.specs.declared.fields.types.ts_enum_decl.TheConstants as ts_enum_decl
+use Rattle.swc_tree_node.specs.declared.node.Node.{Node, Identifier, Tree}
+use Rattle.swc_tree_node.specs.declared.node.Node.TheVariants.{outs-Tree}
 use Rattle.swc_tree_scoping.specs.declared.places.Standing.{Standing}
 use Rattle.swc_tree_scoping.specs.declared.places.Standing.TheVariants as standing
 use Rattle.swc_tree_scoping.specs.declared.places.Place.{Place}
 use Rattle.swc_tree_scoping.specs.declared.places.Scope.TheVariants as scope
-use Rattle.swc_tree_scoping.specs.Places.{Path, opened, place_at, program_place}
+use Rattle.swc_tree_scoping.specs.Places.{Path, items_of, opened, opened_in, place_at, program_place}
 use Rattle.swc_tree_scoping.specs.Scopes.{Round, first_that, is_binding, is_taken, rounds, scope_at, taker, variable_scope}
-use Rattle.swc_tree_scoping.specs.Declares.{Bound, BoundAs, DeclaresFor, DeclaresOtherwise, Hoisted, Hoists, IsUncaught, Means, Meets, PassesNone, is_no_variable, is_parameter, is_settled, stops, stops_in_block}
+use Rattle.swc_tree_spaces.specs.declared.space.Space.{Space}
+use Rattle.swc_tree_spaces.specs.declared.space.Space.TheVariants as space
+use Rattle.swc_tree_spaces.specs.Spaces.{DeclaresIn, HasMember, MeansIn, NamesType, as_value}
+use Rattle.swc_tree_scoping.specs.Declares.{Bound, BoundAs, DeclaresOtherwise, Hoisted, Hoists, IsUncaught, Meets, PassesNone, is_no_variable, is_parameter, is_settled, stops, stops_in_block}
 use Rattle.swc_tree_scoping.proofs.First.{Each, Nested, Opens, has_taker, round_opens, rounds_nested}
 use Rattle.swc_base_resolver_program.specs.declared.names.Ways.{Ways}
 use Rattle.swc_base_resolver_program.specs.declared.names.ScopeNames.{ScopeNames}
 use Rattle.swc_base_resolver_program.specs.declared.collect.Stage.TheVariants as stage
 use Rattle.swc_base_resolver_program.specs.declared.lookup.TakenNames.{TakenNames}
-use Rattle.swc_base_resolver_program.specs.Names.{any_way, has_way, ways_in}
-use Rattle.swc_base_resolver_program.specs.Lookup.{Open, Tables, declares_in, hoists_from, hoists_in, meaning_in, meets_in, names_in, otherwise_in, passes_in, same_number, taker_in}
-use Rattle.swc_base_resolver_program.specs.Walks.{Reaches, Takes, has_at, open_round}
+use Rattle.swc_base_resolver_program.specs.Names.{any_way, binding, enum_member, has_way, type_name, ways_in}
+use Rattle.swc_base_resolver_program.specs.Lookup.{Open, Tables, declares_in, hoists_from, hoists_in, meets_in, names_in, otherwise_in, passes_in, same_number, taker_in}
+use Rattle.swc_base_resolver_program.specs.Walks.{Reaches, Takes, has_at, open_round, space_meaning_in}
 use Rattle.std.proofs.lemmas.Bool.Decides.{nat_tests}
 use Rattle.std.proofs.lemmas.Bool.{eqb-true}
+use Rattle.swc_base_resolver_program.proofs.Gathered.{no_taker}
+use Rattle.swc_base_resolver_program.proofs.Named.{binds_of, lists_of, named_of, of_binds, of_lists, of_named}
 use Rattle.swc_base_resolver_program.proofs.Numbers.{one_number}
 use Rattle.swc_base_resolver_program.proofs.Rounds.{first_among, first_unique, found_first, found_holds, none_that, number_of, rounds_are, that_among, there}
-use Rattle.swc_base_resolver_program.proofs.Ways.{and_both, both, is_true, not_true, or_cases, or_left, or_right, true_not}
+use Rattle.swc_base_resolver_program.proofs.Ways.{and_both, both, bound_self, is_true, not_true, or_cases, or_left, or_right, true_not}
 
 -- one of the ways in which a name is bound
 abbrev AnyOf : (Standing → Bool) → Ways → Type 0
@@ -89,6 +99,8 @@ any_back f w standing.Body p q = no_way q
 any_back f w standing.Branch p q = no_way q
 any_back f w standing.DefaultExport p q = no_way q
 any_back f w standing.Label p q = no_way q
+any_back f w standing.TypeName p q = no_way q
+any_back f w standing.TypeReference p q = no_way q
 any_back f w standing.Imported p q = no_way q
 any_back f w standing.Exported p q = no_way q
 
@@ -123,24 +135,99 @@ module _ (t : Node) (opens : opened program_place t ≡ Some scope.Program) wher
   taker_open r p u h = (that_among (λ s. is_taken r (scope_at program_place t s.0)) (λ s. IsOpen s.0) (rounds program_place t p) u h (round_opens p program_place t)).1
 
   module _ (bound : List ScopeNames) (binds : Takes bound (Reaches stage.Bind [] 0 program_place t)) where
-    pub bound_is : (s : Path) (r : Standing) (x : List ℕ) → IsOpen s → IsTrue (has_at bound (nr s) r x) ↔ Bound t s r x
+    -- what has a taker is bound
+    taken_binds : (r : Standing) (p s : Path) → taker r t p ≡ Some s → is_binding r ≡ true
+    taken_binds r p s h = at (is_binding r) refl
+      where
+        at : (b : Bool) → is_binding r ≡ b → is_binding r ≡ true
+        at true e = e
+        at false e = let z = sym (no_taker r (map O (rounds program_place t p) ++ []) e) ∙ taker_is r p ∙ ap (option_map nr) h in absurd (cc)
+
+    -- the taker of a number
+    taker_there : (r : Standing) (p s : Path) → IsOpen s → taker_in r (open_round [] 0 program_place t p) ≡ Some (nr s) → taker r t p ≡ Some s
+    taker_there r p s o h =
+        let (u, e, f) = numbered program_place t (taker r t p) (nr s) (sym (ap (taker_in r) (env_is p) ∙ taker_is r p) ∙ h) in
+        e ∙ ap (λ u. Some u) (same_scope u s (taker_open r p u e) o f)
+
+    pub bound_is : (s : Path) (r : Standing) (x : List ℕ) → IsOpen s → IsTrue (has_at bound (nr s) (binding r) x) ↔ Bound t s r x
     bound_is s r x o = (
       λ h.
-          let b = (binds (nr s) r x).0 h in
-          let (u, e, f) = numbered program_place t (taker r t b.path) (nr s) (sym (ap (taker_in r) (env_is b.path) ∙ taker_is r b.path) ∙ b.given_to) in
-          let same = same_scope u s (taker_open r b.path u e) o f in
-          record { path = b.path; place = b.place; kind = b.kind; identifier = b.identifier; stands = b.stands; stands_so = b.stands_so; named = b.named; unmarked = b.unmarked; taken = e ∙ ap (λ u. Some u) same },
-      λ b. (binds (nr s) r x).1 (record {
-        path = b.path;
-        place = b.place;
-        kind = b.kind;
-        identifier = b.identifier;
-        stands = b.stands;
-        stands_so = b.stands_so;
-        named = b.named;
-        unmarked = b.unmarked;
-        given_to = ap (taker_in r) (env_is b.path) ∙ taker_is r b.path ∙ ap (option_map nr) b.taken;
-      }),
+          let b = binds_of stage.Bind [] 0 program_place t (nr s) x r ((binds (nr s) (binding r) x).0 h) in
+          let to = sym (ap (λ q. taker_in q (open_round [] 0 program_place t b.path)) (bound_self r b.binds)) ∙ b.given_to in
+          record { path = b.path; place = b.place; kind = b.kind; identifier = b.identifier; stands = b.stands; stands_so = b.stands_so; named = b.named; unmarked = b.unmarked; taken = taker_there r b.path s o to },
+      λ b.
+          let binds_it = taken_binds r b.path s b.taken in
+          (binds (nr s) (binding r) x).1 (of_binds stage.Bind [] 0 program_place t (nr s) x r (record {
+            path = b.path;
+            place = b.place;
+            kind = b.kind;
+            identifier = b.identifier;
+            stands = b.stands;
+            stands_so = b.stands_so;
+            named = b.named;
+            unmarked = b.unmarked;
+            given_to = ap (λ q. taker_in q (open_round [] 0 program_place t b.path)) (bound_self r binds_it) ∙ ap (taker_in r) (env_is b.path) ∙ taker_is r b.path ∙ ap (option_map nr) b.taken;
+            binds = binds_it;
+          })),
+    )
+
+    -- which scopes declare a name as a type
+    pub type_is : (s : Path) (x : List ℕ) → IsOpen s → IsTrue (ways_in bound (nr s) x).as_type ↔ NamesType t s x
+    type_is s x o = (
+      λ h.
+          let b = named_of stage.Bind [] 0 program_place t (nr s) x type_name (λ e. absurd (cc)) ((binds (nr s) type_name x).0 h) in
+          record {
+            path = b.path;
+            place = b.place;
+            kind = b.kind;
+            identifier = b.identifier;
+            stands = b.stands;
+            names = b.takes.0;
+            named = b.takes.1;
+            unmarked = b.takes.2;
+            taken = taker_there (as_value b.place.standing) b.path s o b.takes.3;
+          },
+      λ b.
+          let r = as_value b.place.standing in
+          (binds (nr s) type_name x).1 (of_named stage.Bind [] 0 program_place t (nr s) x type_name (record {
+            path = b.path;
+            place = b.place;
+            kind = b.kind;
+            identifier = b.identifier;
+            stands = b.stands;
+            takes = (b.names, b.named, b.unmarked, ap (taker_in r) (env_is b.path) ∙ taker_is r b.path ∙ ap (option_map nr) b.taken);
+          })),
+    )
+
+    -- and which are enums with a member of the name
+    enum_opens : (p : Path) (w : Place) (ts : List Node) → place_at program_place t p ≡ Some (w, Tree kind.TsEnumDecl ts) → IsOpen p
+    enum_opens p w ts h =
+        let at : scope_at program_place t p ≡ Some scope.Types = ap (λ o. option_and_then (λ (q : Place × Node). opened q.0 q.1) o) h ∙ ap (opened_in w) (outs-Tree kind.TsEnumDecl ts) in
+        subst (λ o. IsTrue (is_some o)) (sym at) refl
+
+    pub member_is : (s : Path) (x : List ℕ) → IsOpen s → IsTrue (ways_in bound (nr s) x).member ↔ HasMember t s x
+    member_is s x o = (
+      λ h.
+          let b = lists_of [] 0 program_place t (nr s) x ((binds (nr s) enum_member x).0 h) in
+          let (here, way, (i, c, l, got, named)) = b.has in
+          let same = same_scope b.path s (enum_opens b.path b.place b.fields b.stands) o (sym here) in
+          subst (λ s. HasMember t s x) same (record {
+            place = b.place;
+            fields = b.fields;
+            member = c;
+            stands = b.stands;
+            has = (i, l, get_or_from_slice_get (items_of (slice_get b.fields ts_enum_decl.MEMBERS)) i c c got);
+            named = named;
+          }),
+      λ b.
+          let (i, l, is) = b.has in
+          (binds (nr s) enum_member x).1 (of_lists [] 0 program_place t (nr s) x (record {
+            path = s;
+            place = b.place;
+            fields = b.fields;
+            stands = b.stands;
+            has = (refl, refl, (i, b.member, l, slice_get_read (items_of (slice_get b.fields ts_enum_decl.MEMBERS)) _ i b.member refl l (sym is), b.named));
+          })),
     )
 
     pub any_is : (f : Standing → Bool) (s : Path) (x : List ℕ) → IsOpen s → IsTrue (any_way f (ways_in bound (nr s) x)) ↔ BoundAs f t s x
@@ -226,6 +313,12 @@ module _ (t : Node) (opens : opened program_place t ≡ Some scope.Program) wher
       below_root [] v k i r h e b = let z : standing.Plain ≡ v.standing = ap (λ o. standing_of o standing.Plain) h in let y : false ≡ true = ap is_binding (z ∙ e) ∙ b in absurd (cc)
       below_root (i ∷ p) v k d r h e b = has_taker t p i r opens b
 
+      -- nor is anything named as a type
+      pub type_below_root : (p : Path) (v : Place) (k : Kind) (i : Ident) → place_at program_place t p ≡ Some (v, Identifier k i) → v.standing ≡ standing.TypeName → (s : Path) × (taker standing.Lexical t p ≡ Some s)
+      unfolding standing_of
+      type_below_root [] v k i h e = let z : standing.Plain ≡ v.standing = ap (λ o. standing_of o standing.Plain) h in let y : standing.Plain ≡ standing.TypeName = z ∙ e in absurd (cc)
+      type_below_root (i ∷ p) v k d h e = has_taker t p i standing.Lexical opens refl
+
       pub some_variable : (p : Path) (v : Place) (k : Kind) (i : Ident) (r : Standing) → place_at program_place t p ≡ Some (v, Identifier k i) → v.standing ≡ r → is_binding r ≡ true → (s : Path) × (variable_scope t p ≡ Some s)
       unfolding standing_of
       some_variable [] v k i r h e b = let z : standing.Plain ≡ v.standing = ap (λ o. standing_of o standing.Plain) h in let y : false ≡ true = ap is_binding (z ∙ e) ∙ b in absurd (cc)
@@ -235,10 +328,10 @@ module _ (t : Node) (opens : opened program_place t ≡ Some scope.Program) wher
       if_some true o k h = (refl, h)
       if_some false o k h = absurd (cc)
 
-      pub hoisted_is : (s : Path) (x : List ℕ) → IsOpen s → IsTrue (has_at reached (nr s) standing.SloppyFunction x) ↔ Hoisted t s x
+      pub hoisted_is : (s : Path) (x : List ℕ) → IsOpen s → IsTrue (has_at reached (nr s) (binding standing.SloppyFunction) x) ↔ Hoisted t s x
       hoisted_is s x o = (
         λ h.
-            let b = (reaches (nr s) standing.SloppyFunction x).0 h in
+            let b = binds_of (stage.Settle names) [] 0 program_place t (nr s) x standing.SloppyFunction ((reaches (nr s) (binding standing.SloppyFunction) x).0 h) in
             let (block, taken) = below_root b.path b.place b.kind b.identifier standing.SloppyFunction b.stands b.stands_so refl in
             let (does, to) = if_some (hoists_in (names_in names) x (open_round [] 0 program_place t b.path)) (taker_in standing.Variable (open_round [] 0 program_place t b.path)) (nr s) b.given_to in
             let (u, e, f) = numbered program_place t (variable_scope t b.path) (nr s) (sym (ap (taker_in standing.Variable) (env_is b.path) ∙ taker_is standing.Variable b.path) ∙ to) in
@@ -252,7 +345,7 @@ module _ (t : Node) (opens : opened program_place t ≡ Some scope.Program) wher
             let b = h.bound in
             let does : hoists_in (names_in names) x (open_round [] 0 program_place t b.path) ≡ true
             = ap (λ n. hoists_in n x (open_round [] 0 program_place t b.path)) same_names ∙ ap (hoists_in (ways_in bound) x) (env_is b.path) ∙ is_true _ ((hoists_is x b.path h.block b.taken).1 h.hoists) in
-            (reaches (nr s) standing.SloppyFunction x).1 (record {
+            (reaches (nr s) (binding standing.SloppyFunction) x).1 (of_binds (stage.Settle names) [] 0 program_place t (nr s) x standing.SloppyFunction (record {
               path = b.path;
               place = b.place;
               kind = b.kind;
@@ -263,7 +356,8 @@ module _ (t : Node) (opens : opened program_place t ≡ Some scope.Program) wher
               unmarked = b.unmarked;
               given_to = ap (λ z. cond z (taker_in standing.Variable (open_round [] 0 program_place t b.path)) None) does
                   ∙ ap (taker_in standing.Variable) (env_is b.path) ∙ taker_is standing.Variable b.path ∙ ap (option_map nr) h.reaches;
-            }),
+              binds = refl;
+            })),
       )
 
       same_if : (a b k : ℕ) → same_number (Some a) (Some b) ≡ Some k → (a ≡ k) × (b ≡ a)
@@ -273,10 +367,10 @@ module _ (t : Node) (opens : opened program_place t ≡ Some scope.Program) wher
           next true e = let g : Some a ≡ Some k = sym (ap (λ z. cond z (Some a) None) e) ∙ h in (some_is a k g, eqb-true b a e)
           next false e = let g : None ≡ Some k = sym (ap (λ z. cond z (Some a) None) e) ∙ h in absurd (cc)
 
-      pub uncaught_is : (s : Path) (x : List ℕ) → IsOpen s → IsTrue (has_at reached (nr s) standing.Variable x) ↔ ((b : Bound t s standing.Variable x) × IsUncaught t b.path x)
+      pub uncaught_is : (s : Path) (x : List ℕ) → IsOpen s → IsTrue (has_at reached (nr s) (binding standing.Variable) x) ↔ ((b : Bound t s standing.Variable x) × IsUncaught t b.path x)
       uncaught_is s x o = (
         λ h.
-            let b = (reaches (nr s) standing.Variable x).0 h in
+            let b = binds_of (stage.Settle names) [] 0 program_place t (nr s) x standing.Variable ((reaches (nr s) (binding standing.Variable) x).0 h) in
             let (f, taken) = below_root b.path b.place b.kind b.identifier standing.Variable b.stands b.stands_so refl in
             let (m, q, opened_there, e) = meets_some x b.path f taken in
             let both_are : same_number (Some (nr f)) (Some (nr m)) ≡ Some (nr s)
@@ -292,7 +386,7 @@ module _ (t : Node) (opens : opened program_place t ≡ Some scope.Program) wher
             let (m, q, opened_there, e) = meets_some x b.path s b.taken in
             let one : Some m ≡ Some s = first_unique _ (rounds program_place t b.path) (Some m) (variable_scope t b.path) q un ∙ b.taken in
             let is : m ≡ s = cc in
-            (reaches (nr s) standing.Variable x).1 (record {
+            (reaches (nr s) (binding standing.Variable) x).1 (of_binds (stage.Settle names) [] 0 program_place t (nr s) x standing.Variable (record {
               path = b.path;
               place = b.place;
               kind = b.kind;
@@ -304,7 +398,8 @@ module _ (t : Node) (opens : opened program_place t ≡ Some scope.Program) wher
               given_to = ap (λ z. same_number z (meets_in (names_in names) x (open_round [] 0 program_place t b.path))) (ap (taker_in standing.Variable) (env_is b.path) ∙ taker_is standing.Variable b.path ∙ ap (option_map nr) b.taken)
                   ∙ ap (same_number (Some (nr s))) (ap (λ n. meets_in n x (open_round [] 0 program_place t b.path)) same_names ∙ ap (meets_in (ways_in bound) x) (env_is b.path) ∙ e ∙ ap (λ m. Some (nr m)) is)
                   ∙ same_self (nr s);
-            }),
+              binds = refl;
+            })),
       )
         where
           same_self : (k : ℕ) → same_number (Some k) (Some k) ≡ Some k
@@ -313,24 +408,32 @@ module _ (t : Node) (opens : opened program_place t ≡ Some scope.Program) wher
       abbrev pub D : Tables
       D = record { bound = ways_in bound; reached = ways_in reached }
 
-      pub declares_is : (x : List ℕ) (s : Round) → IsOpen s.0 → IsTrue (declares_in D x (O s) (map O (rounds program_place t s.0) ++ [])) ↔ DeclaresFor t x s
+      pub declares_is : (x : List ℕ) (s : Round) → IsOpen s.0 → IsTrue (declares_in D x (O s) (map O (rounds program_place t s.0) ++ [])) ↔ DeclaresIn space.Values t x s
       declares_is x (s, false) o = any_is is_parameter s x o
       declares_is x (s, true) o =
           let fixed = any_is is_settled s x o in
+          let member = member_is s x o in
           let hoisted = hoisted_is s x o in
           let sloppy = bound_is s standing.SloppyFunction x o in
           let goes = hoists_from_is x (s, true) o in (
-            λ h. ⊎_elim (λ a. inl (fixed.0 a))
-                (λ h. ⊎_elim (λ a. inr (inr (hoisted.0 a))) (λ a. let p = both (has_way (ways_in bound (nr s) x) standing.SloppyFunction) _ a in inr (inl (sloppy.0 p.0, λ g. not_true _ p.1 (goes.1 g))))
-                (or_cases (has_way (ways_in reached (nr s) x) standing.SloppyFunction) _ h)) (or_cases (any_way is_settled (ways_in bound (nr s) x)) _ h),
-            λ h. ⊎_elim (λ a. or_left (any_way is_settled (ways_in bound (nr s) x)) _ (fixed.1 a))
-                (λ h. or_right (any_way is_settled (ways_in bound (nr s) x)) _ (⊎_elim
+            λ h. ⊎_elim (λ h. ⊎_elim (λ a. inl (inl (fixed.0 a))) (λ a. inr (member.0 a)) (or_cases (any_way is_settled (ways_in bound (nr s) x)) _ h))
+                (λ h. inl (⊎_elim (λ a. inr (inr (hoisted.0 a))) (λ a. let p = both (has_way (ways_in bound (nr s) x) standing.SloppyFunction) _ a in inr (inl (sloppy.0 p.0, λ g. not_true _ p.1 (goes.1 g))))
+                (or_cases (has_way (ways_in reached (nr s) x) standing.SloppyFunction) _ h))) (or_cases (any_way is_settled (ways_in bound (nr s) x) || (ways_in bound (nr s) x).member) _ h),
+            λ h. ⊎_elim (λ h. ⊎_elim (λ a. or_left (any_way is_settled (ways_in bound (nr s) x) || (ways_in bound (nr s) x).member) _ (or_left (any_way is_settled (ways_in bound (nr s) x)) _ (fixed.1 a)))
+                (λ h. or_right (any_way is_settled (ways_in bound (nr s) x) || (ways_in bound (nr s) x).member) _ (⊎_elim
                 (λ a. or_right (has_way (ways_in reached (nr s) x) standing.SloppyFunction) _ (and_both (has_way (ways_in bound (nr s) x) standing.SloppyFunction) _ (sloppy.1 a.0) (true_not _ (λ g. a.1 (goes.0 g)))))
-                (λ a. or_left (has_way (ways_in reached (nr s) x) standing.SloppyFunction) _ (hoisted.1 a)) h)) h,
+                (λ a. or_left (has_way (ways_in reached (nr s) x) standing.SloppyFunction) _ (hoisted.1 a)) h)) h)
+                (λ a. or_left (any_way is_settled (ways_in bound (nr s) x) || (ways_in bound (nr s) x).member) _ (or_right (any_way is_settled (ways_in bound (nr s) x)) _ (member.1 a))) h,
           )
 
-      pub meaning_is : (x : List ℕ) (p : Path) → (m : Option Path) × Means t p x m × (meaning_in D x (map O (rounds program_place t p) ++ []) ≡ option_map nr m)
-      meaning_is x p = found_holds program_place t (DeclaresFor t x) (declares_in D x) (declares_is x) (rounds program_place t p) (round_opens p program_place t) (rounds_nested p program_place t)
+      types_are : (x : List ℕ) (s : Round) → IsOpen s.0 → IsTrue ((O s).whole && (ways_in bound (O s).number x).as_type) ↔ DeclaresIn space.Types t x s
+      types_are x (s, true) o = type_is s x o
+      types_are x (s, false) o = (λ h. no_way (is_true false h), λ h. absurd h)
+
+      -- what a name means in a name space
+      pub meaning_is : (y : Space) (x : List ℕ) (p : Path) → (m : Option Path) × MeansIn y t p x m × (space_meaning_in D y x (map O (rounds program_place t p) ++ []) ≡ option_map nr m)
+      meaning_is space.Values x p = found_holds program_place t (DeclaresIn space.Values t x) (declares_in D x) (declares_is x) (rounds program_place t p) (round_opens p program_place t) (rounds_nested p program_place t)
+      meaning_is space.Types x p = found_holds program_place t (DeclaresIn space.Types t x) (λ o os. o.whole && (ways_in bound o.number x).as_type) (types_are x) (rounds program_place t p) (round_opens p program_place t) (rounds_nested p program_place t)
 
       pub otherwise_is : (x : List ℕ) (s : Path) → IsOpen s → IsTrue (otherwise_in D x (nr s)) ↔ DeclaresOtherwise t s x
       otherwise_is x s o =

@@ -6,6 +6,7 @@ pub mod Inserts
 pub mod Empties
 pub mod Below
 pub mod Gathered
+pub mod Named
 pub mod Walked
 pub mod Numbers
 pub mod Rounds

@@ -18,18 +18,21 @@ use Rattle.swc_tree_scoping.specs.declared.places.Place.{Place}
 use Rattle.swc_tree_scoping.specs.declared.places.Scope.{Scope}
 use Rattle.swc_tree_scoping.specs.declared.places.Scope.TheVariants as scope
 use Rattle.swc_tree_scoping.specs.Places.{Path, opened, place_at, program_place}
-use Rattle.swc_tree_scoping.specs.Scopes.{Round, is_binding, is_reference, one_if, rounds, scope_count, taker}
+use Rattle.swc_tree_scoping.specs.Scopes.{Round, is_binding, one_if, rounds, scope_count, taker}
 use Rattle.swc_tree_scoping.specs.Declares.{DeclaredBy, DeclaresOtherwise, Hoists, Meets}
-use Rattle.swc_tree_scoping.specs.Resolved.{HasContext, HasDeclarersMark, HasMeantMark, IsCaughtBy, Resolved, is_global_value, is_script, mark_in, own_meaning, remarked}
+use Rattle.swc_tree_scoping.specs.Resolved.{HasDeclarersMark, IsCaughtBy, is_global_value, is_script, mark_in, own_meaning, remarked}
+use Rattle.swc_tree_spaces.specs.declared.space.Space.{Space}
+use Rattle.swc_tree_spaces.specs.declared.space.Space.TheVariants as space
+use Rattle.swc_tree_spaces.specs.Spaces.{HasContextBy, HasMeantMarkBy, HasTypesMark, MeansBy, MeansIn, ResolvedBy, is_any_reference, is_exported, own_in, spaces}
 use Rattle.swc_tree_scoping.proofs.First.{Opens}
 use Rattle.swc_base_resolver_program.specs.declared.names.ScopeNames.{ScopeNames}
 use Rattle.swc_base_resolver_program.specs.declared.collect.Stage.TheVariants as stage
 use Rattle.swc_base_resolver_program.specs.declared.lookup.TakenNames.{TakenNames}
 use Rattle.swc_base_resolver_program.specs.Names.{ways_in}
-use Rattle.swc_base_resolver_program.specs.Lookup.{Open, Tables, function_owner_in, hoists_in, meaning_in, meets_in, names_in, otherwise_in, owner_of_variable, taker_in, variable_owner_in}
-use Rattle.swc_base_resolver_program.specs.Walks.{Marking, Reaches, Takes, context_at, context_in, context_of, fresh_context, kept_or, mark_at, marks_from, number, open_round, own_number, written}
+use Rattle.swc_base_resolver_program.specs.Lookup.{Open, Tables, function_owner_in, hoists_in, meets_in, names_in, otherwise_in, owner_of_variable, taker_in, variable_owner_in}
+use Rattle.swc_base_resolver_program.specs.Walks.{Marking, Reaches, Takes, context_at, context_in, context_of, fresh_context, kept_or, mark_at, marks_from, meant_by, meant_or, number, open_round, own_number, space_meaning_in, written}
 use Rattle.swc_base_resolver_program.specs.Marked.{IsMark}
-use Rattle.swc_base_resolver_program.proofs.Declared.{below_root, hoists_is, meaning_is, meets_some, otherwise_is, some_variable, taker_is, taker_open}
+use Rattle.swc_base_resolver_program.proofs.Declared.{below_root, hoists_is, meaning_is, meets_some, otherwise_is, some_variable, taker_is, taker_open, type_below_root}
 use Rattle.swc_base_resolver_program.proofs.Numbers.{number_less, one_number, scope_numbered}
 use Rattle.swc_base_resolver_program.proofs.Rounds.{number_of, rounds_are, there}
 
@@ -102,13 +105,16 @@ module _ (a : Marking) (t : Node) where
   abbrev mark : Path → ℕ
   mark s = slice_index_or a.marks (nr t s) a.unresolved
 
-  written_is : (p : Path) (w : Place) (k : Kind) (i : Ident) → place_at program_place t p ≡ Some (w, Identifier k i) → written a [] 0 program_place t p ≡ context_of a w.standing (round p) i
-  written_is p w k i h =
-      ap (λ o. context_at a (open_round [] 0 program_place t p) o) h ∙ ap (λ env. context_in a w.standing env (out-Node (Identifier k i))) (rounds_are p 0 program_place t [])
-      ∙ ap (context_in a w.standing (round p)) (outs-Identifier k i)
+  abbrev exported : Path → Bool
+  exported p = is_exported false t p
 
-  pub contexts_kept : (p : Path) (w : Place) (k : Kind) (i : Ident) → place_at program_place t p ≡ Some (w, Identifier k i) → i.ctxt ≢ [] → written a [] 0 program_place t p ≡ i.ctxt
-  contexts_kept p w k i h some = written_is p w k i h ∙ keeps i.ctxt (fresh_context a w.standing i.sym (round p)) some
+  written_is : (p : Path) (w : Place) (k : Kind) (i : Ident) → place_at program_place t p ≡ Some (w, Identifier k i) → written a false [] 0 program_place t p ≡ context_of a (exported p) w.standing (round p) i
+  written_is p w k i h =
+      ap (λ o. context_at a (exported p) (open_round [] 0 program_place t p) o) h ∙ ap (λ env. context_in a (exported p) w.standing env (out-Node (Identifier k i))) (rounds_are p 0 program_place t [])
+      ∙ ap (context_in a (exported p) w.standing (round p)) (outs-Identifier k i)
+
+  pub contexts_kept : (p : Path) (w : Place) (k : Kind) (i : Ident) → place_at program_place t p ≡ Some (w, Identifier k i) → i.ctxt ≢ [] → written a false [] 0 program_place t p ≡ i.ctxt
+  contexts_kept p w k i h some = written_is p w k i h ∙ keeps i.ctxt (fresh_context a (exported p) w.standing i.sym (round p)) some
 
   marked : (m : Option Path) → mark_at a (option_map (nr t) m) ≡ mark_in mark a.unresolved m
   marked None = refl
@@ -135,13 +141,31 @@ module _ (a : Marking) (t : Node) where
         free false = refl
     own_is x (Some (i ∷ s)) = let one = ap (λ (o : Option Scope). one_if (is_some o)) opens in positive x (nr t (i ∷ s)) (omega (arith, one))
 
-    meant : (p : Path) (x : List ℕ) → HasMeantMark mark a.unresolved t p x (mark_at a (own_number a x (meaning_in a.tables x (round p))) ∷ [])
-    meant p x =
-        let (m, q, e) = meaning_is t opens bound binds names same_names reached reaches x p in (
-          m,
-          q,
-          ap (λ z. mark_at a (own_number a x z) ∷ []) (ap (λ d. meaning_in d x (round p)) tables ∙ e) ∙ ap (λ z. mark_at a z ∷ []) (own_is x m) ∙ ap (λ z. z ∷ []) (marked (own_meaning t x m)),
-        )
+    -- what is meant, looking in one name space after another
+    meant : (p : Path) (x : List ℕ) (ys : List Space) → (m : Option Path) × MeansBy ys t p x m × (meant_by a ys x (round p) ≡ option_map (nr t) m)
+    meant p x [] = (None, refl, refl)
+    meant p x (y ∷ ys) =
+        let (m, q, e) = meaning_is t opens bound binds names same_names reached reaches y x p in
+        first y m q (ap (λ d. space_meaning_in d y x (round p)) tables ∙ e) (meant p x ys)
+      where
+        found : (y : Space) (s : Path) → meant_or a y x (Some (nr t s)) (meant_by a ys x (round p)) ≡ option_map (nr t) (own_in y t x (Some s))
+        found space.Values s = own_is x (Some s)
+        found space.Types s = refl
+
+        unfound : (y : Space) (rest : Option ℕ) → meant_or a y x None rest ≡ rest
+        unfound space.Values rest = refl
+        unfound space.Types rest = refl
+
+        first : (y : Space) (m : Option Path) → MeansIn y t p x m → space_meaning_in a.tables y x (round p) ≡ option_map (nr t) m
+            → (m : Option Path) × MeansBy ys t p x m × (meant_by a ys x (round p) ≡ option_map (nr t) m)
+            → (m : Option Path) × MeansBy (y ∷ ys) t p x m × (meant_or a y x (space_meaning_in a.tables y x (round p)) (meant_by a ys x (round p)) ≡ option_map (nr t) m)
+        first y (Some s) q e rest = (own_in y t x (Some s), inl (s, q, refl), ap (λ o. meant_or a y x o (meant_by a ys x (round p))) e ∙ found y s)
+        first y None q e (m, r, f) = (m, inr (q, r), ap (λ o. meant_or a y x o (meant_by a ys x (round p))) e ∙ unfound y (meant_by a ys x (round p)) ∙ f)
+
+    marked_meant : (p : Path) (x : List ℕ) (r : Standing) (ys : List Space) → ys ≡ spaces r (exported p) → HasMeantMarkBy mark a.unresolved t p x r (mark_at a (meant_by a ys x (round p)) ∷ [])
+    marked_meant p x r ys same =
+        let (m, q, e) = meant p x ys in
+        (m, subst (λ ys. MeansBy ys t p x m) same q, ap (λ z. mark_at a z ∷ []) e ∙ ap (λ z. z ∷ []) (marked m))
 
     -- a binding
     taken : (p : Path) (w : Place) (k : Kind) (i : Ident) (r : Standing) → place_at program_place t p ≡ Some (w, Identifier k i) → w.standing ≡ r → is_binding r ≡ true → (s : Path) × (taker r t p ≡ Some s)
@@ -185,44 +209,55 @@ module _ (a : Marking) (t : Node) where
         by_case h true z owner = (f, (b, e, inl (h.0 (rw z refl), g)), ap (λ o. mark_at a o ∷ []) (owner ∙ ap (λ c. cond c (Some (nr t f)) (Some (nr t b))) z))
         by_case h false z owner = (b, (b, e, inr (λ d. let y = h.1 d in let v : true ≡ false = sym y ∙ z in absurd (cc), refl)), ap (λ o. mark_at a o ∷ []) (owner ∙ ap (λ c. cond c (Some (nr t f)) (Some (nr t b))) z))
 
-    -- one of the three sorts
-    of_reference : (p : Path) (x : List ℕ) (r : Standing) (c : List ℕ) → is_reference r ≡ true → is_binding r ≡ false → HasMeantMark mark a.unresolved t p x c → HasContext mark a.unresolved t p x r c
-    of_reference p x r c b n h = record { reference = λ z. h; binding = λ z. let y : true ≡ false = sym z ∙ n in absurd (cc); other = λ z y. absurd (z b) }
+    -- one of the four sorts
+    of_reference : (p : Path) (x : List ℕ) (r : Standing) (c : List ℕ) → is_any_reference r ≡ true → is_binding r ≡ false → (r ≡ standing.TypeName → ⊥) → HasMeantMarkBy mark a.unresolved t p x r c → HasContextBy mark a.unresolved t p x r c
+    of_reference p x r c b n o h = record { reference = λ z. h; binding = λ z. let y : true ≡ false = sym z ∙ n in absurd (cc); type_name = λ z. absurd (o z); other = λ z y u. absurd (z b) }
 
-    of_binding : (p : Path) (x : List ℕ) (r : Standing) (c : List ℕ) → is_binding r ≡ true → is_reference r ≡ false → HasDeclarersMark mark t p r x c → HasContext mark a.unresolved t p x r c
-    of_binding p x r c b n h = record { reference = λ z. let y : true ≡ false = sym z ∙ n in absurd (cc); binding = λ z. h; other = λ z y. absurd (y b) }
+    of_binding : (p : Path) (x : List ℕ) (r : Standing) (c : List ℕ) → is_binding r ≡ true → is_any_reference r ≡ false → (r ≡ standing.TypeName → ⊥) → HasDeclarersMark mark t p r x c → HasContextBy mark a.unresolved t p x r c
+    of_binding p x r c b n o h = record { reference = λ z. let y : true ≡ false = sym z ∙ n in absurd (cc); binding = λ z. h; type_name = λ z. absurd (o z); other = λ z y u. absurd (y b) }
 
-    of_neither : (p : Path) (x : List ℕ) (r : Standing) → is_reference r ≡ false → is_binding r ≡ false → HasContext mark a.unresolved t p x r []
-    of_neither p x r n m = record { reference = λ z. let y : true ≡ false = sym z ∙ n in absurd (cc); binding = λ z. let y : true ≡ false = sym z ∙ m in absurd (cc); other = λ z y. refl }
+    of_type_name : (p : Path) (x c : List ℕ) → HasTypesMark mark t p c → HasContextBy mark a.unresolved t p x standing.TypeName c
+    of_type_name p x c h = record { reference = λ z. absurd (grind (arith, z)); binding = λ z. absurd (grind (arith, z)); type_name = λ z. h; other = λ z y u. absurd (u refl) }
+
+    of_neither : (p : Path) (x : List ℕ) (r : Standing) → is_any_reference r ≡ false → is_binding r ≡ false → (r ≡ standing.TypeName → ⊥) → HasContextBy mark a.unresolved t p x r []
+    of_neither p x r n m o = record { reference = λ z. let y : true ≡ false = sym z ∙ n in absurd (cc); binding = λ z. let y : true ≡ false = sym z ∙ m in absurd (cc); type_name = λ z. absurd (o z); other = λ z y u. refl }
+
+    -- a reference to a value, in the body of a function or elsewhere
+    of_body : (e : Bool) → spaces standing.Reference e ≡ spaces standing.Body e
+    of_body true = refl
+    of_body false = refl
 
     module _ (p : Path) (w : Place) (k : Kind) (i : Ident) (h : place_at program_place t p ≡ Some (w, Identifier k i)) where
-      has_context : (r : Standing) → w.standing ≡ r → HasContext mark a.unresolved t p i.sym r (fresh_context a r i.sym (round p))
-      has_context standing.Reference e = of_reference p i.sym _ _ refl refl (meant p i.sym)
-      has_context standing.Body e = of_reference p i.sym _ _ refl refl (meant p i.sym)
-      has_context standing.Variable e = of_binding p i.sym _ _ refl refl (variable p i.sym (taken p w k i standing.Variable h e refl))
+      has_context : (r : Standing) → w.standing ≡ r → HasContextBy mark a.unresolved t p i.sym r (fresh_context a (exported p) r i.sym (round p))
+      has_context standing.Reference e = of_reference p i.sym _ _ refl refl (λ z. absurd (cc)) (marked_meant p i.sym standing.Reference (spaces standing.Reference (exported p)) refl)
+      has_context standing.Body e = of_reference p i.sym _ _ refl refl (λ z. absurd (cc)) (marked_meant p i.sym standing.Body (spaces standing.Reference (exported p)) (of_body (exported p)))
+      has_context standing.TypeReference e = of_reference p i.sym _ _ refl refl (λ z. absurd (cc)) (marked_meant p i.sym standing.TypeReference (spaces standing.TypeReference false) refl)
+      has_context standing.TypeName e =
+          of_type_name p i.sym _ (let (s, at) = type_below_root t opens bound binds names same_names reached reaches p w k i h e in taken_by p standing.Lexical (s, at))
+      has_context standing.Variable e = of_binding p i.sym _ _ refl refl (λ z. absurd (cc)) (variable p i.sym (taken p w k i standing.Variable h e refl))
       has_context standing.SloppyFunction e =
-          of_binding p i.sym _ _ refl refl (declared p standing.SloppyFunction i.sym _ (λ z. absurd (cc)) (function p i.sym (taken p w k i standing.SloppyFunction h e refl) (variables_too e)))
+          of_binding p i.sym _ _ refl refl (λ z. absurd (cc)) (declared p standing.SloppyFunction i.sym _ (λ z. absurd (cc)) (function p i.sym (taken p w k i standing.SloppyFunction h e refl) (variables_too e)))
         where
           variables_too : w.standing ≡ standing.SloppyFunction → (s : Path) × (taker standing.Variable t p ≡ Some s)
           variables_too e = some_variable t opens bound binds names same_names reached reaches p w k i standing.SloppyFunction h e refl
-      has_context standing.Lexical e = of_binding p i.sym _ _ refl refl (declared p standing.Lexical i.sym _ (λ z. absurd (cc)) (taken_by p standing.Lexical (taken p w k i standing.Lexical h e refl)))
-      has_context standing.Function e = of_binding p i.sym _ _ refl refl (declared p standing.Function i.sym _ (λ z. absurd (cc)) (taken_by p standing.Function (taken p w k i standing.Function h e refl)))
-      has_context standing.BlockFunction e = of_binding p i.sym _ _ refl refl (declared p standing.BlockFunction i.sym _ (λ z. absurd (cc)) (taken_by p standing.BlockFunction (taken p w k i standing.BlockFunction h e refl)))
-      has_context standing.Parameter e = of_binding p i.sym _ _ refl refl (declared p standing.Parameter i.sym _ (λ z. absurd (cc)) (taken_by p standing.Parameter (taken p w k i standing.Parameter h e refl)))
-      has_context standing.CatchParameter e = of_binding p i.sym _ _ refl refl (declared p standing.CatchParameter i.sym _ (λ z. absurd (cc)) (taken_by p standing.CatchParameter (taken p w k i standing.CatchParameter h e refl)))
-      has_context standing.Import e = of_binding p i.sym _ _ refl refl (declared p standing.Import i.sym _ (λ z. absurd (cc)) (taken_by p standing.Import (taken p w k i standing.Import h e refl)))
-      has_context standing.FunctionName e = of_binding p i.sym _ _ refl refl (declared p standing.FunctionName i.sym _ (λ z. absurd (cc)) (taken_by p standing.FunctionName (taken p w k i standing.FunctionName h e refl)))
-      has_context standing.ClassName e = of_binding p i.sym _ _ refl refl (declared p standing.ClassName i.sym _ (λ z. absurd (cc)) (taken_by p standing.ClassName (taken p w k i standing.ClassName h e refl)))
-      has_context standing.Plain e = of_neither p i.sym _ refl refl
-      has_context standing.Branch e = of_neither p i.sym _ refl refl
-      has_context standing.DefaultExport e = of_neither p i.sym _ refl refl
-      has_context standing.Label e = of_neither p i.sym _ refl refl
-      has_context standing.Imported e = of_neither p i.sym _ refl refl
-      has_context standing.Exported e = of_neither p i.sym _ refl refl
+      has_context standing.Lexical e = of_binding p i.sym _ _ refl refl (λ z. absurd (cc)) (declared p standing.Lexical i.sym _ (λ z. absurd (cc)) (taken_by p standing.Lexical (taken p w k i standing.Lexical h e refl)))
+      has_context standing.Function e = of_binding p i.sym _ _ refl refl (λ z. absurd (cc)) (declared p standing.Function i.sym _ (λ z. absurd (cc)) (taken_by p standing.Function (taken p w k i standing.Function h e refl)))
+      has_context standing.BlockFunction e = of_binding p i.sym _ _ refl refl (λ z. absurd (cc)) (declared p standing.BlockFunction i.sym _ (λ z. absurd (cc)) (taken_by p standing.BlockFunction (taken p w k i standing.BlockFunction h e refl)))
+      has_context standing.Parameter e = of_binding p i.sym _ _ refl refl (λ z. absurd (cc)) (declared p standing.Parameter i.sym _ (λ z. absurd (cc)) (taken_by p standing.Parameter (taken p w k i standing.Parameter h e refl)))
+      has_context standing.CatchParameter e = of_binding p i.sym _ _ refl refl (λ z. absurd (cc)) (declared p standing.CatchParameter i.sym _ (λ z. absurd (cc)) (taken_by p standing.CatchParameter (taken p w k i standing.CatchParameter h e refl)))
+      has_context standing.Import e = of_binding p i.sym _ _ refl refl (λ z. absurd (cc)) (declared p standing.Import i.sym _ (λ z. absurd (cc)) (taken_by p standing.Import (taken p w k i standing.Import h e refl)))
+      has_context standing.FunctionName e = of_binding p i.sym _ _ refl refl (λ z. absurd (cc)) (declared p standing.FunctionName i.sym _ (λ z. absurd (cc)) (taken_by p standing.FunctionName (taken p w k i standing.FunctionName h e refl)))
+      has_context standing.ClassName e = of_binding p i.sym _ _ refl refl (λ z. absurd (cc)) (declared p standing.ClassName i.sym _ (λ z. absurd (cc)) (taken_by p standing.ClassName (taken p w k i standing.ClassName h e refl)))
+      has_context standing.Plain e = of_neither p i.sym _ refl refl (λ z. absurd (cc))
+      has_context standing.Branch e = of_neither p i.sym _ refl refl (λ z. absurd (cc))
+      has_context standing.DefaultExport e = of_neither p i.sym _ refl refl (λ z. absurd (cc))
+      has_context standing.Label e = of_neither p i.sym _ refl refl (λ z. absurd (cc))
+      has_context standing.Imported e = of_neither p i.sym _ refl refl (λ z. absurd (cc))
+      has_context standing.Exported e = of_neither p i.sym _ refl refl (λ z. absurd (cc))
 
-    pub contexts_right : (p : Path) (w : Place) (k : Kind) (i : Ident) → place_at program_place t p ≡ Some (w, Identifier k i) → i.ctxt ≡ [] → HasContext mark a.unresolved t p i.sym w.standing (written a [] 0 program_place t p)
+    pub contexts_right : (p : Path) (w : Place) (k : Kind) (i : Ident) → place_at program_place t p ≡ Some (w, Identifier k i) → i.ctxt ≡ [] → HasContextBy mark a.unresolved t p i.sym w.standing (written a false [] 0 program_place t p)
     contexts_right p w k i h none =
-        subst (HasContext mark a.unresolved t p i.sym w.standing) (sym (written_is p w k i h ∙ ap (λ c. kept_or c (fresh_context a w.standing i.sym (round p))) none)) (has_context p w k i h w.standing refl)
+        subst (HasContextBy mark a.unresolved t p i.sym w.standing) (sym (written_is p w k i h ∙ ap (λ c. kept_or c (fresh_context a (exported p) w.standing i.sym (round p))) none)) (has_context p w k i h w.standing refl)
 
     module _ (old new : Table) (top : ℕ) (known : IsMark old top) (marks : a.marks ≡ marks_from top (greatest old + 1) (scope_count program_place t))
         (gains : new ≡ with_fresh_marks old top (scope_count program_place t - 1)) where
@@ -293,7 +328,7 @@ module _ (a : Marking) (t : Node) where
               subst (λ l. Contains l (m, parent)) (sym rows) (Contains-append_right old (fresh_rows top first (scope_count program_place t - 1)) (m, parent)
               (subst (λ q. Contains (fresh_rows top first (scope_count program_place t - 1)) (m, q)) (sym f) (in_row m s o ne e)))
 
-      pub resolves : (answer : Node) → answer ≡ remarked (written a [] 0 program_place t) t → Resolved a.unresolved top old new t answer
+      pub resolves : (answer : Node) → answer ≡ remarked (written a false [] 0 program_place t) t → ResolvedBy a.unresolved top old new t answer
       resolves answer e = record {
         marks = mark;
         one_to_one = one_to_one;
@@ -301,7 +336,7 @@ module _ (a : Marking) (t : Node) where
         fresh = fresh;
         table = gains;
         gained = gained;
-        contexts = written a [] 0 program_place t;
+        contexts = written a false [] 0 program_place t;
         only_contexts = e;
         kept = contexts_kept;
         resolved = contexts_right;

@@ -1,10 +1,14 @@
 -- Ways in which names are bound.
-use Rattle.std.proofs.Common.{◌≡◌, ℕ, zero, suc, Bool, true, false, not, ◌&&◌, ◌||◌, ◌==◌, IsTrue, ◌⊎◌, inl, inr, ⊎_elim, refl, sym, ap, ◌∙◌, arith}
+use Rattle.std.proofs.Common.{◌≡◌, ℕ, zero, suc, Bool, true, false, not, ◌&&◌, ◌||◌, ◌==◌, IsTrue, ◌⊎◌, inl, inr, ⊎_elim, refl, sym, ap, ◌∙◌, subst, arith}
 use Rattle.std.proofs.lemmas.Bool.Decides.{nat_tests}
 use Rattle.swc_tree_scoping.specs.declared.places.Standing.{Standing}
 use Rattle.swc_tree_scoping.specs.declared.places.Standing.TheVariants as standing
 use Rattle.swc_base_resolver_program.specs.declared.names.Ways.{Ways}
-use Rattle.swc_base_resolver_program.specs.Names.{has_way, is_way, way_number, with_way}
+use Rattle.swc_tree_node.specs.declared.kind.Kind.{Kind}
+use Rattle.swc_tree_scoping.specs.Scopes.{is_binding}
+use Rattle.swc_tree_spaces.specs.Spaces.{as_value, names_type}
+use Rattle.swc_base_resolver_program.specs.Names.{Way, binding, both_ways, enum_member, has_way, is_way, member_ways, no_ways, takes_way, type_name, way_number, ways_by, with_way}
+use Rattle.swc_base_resolver_program.specs.Walks.{gives}
 
 pub or_cases : (a b : Bool) → IsTrue (a || b) → IsTrue a ⊎ IsTrue b
 or_cases true b h = inl refl
@@ -108,6 +112,8 @@ with_has w standing.DefaultExport q = none_way w q
 with_has w standing.Label q = none_way w q
 with_has w standing.Imported q = none_way w q
 with_has w standing.Exported q = none_way w q
+with_has w standing.TypeName q = none_way w q
+with_has w standing.TypeReference q = none_way w q
 
 -- ways of one number are one
 way_of : ℕ → Standing
@@ -143,6 +149,8 @@ numbered standing.DefaultExport = inl refl
 numbered standing.Label = inl refl
 numbered standing.Imported = inl refl
 numbered standing.Exported = inl refl
+numbered standing.TypeName = inl refl
+numbered standing.TypeReference = inl refl
 
 pub one_way : (r q : Standing) → IsTrue (is_way r q) → r ≡ q
 one_way r q h =
@@ -150,3 +158,84 @@ one_way r q h =
     let e : way_number r ≡ way_number q = grind (arith, nat_tests, same) in
     let ne : way_number q ≡ 0 → ⊥ = λ z. grind (arith, nat_tests, some, z) in
     ⊎_elim (λ z. absurd (ne (sym e ∙ z))) (λ a. ⊎_elim (λ z. absurd (ne z)) (λ b. sym a ∙ ap way_of e ∙ b) (numbered q)) (numbered r)
+
+-- no name is taken in no way
+pub no_way : (r : Standing) → has_way no_ways r ≡ false
+no_way standing.Variable = refl
+no_way _ = refl
+
+pub no_takes : (v : Way) → takes_way no_ways v ≡ false
+no_takes (binding r) = no_way r
+no_takes type_name = refl
+no_takes enum_member = refl
+
+-- ways of two
+both_has : (a b : Ways) (r : Standing) → has_way (both_ways a b) r ≡ (has_way a r || has_way b r)
+both_has a b standing.Variable = refl
+both_has a b _ = refl
+
+pub both_takes : (a b : Ways) (v : Way) → takes_way (both_ways a b) v ≡ (takes_way a v || takes_way b v)
+both_takes a b (binding r) = both_has a b r
+both_takes a b type_name = refl
+both_takes a b enum_member = refl
+
+-- those of an identifier, and those of a member
+typed_has : (w : Ways) (n : Bool) (r : Standing) → has_way (record w { as_type = n }) r ≡ has_way w r
+typed_has w n standing.Variable = refl
+typed_has w n _ = refl
+
+no_member : (r : Standing) → (with_way no_ways r).member ≡ false
+no_member standing.Variable = refl
+no_member _ = refl
+
+or_none : (a b : Bool) → b ≡ false → (a || b) ≡ a
+or_none true b e = refl
+or_none false b e = e
+
+pub by_takes : (r : Standing) (k : Kind) (v : Way) → takes_way (ways_by r (names_type r k)) v ≡ gives r k v
+by_takes r k (binding q) = typed_has (with_way no_ways r) (names_type r k) q ∙ with_has no_ways r q ∙ or_none (is_way r q) (has_way no_ways q) (no_way q)
+by_takes r k type_name = refl
+by_takes r k enum_member = no_member r
+
+member_has : (r : Standing) → has_way member_ways r ≡ false
+member_has standing.Variable = refl
+member_has _ = refl
+
+pub member_takes : (v : Way) → IsTrue (takes_way member_ways v) → v ≡ enum_member
+member_takes (binding r) h = let e : false ≡ true = sym (member_has r) ∙ is_true _ h in absurd (cc)
+member_takes type_name h = absurd (grind arith)
+member_takes enum_member h = refl
+
+-- as what a name that is bound goes to its scope
+pub way_self : (r : Standing) → is_binding r ≡ true → IsTrue (is_way r r)
+way_self standing.Variable h = refl
+way_self standing.Lexical h = refl
+way_self standing.Function h = refl
+way_self standing.BlockFunction h = refl
+way_self standing.SloppyFunction h = refl
+way_self standing.Parameter h = refl
+way_self standing.CatchParameter h = refl
+way_self standing.Import h = refl
+way_self standing.FunctionName h = refl
+way_self standing.ClassName h = refl
+way_self _ h = absurd (cc)
+
+pub bound_self : (r : Standing) → is_binding r ≡ true → as_value r ≡ r
+bound_self standing.TypeName h = absurd (cc)
+bound_self r h = refl
+
+own_way : (r : Standing) → IsTrue (is_way r r) → is_binding r ≡ true
+own_way standing.Variable h = refl
+own_way standing.Lexical h = refl
+own_way standing.Function h = refl
+own_way standing.BlockFunction h = refl
+own_way standing.SloppyFunction h = refl
+own_way standing.Parameter h = refl
+own_way standing.CatchParameter h = refl
+own_way standing.Import h = refl
+own_way standing.FunctionName h = refl
+own_way standing.ClassName h = refl
+own_way _ h = absurd (grind arith)
+
+pub way_binds : (r q : Standing) → IsTrue (is_way r q) → is_binding q ≡ true
+way_binds r q h = own_way q (subst (λ r. IsTrue (is_way r q)) (one_way r q h) h)

@@ -65,11 +65,16 @@ tables_in d = record { bound = names_in d.bound; reached = names_in d.reached }
 abbrev pub declares_in : Tables → List ℕ → Open → List Open → Bool
 declares_in d x o os =
     if o.whole
-    then (any_way is_settled (d.bound o.number x) || (has_way (d.reached o.number x) standing.SloppyFunction || (has_way (d.bound o.number x) standing.SloppyFunction && not (hoists_from d.bound x o os))))
+    then ((any_way is_settled (d.bound o.number x) || (d.bound o.number x).member) || (has_way (d.reached o.number x) standing.SloppyFunction || (has_way (d.bound o.number x) standing.SloppyFunction && not (hoists_from d.bound x o os))))
     else any_way is_parameter (d.bound o.number x)
 
+-- as a value
 abbrev pub meaning_in : Tables → List ℕ → List Open → Option ℕ
 meaning_in d x = found (declares_in d x)
+
+-- and as a type
+abbrev pub type_meaning_in : Bindings → List ℕ → List Open → Option ℕ
+type_meaning_in b x = found (λ o os. o.whole && (b o.number x).as_type)
 
 abbrev pub otherwise_in : Tables → List ℕ → ℕ → Bool
 otherwise_in d x k = any_way is_no_variable (d.bound k x) || (has_way (d.reached k x) standing.SloppyFunction || has_way (d.reached k x) standing.Variable)

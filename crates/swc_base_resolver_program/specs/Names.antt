@@ -18,6 +18,8 @@ no_ways = record {
   import = false;
   function_name = false;
   class_name = false;
+  as_type = false;
+  member = false;
 }
 
 -- a name is bound so
@@ -63,6 +65,42 @@ with_way w standing.Import = record w { import = true }
 with_way w standing.FunctionName = record w { function_name = true }
 with_way w standing.ClassName = record w { class_name = true }
 with_way w _ = w
+
+-- how a name is taken: bound as a value that stands so, declared as a type, or the name of an enum's member
+pub data Way : Type 0 where
+  binding : Standing → Way
+  type_name : Way
+  enum_member : Way
+
+-- a name is taken so
+abbrev pub takes_way : Ways → Way → Bool
+takes_way w (binding r) = has_way w r
+takes_way w type_name = w.as_type
+takes_way w enum_member = w.member
+
+-- the ways of a name that stands so, and whether it is declared as a type; those of an enum's member
+abbrev pub ways_by : Standing → Bool → Ways
+ways_by r as_type = record (with_way no_ways r) { as_type = as_type }
+
+abbrev pub member_ways : Ways
+member_ways = record no_ways { member = true }
+
+-- the ways of the one and of the other
+abbrev pub both_ways : Ways → Ways → Ways
+both_ways a b = record {
+  variable = a.variable || b.variable;
+  lexical = a.lexical || b.lexical;
+  function = a.function || b.function;
+  block_function = a.block_function || b.block_function;
+  sloppy_function = a.sloppy_function || b.sloppy_function;
+  parameter = a.parameter || b.parameter;
+  catch_parameter = a.catch_parameter || b.catch_parameter;
+  import = a.import || b.import;
+  function_name = a.function_name || b.function_name;
+  class_name = a.class_name || b.class_name;
+  as_type = a.as_type || b.as_type;
+  member = a.member || b.member;
+}
 
 -- one of the ways in which a name is bound passes the test
 abbrev pub any_way : (Standing → Bool) → Ways → Bool

@@ -1,19 +1,21 @@
 //! The first two walks: the names that each scope takes, and then those that reach it from blocks.
-ghost use Rattle.std.specs.Prelude.{◌≡◌, ◌+◌, ◌<◌, [], length, IfOk, OnOk};
+ghost use Rattle.std.specs.Prelude.{◌≡◌, ◌+◌, ◌<◌, [], length, option_map, slice_get, IfOk, OnOk};
 ghost use Rattle.swc_tree_scoping.specs.declared.places.View.{View};
 ghost use Rattle.swc_tree_scoping.specs.Below.{places_of, view_of};
 ghost use Rattle.swc_tree_scoping.specs.Folds.{each_in};
-ghost use Rattle.swc_tree_scoping.specs.Places.{program_place};
+ghost use Rattle.swc_tree_scoping.specs.Places.{program_place, text_of as text_of_field};
 ghost use Rattle.swc_tree_scoping.specs.Scopes.{scope_count, total};
+ghost use Rattle.swc_tree_spaces.specs.Spaces.{as_value as stands_as_value, key_name, member_name as member_name_of, names_type as declares_type};
 ghost use Rattle.swc_base_resolver_program.specs.Lookup.{layers, same_number};
-ghost use Rattle.swc_base_resolver_program.specs.Walks.{AreBelow, Gains, IsAdded, Reaches, ReachesBelow, ReachesHere, TakeAlike, Takes, is_sought, sees, target_in};
+ghost use Rattle.swc_base_resolver_program.specs.Walks.{AreBelow, Gains, HasMembers, IsAdded, IsMember, Reaches, ReachesBelow, TakeAlike, Takes, TakesIdentifier, is_sought, members_sought, sees, target_in};
 
-use crate::env::{Env, Views, hoists, meets, taker, variable_scope};
+use crate::env::{Env, Inside, Views, hoists, meets, taker, variable_scope};
 use crate::lookup::TakenNames;
-use crate::names::ScopeNames;
+use crate::names::{ScopeNames, Ways};
 use std::alloc::{AllocError, Global};
 use swc_tree_marks::Ident;
-use swc_tree_node::Node;
+use swc_tree_node::fields::{ident_name, ts_enum_decl, ts_enum_member};
+use swc_tree_node::{Kind, Node};
 use swc_tree_scoping::{
     PROGRAM_PLACE, Place, PlacesBelow, Standing, is_binding, places_of_fields, places_of_items,
 };
@@ -21,12 +23,20 @@ use swc_tree_scoping::{
 /// What a walk looks for.
 #[derive(Clone, Copy)]
 pub enum Stage<'a> {
-    /// For each name that is bound, the scope that takes it.
+    /// For each name that is bound, or declared as a type, the scope that takes it; and the names of an enum's members, for its
+    /// scope.
     Bind,
     /// For each plain function of sloppy code in a block, the scope that it is hoisted to; for each variable below
     /// no catch clause whose parameter has its name, the scope that takes it. The names that the scopes take are
     /// given.
     Settle(TakenNames<'a>),
+}
+
+// As what an identifier stands, and of which kind it is.
+#[derive(Clone, Copy)]
+struct Stance {
+    standing: Standing,
+    kind: Kind,
 }
 
 /// The tables of the scopes of a program, the scopes from the front, with just what a walk over it looks for. Up to
@@ -78,15 +88,18 @@ fn gather(
     ensures tables { OnOk result (Gains tables.old.items tables.new.items (Reaches stage.entry (layers env.now) (length tables.old.items) place node.now)) }
 {
     match node {
-        Node::Identifier(_, ident) => {
-            gather_identifier(alloc, stage, ident.get(), place.standing, &*env, tables)?;
+        Node::Identifier(kind, ident) => {
+            let stance = Stance {
+                standing: place.standing,
+                kind: *kind,
+            };
+            gather_identifier(alloc, stage, ident.get(), stance, &*env, tables)?;
             Ok(())
         }
         Node::List(items) => {
             let items = items.as_slice();
             let places = places_of_items(place);
-            let views = Views::plain(&*env);
-            gather_children(alloc, stage, items, places, &views, tables)?;
+            gather_children(alloc, stage, items, places, Views::Plain(&*env), tables)?;
             Ok(())
         }
         Node::Tree(kind, fields) => {
@@ -95,13 +108,15 @@ fn gather(
             match places.opened() {
                 Some(scope) => {
                     let number = add_table(alloc, tables)?;
-                    let views = Views::opened(scope, number, &*env);
-                    gather_children(alloc, stage, fields, places, &views, tables)?;
+                    add_members(alloc, members(stage, *kind, fields), number, tables)?;
+                    let inside = Inside::new(scope, number, &*env);
+                    let views = Views::Opened(&inside);
+                    gather_children(alloc, stage, fields, places, views, tables)?;
                     Ok(())
                 }
                 None => {
-                    let views = Views::plain(&*env);
-                    gather_children(alloc, stage, fields, places, &views, tables)?;
+                    let views = Views::Plain(&*env);
+                    gather_children(alloc, stage, fields, places, views, tables)?;
                     Ok(())
                 }
             }
@@ -116,12 +131,12 @@ fn gather_children(
     stage: Stage,
     nodes: &[Node],
     places: PlacesBelow,
-    views: &Views,
+    views: Views,
     tables: &mut Vec<ScopeNames>,
 ) -> Result<(), AllocError>
-    requires { (v : View) → AreBelow (length tables.old.items) (sees views.now v) }
+    requires { (v : View) → AreBelow (length tables.old.items) (sees views v) }
     ensures size { OnOk result (length tables.new.items ≡ length tables.old.items + total (each_in scope_count (places_of places nodes.now) nodes.now)) }
-    ensures tables { OnOk result (Gains tables.old.items tables.new.items (ReachesBelow stage.entry (λ i. sees views.now (view_of places i)) (length tables.old.items) (places_of places nodes.now) nodes.now (length nodes.now))) }
+    ensures tables { OnOk result (Gains tables.old.items tables.new.items (ReachesBelow stage.entry (λ i. sees views.entry (view_of places i)) (length tables.old.items) (places_of places nodes.now) nodes.now (length nodes.now))) }
 {
     for i in 0..nodes.len() {
         let node = &nodes[i];
@@ -146,19 +161,98 @@ fn add_table(alloc: Global, tables: &mut Vec<ScopeNames>) -> Result<usize, Alloc
     Ok(number)
 }
 
+// The members that a node has, if the stage looks for them: those of an enum.
+fn members<'a>(stage: Stage, kind: Kind, fields: &'a [Node]) -> &'a [Node]
+    ensures { result.now ≡ members_sought stage.entry kind fields.now }
+{
+    match (stage, kind) {
+        (Stage::Bind, Kind::TsEnumDecl) => match fields.get(ts_enum_decl::MEMBERS) {
+            Some(Node::List(items)) => items.as_slice(),
+            _ => &[],
+        },
+        _ => &[],
+    }
+}
+
+// Adds the names of those members to the table of a scope.
+fn add_members(
+    alloc: Global,
+    members: &[Node],
+    number: usize,
+    tables: &mut Vec<ScopeNames>,
+) -> Result<(), AllocError>
+    requires { number < length tables.old.items }
+    ensures size { OnOk result (length tables.new.items ≡ length tables.old.items) }
+    ensures tables { OnOk result (Gains tables.old.items tables.new.items (HasMembers number members.now (length members.now))) }
+{
+    for i in 0..members.len() {
+        add_member(alloc, &members[i], number, tables)?;
+    }
+    Ok(())
+}
+
+// Adds the name of one of them, if it has one that is no string.
+fn add_member(
+    alloc: Global,
+    member: &Node,
+    number: usize,
+    tables: &mut Vec<ScopeNames>,
+) -> Result<(), AllocError>
+    requires { number < length tables.old.items }
+    ensures size { OnOk result (length tables.new.items ≡ length tables.old.items) }
+    ensures tables { OnOk result (Gains tables.old.items tables.new.items (IsMember number member.now)) }
+{
+    match member_name(member) {
+        Some(name) => { add(alloc, tables, number, name, Ways::of_member()) }
+        None => Ok(()),
+    }
+}
+
+// The name of a member of an enum, if it has one that is no string.
+fn member_name(member: &Node) -> Option<&str>
+    ensures { option_map (λ name. name.now) result ≡ member_name_of member.now }
+{
+    match member {
+        Node::Tree(Kind::TsEnumMember, fields) => name_of_key(
+            fields.as_slice(),
+            ts_enum_member::ID,
+        ),
+        _ => None,
+    }
+}
+
+fn name_of_key(fields: &[Node], index: usize) -> Option<&str>
+    ensures { option_map (λ name. name.now) result ≡ key_name (slice_get fields.now index) }
+{
+    match fields.get(index) {
+        Some(Node::Tree(Kind::IdentName, parts)) => text_of(parts.as_slice(), ident_name::SYM),
+        _ => None,
+    }
+}
+
+fn text_of(parts: &[Node], index: usize) -> Option<&str>
+    ensures { option_map (λ text. text.now) result ≡ text_of_field (slice_get parts.now index) }
+{
+    match parts.get(index) {
+        Some(Node::Text(text)) => Some(text.as_str()),
+        _ => None,
+    }
+}
+
 // Adds the name of an identifier that no pass has marked to the table of the scope that the stage gives it to.
 fn gather_identifier(
     alloc: Global,
     stage: Stage,
     ident: &Ident,
-    standing: Standing,
+    stance: Stance,
     env: &Env,
     tables: &mut Vec<ScopeNames>,
 ) -> Result<(), AllocError>
     requires { AreBelow (length tables.old.items) (layers env.now) }
     ensures size { OnOk result (length tables.new.items ≡ length tables.old.items) }
-    ensures tables { OnOk result (Gains tables.old.items tables.new.items (ReachesHere stage.entry (layers env.now) standing ident.now)) }
+    ensures tables { OnOk result (Gains tables.old.items tables.new.items (TakesIdentifier stage.entry (layers env.now) stance.standing stance.kind ident.now)) }
 {
+    let Stance { standing, kind } = stance;
     // What the stage does not look for is told by where it stands, with no look at its own memory.
     if !seeks(stage, standing) {
         return Ok(());
@@ -168,17 +262,41 @@ fn gather_identifier(
     }
     let name = ident.sym.as_str();
     match target(stage, standing, name, env) {
-        Some(number) => { add(alloc, tables, number, name, standing) }
+        Some(number) => {
+            let ways = Ways::by(standing, names_type(standing, kind));
+            add(alloc, tables, number, name, ways)
+        }
         None => Ok(()),
     }
 }
 
-// Whether the stage looks for names that are bound so.
+// Whether an identifier of that kind that stands so declares its name as a type.
+fn names_type(standing: Standing, kind: Kind) -> bool
+    ensures { result ≡ declares_type standing kind }
+{
+    match standing {
+        Standing::TypeName | Standing::Import => true,
+        Standing::Lexical => matches!(kind, Kind::Ident),
+        _ => false,
+    }
+}
+
+// As what a name goes to its scope: that of a type alone as a lexical one.
+fn as_value(standing: Standing) -> Standing
+    ensures { result ≡ stands_as_value standing }
+{
+    match standing {
+        Standing::TypeName => Standing::Lexical,
+        _ => standing,
+    }
+}
+
+// Whether the stage looks for names that stand so.
 fn seeks(stage: Stage, standing: Standing) -> bool
     ensures { result ≡ is_sought stage.entry standing }
 {
     match stage {
-        Stage::Bind => is_binding(standing),
+        Stage::Bind => is_binding(standing) || matches!(standing, Standing::TypeName),
         Stage::Settle(_) => matches!(standing, Standing::SloppyFunction | Standing::Variable),
     }
 }
@@ -188,24 +306,24 @@ fn add(
     tables: &mut Vec<ScopeNames>,
     number: usize,
     name: &str,
-    standing: Standing,
+    ways: Ways,
 ) -> Result<(), AllocError>
     requires { number < length tables.old.items }
     ensures size { OnOk result (length tables.new.items ≡ length tables.old.items) }
-    ensures tables { OnOk result (Gains tables.old.items tables.new.items (IsAdded number standing name.now)) }
+    ensures tables { OnOk result (Gains tables.old.items tables.new.items (IsAdded number ways name.now)) }
 {
     match tables.get_mut(number) {
-        Some(names) => { names.insert(alloc, name, standing) }
+        Some(names) => { names.insert(alloc, name, ways) }
         None => Ok(()),
     }
 }
 
-// The scope that the stage gives a name to that is bound so.
+// The scope that the stage gives a name to that stands so.
 fn target(stage: Stage, standing: Standing, name: &str, env: &Env) -> Option<usize>
     ensures { result ≡ target_in stage.entry standing name.now (layers env.now) }
 {
     match stage {
-        Stage::Bind => taker(env, standing),
+        Stage::Bind => taker(env, as_value(standing)),
         Stage::Settle(bound) => match standing {
             Standing::SloppyFunction => {
                 if hoists(env, &bound, name) {

@@ -2,7 +2,7 @@
 ghost use Rattle.std.specs.Prelude.{◌≡◌};
 ghost use Rattle.swc_tree_scoping.specs.declared.places.View.{View as View'};
 ghost use Rattle.swc_base_resolver_program.specs.Lookup.{hoists_from as hoists_from_in, hoists_in, layers, meets_in, names_in, open_of, passes_in, taker_in};
-ghost use Rattle.swc_base_resolver_program.specs.Walks.{inside, sees};
+ghost use Rattle.swc_base_resolver_program.specs.Walks.{inside, sees, sees_in};
 
 use crate::lookup::TakenNames;
 use swc_tree_scoping::{Scope, Standing, View, takes};
@@ -22,26 +22,18 @@ pub enum Env<'a> {
     In(Layer, &'a Env<'a>),
 }
 
-/// What the parts of a node see of the scopes round them.
+/// What the parts of a node that opens a scope see.
 #[derive(Clone, Copy)]
-pub enum Views<'a> {
-    /// The node opens no scope, and each part sees what the node does.
-    Plain(&'a Env<'a>),
-    /// It opens one: what is outside of that scope, what its parameters see, and what all else does.
-    Opened(&'a Env<'a>, Env<'a>, Env<'a>),
+pub struct Inside<'a> {
+    pub outside: &'a Env<'a>,
+    pub parameters: Env<'a>,
+    pub whole: Env<'a>,
 }
 
-impl<'a> Views<'a> {
-    /// Of a node that opens no scope.
-    pub fn plain(env: &'a Env<'a>) -> Views<'a>
-        ensures { (v : View') → sees result v ≡ layers env.now }
-    {
-        Views::Plain(env)
-    }
-
-    /// Of a node that opens a scope, which has that number from the front.
-    pub fn opened(scope: Scope, number: usize, env: &'a Env<'a>) -> Views<'a>
-        ensures { (v : View') → sees result v ≡ inside scope number (layers env.now) v }
+impl<'a> Inside<'a> {
+    /// Of a node whose scope has that number from the front.
+    pub fn new(scope: Scope, number: usize, env: &'a Env<'a>) -> Inside<'a>
+        ensures { (v : View') → sees_in result v ≡ inside scope number (layers env.now) v }
     {
         let layer = Layer {
             scope,
@@ -52,19 +44,35 @@ impl<'a> Views<'a> {
             whole: false,
             ..layer
         };
-        Views::Opened(env, Env::In(parameters, env), Env::In(layer, env))
+        Inside {
+            outside: env,
+            parameters: Env::In(parameters, env),
+            whole: Env::In(layer, env),
+        }
     }
+}
 
+/// What the parts of a node see of the scopes round them. The scopes that it opens are lent, so that each frame of a walk
+/// holds them once.
+#[derive(Clone, Copy)]
+pub enum Views<'a> {
+    /// The node opens no scope, and each part sees what the node does.
+    Plain(&'a Env<'a>),
+    /// It opens one.
+    Opened(&'a Inside<'a>),
+}
+
+impl<'a> Views<'a> {
     /// The environment of a part that sees so much.
-    pub fn seen(&self, view: View) -> &Env<'a>
-        ensures { layers result.now ≡ sees self.now view }
+    pub fn seen(self, view: View) -> &'a Env<'a>
+        ensures { layers result.now ≡ sees self.entry view }
     {
         match self {
             Views::Plain(env) => env,
-            Views::Opened(outside, parameters, whole) => match view {
-                View::Outside => outside,
-                View::Parameters => parameters,
-                View::Whole => whole,
+            Views::Opened(inside) => match view {
+                View::Outside => inside.outside,
+                View::Parameters => &inside.parameters,
+                View::Whole => &inside.whole,
             },
         }
     }

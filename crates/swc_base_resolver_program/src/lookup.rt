@@ -1,7 +1,7 @@
 //! What the scopes declare.
 ghost use Rattle.std.specs.Prelude.{◌≡◌};
 ghost use Rattle.std.specs.List.{list_any};
-ghost use Rattle.swc_base_resolver_program.specs.Lookup.{declares_in, function_owner_in, layers, meaning_in, names_in, open_of, otherwise_in, tables_in, variable_owner_in};
+ghost use Rattle.swc_base_resolver_program.specs.Lookup.{declares_in, function_owner_in, layers, meaning_in, names_in, open_of, otherwise_in, tables_in, type_meaning_in, variable_owner_in};
 ghost use Rattle.swc_base_resolver_program.specs.Names.{ways_in};
 ghost use Rattle.swc_base_resolver_program.specs.Reached.{takes_reaching};
 
@@ -49,7 +49,7 @@ pub struct Declarations<'a> {
     pub reached: TakenNames<'a>,
 }
 
-/// The number of the scope that a name means, if one declares it.
+/// The number of the scope that a name means as a value, if one declares it so.
 #[tactic(auto, using(crate::proofs::Open::layers_top, crate::proofs::Open::layers_in))]
 pub fn meaning(env: &Env, declarations: &Declarations, name: &str) -> Option<usize>
     ensures { result ≡ meaning_in (tables_in declarations.now) name.now (layers env.now) }
@@ -66,7 +66,7 @@ pub fn meaning(env: &Env, declarations: &Declarations, name: &str) -> Option<usi
     }
 }
 
-// Whether a scope declares the name for what sees so much of it.
+// Whether a scope declares the name as a value for what sees so much of it.
 fn declares(layer: Layer, outer: &Env, declarations: &Declarations, name: &str) -> bool
     ensures { result ≡ declares_in (tables_in declarations.now) name.now (open_of layer) (layers outer.now) }
 {
@@ -75,7 +75,7 @@ fn declares(layer: Layer, outer: &Env, declarations: &Declarations, name: &str) 
     if !layer.whole {
         return ways.is_parameter();
     }
-    if ways.is_settled() {
+    if ways.is_settled() || ways.is_member() {
         return true;
     }
     if reached
@@ -85,6 +85,23 @@ fn declares(layer: Layer, outer: &Env, declarations: &Declarations, name: &str) 
         return true;
     }
     ways.has(Standing::SloppyFunction) && !hoists_from(layer, outer, bound, name)
+}
+
+/// The number of the scope that a name means as a type, if one declares it so.
+#[tactic(auto, using(crate::proofs::Open::layers_top, crate::proofs::Open::layers_in))]
+pub fn type_meaning(env: &Env, bound: &TakenNames, name: &str) -> Option<usize>
+    ensures { result ≡ type_meaning_in (names_in bound.now) name.now (layers env.now) }
+{
+    match env {
+        Env::Top => None,
+        Env::In(layer, outer) => {
+            if layer.whole && bound.ways(layer.number, name).is_type() {
+                Some(layer.number)
+            } else {
+                type_meaning(outer, bound, name)
+            }
+        }
+    }
 }
 
 /// The number of the scope whose mark a variable gets: of the function, static block or program that declares it, or

@@ -1,7 +1,7 @@
 //! The names that a scope takes, and how they are bound.
 ghost use Rattle.std.specs.Prelude.{◌≡◌, ℕ, List, OnOk};
 ghost use Rattle.swc_tree_scoping.specs.Declares.{is_no_variable as binds_otherwise, is_parameter as binds_parameter, is_settled as binds_settled, stops as binds_stop, stops_in_block as binds_stop_in_block};
-ghost use Rattle.swc_base_resolver_program.specs.Names.{any_way, has_way, no_ways, ways_of, with_way};
+ghost use Rattle.swc_base_resolver_program.specs.Names.{any_way, both_ways, has_way, member_ways, no_ways, ways_by, ways_of, with_way};
 ghost use Rattle.swc_base_resolver_program.specs.Inserted.{IsInserted};
 ghost use Rattle.swc_base_resolver_program.specs.Reached.{can_reach as can_reach_from_block, takes_reaching};
 
@@ -9,7 +9,8 @@ use std::alloc::{AllocError, Global};
 use std::collections::BTreeMap;
 use swc_tree_scoping::Standing;
 
-/// The ways in which a scope takes one name.
+/// The ways in which a scope takes one name: how it is bound there as a value, whether it is declared as a type, and whether it is
+/// the name of an enum's member.
 #[derive(Clone, Copy)]
 pub struct Ways {
     variable: bool,
@@ -22,6 +23,8 @@ pub struct Ways {
     import: bool,
     function_name: bool,
     class_name: bool,
+    as_type: bool,
+    member: bool,
 }
 
 impl Ways {
@@ -40,7 +43,43 @@ impl Ways {
             import: false,
             function_name: false,
             class_name: false,
+            as_type: false,
+            member: false,
         }
+    }
+
+    /// That of a name that stands so, and whether it is declared as a type.
+    pub fn by(standing: Standing, as_type: bool) -> Ways
+        ensures { result ≡ ways_by standing as_type }
+    {
+        Ways {
+            as_type,
+            ..Ways::none().with(standing)
+        }
+    }
+
+    /// That of an enum's member.
+    pub fn of_member() -> Ways
+        ensures { result ≡ member_ways }
+    {
+        Ways {
+            member: true,
+            ..Ways::none()
+        }
+    }
+
+    /// Whether the name is declared as a type.
+    pub fn is_type(&self) -> bool
+        ensures { result ≡ self.now.as_type }
+    {
+        self.as_type
+    }
+
+    /// Whether it is the name of an enum's member.
+    pub fn is_member(&self) -> bool
+        ensures { result ≡ self.now.member }
+    {
+        self.member
     }
 
     /// Whether the name is bound so.
@@ -130,6 +169,26 @@ impl Ways {
         }
         self
     }
+
+    // The ways of the one and of the other.
+    fn joined(self, more: Ways) -> Ways
+        ensures { result ≡ both_ways self more }
+    {
+        Ways {
+            variable: self.variable | more.variable,
+            lexical: self.lexical | more.lexical,
+            function: self.function | more.function,
+            block_function: self.block_function | more.block_function,
+            sloppy_function: self.sloppy_function | more.sloppy_function,
+            parameter: self.parameter | more.parameter,
+            catch_parameter: self.catch_parameter | more.catch_parameter,
+            import: self.import | more.import,
+            function_name: self.function_name | more.function_name,
+            class_name: self.class_name | more.class_name,
+            as_type: self.as_type | more.as_type,
+            member: self.member | more.member,
+        }
+    }
 }
 
 /// The names that a scope takes, each with the ways in which it does.
@@ -168,16 +227,11 @@ impl ScopeNames {
         self.names.values().any(|ways| ways.can_reach())
     }
 
-    /// Adds a way in which the scope takes a name.
-    pub fn insert(
-        &mut self,
-        alloc: Global,
-        name: &str,
-        standing: Standing,
-    ) -> Result<(), AllocError>
-        ensures { OnOk result (IsInserted self.old self.new name.now standing) }
+    /// Adds ways in which the scope takes a name.
+    pub fn insert(&mut self, alloc: Global, name: &str, more: Ways) -> Result<(), AllocError>
+        ensures { OnOk result (IsInserted self.old self.new name.now more) }
     {
-        let ways = self.get(name).with(standing);
+        let ways = self.get(name).joined(more);
         let copy = String::from_str(alloc, name)?;
         self.names.insert(copy, ways)?;
         Ok(())

@@ -1,3 +1,4 @@
 pub mod Helpers
 pub mod Visits
 pub mod Kept
+pub mod Types

@@ -1,6 +1,6 @@
 //! The bodies of helpers, as statements.
-ghost use Rattle.std.specs.Prelude.{◌≡◌, ℕ, ◌==◌, ◌↔◌, Some, None, IsTrue, OnOk, OnErr, if◌then◌else◌};
-ghost use Rattle.swc_base_tables_program.specs.Given.{Covers, body_of};
+ghost use Rattle.std.specs.Prelude.{◌≡◌, ℕ, ◌==◌, ◌↔◌, ◌&&◌, Some, None, IsTrue, OnOk, OnErr, if◌then◌else◌, not};
+ghost use Rattle.swc_base_tables_program.specs.Given.{Covers, body_of, have_types};
 ghost use Rattle.swc_base_tables.specs.Helpers.{AreStatements};
 
 use std::alloc::Global;
@@ -60,6 +60,13 @@ impl HelperBodies {
         ensures { IsTrue result ↔ Covers self.now helpers.now.enabled }
     {
         self.bodies.covers(helpers)
+    }
+
+    // Whether declarations of types stand in a body that goes in: of a helper that a program was given and that is written out.
+    pub(crate) fn bring_types(&self, helpers: &Helpers) -> bool
+        ensures { result ≡ (not helpers.now.external && have_types self.now helpers.now.enabled) }
+    {
+        !helpers.external() && self.bodies.have_types(helpers)
     }
 
     // The bodies as nodes.

@@ -9,7 +9,7 @@ use Rattle.swc_tree_node.specs.declared.node.Node.{Node, Absent, List as Many, T
 use Rattle.swc_tree_node.specs.declared.node.Node.TheOpen.{Node-F}
 use Rattle.swc_tree_scoping.specs.Places.{items_in, place_below, program_place}
 use Rattle.swc_tree_scoping.specs.Scopes.{scope_count}
-use Rattle.swc_tree_scoping.specs.Resolved.{Resolved}
+use Rattle.swc_tree_spaces.specs.Spaces.{ResolvedBy}
 use Rattle.swc_base_resolver_program.specs.Marked.{OnlyContexts}
 use Rattle.swc_base_tables_injection.specs.Brought.{nowhere, string}
 use Rattle.swc_base_tables_injection.specs.Bodies.{program_kind, put_in}
@@ -32,10 +32,10 @@ pub record IsOfStrictness (k : Kind) (strict : Bool) (t : Node) : Type 0 where
   pub script : k ≡ kind.Script → is_strict_program t ≡ strict
   pub module_ : k ≡ kind.Module → is_strict_program t ≡ true
 
--- `after` are the statements `before`, resolved in such a program: the helper mark is that of the program's scope, and
+-- `after` are the statements `before`, resolved in such a program, over both name spaces: the helper mark is that of the program's scope, and
 -- free names have the global mark
 abbrev pub ResolvedAlone : ℕ → ℕ → Table → Table → Kind → Bool → List Node → List Node → Type 0
-ResolvedAlone helper global old new k strict before after = Resolved global helper old new (alone k strict before) (alone k strict after)
+ResolvedAlone helper global old new k strict before after = ResolvedBy global helper old new (alone k strict before) (alone k strict after)
 
 -- only contexts change
 abbrev pub MarkedAlone : Kind → Bool → List Node → List Node → Type 0

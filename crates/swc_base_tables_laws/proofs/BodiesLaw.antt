@@ -25,6 +25,8 @@ use Rattle.swc_base_resolver_laws.proofs.FreeIds.{free_context}
 use Rattle.swc_base_resolver_laws.proofs.Lists.{found, row_of}
 use Rattle.swc_base_resolver_laws.proofs.Names.{Resolving, binding_context, contexts, marks, name_apart, name_is, name_of, no_sloppy, reference_context, round_scope, stands_back, taker_is, takers_scope, text_at}
 use Rattle.swc_base_resolver_laws.proofs.Whole.{clean_modules_become_well_scoped}
+use Rattle.swc_tree_spaces.specs.NoTypes.{ListsAreItems}
+use Rattle.swc_tree_spaces_laws.proofs.Agree.{resolved_alike}
 use Rattle.swc_base_tables_injection.specs.Alone.{alone, opening}
 use Rattle.swc_base_tables_injection.specs.Bodies.{is_string, put_in}
 use Rattle.swc_base_tables_injection.specs.Brought.{nowhere}
@@ -42,7 +44,7 @@ either : (b c : Bool) → IsTrue (b || c) → IsTrue b ⊎ IsTrue c
 either true c h = inl refl
 either false c h = inr h
 
-module _ (helper global : ℕ) (old new : Table) (W : Node) (statements : List Node) (fitting : Fits W (slot.One (content.Node class.Module))) (clean : IsClean W) (fair : NoEarlyErrorOfNames W)
+module _ (helper global : ℕ) (old new : Table) (W : Node) (statements : List Node) (fitting : Fits W (slot.One (content.Node class.Module))) (lists : ListsAreItems W) (clean : IsClean W) (fair : NoEarlyErrorOfNames W)
     (known : Contains (numbers old) global) (resolved : Resolved global helper old new W (alone kind.Module true statements)) where
   abbrev V : Node
   V = alone kind.Module true statements
@@ -51,7 +53,7 @@ module _ (helper global : ℕ) (old new : Table) (W : Node) (statements : List N
   G = record { unresolved = global; top = helper; old = old; new = new; fitting = fitting; clean = clean; fair = fair; known = known; resolved = resolved }
 
   well_scoped_alone : WellScoped V
-  well_scoped_alone = clean_modules_become_well_scoped W V global helper old new fitting clean fair known resolved
+  well_scoped_alone = clean_modules_become_well_scoped W V global helper old new fitting lists clean fair known resolved
 
   abbrev HasContextThere : Path → Type 0
   HasContextThere q = (contexts W V G q ≡ global ∷ []) ⊎ ((s : Path) × IsScope W s × (contexts W V G q ≡ marks W V G s ∷ []))
@@ -147,5 +149,6 @@ bodies_keep_well_scoped helper global old new bodies t answer are known knows h 
     let n = prefix_len is_string parts.body in
     let is : t ≡ module_of parts.span (take n parts.body ++ drop n parts.body) parts.last = parts.is ∙ ap (λ l. module_of parts.span l parts.last) (sym (take-append-drop n parts.body)) in
     subst WellScoped (sym (done.put_there ∙ ap (put_in done.statements) parts.is ∙ put_in_is parts.span parts.last parts.body done.statements))
-    (in_parts helper global old new (bodies_alone bodies) done.statements are.fitting are.clean are.fair known done.became parts.span parts.last parts.span_plain parts.last_plain (take n parts.body) (drop n parts.body)
+    (in_parts helper global old new (bodies_alone bodies) done.statements are.fitting are.lists are.clean are.fair known
+    ((resolved_alike global helper old new (bodies_alone bodies) (alone kind.Module true done.statements) are.no_types).1 done.became) parts.span parts.last parts.span_plain parts.last_plain (take n parts.body) (drop n parts.body)
     (subst (KnowsContexts old) is knows) (subst (IsInjectable helper global (Declares (bodies_alone bodies) [])) is h))

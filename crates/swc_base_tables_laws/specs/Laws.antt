@@ -16,6 +16,7 @@ use Rattle.swc_tree_scoping.specs.Declares.{Declares}
 use Rattle.swc_tree_scoping.specs.Readings.{by_ids, id_name}
 use Rattle.swc_tree_scoping.specs.WellScoped.{IsClean, IsDeclared, NoEarlyErrorOfNames, WellScoped}
 use Rattle.swc_tree_renaming.specs.Apart.{NameAt}
+use Rattle.swc_tree_spaces.specs.NoTypes.{ListsAreItems, NoTypes}
 use Rattle.swc_base_tables_injection.specs.Alone.{IsInjected, ResolvedAlone, all_bodies, alone}
 use Rattle.swc_base_tables_injection.specs.Bodies.{put_in}
 use Rattle.swc_base_tables_injection.specs.Brought.{import_of, local_name}
@@ -47,9 +48,11 @@ KnowsContexts table t = (p : Path) (i : Ident) (mark : ℕ) → NameAt t p i →
 abbrev pub bodies_alone : List (List Node) → Node
 bodies_alone bodies = alone kind.Module true (all_bodies bodies)
 
--- bodies of helpers that may be written into a module
+-- bodies of helpers that may be written into a module: no node of types stands in them, and no export list deeper than an item
 pub record AreBodies (bodies : List (List Node)) : Type 0 where
+  pub no_types : NoTypes (bodies_alone bodies)
   pub fitting : Fits (bodies_alone bodies) (slot.One (content.Node class.Module))
+  pub lists : ListsAreItems (bodies_alone bodies)
   pub clean : IsClean (bodies_alone bodies)
   pub fair : NoEarlyErrorOfNames (bodies_alone bodies)
 

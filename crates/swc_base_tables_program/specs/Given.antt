@@ -1,10 +1,11 @@
 -- Which helpers a program was given, and which bodies they have.
-use Rattle.std.specs.Prelude.{ℕ, Bool, true, false, ◌==◌, Option, List, [], filter, map, unwrap_or, IsSome}
+use Rattle.std.specs.Prelude.{ℕ, Bool, true, false, ◌==◌, ◌&&◌, Option, List, [], filter, map, unwrap_or, IsSome}
 use Rattle.std.specs.Ordering.{nat_cmp}
-use Rattle.std.specs.List.{All}
+use Rattle.std.specs.List.{All, list_any}
 use Rattle.std.specs.BTreeMap.{get}
 use Rattle.std.specs.Int.{bit_at}
 use Rattle.swc_tree_node.specs.declared.node.Node.{Node}
+use Rattle.swc_tree_spaces.specs.Spaces.{has_types}
 use Rattle.swc_base_tables_helpers.specs.Chosen.{Chosen}
 use Rattle.swc_base_tables_helpers.specs.Table.{name_of, numbers_from, table}
 use Rattle.swc_base_tables_injection.specs.Alone.{scopes_of}
@@ -35,6 +36,14 @@ body_or_none bodies helper = unwrap_or (body_of bodies helper) []
 -- their bodies
 abbrev pub bodies_in : Bodies → ℕ → List (List Node)
 bodies_in bodies set = map (body_or_none bodies) (in_order set)
+
+-- the helper is one of a set, and types stand in its body
+abbrev pub brings_types : Bodies → ℕ → ℕ → Bool
+brings_types bodies set helper = is_in set helper && list_any has_types (body_or_none bodies helper)
+
+-- types stand in a body of the helpers of a set
+abbrev pub have_types : Bodies → ℕ → Bool
+have_types bodies set = list_any (list_any has_types) (bodies_in bodies set)
 
 -- how many scopes the bodies of a program's helpers open in it; from a package there are none
 abbrev pub scopes_if : Bool → ℕ → ℕ

@@ -1,10 +1,13 @@
 //! The bodies of helpers.
 ghost use Rattle.std.specs.Prelude.{◌≡◌, ℕ, ◌==◌, ◌↔◌, [], None, Some, IsTrue, IfOk, OnOk, OnErr, is_some, unwrap_or, if◌then◌else◌};
-ghost use Rattle.swc_base_tables_program.specs.Given.{Covers, body_of};
+ghost use Rattle.std.specs.List.{list_any};
+ghost use Rattle.swc_tree_spaces.specs.Spaces.{has_types as has_any};
+ghost use Rattle.swc_base_tables_program.specs.Given.{Covers, body_of, body_or_none, brings_types as brings_any, have_types as have_any};
 
 use std::alloc::Global;
 use std::collections::BTreeMap;
 use swc_base_tables_helpers::{Helper, Helpers};
+use swc_tree_has_types::any_has_types;
 use swc_tree_items::Items;
 use swc_tree_marks::NoMemory;
 use swc_tree_node::Node;
@@ -66,5 +69,34 @@ impl Bodies {
             }
         }
         true
+    }
+
+    // Whether types stand in the body of a helper.
+    fn has_types(&self, helper: Helper) -> bool
+        ensures { result ≡ list_any has_any (body_or_none self.now helper) }
+    {
+        match self.by_number.get(&helper.number()) {
+            Some(body) => any_has_types(body.as_slice()),
+            None => false,
+        }
+    }
+
+    // Whether the helper is one that a program was given, with types in its body.
+    fn brings_types(&self, helpers: &Helpers, helper: Helper) -> bool
+        ensures { result ≡ brings_any self.now helpers.now.enabled helper }
+    {
+        helpers.is_enabled(helper) && self.has_types(helper)
+    }
+
+    /// Whether declarations of types stand in a body of a helper that a program was given. It takes no memory.
+    pub fn have_types(&self, helpers: &Helpers) -> bool
+        ensures { result ≡ have_any self.now helpers.now.enabled }
+    {
+        for helper in Helper::all() {
+            if self.brings_types(helpers, helper) {
+                return true;
+            }
+        }
+        false
     }
 }

@@ -1,5 +1,5 @@
 -- What finishing promises of a module that can be finished, by what its two passes lead to.
-use Rattle.std.proofs.Common.{◌≡◌, ◌↔◌, ◌∙◌, Bool, true, false, Result, Ok, Err, OnErr, IfErr, refl, sym, subst, inl, inr}
+use Rattle.std.proofs.Common.{◌≡◌, ◌≢◌, ◌↔◌, ◌∙◌, Bool, true, false, Result, Ok, Err, OnErr, IfErr, refl, sym, ap, subst, inl, inr}
 use Rattle.swc_tree_marks.specs.declared.error.PassError.{PassError}
 use Rattle.swc_tree_marks.specs.declared.error.PassError.TheVariants as error
 use Rattle.swc_tree_marks.specs.Globals.{Table}
@@ -10,6 +10,8 @@ use Rattle.swc_tree_node.specs.declared.slot.Slot.{Slot}
 use Rattle.swc_tree_node.specs.declared.slot.Slot.TheVariants as slot
 use Rattle.swc_tree_node.specs.Fits.{Fits}
 use Rattle.swc_tree_scoping.specs.WellScoped.{WellScoped}
+use Rattle.swc_tree_spaces.specs.Spaces.{has_types}
+use Rattle.swc_tree.specs.Types.{IsDeclined, IsMade}
 use Rattle.swc_tree_grammar.specs.Targets.{all_bare}
 use Rattle.swc_tree_grammar.specs.Pairs.{pairs}
 use Rattle.swc_tree_grammar.specs.Fixed.{recorded}
@@ -18,15 +20,16 @@ use Rattle.swc_base_fixer_program.specs.Answers.{answer_to, moves_for}
 use Rattle.swc_base_fixer.specs.Unparened.{IsRefusal}
 use Rattle.swc_base_rename_substitution.specs.declared.config.Config.{Config}
 use Rattle.swc_base_rename_units.specs.Eval.{HasEval}
-use Rattle.swc_base_rename_program.specs.Renamed.{IsHygienic}
+use Rattle.swc_base_rename_program.specs.Renamed.{IsHygienic, IsRenameRefusal, hygiene_renaming}
 use Rattle.swc_base_rename.specs.declared.hygienic.Hygiene.{Hygiene}
-use Rattle.swc_base_rename.specs.Hygiene.{MakesHygienic, MakesScriptHygienic}
+use Rattle.swc_base_rename.specs.Hygiene.{MakesHygienic, MakesScriptHygienic, RefusesHygiene}
 use Rattle.swc_ecma_transforms_base_laws.specs.Finished.{FinishingMeetsNoTarget}
 use Rattle.swc_ecma_transforms_base_laws.specs.Headline.{FinishingKeepsPromises, IsOfMemoryOrCounters, KeepsItsPromises}
 use Rattle.swc_ecma_transforms_base_settled_laws.specs.Settled.{IsAnswer}
 use Rattle.swc_base_rename_hygiene_laws.specs.Laws.{IsFinishable}
 use Rattle.swc_ecma_transforms_base.specs.Finished.{Finishes, IsFinishRefusal}
 use Rattle.swc_ecma_transforms_base.specs.Lent.{MovesPartly}
+use Rattle.swc_ecma_transforms_base.proofs.WritableTypes.{writable_has_no_types}
 
 hygienic_as : (table : Table) (config config' : Config) (given before middle : Node) → config' ≡ config → given ≡ before → IsHygienic table config' given middle → IsHygienic table config before middle
 hygienic_as table config config' given before middle h same m =
@@ -40,18 +43,47 @@ pub made_script_hygienic : (table new : Table) (config : Config) (pass kept : Hy
     → IsHygienic table config before middle
 made_script_hygienic table new config pass kept given before middle h same m = hygienic_as table config pass.config given before middle h same m.hygienic
 
+-- what was not refused for its types has none
+pub typeless : (given before : Node) (Made : Type 0) → given ≡ before → IsMade (has_types given) Made → has_types before ≡ false
+typeless given before Made same m = ap has_types (sym same) ∙ m.taken
+
+-- hygiene is asked first, and its cause is that of all
+module _ (table new : Table) (config : Config) (pass kept : Hygiene) (given before : Node) (by : pass.config ≡ config) (same : given ≡ before) where
+  abbrev pub HygieneDeclines : PassError → Type 0
+  HygieneDeclines e = IsDeclined (has_types given) pass table kept new e (RefusesHygiene pass table given kept new e)
+
+  cause_as : (e : PassError) → RefusesHygiene pass table given kept new e → IsRenameRefusal table config hygiene_renaming before e
+  cause_as e h = subst (λ t. IsRenameRefusal table config hygiene_renaming t e) same (subst (λ k. IsRenameRefusal table k hygiene_renaming given e) by h.refusal)
+
+  other : (e : PassError) → has_types before ≡ false → IsRenameRefusal table config hygiene_renaming before e → IsFinishRefusal table config before e
+  other error.NoMemory none h = (none, tt)
+  other error.CounterSpent none h = (none, h)
+  other error.NotAssignable none h = absurd h
+  other error.MarksSpent none h = absurd h
+  other error.TypesLeft none h = absurd h
+
+  first : (e : PassError) (b : Bool) → has_types before ≡ b → HygieneDeclines e → IsFinishRefusal table config before e
+  first e true some h = subst (IsFinishRefusal table config before) (sym (h.types (ap has_types same ∙ some)).0) some
+  first e false none h = other e none (cause_as e (h.cause (ap has_types same ∙ none)))
+
+  pub refused_by_hygiene : {T : Type 0} (r : Result T PassError) → IfErr r HygieneDeclines → IfErr r (IsFinishRefusal table config before)
+  refused_by_hygiene (Ok t) h = tt
+  refused_by_hygiene (Err e) h = first e (has_types before) refl h
+
 pub where_refused : {T P : Type 0} (r : Result T PassError) → P → OnErr r P
 where_refused (Ok t) h = tt
 where_refused (Err e) h = h
 
-module _ (table : Table) (config : Config) (before middle : Node) (hygienic : IsHygienic table config before middle) where
+module _ (table : Table) (config : Config) (before middle : Node) (none : has_types before ≡ false) (hygienic : IsHygienic table config before middle) where
   refused : (e : PassError) → IsRefusal e → (e ≡ error.NotAssignable → all_bare middle ≡ false) → IsFinishRefusal table config before e
-  refused error.NoMemory r bare = tt
-  refused error.NotAssignable r bare = record { between = middle; hygienic = hygienic; unassignable = bare refl }
+  refused error.NoMemory r bare = (none, tt)
+  refused error.NotAssignable r bare = (none, record { between = middle; hygienic = hygienic; unassignable = bare refl })
   refused error.CounterSpent (inl q) bare = absurd (cc)
   refused error.CounterSpent (inr q) bare = absurd (cc)
   refused error.MarksSpent (inl q) bare = absurd (cc)
+  refused error.TypesLeft (inl q) bare = absurd (cc)
   refused error.MarksSpent (inr q) bare = absurd (cc)
+  refused error.TypesLeft (inr q) bare = absurd (cc)
 
   pub refused_by_fixer : {T : Type 0} (r : Result T PassError) → IfErr r IsRefusal → IfErr r (λ e. e ≡ error.NotAssignable → all_bare middle ≡ false) → IfErr r (IsFinishRefusal table config before)
   refused_by_fixer (Ok t) h bare = tt
@@ -71,6 +103,16 @@ module _ {C : Type 0} (R : Moving C) (IsGiven : Node → Type 0) (middle : Node)
       → LeadPartlyTo R c (moves_for middle) d → OnErr r (MovesPartly R IsGiven c d)
   partly_by_fixer (Ok t) h bare unmoved some = tt
   partly_by_fixer (Err e) h bare unmoved some = partly e h bare unmoved some
+
+-- a refusal but for want of memory moves no comment
+module _ {C : Type 0} (c d : C) where
+  kept : (e : PassError) → IsRefusal e → (e ≡ error.NotAssignable → d ≡ c) → e ≢ error.NoMemory → d ≡ c
+  kept e (inl target) unmoved other = unmoved target
+  kept e (inr short) unmoved other = absurd (other short)
+
+  pub unmoved_by_fixer : {T : Type 0} (r : Result T PassError) → IfErr r IsRefusal → IfErr r (λ e. e ≡ error.NotAssignable → d ≡ c) → IfErr r (λ e. e ≢ error.NoMemory → d ≡ c)
+  unmoved_by_fixer (Ok t) h unmoved = tt
+  unmoved_by_fixer (Err e) h unmoved = kept e h unmoved
 
 abbrev module_place : Slot
 module_place = slot.One (content.Node class.Module)
@@ -99,8 +141,9 @@ module _ (table : Table) (config : Config) (before : Node) (fits : Fits before m
   no_target : FinishingMeetsNoTarget → (e : PassError) → IsFinishRefusal table config before e → IsOfMemoryOrCounters e
   no_target law error.NoMemory h = inl refl
   no_target law error.CounterSpent h = inr refl
-  no_target law error.MarksSpent h = absurd h
-  no_target law error.NotAssignable h = let stands = law table config before h.between fits finishable h.hygienic in let fails = h.unassignable in absurd (cc)
+  no_target law error.MarksSpent h = absurd h.1
+  no_target law error.TypesLeft h = let none = writable_has_no_types before fits finishable.writable in absurd (cc (h, none))
+  no_target law error.NotAssignable h = let stands = law table config before h.1.between fits finishable h.1.hygienic in let fails = h.1.unassignable in absurd (cc)
 
   pub meets_none : {T : Type 0} (r : Result T PassError) → FinishingMeetsNoTarget → IfErr r (IsFinishRefusal table config before) → IfErr r IsOfMemoryOrCounters
   meets_none (Ok t) law h = tt

@@ -1,2 +1,3 @@
 mod Chaining
 mod Finishing
+mod WritableTypes

@@ -1,5 +1,5 @@
 -- What the resolver, hygiene and the fixer make of a program, one after another, and why they refuse one.
-use Rattle.std.specs.Prelude.{◌≡◌, ℕ, ◌+◌, ◌-◌, ◌<◌, ◌≤◌}
+use Rattle.std.specs.Prelude.{◌≡◌, ℕ, ◌+◌, ◌-◌, ◌<◌, ◌≤◌, true, false}
 use Rattle.swc_tree_marks.specs.declared.error.PassError.{PassError}
 use Rattle.swc_tree_marks.specs.declared.error.PassError.TheVariants as error
 use Rattle.swc_tree_marks.specs.Globals.{Table, greatest, with_fresh_marks}
@@ -7,6 +7,7 @@ use Rattle.swc_tree_node.specs.declared.node.Node.{Node}
 use Rattle.swc_tree_scoping.specs.Places.{program_place}
 use Rattle.swc_tree_scoping.specs.Resolved.{Resolved}
 use Rattle.swc_tree_scoping.specs.Scopes.{scope_count}
+use Rattle.swc_tree_spaces.specs.Spaces.{has_types}
 use Rattle.swc_base_resolver_program.specs.Marked.{MarksOk, OnlyContexts}
 use Rattle.swc_base_rename_substitution.specs.declared.config.Config.{Config}
 use Rattle.swc_base_rename_program.specs.Renamed.{IsHygienic, IsRenameRefusal, hygiene_renaming}
@@ -23,8 +24,9 @@ pub record IsMarked (unresolved top : ℕ) (old : Table) (before : Node) (new : 
   pub contexts : OnlyContexts before after
   pub table : new ≡ with_fresh_marks old top (marks_for before)
 
--- the program was resolved, and then finished
+-- no types stood in the program; it was resolved, and then finished
 pub record Chains (unresolved top : ℕ) (config : Config) (old : Table) (before : Node) (new : Table) (after : Node) : Type 0 where
+  pub no_types : has_types before ≡ false
   pub resolved : Node
   pub marked : IsMarked unresolved top old before new resolved
   pub finished : Finishes new config resolved after
@@ -43,12 +45,18 @@ pub record OnceMarked (unresolved top : ℕ) (old : Table) (before : Node) (new 
 
 -- memory was refused, or the table had no room for the marks; or, once the program was resolved, the counters of an id were
 -- spent or a target took no value
-abbrev pub IsChainRefusal : ℕ → ℕ → Config → Table → Node → Table → PassError → Type 0
-IsChainRefusal unresolved top config old before new error.NoMemory = Unit {0}
-IsChainRefusal unresolved top config old before new error.MarksSpent = 4294967295 < greatest old + marks_for before
-IsChainRefusal unresolved top config old before new error.CounterSpent =
+abbrev pub IsChainCause : ℕ → ℕ → Config → Table → Node → Table → PassError → Type 0
+IsChainCause unresolved top config old before new error.NoMemory = Unit {0}
+IsChainCause unresolved top config old before new error.MarksSpent = 4294967295 < greatest old + marks_for before
+IsChainCause unresolved top config old before new error.TypesLeft = ⊥
+IsChainCause unresolved top config old before new error.CounterSpent =
     OnceMarked unresolved top old before new (λ t. IsRenameRefusal new config hygiene_renaming t error.CounterSpent)
-IsChainRefusal unresolved top config old before new error.NotAssignable = OnceMarked unresolved top old before new (λ t. IsUnassignable new config t)
+IsChainCause unresolved top config old before new error.NotAssignable = OnceMarked unresolved top old before new (λ t. IsUnassignable new config t)
+
+-- types stand in the program, and the table is as it was; or none do, and it is for another cause
+abbrev pub IsChainRefusal : ℕ → ℕ → Config → Table → Node → Table → PassError → Type 0
+IsChainRefusal unresolved top config old before new error.TypesLeft = (has_types before ≡ true) × (new ≡ old)
+IsChainRefusal unresolved top config old before new e = (has_types before ≡ false) × IsChainCause unresolved top config old before new e
 
 -- the program is resolved, and then hygienic: so it is when the fixer is given it
 abbrev pub IsOnceHygienic : ℕ → ℕ → Config → Table → Node → Table → Node → Type 0

@@ -3,6 +3,7 @@ ghost use Rattle.std.specs.Prelude.{◌≡◌, ◌≢◌, false, OnOk, OnErr, If
 ghost use Rattle.swc_tree_marks.specs.declared.error.PassError.TheVariants as error;
 ghost use Rattle.swc_tree.specs.Passes.{IsEmptied, IsEmptiedScript};
 ghost use Rattle.swc_tree_modules.specs.Nodes.{module_node, script_node};
+ghost use Rattle.swc_tree_spaces.specs.Spaces.{has_types};
 ghost use Rattle.swc_base_resolver_program.specs.Marked.{MarksOk};
 ghost use Rattle.swc_base_rename_units.specs.Eval.{HasEval};
 ghost use Rattle.swc_ecma_transforms_base_laws.specs.Sources.{IsSource};
@@ -20,8 +21,9 @@ use swc_ecma_transforms_base_apart_laws::a_chain_changes_nothing;
 use swc_ecma_transforms_base_laws::{chaining_keeps_sources, resolved_sources_are_ready};
 use swc_tree::{
     Comments, Globals, JsPass, Mark, Module, NoComments, PassError, Script, empty_module,
-    empty_script, module_fits,
+    empty_script, module_fits, types_in_module, types_in_script,
 };
+use swc_tree_spaces_laws::types_are_told;
 
 /// Resolves a program, makes texts alone tell its names apart, and then sets its parentheses anew. Comments move along with the
 /// pairs that are not set again. Neither mark may be the root; which scope each name means is promised where `marks_ok` holds of them.
@@ -36,7 +38,8 @@ use swc_tree::{
 ///
 /// # Errors
 ///
-/// Those of the first of the three passes that is refused: `MarksSpent` where the table has no room for a mark to each scope,
+/// `TypesLeft` exactly where declarations of types stand in the program; the table is then as it was. Else those of the first of the
+/// three passes that is refused: `MarksSpent` where the table has no room for a mark to each scope,
 /// `CounterSpent` where no counter below the greatest `usize` gives an id a free text, `NotAssignable` where a parenthesised
 /// target takes no value, `NoMemory`. The program is then empty, with its span and no `#!` line; the table may have gained
 /// marks; and no comment has moved, but a beginning of the moves may have been made where the error is `NoMemory`.
@@ -143,6 +146,39 @@ fn chain_module_with<C: Comments>(
     ensures partly { OnErr result (MovesPartly C.moved (IsOnceHygienic unresolved top config globals.old (module_node program.old) globals.new) comments.old comments.new) }
     ensures unmoved { IfErr result (λ e. e ≢ error.NoMemory → comments.new ≡ comments.old) }
 {
+    if types_in_module(program) {
+        *program = empty_module(alloc, program.span);
+        return Err(PassError::TypesLeft);
+    }
+    chain_typeless_module(alloc, globals, unresolved, top, config, comments, program)
+}
+
+// The same of a program in which no types stand.
+fn chain_typeless_module<C: Comments>(
+    alloc: Global,
+    globals: &mut Globals,
+    unresolved: Mark,
+    top: Mark,
+    config: Config,
+    comments: &mut C,
+    program: &mut Module,
+) -> Result<(), PassError>
+    requires unresolved { unresolved ≢ 0 }
+    requires top { top ≢ 0 }
+    requires no_types { has_types (module_node program.old) ≡ false }
+    ensures done { OnOk result (Chains unresolved top config globals.old (module_node program.old) globals.new (module_node program.new)) }
+    ensures refused { OnErr result (IsEmptied program.old program.new) }
+    ensures cause { IfErr result (IsChainRefusal unresolved top config globals.old (module_node program.old) globals.new) }
+    ensures marks { HasFreshMarks top globals.old (module_node program.old) globals.new }
+    ensures promises { IsSource config (module_node program.old) → MarksOk globals.old unresolved top → OnOk result (KeepsItsSource unresolved top globals.old globals.new (module_node program.old) (module_node program.new)) }
+    ensures answer { IsSource config (module_node program.old) → ¬ HasEval (module_node program.old) → MarksOk globals.old unresolved top → OnOk result (IsAnswer (module_node program.new)) }
+    ensures no_target { IsSource config (module_node program.old) → MarksOk globals.old unresolved top → IfErr result (λ e. e ≢ error.NotAssignable) }
+    ensures again { IsAnswer (module_node program.old) → config.keep_class_names ≡ false → MarksOk globals.old unresolved top → OnOk result (module_node program.new ≡ module_node program.old) }
+    ensures moved { OnOk result (MovesFor C.moved (IsOnceHygienic unresolved top config globals.old (module_node program.old) globals.new) (module_node program.new) comments.old comments.new) }
+    ensures partly { OnErr result (MovesPartly C.moved (IsOnceHygienic unresolved top config globals.old (module_node program.old) globals.new) comments.old comments.new) }
+    ensures unmoved { IfErr result (λ e. e ≢ error.NoMemory → comments.new ≡ comments.old) }
+{
+    types_are_told();
     chaining_keeps_sources();
     resolved_sources_are_ready();
     a_chain_changes_nothing();
@@ -175,6 +211,35 @@ fn chain_script_with<C: Comments>(
     ensures partly { OnErr result (MovesPartly C.moved (IsOnceHygienic unresolved top config globals.old (script_node program.old) globals.new) comments.old comments.new) }
     ensures unmoved { IfErr result (λ e. e ≢ error.NoMemory → comments.new ≡ comments.old) }
 {
+    if types_in_script(program) {
+        *program = empty_script(alloc, program.span);
+        return Err(PassError::TypesLeft);
+    }
+    chain_typeless_script(alloc, globals, unresolved, top, config, comments, program)
+}
+
+// The same of a program in which no types stand.
+fn chain_typeless_script<C: Comments>(
+    alloc: Global,
+    globals: &mut Globals,
+    unresolved: Mark,
+    top: Mark,
+    config: Config,
+    comments: &mut C,
+    program: &mut Script,
+) -> Result<(), PassError>
+    requires unresolved { unresolved ≢ 0 }
+    requires top { top ≢ 0 }
+    requires no_types { has_types (script_node program.old) ≡ false }
+    ensures done { OnOk result (Chains unresolved top config globals.old (script_node program.old) globals.new (script_node program.new)) }
+    ensures refused { OnErr result (IsEmptiedScript program.old program.new) }
+    ensures cause { IfErr result (IsChainRefusal unresolved top config globals.old (script_node program.old) globals.new) }
+    ensures marks { HasFreshMarks top globals.old (script_node program.old) globals.new }
+    ensures moved { OnOk result (MovesFor C.moved (IsOnceHygienic unresolved top config globals.old (script_node program.old) globals.new) (script_node program.new) comments.old comments.new) }
+    ensures partly { OnErr result (MovesPartly C.moved (IsOnceHygienic unresolved top config globals.old (script_node program.old) globals.new) comments.old comments.new) }
+    ensures unmoved { IfErr result (λ e. e ≢ error.NoMemory → comments.new ≡ comments.old) }
+{
+    types_are_told();
     let mut script = mem::replace(program, empty_script(alloc, program.span));
     let mut resolver = resolver(unresolved, top);
     resolver.visit_mut_script(alloc, globals, &mut script)?;

@@ -33,7 +33,8 @@ use swc_tree::{
 ///
 /// # Errors
 ///
-/// Those of the first of the two passes that is refused: `CounterSpent` where no counter below the greatest `usize` gives an id
+/// `TypesLeft` exactly where declarations of types stand in the program. Else those of the first of the two passes that is refused:
+/// `CounterSpent` where no counter below the greatest `usize` gives an id
 /// a free text, `NotAssignable` where a parenthesised target takes no value, `NoMemory`. The program is then empty, with its
 /// span and no `#!` line, and no comment has moved, but a beginning of the moves may have been made where the error is
 /// `NoMemory`.
@@ -112,7 +113,7 @@ pub(crate) fn finish_module_with<C: Comments>(
     let mut module = mem::replace(program, empty_module(alloc, program.span));
     let mut hygiene = hygiene_with_config(config);
     hygiene.visit_mut_module(alloc, globals, &mut module)?;
-    fix_module(alloc, globals, comments, &mut module)?;
+    fix_module(alloc, comments, &mut module)?;
     *program = module;
     Ok(())
 }
@@ -136,7 +137,7 @@ pub(crate) fn finish_script_with<C: Comments>(
     let mut script = mem::replace(program, empty_script(alloc, program.span));
     let mut hygiene = hygiene_with_config(config);
     hygiene.visit_mut_script(alloc, globals, &mut script)?;
-    fix_script(alloc, globals, comments, &mut script)?;
+    fix_script(alloc, comments, &mut script)?;
     *program = script;
     Ok(())
 }

@@ -1,6 +1,5 @@
-//! The fixer, lent comments for the time of one call.
+//! What the fixer makes of a program in which no types stand, once they were asked for.
 ghost use Rattle.std.specs.Prelude.{◌≡◌, true, false, OnOk, OnErr, IfErr};
-ghost use Rattle.swc_tree.specs.Passes.{IsEmptied, IsEmptiedScript};
 ghost use Rattle.swc_tree_marks.specs.declared.error.PassError.TheVariants as error;
 ghost use Rattle.swc_tree_modules.specs.Nodes.{module_node, script_node};
 ghost use Rattle.swc_tree_grammar.specs.Targets.{all_bare};
@@ -9,13 +8,15 @@ ghost use Rattle.swc_base_fixer_program.specs.Answers.{answer_to, moves_for};
 ghost use Rattle.swc_base_fixer.specs.Unparened.{IsRefusal};
 
 use std::alloc::Global;
-use swc_base_fixer::fixer;
-use swc_tree::{Comments, Globals, JsPass, Module, PassError, Script};
+use std::mem;
+use swc_base_fixer_program::fix_parens_with;
+use swc_tree::{Comments, Module, PassError, Script, empty_module, empty_script};
+use swc_tree_handle::Trees;
 
 // Sets the parentheses of a program anew and moves comments along.
+#[tactic(auto, using(swc_base_fixer::proofs::Open::items_open, swc_base_fixer::proofs::Fixed::module_answer, swc_base_fixer::proofs::Programs::module_bare, swc_base_fixer::proofs::Fixed::module_moves_for))]
 pub fn fix_module<C: Comments>(
     alloc: Global,
-    globals: &mut Globals,
     comments: &mut C,
     program: &mut Module,
 ) -> Result<(), PassError>
@@ -24,23 +25,28 @@ pub fn fix_module<C: Comments>(
     ensures refusal { IfErr result IsRefusal }
     ensures unassignable { IfErr result (λ e. e ≡ error.NotAssignable → all_bare (module_node program.old) ≡ false) }
     ensures bare { IfErr result (λ e. e ≡ error.NoMemory → all_bare (module_node program.old) ≡ true) }
-    ensures marks { globals.new ≡ globals.old }
     ensures moved { OnOk result (LeadTo C.moved comments.old (moves_for (module_node program.old)) comments.new) }
     ensures partly { OnErr result (LeadPartlyTo C.moved comments.old (moves_for (module_node program.old)) comments.new) }
     ensures unmoved { IfErr result (λ e. e ≡ error.NotAssignable → comments.new ≡ comments.old) }
 {
-    let mut pass = fixer(Some(comments));
-    let answer = pass.visit_mut_module(alloc, globals, program);
-    match pass.into_comments() {
-        Some(_kept) => answer,
-        None => answer,
-    }
+    let Module {
+        span,
+        body,
+        shebang,
+    } = mem::replace(program, empty_module(alloc, program.span));
+    let items = fix_parens_with(alloc, comments, body.into_node())?;
+    *program = Module {
+        span,
+        body: Trees::from_node(items),
+        shebang,
+    };
+    Ok(())
 }
 
 // The same for a program of the goal Script.
+#[tactic(auto, using(swc_base_fixer::proofs::Open::statements_open, swc_base_fixer::proofs::Fixed::script_answer, swc_base_fixer::proofs::Programs::script_bare, swc_base_fixer::proofs::Fixed::script_moves_for))]
 pub fn fix_script<C: Comments>(
     alloc: Global,
-    globals: &mut Globals,
     comments: &mut C,
     program: &mut Script,
 ) -> Result<(), PassError>
@@ -49,15 +55,20 @@ pub fn fix_script<C: Comments>(
     ensures refusal { IfErr result IsRefusal }
     ensures unassignable { IfErr result (λ e. e ≡ error.NotAssignable → all_bare (script_node program.old) ≡ false) }
     ensures bare { IfErr result (λ e. e ≡ error.NoMemory → all_bare (script_node program.old) ≡ true) }
-    ensures marks { globals.new ≡ globals.old }
     ensures moved { OnOk result (LeadTo C.moved comments.old (moves_for (script_node program.old)) comments.new) }
     ensures partly { OnErr result (LeadPartlyTo C.moved comments.old (moves_for (script_node program.old)) comments.new) }
     ensures unmoved { IfErr result (λ e. e ≡ error.NotAssignable → comments.new ≡ comments.old) }
 {
-    let mut pass = fixer(Some(comments));
-    let answer = pass.visit_mut_script(alloc, globals, program);
-    match pass.into_comments() {
-        Some(_kept) => answer,
-        None => answer,
-    }
+    let Script {
+        span,
+        body,
+        shebang,
+    } = mem::replace(program, empty_script(alloc, program.span));
+    let statements = fix_parens_with(alloc, comments, body.into_node())?;
+    *program = Script {
+        span,
+        body: Trees::from_node(statements),
+        shebang,
+    };
+    Ok(())
 }

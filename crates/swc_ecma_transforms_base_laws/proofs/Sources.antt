@@ -20,6 +20,8 @@ use Rattle.swc_base_rename_ids_laws.proofs.Exported.{normal_cleared, texts_again
 use Rattle.swc_base_rename_laws.specs.NewNames.{nameless, nameless_step}
 use Rattle.swc_base_rename_source_laws.specs.Laws.{ReadersNeedNoContexts, SamenessNeedsNoContexts}
 use Rattle.swc_base_rename_units.specs.Eval.{HasEval}
+use Rattle.swc_base_fixer_laws.proofs.NoNamespaces.{writable_has_no_namespaces}
+use Rattle.swc_base_resolver_laws.proofs.ExportLists.{lists_are_items}
 use Rattle.swc_base_resolver_laws.specs.Laws.{CleanModulesBecomeWellScoped, ResolvedNamesMeanTheirIds}
 use Rattle.swc_ecma_transforms_base_laws.specs.Sources.{ResolvedSourcesAreReady}
 
@@ -54,7 +56,7 @@ sources_ready becomes mean texts same readers config t u unresolved top old new 
         plain = record { renames_classes = s.plain.renames_classes; unread = λ read. s.plain.unread (read.0, read_too read.1) };
         writable = writable_u;
       };
-      well_scoped = becomes t u unresolved top old new f s.clean s.fair known r;
+      well_scoped = becomes t u unresolved top old new f (lists_are_items t f (writable_has_no_namespaces t module_place f s.writable)) s.clean s.fair known r;
       found = mean t u unresolved top old new f s.clean s.fair known r;
       same = λ answer h. subst (λ t. SameButForBoundNames t answer) clear (same u answer normal h);
       placed = ap (λ t. nameless (normal_form t)) (sym clear) ∙ ap nameless normal ∙ nameless_texts (normal_form u);

@@ -29,7 +29,7 @@ given_back reads clean_module leaves becomes no_error readers apart table config
     let clear = texts_again answer u r.contexts r.only_contexts w.clean in
     let fits_u : Fits u module_place = ap (λ t. fits t module_place) r.only_contexts ∙ fits-remarked r.contexts answer module_place ∙ w.fits in
     let fair : NoEarlyErrorOfNames answer = subst NoEarlyErrorOfNames (sym a.paired) (no_error a.table a.config a.place a.before a.middle a.stands a.finishable a.scoped a.hygienic) in
-    let scoped_u = becomes answer u unresolved top old new w.fits w.clean fair known r in
+    let scoped_u = becomes answer u unresolved top old new w.fits w.lists w.clean fair known r in
     let plain_u : IsPlain config u = record { renames_classes = keeps; unread = λ read. reads answer a (subst HasEval clear (readers u read.1)) } in
     leaves table config u middle module_place plain_u fits_u scoped_u (apart answer u unresolved top old new a known r) hygienic ∙ clear
 

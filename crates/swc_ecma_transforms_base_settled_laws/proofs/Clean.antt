@@ -23,6 +23,10 @@ use Rattle.swc_base_fixer_laws.specs.Laws.{TargetsStandBare}
 use Rattle.swc_base_fixer_laws.proofs.Answer.{due_fits}
 use Rattle.swc_base_fixer_texts.specs.Laws.{FixingNeedsNoContexts}
 use Rattle.swc_base_rename_texts_laws.proofs.Cleared.{bare_there}
+use Rattle.swc_tree_spaces.specs.NoTypes.{ListsAreItems}
+use Rattle.swc_base_fixer_laws.proofs.Fixed.{fixed_fits}
+use Rattle.swc_base_fixer_laws.proofs.NoNamespaces.{writable_has_no_namespaces}
+use Rattle.swc_base_resolver_laws.proofs.ExportLists.{lists_are_items}
 use Rattle.swc_base_rename_hygiene_laws.specs.Laws.{HygieneStaysFitting, HygieneStaysWritable}
 use Rattle.swc_ecma_transforms_base_settled_laws.specs.Settled.{AnswersAreCleanModules}
 
@@ -43,7 +47,10 @@ answers_are_clean_modules fitting stays targets texts answer a =
     let inner = blocks_fit (stripped a.middle) module_place (stripped_fits a.middle module_place (targets a.middle module_place within writable) refl within) in
     let once : by_texts a.middle ≡ a.middle = ap by_texts cleared ∙ twice bare bare given ∙ sym cleared in
     let whole : by_texts (fixed a.place a.middle) ≡ fixed a.place a.middle = sym (texts a.place a.middle) ∙ ap (fixed a.place) once in
+    let fits_whole : Fits (fixed a.place a.middle) module_place = due_fits a.place (with_blocks (stripped a.middle)) module_place inner in
+    let written = (fixed_fits a.place a.middle module_place refl within writable).0 in
     record {
-      fits = subst (λ t. Fits t module_place) (sym a.paired) (due_fits a.place (with_blocks (stripped a.middle)) module_place inner);
+      fits = subst (λ t. Fits t module_place) (sym a.paired) fits_whole;
       clean = subst IsClean (sym a.paired) (clean (fixed a.place a.middle) whole);
+      lists = subst ListsAreItems (sym a.paired) (lists_are_items (fixed a.place a.middle) fits_whole (writable_has_no_namespaces (fixed a.place a.middle) module_place fits_whole written));
     }

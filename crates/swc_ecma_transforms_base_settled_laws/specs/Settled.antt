@@ -10,6 +10,7 @@ use Rattle.swc_tree_node.specs.Fits.{Fits}
 use Rattle.swc_tree_scoping.specs.Readings.{by_texts}
 use Rattle.swc_tree_scoping.specs.Resolved.{Resolved}
 use Rattle.swc_tree_scoping.specs.WellScoped.{IsClean, WellScoped}
+use Rattle.swc_tree_spaces.specs.NoTypes.{ListsAreItems}
 use Rattle.swc_tree_grammar.specs.Due.{Places}
 use Rattle.swc_tree_grammar.specs.Fixed.{fixed, recorded}
 use Rattle.swc_tree_grammar.specs.Pairs.{pairs}
@@ -39,10 +40,11 @@ pub record IsAnswer (answer : Node) : Type 0 where
   pub hygienic : IsHygienic table config before middle
   pub paired : answer ≡ fixed place middle
 
--- it is a module without contexts
+-- it is a module without contexts, each export list of which is one of its items
 pub record IsCleanModule (answer : Node) : Type 0 where
   pub fits : Fits answer (slot.One (content.Node class.Module))
   pub clean : IsClean answer
+  pub lists : ListsAreItems answer
 
 abbrev pub AnswersAreCleanModules : Type 0
 AnswersAreCleanModules = (answer : Node) → IsAnswer answer → IsCleanModule answer

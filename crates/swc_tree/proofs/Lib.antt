@@ -1,1 +1,3 @@
+pub mod TypesIn
+pub mod Untyped
 mod WholePrograms

@@ -1,2 +1,3 @@
 pub mod Checks
 pub mod Passes
+pub mod Types

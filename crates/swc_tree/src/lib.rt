@@ -16,6 +16,7 @@ mod pass;
 mod passes;
 mod programs;
 pub mod table;
+mod types;
 
 pub use check::{Check, Checked, should_work};
 pub use empty::{empty_module, empty_script};
@@ -36,6 +37,7 @@ pub use swc_tree_marks::{
 };
 pub use swc_tree_node::{Kind, Node};
 pub use swc_tree_version::EsVersion;
+pub use types::{types_in_module, types_in_script};
 
 // From here on printed by tools/print_table.py from tools/tree.txt.
 pub use swc_tree_expressions::AssignTarget;
@@ -167,3 +169,19 @@ pub use swc_tree_statements::VarDeclOrExpr;
 pub use swc_tree_statements::VarDeclarator;
 pub use swc_tree_statements::WhileStmt;
 pub use swc_tree_statements::WithStmt;
+pub use swc_tree_types::TsArrayType;
+pub use swc_tree_types::TsEntityName;
+pub use swc_tree_types::TsEnumDecl;
+pub use swc_tree_types::TsEnumMember;
+pub use swc_tree_types::TsEnumMemberId;
+pub use swc_tree_types::TsInterfaceDecl;
+pub use swc_tree_types::TsKeywordType;
+pub use swc_tree_types::TsModuleDecl;
+pub use swc_tree_types::TsPropertySignature;
+pub use swc_tree_types::TsQualifiedName;
+pub use swc_tree_types::TsType;
+pub use swc_tree_types::TsTypeAliasDecl;
+pub use swc_tree_types::TsTypeLit;
+pub use swc_tree_types::TsTypeParam;
+pub use swc_tree_types::TsTypeRef;
+pub use swc_tree_types::TsUnionType;

@@ -7,6 +7,9 @@ use swc_tree_marks::{Globals, PassError};
 use swc_tree_modules::{Module, Script};
 
 /// A pass over programs, which works in place.
+///
+/// Each pass of these crates but the resolver and `Noop` first asks `types_in_module` or `types_in_script`, and refuses a
+/// program in which declarations of types stand by `PassError::TypesLeft`, with the pass and the table as they were.
 pub trait JsPass {
     ghost use Rattle.swc_tree_marks.specs.Globals.{Table};
     ghost use Rattle.swc_tree_marks.specs.declared.error.PassError.{PassError};

@@ -1,12 +1,11 @@
 -- The references in export lists are what is exported so.
-use Rattle.std.proofs.Common.{◌≡◌, ℕ, zero, suc, Bool, true, false, not, ◌||◌, IsTrue, inl, inr, ⊎_elim, Option, Some, None, List, [], ◌∷◌, ◌++◌, map, refl, sym, ap, ◌∙◌, subst, cond}
+use Rattle.std.proofs.Common.{◌≡◌, ℕ, zero, suc, Bool, true, false, not, IsTrue, inl, inr, ⊎_elim, Option, Some, None, List, [], ◌∷◌, ◌++◌, refl, sym, ap, ◌∙◌, subst, cond}
 use Rattle.std.specs.List.{flat_map, list_all, slice_get}
 use Rattle.std.specs.Prelude.{unwrap_or, option_map}
 use Rattle.swc_tree_marks.specs.declared.ident.Ident.{Ident}
 use Rattle.swc_tree_node.specs.declared.kind.Kind.{Kind}
 use Rattle.swc_tree_node.specs.declared.kind.Kind.TheVariants as kind
 use Rattle.swc_tree_node.specs.declared.kind.Class.TheVariants as class
-use Rattle.swc_tree_node.specs.declared.slot.Content.{Content}
 use Rattle.swc_tree_node.specs.declared.slot.Content.TheVariants as content
 use Rattle.swc_tree_node.specs.declared.slot.Role.{Role}
 use Rattle.swc_tree_node.specs.declared.slot.Role.TheVariants as role
@@ -16,36 +15,33 @@ use Rattle.swc_tree_node.specs.declared.node.Node.{Node, List as Many, Identifie
 use Rattle.swc_tree_node.specs.declared.node.Node.TheOpen.{Node-F}
 use Rattle.swc_tree_node.specs.declared.node.Node.TheVariants.{outs-Identifier, outs-List, outs-Tree}
 use Rattle.swc_tree_node.specs.Table.{fields_of, is_identifier, slots_of}
-use Rattle.swc_tree_node.specs.Fits.{AllFit, FieldsFit, Fits, belongs, fits, list_fits}
-use Rattle.swc_tree_node.proofs.Fit.{all_open, both as both_are, fields_open, fits-Flag, fits-List, fits-Span, fits-Text, fits-Word}
+use Rattle.swc_tree_node.specs.Fits.{AllFit, FieldsFit, Fits, belongs}
+use Rattle.swc_tree_node.proofs.Fit.{both as both_are, fits-Flag, fits-List, fits-Span, fits-Text, fits-Word}
 use Rattle.swc_tree_scoping.specs.declared.places.Place.{Place}
 use Rattle.swc_tree_scoping.specs.declared.places.Standing.TheVariants as standing
 use Rattle.swc_tree_scoping.specs.Places.{Path, absent_in, child, children_in, field_role, is_there, place_at, place_below, place_in, program_place}
 use Rattle.swc_tree_scoping.specs.Scopes.{is_name}
 use Rattle.swc_tree_scoping.specs.WellScoped.{InExportList}
-use Rattle.swc_tree_scoping.proofs.Remarked.{list_is, tree_is}
-use Rattle.swc_tree_scoping.proofs.Under.{by_children, no_place_under, place_under}
+use Rattle.swc_tree_scoping.proofs.Under.{no_place_under, place_under}
 use Rattle.swc_tree_grammar.specs.Levels.{is_absent_in}
-use Rattle.swc_tree_grammar.specs.Places.{content_of}
 use Rattle.swc_tree_grammar.specs.Shapes.{items_of}
 use Rattle.swc_tree_grammar.proofs.Induction.{by_children as by_nodes}
 use Rattle.swc_tree_grammar.proofs.Items.{items_of_list, listed as as_list}
 use Rattle.swc_tree_grammar.proofs.Places.{one, stands, stands_there}
 use Rattle.swc_tree_renaming.proofs.Shape.{some_same}
+use Rattle.swc_tree_spaces.specs.NoTypes.{ListsAreItems}
 use Rattle.swc_tree_sites.specs.Sites.{Entry, Site, Sites, both, counted, nothing}
 use Rattle.swc_tree_sites.specs.Smaller.{In}
 use Rattle.swc_tree_sites.proofs.Found.{env_at, finds}
 use Rattle.swc_tree_sites.proofs.Kept.{S, all, both_nothing, of_list, out_step}
 use Rattle.swc_tree_sites.proofs.Leaves.{Field}
 use Rattle.swc_tree_sites.proofs.Loose.{in_cases, in_left, in_right}
-use Rattle.swc_tree_sites.proofs.Pending.{field_at}
 use Rattle.swc_tree_sites_laws.proofs.Expressions.{P, of_identifier, tree_alike}
-use Rattle.swc_tree_sites_laws.proofs.Parts.{single_content}
 use Rattle.swc_tree_sites_laws.proofs.StrippedFewer.{of_absent, of_leaf}
 use Rattle.swc_tree_sites_written.proofs.WrittenNames.{outer_name, outer_quiet}
 use Rattle.swc_tree_exports_laws.specs.Exported.{exported_locals, listed, module_in, name_in, specified}
 use Rattle.swc_tree_exports_laws.specs.Laws.{ExportListsAreListed}
-use Rattle.swc_tree_exports_laws.proofs.Items.{is_list_kind, listed_tree, no_item_name, of_class, specified_tree}
+use Rattle.swc_tree_exports_laws.proofs.Items.{is_list_kind, listed_tree, of_class, specified_tree}
 
 abbrev Top : Place
 Top = P standing.Plain false
@@ -88,112 +84,10 @@ export_field (suc (suc zero)) e = absurd (cc)
 export_field (suc (suc (suc zero))) e = absurd (cc)
 export_field (suc (suc (suc (suc i)))) e = absurd (cc)
 
--- a place that takes export lists, or modules
-abbrev exporting_in : Option Content → Bool
-exporting_in (Some (content.Node c)) = belongs kind.NamedExport c || belongs kind.Module c
-exporting_in _ = false
-
-abbrev exporting : Slot → Bool
-exporting s = exporting_in (content_of s)
-
-abbrev is_module_kind : Kind → Bool
-is_module_kind kind.Module = true
-is_module_kind _ = false
-
-quiet_fields : (k : Kind) → list_all (λ f. not (exporting f.1)) (fields_of k) ≡ not (is_module_kind k)
-quiet_fields kind.Module = refl
-quiet_fields _ = refl
-
-module_kind : (k : Kind) → is_module_kind k ≡ true → k ≡ kind.Module
-module_kind kind.Module h = refl
-module_kind _ h = absurd (cc)
-
-or_left : (a b : Bool) → a ≡ true → (a || b) ≡ true
-or_left true b h = refl
-or_left false b h = absurd (cc)
-
-or_right : (a b : Bool) → b ≡ true → (a || b) ≡ true
-or_right true b h = refl
-or_right false b h = h
-
-texts_fit : (ts : List Node) → FieldsFit (slot.One content.Text ∷ slot.One content.Text ∷ []) ts → AllFit (slot.One content.Text) ts
-texts_fit [] h = tt
-texts_fit (t ∷ []) h = absurd h.1
-texts_fit (t ∷ u ∷ []) h = (h.0, (h.1.0, tt))
-texts_fit (t ∷ u ∷ v ∷ ts) h = absurd h.1.1
-
-list_items : (s : Slot) (ts : List Node) → IsTrue (list_fits (map fits ts) s) → exporting s ≡ false → (u : Slot) × AllFit u ts × (exporting u ≡ false)
-list_items (slot.List c) ts f e = (slot.One c, all_open (slot.One c) ts f, e)
-list_items (slot.OptionalList c) ts f e = (slot.One c, all_open (slot.One c) ts f, e)
-list_items (slot.Holes c) ts f e = (slot.Optional c, all_open (slot.Optional c) ts f, e)
-list_items slot.Pairs ts f e = (slot.Pair, all_open slot.Pair ts f, refl)
-list_items slot.Pair ts f e = (slot.One content.Text, texts_fit ts (fields_open (slot.One content.Text ∷ slot.One content.Text ∷ []) ts f), refl)
-list_items (slot.One c) ts f e = absurd (cc)
-list_items (slot.Optional c) ts f e = absurd (cc)
-
 fit_at : (s : Slot) (ts : List Node) (i : ℕ) (c : Node) → AllFit s ts → slice_get ts i ≡ Some c → Fits c s
 fit_at s [] i c f e = absurd (cc)
 fit_at s (t ∷ ts) zero c f e = let same : t ≡ c = cc in subst (λ c. Fits c s) same f.0
 fit_at s (t ∷ ts) (suc i) c f e = fit_at s ts i c f.1 e
-
-abbrev NoList : Node → Type 0
-NoList t = (s : Slot) → Fits t s → exporting s ≡ false → (v : Place) (q : Path) (w : Place) (ts : List Node) → place_at v t q ≡ Some (w, Tree kind.NamedExport ts) → ⊥
-
--- no export list stands below what takes none
-no_list : (t : Node) → NoList t
-no_list = by_children NoList (λ t below s f e v q w ts h. at t below s f e v q w ts h)
-  where
-    kind_here : (s : Slot) (k : Kind) (ts : List Node) → Fits (Tree k ts) s → exporting s ≡ false → (is_module_kind k ≡ true → ⊥) × (k ≡ kind.NamedExport → ⊥)
-    kind_here s k ts f e =
-        let w = stands k ts s f in
-        let c : exporting s ≡ (belongs kind.NamedExport w.in_class || belongs kind.Module w.in_class) = ap exporting_in (single_content s (content.Node w.in_class) w.place) in (
-          (λ m. let z = or_right (belongs kind.NamedExport w.in_class) (belongs kind.Module w.in_class) (subst (λ k. IsTrue (belongs k w.in_class)) (module_kind k m) w.belonging) in absurd (cc (sym e ∙ c ∙ z))),
-          (λ m. let z = or_left (belongs kind.NamedExport w.in_class) (belongs kind.Module w.in_class) (subst (λ k. IsTrue (belongs k w.in_class)) m w.belonging) in absurd (cc (sym e ∙ c ∙ z))),
-        )
-
-    here : (t : Node) (s : Slot) → Fits t s → exporting s ≡ false → (v w : Place) (ts : List Node) → ◌≡◌ {A = Option (Place × Node)} (Some (v, t)) (Some (w, Tree kind.NamedExport ts)) → ⊥
-    here t s f e v w ts h =
-        let is : t ≡ Tree kind.NamedExport ts = ap (λ (q : Place × Node). q.1) (some_same (v, t) (w, Tree kind.NamedExport ts) h) in (kind_here s kind.NamedExport ts (subst (λ t. Fits t s) is f) e).1 refl
-
-    at : (t : Node) → ((j : ℕ) (c : Node) → child t j ≡ Some c → NoList c) → (s : Slot) → Fits t s → exporting s ≡ false → (v : Place) (q : Path) (w : Place) (ts : List Node) → place_at v t q ≡ Some (w, Tree kind.NamedExport ts) → ⊥
-    at t below s f e v [] w ts h = here t s f e v w ts h
-    at t below s f e v (j ∷ q) w ts h = by (child t j) refl
-      where
-        field : (k : Kind) (us : List Node) (c : Node) → out-Node t ≡ Node-F.Tree k us → child t j ≡ Some c → (b : Bool) → is_module_kind k ≡ b → ⊥
-        field k us c o z b m =
-            let fit : Fits (Tree k us) s = subst (λ t. Fits t s) (tree_is t k us o) f in
-            let (g, there, inside) = field_at (fields_of k) us j c (stands k us s fit).fields (sym (ap (λ y. slice_get (children_in y) j) o) ∙ z) in
-            at_kind b m fit g there inside
-          where
-            at_kind : (b : Bool) → is_module_kind k ≡ b → Fits (Tree k us) s → (g : Field) → slice_get (fields_of k) j ≡ Some g → Fits c g.1 → ⊥
-            at_kind true m fit g there inside = (kind_here s k us fit e).0 m
-            at_kind false m fit g there inside =
-                let quiet = not_true (exporting g.1) (all_at (λ f. not (exporting f.1)) (fields_of k) j g (quiet_fields k ∙ ap not m) there) in
-                below j c z g.1 inside quiet (place_below v t j) q w ts (sym (place_under v t c j q z) ∙ h)
-              where
-                not_true : (x : Bool) → not x ≡ true → x ≡ false
-                not_true true h = absurd (cc)
-                not_true false h = refl
-
-        item : (us : List Node) (c : Node) → out-Node t ≡ Node-F.List us → child t j ≡ Some c → ⊥
-        item us c o z =
-            let fit : Fits (Many us) s = subst (λ t. Fits t s) (list_is t us o) f in
-            let (u, items, quiet) = list_items s us (sym (fits-List us s) ∙ fit) e in
-            below j c z u (fit_at u us j c items (sym (ap (λ y. slice_get (children_in y) j) o) ∙ z)) quiet (place_below v t j) q w ts (sym (place_under v t c j q z) ∙ h)
-
-        node : (y : Node-F Node) (c : Node) → out-Node t ≡ y → child t j ≡ Some c → ⊥
-        node (Node-F.List us) c o z = item us c o z
-        node (Node-F.Tree k us) c o z = field k us c o z (is_module_kind k) refl
-        node Node-F.Absent c o z = let y : Some c ≡ None = sym z ∙ ap (λ y. slice_get (children_in y) j) o in absurd (cc)
-        node (Node-F.Flag x) c o z = let y : Some c ≡ None = sym z ∙ ap (λ y. slice_get (children_in y) j) o in absurd (cc)
-        node (Node-F.Word x) c o z = let y : Some c ≡ None = sym z ∙ ap (λ y. slice_get (children_in y) j) o in absurd (cc)
-        node (Node-F.Text x) c o z = let y : Some c ≡ None = sym z ∙ ap (λ y. slice_get (children_in y) j) o in absurd (cc)
-        node (Node-F.Span x) c o z = let y : Some c ≡ None = sym z ∙ ap (λ y. slice_get (children_in y) j) o in absurd (cc)
-        node (Node-F.Identifier k x) c o z = let y : Some c ≡ None = sym z ∙ ap (λ y. slice_get (children_in y) j) o in absurd (cc)
-
-        by : (o : Option Node) → child t j ≡ o → ⊥
-        by None z = let y = sym (no_place_under v t j q z) ∙ h in absurd (cc)
-        by (Some c) z = node (out-Node t) c refl z
 
 -- ---- the names of a specifier
 
@@ -328,7 +222,7 @@ in_flat (t ∷ ts) (suc n) c i e h = in_right i (listed t) (flat_map listed ts) 
 -- ---- modules
 
 abbrev AreListed : Node → Type 0
-AreListed t = (p : Path) (w : Place) (k : Kind) (i : Ident) → InExportList t p → place_at program_place t p ≡ Some (w, Identifier k i) → w.standing ≡ standing.Reference → In i (exported_locals t)
+AreListed t = ListsAreItems t → (p : Path) (w : Place) (k : Kind) (i : Ident) → InExportList t p → place_at program_place t p ≡ Some (w, Identifier k i) → w.standing ≡ standing.Reference → In i (exported_locals t)
 
 module _ (x z : Node) (us : List Node) (f : FieldsFit (slots_of kind.Module) (x ∷ Many us ∷ z ∷ [])) (items : AllFit (one class.ModuleItem) us) where
   abbrev whole : Node
@@ -360,58 +254,21 @@ module _ (x z : Node) (us : List Node) (f : FieldsFit (slots_of kind.Module) (x 
   abbrev IsItem : Path → List Node → Type 0
   IsItem q ts = (n : ℕ) × (c : Node) × (q ≡ 1 ∷ n ∷ []) × (slice_get us n ≡ Some c) × (c ≡ Tree kind.NamedExport ts)
 
-  below_item : (n : ℕ) (c : Node) (r : Path) (w : Place) (ts : List Node) → slice_get us n ≡ Some c → place_at Top c r ≡ Some (w, Tree kind.NamedExport ts) → IsItem (1 ∷ n ∷ r) ts
-  below_item n c [] w ts e h = (n, c, refl, e, ap (λ (q : Place × Node). q.1) (some_same (Top, c) (w, Tree kind.NamedExport ts) h))
-  below_item n c (j ∷ r) w ts e h = absurd (at (fit_at (one class.ModuleItem) us n c items e))
+  item_at : (n : ℕ) (c : Node) (w : Place) (ts : List Node) → slice_get us n ≡ Some c → place_at Top c [] ≡ Some (w, Tree kind.NamedExport ts) → IsItem (1 ∷ n ∷ []) ts
+  item_at n c w ts e h = (n, c, refl, e, ap (λ (q : Place × Node). q.1) (some_same (Top, c) (w, Tree kind.NamedExport ts) h))
+
+  is_item : ListsAreItems whole → (q : Path) (w : Place) (ts : List Node) → place_at program_place whole q ≡ Some (w, Tree kind.NamedExport ts) → IsItem q ts
+  is_item lists q w ts h = let (n, at) = lists q w ts h in subst (λ q. IsItem q ts) (sym at) (by n (slice_get us n) refl (sym (in_items (n ∷ [])) ∙ ap (place_at program_place whole) (sym at) ∙ h))
     where
-      module_item : (k : Kind) → IsTrue (belongs k class.ModuleItem) → is_module_kind k ≡ false
-      module_item kind.Module b = absurd (cc)
-      module_item _ b = refl
-
-      not_true : (x : Bool) → not x ≡ true → x ≡ false
-      not_true true h = absurd (cc)
-      not_true false h = refl
-
-      at : Fits c (one class.ModuleItem) → ⊥
-      at g = of_class class.ModuleItem (λ c. place_at Top c (j ∷ r) ≡ Some (w, Tree kind.NamedExport ts) → ⊥) (λ k i a b. absurd (no_item_name k a b))
-          (λ k vs b fields h. by k vs b fields h (child (Tree k vs) j) refl) c g h
-        where
-          by : (k : Kind) (vs : List Node) → IsTrue (belongs k class.ModuleItem) → FieldsFit (slots_of k) vs → place_at Top (Tree k vs) (j ∷ r) ≡ Some (w, Tree kind.NamedExport ts) → (o : Option Node) → child (Tree k vs) j ≡ o → ⊥
-          by k vs b fields h None z = let y = sym (no_place_under Top (Tree k vs) j r z) ∙ h in absurd (cc)
-          by k vs b fields h (Some d) z =
-              let (g, there, inside) = field_at (fields_of k) vs j d fields (sym (ap (λ y. slice_get (children_in y) j) (outs-Tree k vs)) ∙ z) in
-              let quiet = not_true (exporting g.1) (all_at (λ f. not (exporting f.1)) (fields_of k) j g (quiet_fields k ∙ ap not (module_item k b)) there) in
-              no_list d g.1 inside quiet (place_below Top (Tree k vs) j) r w ts (sym (place_under Top (Tree k vs) d j r z) ∙ h)
-
-  below_items : (q : Path) (w : Place) (ts : List Node) → place_at Top (Many us) q ≡ Some (w, Tree kind.NamedExport ts) → IsItem (1 ∷ q) ts
-  below_items [] w ts h =
-      let is : Many us ≡ Tree kind.NamedExport ts = ap (λ (q : Place × Node). q.1) (some_same (Top, Many us) (w, Tree kind.NamedExport ts) h) in
-      let z : Node-F.List us ≡ Node-F.Tree kind.NamedExport ts = sym (outs-List us) ∙ ap out-Node is ∙ outs-Tree kind.NamedExport ts in
-      absurd (cc)
-  below_items (n ∷ q) w ts h = by (slice_get us n) refl
-    where
-      by : (o : Option Node) → slice_get us n ≡ o → IsItem (1 ∷ n ∷ q) ts
-      by None z = let y = sym (no_place_under Top (Many us) n q (item_child n ∙ z)) ∙ h in absurd (cc)
-      by (Some c) z = below_item n c q w ts z (sym (in_item n c q z) ∙ h)
-
-  elsewhere : (j : ℕ) (c : Node) (s : Slot) (q : Path) (w : Place) (ts : List Node) → slice_get parts j ≡ Some c → Fits c s → exporting s ≡ false → place_at program_place whole (j ∷ q) ≡ Some (w, Tree kind.NamedExport ts) → ⊥
-  elsewhere j c s q w ts e fit quiet h = no_list c s fit quiet (place_below program_place whole j) q w ts (sym (place_under program_place whole c j q (child_is j ∙ e)) ∙ h)
-
-  is_item : (q : Path) (w : Place) (ts : List Node) → place_at program_place whole q ≡ Some (w, Tree kind.NamedExport ts) → IsItem q ts
-  is_item [] w ts h =
-      let is : whole ≡ Tree kind.NamedExport ts = ap (λ (q : Place × Node). q.1) (some_same (program_place, whole) (w, Tree kind.NamedExport ts) h) in
-      let z : Node-F.Tree kind.Module parts ≡ Node-F.Tree kind.NamedExport ts = sym (outs-Tree kind.Module parts) ∙ ap out-Node is ∙ outs-Tree kind.NamedExport ts in
-      absurd (cc)
-  is_item (zero ∷ q) w ts h = absurd (elsewhere 0 x (slot.One content.Span) q w ts refl f.0 refl h)
-  is_item (suc zero ∷ q) w ts h = below_items q w ts (sym (in_items q) ∙ h)
-  is_item (suc (suc zero) ∷ q) w ts h = absurd (elsewhere 2 z (slot.Optional content.Text) q w ts refl f.1.1.0 refl h)
-  is_item (suc (suc (suc j)) ∷ q) w ts h = let y = sym (no_place_under program_place whole (suc (suc (suc j))) q (child_is (suc (suc (suc j))))) ∙ h in absurd (cc)
+      by : (n : ℕ) (o : Option Node) → slice_get us n ≡ o → place_at Top (Many us) (n ∷ []) ≡ Some (w, Tree kind.NamedExport ts) → IsItem (1 ∷ n ∷ []) ts
+      by n None z g = let y = sym (no_place_under Top (Many us) n [] (item_child n ∙ z)) ∙ g in absurd (cc)
+      by n (Some c) z g = item_at n c w ts z (sym (in_item n c [] z) ∙ g)
 
   are_listed : AreListed whole
-  are_listed p w k i (q, below, j, v, l, ts, path, there, role_is) h r =
+  are_listed lists p w k i (q, below, j, v, l, ts, path, there, role_is) h r =
       let kind_is = export_kind l j role_is in
       let field_is = export_field j (ap (λ l. field_role l j) (sym kind_is) ∙ role_is) in
-      let (n, c, at, e, is) = is_item q v ts (there ∙ ap (λ l. Some (v, Tree l ts)) kind_is) in
+      let (n, c, at, e, is) = is_item lists q v ts (there ∙ ap (λ l. Some (v, Tree l ts)) kind_is) in
       let full : p ≡ 1 ∷ n ∷ 1 ∷ below = path ∙ ap (λ q. q ++ (j ∷ below)) at ∙ ap (λ j. 1 ∷ n ∷ j ∷ below) field_is in
       let inside : place_at Top c (1 ∷ below) ≡ Some (w, Identifier k i) = sym (in_items (n ∷ 1 ∷ below) ∙ in_item n c (1 ∷ below) e) ∙ ap (place_at program_place whole) (sym full) ∙ h in
       let own = item_speaks c ts (fit_at (one class.ModuleItem) us n c items e) is below w k i inside r in

@@ -139,6 +139,10 @@ declaration_kind kind.ClassDecl b = (refl, refl)
 declaration_kind kind.FnDecl b = (refl, refl)
 declaration_kind kind.VarDecl b = (refl, refl)
 declaration_kind kind.UsingDecl b = (refl, refl)
+declaration_kind kind.TsInterfaceDecl b = (refl, refl)
+declaration_kind kind.TsTypeAliasDecl b = (refl, refl)
+declaration_kind kind.TsEnumDecl b = (refl, refl)
+declaration_kind kind.TsModuleDecl b = (refl, refl)
 declaration_kind _ b = absurd (cc)
 
 no_declaration_name : (k : Kind) → IsTrue (is_identifier k) → IsTrue (belongs k class.Decl) → ⊥

@@ -15,6 +15,7 @@ use Rattle.swc_tree_grammar.specs.Normal.{written_out}
 use Rattle.swc_tree_grammar.specs.Stripped.{stripped}
 use Rattle.swc_tree_grammar.specs.Targets.{all_bare}
 use Rattle.swc_tree_renaming.specs.Apart.{SameId}
+use Rattle.swc_tree_spaces.specs.NoTypes.{ListsAreItems}
 use Rattle.swc_tree_sites.specs.Sites.{Binding, taken_at}
 use Rattle.swc_tree_sites.specs.Smaller.{In}
 use Rattle.swc_tree_sites_written.specs.Tame.{is_tame}
@@ -36,7 +37,7 @@ pub record Exports (t : Node) : Type 0 where
 abbrev pub WrittenOutExports : Type 0
 WrittenOutExports = (t : Node) → Fits t (slot.One (content.Node class.Module)) → IsTrue (is_tame t false) → Exports t
 
--- the references in export lists are what is exported so
+-- the references in export lists are what is exported so, where each export list is an item of the module
 abbrev pub ExportListsAreListed : Type 0
-ExportListsAreListed = (t : Node) → Fits t (slot.One (content.Node class.Module)) → (p : Path) (w : Place) (k : Kind) (i : Ident) → InExportList t p → place_at program_place t p ≡ Some (w, Identifier k i) → w.standing ≡ standing.Reference
+ExportListsAreListed = (t : Node) → Fits t (slot.One (content.Node class.Module)) → ListsAreItems t → (p : Path) (w : Place) (k : Kind) (i : Ident) → InExportList t p → place_at program_place t p ≡ Some (w, Identifier k i) → w.standing ≡ standing.Reference
     → In i (exported_locals t)

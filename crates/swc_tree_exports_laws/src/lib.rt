@@ -16,7 +16,7 @@ pub fn written_out_exports()
     ensures { WrittenOutExports }
 {}
 
-/// The references in the export lists of a module are what it exports so.
+/// The references in the export lists of a module, each of which is an item of it, are what it exports so.
 pub fn export_lists_are_listed()
     ensures { ExportListsAreListed }
 {}

@@ -33,6 +33,10 @@ form_in (VarDecl span keyword decls) = form_of_word (word_of keyword)
 form_in (FnDecl ident function) = form_of_function (is_plain_function (Some function))
 form_in (Node-F.Tree kind.ClassDecl ts) = Declaring
 form_in (Node-F.Tree kind.UsingDecl ts) = Using
+form_in (Node-F.Tree kind.TsInterfaceDecl ts) = Declaring
+form_in (Node-F.Tree kind.TsTypeAliasDecl ts) = Declaring
+form_in (Node-F.Tree kind.TsEnumDecl ts) = Declaring
+form_in (Node-F.Tree kind.TsModuleDecl ts) = Declaring
 form_in _ = Ordinary
 
 abbrev pub form : Node → Form

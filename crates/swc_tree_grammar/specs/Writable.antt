@@ -272,6 +272,10 @@ sound_in (Node-F.Tree kind.ExportNamespaceSpecifier es) r = true
 sound_in (ExportDecl span decl) r = not (is_using decl.whole) && decl.sound r
 sound_in (Module span body shebang) r = body.sound (strictly true r)
 sound_in (Script span body shebang) r = no_using body && body.sound (strictly (has_use_strict (items_of body.whole)) r)
+sound_in (Node-F.Tree kind.TsInterfaceDecl es) r = false
+sound_in (Node-F.Tree kind.TsTypeAliasDecl es) r = false
+sound_in (Node-F.Tree kind.TsEnumDecl es) r = false
+sound_in (Node-F.Tree kind.TsModuleDecl es) r = false
 sound_in (Node-F.Tree k es) r = all_sound es (binding r)
 sound_in _ r = true
 

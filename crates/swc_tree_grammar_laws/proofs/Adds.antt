@@ -306,6 +306,10 @@ shape kind.ImportStarAsSpecifier ts d l = row kind.ImportStarAsSpecifier ts refl
 shape kind.NamedExport ts d l = row kind.NamedExport ts refl refl (λ c r e m i w y q g. refl) l
 shape kind.ExportNamedSpecifier ts d l = row kind.ExportNamedSpecifier ts refl refl (λ c r e m i w y q g. refl) l
 shape kind.ExportNamespaceSpecifier ts d l = row kind.ExportNamespaceSpecifier ts refl refl (λ c r e m i w y q g. refl) l
+shape kind.TsInterfaceDecl ts d l = row kind.TsInterfaceDecl ts refl refl (λ c r e m i w y q g. absurd (cc)) l
+shape kind.TsTypeAliasDecl ts d l = row kind.TsTypeAliasDecl ts refl refl (λ c r e m i w y q g. absurd (cc)) l
+shape kind.TsEnumDecl ts d l = row kind.TsEnumDecl ts refl refl (λ c r e m i w y q g. absurd (cc)) l
+shape kind.TsModuleDecl ts d l = row kind.TsModuleDecl ts refl refl (λ c r e m i w y q g. absurd (cc)) l
 shape k ts d l = plain_row k ts refl refl (λ r. refl) (λ b. refl) (λ c. refl) l
 
 leaf : (t : Node) → ((c : Context) → derives t c ≡ true) → is_link t ≡ false → Both t

@@ -403,6 +403,10 @@ row kind.ExportNamespaceSpecifier ts r = refl
 row kind.ExportDecl (s ∷ d ∷ []) r = ap (λ b. not b && sound d r) (using_same d)
 row kind.Module (s ∷ b ∷ h ∷ []) r = refl
 row kind.Script (s ∷ b ∷ h ∷ []) r = rw (list_no_using b, items_same b, use_strict_same (items_of b)) refl
+row kind.TsInterfaceDecl ts r = refl
+row kind.TsTypeAliasDecl ts r = refl
+row kind.TsEnumDecl ts r = refl
+row kind.TsModuleDecl ts r = refl
 row k ts r = all_cleared ts (binding r)
 
 heads : (k : Kind) (ts : List Node) (r : Round) → in_head_in (Node-F.Tree k (map cleared ts)) r ≡ in_head_in (Node-F.Tree k (map of ts)) r

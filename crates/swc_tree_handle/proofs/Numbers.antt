@@ -7,7 +7,7 @@ use Rattle.swc_tree_node.specs.declared.kind.Kind.TheVariants as kind
 use Rattle.swc_tree_node.specs.Table.{kind_number}
 
 kinds : List Kind
-kinds = kind.Module ∷ kind.Script ∷ kind.ImportDecl ∷ kind.ImportNamedSpecifier ∷ kind.ImportDefaultSpecifier ∷ kind.ImportStarAsSpecifier ∷ kind.ExportDecl ∷ kind.NamedExport ∷ kind.ExportNamespaceSpecifier ∷ kind.ExportNamedSpecifier ∷ kind.ExportDefaultDecl ∷ kind.ExportDefaultExpr ∷ kind.ExportAll ∷ kind.Ident ∷ kind.BindingIdent ∷ kind.IdentName ∷ kind.PrivateName ∷ kind.Str ∷ kind.Bool ∷ kind.Null ∷ kind.Number ∷ kind.BigInt ∷ kind.Regex ∷ kind.TplElement ∷ kind.ThisExpr ∷ kind.Super ∷ kind.Import ∷ kind.MetaPropExpr ∷ kind.EmptyStmt ∷ kind.DebuggerStmt ∷ kind.BreakStmt ∷ kind.ContinueStmt ∷ kind.Function ∷ kind.Param ∷ kind.FnExpr ∷ kind.ArrowExpr ∷ kind.Class ∷ kind.ClassExpr ∷ kind.Constructor ∷ kind.ClassMethod ∷ kind.PrivateMethod ∷ kind.ClassProp ∷ kind.PrivateProp ∷ kind.StaticBlock ∷ kind.ComputedPropName ∷ kind.MethodProp ∷ kind.GetterProp ∷ kind.SetterProp ∷ kind.ArrayPat ∷ kind.RestPat ∷ kind.ObjectPat ∷ kind.AssignPat ∷ kind.KeyValuePatProp ∷ kind.AssignPatProp ∷ kind.ArrayLit ∷ kind.ExprOrSpread ∷ kind.ObjectLit ∷ kind.SpreadElement ∷ kind.KeyValueProp ∷ kind.UnaryExpr ∷ kind.UpdateExpr ∷ kind.BinExpr ∷ kind.AssignExpr ∷ kind.MemberExpr ∷ kind.SuperPropExpr ∷ kind.CondExpr ∷ kind.CallExpr ∷ kind.NewExpr ∷ kind.SeqExpr ∷ kind.ParenExpr ∷ kind.AwaitExpr ∷ kind.YieldExpr ∷ kind.Tpl ∷ kind.TaggedTpl ∷ kind.OptChainExpr ∷ kind.OptCall ∷ kind.ClassDecl ∷ kind.FnDecl ∷ kind.VarDecl ∷ kind.UsingDecl ∷ kind.VarDeclarator ∷ kind.BlockStmt ∷ kind.ExprStmt ∷ kind.WithStmt ∷ kind.ReturnStmt ∷ kind.ThrowStmt ∷ kind.LabeledStmt ∷ kind.IfStmt ∷ kind.SwitchStmt ∷ kind.SwitchCase ∷ kind.TryStmt ∷ kind.CatchClause ∷ kind.WhileStmt ∷ kind.DoWhileStmt ∷ kind.ForStmt ∷ kind.ForInStmt ∷ kind.ForOfStmt ∷ []
+kinds = kind.Module ∷ kind.Script ∷ kind.ImportDecl ∷ kind.ImportNamedSpecifier ∷ kind.ImportDefaultSpecifier ∷ kind.ImportStarAsSpecifier ∷ kind.ExportDecl ∷ kind.NamedExport ∷ kind.ExportNamespaceSpecifier ∷ kind.ExportNamedSpecifier ∷ kind.ExportDefaultDecl ∷ kind.ExportDefaultExpr ∷ kind.ExportAll ∷ kind.Ident ∷ kind.BindingIdent ∷ kind.IdentName ∷ kind.PrivateName ∷ kind.Str ∷ kind.Bool ∷ kind.Null ∷ kind.Number ∷ kind.BigInt ∷ kind.Regex ∷ kind.TplElement ∷ kind.ThisExpr ∷ kind.Super ∷ kind.Import ∷ kind.MetaPropExpr ∷ kind.EmptyStmt ∷ kind.DebuggerStmt ∷ kind.BreakStmt ∷ kind.ContinueStmt ∷ kind.Function ∷ kind.Param ∷ kind.FnExpr ∷ kind.ArrowExpr ∷ kind.Class ∷ kind.ClassExpr ∷ kind.Constructor ∷ kind.ClassMethod ∷ kind.PrivateMethod ∷ kind.ClassProp ∷ kind.PrivateProp ∷ kind.StaticBlock ∷ kind.ComputedPropName ∷ kind.MethodProp ∷ kind.GetterProp ∷ kind.SetterProp ∷ kind.ArrayPat ∷ kind.RestPat ∷ kind.ObjectPat ∷ kind.AssignPat ∷ kind.KeyValuePatProp ∷ kind.AssignPatProp ∷ kind.ArrayLit ∷ kind.ExprOrSpread ∷ kind.ObjectLit ∷ kind.SpreadElement ∷ kind.KeyValueProp ∷ kind.UnaryExpr ∷ kind.UpdateExpr ∷ kind.BinExpr ∷ kind.AssignExpr ∷ kind.MemberExpr ∷ kind.SuperPropExpr ∷ kind.CondExpr ∷ kind.CallExpr ∷ kind.NewExpr ∷ kind.SeqExpr ∷ kind.ParenExpr ∷ kind.AwaitExpr ∷ kind.YieldExpr ∷ kind.Tpl ∷ kind.TaggedTpl ∷ kind.OptChainExpr ∷ kind.OptCall ∷ kind.ClassDecl ∷ kind.FnDecl ∷ kind.VarDecl ∷ kind.UsingDecl ∷ kind.VarDeclarator ∷ kind.BlockStmt ∷ kind.ExprStmt ∷ kind.WithStmt ∷ kind.ReturnStmt ∷ kind.ThrowStmt ∷ kind.LabeledStmt ∷ kind.IfStmt ∷ kind.SwitchStmt ∷ kind.SwitchCase ∷ kind.TryStmt ∷ kind.CatchClause ∷ kind.WhileStmt ∷ kind.DoWhileStmt ∷ kind.ForStmt ∷ kind.ForInStmt ∷ kind.ForOfStmt ∷ kind.TsInterfaceDecl ∷ kind.TsTypeAliasDecl ∷ kind.TsTypeParam ∷ kind.TsEnumDecl ∷ kind.TsEnumMember ∷ kind.TsModuleDecl ∷ kind.TsKeywordType ∷ kind.TsTypeRef ∷ kind.TsArrayType ∷ kind.TsUnionType ∷ kind.TsTypeLit ∷ kind.TsPropertySignature ∷ kind.TsQualifiedName ∷ []
 
 kind_at : ℕ → Kind
 kind_at n = slice_index_or kinds n kind.Module
@@ -111,6 +111,19 @@ kind_back kind.DoWhileStmt = refl
 kind_back kind.ForStmt = refl
 kind_back kind.ForInStmt = refl
 kind_back kind.ForOfStmt = refl
+kind_back kind.TsInterfaceDecl = refl
+kind_back kind.TsTypeAliasDecl = refl
+kind_back kind.TsTypeParam = refl
+kind_back kind.TsEnumDecl = refl
+kind_back kind.TsEnumMember = refl
+kind_back kind.TsModuleDecl = refl
+kind_back kind.TsKeywordType = refl
+kind_back kind.TsTypeRef = refl
+kind_back kind.TsArrayType = refl
+kind_back kind.TsUnionType = refl
+kind_back kind.TsTypeLit = refl
+kind_back kind.TsPropertySignature = refl
+kind_back kind.TsQualifiedName = refl
 
 pub same_kind : (k l : Kind) → kind_number k ≡ kind_number l → k ≡ l
 same_kind k l e = rw (← kind_back k) (rw (← kind_back l) (ap kind_at e))

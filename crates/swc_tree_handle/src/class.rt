@@ -9,6 +9,7 @@ mod modules;
 mod operations;
 mod patterns;
 mod statements;
+mod types;
 
 pub use expressions::AssignTarget;
 pub use expressions::AssignTargetPat;
@@ -133,6 +134,22 @@ pub use statements::VarDeclOrExpr;
 pub use statements::VarDeclarator;
 pub use statements::WhileStmt;
 pub use statements::WithStmt;
+pub use types::TsArrayType;
+pub use types::TsEntityName;
+pub use types::TsEnumDecl;
+pub use types::TsEnumMember;
+pub use types::TsEnumMemberId;
+pub use types::TsInterfaceDecl;
+pub use types::TsKeywordType;
+pub use types::TsModuleDecl;
+pub use types::TsPropertySignature;
+pub use types::TsQualifiedName;
+pub use types::TsType;
+pub use types::TsTypeAliasDecl;
+pub use types::TsTypeLit;
+pub use types::TsTypeParam;
+pub use types::TsTypeRef;
+pub use types::TsUnionType;
 
 /// A class, as a type: what a `Tree` or a `Trees` holds.
 pub trait Syntax {

@@ -7,7 +7,7 @@ ghost use Rattle.swc_tree_node.specs.Fits.{Fits};
 ghost use Rattle.swc_tree_leaves.specs.Nodes.{ident_name_node};
 
 use std::alloc::{AllocError, Global};
-use swc_tree_handle::{Opened, class, clone_two, close_two, open_two};
+use swc_tree_handle::{Opened, Place, class, clone_two, close_two, open_two};
 use swc_tree_marks::{Atom, Span};
 use swc_tree_node::{Kind, Node};
 
@@ -45,5 +45,19 @@ impl Opened<class::IdentName> for IdentName {
     {
         let IdentName { span, sym } = self;
         close_two::<class::IdentName, _, _>(alloc, Kind::IdentName, (span, sym))
+    }
+}
+
+impl Place for IdentName {
+    ghost slot = { One (Of class.IdentName) };
+
+    ghost node = { ident_name_node };
+
+    fn taken(closed: Node) -> IdentName {
+        IdentName::from_node(closed)
+    }
+
+    fn given(self, alloc: Global) -> Result<Node, AllocError> {
+        self.into_node(alloc)
     }
 }

@@ -77,6 +77,9 @@ pub enum PassError {
     /// What stands where a value is assigned can take none.
     #[error("not assignable")]
     NotAssignable,
+    /// A declaration of a type, an enum or a namespace stands in the tree.
+    #[error("types are left")]
+    TypesLeft,
 }
 
 impl PassError {
@@ -101,6 +104,7 @@ impl PassError {
             PassError::MarksSpent => "MarksSpent",
             PassError::CounterSpent => "CounterSpent",
             PassError::NotAssignable => "NotAssignable",
+            PassError::TypesLeft => "TypesLeft",
         }
     }
 }

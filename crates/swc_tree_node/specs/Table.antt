@@ -115,6 +115,19 @@ name_of kind.DoWhileStmt = codes "DoWhileStmt"
 name_of kind.ForStmt = codes "ForStmt"
 name_of kind.ForInStmt = codes "ForInStmt"
 name_of kind.ForOfStmt = codes "ForOfStmt"
+name_of kind.TsInterfaceDecl = codes "TsInterfaceDecl"
+name_of kind.TsTypeAliasDecl = codes "TsTypeAliasDecl"
+name_of kind.TsTypeParam = codes "TsTypeParam"
+name_of kind.TsEnumDecl = codes "TsEnumDecl"
+name_of kind.TsEnumMember = codes "TsEnumMember"
+name_of kind.TsModuleDecl = codes "TsModuleDecl"
+name_of kind.TsKeywordType = codes "TsKeywordType"
+name_of kind.TsTypeRef = codes "TsTypeRef"
+name_of kind.TsArrayType = codes "TsArrayType"
+name_of kind.TsUnionType = codes "TsUnionType"
+name_of kind.TsTypeLit = codes "TsTypeLit"
+name_of kind.TsPropertySignature = codes "TsPropertySignature"
+name_of kind.TsQualifiedName = codes "TsQualifiedName"
 
 -- the kinds that may stand in a place of a class
 abbrev pub kinds_of : Class → List Kind
@@ -215,7 +228,20 @@ kinds_of class.DoWhileStmt = kind.DoWhileStmt ∷ []
 kinds_of class.ForStmt = kind.ForStmt ∷ []
 kinds_of class.ForInStmt = kind.ForInStmt ∷ []
 kinds_of class.ForOfStmt = kind.ForOfStmt ∷ []
-kinds_of class.ModuleItem = kind.ImportDecl ∷ kind.ExportDecl ∷ kind.NamedExport ∷ kind.ExportDefaultDecl ∷ kind.ExportDefaultExpr ∷ kind.ExportAll ∷ kind.BlockStmt ∷ kind.EmptyStmt ∷ kind.DebuggerStmt ∷ kind.WithStmt ∷ kind.ReturnStmt ∷ kind.LabeledStmt ∷ kind.BreakStmt ∷ kind.ContinueStmt ∷ kind.IfStmt ∷ kind.SwitchStmt ∷ kind.ThrowStmt ∷ kind.TryStmt ∷ kind.WhileStmt ∷ kind.DoWhileStmt ∷ kind.ForStmt ∷ kind.ForInStmt ∷ kind.ForOfStmt ∷ kind.ClassDecl ∷ kind.FnDecl ∷ kind.VarDecl ∷ kind.UsingDecl ∷ kind.ExprStmt ∷ []
+kinds_of class.TsInterfaceDecl = kind.TsInterfaceDecl ∷ []
+kinds_of class.TsTypeAliasDecl = kind.TsTypeAliasDecl ∷ []
+kinds_of class.TsTypeParam = kind.TsTypeParam ∷ []
+kinds_of class.TsEnumDecl = kind.TsEnumDecl ∷ []
+kinds_of class.TsEnumMember = kind.TsEnumMember ∷ []
+kinds_of class.TsModuleDecl = kind.TsModuleDecl ∷ []
+kinds_of class.TsKeywordType = kind.TsKeywordType ∷ []
+kinds_of class.TsTypeRef = kind.TsTypeRef ∷ []
+kinds_of class.TsArrayType = kind.TsArrayType ∷ []
+kinds_of class.TsUnionType = kind.TsUnionType ∷ []
+kinds_of class.TsTypeLit = kind.TsTypeLit ∷ []
+kinds_of class.TsPropertySignature = kind.TsPropertySignature ∷ []
+kinds_of class.TsQualifiedName = kind.TsQualifiedName ∷ []
+kinds_of class.ModuleItem = kind.ImportDecl ∷ kind.ExportDecl ∷ kind.NamedExport ∷ kind.ExportDefaultDecl ∷ kind.ExportDefaultExpr ∷ kind.ExportAll ∷ kind.BlockStmt ∷ kind.EmptyStmt ∷ kind.DebuggerStmt ∷ kind.WithStmt ∷ kind.ReturnStmt ∷ kind.LabeledStmt ∷ kind.BreakStmt ∷ kind.ContinueStmt ∷ kind.IfStmt ∷ kind.SwitchStmt ∷ kind.ThrowStmt ∷ kind.TryStmt ∷ kind.WhileStmt ∷ kind.DoWhileStmt ∷ kind.ForStmt ∷ kind.ForInStmt ∷ kind.ForOfStmt ∷ kind.ClassDecl ∷ kind.FnDecl ∷ kind.VarDecl ∷ kind.UsingDecl ∷ kind.TsInterfaceDecl ∷ kind.TsTypeAliasDecl ∷ kind.TsEnumDecl ∷ kind.TsModuleDecl ∷ kind.ExprStmt ∷ []
 kinds_of class.ModuleDecl = kind.ImportDecl ∷ kind.ExportDecl ∷ kind.NamedExport ∷ kind.ExportDefaultDecl ∷ kind.ExportDefaultExpr ∷ kind.ExportAll ∷ []
 kinds_of class.ImportSpecifier = kind.ImportNamedSpecifier ∷ kind.ImportDefaultSpecifier ∷ kind.ImportStarAsSpecifier ∷ []
 kinds_of class.ExportSpecifier = kind.ExportNamespaceSpecifier ∷ kind.ExportNamedSpecifier ∷ []
@@ -236,11 +262,14 @@ kinds_of class.MemberProp = kind.IdentName ∷ kind.PrivateName ∷ kind.Compute
 kinds_of class.SuperProp = kind.IdentName ∷ kind.ComputedPropName ∷ []
 kinds_of class.Callee = kind.Super ∷ kind.Import ∷ kind.ThisExpr ∷ kind.ArrayLit ∷ kind.ObjectLit ∷ kind.FnExpr ∷ kind.UnaryExpr ∷ kind.UpdateExpr ∷ kind.BinExpr ∷ kind.AssignExpr ∷ kind.MemberExpr ∷ kind.SuperPropExpr ∷ kind.CondExpr ∷ kind.CallExpr ∷ kind.NewExpr ∷ kind.SeqExpr ∷ kind.Ident ∷ kind.Str ∷ kind.Bool ∷ kind.Null ∷ kind.Number ∷ kind.BigInt ∷ kind.Regex ∷ kind.Tpl ∷ kind.TaggedTpl ∷ kind.ArrowExpr ∷ kind.ClassExpr ∷ kind.YieldExpr ∷ kind.MetaPropExpr ∷ kind.AwaitExpr ∷ kind.ParenExpr ∷ kind.PrivateName ∷ kind.OptChainExpr ∷ []
 kinds_of class.OptChainBase = kind.MemberExpr ∷ kind.OptCall ∷ []
-kinds_of class.Stmt = kind.BlockStmt ∷ kind.EmptyStmt ∷ kind.DebuggerStmt ∷ kind.WithStmt ∷ kind.ReturnStmt ∷ kind.LabeledStmt ∷ kind.BreakStmt ∷ kind.ContinueStmt ∷ kind.IfStmt ∷ kind.SwitchStmt ∷ kind.ThrowStmt ∷ kind.TryStmt ∷ kind.WhileStmt ∷ kind.DoWhileStmt ∷ kind.ForStmt ∷ kind.ForInStmt ∷ kind.ForOfStmt ∷ kind.ClassDecl ∷ kind.FnDecl ∷ kind.VarDecl ∷ kind.UsingDecl ∷ kind.ExprStmt ∷ []
-kinds_of class.Decl = kind.ClassDecl ∷ kind.FnDecl ∷ kind.VarDecl ∷ kind.UsingDecl ∷ []
+kinds_of class.Stmt = kind.BlockStmt ∷ kind.EmptyStmt ∷ kind.DebuggerStmt ∷ kind.WithStmt ∷ kind.ReturnStmt ∷ kind.LabeledStmt ∷ kind.BreakStmt ∷ kind.ContinueStmt ∷ kind.IfStmt ∷ kind.SwitchStmt ∷ kind.ThrowStmt ∷ kind.TryStmt ∷ kind.WhileStmt ∷ kind.DoWhileStmt ∷ kind.ForStmt ∷ kind.ForInStmt ∷ kind.ForOfStmt ∷ kind.ClassDecl ∷ kind.FnDecl ∷ kind.VarDecl ∷ kind.UsingDecl ∷ kind.TsInterfaceDecl ∷ kind.TsTypeAliasDecl ∷ kind.TsEnumDecl ∷ kind.TsModuleDecl ∷ kind.ExprStmt ∷ []
+kinds_of class.Decl = kind.ClassDecl ∷ kind.FnDecl ∷ kind.VarDecl ∷ kind.UsingDecl ∷ kind.TsInterfaceDecl ∷ kind.TsTypeAliasDecl ∷ kind.TsEnumDecl ∷ kind.TsModuleDecl ∷ []
 kinds_of class.BlockStmtOrExpr = kind.BlockStmt ∷ kind.ThisExpr ∷ kind.ArrayLit ∷ kind.ObjectLit ∷ kind.FnExpr ∷ kind.UnaryExpr ∷ kind.UpdateExpr ∷ kind.BinExpr ∷ kind.AssignExpr ∷ kind.MemberExpr ∷ kind.SuperPropExpr ∷ kind.CondExpr ∷ kind.CallExpr ∷ kind.NewExpr ∷ kind.SeqExpr ∷ kind.Ident ∷ kind.Str ∷ kind.Bool ∷ kind.Null ∷ kind.Number ∷ kind.BigInt ∷ kind.Regex ∷ kind.Tpl ∷ kind.TaggedTpl ∷ kind.ArrowExpr ∷ kind.ClassExpr ∷ kind.YieldExpr ∷ kind.MetaPropExpr ∷ kind.AwaitExpr ∷ kind.ParenExpr ∷ kind.PrivateName ∷ kind.OptChainExpr ∷ []
 kinds_of class.VarDeclOrExpr = kind.VarDecl ∷ kind.ThisExpr ∷ kind.ArrayLit ∷ kind.ObjectLit ∷ kind.FnExpr ∷ kind.UnaryExpr ∷ kind.UpdateExpr ∷ kind.BinExpr ∷ kind.AssignExpr ∷ kind.MemberExpr ∷ kind.SuperPropExpr ∷ kind.CondExpr ∷ kind.CallExpr ∷ kind.NewExpr ∷ kind.SeqExpr ∷ kind.Ident ∷ kind.Str ∷ kind.Bool ∷ kind.Null ∷ kind.Number ∷ kind.BigInt ∷ kind.Regex ∷ kind.Tpl ∷ kind.TaggedTpl ∷ kind.ArrowExpr ∷ kind.ClassExpr ∷ kind.YieldExpr ∷ kind.MetaPropExpr ∷ kind.AwaitExpr ∷ kind.ParenExpr ∷ kind.PrivateName ∷ kind.OptChainExpr ∷ []
 kinds_of class.ForHead = kind.VarDecl ∷ kind.UsingDecl ∷ kind.BindingIdent ∷ kind.ArrayPat ∷ kind.RestPat ∷ kind.ObjectPat ∷ kind.AssignPat ∷ kind.ThisExpr ∷ kind.ArrayLit ∷ kind.ObjectLit ∷ kind.FnExpr ∷ kind.UnaryExpr ∷ kind.UpdateExpr ∷ kind.BinExpr ∷ kind.AssignExpr ∷ kind.MemberExpr ∷ kind.SuperPropExpr ∷ kind.CondExpr ∷ kind.CallExpr ∷ kind.NewExpr ∷ kind.SeqExpr ∷ kind.Ident ∷ kind.Str ∷ kind.Bool ∷ kind.Null ∷ kind.Number ∷ kind.BigInt ∷ kind.Regex ∷ kind.Tpl ∷ kind.TaggedTpl ∷ kind.ArrowExpr ∷ kind.ClassExpr ∷ kind.YieldExpr ∷ kind.MetaPropExpr ∷ kind.AwaitExpr ∷ kind.ParenExpr ∷ kind.PrivateName ∷ kind.OptChainExpr ∷ []
+kinds_of class.TsEnumMemberId = kind.IdentName ∷ kind.Str ∷ []
+kinds_of class.TsType = kind.TsKeywordType ∷ kind.TsTypeRef ∷ kind.TsArrayType ∷ kind.TsUnionType ∷ kind.TsTypeLit ∷ []
+kinds_of class.TsEntityName = kind.Ident ∷ kind.TsQualifiedName ∷ []
 
 -- the fields of a kind, in the order in which they are read: key, what stands there, role of an identifier there
 abbrev pub fields_of : Kind → List (List ℕ × Slot × Role)
@@ -341,6 +370,19 @@ fields_of kind.DoWhileStmt = (codes "span", slot.One content.Span, role.Plain) �
 fields_of kind.ForStmt = (codes "span", slot.One content.Span, role.Plain) ∷ (codes "init", slot.Optional (content.Node class.VarDeclOrExpr), role.Reference) ∷ (codes "test", slot.Optional (content.Node class.Expr), role.Reference) ∷ (codes "update", slot.Optional (content.Node class.Expr), role.Reference) ∷ (codes "body", slot.One (content.Node class.Stmt), role.Plain) ∷ []
 fields_of kind.ForInStmt = (codes "span", slot.One content.Span, role.Plain) ∷ (codes "left", slot.One (content.Node class.ForHead), role.Reference) ∷ (codes "right", slot.One (content.Node class.Expr), role.Reference) ∷ (codes "body", slot.One (content.Node class.Stmt), role.Plain) ∷ []
 fields_of kind.ForOfStmt = (codes "span", slot.One content.Span, role.Plain) ∷ (codes "is_await", slot.One content.Flag, role.Plain) ∷ (codes "left", slot.One (content.Node class.ForHead), role.Reference) ∷ (codes "right", slot.One (content.Node class.Expr), role.Reference) ∷ (codes "body", slot.One (content.Node class.Stmt), role.Plain) ∷ []
+fields_of kind.TsInterfaceDecl = (codes "span", slot.One content.Span, role.Plain) ∷ (codes "id", slot.One (content.Node class.Ident), role.TypeName) ∷ (codes "type_params", slot.List (content.Node class.TsTypeParam), role.Plain) ∷ (codes "extends", slot.List (content.Node class.TsTypeRef), role.Plain) ∷ (codes "body", slot.List (content.Node class.TsPropertySignature), role.Plain) ∷ []
+fields_of kind.TsTypeAliasDecl = (codes "span", slot.One content.Span, role.Plain) ∷ (codes "id", slot.One (content.Node class.Ident), role.TypeName) ∷ (codes "type_params", slot.List (content.Node class.TsTypeParam), role.Plain) ∷ (codes "type_ann", slot.One (content.Node class.TsType), role.Plain) ∷ []
+fields_of kind.TsTypeParam = (codes "span", slot.One content.Span, role.Plain) ∷ (codes "name", slot.One (content.Node class.Ident), role.TypeName) ∷ (codes "constraint", slot.Optional (content.Node class.TsType), role.Plain) ∷ (codes "default", slot.Optional (content.Node class.TsType), role.Plain) ∷ []
+fields_of kind.TsEnumDecl = (codes "span", slot.One content.Span, role.Plain) ∷ (codes "id", slot.One (content.Node class.Ident), role.Class) ∷ (codes "members", slot.List (content.Node class.TsEnumMember), role.Plain) ∷ []
+fields_of kind.TsEnumMember = (codes "span", slot.One content.Span, role.Plain) ∷ (codes "id", slot.One (content.Node class.TsEnumMemberId), role.Plain) ∷ (codes "init", slot.Optional (content.Node class.Expr), role.Reference) ∷ []
+fields_of kind.TsModuleDecl = (codes "span", slot.One content.Span, role.Plain) ∷ (codes "id", slot.One (content.Node class.Ident), role.Class) ∷ (codes "body", slot.List (content.Node class.ModuleItem), role.Plain) ∷ []
+fields_of kind.TsKeywordType = (codes "span", slot.One content.Span, role.Plain) ∷ (codes "kind", slot.One content.Text, role.Plain) ∷ []
+fields_of kind.TsTypeRef = (codes "span", slot.One content.Span, role.Plain) ∷ (codes "name", slot.One (content.Node class.TsEntityName), role.TypeReference) ∷ (codes "type_args", slot.List (content.Node class.TsType), role.Plain) ∷ []
+fields_of kind.TsArrayType = (codes "span", slot.One content.Span, role.Plain) ∷ (codes "elem", slot.One (content.Node class.TsType), role.Plain) ∷ []
+fields_of kind.TsUnionType = (codes "span", slot.One content.Span, role.Plain) ∷ (codes "types", slot.List (content.Node class.TsType), role.Plain) ∷ []
+fields_of kind.TsTypeLit = (codes "span", slot.One content.Span, role.Plain) ∷ (codes "members", slot.List (content.Node class.TsPropertySignature), role.Plain) ∷ []
+fields_of kind.TsPropertySignature = (codes "span", slot.One content.Span, role.Plain) ∷ (codes "key", slot.One (content.Node class.IdentName), role.Plain) ∷ (codes "optional", slot.One content.Flag, role.Plain) ∷ (codes "type_ann", slot.One (content.Node class.TsType), role.Plain) ∷ []
+fields_of kind.TsQualifiedName = (codes "span", slot.One content.Span, role.Plain) ∷ (codes "left", slot.One (content.Node class.TsEntityName), role.TypeReference) ∷ (codes "right", slot.One (content.Node class.IdentName), role.Plain) ∷ []
 
 -- the words of a place
 abbrev pub words_of : WordClass → List Word
@@ -516,6 +558,19 @@ kind_number kind.DoWhileStmt = 93
 kind_number kind.ForStmt = 94
 kind_number kind.ForInStmt = 95
 kind_number kind.ForOfStmt = 96
+kind_number kind.TsInterfaceDecl = 97
+kind_number kind.TsTypeAliasDecl = 98
+kind_number kind.TsTypeParam = 99
+kind_number kind.TsEnumDecl = 100
+kind_number kind.TsEnumMember = 101
+kind_number kind.TsModuleDecl = 102
+kind_number kind.TsKeywordType = 103
+kind_number kind.TsTypeRef = 104
+kind_number kind.TsArrayType = 105
+kind_number kind.TsUnionType = 106
+kind_number kind.TsTypeLit = 107
+kind_number kind.TsPropertySignature = 108
+kind_number kind.TsQualifiedName = 109
 
 -- words, numbered
 abbrev pub word_number : Word → ℕ

@@ -7,32 +7,113 @@ pub mod leaves;
 pub mod modules;
 pub mod patterns;
 pub mod statements;
+pub mod types;
 
-pub use expressions::{
-    array_lit, assign_expr, await_expr, bin_expr, call_expr, cond_expr, expr_or_spread,
-    key_value_prop, member_expr, new_expr, object_lit, opt_call, opt_chain_expr, paren_expr,
-    seq_expr, spread_element, super_prop_expr, tagged_tpl, tpl, unary_expr, update_expr,
-    yield_expr,
-};
-pub use functions::{
-    arrow_expr, class, class_expr, class_method, class_prop, computed_prop_name, constructor,
-    fn_expr, function, getter_prop, method_prop, param, private_method, private_prop, setter_prop,
-    static_block,
-};
-pub use leaves::{
-    big_int, bool, break_stmt, continue_stmt, debugger_stmt, empty_stmt, ident_name, import,
-    meta_prop_expr, null, number, private_name, regex, str, super_, this_expr, tpl_element,
-};
-pub use modules::{
-    export_all, export_decl, export_default_decl, export_default_expr, export_named_specifier,
-    export_namespace_specifier, import_decl, import_default_specifier, import_named_specifier,
-    import_star_as_specifier, module_, named_export, script,
-};
-pub use patterns::{
-    array_pat, assign_pat, assign_pat_prop, key_value_pat_prop, object_pat, rest_pat,
-};
-pub use statements::{
-    block_stmt, catch_clause, class_decl, do_while_stmt, expr_stmt, fn_decl, for_in_stmt,
-    for_of_stmt, for_stmt, if_stmt, labeled_stmt, return_stmt, switch_case, switch_stmt,
-    throw_stmt, try_stmt, using_decl, var_decl, var_declarator, while_stmt, with_stmt,
-};
+pub use expressions::array_lit;
+pub use expressions::assign_expr;
+pub use expressions::await_expr;
+pub use expressions::bin_expr;
+pub use expressions::call_expr;
+pub use expressions::cond_expr;
+pub use expressions::expr_or_spread;
+pub use expressions::key_value_prop;
+pub use expressions::member_expr;
+pub use expressions::new_expr;
+pub use expressions::object_lit;
+pub use expressions::opt_call;
+pub use expressions::opt_chain_expr;
+pub use expressions::paren_expr;
+pub use expressions::seq_expr;
+pub use expressions::spread_element;
+pub use expressions::super_prop_expr;
+pub use expressions::tagged_tpl;
+pub use expressions::tpl;
+pub use expressions::unary_expr;
+pub use expressions::update_expr;
+pub use expressions::yield_expr;
+pub use functions::arrow_expr;
+pub use functions::class;
+pub use functions::class_expr;
+pub use functions::class_method;
+pub use functions::class_prop;
+pub use functions::computed_prop_name;
+pub use functions::constructor;
+pub use functions::fn_expr;
+pub use functions::function;
+pub use functions::getter_prop;
+pub use functions::method_prop;
+pub use functions::param;
+pub use functions::private_method;
+pub use functions::private_prop;
+pub use functions::setter_prop;
+pub use functions::static_block;
+pub use leaves::big_int;
+pub use leaves::bool;
+pub use leaves::break_stmt;
+pub use leaves::continue_stmt;
+pub use leaves::debugger_stmt;
+pub use leaves::empty_stmt;
+pub use leaves::ident_name;
+pub use leaves::import;
+pub use leaves::meta_prop_expr;
+pub use leaves::null;
+pub use leaves::number;
+pub use leaves::private_name;
+pub use leaves::regex;
+pub use leaves::str;
+pub use leaves::super_;
+pub use leaves::this_expr;
+pub use leaves::tpl_element;
+pub use modules::export_all;
+pub use modules::export_decl;
+pub use modules::export_default_decl;
+pub use modules::export_default_expr;
+pub use modules::export_named_specifier;
+pub use modules::export_namespace_specifier;
+pub use modules::import_decl;
+pub use modules::import_default_specifier;
+pub use modules::import_named_specifier;
+pub use modules::import_star_as_specifier;
+pub use modules::module_;
+pub use modules::named_export;
+pub use modules::script;
+pub use patterns::array_pat;
+pub use patterns::assign_pat;
+pub use patterns::assign_pat_prop;
+pub use patterns::key_value_pat_prop;
+pub use patterns::object_pat;
+pub use patterns::rest_pat;
+pub use statements::block_stmt;
+pub use statements::catch_clause;
+pub use statements::class_decl;
+pub use statements::do_while_stmt;
+pub use statements::expr_stmt;
+pub use statements::fn_decl;
+pub use statements::for_in_stmt;
+pub use statements::for_of_stmt;
+pub use statements::for_stmt;
+pub use statements::if_stmt;
+pub use statements::labeled_stmt;
+pub use statements::return_stmt;
+pub use statements::switch_case;
+pub use statements::switch_stmt;
+pub use statements::throw_stmt;
+pub use statements::try_stmt;
+pub use statements::using_decl;
+pub use statements::var_decl;
+pub use statements::var_declarator;
+pub use statements::while_stmt;
+pub use statements::with_stmt;
+pub use types::ts_array_type;
+pub use types::ts_enum_decl;
+pub use types::ts_enum_member;
+pub use types::ts_interface_decl;
+pub use types::ts_keyword_type;
+pub use types::ts_module_decl;
+pub use types::ts_property_signature;
+pub use types::ts_qualified_name;
+pub use types::ts_type_alias_decl;
+pub use types::ts_type_lit;
+pub use types::ts_type_param;
+pub use types::ts_type_ref;
+pub use types::ts_union_type;

@@ -62,6 +62,10 @@ pub enum Role {
     Imported,
     /// The name under which something is exported.
     Exported,
+    /// The name that an interface, an alias or a type parameter declares.
+    TypeName,
+    /// A type by its name.
+    TypeReference,
     /// The local side of an export list: a reference, or an imported name where the list has a source.
     ExportLocal,
 }

@@ -12,12 +12,13 @@ mod leaves;
 mod modules;
 mod patterns;
 mod statements;
+mod types;
 
 use crate::kind::{Kind, Word, WordClass};
 use crate::slot::Field;
 pub use classes::kinds_of;
 
-static NAME_OF: [&str; 97] = [
+static NAME_OF: [&str; 110] = [
     "Module",
     "Script",
     "ImportDecl",
@@ -115,6 +116,19 @@ static NAME_OF: [&str; 97] = [
     "ForStmt",
     "ForInStmt",
     "ForOfStmt",
+    "TsInterfaceDecl",
+    "TsTypeAliasDecl",
+    "TsTypeParam",
+    "TsEnumDecl",
+    "TsEnumMember",
+    "TsModuleDecl",
+    "TsKeywordType",
+    "TsTypeRef",
+    "TsArrayType",
+    "TsUnionType",
+    "TsTypeLit",
+    "TsPropertySignature",
+    "TsQualifiedName",
 ];
 
 /// The name of the struct, as it stands in JSON.
@@ -224,6 +238,19 @@ pub fn fields_of(kind: Kind) -> &'static [Field]
         Kind::ForStmt => statements::FOR_STMT,
         Kind::ForInStmt => statements::FOR_IN_STMT,
         Kind::ForOfStmt => statements::FOR_OF_STMT,
+        Kind::TsInterfaceDecl => types::TS_INTERFACE_DECL,
+        Kind::TsTypeAliasDecl => types::TS_TYPE_ALIAS_DECL,
+        Kind::TsTypeParam => types::TS_TYPE_PARAM,
+        Kind::TsEnumDecl => types::TS_ENUM_DECL,
+        Kind::TsEnumMember => types::TS_ENUM_MEMBER,
+        Kind::TsModuleDecl => types::TS_MODULE_DECL,
+        Kind::TsKeywordType => types::TS_KEYWORD_TYPE,
+        Kind::TsTypeRef => types::TS_TYPE_REF,
+        Kind::TsArrayType => types::TS_ARRAY_TYPE,
+        Kind::TsUnionType => types::TS_UNION_TYPE,
+        Kind::TsTypeLit => types::TS_TYPE_LIT,
+        Kind::TsPropertySignature => types::TS_PROPERTY_SIGNATURE,
+        Kind::TsQualifiedName => types::TS_QUALIFIED_NAME,
         Kind::Ident | Kind::BindingIdent => &[],
     }
 }

@@ -31,6 +31,8 @@ standing_is w k ts i role.ExportLocal = refl
 standing_is w k ts i role.Label = refl
 standing_is w k ts i role.Imported = refl
 standing_is w k ts i role.Exported = refl
+standing_is w k ts i role.TypeName = refl
+standing_is w k ts i role.TypeReference = refl
 
 pub fields_below : (w : Place) (k : Kind) (ts : List Node) → places_of (below.Fields (fields_are w k ts)) ts ≡ place_below w (Tree k ts)
 fields_below w k ts = λ j i. (ap (λ s. record (places_of (below.Fields (fields_are w k ts)) ts i) { standing = s }) (standing_is w k ts i (field_role k i)) ∙ sym (ap (λ y. place_in w y i) (outs-Tree k ts))) j

@@ -104,6 +104,8 @@ impl Fields {
             Role::Label => Standing::Label,
             Role::Imported => Standing::Imported,
             Role::Exported => Standing::Exported,
+            Role::TypeName => Standing::TypeName,
+            Role::TypeReference => Standing::TypeReference,
         }
     }
 }

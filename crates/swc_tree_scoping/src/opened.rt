@@ -5,6 +5,7 @@ ghost use Rattle.swc_tree_scoping.specs.Places.{is_inside as is_in, is_there as 
 use crate::places::{Place, Scope, Standing, View};
 use swc_tree_node::fields::{
     arrow_expr, catch_clause, constructor, function, getter_prop, setter_prop, switch_stmt,
+    ts_enum_decl, ts_interface_decl, ts_module_decl, ts_type_alias_decl,
 };
 use swc_tree_node::{Kind, Node};
 
@@ -45,6 +46,8 @@ pub fn opened_by(place: Place, kind: Kind, has_name: bool) -> Option<Scope>
         Kind::SwitchStmt => Some(Scope::Switch),
         Kind::CatchClause => Some(Scope::Catch),
         Kind::StaticBlock => Some(Scope::StaticBlock),
+        Kind::TsInterfaceDecl | Kind::TsTypeAliasDecl | Kind::TsEnumDecl => Some(Scope::Types),
+        Kind::TsModuleDecl => Some(Scope::Namespace),
         _ => None,
     }
 }
@@ -89,6 +92,10 @@ fn outer_field(kind: Kind) -> Option<usize>
         Kind::GetterProp => Some(getter_prop::KEY),
         Kind::SetterProp => Some(setter_prop::KEY),
         Kind::SwitchStmt => Some(switch_stmt::DISCRIMINANT),
+        Kind::TsInterfaceDecl => Some(ts_interface_decl::ID),
+        Kind::TsTypeAliasDecl => Some(ts_type_alias_decl::ID),
+        Kind::TsEnumDecl => Some(ts_enum_decl::ID),
+        Kind::TsModuleDecl => Some(ts_module_decl::ID),
         _ => None,
     }
 }
@@ -120,6 +127,7 @@ pub fn nests(scope: Scope, nested: bool) -> bool
     match scope {
         Scope::Block | Scope::Switch | Scope::Catch => true,
         Scope::For | Scope::FunctionName | Scope::ClassName => nested,
-        Scope::Program | Scope::Function | Scope::StaticBlock => false,
+        Scope::Program | Scope::Function | Scope::StaticBlock | Scope::Types | Scope::Namespace =>
+            false,
     }
 }

@@ -40,6 +40,10 @@ pub enum Standing {
     Branch,
     /// A declaration that is the default export.
     DefaultExport,
+    /// The name of an interface, an alias or a type parameter: that of a type alone.
+    TypeName,
+    /// A type by its name.
+    TypeReference,
 }
 
 /// Where a node stands: as what, whether in strict code, and whether in a block, a case list or a catch body
@@ -69,6 +73,10 @@ pub enum Scope {
     /// A catch clause's parameter and body.
     Catch,
     StaticBlock,
+    /// An interface, an alias or an enum: its type parameters or its members.
+    Types,
+    /// The body of a namespace.
+    Namespace,
 }
 
 /// How much of a scope is seen from a part of the node that opens it.

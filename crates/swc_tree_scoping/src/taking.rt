@@ -4,11 +4,14 @@ ghost use Rattle.swc_tree_scoping.specs.Scopes.{is_binding as binds, is_referenc
 
 use crate::places::{Scope, Standing};
 
-/// Whether a scope is a function's, a static block's or the program's: those that take what `var` declares.
+/// Whether a scope is a function's, a static block's, a namespace's or the program's: those that take what `var` declares.
 pub fn is_variable_scope(scope: Scope) -> bool
     ensures { result ≡ takes_variables scope }
 {
-    matches!(scope, Scope::Program | Scope::Function | Scope::StaticBlock)
+    matches!(
+        scope,
+        Scope::Program | Scope::Function | Scope::StaticBlock | Scope::Namespace
+    )
 }
 
 fn is_name_scope(scope: Scope) -> bool
@@ -27,11 +30,20 @@ pub fn takes(standing: Standing, scope: Scope) -> bool
         Standing::BlockFunction | Standing::SloppyFunction => {
             !is_name_scope(scope) && scope != Scope::For
         }
-        Standing::Parameter => matches!(scope, Scope::Function | Scope::Program),
-        Standing::CatchParameter => matches!(scope, Scope::Catch | Scope::Program),
-        Standing::Import => matches!(scope, Scope::Program),
-        Standing::FunctionName => matches!(scope, Scope::FunctionName | Scope::Program),
-        Standing::ClassName => matches!(scope, Scope::ClassName | Scope::Program),
+        Standing::Parameter => matches!(scope, Scope::Function | Scope::Program | Scope::Namespace),
+        Standing::CatchParameter => matches!(
+            scope,
+            Scope::Catch | Scope::Program | Scope::Namespace
+        ),
+        Standing::Import => matches!(scope, Scope::Program | Scope::Namespace),
+        Standing::FunctionName => matches!(
+            scope,
+            Scope::FunctionName | Scope::Program | Scope::Namespace
+        ),
+        Standing::ClassName => matches!(
+            scope,
+            Scope::ClassName | Scope::Program | Scope::Namespace
+        ),
         _ => false,
     }
 }

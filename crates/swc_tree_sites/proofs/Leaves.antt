@@ -39,6 +39,8 @@ same standing.DefaultExport standing.DefaultExport = true
 same standing.Label standing.Label = true
 same standing.Imported standing.Imported = true
 same standing.Exported standing.Exported = true
+same standing.TypeName standing.TypeName = true
+same standing.TypeReference standing.TypeReference = true
 same _ _ = false
 
 pub same_refl : (r : Standing) → same r r ≡ true
@@ -127,6 +129,8 @@ leaves_kind kind.DoWhileStmt = leaves_statements
 leaves_kind kind.ForStmt = leaves_statements
 leaves_kind kind.ForInStmt = leaves_statements
 leaves_kind kind.ForOfStmt = leaves_statements
+leaves_kind kind.TsEnumDecl = leaves_statements
+leaves_kind kind.TsModuleDecl = leaves_statements
 leaves_kind _ = leaves_none
 
 abbrev leaves_kinds : List Kind → Leaves
@@ -152,7 +156,7 @@ leaves_slot _ = leaves_none
 abbrev leaves_number : ℕ → Leaves
 leaves_number n = record {
   own = (n == 13 || n == 14) || ((nat_le 48 n && nat_le n 53) || n == 80);
-  by_statements = nat_le 76 n && not (n == 80);
+  by_statements = (nat_le 76 n && (nat_le n 96 && not (n == 80))) || (n == 100 || n == 102);
   parameters = n == 33;
   any = nat_le n 12;
 }
@@ -220,6 +224,7 @@ takes_surely kind.GetterProp i r = takes r scope.Function
 takes_surely kind.SetterProp i r = takes r scope.Function
 takes_surely kind.StaticBlock i r = takes r scope.StaticBlock
 takes_surely kind.CatchClause i r = takes r scope.Catch
+takes_surely kind.TsModuleDecl i r = takes r scope.Namespace
 takes_surely kind.FnExpr zero r = takes r scope.FunctionName
 takes_surely kind.ClassExpr zero r = takes r scope.ClassName
 takes_surely _ i r = false
@@ -266,6 +271,8 @@ each_binding g h standing.DefaultExport b = absurd (cc)
 each_binding g h standing.Label b = absurd (cc)
 each_binding g h standing.Imported b = absurd (cc)
 each_binding g h standing.Exported b = absurd (cc)
+each_binding g h standing.TypeName b = absurd (cc)
+each_binding g h standing.TypeReference b = absurd (cc)
 each_binding g h standing.Variable b = grind arith
 each_binding g h standing.Lexical b = grind arith
 each_binding g h standing.Function b = grind arith

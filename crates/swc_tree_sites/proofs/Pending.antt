@@ -55,6 +55,10 @@ apart standing.Imported standing.Imported a b = absurd (cc)
 apart standing.Imported _ a b = refl
 apart standing.Exported standing.Exported a b = absurd (cc)
 apart standing.Exported _ a b = refl
+apart standing.TypeName standing.TypeName a b = absurd (cc)
+apart standing.TypeName _ a b = refl
+apart standing.TypeReference standing.TypeReference a b = absurd (cc)
+apart standing.TypeReference _ a b = refl
 apart _ r a b = absurd (cc)
 
 -- the standing of a field, by its role
@@ -141,6 +145,8 @@ own_so w k ts i role.ExportLocal r d b h = exported_so (is_there (slice_get ts 2
 own_so w k ts i role.Label r d b h = never standing.Label r false refl b h
 own_so w k ts i role.Imported r d b h = never standing.Imported r false refl b h
 own_so w k ts i role.Exported r d b h = never standing.Exported r false refl b h
+own_so w k ts i role.TypeName r d b h = never standing.TypeName r false refl b h
+own_so w k ts i role.TypeReference r d b h = never standing.TypeReference r false refl b h
 
 -- only where anything may be left does a default export stand
 keyword_default : (ts : List Node) → is_default (by_keyword ts) ≡ true → ⊥
@@ -202,6 +208,7 @@ surely w kind.GetterProp ts i r c d e there h = h
 surely w kind.SetterProp ts i r c d e there h = h
 surely w kind.StaticBlock ts i r c d e there h = h
 surely w kind.CatchClause ts i r c d e there h = h
+surely w kind.TsModuleDecl ts i r c d e there h = h
 surely w kind.FnExpr ts zero r c d e there h = name_scoped w.standing scope.FunctionName r (is_there (slice_get ts 0)) d (ap is_there e ∙ there) h
 surely w kind.FnExpr ts (suc i) r c d e there h = absurd (cc)
 surely w kind.ClassExpr ts zero r c d e there h = name_scoped w.standing scope.ClassName r (is_there (slice_get ts 0)) d (ap is_there e ∙ there) h

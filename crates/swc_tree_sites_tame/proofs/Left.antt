@@ -537,6 +537,10 @@ ending_kind kind.VarDecl ts bs h = absurd (cc)
 ending_kind kind.FnDecl ts bs h = absurd (cc)
 ending_kind kind.ClassDecl ts bs h = absurd (cc)
 ending_kind kind.UsingDecl ts bs h = absurd (cc)
+ending_kind kind.TsInterfaceDecl ts bs h = absurd (cc)
+ending_kind kind.TsTypeAliasDecl ts bs h = absurd (cc)
+ending_kind kind.TsEnumDecl ts bs h = absurd (cc)
+ending_kind kind.TsModuleDecl ts bs h = absurd (cc)
 ending_kind _ ts bs h = refl
 
 ending : (t : Node) → takes_else t ≡ true → is_branch true (form t) ≡ true

@@ -242,6 +242,10 @@ row kind.ExportNamespaceSpecifier (more _ q _ (more _ o _ none)) a n h = also (q
 row kind.ExportDecl (more _ q _ (more _ _ x none)) a n h = let p = half h in also (q refl) (also (x.by_sound refl a p.1) refl)
 row kind.Module (more _ q _ (more _ _ x (more _ o _ none))) a n h = also (q refl) (also (x.by_sound refl false h) (also (o refl) refl))
 row kind.Script (more _ q _ (more _ _ x (more _ o _ none))) a n h = let p = half h in also (q refl) (also (x.by_sound refl false p.1) (also (o refl) refl))
+row kind.TsInterfaceDecl d a n h = absurd (cc)
+row kind.TsTypeAliasDecl d a n h = absurd (cc)
+row kind.TsEnumDecl d a n h = absurd (cc)
+row kind.TsModuleDecl d a n h = absurd (cc)
 row k d a n h = all (fields_of k) d refl h
 
 -- of an `if` also what its first branch holds

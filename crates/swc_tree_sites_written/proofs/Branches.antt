@@ -103,6 +103,8 @@ module _ (r : Standing) (n : Bool) (c : Node) (i : ℕ) (views : ℕ → View) (
   scoped scope.Program v at absent_there = inl refl
   scoped scope.Function v at absent_there = inl refl
   scoped scope.StaticBlock v at absent_there = inl refl
+  scoped scope.Types v at absent_there = inl refl
+  scoped scope.Namespace v at absent_there = inl refl
   scoped scope.For v at absent_there = inr (
     r,
     n,

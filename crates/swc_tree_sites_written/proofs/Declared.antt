@@ -156,6 +156,10 @@ may_open kind.ForOfStmt = true
 may_open kind.SwitchStmt = true
 may_open kind.CatchClause = true
 may_open kind.StaticBlock = true
+may_open kind.TsInterfaceDecl = true
+may_open kind.TsTypeAliasDecl = true
+may_open kind.TsEnumDecl = true
+may_open kind.TsModuleDecl = true
 may_open _ = false
 
 opened_none : (k : Kind) (w : Place) (b : Bool) → may_open k ≡ false → opened_as w k b ≡ None
@@ -176,6 +180,10 @@ opened_none kind.ForOfStmt w b e = absurd (cc)
 opened_none kind.SwitchStmt w b e = absurd (cc)
 opened_none kind.CatchClause w b e = absurd (cc)
 opened_none kind.StaticBlock w b e = absurd (cc)
+opened_none kind.TsInterfaceDecl w b e = absurd (cc)
+opened_none kind.TsTypeAliasDecl w b e = absurd (cc)
+opened_none kind.TsEnumDecl w b e = absurd (cc)
+opened_none kind.TsModuleDecl w b e = absurd (cc)
 opened_none _ w b e = refl
 
 open_roles : (k : Kind) → (not (may_open k) || list_all (λ f. not (is_bound_role f.2)) (fields_of k)) ≡ true
@@ -244,6 +252,12 @@ using_roles (suc zero) h = absurd (cc)
 using_roles (suc (suc zero)) h = absurd (cc)
 using_roles (suc (suc (suc i))) h = absurd (cc)
 
+-- no part of a type, an enum or a namespace stands as it does
+inherited_at : (fs : List Field) (i : ℕ) → list_all (λ f. not (is_inherited f.2)) fs ≡ true → is_inherited (unwrap_or (option_map (λ f. f.2) (slice_get fs i)) role.Plain) ≡ true → ⊥
+inherited_at [] i h e = absurd (cc)
+inherited_at (f ∷ fs) zero h e = let z = sym (ap not e) ∙ (both_are (not (is_inherited f.2)) (list_all (λ f. not (is_inherited f.2)) fs) h).0 in absurd (cc)
+inherited_at (f ∷ fs) (suc i) h e = inherited_at fs i (both_are (not (is_inherited f.2)) (list_all (λ f. not (is_inherited f.2)) fs) h).1 e
+
 abbrev pub Declared : Node → Type 0
 Declared d = AllIn (declared_ids d) (S (P standing.Plain false) d).pending
 
@@ -280,6 +294,16 @@ class_declared a c f =
     (ids_in (Tree kind.ClassDecl (Identifier j i ∷ c ∷ [])) _ (outs-Tree kind.ClassDecl (Identifier j i ∷ c ∷ []))
     (named_declared kind.ClassDecl j i c standing.Lexical refl refl (out_step (P standing.Plain false) (Tree kind.ClassDecl (Identifier j i ∷ c ∷ [])) _ (outs-Tree kind.ClassDecl (Identifier j i ∷ c ∷ [])))))
 
+-- what has no part that binds as it does
+plainly_declared : (k : Kind) (ts : List Node) → written_out (Tree k ts) ≡ Tree k (map written_out ts)
+    → declared_in (Tree k (map written_out ts)) (Node-F.Tree k (map written_out ts)) ≡ bound_ids (Tree k (map written_out ts)) → list_all (λ f. not (is_inherited f.2)) (fields_of k) ≡ true → Declared (written_out (Tree k ts))
+plainly_declared k ts is own none =
+    let us = map written_out ts in
+    subst Declared (sym is)
+    (ids_in (Tree k us) _ (outs-Tree k us)
+    (subst (λ ids. AllIn ids (S (P standing.Plain false) (Tree k us)).pending) (sym own)
+    (tree_in_place k us standing.Plain false (each_of BoundIn us bound_in) (λ i e. absurd (inherited_at (fields_of k) i none e)))))
+
 declared_tree : (k : Kind) (ts : List Node) → IsTrue (not (is_identifier k)) → IsTrue (belongs k class.Decl) → FieldsFit (slots_of k) ts → Declared (written_out (Tree k ts))
 declared_tree kind.FnDecl (a ∷ c ∷ []) i b f = subst Declared (sym (written_tree kind.FnDecl (a ∷ c ∷ []) ∙ rolls-Tree kind.FnDecl (written_out a ∷ written_out c ∷ []))) (function_declared a (written_out c) f.0)
 declared_tree kind.FnDecl [] i b f = absurd f
@@ -295,6 +319,10 @@ declared_tree kind.VarDecl ts i b f =
 declared_tree kind.UsingDecl ts i b f =
     subst Declared (sym (written_tree kind.UsingDecl ts ∙ rolls-Tree kind.UsingDecl (map written_out ts)))
     (ids_in (Tree kind.UsingDecl (map written_out ts)) _ (outs-Tree kind.UsingDecl (map written_out ts)) (tree_in_place kind.UsingDecl (map written_out ts) standing.Plain false (each_of BoundIn (map written_out ts) bound_in) (λ i e. absurd (using_roles i e))))
+declared_tree kind.TsInterfaceDecl ts i b f = plainly_declared kind.TsInterfaceDecl ts (written_tree kind.TsInterfaceDecl ts ∙ rolls-Tree kind.TsInterfaceDecl (map written_out ts)) refl refl
+declared_tree kind.TsTypeAliasDecl ts i b f = plainly_declared kind.TsTypeAliasDecl ts (written_tree kind.TsTypeAliasDecl ts ∙ rolls-Tree kind.TsTypeAliasDecl (map written_out ts)) refl refl
+declared_tree kind.TsEnumDecl ts i b f = plainly_declared kind.TsEnumDecl ts (written_tree kind.TsEnumDecl ts ∙ rolls-Tree kind.TsEnumDecl (map written_out ts)) refl refl
+declared_tree kind.TsModuleDecl ts i b f = plainly_declared kind.TsModuleDecl ts (written_tree kind.TsModuleDecl ts ∙ rolls-Tree kind.TsModuleDecl (map written_out ts)) refl refl
 declared_tree _ ts i b f = absurd (cc)
 
 -- what a declaration binds, written out, is pending at it

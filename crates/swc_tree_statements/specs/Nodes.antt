@@ -43,6 +43,7 @@ use Rattle.swc_tree_statements.specs.declared.for_head.ForHead.TheVariants as fo
 use Rattle.swc_tree_handle.specs.Handles.{ident_node, optional_node}
 use Rattle.swc_tree_leaves.specs.Nodes.{break_stmt_node, continue_stmt_node, debugger_stmt_node, empty_stmt_node}
 use Rattle.swc_tree_patterns.specs.Nodes.{of_pat}
+use Rattle.swc_tree_types.specs.Nodes.{ts_enum_decl_node, ts_interface_decl_node, ts_module_decl_node, ts_type_alias_decl_node}
 
 abbrev pub var_decl_kind_word : VarDeclKind → Word
 var_decl_kind_word var_decl_kind.Var = word.Var
@@ -117,6 +118,10 @@ of_decl (decl.Class x) = class_decl_node x
 of_decl (decl.Fn x) = fn_decl_node x
 of_decl (decl.Var x) = var_decl_node x
 of_decl (decl.Using x) = using_decl_node x
+of_decl (decl.TsInterface x) = ts_interface_decl_node x
+of_decl (decl.TsTypeAlias x) = ts_type_alias_decl_node x
+of_decl (decl.TsEnum x) = ts_enum_decl_node x
+of_decl (decl.TsModule x) = ts_module_decl_node x
 
 abbrev pub of_stmt : Stmt → Node
 of_stmt (stmt.Block x) = block_stmt_node x

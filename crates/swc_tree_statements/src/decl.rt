@@ -13,6 +13,7 @@ use crate::var_decl::VarDecl;
 use std::alloc::{AllocError, Global};
 use swc_tree_handle::{Opened, Tree, class};
 use swc_tree_node::{Kind, Node};
+use swc_tree_types::{TsEnumDecl, TsInterfaceDecl, TsModuleDecl, TsTypeAliasDecl};
 
 /// A declaration (ECMA-262, Declaration and VariableStatement).
 #[derive(Clone, Debug, Drop, PartialEq, Eq)]
@@ -21,6 +22,10 @@ pub enum Decl {
     Fn(FnDecl),
     Var(VarDecl),
     Using(UsingDecl),
+    TsInterface(TsInterfaceDecl),
+    TsTypeAlias(TsTypeAliasDecl),
+    TsEnum(TsEnumDecl),
+    TsModule(TsModuleDecl),
 }
 
 impl Opened<class::Decl> for Decl {
@@ -38,6 +43,14 @@ impl Opened<class::Decl> for Decl {
             Kind::FnDecl => Decl::Fn(tree.narrow::<class::FnDecl>().open()),
             Kind::VarDecl => Decl::Var(tree.narrow::<class::VarDecl>().open()),
             Kind::UsingDecl => Decl::Using(tree.narrow::<class::UsingDecl>().open()),
+            Kind::TsInterfaceDecl => Decl::TsInterface(
+                tree.narrow::<class::TsInterfaceDecl>().open(),
+            ),
+            Kind::TsTypeAliasDecl => Decl::TsTypeAlias(
+                tree.narrow::<class::TsTypeAliasDecl>().open(),
+            ),
+            Kind::TsEnumDecl => Decl::TsEnum(tree.narrow::<class::TsEnumDecl>().open()),
+            Kind::TsModuleDecl => Decl::TsModule(tree.narrow::<class::TsModuleDecl>().open()),
             _ => unreachable!(),
         }
     }
@@ -50,6 +63,10 @@ impl Opened<class::Decl> for Decl {
             Decl::Fn(opened) => opened.close_within::<class::Decl>(alloc),
             Decl::Var(opened) => opened.close_within::<class::Decl>(alloc),
             Decl::Using(opened) => opened.close_within::<class::Decl>(alloc),
+            Decl::TsInterface(opened) => opened.close_within::<class::Decl>(alloc),
+            Decl::TsTypeAlias(opened) => opened.close_within::<class::Decl>(alloc),
+            Decl::TsEnum(opened) => opened.close_within::<class::Decl>(alloc),
+            Decl::TsModule(opened) => opened.close_within::<class::Decl>(alloc),
         }
     }
 }

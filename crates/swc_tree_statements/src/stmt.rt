@@ -78,9 +78,14 @@ impl Opened<class::Stmt> for Stmt {
             Kind::ForStmt => Stmt::For(tree.narrow::<class::ForStmt>().open()),
             Kind::ForInStmt => Stmt::ForIn(tree.narrow::<class::ForInStmt>().open()),
             Kind::ForOfStmt => Stmt::ForOf(tree.narrow::<class::ForOfStmt>().open()),
-            Kind::ClassDecl | Kind::FnDecl | Kind::VarDecl | Kind::UsingDecl => Stmt::Decl(
-                tree.narrow::<class::Decl>().open(),
-            ),
+            Kind::ClassDecl
+            | Kind::FnDecl
+            | Kind::VarDecl
+            | Kind::UsingDecl
+            | Kind::TsInterfaceDecl
+            | Kind::TsTypeAliasDecl
+            | Kind::TsEnumDecl
+            | Kind::TsModuleDecl => Stmt::Decl(tree.narrow::<class::Decl>().open()),
             Kind::ExprStmt => Stmt::Expr(tree.narrow::<class::ExprStmt>().open()),
             _ => unreachable!(),
         }

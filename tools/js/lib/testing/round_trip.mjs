@@ -1,4 +1,4 @@
-// Each sample goes to a tree, to text and to a tree again; together they have every kind and every word of the table.
+// Each sample goes to a tree, to text and to a tree again; together they have every kind of JavaScript and every word of the table.
 import assert from 'node:assert/strict';
 import { readdirSync, readFileSync } from 'node:fs';
 import { print } from '../print.mjs';
@@ -35,7 +35,7 @@ function seen() {
 }
 
 function complete() {
-  const wanted = [...structs.keys()];
+  const wanted = [...structs.keys()].filter((kind) => !kind.startsWith('Ts'));
   for (const [list, spellings] of words) {
     wanted.push(...[...spellings].map((spelling) => `${list} ${spelling}`));
   }
@@ -45,5 +45,5 @@ function complete() {
 
 export const ROUND_TRIPS = [
   ...samples.map((name) => [`round trip of ${name}`, () => roundTrip(name)]),
-  ['every kind and word of tools/tree.txt is in a sample', complete],
+  ['every kind and word of tools/tree.txt but those of types is in a sample', complete],
 ];

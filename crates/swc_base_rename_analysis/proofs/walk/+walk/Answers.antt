@@ -3,7 +3,7 @@ use Rattle.std.proofs.lemmas.Option.{slice_get_past, slice_get_read}
 use Rattle.swc_tree_node.specs.declared.node.Node.{List as Many, Tree}
 use Rattle.swc_tree_scoping.specs.Below.{places_of}
 use Rattle.swc_base_rename_analysis.specs.Walk.{child_at, in_turn, laid_of, outside_of, turns_of, walk_but, walk_in, walks_at}
-use Rattle.swc_base_rename_analysis.proofs.Layers.{field_walked, list_walked, name_walked, nameless_field_walked, no_field_walked, one_turn_more, scope_walked, tree_walked, turns_walked}
+use Rattle.swc_base_rename_analysis.proofs.Layers.{field_walked, list_walked, name_walked, nameless_but_walked, nameless_field_walked, no_field_walked, one_turn_more, scope_walked, tree_walked, turns_walked}
 use Rattle.swc_base_rename_analysis.proofs.walk.+walk.Goals as goal
 
 -- src/walk.rt
@@ -72,6 +72,12 @@ walk_field-returns-in-Some t c =
     let found = c.in-Some.ensures.lookup in
     let there = slice_get_read c.args.fields.now _ c.args.index c.in-Some.child.now refl found.3.0 found.1 in
     nameless_field_walked c.args.head.now.kind c.args.fields.now (places_of c.args.head.now.places c.args.fields.now) c.args.index c.in-Some.child.now there (sym c.may_hold_names.ensures ∙ c.if-not-may_hold_names.true) (outside_of c.args.around.now) (laid_of c.args.layout.now)
+
+pub walk_but-returns-then-not-may_hold_names : goal.walk_but-returns-then-not-may_hold_names
+walk_but-returns-then-not-may_hold_names t c =
+    let found = c.in-Some.ensures.lookup in
+    let there = slice_get_read c.args.fields.now _ c.args.index c.in-Some.child.now refl found.3.0 found.1 in
+    nameless_but_walked c.args.head.now.kind c.args.fields.now (places_of c.args.head.now.places c.args.fields.now) c.args.but c.args.index c.in-Some.child.now there (sym c.may_hold_names.ensures ∙ c.if-not-may_hold_names.true) (outside_of c.args.around.now) (laid_of c.args.layout.now)
 
 pub walk_branch-returns : goal.walk_branch-returns
 walk_branch-returns t c =

@@ -10,5 +10,5 @@ returns-in-Some c =
     let got = slice_get_read c.args.tables.now.items _ c.args.number c.in-Some.names.now refl within.0 here in
     record {
       size = IfOk-weaker c.insert.result _ _ (λ x h. length-set c.args.tables.now.items c.args.number c.insert.new.self) c.insert.ensures;
-      tables = IfOk-weaker c.insert.result _ _ (λ x h. added c.args.tables.now.items _ c.args.number c.in-Some.names.now c.insert.new.self c.args.name.now c.args.standing got refl h) c.insert.ensures;
+      tables = IfOk-weaker c.insert.result _ _ (λ x h. added c.args.tables.now.items _ c.args.number c.in-Some.names.now c.insert.new.self c.args.name.now c.args.ways got refl h) c.insert.ensures;
     }

@@ -1,4 +1,4 @@
-use Rattle.std.proofs.Common.{ℕ, List, length, arith, rules, refl, sym, ap, ◌∙◌, length-set}
+use Rattle.std.proofs.Common.{ℕ, Bool, List, length, arith, rules, refl, sym, ap, ◌∙◌, length-set}
 use Rattle.std.specs.List.{slice_get}
 use Rattle.std.specs.Option.{is_some, option_map}
 use Rattle.std.proofs.lemmas.Result.{on_ok_weaker}
@@ -10,7 +10,7 @@ use Rattle.swc_tree_scoping.specs.Folds.{each_in}
 use Rattle.swc_tree_scoping.specs.Below.{fields_are, place_of, places_of, scope_of_fields, view_of}
 use Rattle.swc_tree_scoping.specs.Scopes.{one_if, scope_count, total}
 use Rattle.swc_base_resolver_program.specs.Lookup.{Open, layers}
-use Rattle.swc_base_resolver_program.specs.Walks.{marking_in, sees, written}
+use Rattle.swc_base_resolver_program.specs.Walks.{exports_at, marking_in, sees, sees_in, written}
 use Rattle.swc_tree_scoping.specs.Resolved.{remarked}
 use Rattle.swc_base_resolver_program.proofs.Counted.{total_next, total_part}
 use Rattle.swc_base_resolver_program.proofs.Gathered.{counted, known_list, known_tree, leaf_counts_none}
@@ -31,9 +31,9 @@ resolve-resolve_children-requires t c =
     let node = c.args.node.now in
     let list = list_of_children node items items (sym c.in-None.is ∙ c.kind-kind.ensures) (sym (ap (option_map (λ r. r.now)) c.in-Some.is) ∙ c.children_mut.ensures.value) in
     let is = list.0 in
-    let known = known_list c.args.place node items c.places_of_items.result is c.places_of_items.ensures in
-    let all = counted c.args.place node items c.places_of_items.result known in
-    let none = ap (λ p. one_if (is_some (scope_of_fields p))) c.places_of_items.ensures in
+    let known = known_list c.args.place node items c.places_of_items-places.result is c.places_of_items-places.ensures in
+    let all = counted c.args.place node items c.places_of_items-places.result known in
+    let none = ap (λ p. one_if (is_some (scope_of_fields p))) c.places_of_items-places.ensures in
     (search (rules, the_lemmas, is), omega (arith, all, none, c.requires))
 
 pub resolve-returns-in-None : goal.resolve-returns-in-None
@@ -41,13 +41,13 @@ resolve-returns-in-None t c =
     let items = c.in-Some.children.now in
     let node = c.args.node.now in
     let list = list_of_children node items c.resolve_children.new.nodes (sym c.in-None.is ∙ c.kind-kind.ensures) (sym (ap (option_map (λ r. r.now)) c.in-Some.is) ∙ c.children_mut.ensures.value) in
-    let known = known_list c.args.place node items c.places_of_items.result list.0 c.places_of_items.ensures in
-    let all = counted c.args.place node items c.places_of_items.result known in
-    let none = ap (λ p. one_if (is_some (scope_of_fields p))) c.places_of_items.ensures in
+    let known = known_list c.args.place node items c.places_of_items-places.result list.0 c.places_of_items-places.ensures in
+    let all = counted c.args.place node items c.places_of_items-places.result known in
+    let none = ap (λ p. one_if (is_some (scope_of_fields p))) c.places_of_items-places.ensures in
     record {
       answer = on_ok_weaker c.resolve_children.result
-          (λ done. list.1 ∙ list_done (marking_in c.args.answers.now) c.args.place node items c.places_of_items.result known (layers c.args.env.now) c.args.next.now c.resolve_children.new.nodes (sees c.plain-views.result)
-          list.0 (sym (ap scope_of_fields c.places_of_items.ensures)) c.plain-views.ensures done)
+          (λ done. list.1 ∙ list_done (marking_in c.args.answers.now) c.args.place node items c.places_of_items-places.result known c.args.around.exported (λ _. c.args.around.exported) (layers c.args.around.env.now) c.args.next.now c.resolve_children.new.nodes (λ _. layers c.args.around.env.now)
+          list.0 (λ _. refl) (sym (ap scope_of_fields c.places_of_items-places.ensures)) (λ _. refl) done)
           c.resolve_children.ensures.answer;
       next = on_ok_weaker c.resolve_children.result (λ next. omega (arith, all, none, next)) c.resolve_children.ensures.next;
     }
@@ -92,7 +92,7 @@ resolve_fields-returns-in_ok-resolve_children-in-None-clause-answer t c =
     let kind = c.args.kind in
     let ts = c.args.fields.now in
     let known = known_tree c.args.place (Tree kind ts) ts c.places_of_fields-places.result kind refl (c.places_of_fields-places.ensures ∙ ap (λ ts. Fields (fields_are c.args.place kind ts)) c.as_slice.ensures) in
-    plain_done (marking_in c.args.answers.now) c.args.place (Tree kind ts) ts c.places_of_fields-places.result known (layers c.args.env.now) c.args.next.now _ (sees c.plain-views.result) kind refl c.in-None.ensures c.plain-views.ensures c.in_ok-resolve_children-in-None.ensures.answer
+    plain_done (marking_in c.args.answers.now) c.args.place (Tree kind ts) ts c.places_of_fields-places.result known c.args.around.exported (exports_at c.exports_of-exports.result) (layers c.args.around.env.now) c.args.next.now _ (λ _. layers c.args.around.env.now) kind refl (c.exports_of-exports.ensures ts) c.in-None.ensures (λ _. refl) c.in_ok-resolve_children-in-None.ensures.answer
 
 pub resolve_fields-returns-in_ok-resolve_children-in-None-clause-next : goal.resolve_fields-returns-in_ok-resolve_children-in-None-clause-next
 resolve_fields-returns-in_ok-resolve_children-in-None-clause-next t c =
@@ -111,7 +111,7 @@ resolve_fields-returns-in_ok-resolve_children-in-Some-clause-answer t c =
     let kind = c.args.kind in
     let ts = c.args.fields.now in
     let known = known_tree c.args.place (Tree kind ts) ts c.places_of_fields-places.result kind refl (c.places_of_fields-places.ensures ∙ ap (λ ts. Fields (fields_are c.args.place kind ts)) c.as_slice.ensures) in
-    scope_done (marking_in c.args.answers.now) c.args.place (Tree kind ts) ts c.places_of_fields-places.result known (layers c.args.env.now) c.args.next.now _ (sees c.opened-inside.result) kind c.in-Some.scope _ refl c.in-Some.ensures c.opened-inside.ensures refl c.in_ok-resolve_children-in-Some.ensures.answer
+    scope_done (marking_in c.args.answers.now) c.args.place (Tree kind ts) ts c.places_of_fields-places.result known c.args.around.exported (exports_at c.exports_of-exports.result) (layers c.args.around.env.now) c.args.next.now _ (sees_in c.new-inside.result) kind c.in-Some.scope _ refl (c.exports_of-exports.ensures ts) c.in-Some.ensures c.new-inside.ensures refl c.in_ok-resolve_children-in-Some.ensures.answer
 
 pub resolve_fields-returns-in_ok-resolve_children-in-Some-clause-next : goal.resolve_fields-returns-in_ok-resolve_children-in-Some-clause-next
 resolve_fields-returns-in_ok-resolve_children-in-Some-clause-next t c =
@@ -131,11 +131,12 @@ resolve_children-resolve-requires t c =
     let ts = c.args.nodes.now in
     let ps = places_of c.args.places ts in
     let i = c.loop-i.i in
-    let envs : ℕ → List Open = λ i. sees c.args.views.now (view_of c.args.places i) in
+    let envs : ℕ → List Open = λ i. sees c.args.views (view_of c.args.places i) in
+    let es : ℕ → Bool = λ i. exports_at c.args.exports i in
     let item = c.index-as_slice-i.result in
     let long = ap length c.as_slice.ensures in
     let taken = sym (ap (λ ts. slice_get ts i) c.as_slice.ensures) ∙ slice_get_read c.as_slice.result.now _ i item refl (omega (arith, long)) c.index-as_slice-i.is in
-    let here = child_is a envs ts c.loop-i.nodes ps c.args.next.now i c.loop-i.next item (omega arith) c.loop-i.invariant.done taken in
+    let here = child_is a es envs ts c.loop-i.nodes ps c.args.next.now i c.loop-i.next item (omega arith) c.loop-i.invariant.done taken in
     let got = some_same (sym c.item_mut.ensures.value ∙ taken) in
     let stood = c.at-place.ensures ∙ ap (place_of c.args.places i) (sym here) in
     let same = ap (λ w. scope_count w c.item_mut.result.now) stood ∙ ap (scope_count (ps i)) got in
@@ -149,20 +150,21 @@ resolve_children-loop-i-preserved t c =
     let ts = c.args.nodes.now in
     let ps = places_of c.args.places ts in
     let i = c.loop-i.i in
-    let envs : ℕ → List Open = λ i. sees c.args.views.now (view_of c.args.places i) in
+    let envs : ℕ → List Open = λ i. sees c.args.views (view_of c.args.places i) in
+    let es : ℕ → Bool = λ i. exports_at c.args.exports i in
     let item = c.index-as_slice-i.result in
     let long = ap length c.as_slice.ensures in
     let taken = sym (ap (λ ts. slice_get ts i) c.as_slice.ensures) ∙ slice_get_read c.as_slice.result.now _ i item refl (omega (arith, long)) c.index-as_slice-i.is in
-    let here = child_is a envs ts c.loop-i.nodes ps c.args.next.now i c.loop-i.next item (omega arith) c.loop-i.invariant.done taken in
+    let here = child_is a es envs ts c.loop-i.nodes ps c.args.next.now i c.loop-i.next item (omega arith) c.loop-i.invariant.done taken in
     let got = some_same (sym c.item_mut.ensures.value ∙ taken) in
     let stood = c.at-place.ensures ∙ ap (place_of c.args.places i) (sym here) in
     let same = ap (λ w. scope_count w c.item_mut.result.now) stood ∙ ap (scope_count (ps i)) got in
     let next = total_next ps ts i item here in
-    let env_is = c.seen-env.ensures ∙ ap (sees c.args.views.now) c.view.ensures in
+    let env_is = c.seen-env.ensures ∙ ap (sees c.args.views) c.view.ensures in
     record {
       size = simp length-set c.loop-i.invariant.size;
-      done = child_done a envs ts c.loop-i.nodes ps c.args.next.now i c.loop-i.next item (omega arith) c.loop-i.invariant.done taken
-          c.loop-i.invariant.count (layers c.seen-env.result.now) c.at-place.result env_is stood c.resolve.new.node (c.in_ok-resolve.ensures.answer ∙ ap (λ t. remarked (written a (layers c.seen-env.result.now) c.loop-i.next c.at-place.result t) t) got);
+      done = child_done a es envs ts c.loop-i.nodes ps c.args.next.now i c.loop-i.next item (omega arith) c.loop-i.invariant.done taken
+          c.loop-i.invariant.count c.at-exported.result (layers c.seen-env.result.now) c.at-place.result c.at-exported.ensures env_is stood c.resolve.new.node (c.in_ok-resolve.ensures.answer ∙ ap (λ t. remarked (written a c.at-exported.result (layers c.seen-env.result.now) c.loop-i.next c.at-place.result t) t) got);
       count = omega (arith, next, same, c.loop-i.invariant.count, c.in_ok-resolve.ensures.next);
     }
 
@@ -172,16 +174,17 @@ resolve_children-loop-i-preserved-then-not-may_hold_names t c =
     let ts = c.args.nodes.now in
     let ps = places_of c.args.places ts in
     let i = c.loop-i.i in
-    let envs : ℕ → List Open = λ i. sees c.args.views.now (view_of c.args.places i) in
+    let envs : ℕ → List Open = λ i. sees c.args.views (view_of c.args.places i) in
+    let es : ℕ → Bool = λ i. exports_at c.args.exports i in
     let item = c.index-as_slice-i.result in
     let long = ap length c.as_slice.ensures in
     let taken = sym (ap (λ ts. slice_get ts i) c.as_slice.ensures) ∙ slice_get_read c.as_slice.result.now _ i item refl (omega (arith, long)) c.index-as_slice-i.is in
-    let here = child_is a envs ts c.loop-i.nodes ps c.args.next.now i c.loop-i.next item (omega arith) c.loop-i.invariant.done taken in
+    let here = child_is a es envs ts c.loop-i.nodes ps c.args.next.now i c.loop-i.next item (omega arith) c.loop-i.invariant.done taken in
     let told = sym c.may_hold_names.ensures ∙ c.if-not-may_hold_names.true in
     let next = total_next ps ts i item here in
     let none = leaf_counts_none (ps i) item told in
     record {
       size = c.loop-i.invariant.size;
-      done = leaf_done a envs ts c.loop-i.nodes ps c.args.next.now i c.loop-i.next item (omega arith) c.loop-i.invariant.done taken told;
+      done = leaf_done a es envs ts c.loop-i.nodes ps c.args.next.now i c.loop-i.next item (omega arith) c.loop-i.invariant.done taken told;
       count = omega (arith, next, none, c.loop-i.invariant.count);
     }

@@ -34,7 +34,7 @@ returns-clause-done c = (
   refl,
   λ known. record {
     between = c.in_ok-resolved.resolved;
-    resolved = c.in_ok-resolved.ensures.resolved (opens c.args.program c.requires) known;
+    resolved = c.in_ok-resolved.ensures.resolved (opens c.args.program c.requires.program) known;
     renamed = subst (λ m. Substituted m false c.in_ok-resolved.resolved c.in_ok-answer.answer) (λ j x. if_other_text x (option_map (λ text. (text, [])) (c.in_ok-names.ensures x j))) c.in_ok-answer.ensures.answer;
   },
 )

@@ -1,22 +1,14 @@
-use Rattle.std.proofs.Common.{arith}
-use Rattle.swc_base_fixer.proofs.Fixed.{module_answer, module_moves_for}
-use Rattle.swc_base_fixer.proofs.Open.{items_open}
-use Rattle.swc_base_fixer.proofs.Programs.{module_bare}
-use Rattle.swc_base_fixer.proofs.Promised.{module_promised}
+use Rattle.std.proofs.Common.{sym, ◌∙◌}
+use Rattle.swc_tree_modules.specs.Nodes.{module_node}
+use Rattle.swc_tree_spaces.specs.Spaces.{has_types}
+use Rattle.swc_tree.proofs.Untyped.{declined_untyped, made_of_untyped}
 use Rattle.swc_base_fixer.proofs.fixing_pass.FixerJsPass.visit_mut_module.Goals as goal
 
-pub returns-clause-promises : goal.returns-clause-promises
-returns-clause-promises g c =
-    module_promised c.replace-body.result c.args.program.now c.into_node.result c.in_ok-body.body c.from_node.result
-    c.replace-body.ensures.value c.into_node.ensures.same c.into_node.ensures.fits c.from_node.ensures c.in_ok-body.ensures.answer
-
 pub returns-clause-done : goal.returns-clause-done
-returns-clause-done g c = record {
-  answer = grind (arith, items_open, module_answer, module_bare, module_moves_for);
-  assignable = grind (arith, items_open, module_answer, module_bare, module_moves_for);
-  comments = grind (arith, items_open, module_answer, module_bare, module_moves_for);
-  table = grind (arith, items_open, module_answer, module_bare, module_moves_for);
-  promises =
-      module_promised c.replace-body.result c.args.program.now c.into_node.result c.in_ok-body.body c.from_node.result
-      c.replace-body.ensures.value c.into_node.ensures.same c.into_node.ensures.fits c.from_node.ensures c.in_ok-body.ensures.answer;
-}
+returns-clause-done g c =
+    made_of_untyped (has_types (module_node c.args.program.now)) (sym c.types_in_module.ensures ∙ c.if-types_in_module.false) c.fix_module.result _ c.fix_module.ensures.done
+
+pub returns-clause-cause : goal.returns-clause-cause
+returns-clause-cause g c =
+    declined_untyped (has_types (module_node c.args.program.now)) (sym c.types_in_module.ensures ∙ c.if-types_in_module.false) c.args.self.now.comments c.args.globals.now c.fix_module.new.self.comments c.fix_module.new.globals
+    c.fix_module.result _ c.fix_module.ensures.cause

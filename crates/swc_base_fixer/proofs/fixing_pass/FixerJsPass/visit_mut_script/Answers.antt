@@ -1,22 +1,14 @@
-use Rattle.std.proofs.Common.{arith}
-use Rattle.swc_base_fixer.proofs.Fixed.{script_answer, script_moves_for}
-use Rattle.swc_base_fixer.proofs.Open.{statements_open}
-use Rattle.swc_base_fixer.proofs.Programs.{script_bare}
-use Rattle.swc_base_fixer.proofs.Promised.{script_promised}
+use Rattle.std.proofs.Common.{sym, ◌∙◌}
+use Rattle.swc_tree_modules.specs.Nodes.{script_node}
+use Rattle.swc_tree_spaces.specs.Spaces.{has_types}
+use Rattle.swc_tree.proofs.Untyped.{declined_untyped, made_of_untyped}
 use Rattle.swc_base_fixer.proofs.fixing_pass.FixerJsPass.visit_mut_script.Goals as goal
 
-pub returns-clause-promises : goal.returns-clause-promises
-returns-clause-promises g c =
-    script_promised c.replace-body.result c.args.program.now c.into_node.result c.in_ok-body.body c.from_node.result
-    c.replace-body.ensures.value c.into_node.ensures.same c.into_node.ensures.fits c.from_node.ensures c.in_ok-body.ensures.answer
-
 pub returns-clause-done : goal.returns-clause-done
-returns-clause-done g c = record {
-  answer = grind (arith, statements_open, script_answer, script_bare, script_moves_for);
-  assignable = grind (arith, statements_open, script_answer, script_bare, script_moves_for);
-  comments = grind (arith, statements_open, script_answer, script_bare, script_moves_for);
-  table = grind (arith, statements_open, script_answer, script_bare, script_moves_for);
-  promises =
-      script_promised c.replace-body.result c.args.program.now c.into_node.result c.in_ok-body.body c.from_node.result
-      c.replace-body.ensures.value c.into_node.ensures.same c.into_node.ensures.fits c.from_node.ensures c.in_ok-body.ensures.answer;
-}
+returns-clause-done g c =
+    made_of_untyped (has_types (script_node c.args.program.now)) (sym c.types_in_script.ensures ∙ c.if-types_in_script.false) c.fix_script.result _ c.fix_script.ensures.done
+
+pub returns-clause-cause : goal.returns-clause-cause
+returns-clause-cause g c =
+    declined_untyped (has_types (script_node c.args.program.now)) (sym c.types_in_script.ensures ∙ c.if-types_in_script.false) c.args.self.now.comments c.args.globals.now c.fix_script.new.self.comments c.fix_script.new.globals
+    c.fix_script.result _ c.fix_script.ensures.cause

@@ -1,52 +1,14 @@
-use Rattle.std.proofs.Common.{◌≡◌, ap, arith, refl, subst, sym, ◌∙◌}
-use Rattle.std.proofs.lemmas.Result.{err_from_is_err_and}
-use Rattle.swc_tree_node.specs.declared.kind.Class.TheVariants as class
-use Rattle.swc_tree_node.specs.declared.slot.Content.TheVariants as content
-use Rattle.swc_tree_node.specs.declared.slot.Slot.TheVariants as slot
-use Rattle.swc_tree_node.specs.Fits.{Fits}
+use Rattle.std.proofs.Common.{sym, ◌∙◌}
 use Rattle.swc_tree_modules.specs.Nodes.{script_node}
-use Rattle.swc_base_rename_naming.specs.Ids.{HasJust}
-use Rattle.swc_base_rename_program.specs.Renamed.{IsRenameRefusal, IsRenamedBy}
-use Rattle.swc_base_rename.specs.Renamers.{renaming_in}
-use Rattle.swc_base_rename.proofs.Renamed.{refused_by, renamed_by}
+use Rattle.swc_tree_spaces.specs.Spaces.{has_types}
+use Rattle.swc_tree.proofs.Untyped.{declined_untyped, made_of_untyped}
 use Rattle.swc_base_rename.proofs.renaming.RenamePassJsPass.visit_mut_script.Goals as goal
-
-pub returns-in_err-answer-clause-cause : goal.returns-in_err-answer-clause-cause
-returns-in_err-answer-clause-cause g c =
-    let t = script_node c.args.program.now in
-    let r = renaming_in g.R.Renamer.text g.R.Renamer.preserved g.R.Renamer.asked g.R.Renamer.MANGLE g.R.Renamer.RESET_N c.args.self.now.renamer c.preserved_ids_for_script.new.self t in
-    let before : c.in_ok-node.node ≡ t = c.in_ok-node.ensures.0 ∙ ap script_node c.replace-script.ensures.value in
-    let just : HasJust (g.R.Renamer.preserved c.args.self.now.renamer t) c.in_ok-preserved.preserved = λ x. c.in_ok-preserved.ensures.just x ∙ ap (λ p. g.R.Renamer.preserved c.args.self.now.renamer (script_node p) x) c.replace-script.ensures.value in
-    let asked : g.R.Renamer.asked c.args.self.now.renamer t c.preserved_ids_for_script.new.self = subst (λ p. g.R.Renamer.asked c.args.self.now.renamer (script_node p) c.preserved_ids_for_script.new.self) c.replace-script.ensures.value c.in_ok-preserved.ensures.asked in
-    let refused = err_from_is_err_and c.from_residual-in_err-answer.result c.from_residual-in_err-answer.ensures.1 in
-    let refusal : IsRenameRefusal c.args.globals.now c.args.self.now.config r t c.in_err-answer.field-0.0 = refused_by (g.R.Renamer.text c.preserved_ids_for_script.new.self) c.mode_of-mode.result (record { mangles = g.R.Renamer.MANGLE; resets = g.R.Renamer.RESET_N }) c.in_ok-preserved.preserved
-    (g.R.Renamer.preserved c.args.self.now.renamer t) c.mode_of-mode.ensures just c.args.globals.now c.args.self.now.config c.in_ok-node.node t c.in_err-answer.field-0.0 before c.in_err-answer.ensures.refused in
-    rw (refused.1, refused.2) (record {
-      refusal = refusal;
-      crowded = c.refusals_are_of_crowding.ensures c.args.globals.now c.args.self.now.config r t c.in_err-answer.field-0.0 refusal;
-      apart = λ x m n under over same. g.met.R.Renamer.differ c.preserved_ids_for_script.new.self x m n (omega (arith, under)) (omega (arith, over)) same;
-      once = asked;
-      same = refl;
-      marks = refl;
-    })
 
 pub returns-clause-done : goal.returns-clause-done
 returns-clause-done g c =
-    let t = script_node c.args.program.now in
-    let r = renaming_in g.R.Renamer.text g.R.Renamer.preserved g.R.Renamer.asked g.R.Renamer.MANGLE g.R.Renamer.RESET_N c.args.self.now.renamer c.preserved_ids_for_script.new.self t in
-    let before : c.in_ok-node.node ≡ t = c.in_ok-node.ensures.0 ∙ ap script_node c.replace-script.ensures.value in
-    let just : HasJust (g.R.Renamer.preserved c.args.self.now.renamer t) c.in_ok-preserved.preserved = λ x. c.in_ok-preserved.ensures.just x ∙ ap (λ p. g.R.Renamer.preserved c.args.self.now.renamer (script_node p) x) c.replace-script.ensures.value in
-    let asked : g.R.Renamer.asked c.args.self.now.renamer t c.preserved_ids_for_script.new.self = subst (λ p. g.R.Renamer.asked c.args.self.now.renamer (script_node p) c.preserved_ids_for_script.new.self) c.replace-script.ensures.value c.in_ok-preserved.ensures.asked in
-    let renamed : IsRenamedBy c.args.globals.now c.args.self.now.config r t (script_node c.from_node.result) = renamed_by (g.R.Renamer.text c.preserved_ids_for_script.new.self) c.mode_of-mode.result (record { mangles = g.R.Renamer.MANGLE; resets = g.R.Renamer.RESET_N }) c.in_ok-preserved.preserved
-    (g.R.Renamer.preserved c.args.self.now.renamer t) c.mode_of-mode.ensures just c.args.globals.now c.args.self.now.config c.in_ok-node.node t c.in_ok-answer.answer (script_node c.from_node.result) before (sym c.from_node.ensures) c.in_ok-answer.ensures.renamed in
-    let fits : Fits t (slot.One (content.Node class.Script)) = subst (λ n. Fits n (slot.One (content.Node class.Script))) before c.in_ok-node.ensures.1 in
-    let bounds = c.maps_have_bounds.ensures c.args.globals.now c.args.self.now.config r t (script_node c.from_node.result) (slot.One (content.Node class.Script)) fits renamed in
-    record {
-      renamed = renamed;
-      few = bounds.0;
-      apart = λ x m n under over same. g.met.R.Renamer.differ c.preserved_ids_for_script.new.self x m n (omega (arith, under)) (omega (arith, over)) same;
-      flat = bounds.1;
-      once = asked;
-      same = refl;
-      marks = refl;
-    }
+    made_of_untyped (has_types (script_node c.args.program.now)) (sym c.types_in_script.ensures ∙ c.if-types_in_script.false) c.rename_script.result _ c.rename_script.ensures.done
+
+pub returns-clause-cause : goal.returns-clause-cause
+returns-clause-cause g c =
+    declined_untyped (has_types (script_node c.args.program.now)) (sym c.types_in_script.ensures ∙ c.if-types_in_script.false) c.args.self.now c.args.globals.now c.rename_script.new.self c.rename_script.new.globals
+    c.rename_script.result _ c.rename_script.ensures.cause

@@ -1,0 +1,3 @@
+mod Standings
+pub mod Agree
+mod Told
