@@ -14,7 +14,7 @@ use Rattle.swc_base_fixer_due.specs.declared.row.Ask.TheVariants as ask
 use Rattle.swc_base_fixer_due.specs.declared.row.Row.{Row}
 use Rattle.swc_base_fixer_due.specs.declared.row.Row.TheVariants as row
 use Rattle.swc_base_fixer_due.specs.Test.{asked, left_test, right_test, object_test}
-use Rattle.swc_base_fixer_due.specs.Row.{ask_at, row_for}
+use Rattle.swc_base_fixer_due.specs.Row.{ask_at, asks, row_for}
 use Rattle.swc_base_fixer_due.specs.Settled.{odd_item, odd_list, settled_by}
 use Rattle.swc_base_fixer_due.specs.Walk.{each_told, is_statement_in}
 
@@ -77,10 +77,53 @@ fields p b kind.ExportDefaultExpr (x ∷ y ∷ []) h = refl
 fields p b kind.ForOfStmt (x ∷ y ∷ z ∷ v ∷ w ∷ []) h = refl
 fields p b k ts h = ap (Tree k) (nothing p ts)
 
+-- said once for the kinds in whose fields something is asked
+not_asked : {X : Type 0} → true ≡ false → X
+not_asked h = absurd (cc)
+
+nothing_for : (b : Bool) (k : Kind) (ts : List Node) → asks k ≡ false → row_for b (Node-F.Tree k ts) ≡ row.Nothing
+nothing_for b kind.SeqExpr ts h = not_asked h
+nothing_for b kind.AssignExpr ts h = not_asked h
+nothing_for b kind.CondExpr ts h = not_asked h
+nothing_for b kind.BinExpr ts h = not_asked h
+nothing_for b kind.UnaryExpr ts h = not_asked h
+nothing_for b kind.AwaitExpr ts h = not_asked h
+nothing_for b kind.UpdateExpr ts h = not_asked h
+nothing_for b kind.YieldExpr ts h = not_asked h
+nothing_for b kind.MemberExpr ts h = not_asked h
+nothing_for b kind.TaggedTpl ts h = not_asked h
+nothing_for b kind.CallExpr ts h = not_asked h
+nothing_for b kind.OptCall ts h = not_asked h
+nothing_for b kind.NewExpr ts h = not_asked h
+nothing_for b kind.ExprOrSpread ts h = not_asked h
+nothing_for b kind.SpreadElement ts h = not_asked h
+nothing_for b kind.KeyValueProp ts h = not_asked h
+nothing_for b kind.MethodProp ts h = not_asked h
+nothing_for b kind.GetterProp ts h = not_asked h
+nothing_for b kind.SetterProp ts h = not_asked h
+nothing_for b kind.Constructor ts h = not_asked h
+nothing_for b kind.ClassMethod ts h = not_asked h
+nothing_for b kind.ClassProp ts h = not_asked h
+nothing_for b kind.PrivateProp ts h = not_asked h
+nothing_for b kind.ArrowExpr ts h = not_asked h
+nothing_for b kind.Class ts h = not_asked h
+nothing_for b kind.VarDeclarator ts h = not_asked h
+nothing_for b kind.AssignPat ts h = not_asked h
+nothing_for b kind.AssignPatProp ts h = not_asked h
+nothing_for b kind.KeyValuePatProp ts h = not_asked h
+nothing_for b kind.ExportDefaultExpr ts h = not_asked h
+nothing_for b kind.ForOfStmt ts h = not_asked h
+nothing_for b k ts h = refl
+
 -- the fields of a node that is no statement, each settled by what is asked there
 pub fields_settled : (p : Places) (b : Bool) (k : Kind) (ts vs us rs : List Node) (r : Row) → is_statement_in (Node-F.Tree k vs) ≡ false → vs ≡ ts → us ≡ ts → r ≡ row_for b (Node-F.Tree k us)
     → rs ≡ each_told (settled_by p) (ask_at r) ts → Tree k rs ≡ paired_in p b (Node-F.Tree k ts)
 fields_settled p b k ts vs us rs r h alike same row done = rw (done, row, same) (fields p b k ts (ap (λ l. is_statement_in (Node-F.Tree k l)) (sym alike) ∙ h))
+
+-- those of a node of a kind in whose fields nothing is
+pub unasked : (p : Places) (b : Bool) (k : Kind) (ts vs : List Node) → is_statement_in (Node-F.Tree k vs) ≡ false → vs ≡ ts → asks k ≡ false → Tree k ts ≡ paired_in p b (Node-F.Tree k ts)
+unasked p b k ts vs h alike none =
+    fields_settled p b k ts vs ts ts (row_for b (Node-F.Tree k ts)) h alike refl refl (sym (nothing_asked p (row_for b (Node-F.Tree k ts)) ts (nothing_for b k ts none)))
 
 odd_but_last : (p : Places) (es : List Node) (last : Node) → map (odd_item p) es ++ last ∷ [] ≡ odd_items p (es ++ last ∷ [])
 odd_but_last p [] last = refl

@@ -1,5 +1,7 @@
 -- What is asked in each field of a node, and which expressions the reader's table names there.
-use Rattle.std.specs.Prelude.{ℕ, Bool, ◌==◌, Option, if◌then◌else◌}
+use Rattle.std.specs.Prelude.{ℕ, Bool, true, false, ◌==◌, Option, if◌then◌else◌}
+use Rattle.swc_tree_node.specs.declared.kind.Kind.{Kind}
+use Rattle.swc_tree_node.specs.declared.kind.Kind.TheVariants as kind
 use Rattle.swc_tree_node.specs.declared.kind.Word.{Word}
 use Rattle.swc_tree_node.specs.declared.node.Node.{Node}
 use Rattle.swc_tree_node.specs.declared.node.Node.TheOpen.{Node-F}
@@ -78,3 +80,46 @@ row_for in_chain (Call span callee args) = row.One 1 (named test.Operand family.
 row_for in_chain (OptCall span callee args) = row.One 1 (named test.Link family.OddCallee)
 row_for in_chain (New span callee args) = row.One 1 (ask.NewCallee (is_absent args))
 row_for in_chain t = key_row t
+
+-- the kinds of which `part_row` asks something
+abbrev pub part_asks : Kind → Bool
+part_asks kind.ExprOrSpread = true
+part_asks kind.SpreadElement = true
+part_asks kind.PrivateProp = true
+part_asks kind.ArrowExpr = true
+part_asks kind.Class = true
+part_asks kind.VarDeclarator = true
+part_asks kind.AssignPat = true
+part_asks kind.AssignPatProp = true
+part_asks kind.ExportDefaultExpr = true
+part_asks kind.ForOfStmt = true
+part_asks _ = false
+
+-- those of which `key_row` does
+abbrev pub key_asks : Kind → Bool
+key_asks kind.KeyValueProp = true
+key_asks kind.MethodProp = true
+key_asks kind.GetterProp = true
+key_asks kind.SetterProp = true
+key_asks kind.Constructor = true
+key_asks kind.ClassMethod = true
+key_asks kind.ClassProp = true
+key_asks kind.KeyValuePatProp = true
+key_asks k = part_asks k
+
+-- those of which `row_for` does
+abbrev pub asks : Kind → Bool
+asks kind.SeqExpr = true
+asks kind.AssignExpr = true
+asks kind.CondExpr = true
+asks kind.BinExpr = true
+asks kind.UnaryExpr = true
+asks kind.AwaitExpr = true
+asks kind.UpdateExpr = true
+asks kind.YieldExpr = true
+asks kind.MemberExpr = true
+asks kind.TaggedTpl = true
+asks kind.CallExpr = true
+asks kind.OptCall = true
+asks kind.NewExpr = true
+asks k = key_asks k

@@ -14,7 +14,7 @@ use crate::pair::pair_if;
 use crate::pairing::{Pairing, pair_tree};
 use crate::reader::is_odd_item;
 use crate::record::Record;
-use crate::row::{Row, row_of};
+use crate::row::{Row, asks, row_of};
 use crate::settle::{settle, stays};
 use std::alloc::{AllocError, Global};
 use swc_tree_items::Items;
@@ -160,6 +160,9 @@ fn paired(
 {
     if is_statement(kind, fields.as_slice()) {
         statement(alloc, recorded, kind, fields)?;
+        return Ok(());
+    }
+    if !asks(kind) {
         return Ok(());
     }
     let row = row_of(in_chain, kind, fields.as_slice());

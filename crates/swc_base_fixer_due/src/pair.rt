@@ -38,7 +38,18 @@ pub fn pair_if(
     }
 }
 
+// Puts the expression into a pair, in place. It is kept out of the walks, too.
+#[inline(never)]
+fn pair_in_place(alloc: Global, recorded: &Record, expr: &mut Node) -> Result<(), AllocError>
+    ensures { OnOk result (expr.new ≡ paired (place_in recorded.now) expr.old) }
+{
+    let bare = mem::replace(expr, Node::Absent);
+    *expr = pair(alloc, recorded, bare)?;
+    Ok(())
+}
+
 /// Puts the expression into a pair where one is due, and leaves it where it is elsewhere.
+#[inline]
 pub fn pair_where(
     alloc: Global,
     recorded: &Record,
@@ -48,8 +59,7 @@ pub fn pair_where(
     ensures { OnOk result (expr.new ≡ paired_if is_due (place_in recorded.now) expr.old) }
 {
     if is_due {
-        let bare = mem::replace(expr, Node::Absent);
-        *expr = pair(alloc, recorded, bare)?;
+        pair_in_place(alloc, recorded, expr)?;
     }
     Ok(())
 }

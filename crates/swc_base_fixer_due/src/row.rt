@@ -1,7 +1,7 @@
 //! What is asked in each field of a node.
 ghost use Rattle.std.specs.Prelude.{◌≡◌};
 ghost use Rattle.swc_tree_node.specs.declared.node.Node.TheOpen.{Node-F};
-ghost use Rattle.swc_base_fixer_due.specs.Row.{ask_at, tight as tight_of, named as named_of, key_row as key_row_of, part_row as part_row_of, row_for, sides as sides_of, single as single_of};
+ghost use Rattle.swc_base_fixer_due.specs.Row.{ask_at, asks as asks_of, key_asks as key_asks_of, part_asks as part_asks_of, tight as tight_of, named as named_of, key_row as key_row_of, part_row as part_row_of, row_for, sides as sides_of, single as single_of};
 
 use crate::demand::{Test, left_side, object, right_side};
 use crate::family::Family;
@@ -189,5 +189,63 @@ pub fn row_of(in_chain: bool, kind: Kind, fields: &[Node]) -> Row
             Row::One(new_expr::CALLEE, Ask::NewCallee(bare))
         }
         kind => key_row(kind, fields),
+    }
+}
+
+// Whether `part_row` may ask something of a node of a kind.
+fn part_asks(kind: Kind) -> bool
+    ensures { result ≡ part_asks_of kind }
+{
+    matches!(
+        kind,
+        Kind::ExprOrSpread
+            | Kind::SpreadElement
+            | Kind::PrivateProp
+            | Kind::ArrowExpr
+            | Kind::Class
+            | Kind::VarDeclarator
+            | Kind::AssignPat
+            | Kind::AssignPatProp
+            | Kind::ExportDefaultExpr
+            | Kind::ForOfStmt
+    )
+}
+
+// Whether `key_row` may.
+fn key_asks(kind: Kind) -> bool
+    ensures { result ≡ key_asks_of kind }
+{
+    match kind {
+        Kind::KeyValueProp
+        | Kind::MethodProp
+        | Kind::GetterProp
+        | Kind::SetterProp
+        | Kind::Constructor
+        | Kind::ClassMethod
+        | Kind::ClassProp
+        | Kind::KeyValuePatProp => true,
+        kind => part_asks(kind),
+    }
+}
+
+/// Whether something may be asked in the fields of a node of a kind. Where nothing is, no row is made.
+pub fn asks(kind: Kind) -> bool
+    ensures { result ≡ asks_of kind }
+{
+    match kind {
+        Kind::SeqExpr
+        | Kind::AssignExpr
+        | Kind::CondExpr
+        | Kind::BinExpr
+        | Kind::UnaryExpr
+        | Kind::AwaitExpr
+        | Kind::UpdateExpr
+        | Kind::YieldExpr
+        | Kind::MemberExpr
+        | Kind::TaggedTpl
+        | Kind::CallExpr
+        | Kind::OptCall
+        | Kind::NewExpr => true,
+        kind => key_asks(kind),
     }
 }

@@ -62,6 +62,7 @@ fn add_below(node: &Node, out: &mut Items<Pair>) -> Result<(), AllocError>
 }
 
 #[cycle(pairs)]
+#[inline(always)]
 fn add_inside(kind: Kind, fields: &[Node], out: &mut Items<Pair>) -> Result<(), AllocError>
     ensures { OnOk result (out.new ≡ out.old ++ inside_of (Node-F.Tree kind (map found fields.now))) }
 {
@@ -75,11 +76,14 @@ fn add_inside(kind: Kind, fields: &[Node], out: &mut Items<Pair>) -> Result<(), 
 }
 
 #[cycle(pairs)]
+#[tactic(auto, using(crate::proofs::Leaves::no_pairs))]
 fn add_each(nodes: &[Node], out: &mut Items<Pair>) -> Result<(), AllocError>
     ensures { OnOk result (out.new ≡ out.old ++ flat_map pairs nodes.now) }
 {
     for node in nodes {
-        add_pairs(node, out)?;
+        if node.has_parts() {
+            add_pairs(node, out)?;
+        }
     }
     Ok(())
 }

@@ -87,11 +87,12 @@ pub fn all_bare(node: &Node) -> bool
 }
 
 #[cycle(bare)]
+#[tactic(auto, using(crate::proofs::Leaves::bare_leaves))]
 fn each_bare(nodes: &[Node]) -> bool
     ensures { result ≡ list_all bare nodes.now }
 {
     for node in nodes {
-        if !all_bare(node) {
+        if node.has_parts() && !all_bare(node) {
             return false;
         }
     }

@@ -1,8 +1,6 @@
 -- New contexts change nothing of which types stand in a tree.
 use Rattle.std.proofs.Common.{◌≡◌, ◌||◌, ℕ, zero, suc, Some, List, [], ◌∷◌, refl, sym, ap, ◌∙◌}
 use Rattle.std.specs.List.{list_any, slice_get}
-use Rattle.swc_tree_marks.specs.declared.ident.Ident.{Ident}
-use Rattle.swc_tree_node.specs.declared.kind.Kind.{Kind}
 use Rattle.swc_tree_node.specs.declared.node.Node.{Node, List as Many, Identifier, Tree, out-Node}
 use Rattle.swc_tree_node.specs.declared.node.Node.TheOpen.{Node-F}
 use Rattle.swc_tree_scoping.specs.Places.{child, children_in}

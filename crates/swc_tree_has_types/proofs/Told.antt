@@ -5,6 +5,8 @@ use Rattle.swc_tree_marks.specs.declared.ident.Ident.{Ident}
 use Rattle.swc_tree_node.specs.declared.kind.Kind.{Kind}
 use Rattle.swc_tree_node.specs.declared.node.Node.{Node, List as Many, Identifier, Tree, the_lemmas}
 use Rattle.swc_tree_node.specs.declared.node.Node.TheOpen.{Node-F}
+use Rattle.swc_tree_node.specs.Parts.{has_parts}
+use Rattle.swc_tree_node.proofs.Leaves.{Nameless, without_parts}
 use Rattle.swc_tree_spaces.specs.Spaces.{has_types, is_of_types, types_step}
 
 any_mapped : (ts : List Node) → list_any (λ b. b) (map has_types ts) ≡ list_any has_types ts
@@ -25,3 +27,8 @@ types_of_list ts = step_of_list ts ∙ any_mapped ts
 
 pub none_in_identifier : (k : Kind) (i : Ident) → has_types (Identifier k i) ≡ false
 none_in_identifier k i = search (rules, the_lemmas)
+
+pub none_without_parts : (t : Node) → has_parts t ≡ false → has_types t ≡ false
+none_without_parts =
+    let leaves : Nameless (λ t. has_types t ≡ false) = (search (rules, the_lemmas), λ x. search (rules, the_lemmas), λ w. search (rules, the_lemmas), λ x. search (rules, the_lemmas), λ s. search (rules, the_lemmas)) in
+    without_parts (λ t. has_types t ≡ false) leaves none_in_identifier

@@ -50,7 +50,7 @@ pub fn any_has_types(trees: &[Node]) -> bool
     ensures { result ≡ list_any has_any trees.now }
 {
     for tree in trees {
-        if has_types(tree) {
+        if tree.has_parts() && has_types(tree) {
             return true;
         }
     }
