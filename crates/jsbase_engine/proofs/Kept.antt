@@ -3,12 +3,17 @@ use Rattle.std.proofs.Common.{◌≡◌, false, ℕ, List, Ok, IsTrue, inl, inr,
 use Rattle.swc_tree_marks.specs.declared.error.PassError.{PassError}
 use Rattle.swc_tree_marks.specs.declared.error.PassError.TheVariants as refusal
 use Rattle.swc_tree_node.specs.declared.kind.Class.{Class}
+use Rattle.swc_tree_node.specs.declared.kind.Class.TheVariants as class
 use Rattle.swc_tree_node.specs.declared.slot.Content.TheVariants as content
+use Rattle.swc_tree_node.specs.declared.slot.Slot.{Slot}
 use Rattle.swc_tree_node.specs.declared.slot.Slot.TheVariants as slot
 use Rattle.swc_tree_node.specs.declared.node.Node.{Node}
 use Rattle.swc_tree_node.specs.Fits.{Fits}
 use Rattle.swc_tree_marks.specs.Globals.{Table}
 use Rattle.swc_tree_scoping.specs.Resolved.{Resolved}
+use Rattle.swc_tree_renaming.specs.Apart.{is_goal}
+use Rattle.swc_tree_renaming.proofs.Global.{fits_module, plain_if_module}
+use Rattle.swc_tree_sites_scripts.specs.Laws.{script_place}
 use Rattle.swc_tree_spaces.specs.Spaces.{has_types}
 use Rattle.swc_tree_spaces_laws.specs.Laws.{ResolvedAlike, TypesAreTold}
 use Rattle.swc_tree_grammar.specs.Fixed.{recorded}
@@ -17,7 +22,7 @@ use Rattle.swc_tree_grammar.specs.Places.{is_open}
 use Rattle.swc_base_resolver_program.specs.Marked.{MarksOk}
 use Rattle.swc_base_fixer_program.specs.Answers.{answer_to}
 use Rattle.swc_base_fixer.specs.Promises.{AnswersKeepPromises}
-use Rattle.swc_ecma_transforms_base_laws.specs.Headline.{ChainingKeepsSources}
+use Rattle.swc_ecma_transforms_base_laws.specs.Headline.{ChainingKeepsForms, ChainingKeepsSources}
 use Rattle.swc_ecma_transforms_base_settled_laws.specs.Settled.{ChainChangesNothing}
 use Rattle.jsbase_form.proofs.Successes.{bound}
 use Rattle.jsbase_reader.specs.declared.envelope.Envelope.{Envelope}
@@ -33,6 +38,13 @@ use Rattle.jsbase_commands.specs.Run.{Does, IsRefusalOf, ResolvesTo, class_of, c
 use Rattle.jsbase_engine.specs.Run.{Keeps, SparesTargets}
 use Rattle.jsbase_engine.specs.Laws.{PromisesAreKept, TargetsAreSpared}
 
+abbrev module_place : Slot
+module_place = slot.One (content.Node class.Module)
+
+is_program : (k : Kind) → IsTrue (is_goal (slot.One (content.Node (class_of k))))
+is_program kind.Module = refl
+is_program kind.Script = refl
+
 takes_pairs : (k : Kind) → IsTrue (is_open (slot.One (content.Node (class_of k))))
 takes_pairs kind.Module = refl
 takes_pairs kind.Script = refl
@@ -46,48 +58,55 @@ module _ (told : TypesAreTold) (alike : ResolvedAlike) (envelope : Envelope) (ok
   by_values : (table : Table) (t : Node) → has_types envelope.tree ≡ false → ResolvesTo envelope table t → Resolved envelope.unresolved envelope.top envelope.globals table envelope.tree t
   by_values table t none r = (alike envelope.unresolved envelope.top envelope.globals table envelope.tree t ((told envelope.tree).0 none)).1 r
 
-  kept : ChainingKeepsSources → ChainChangesNothing → AnswersKeepPromises → (c : Command) (k : Kind) (output : List ℕ) → Fits envelope.tree (slot.One (content.Node (class_of k)))
+  kept : ChainingKeepsForms → ChainingKeepsSources → ChainChangesNothing → AnswersKeepPromises → (c : Command) (k : Kind) (output : List ℕ) → Fits envelope.tree (slot.One (content.Node (class_of k)))
       → (done : Does c envelope output) → Keeps c k envelope output done
   unfolding answer_to
-  kept chaining changing fixing command.Chain kind.Module output fits done = record {
+  kept forms chaining changing fixing command.Chain kind.Module output fits done = record {
     promises = λ source.
-        (chaining (config_of envelope) (recorded (pairs done.renamed)) envelope.unresolved envelope.top envelope.globals done.table envelope.tree done.is_renamed.between done.renamed fits source ok.0.1
+        (chaining (config_of envelope) (recorded (pairs done.renamed)) module_place envelope.unresolved envelope.top envelope.globals done.table envelope.tree done.is_renamed.between done.renamed refl fits source
+        (plain_if_module envelope.tree (fits_module envelope.tree fits)) ok.0.1
         (by_values done.table done.is_renamed.between done.no_types done.is_renamed.resolved) done.is_renamed.hygienic).0;
     again = λ answered keeps.
         changing done.table (config_of envelope) envelope.tree done.is_renamed.between done.renamed envelope.unresolved envelope.top envelope.globals done.table answered keeps ok.0.1
         (by_values done.table done.is_renamed.between done.no_types done.is_renamed.resolved) done.is_renamed.hygienic;
   }
-  kept chaining changing fixing command.Chain kind.Script output fits done = tt
-  kept chaining changing fixing command.Fix k output fits done = fixing envelope.tree (slot.One (content.Node (class_of k))) (takes_pairs k) fits
-  kept chaining changing fixing command.Resolve k output fits done = tt
-  kept chaining changing fixing command.Hygiene k output fits done = tt
-  kept chaining changing fixing command.Unparen k output fits done = tt
+  kept forms chaining changing fixing command.Chain kind.Script output fits done = record {
+    form = λ source.
+        (forms (config_of envelope) (recorded (pairs done.renamed)) script_place envelope.unresolved envelope.top envelope.globals done.table envelope.tree done.is_renamed.between done.renamed refl fits source
+        (by_values done.table done.is_renamed.between done.no_types done.is_renamed.resolved) done.is_renamed.hygienic).0;
+    promises = λ source plain.
+        (chaining (config_of envelope) (recorded (pairs done.renamed)) script_place envelope.unresolved envelope.top envelope.globals done.table envelope.tree done.is_renamed.between done.renamed refl fits source
+        (λ s. plain) ok.0.1
+        (by_values done.table done.is_renamed.between done.no_types done.is_renamed.resolved) done.is_renamed.hygienic).0;
+  }
+  kept forms chaining changing fixing command.Fix k output fits done = fixing envelope.tree (slot.One (content.Node (class_of k))) (takes_pairs k) fits
+  kept forms chaining changing fixing command.Resolve k output fits done = tt
+  kept forms chaining changing fixing command.Hygiene k output fits done = tt
+  kept forms chaining changing fixing command.Unparen k output fits done = tt
 
-  no_target : ChainingKeepsSources → Fits envelope.tree (slot.One (content.Node (class_of kind.Module))) → (e : PassError) → IsRefusalOf command.Chain envelope e
-      → SparesTargets command.Chain kind.Module envelope e
-  no_target chaining fits refusal.NotAssignable (none, (table, renamed, is, bare)) source same =
-      let stands = (chaining (config_of envelope) (recorded (pairs renamed)) envelope.unresolved envelope.top envelope.globals table envelope.tree is.between renamed fits source ok.0.1 (by_values table is.between none is.resolved) is.hygienic).1 in
+  no_target : ChainingKeepsForms → (k : Kind) → Fits envelope.tree (slot.One (content.Node (class_of k))) → (e : PassError) → IsRefusalOf command.Chain envelope e → SparesTargets command.Chain k envelope e
+  no_target forms k fits refusal.NotAssignable (none, (table, renamed, is, bare)) source same =
+      let stands = (forms (config_of envelope) (recorded (pairs renamed)) (slot.One (content.Node (class_of k))) envelope.unresolved envelope.top envelope.globals table envelope.tree is.between renamed (is_program k) fits source (by_values table is.between none is.resolved) is.hygienic).1 in
       absurd (cc)
-  no_target chaining fits refusal.MarksSpent h source same = absurd (cc same)
-  no_target chaining fits refusal.CounterSpent h source same = absurd (cc same)
-  no_target chaining fits refusal.NoMemory h source same = absurd (cc same)
-  no_target chaining fits refusal.TypesLeft h source same = absurd (cc same)
+  no_target forms k fits refusal.MarksSpent h source same = absurd (cc same)
+  no_target forms k fits refusal.CounterSpent h source same = absurd (cc same)
+  no_target forms k fits refusal.NoMemory h source same = absurd (cc same)
+  no_target forms k fits refusal.TypesLeft h source same = absurd (cc same)
 
-  spared : ChainingKeepsSources → (c : Command) (k : Kind) (e : PassError) → Fits envelope.tree (slot.One (content.Node (class_of k))) → IsRefusalOf c envelope e → SparesTargets c k envelope e
-  spared chaining command.Chain kind.Module e fits h = no_target chaining fits e h
-  spared chaining command.Chain kind.Script e fits h = tt
-  spared chaining command.Fix k e fits h = tt
-  spared chaining command.Resolve k e fits h = tt
-  spared chaining command.Hygiene k e fits h = tt
-  spared chaining command.Unparen k e fits h = tt
+  spared : ChainingKeepsForms → (c : Command) (k : Kind) (e : PassError) → Fits envelope.tree (slot.One (content.Node (class_of k))) → IsRefusalOf c envelope e → SparesTargets c k envelope e
+  spared forms command.Chain k e fits h = no_target forms k fits e h
+  spared forms command.Fix k e fits h = tt
+  spared forms command.Resolve k e fits h = tt
+  spared forms command.Hygiene k e fits h = tt
+  spared forms command.Unparen k e fits h = tt
 
-pub promises_are_kept : TypesAreTold → ResolvedAlike → ChainingKeepsSources → ChainChangesNothing → AnswersKeepPromises → PromisesAreKept
-promises_are_kept told alike chaining changing fixing c k input output (envelope, is, done) =
-    (envelope, is, done, kept told alike envelope (envelope_marks (class_of k) input envelope is) chaining changing fixing c k output (fits_its_class (class_of k) input envelope is) done)
+pub promises_are_kept : TypesAreTold → ResolvedAlike → ChainingKeepsForms → ChainingKeepsSources → ChainChangesNothing → AnswersKeepPromises → PromisesAreKept
+promises_are_kept told alike forms chaining changing fixing c k input output (envelope, is, done) =
+    (envelope, is, done, kept told alike envelope (envelope_marks (class_of k) input envelope is) forms chaining changing fixing c k output (fits_its_class (class_of k) input envelope is) done)
 
-pub targets_are_spared : TypesAreTold → ResolvedAlike → ChainingKeepsSources → TargetsAreSpared
-targets_are_spared told alike chaining c k input Usage h = h
-targets_are_spared told alike chaining c k input (NotATree text) h = h
-targets_are_spared told alike chaining c k input (Refused e) (inl memory) = inl memory
-targets_are_spared told alike chaining c k input (Refused e) (inr (envelope, is, cause)) =
-    inr (envelope, is, cause, spared told alike envelope (envelope_marks (class_of k) input envelope is) chaining c k e (fits_its_class (class_of k) input envelope is) cause)
+pub targets_are_spared : TypesAreTold → ResolvedAlike → ChainingKeepsForms → TargetsAreSpared
+targets_are_spared told alike forms c k input Usage h = h
+targets_are_spared told alike forms c k input (NotATree text) h = h
+targets_are_spared told alike forms c k input (Refused e) (inl memory) = inl memory
+targets_are_spared told alike forms c k input (Refused e) (inr (envelope, is, cause)) =
+    inr (envelope, is, cause, spared told alike envelope (envelope_marks (class_of k) input envelope is) forms c k e (fits_its_class (class_of k) input envelope is) cause)

@@ -4,9 +4,10 @@ use Rattle.swc_tree_marks.specs.Globals.{Table}
 use Rattle.swc_tree_marks.specs.declared.error.PassError.{PassError}
 use Rattle.swc_tree_marks.specs.declared.error.PassError.TheVariants as refusal
 use Rattle.swc_tree_node.specs.declared.node.Node.{Node}
+use Rattle.swc_tree_renaming.specs.Apart.{IsPlainScript}
 use Rattle.swc_base_fixer_program.specs.Answers.{answer_to}
 use Rattle.swc_base_fixer.specs.Promises.{Promises}
-use Rattle.swc_ecma_transforms_base_laws.specs.Headline.{KeepsItsSource}
+use Rattle.swc_ecma_transforms_base_laws.specs.Headline.{KeepsItsForm, KeepsItsSource}
 use Rattle.swc_ecma_transforms_base_laws.specs.Sources.{IsSource}
 use Rattle.swc_ecma_transforms_base_settled_laws.specs.Settled.{IsAnswer}
 use Rattle.jsbase_form.specs.Reads.{Path, path_text}
@@ -26,16 +27,23 @@ pub record KeepsItsModule (envelope : Envelope) (table : Table) (answer : Node) 
   pub promises : IsSource (config_of envelope) envelope.tree → KeepsItsSource envelope.unresolved envelope.top envelope.globals table envelope.tree answer
   pub again : IsAnswer envelope.tree → envelope.keep_class_names ≡ false → answer ≡ envelope.tree
 
--- what is promised of it beside: of a module that is chained what `chain_module` promises, of a program whose pairs are set what the
--- fixer promises
+-- what `chain_script` promises of a script that is chained: of a source that its answer keeps its form, and where the script is plain
+-- all that is promised of a source
+pub record KeepsItsScript (envelope : Envelope) (table : Table) (answer : Node) : Type 0 where
+  pub form : IsSource (config_of envelope) envelope.tree → KeepsItsForm envelope.tree answer
+  pub promises : IsSource (config_of envelope) envelope.tree → IsPlainScript envelope.tree → KeepsItsSource envelope.unresolved envelope.top envelope.globals table envelope.tree answer
+
+-- what is promised of it beside: of a program that is chained what `chain_module` or `chain_script` promises, of a program whose pairs
+-- are set what the fixer promises
 abbrev pub Keeps : (c : Command) (k : Kind) (envelope : Envelope) (output : List ℕ) → Does c envelope output → Type 0
 Keeps command.Chain kind.Module envelope output done = KeepsItsModule envelope done.table (answer_to done.renamed)
+Keeps command.Chain kind.Script envelope output done = KeepsItsScript envelope done.table (answer_to done.renamed)
 Keeps command.Fix k envelope output done = Promises envelope.tree (answer_to envelope.tree)
 Keeps _ _ envelope output done = Unit {0}
 
--- of a module that is chained no target is to blame
+-- of a program that is chained no target is to blame
 abbrev pub SparesTargets : Command → Kind → Envelope → PassError → Type 0
-SparesTargets command.Chain kind.Module envelope error = IsSource (config_of envelope) envelope.tree → error ≢ refusal.NotAssignable
+SparesTargets command.Chain k envelope error = IsSource (config_of envelope) envelope.tree → error ≢ refusal.NotAssignable
 SparesTargets _ _ envelope error = Unit {0}
 
 -- the output is what the command makes of the envelope that the input is, with what is promised of it

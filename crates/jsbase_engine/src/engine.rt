@@ -8,8 +8,8 @@ use std::alloc::Global;
 
 /// What the program writes on an input.
 ///
-/// Of a module that is chained it promises what `chain_module` does, and of a program whose parentheses are set anew what the fixer
-/// does. Time and memory grow in step with the input.
+/// Of a program that is chained it promises what `chain_module` or `chain_script` does, and of one whose parentheses are set anew what
+/// the fixer does. Time and memory grow in step with the input.
 ///
 /// # Errors
 ///

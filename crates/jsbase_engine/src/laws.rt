@@ -5,7 +5,7 @@ ghost use Rattle.jsbase_engine.specs.Laws.{PromisesAreKept, TargetsAreSpared};
 
 use swc_base_fixer::answers_keep_promises;
 use swc_ecma_transforms_base_apart_laws::a_chain_changes_nothing;
-use swc_ecma_transforms_base_laws::chaining_keeps_sources;
+use swc_ecma_transforms_base_laws::{chaining_keeps_forms, chaining_keeps_sources};
 use swc_tree_spaces_laws::{resolved_alike_without_types, types_are_told};
 
 // What a command makes of an input has all that is promised of it.
@@ -14,6 +14,7 @@ pub fn promises_are_kept()
 {
     types_are_told();
     resolved_alike_without_types();
+    chaining_keeps_forms();
     chaining_keeps_sources();
     a_chain_changes_nothing();
     answers_keep_promises();
@@ -25,5 +26,5 @@ pub fn targets_are_spared()
 {
     types_are_told();
     resolved_alike_without_types();
-    chaining_keeps_sources();
+    chaining_keeps_forms();
 }

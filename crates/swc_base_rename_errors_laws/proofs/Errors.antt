@@ -1,12 +1,11 @@
 -- What hygiene and then the fixer answer declares no name against the rules, and neither `eval` nor `arguments`.
-use Rattle.std.proofs.Common.{◌≡◌, ℕ, true, false, IsTrue, Option, Some, List, [], ◌∷◌, codes, refl, sym, ap, ◌∙◌, subst, map, ⊎_elim, None}
+use Rattle.std.proofs.Common.{◌≡◌, ℕ, true, false, IsTrue, Option, Some, List, [], codes, refl, sym, ap, ◌∙◌, subst, map, ⊎_elim, None}
 use Rattle.std.specs.Prelude.{if◌then◌else◌}
 use Rattle.std.specs.List.{list_any}
 use Rattle.std.specs.Option.{option_map}
 use Rattle.swc_tree_marks.specs.Globals.{Table}
 use Rattle.swc_tree_marks.specs.declared.ident.Ident.{Ident}
 use Rattle.swc_tree_node.specs.declared.kind.Kind.{Kind}
-use Rattle.swc_tree_node.specs.declared.kind.Kind.TheVariants as kind
 use Rattle.swc_tree_node.specs.declared.kind.Class.TheVariants as class
 use Rattle.swc_tree_node.specs.declared.slot.Content.TheVariants as content
 use Rattle.swc_tree_node.specs.declared.slot.Slot.{Slot}
@@ -16,85 +15,62 @@ use Rattle.swc_tree_node.specs.declared.node.Node.TheOpen.{Node-F}
 use Rattle.swc_tree_node.specs.declared.node.Node.TheVariants.{outs-Tree}
 use Rattle.swc_tree_node.specs.Fits.{Fits}
 use Rattle.swc_tree_scoping.specs.declared.places.Place.{Place}
-use Rattle.swc_tree_scoping.specs.declared.places.Standing.TheVariants as standing
 use Rattle.swc_tree_scoping.specs.Places.{Path, place_at, program_place}
 use Rattle.swc_tree_scoping.specs.Scopes.{first_that, is_name, is_taken, rounds, scope_at, taker}
 use Rattle.swc_tree_scoping.specs.Readings.{by_ids, by_texts, id_name, with_identifiers}
-use Rattle.swc_tree_scoping.specs.WellScoped.{ExportsDeclared, InExportList, IsClean, IsDeclared, NoEarlyErrorOfNames, WellScoped, is_module}
-use Rattle.swc_tree_renaming.specs.Apart.{HasTexts, SameScopes, nameless, no_name}
+use Rattle.swc_tree_scoping.specs.WellScoped.{ExportsDeclared, InExportList, IsClean, IsDeclared, NoEarlyErrorOfNames, WellScoped}
+use Rattle.swc_tree_renaming.specs.Apart.{HasTexts, IsPlainIfScript, SameScopes, is_goal, nameless, no_name}
 use Rattle.swc_tree_renaming.proofs.Shape.{nameless_by_ids, same_scopes, some_same, twice}
 use Rattle.swc_tree_renaming.proofs.Blank.{layer, out_is, place_at_same}
-use Rattle.swc_tree_renaming.proofs.Whole.{by_id, captures_none, from_ids, id_name_same, identifier_same, module_layer, module_too, with_identifier}
+use Rattle.swc_tree_renaming.proofs.Whole.{by_id, captures_none, from_ids, id_name_same, identifier_same, with_identifier}
 use Rattle.swc_tree_grammar.specs.Due.{Places}
 use Rattle.swc_tree_grammar.specs.Fixed.{fixed}
-use Rattle.swc_tree_grammar.specs.Normal.{normal_form, written_out}
+use Rattle.swc_tree_grammar.specs.Normal.{normal_form}
 use Rattle.swc_tree_grammar.specs.Stripped.{stripped}
-use Rattle.swc_tree_grammar.specs.Targets.{all_bare}
 use Rattle.swc_tree_grammar.specs.Writable.{Writable, is_digit}
 use Rattle.swc_tree_grammar.proofs.Kept.{stripped_fits}
-use Rattle.swc_tree_grammar.proofs.Stripped.{stripped_other}
-use Rattle.swc_tree_sites.specs.Sites.{Binding, Site, Sites, taken_at}
-use Rattle.swc_tree_sites.specs.Smaller.{In, IsLeftOf, IsPlain}
+use Rattle.swc_tree_sites.specs.Sites.{Binding, taken_at}
+use Rattle.swc_tree_sites.specs.Smaller.{In, IsPlain}
 use Rattle.swc_tree_sites.proofs.Transport.{binding_names, settled_way, way_declares}
 use Rattle.swc_tree_sites_laws.proofs.LeftByIds.{ids_are_left}
-use Rattle.swc_tree_sites_laws.proofs.LeftStripped.{on_modules, stripped_takes}
-use Rattle.swc_tree_sites_written.proofs.Modules.{module_whole}
-use Rattle.swc_tree_sites_written.proofs.NormalForms.{normal_left}
-use Rattle.swc_tree_sites_written.proofs.Written.{written_tree}
+use Rattle.swc_tree_sites_laws.proofs.LeftIds.{plain_clean}
+use Rattle.swc_tree_sites_laws.proofs.LeftStripped.{stripped_takes}
 use Rattle.swc_tree_sites_errors.specs.Laws.{Answers, KeepsScopes}
 use Rattle.swc_tree_sites_errors.proofs.Left.{answer_declares, answer_redeclares_none, declared_stays, left_keeps}
-use Rattle.swc_tree_sites_errors.proofs.Modules.{plain_module}
 use Rattle.swc_tree_sites_errors.proofs.Named.{keeps_by}
 use Rattle.swc_tree_sites_tame.proofs.Modules.{modules_tame}
+use Rattle.swc_tree_sites_scripts.specs.Laws.{FixedScriptsLoseNoName, PlainScriptsAreLeft, script_place}
 use Rattle.swc_base_fixer_laws.proofs.AgainNormal.{normal_form_stays}
 use Rattle.swc_base_fixer_laws.proofs.AgainStill.{fits_well}
 use Rattle.swc_base_fixer_laws.proofs.Answer.{answer_fits_table}
 use Rattle.swc_base_fixer_laws.proofs.Fixed.{fixed_fits, targets_stand_bare}
 use Rattle.swc_base_fixer_laws.proofs.NoNamespaces.{writable_has_no_namespaces}
-use Rattle.swc_base_fixer_sites.proofs.Answers.{fits_module, stripping_answers_loses_none}
 use Rattle.swc_base_rename_substitution.specs.declared.config.Config.{Config}
 use Rattle.swc_base_rename_program.specs.Renamed.{IsHygienic, hygiene_renaming}
 use Rattle.swc_base_rename_laws.proofs.Outline.{identifiers_alike, rounds_alike, scopes_alike}
 use Rattle.swc_base_rename_scoped_laws.specs.Laws.{NamesAreApart, new_text}
-use Rattle.swc_base_rename_hygiene_laws.specs.Laws.{HygieneStaysFitting, HygieneStaysWritable, IsFinishable}
+use Rattle.swc_base_rename_hygiene_laws.specs.Laws.{HygieneStaysFitting, HygieneStaysSettled, HygieneStaysWritable, IsFinishable}
 use Rattle.swc_base_rename_scoped_laws.proofs.TextsByName.{text_by, text_of_id}
 use Rattle.swc_base_rename_texts_laws.specs.Laws.{HasHygienicTexts, HygieneGivesNormalFormNewTexts}
 use Rattle.swc_base_rename_errors_laws.specs.Laws.{AnswerDeclaresByTheRules, AnswerHasNoEarlyErrorOfNames, DeclaresByTheRules}
 use Rattle.swc_base_rename_errors_laws.proofs.Listing.{Local, found}
+use Rattle.swc_base_rename_errors_laws.proofs.Programs.{Answered, Formed, IsOf, IsSettledIn, answered, bare, formed, goal_open, module_place, one_goal, plain_of, script_too, settled_before, shaped}
 use Rattle.swc_tree_exports_laws.specs.Exported.{exported_locals}
 use Rattle.swc_tree_exports_laws.specs.Laws.{ProgramTakes}
-use Rattle.swc_base_resolver_laws.proofs.ExportLists.{lists_are_items}
+use Rattle.swc_base_resolver_laws.proofs.ExportLists.{lists_are_items, no_list_in_scripts}
 use Rattle.swc_tree_exports_laws.proofs.Paths.{export_lists_are_listed}
 use Rattle.swc_tree_exports_laws.proofs.Written.{stripped_exports_the_same, written_out_exports}
 use Rattle.swc_tree_scoping.specs.declared.places.Scope.{Scope}
 use Rattle.swc_tree_scoping.specs.Declares.{Bound, Declares}
 use Rattle.swc_tree_scoping.proofs.Remarked.{tree_is}
 use Rattle.swc_tree_sites.proofs.Round.{taken_is}
-use Rattle.swc_base_rename_errors_laws.proofs.Texts.{same_word}
+use Rattle.swc_base_rename_texts_laws.proofs.Words.{same_word}
 
 abbrev PP : Place
 PP = program_place
 
-abbrev module_place : Slot
-module_place = slot.One (content.Node class.Module)
-
--- ---- modules
-
-layer_module : (t : Node) (ts : List Node) → out-Node t ≡ Node-F.Tree kind.Module ts → IsTrue (is_module t)
-layer_module t ts o = rw o refl
-
-normal_module : (t : Node) → Fits t module_place → IsTrue (is_module (normal_form t))
-normal_module = on_modules (λ t. IsTrue (is_module (normal_form t)))
-    (λ x y z f. layer_module (normal_form (Tree kind.Module (x ∷ y ∷ z ∷ []))) _ (ap (λ t. out-Node (written_out t)) (stripped_other kind.Module (x ∷ y ∷ z ∷ []) refl) ∙ ap out-Node (written_tree kind.Module (stripped x ∷ stripped y ∷ stripped z ∷ [])) ∙ outs-Tree kind.Module _))
-
 nameless_renamed : (f : Ident → Ident) (t : Node) → nameless (with_identifiers f t) ≡ nameless t
 nameless_renamed f t = twice f (λ i. no_name) t
-
-renamed_module : (f : Ident → Ident) (t : Node) → IsTrue (is_module t) → IsTrue (is_module (with_identifiers f t))
-renamed_module f t m =
-    let (ts, o) = module_layer t m in
-    let (us, e) = module_too t (with_identifiers f t) ts (sym (nameless_renamed f t)) o in
-    layer_module (with_identifiers f t) us e
 
 -- ---- trees of one shape
 
@@ -116,18 +92,6 @@ by_text i = record i { ctxt = [] }
 clean_ids : (t : Node) → IsClean (by_ids t)
 clean_ids t p w k i h = let (l, j, e, is) = from_ids t p w k i h in ap (λ (i : Ident). i.ctxt) is
 
--- ---- the normal form of a module that can be written down
-
-module _ (t : Node) (fits : Fits t module_place) (writable : Writable t) where
-  bare : all_bare t ≡ true
-  bare = targets_stand_bare t module_place fits writable
-
-  pub left : IsLeftOf (normal_form t) t
-  left = normal_left t fits bare (modules_tame t fits writable)
-
-  pub takes_same : taken_at PP (normal_form t) ≡ taken_at PP t
-  takes_same = (module_whole (stripped t) (stripped_fits t module_place bare refl fits) (modules_tame t fits writable)).takes ∙ stripped_takes t fits bare
-
 -- ---- trees that are read by other names
 
 stands_named : (f : Ident → Ident) (t : Node) (p : Path) (w : Place) (k : Kind) (i : Ident) → place_at PP t p ≡ Some (w, Identifier k i) → place_at PP (with_identifiers f t) p ≡ Some (w, Identifier k (f i))
@@ -141,6 +105,10 @@ from_named f t p w k i h =
 
 clean_texts : (t : Node) → IsClean (by_texts t)
 clean_texts t p w k i h = let (l, j, e, is) = from_named by_text t p w k i h in ap (λ (i : Ident). i.ctxt) is
+
+-- a program of the goal is one
+named_of : (f : Ident → Ident) (goal : Slot) (t : Node) → IsOf goal t → IsOf goal (with_identifiers f t)
+named_of f goal t is = shaped goal t (with_identifiers f t) (sym (nameless_renamed f t)) is (λ p w k i h. let (l, j, e, n) = from_named f t p w k i h in is.settled p w l j e)
 
 -- export lists stand there too
 tree_back : (f : Ident → Ident) (c : Node) (l : Kind) (ts : List Node) → with_identifiers f c ≡ Tree l ts → (us : List Node) × (c ≡ Tree l us)
@@ -200,8 +168,19 @@ program_declares t plain b h =
     let bound : Bound (by_ids t) [] b.0 (id_name b.1) = record { path = d.path; place = d.place; kind = d.kind; identifier = by_id b.1; stands = there; stands_so = d.stands_so; named = refl; unmarked = refl; taken = sym takers ∙ d.taken } in
     way_declares (by_ids t) plain (id_name b.1) [] true b.0 bound (settled_way b.0 (λ e. plain.settled d.path d.place d.kind (by_id b.1) there (d.stands_so ∙ e)))
 
-module _ (apart : NamesAreApart) (texts : HygieneGivesNormalFormNewTexts) (stays : HygieneStaysWritable) (table : Table) (config : Config) (place : Places) (before middle : Node) (fits_before : Fits before module_place) (first : IsFinishable config before) (scoped : WellScoped before) (hygienic : IsHygienic table config before middle)
-    (fits_middle : Fits middle module_place) where
+-- ---- the laws that it rests on
+
+pub record Laws : Type 0 where
+  pub apart : NamesAreApart
+  pub texts : HygieneGivesNormalFormNewTexts
+  pub writable : HygieneStaysWritable
+  pub fits : HygieneStaysFitting
+  pub settled : HygieneStaysSettled
+  pub left : PlainScriptsAreLeft
+  pub whole : FixedScriptsLoseNoName
+
+module _ (laws : Laws) (table : Table) (config : Config) (place : Places) (goal : Slot) (before middle : Node) (is : IsTrue (is_goal goal)) (fits_before : Fits before goal) (first : IsFinishable config before) (plain : IsPlainIfScript before)
+    (scoped : WellScoped before) (hygienic : IsHygienic table config before middle) where
   abbrev after : Node
   after = fixed place middle
 
@@ -212,34 +191,39 @@ module _ (apart : NamesAreApart) (texts : HygieneGivesNormalFormNewTexts) (stays
   K = normal_form middle
 
   given : HasHygienicTexts before middle
-  given = texts table config before middle first.plain fits_before first.writable hygienic
+  given = laws.texts table config goal before middle is first.plain fits_before first.writable hygienic
 
   abbrev text : List ℕ → List ℕ
   text = text_by given.new_texts
 
+  fits_middle : Fits middle goal
+  fits_middle = laws.fits table config goal before middle is first.plain fits_before hygienic
+
   writable_middle : Writable middle
-  writable_middle = stays table config module_place before middle first.plain fits_before first.writable hygienic
+  writable_middle = laws.writable table config goal before middle first.plain fits_before first.writable hygienic
+
+  fits_after : Fits after goal
+  fits_after = answer_fits_table place (stripped middle) goal (stripped_fits middle goal (targets_stand_bare middle goal fits_middle writable_middle) (goal_open goal is) fits_middle)
 
   writable_after : Writable after
-  writable_after = (fixed_fits place middle module_place refl fits_middle writable_middle).0
-
-  fits_after : Fits after module_place
-  fits_after = answer_fits_table place (stripped middle) module_place (stripped_fits middle module_place (bare middle fits_middle writable_middle) refl fits_middle)
+  writable_after = (fixed_fits place middle goal (goal_open goal is) fits_middle writable_middle).0
 
   same_form : normal_form after ≡ K
-  same_form = normal_form_stays place middle (fits_well middle module_place fits_middle)
+  same_form = normal_form_stays place middle (fits_well middle goal fits_middle)
 
-  -- ---- the answer keeps the scopes of its normal form
+  -- ---- the three are plain programs
 
-  keeps_form : KeepsScopes after (normal_form after)
-  keeps_form =
-      let b = bare after fits_after writable_after in
-      let w = module_whole (stripped after) (stripped_fits after module_place b refl fits_after) (modules_tame after fits_after writable_after) in
-      let e = stripping_answers_loses_none place middle fits_middle writable_middle in record {
-        variables = λ i env h. w.names (standing.Variable, i, env) (subst (λ (a : Sites). In {X = Site} (standing.Variable, i, env) a.sites) (sym e) h);
-        sets = λ bs h. subst (In bs) (sym w.sets) (subst (λ (a : Sites). In bs a.sets) (sym e) h);
-        program = sym (takes_same after fits_after writable_after);
-      }
+  form_before : Formed goal before
+  form_before = formed laws.left goal before is fits_before first.writable (settled_before goal before fits_before plain)
+
+  settled_middle : IsSettledIn goal middle
+  settled_middle e = laws.settled table config goal before middle is first.plain fits_before hygienic (settled_before goal before fits_before plain e)
+
+  form_middle : Formed goal middle
+  form_middle = formed laws.left goal middle is fits_middle writable_middle settled_middle
+
+  answer : Answered goal after
+  answer = answered laws.left laws.whole place middle goal is fits_middle writable_middle settled_middle fits_after writable_after
 
   -- ---- the normal forms have one shape
 
@@ -273,76 +257,52 @@ module _ (apart : NamesAreApart) (texts : HygieneGivesNormalFormNewTexts) (stays
 
   -- ---- together
 
-  module_before : IsTrue (is_module before)
-  module_before = fits_module before fits_before
-
-  ids_plain : IsPlain (by_ids before)
-  ids_plain = plain_module (by_ids before) (renamed_module by_id before module_before) (clean_ids before)
-
   keeps_before : KeepsScopes N before
-  keeps_before = left_keeps before N (left before fits_before first.writable) (takes_same before fits_before first.writable)
+  keeps_before = left_keeps before N form_before.left form_before.takes
 
   keeps_texts : KeepsScopes (by_texts after) F
-  keeps_texts = keeps_by by_text K after (subst (KeepsScopes after) same_form keeps_form)
+  keeps_texts = keeps_by by_text K after (subst (KeepsScopes after) same_form answer.keeps)
+
+  of_before : IsOf goal (by_ids before)
+  of_before = named_of by_id goal before form_before.own
+
+  of_normal : IsOf goal (by_ids N)
+  of_normal = named_of by_id goal N form_before.normal
+
+  of_texts : IsOf goal F
+  of_texts = named_of by_text goal K form_middle.normal
+
+  of_after : IsOf goal (by_texts after)
+  of_after = named_of by_text goal after answer.form.own
 
   answers : Answers (by_ids before) (by_ids N) F (by_texts after) text
   answers = record {
-    modules = (renamed_module by_id before module_before, renamed_module by_id N (normal_module before fits_before), renamed_module by_text K (normal_module middle fits_middle), renamed_module by_text after (fits_module after fits_after));
+    fair = (plain_of goal (by_ids before) of_before, λ s. (plain (script_too goal (by_ids before) before of_before form_before.own s)).no_parameter_repeated);
+    plain = (plain_of goal (by_ids N) of_normal, plain_of goal F of_texts, plain_of goal (by_texts after) of_after);
+    goals = (one_goal goal (by_ids before) (by_ids N) of_before of_normal, one_goal goal (by_ids before) F of_before of_texts, one_goal goal (by_ids before) (by_texts after) of_before of_after);
     clean = (clean_ids before, clean_ids N, clean_texts K, clean_texts after);
-    left = ids_are_left N before (left before fits_before first.writable);
+    left = ids_are_left N before form_before.left;
     program = (keeps_by by_id before N keeps_before).program;
     one = scoped.each_in_one_scope;
-    apart = captures_none before text scoped module_before
-        (apart before fits_before module_before scoped first.writable hygiene_renaming given.new_texts text (λ x. refl) given.named (text_of_id given.new_texts));
+    apart = captures_none before text scoped (plain_of goal before form_before.own)
+        (laws.apart before goal fits_before (plain_of goal before form_before.own) scoped first.writable hygiene_renaming given.new_texts text (λ x. refl) given.named (text_of_id given.new_texts));
     shape = same_by_ids;
     texts = new_texts;
     keeps = keeps_texts;
   }
 
-  -- a word without digits is declared in the answer only where the module declares it
+  -- a word without digits is declared in the answer only where the program declares it
   declared_word : (word : List ℕ) → list_any is_digit word ≡ false → IsDeclared (by_texts after) word → IsDeclared (by_texts before) word
   declared_word word none d =
-      let (p, r, b) = declared_stays F (by_texts after) answers.modules.2 answers.modules.3 (clean_texts K) (clean_texts after) keeps_texts word d in
+      let (p, r, b) = declared_stays F (by_texts after) answers.plain.1 answers.plain.2 (clean_texts K) (clean_texts after) keeps_texts word d in
       let at = b.at in
       let (m, y, there, is) = from_named by_text K p at.place at.kind at.identifier at.stands in
-      let (k, i, e) = same_shape.back p at.place m y there in
+      let (l, i, e) = same_shape.back p at.place m y there in
       let names : IsTrue (is_name at.place.standing) = subst (λ r. IsTrue (is_name r)) (sym at.stands_so) (binding_names r b.binds) in
-      let own : i.sym ≡ word = same_word before _ _ given.new_texts given.named i word none (sym (named p at.place at.place k at.kind i at.identifier e at.stands names) ∙ at.named) in
-      declared_stays (by_texts before) (by_texts N) (renamed_module by_text before module_before) (renamed_module by_text N (normal_module before fits_before)) (clean_texts before) (clean_texts N)
-      (keeps_by by_text before N keeps_before) word
-      (p, r, record { at = record { place = at.place; kind = k; identifier = by_text i; stands = stands_named by_text N p at.place k i e; stands_so = at.stands_so; named = own }; binds = b.binds })
-
-  -- what the module exports its program declares
-  exported_before : (j : Ident) → In j (exported_locals N) → Declares (by_ids before) [] (id_name j)
-  exported_before j h =
-      let b = bare before fits_before first.writable in
-      ⊎_elim
-      (λ g.
-      let f = found before before j refl (subst (In j) (stripped_exports_the_same before fits_before b) g) in
-      scoped.exports_declared f.path (id_name j) (list_forth by_id before f.path f.listed)
-      (record { place = Local; kind = f.kind; identifier = by_id j; stands = stands_named by_id before f.path Local f.kind j f.stands; stands_so = refl; named = refl }))
-      (λ (g : ProgramTakes (stripped before) j).
-      subst (Declares (by_ids before) []) (id_name_same g.0.1 j g.2) (program_declares before ids_plain g.0 (subst (In g.0) (stripped_takes before fits_before b) g.1)))
-      ((written_out_exports (stripped before) (stripped_fits before module_place b refl fits_before) (modules_tame before fits_before first.writable)).gained j h)
-
-  exports_declared : ExportsDeclared (by_texts after)
-  exports_declared p name inside at =
-      let b = bare after fits_after writable_after in
-      let (l, y, e, is) = from_named by_text after p at.place at.kind at.identifier at.stands in
-      let own = export_lists_are_listed after fits_after (lists_are_items after fits_after (writable_has_no_namespaces after module_place fits_after writable_after)) p at.place l y (list_back by_text after p inside) e at.stands_so in
-      let left_there = subst (In y) (sym (stripped_exports_the_same after fits_after b)) own in
-      let written = (written_out_exports (stripped after) (stripped_fits after module_place b refl fits_after) (modules_tame after fits_after writable_after)).kept y left_there in
-      let f = found K N y (sym given.normal.shape) (subst (λ t. In y (exported_locals t)) same_form written) in
-      let new : y.sym ≡ new_text given.new_texts f.other = named f.path Local Local f.kind f.kind f.other (by_text y) f.there (stands_named by_text K f.path Local f.kind y f.stands) refl in
-      subst (Declares (by_texts after) []) (text_of_id given.new_texts f.other ∙ sym new ∙ ap (λ (i : Ident). i.sym) (sym is) ∙ at.named)
-      (answer_declares (by_ids before) (by_ids N) F (by_texts after) text answers (id_name f.other) (exported_before f.other f.own))
-
-  pub no_early_error : NoEarlyErrorOfNames after
-  no_early_error = record {
-    exports_declared = exports_declared;
-    no_redeclaration = answer_redeclares_none (by_ids before) (by_ids N) F (by_texts after) text answers scoped.no_redeclaration;
-    no_eval_or_arguments = ((λ d. scoped.no_eval_or_arguments.0 (declared_word (codes "eval") refl d)), (λ d. scoped.no_eval_or_arguments.1 (declared_word (codes "arguments") refl d)));
-  }
+      let own : i.sym ≡ word = same_word before _ _ given.new_texts given.named i word none (sym (named p at.place at.place l at.kind i at.identifier e at.stands names) ∙ at.named) in
+      declared_stays (by_texts before) (by_texts N) (plain_of goal (by_texts before) (named_of by_text goal before form_before.own)) (plain_of goal (by_texts N) (named_of by_text goal N form_before.normal))
+      (clean_texts before) (clean_texts N) (keeps_by by_text before N keeps_before) word
+      (p, r, record { at = record { place = at.place; kind = l; identifier = by_text i; stands = stands_named by_text N p at.place l i e; stands_so = at.stands_so; named = own }; binds = b.binds })
 
   pub by_the_rules : DeclaresByTheRules after
   by_the_rules = record {
@@ -350,10 +310,47 @@ module _ (apart : NamesAreApart) (texts : HygieneGivesNormalFormNewTexts) (stays
     no_eval_or_arguments = ((λ d. scoped.no_eval_or_arguments.0 (declared_word (codes "eval") refl d)), (λ d. scoped.no_eval_or_arguments.1 (declared_word (codes "arguments") refl d)));
   }
 
-pub answer_declares_by_the_rules : NamesAreApart → HygieneGivesNormalFormNewTexts → HygieneStaysWritable → HygieneStaysFitting → AnswerDeclaresByTheRules
-answer_declares_by_the_rules apart texts stays fitting table config place before middle fits_before first scoped hygienic =
-    by_the_rules apart texts stays table config place before middle fits_before first scoped hygienic (fitting table config before middle first.plain fits_before hygienic)
+  -- ---- what export lists name: no script has one
 
-pub answer_has_no_early_error_of_names : NamesAreApart → HygieneGivesNormalFormNewTexts → HygieneStaysWritable → HygieneStaysFitting → AnswerHasNoEarlyErrorOfNames
-answer_has_no_early_error_of_names apart texts stays fitting table config place before middle fits_before first scoped hygienic =
-    no_early_error apart texts stays table config place before middle fits_before first scoped hygienic (fitting table config before middle first.plain fits_before hygienic)
+  -- what the module exports its program declares
+  exported_before : Fits before module_place → (j : Ident) → In j (exported_locals N) → Declares (by_ids before) [] (id_name j)
+  exported_before fits j h =
+      let b = bare before fits first.writable in
+      ⊎_elim
+      (λ g.
+      let f = found before before j refl (subst (In j) (stripped_exports_the_same before fits b) g) in
+      scoped.exports_declared f.path (id_name j) (list_forth by_id before f.path f.listed)
+      (record { place = Local; kind = f.kind; identifier = by_id j; stands = stands_named by_id before f.path Local f.kind j f.stands; stands_so = refl; named = refl }))
+      (λ (g : ProgramTakes (stripped before) j).
+      subst (Declares (by_ids before) []) (id_name_same g.0.1 j g.2)
+      (program_declares before (plain_clean (by_ids before) (plain_of goal (by_ids before) of_before) (clean_ids before)) g.0 (subst (In g.0) (stripped_takes before fits b) g.1)))
+      ((written_out_exports (stripped before) (stripped_fits before module_place b refl fits) (modules_tame before fits first.writable)).gained j h)
+
+  module_declares : Fits before module_place → Fits after module_place → ExportsDeclared (by_texts after)
+  module_declares fits fits_too p name inside at =
+      let b = bare after fits_too writable_after in
+      let (l, y, e, is) = from_named by_text after p at.place at.kind at.identifier at.stands in
+      let own = export_lists_are_listed after fits_too (lists_are_items module_place after refl fits_too (writable_has_no_namespaces after module_place fits_too writable_after)) p at.place l y (list_back by_text after p inside) e at.stands_so in
+      let left_there = subst (In y) (sym (stripped_exports_the_same after fits_too b)) own in
+      let written = (written_out_exports (stripped after) (stripped_fits after module_place b refl fits_too) (modules_tame after fits_too writable_after)).kept y left_there in
+      let f = found K N y (sym given.normal.shape) (subst (λ t. In y (exported_locals t)) same_form written) in
+      let new : y.sym ≡ new_text given.new_texts f.other = named f.path Local Local f.kind f.kind f.other (by_text y) f.there (stands_named by_text K f.path Local f.kind y f.stands) refl in
+      subst (Declares (by_texts after) []) (text_of_id given.new_texts f.other ∙ sym new ∙ ap (λ (i : Ident). i.sym) (sym is) ∙ at.named)
+      (answer_declares (by_ids before) (by_ids N) F (by_texts after) text answers (id_name f.other) (exported_before fits f.other f.own))
+
+  exports_declared : ExportsDeclared (by_texts after)
+  exports_declared = by_goal goal is fits_before fits_after
+    where
+      by_goal : (goal : Slot) → IsTrue (is_goal goal) → Fits before goal → Fits after goal → ExportsDeclared (by_texts after)
+      by_goal (slot.One (content.Node class.Module)) is f g = module_declares f g
+      by_goal (slot.One (content.Node class.Script)) is f g = λ p name inside at. absurd (no_list_in_scripts after p g (writable_has_no_namespaces after script_place g writable_after) (list_back by_text after p inside))
+      by_goal _ is f g = absurd (cc)
+
+  pub no_early_error : NoEarlyErrorOfNames after
+  no_early_error = record { exports_declared = exports_declared; no_redeclaration = by_the_rules.no_redeclaration; no_eval_or_arguments = by_the_rules.no_eval_or_arguments }
+
+pub answer_declares_by_the_rules : Laws → AnswerDeclaresByTheRules
+answer_declares_by_the_rules laws table config place goal before middle is fits first plain scoped hygienic = by_the_rules laws table config place goal before middle is fits first plain scoped hygienic
+
+pub answer_has_no_early_error_of_names : Laws → AnswerHasNoEarlyErrorOfNames
+answer_has_no_early_error_of_names laws table config place goal before middle is fits first plain scoped hygienic = no_early_error laws table config place goal before middle is fits first plain scoped hygienic

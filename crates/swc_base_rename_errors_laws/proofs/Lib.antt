@@ -1,3 +1,3 @@
-pub mod Texts
+pub mod Programs
 pub mod Listing
 pub mod Errors

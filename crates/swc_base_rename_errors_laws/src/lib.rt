@@ -6,11 +6,14 @@
 
 ghost use Rattle.swc_base_rename_errors_laws.specs.Laws.{AnswerDeclaresByTheRules, AnswerHasNoEarlyErrorOfNames};
 
-use swc_base_rename_hygiene_laws::{hygiene_stays_fitting, hygiene_stays_writable};
+use swc_base_rename_hygiene_laws::{
+    hygiene_stays_fitting, hygiene_stays_settled, hygiene_stays_writable,
+};
 use swc_base_rename_scoped_laws::names_are_apart;
 use swc_base_rename_texts_laws::hygiene_gives_normal_form_new_texts;
+use swc_tree_sites_scripts::{fixed_scripts_lose_no_name, plain_scripts_are_left};
 
-/// What hygiene and then the fixer answer to a well-scoped module that can be written down, where nothing reads names and
+/// What hygiene and then the fixer answer to a well-scoped program that can be written down, where nothing reads names and
 /// classes don't keep theirs, declares no name against the rules, and neither `eval` nor `arguments`.
 pub fn answer_declares_by_the_rules()
     ensures { AnswerDeclaresByTheRules }
@@ -19,6 +22,9 @@ pub fn answer_declares_by_the_rules()
     hygiene_gives_normal_form_new_texts();
     hygiene_stays_writable();
     hygiene_stays_fitting();
+    hygiene_stays_settled();
+    plain_scripts_are_left();
+    fixed_scripts_lose_no_name();
 }
 
 /// The answer has no early error of names: what its export lists name is declared, too.
@@ -29,4 +35,7 @@ pub fn answer_has_no_early_error_of_names()
     hygiene_gives_normal_form_new_texts();
     hygiene_stays_writable();
     hygiene_stays_fitting();
+    hygiene_stays_settled();
+    plain_scripts_are_left();
+    fixed_scripts_lose_no_name();
 }

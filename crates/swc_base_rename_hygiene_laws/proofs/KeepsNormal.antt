@@ -1,5 +1,5 @@
--- A module has the same normal form but for the names that it binds.
-use Rattle.std.proofs.Common.{◌≡◌, ℕ, zero, suc, Bool, true, false, not, ◌&&◌, ◌||◌, IsTrue, Option, Some, None, List, [], ◌∷◌, map, nat_eq, refl, sym, ap, ◌∙◌, subst, inl}
+-- A program has the same normal form but for the names that it binds.
+use Rattle.std.proofs.Common.{◌≡◌, ℕ, zero, suc, Bool, true, false, not, ◌&&◌, ◌||◌, IsTrue, Option, Some, None, List, [], ◌∷◌, map, nat_eq, refl, sym, ap, ◌∙◌, subst, inl, inr}
 use Rattle.std.specs.Prelude.{is_some, option_map, slice_get, if◌then◌else◌}
 use Rattle.std.specs.Cmp.Lexicographic.{pointwise}
 use Rattle.std.specs.List.{list_all, list_any}
@@ -19,9 +19,11 @@ use Rattle.swc_tree_node.specs.Table.{slots_of}
 use Rattle.swc_tree_scoping.specs.BoundNames.{Id, declared_ids}
 use Rattle.swc_tree_scoping.specs.Places.{program_place}
 use Rattle.swc_tree_scoping.specs.Readings.{by_texts}
+use Rattle.swc_tree_renaming.specs.Apart.{is_goal}
 use Rattle.swc_tree_grammar.specs.Forms.{is_using}
-use Rattle.swc_tree_grammar.specs.Normal.{made, normal_form, same_id}
+use Rattle.swc_tree_grammar.specs.Normal.{made, normal_form, same_id, written_out}
 use Rattle.swc_tree_grammar.specs.Same.{declared_names, same_tree}
+use Rattle.swc_tree_grammar.specs.Stripped.{stripped}
 use Rattle.swc_tree_grammar.specs.Writable.{Round, all_sound, is_bindable, is_writable}
 use Rattle.swc_tree_grammar.proofs.Asked.{of, sound, sound_list, sound_tree}
 use Rattle.swc_tree_grammar.proofs.Induction.{Each}
@@ -30,7 +32,9 @@ use Rattle.swc_tree_grammar.proofs.Places.{stands}
 use Rattle.swc_tree_grammar_texts.proofs.Cleared.{bare}
 use Rattle.swc_tree_grammar_texts.proofs.ClearedExports.{Agrees, AreApart, Exports, normal_texts, normals}
 use Rattle.swc_tree_grammar_texts.proofs.ClearedSame.{same_blind}
-use Rattle.swc_tree_grammar_texts.proofs.Inner.{fits_inner, is_inner}
+use Rattle.swc_tree_grammar_texts.proofs.ClearedStripped.{stripped_texts}
+use Rattle.swc_tree_grammar_texts.proofs.ClearedWritten.{written_same}
+use Rattle.swc_tree_grammar_texts.proofs.Inner.{fits_inner, is_inner, stripped_inner}
 use Rattle.swc_base_rename_substitution.specs.declared.place.Place.TheVariants as place
 use Rattle.swc_base_rename_substitution.specs.Identifiers.{Changes, id_of}
 use Rattle.swc_base_rename_substitution.specs.Names.{if_other_text, same_text}
@@ -44,6 +48,7 @@ use Rattle.swc_base_rename_analysis.specs.Preserved.{IsPreserved}
 use Rattle.swc_base_rename_analysis.proofs.Level.{each_in_order}
 use Rattle.swc_base_rename_naming_laws.specs.Rules.{counting}
 use Rattle.swc_base_rename_program.specs.Renamed.{hygiene_renaming, new_id_by}
+use Rattle.swc_base_rename_laws.specs.Laws.{IsProgram}
 use Rattle.swc_base_rename_laws.proofs.Impossible.{impossible}
 use Rattle.swc_base_rename_laws.proofs.NormalFormDeclared.{exported_declares}
 use Rattle.swc_base_rename_laws.proofs.NormalFormModule.{tree_only}
@@ -242,6 +247,23 @@ of_kind k ts b f = impossible b
 module_goal : (t : Node) → Fits t (slot.One (content.Node class.Module)) → Goal t
 module_goal t f = let x = tree_only class.Module refl refl t f in subst Goal (sym x.2) (of_kind x.0 x.1 x.4 x.5)
 
+-- nor does that of a tree without a module in it
+pub normal_inner : (t : Node) → IsTrue (is_inner t) → normal_form (by_texts t) ≡ by_texts (normal_form t)
+normal_inner t h = ap written_out (stripped_texts t) ∙ written_same (stripped t) (stripped_inner t h)
+
+pub is_program : (goal : Slot) (t : Node) → IsTrue (is_goal goal) → Fits t goal → IsProgram t
+is_program (slot.One (content.Node class.Module)) t g f = inl f
+is_program (slot.One (content.Node class.Script)) t g f = inr f
+is_program _ t g f = impossible g
+
+pub program_goal : (goal : Slot) (t : Node) (new_texts : Id → Option (List ℕ)) → IsTrue (is_goal goal) → Texts t new_texts → Fits t goal → IsTrue (is_writable t)
+    → normal_form (by_texts (substituted (new_id_by new_texts) false place.Other t)) ≡ by_texts (normal_form (substituted (new_id_by new_texts) false place.Other t))
+program_goal (slot.One (content.Node class.Module)) t new_texts g named f writable = module_goal t f new_texts named f writable
+program_goal (slot.One (content.Node class.Script)) t new_texts g named f writable =
+    let script = slot.One (content.Node class.Script) in
+    normal_inner _ (fits_inner _ script refl (substituted_fits (new_id_by new_texts) false t _ refl script refl f))
+program_goal _ t new_texts g named f writable = impossible g
+
 -- the names that change are declared
 declared : (t : Node) (new_texts : Id → Option (List ℕ)) → Texts t new_texts → (i : Ident) → IsTrue (is_some (new_id_by new_texts (id_of i))) → IsTrue (list_any (same_id i) (declared_names t))
 declared t new_texts named i h = by (new_texts (id_of i)) refl
@@ -251,7 +273,7 @@ declared t new_texts named i h = by (new_texts (id_of i)) refl
     by (Some text) e = let (a, n) = named.no_other (id_of i) text e in declared_there i t a.1 n.declared.standing n.declared.stands n.declared.binds
 
 pub hygiene_keeps_normal_form : HygieneKeepsNormalForm
-hygiene_keeps_normal_form table config before after plain fits writable (given, renamed, cleared) =
+hygiene_keeps_normal_form table config goal before after g plain fits writable (given, renamed, cleared) =
     let names = plain_names table config before given plain renamed in
     let m = new_id_by names.new_texts in
     let answer = substituted m false place.Other before in
@@ -259,6 +281,6 @@ hygiene_keeps_normal_form table config before after plain fits writable (given, 
     ap (λ t. same (normal_form t)) cleared
     ∙ by_test _ before given names (λ t. same (normal_form (by_texts t))) (λ s.
     ap (λ t. same (normal_form (by_texts t))) s
-    ∙ ap same (module_goal before fits names.new_texts names.named fits writable)
+    ∙ ap same (program_goal goal before names.new_texts g names.named fits writable)
     ∙ same_blind (declared_names before) (normal_form before) program_place (normal_form answer)
-    ∙ kept.normal_form_stays m (declared_names before) before answer (declared before names.new_texts names.named) (inl fits) writable refl)
+    ∙ kept.normal_form_stays m (declared_names before) before answer (declared before names.new_texts names.named) (is_program goal before g fits) writable refl)

@@ -9,3 +9,7 @@ pub mod ExportsApart
 pub mod KeepsNormal
 pub mod StaysWritable
 mod Fitting
+mod Alike
+mod StaysSettled
+mod LabelsStay
+mod Settled

@@ -1,12 +1,10 @@
 -- What hygiene keeps of a program in which nothing reads names and where classes don't keep theirs.
-use Rattle.std.specs.Prelude.{◌≡◌, false}
+use Rattle.std.specs.Prelude.{◌≡◌, false, IsTrue}
 use Rattle.swc_tree_marks.specs.Globals.{Table}
 use Rattle.swc_tree_node.specs.declared.node.Node.{Node}
-use Rattle.swc_tree_node.specs.declared.kind.Class.TheVariants as class
-use Rattle.swc_tree_node.specs.declared.slot.Content.TheVariants as content
 use Rattle.swc_tree_node.specs.declared.slot.Slot.{Slot}
-use Rattle.swc_tree_node.specs.declared.slot.Slot.TheVariants as slot
 use Rattle.swc_tree_node.specs.Fits.{Fits}
+use Rattle.swc_tree_renaming.specs.Apart.{IsSettled, is_goal}
 use Rattle.swc_tree_grammar.specs.Same.{SameButForBoundNames}
 use Rattle.swc_tree_grammar.specs.Writable.{Writable}
 use Rattle.swc_base_rename_substitution.specs.declared.config.Config.{Config}
@@ -17,21 +15,24 @@ pub record IsPlain (config : Config) (t : Node) : Type 0 where
   pub renames_classes : config.keep_class_names ≡ false
   pub unread : ¬ IsRead config t
 
--- a module that can be written down, in which nothing reads names and where classes don't keep theirs
+-- a program that can be written down, in which nothing reads names and where classes don't keep theirs
 pub record IsFinishable (config : Config) (t : Node) : Type 0 where
   pub plain : IsPlain config t
   pub writable : Writable t
 
--- what is a module of the table still is one
+-- what is a program of the table still is one, of its goal
 abbrev pub HygieneStaysFitting : Type 0
-HygieneStaysFitting = (table : Table) (config : Config) (before after : Node) → IsPlain config before → Fits before (slot.One (content.Node class.Module)) → IsHygienic table config before after
-    → Fits after (slot.One (content.Node class.Module))
+HygieneStaysFitting = (table : Table) (config : Config) (goal : Slot) (before after : Node) → IsTrue (is_goal goal) → IsPlain config before → Fits before goal → IsHygienic table config before after → Fits after goal
 
 -- a tree that fits some place, as each module and each script does, and can be written down still can
 abbrev pub HygieneStaysWritable : Type 0
 HygieneStaysWritable = (table : Table) (config : Config) (place : Slot) (before after : Node) → IsPlain config before → Fits before place → Writable before → IsHygienic table config before after → Writable after
 
--- a module that can be written down has the same normal form but for the names that it binds
+-- a plain function stands in a block of sloppy code, and a label names a function, only where one did
+abbrev pub HygieneStaysSettled : Type 0
+HygieneStaysSettled = (table : Table) (config : Config) (goal : Slot) (before after : Node) → IsTrue (is_goal goal) → IsPlain config before → Fits before goal → IsHygienic table config before after → IsSettled before → IsSettled after
+
+-- a program that can be written down has the same normal form but for the names that it binds
 abbrev pub HygieneKeepsNormalForm : Type 0
-HygieneKeepsNormalForm = (table : Table) (config : Config) (before after : Node) → IsPlain config before → Fits before (slot.One (content.Node class.Module)) → Writable before
+HygieneKeepsNormalForm = (table : Table) (config : Config) (goal : Slot) (before after : Node) → IsTrue (is_goal goal) → IsPlain config before → Fits before goal → Writable before
     → IsHygienic table config before after → SameButForBoundNames before after

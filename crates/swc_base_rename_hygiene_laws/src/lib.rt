@@ -3,9 +3,9 @@
 //! `specs/Laws.antt` states the laws. Each is the contract of a function that does nothing, so that it is proved.
 #![tactic(auto)]
 
-ghost use Rattle.swc_base_rename_hygiene_laws.specs.Laws.{HygieneKeepsNormalForm, HygieneStaysFitting, HygieneStaysWritable};
+ghost use Rattle.swc_base_rename_hygiene_laws.specs.Laws.{HygieneKeepsNormalForm, HygieneStaysFitting, HygieneStaysSettled, HygieneStaysWritable};
 
-/// A module of the table is one still, where nothing reads names and classes don't keep theirs.
+/// A program of the table is one still, of its goal, where nothing reads names and classes don't keep theirs.
 pub fn hygiene_stays_fitting()
     ensures { HygieneStaysFitting }
 {}
@@ -15,7 +15,13 @@ pub fn hygiene_stays_writable()
     ensures { HygieneStaysWritable }
 {}
 
-/// A module that can be written down has the same normal form but for the names that it binds, where nothing reads names
+/// A plain function stands in a block of sloppy code, and a label names a function, only where one did, where nothing reads
+/// names and classes don't keep theirs.
+pub fn hygiene_stays_settled()
+    ensures { HygieneStaysSettled }
+{}
+
+/// A program that can be written down has the same normal form but for the names that it binds, where nothing reads names
 /// and classes don't keep theirs.
 pub fn hygiene_keeps_normal_form()
     ensures { HygieneKeepsNormalForm }

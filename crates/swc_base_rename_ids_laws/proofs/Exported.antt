@@ -1,4 +1,4 @@
--- A clean module that is resolved has its normal form without contexts: what an exported declaration declares has one mark.
+-- A clean program that is resolved has its normal form without contexts: what an exported declaration declares has one mark.
 use Rattle.std.proofs.Common.{◌≡◌, ◌≢◌, ℕ, Bool, true, false, ◌&&◌, IsTrue, inl, inr, Some, None, List, [], ◌∷◌, map, nat_eq, refl, sym, ap, ◌∙◌, subst, cond}
 use Rattle.std.specs.Prelude.{slice_get}
 use Rattle.std.specs.Cmp.Lexicographic.{pointwise}
@@ -8,6 +8,7 @@ use Rattle.swc_tree_node.specs.declared.kind.Kind.{Kind}
 use Rattle.swc_tree_node.specs.declared.kind.Kind.TheVariants as kind
 use Rattle.swc_tree_node.specs.declared.kind.Class.TheVariants as class
 use Rattle.swc_tree_node.specs.declared.slot.Content.TheVariants as content
+use Rattle.swc_tree_node.specs.declared.slot.Slot.{Slot}
 use Rattle.swc_tree_node.specs.declared.slot.Slot.TheVariants as slot
 use Rattle.swc_tree_node.specs.declared.node.Node.{Node, List as Many, Identifier, Tree, out-Node}
 use Rattle.swc_tree_node.specs.declared.node.Node.TheOpen.{Node-F}
@@ -24,13 +25,15 @@ use Rattle.swc_tree_scoping.specs.Readings.{by_texts}
 use Rattle.swc_tree_scoping.specs.Resolved.{Contexts, HasDeclarersMark, Resolved, remarked}
 use Rattle.swc_tree_scoping.specs.WellScoped.{IsClean, is_module}
 use Rattle.swc_tree_scoping.proofs.Remarked.{identifier_is}
-use Rattle.swc_tree_renaming.specs.Apart.{SameScopes, nameless}
+use Rattle.swc_tree_renaming.specs.Apart.{SameScopes, is_goal, nameless}
 use Rattle.swc_tree_renaming.proofs.Core.{declared_taker}
+use Rattle.swc_tree_renaming.proofs.Global.{fits_module}
 use Rattle.swc_tree_renaming.proofs.Shape.{nameless_remarked, same_scopes, some_same}
 use Rattle.swc_tree_renaming.proofs.Strict.{no_sloppy_in_modules}
 use Rattle.swc_tree_renaming.proofs.Whole.{identifier_same, module_layer, stands_there}
 use Rattle.swc_base_resolver_laws.proofs.Same.{clean_stays, texts_stay}
 use Rattle.swc_tree_sites_laws.proofs.LeftStripped.{on_modules}
+use Rattle.swc_tree_sites_scripts.specs.Laws.{script_place}
 use Rattle.swc_tree_grammar.specs.Normal.{made, normal_form, same_id}
 use Rattle.swc_tree_grammar.specs.Writable.{Round as Code, all_sound, is_writable}
 use Rattle.swc_tree_grammar.specs.Shapes.{items_of}
@@ -51,8 +54,9 @@ use Rattle.swc_base_rename_laws.proofs.NormalFormStays.{before, items_become}
 use Rattle.swc_base_rename_laws.proofs.Unchanged.{stays}
 use Rattle.swc_base_rename_hygiene_laws.proofs.ExportsApart.{ApartIfKept, exports_apart}
 use Rattle.swc_base_rename_hygiene_laws.proofs.Found.{AllOf, Found}
-use Rattle.swc_base_rename_hygiene_laws.proofs.KeepsNormal.{both_true, each_from, fit_at, items_sound, sound_at}
+use Rattle.swc_base_rename_hygiene_laws.proofs.KeepsNormal.{both_true, each_from, fit_at, items_sound, normal_inner, sound_at}
 use Rattle.swc_base_rename_hygiene_laws.proofs.TopDeclared.{TopBinding, decl_found, decl_place, no_own_block, top_binding}
+use Rattle.swc_base_rename_ids_laws.proofs.Programs.{by_goal}
 
 -- ---- where the program is the only scope round a path
 
@@ -175,8 +179,10 @@ cleared = on_modules Cleared (λ x y z f.
 pub texts_again : (answer u : Node) (c : Contexts) → u ≡ remarked c answer → IsClean answer → by_texts u ≡ answer
 texts_again answer u c e clean = ap by_texts e ∙ texts_stay c answer ∙ clean_stays answer program_place clean
 
-pub normal_cleared : (unresolved top : ℕ) (old new : List (ℕ × ℕ)) (answer u : Node) → IsClean answer → IsTrue (is_module answer) → Resolved unresolved top old new answer u → Fits u (slot.One (content.Node class.Module)) → IsTrue (is_writable u)
+pub normal_cleared : (goal : Slot) → IsTrue (is_goal goal) → (unresolved top : ℕ) (old new : List (ℕ × ℕ)) (answer u : Node) → IsClean answer → Fits answer goal → Resolved unresolved top old new answer u → Fits u goal → IsTrue (is_writable u)
     → normal_form answer ≡ by_texts (normal_form u)
-normal_cleared unresolved top old new answer u clean module_answer r f w =
+normal_cleared goal is unresolved top old new answer u clean f r g w =
     ap normal_form (sym (texts_again answer u r.contexts r.only_contexts clean))
-    ∙ cleared u f (top ∷ []) (top_mark unresolved top old new answer u clean module_answer r) w
+    ∙ by_goal (λ goal. Fits answer goal → Fits u goal → normal_form (by_texts u) ≡ by_texts (normal_form u))
+    (λ f g. cleared u g (top ∷ []) (top_mark unresolved top old new answer u clean (fits_module answer f) r) w)
+    (λ f g. normal_inner u (fits_inner u script_place refl g)) goal is f g

@@ -1,42 +1,38 @@
 -- The laws of what hygiene does put together: ids are kept.
-use Rattle.std.proofs.Common.{◌≡◌, ℕ, IsTrue, Option, Some, List, [], ◌∷◌, refl, sym, ap, ◌∙◌, subst}
+use Rattle.std.proofs.Common.{◌≡◌, ℕ, IsTrue, inl, inr, Option, Some, List, [], refl, sym, ap, ◌∙◌, subst}
 use Rattle.std.specs.Prelude.{if◌then◌else◌}
-use Rattle.std.specs.List.{flat_map}
 use Rattle.swc_tree_marks.specs.Globals.{Table}
 use Rattle.swc_tree_marks.specs.declared.ident.Ident.{Ident}
 use Rattle.swc_tree_node.specs.declared.kind.Kind.{Kind}
-use Rattle.swc_tree_node.specs.declared.kind.Kind.TheVariants as kind
-use Rattle.swc_tree_node.specs.declared.kind.Class.TheVariants as class
-use Rattle.swc_tree_node.specs.declared.slot.Content.TheVariants as content
 use Rattle.swc_tree_node.specs.declared.slot.Slot.{Slot}
-use Rattle.swc_tree_node.specs.declared.slot.Slot.TheVariants as slot
-use Rattle.swc_tree_node.specs.declared.node.Node.{Node, List as Many, Identifier, Tree}
-use Rattle.swc_tree_node.specs.declared.node.Node.TheVariants.{outs-Tree}
+use Rattle.swc_tree_node.specs.declared.node.Node.{Node, Identifier}
 use Rattle.swc_tree_node.specs.Fits.{Fits, fits}
 use Rattle.swc_tree_scoping.specs.declared.places.Place.{Place}
 use Rattle.swc_tree_scoping.specs.Places.{Path, place_at, program_place}
 use Rattle.swc_tree_scoping.specs.Scopes.{is_name}
 use Rattle.swc_tree_scoping.specs.Readings.{by_ids, by_texts}
-use Rattle.swc_tree_scoping.specs.Resolved.{Resolved}
-use Rattle.swc_tree_scoping.specs.WellScoped.{IsClean, WellScoped, is_module}
+use Rattle.swc_tree_scoping.specs.Resolved.{Resolved, is_global_value, is_script}
+use Rattle.swc_tree_scoping.specs.WellScoped.{IsClean, WellScoped}
 use Rattle.swc_tree_scoping.proofs.Remarked.{fits-remarked}
-use Rattle.swc_tree_renaming.specs.Apart.{CapturesNone, HasTexts, Knows, MeanTheirIds, SameId, SameIds, SameScopes, nameless, no_name}
-use Rattle.swc_tree_renaming.proofs.Shape.{nameless_by_ids, same_scopes, some_same, twice}
-use Rattle.swc_tree_renaming.proofs.Whole.{captures_none, from_ids, identifier_same}
-use Rattle.swc_tree_grammar.specs.Normal.{normal_form, split, written_out}
-use Rattle.swc_tree_grammar.specs.Shapes.{items_of}
+use Rattle.swc_tree_renaming.specs.Apart.{CapturesNone, DeclaresNoGlobalValue, HasNoSloppy, HasTexts, IsPlainIfScript, IsPlainProgram, Knows, MeanTheirIds, SameId, SameIds, SameScopes, is_goal, nameless, no_name}
+use Rattle.swc_tree_renaming.proofs.Core.{takers_same}
+use Rattle.swc_tree_renaming.proofs.Global.{fits_goal, fits_script, means_no_global_value, module_settled, plain_of_goal}
+use Rattle.swc_tree_renaming.proofs.Labels.{same_labels}
+use Rattle.swc_tree_renaming.proofs.Shape.{nameless_by_ids, nameless_remarked, same_scopes, some_same, twice}
+use Rattle.swc_tree_renaming.proofs.Whole.{captures_none, from_ids, identifier_same, script_too}
+use Rattle.swc_tree_grammar.specs.Normal.{normal_form}
 use Rattle.swc_tree_grammar.specs.Stripped.{stripped}
 use Rattle.swc_tree_grammar.specs.Writable.{Writable}
 use Rattle.swc_tree_grammar.proofs.Kept.{stripped_fits}
-use Rattle.swc_tree_grammar.proofs.Stripped.{stripped_other}
 use Rattle.swc_tree_grammar_texts.specs.Laws.{TextsAreAsWritable}
 use Rattle.swc_tree_grammar_texts.proofs.Cleared.{bare}
-use Rattle.swc_tree_grammar_texts.proofs.ClearedWritten.{written_of_tree}
 use Rattle.swc_tree_sites.specs.Sites.{taken_at}
+use Rattle.swc_tree_sites.specs.Smaller.{IsLeftOf}
+use Rattle.swc_tree_sites.proofs.Transport.{binding_names}
 use Rattle.swc_tree_sites_laws.specs.Laws.{IdsAreLeft, LeftKeepsIds, LeftMeanTheirIds, StrippedTakesTheSame}
-use Rattle.swc_tree_sites_laws.proofs.LeftStripped.{on_modules}
 use Rattle.swc_tree_sites_written.specs.Laws.{WrittenOutIsLeft}
 use Rattle.swc_tree_sites_tame.specs.Laws.{WritableModulesAreTame, WritableNormalFormIsLeft}
+use Rattle.swc_tree_sites_scripts.specs.Laws.{PlainScriptsAreLeft}
 use Rattle.swc_base_fixer_laws.specs.Laws.{TargetsStandBare}
 use Rattle.swc_base_rename_substitution.specs.declared.config.Config.{Config}
 use Rattle.swc_base_rename_program.specs.Renamed.{IsHygienic, hygiene_renaming}
@@ -46,27 +42,13 @@ use Rattle.swc_base_rename_scoped_laws.specs.Laws.{NamesAreApart, new_text}
 use Rattle.swc_base_rename_scoped_laws.proofs.TextsByName.{text_by, text_of_id}
 use Rattle.swc_base_rename_texts_laws.specs.Laws.{HasHygienicTexts, HygieneGivesNormalFormNewTexts}
 use Rattle.swc_base_rename_texts_laws.proofs.Cleared.{bare_there}
+use Rattle.swc_base_rename_texts_laws.proofs.Words.{same_word}
 use Rattle.swc_base_rename_hygiene_laws.specs.Laws.{IsFinishable}
-use Rattle.swc_base_rename_ids_laws.specs.Laws.{HygieneKeepsIds, HygieneKeepsMeanings, IsWrittenAs}
+use Rattle.swc_base_rename_ids_laws.specs.Laws.{HygieneKeepsIds, HygieneKeepsMeanings, IsSettledIfScript, IsWrittenAs}
 use Rattle.swc_base_rename_ids_laws.proofs.Exported.{normal_cleared, texts_again}
+use Rattle.swc_base_rename_ids_laws.proofs.Globals.{TakesNone, no_digit, settled_alike, takes_none_too}
+use Rattle.swc_base_rename_ids_laws.proofs.Programs.{by_goal, module_place, normal_is_module, normal_is_program, script_of_goal, settled_of_goal}
 use Rattle.swc_base_rename_ids_laws.proofs.Spans.{one_id, one_outline}
-
-abbrev module_place : Slot
-module_place = slot.One (content.Node class.Module)
-
--- ---- modules
-
-tree_is_module : (ts : List Node) → IsTrue (is_module (Tree kind.Module ts))
-tree_is_module ts = rw (outs-Tree kind.Module ts) refl
-
-module_is : (t : Node) → Fits t module_place → IsTrue (is_module t)
-module_is = on_modules (λ t. IsTrue (is_module t)) (λ x y z f. tree_is_module (x ∷ y ∷ z ∷ []))
-
-normal_is_module : (t : Node) → Fits t module_place → IsTrue (is_module (normal_form t))
-normal_is_module = on_modules (λ t. IsTrue (is_module (normal_form t))) (λ x y z f.
-    let is : normal_form (Tree kind.Module (x ∷ y ∷ z ∷ [])) ≡ Tree kind.Module (written_out (stripped x) ∷ Many (flat_map split (items_of (written_out (stripped y)))) ∷ written_out (stripped z) ∷ [])
-    = ap written_out (stripped_other kind.Module (x ∷ y ∷ z ∷ []) refl) ∙ written_of_tree kind.Module (stripped x ∷ stripped y ∷ stripped z ∷ []) in
-    subst (λ t. IsTrue (is_module t)) (sym is) (tree_is_module _))
 
 -- ---- trees of one shape
 
@@ -86,8 +68,16 @@ one_name w v k l i j o e g = identifier_same k l i j (ap (λ (q : Place × Node)
 
 -- ---- the laws
 
-module _ (apart : NamesAreApart) (texts : HygieneGivesNormalFormNewTexts) (left : WritableNormalFormIsLeft) (ids_left : IdsAreLeft) where
-  module _ (table : Table) (config : Config) (before middle answer : Node) (fits_before : Fits before module_place) (first : IsFinishable config before) (scoped : WellScoped before) (hygienic : IsHygienic table config before middle) (last : IsWrittenAs middle answer) where
+module _ (apart : NamesAreApart) (texts : HygieneGivesNormalFormNewTexts) (modules : WritableNormalFormIsLeft) (scripts : PlainScriptsAreLeft) (ids_left : IdsAreLeft) where
+  left : (goal : Slot) → IsTrue (is_goal goal) → (t : Node) → Fits t goal → Writable t → IsSettledIfScript t → IsLeftOf (normal_form t) t
+  left = by_goal (λ goal. (t : Node) → Fits t goal → Writable t → IsSettledIfScript t → IsLeftOf (normal_form t) t) (λ t f w s. modules t f w) (λ t f w s. (scripts t f w (s (fits_script t f))).left)
+
+  normal_settled : (goal : Slot) → IsTrue (is_goal goal) → (t : Node) → Fits t goal → Writable t → IsSettledIfScript t → HasNoSloppy (normal_form t)
+  normal_settled = by_goal (λ goal. (t : Node) → Fits t goal → Writable t → IsSettledIfScript t → HasNoSloppy (normal_form t))
+      (λ t f w s. module_settled (normal_form t) (normal_is_module t f)) (λ t f w s. (scripts t f w (s (fits_script t f))).settled.0)
+
+  module _ (table : Table) (config : Config) (goal : Slot) (before middle answer : Node) (is : IsTrue (is_goal goal)) (fits_before : Fits before goal) (first : IsFinishable config before) (plain_script : IsPlainIfScript before) (scoped : WellScoped before)
+      (hygienic : IsHygienic table config before middle) (last : IsWrittenAs goal middle answer) where
     abbrev N : Node
     N = normal_form before
 
@@ -95,13 +85,10 @@ module _ (apart : NamesAreApart) (texts : HygieneGivesNormalFormNewTexts) (left 
     L = normal_form answer
 
     given : HasHygienicTexts before middle
-    given = texts table config before middle first.plain fits_before first.writable hygienic
+    given = texts table config goal before middle is first.plain fits_before first.writable hygienic
 
     abbrev text : List ℕ → List ℕ
     text = text_by given.new_texts
-
-    is_one : IsTrue (is_module before)
-    is_one = module_is before fits_before
 
     shape : outline N ≡ outline L
     shape = given.normal.shape ∙ sym (one_outline L (normal_form middle) last.normal)
@@ -116,6 +103,25 @@ module _ (apart : NamesAreApart) (texts : HygieneGivesNormalFormNewTexts) (left 
 
     same_by_ids : SameScopes (by_ids N) L
     same_by_ids = through (by_ids N) N L (same_scopes (by_ids N) N (nameless_by_ids N)) same_shape
+
+    settled_before : IsSettledIfScript before
+    settled_before s = let p = plain_script s in (p.settled, p.unlabelled)
+
+    -- each of them is a plain program
+    plain_before : IsPlainProgram before
+    plain_before = plain_of_goal goal before is fits_before plain_script
+
+    plain_normal : IsPlainProgram N
+    plain_normal = (normal_is_program goal is before fits_before, normal_settled goal is before fits_before first.writable settled_before)
+
+    plain_answer : IsPlainProgram answer
+    plain_answer = (fits_goal goal answer is last.fits, settled_of_goal goal is answer last.fits last.settled)
+
+    plain_last : IsPlainProgram L
+    plain_last = (normal_is_program goal is answer last.fits, settled_alike N L same_shape plain_normal.1)
+
+    left_before : IsLeftOf N before
+    left_before = left goal is before fits_before first.writable settled_before
 
     -- what stands there got its text, and has no context
     named : (p : Path) (w v : Place) (k l : Kind) (i j : Ident) → place_at program_place N p ≡ Some (w, Identifier k i) → place_at program_place L p ≡ Some (v, Identifier l j)
@@ -134,53 +140,73 @@ module _ (apart : NamesAreApart) (texts : HygieneGivesNormalFormNewTexts) (left 
         (named p w v c l x j h g).0 n ∙ sym (text_of_id given.new_texts x) ∙ ap (λ (i : Ident). text i.sym) (sym is)
 
     no_capture : CapturesNone (by_ids before) text
-    no_capture = captures_none before text scoped is_one (apart before fits_before is_one scoped first.writable hygiene_renaming given.new_texts text (λ x. refl) given.named (text_of_id given.new_texts))
+    no_capture = captures_none before text scoped plain_before (apart before goal fits_before plain_before scoped first.writable hygiene_renaming given.new_texts text (λ x. refl) given.named (text_of_id given.new_texts))
 
     pub meanings_kept : LeftMeanTheirIds → MeanTheirIds L N
-    meanings_kept law =
-        law before N L text is_one (normal_is_module before fits_before) (normal_is_module answer last.fits) scoped.each_in_one_scope no_capture (ids_left N before (left before fits_before first.writable)) same_by_ids clean_answer new_texts
+    meanings_kept law = law before N L text plain_before plain_normal plain_last scoped.each_in_one_scope no_capture (ids_left N before left_before) same_by_ids clean_answer new_texts
 
-  pub hygiene_keeps_meanings : LeftMeanTheirIds → HygieneKeepsMeanings
-  hygiene_keeps_meanings law table config before middle answer fits_before first scoped hygienic last = meanings_kept table config before middle answer fits_before first scoped hygienic last law
+    -- a new text is that of a global value only where it is the old one
+    takes_none_new : TakesNone N → TakesNone L
+    takes_none_new none p w l j g b global taken =
+        let (k, i, e) = same_shape.back p w l j g in
+        let own : i.sym ≡ j.sym = same_word before _ _ given.new_texts given.named i j.sym (no_digit j.sym global) (sym ((named p w w k l i j e g).0 (binding_names w.standing b))) in
+        none p w k i e b (subst (λ x. IsTrue (is_global_value x)) (sym own) global) (takers_same N L same_shape w.standing p ∙ taken)
 
-  module _ (targets : TargetsStandBare) (tame : WritableModulesAreTame) (written : WrittenOutIsLeft) (stripped_takes : StrippedTakesTheSame) (as_writable : TextsAreAsWritable) (left_keeps : LeftKeepsIds) where
-    -- the program takes the same in the normal form
-    normal_takes : (t : Node) → Fits t module_place → Writable t → taken_at program_place (normal_form t) ≡ taken_at program_place t
-    normal_takes t f w =
-        let b = targets t module_place f w in
-        (written (stripped t) (stripped_fits t module_place b refl f) (tame t f w)).1 ∙ stripped_takes t f b
-
-    module _ (table : Table) (config : Config) (before middle answer u : Node) (unresolved top : ℕ) (old new : List (ℕ × ℕ)) (fits_before : Fits before module_place) (first : IsFinishable config before) (scoped : WellScoped before) (hygienic : IsHygienic table config before middle)
-        (last : IsWrittenAs middle answer) (knows : Knows old unresolved) (r : Resolved unresolved top old new answer u) where
+    module _ (targets : TargetsStandBare) (tame : WritableModulesAreTame) (written : WrittenOutIsLeft) (stripped_takes : StrippedTakesTheSame) (as_writable : TextsAreAsWritable) (left_keeps : LeftKeepsIds)
+        (u : Node) (unresolved top : ℕ) (old new : List (ℕ × ℕ)) (knows : Knows old unresolved) (r : Resolved unresolved top old new answer u) where
       abbrev M : Node
       M = normal_form u
 
-      abbrev O : Node
-      O = normal_form answer
-
-      fits_u : Fits u module_place
-      fits_u = ap (λ t. fits t module_place) r.only_contexts ∙ fits-remarked r.contexts answer module_place ∙ last.fits
+      fits_u : Fits u goal
+      fits_u = ap (λ t. fits t goal) r.only_contexts ∙ fits-remarked r.contexts answer goal ∙ last.fits
 
       writable_u : Writable u
       writable_u = sym (as_writable u) ∙ subst Writable (sym (texts_again answer u r.contexts r.only_contexts last.clean)) last.writable
 
-      cleared : O ≡ by_texts M
-      cleared = normal_cleared unresolved top old new answer u last.clean (module_is answer last.fits) r fits_u writable_u
+      same_but_contexts : nameless answer ≡ nameless u
+      same_but_contexts = sym (ap nameless r.only_contexts ∙ nameless_remarked r.contexts answer)
 
-      same_resolved : SameScopes O M
-      same_resolved = same_scopes O M (ap nameless cleared ∙ nameless_texts M)
+      settled_u : IsSettledIfScript u
+      settled_u s =
+          let whole = last.settled (script_too u answer (sym same_but_contexts) s) in
+          (settled_alike answer u (same_scopes answer u same_but_contexts) whole.0, sym (same_labels answer u same_but_contexts) ∙ whole.1)
 
-      kept_texts : HasTexts O (λ x. x) M
+      cleared : L ≡ by_texts M
+      cleared = normal_cleared goal is unresolved top old new answer u last.clean last.fits r fits_u writable_u
+
+      same_resolved : SameScopes L M
+      same_resolved = same_scopes L M (ap nameless cleared ∙ nameless_texts M)
+
+      kept_texts : HasTexts L (λ x. x) M
       kept_texts p w v k l i j e g n =
-          ap (λ (i : Ident). i.sym) (one_name v w l k (bare j) i (place_at program_place O p) (ap (λ t. place_at program_place t p) cleared ∙ bare_there p program_place v M l j g) e)
+          ap (λ (i : Ident). i.sym) (one_name v w l k (bare j) i (place_at program_place L p) (ap (λ t. place_at program_place t p) cleared ∙ bare_there p program_place v M l j g) e)
 
-      pub ids_kept : SameIds (normal_form before) M
+      -- the program takes the same in the normal form
+      takes : (t : Node) → Fits t goal → Writable t → IsSettledIfScript t → taken_at program_place (normal_form t) ≡ taken_at program_place t
+      takes = by_goal (λ goal. (t : Node) → Fits t goal → Writable t → IsSettledIfScript t → taken_at program_place (normal_form t) ≡ taken_at program_place t)
+          (λ t f w s. let b = targets t module_place f w in (written (stripped t) (stripped_fits t module_place b refl f) (tame t f w)).1 ∙ stripped_takes t f b)
+          (λ t f w s. (scripts t f w (s (fits_script t f))).takes) goal is
+
+      -- a script's answer takes no global value, since the script takes none
+      none_last : IsTrue (is_script before) → TakesNone L
+      none_last s = takes_none_new (takes_none_too before N (takes before fits_before first.writable settled_before) (λ p w k i h. (plain_script s).no_global_value p w k i s h))
+
+      declares_none : DeclaresNoGlobalValue answer
+      declares_none p w k i s =
+          takes_none_too L answer (sym (takes answer last.fits last.writable last.settled)) (none_last (script_of_goal goal is answer before last.fits fits_before (inl s))) p w k i
+
+      declares_none_last : DeclaresNoGlobalValue L
+      declares_none_last p w k i s = none_last (script_of_goal goal is answer before last.fits fits_before (inr s)) p w k i
+
+      pub ids_kept : SameIds N M
       ids_kept =
-          left_keeps before (normal_form before) answer O u M (text table config before middle answer fits_before first scoped hygienic last) unresolved top old new
-          (module_is before fits_before) (normal_is_module before fits_before) (module_is answer last.fits) (normal_is_module answer last.fits)
-          scoped.each_in_one_scope (no_capture table config before middle answer fits_before first scoped hygienic last) (ids_left (normal_form before) before (left before fits_before first.writable))
-          (same_by_ids table config before middle answer fits_before first scoped hygienic last) (clean_answer table config before middle answer fits_before first scoped hygienic last) (new_texts table config before middle answer fits_before first scoped hygienic last)
-          last.clean knows r (left u fits_u writable_u) (normal_takes u fits_u writable_u) same_resolved kept_texts
+          left_keeps before N answer L u M text unresolved top old new plain_before plain_normal plain_answer plain_last scoped.each_in_one_scope no_capture (ids_left N before left_before) same_by_ids clean_answer new_texts
+          last.clean knows r (left goal is u fits_u writable_u settled_u) (takes u fits_u writable_u settled_u) same_resolved kept_texts
+          (means_no_global_value answer plain_answer.1 declares_none) (means_no_global_value L plain_last.1 declares_none_last)
 
-    pub hygiene_keeps_ids : HygieneKeepsIds
-    hygiene_keeps_ids table config before middle answer u unresolved top old new fits_before first scoped hygienic last knows r = ids_kept table config before middle answer u unresolved top old new fits_before first scoped hygienic last knows r
+  pub hygiene_keeps_meanings : LeftMeanTheirIds → HygieneKeepsMeanings
+  hygiene_keeps_meanings law table config goal before middle answer is fits_before first plain scoped hygienic last = meanings_kept table config goal before middle answer is fits_before first plain scoped hygienic last law
+
+  pub hygiene_keeps_ids : TargetsStandBare → WritableModulesAreTame → WrittenOutIsLeft → StrippedTakesTheSame → TextsAreAsWritable → LeftKeepsIds → HygieneKeepsIds
+  hygiene_keeps_ids targets tame written stripped_takes as_writable left_keeps table config goal before middle answer u unresolved top old new is fits_before first plain scoped hygienic last knows r =
+      ids_kept table config goal before middle answer is fits_before first plain scoped hygienic last targets tame written stripped_takes as_writable left_keeps u unresolved top old new knows r

@@ -14,11 +14,12 @@ use swc_tree_grammar_texts::texts_are_as_writable;
 use swc_tree_sites_laws::{
     ids_are_left, left_keeps_ids, left_mean_their_ids, stripped_takes_the_same,
 };
+use swc_tree_sites_scripts::plain_scripts_are_left;
 use swc_tree_sites_tame::{writable_modules_are_tame, writable_normal_form_is_left};
 use swc_tree_sites_written::written_out_is_left;
 
-/// Each way to write down what hygiene made of a well-scoped module gets, from any resolver, one id for two names of it
-/// exactly if the module had one id for them.
+/// Each way to write down what hygiene made of a well-scoped program gets, from any resolver, one id for two names of it
+/// exactly if the program had one id for them.
 pub fn hygiene_keeps_ids()
     ensures { HygieneKeepsIds }
 {
@@ -28,20 +29,22 @@ pub fn hygiene_keeps_ids()
     writable_modules_are_tame();
     written_out_is_left();
     writable_normal_form_is_left();
+    plain_scripts_are_left();
     stripped_takes_the_same();
     ids_are_left();
     texts_are_as_writable();
     left_keeps_ids();
 }
 
-/// In each way to write down what hygiene made of a well-scoped module, two names of it have one text and one scope, or one text
-/// and no scope, exactly if the module had one id for them.
+/// In each way to write down what hygiene made of a well-scoped program, two names of it have one text and one scope, or one text
+/// and no scope, exactly if the program had one id for them.
 pub fn hygiene_keeps_meanings()
     ensures { HygieneKeepsMeanings }
 {
     names_are_apart();
     hygiene_gives_normal_form_new_texts();
     writable_normal_form_is_left();
+    plain_scripts_are_left();
     ids_are_left();
     left_mean_their_ids();
 }

@@ -19,9 +19,9 @@ use Rattle.swc_tree_scoping.specs.Scopes.{is_binding, is_name, is_reference, is_
 use Rattle.swc_tree_scoping.specs.BoundNames.{Id}
 use Rattle.swc_tree_scoping.specs.Declares.{Bound, Declares}
 use Rattle.swc_tree_scoping.specs.Resolved.{HasContext}
-use Rattle.swc_tree_scoping.specs.WellScoped.{EachInOneScope, InExportList, IsClean, IsDeclared, IsFree, Stands, WellScoped, is_module}
+use Rattle.swc_tree_scoping.specs.WellScoped.{EachInOneScope, InExportList, IsClean, IsDeclared, IsFree, Stands, WellScoped}
 use Rattle.swc_tree_scoping.proofs.Remarked.{tree_is}
-use Rattle.swc_tree_renaming.specs.Apart.{IsFreeName, NameAt, SameId, SameScopes, nameless}
+use Rattle.swc_tree_renaming.specs.Apart.{IsFreeName, IsPlainProgram, NameAt, SameId, SameScopes, nameless}
 use Rattle.swc_tree_renaming.proofs.Blank.{layer, out_is, place_at_same}
 use Rattle.swc_tree_renaming.proofs.Core.{first_in, taken_binds}
 use Rattle.swc_tree_renaming.proofs.Shape.{nameless_remarked, same_scopes}
@@ -36,7 +36,6 @@ use Rattle.swc_tree_sites.proofs.Transport.{OneTaker, binding_names, found, refe
 use Rattle.swc_tree_sites.proofs.Whole.{one_taker, one_taker_of_fewer}
 use Rattle.swc_tree_sites_laws.proofs.LeftIds.{clean_ids, plain_clean}
 use Rattle.swc_base_fixer_laws.specs.Laws.{FixedFitsTable, TargetsStandBare}
-use Rattle.swc_base_fixer_sites.proofs.Answers.{fits_module}
 use Rattle.swc_base_rename_analysis.specs.Ids.{IsBound}
 use Rattle.swc_base_rename_analysis.specs.Preserved.{IsLoose, is_name_or_label}
 use Rattle.swc_base_rename_scoped_laws.proofs.ByIds.{IsAt, from_id, id_of, one_name as one_id_name, to_id, to_ids}
@@ -46,7 +45,7 @@ use Rattle.swc_base_rename_contexts_laws.specs.Laws.{id_of_label}
 use Rattle.swc_base_rename_labels_laws.specs.Labels.{meant, unlabelled}
 use Rattle.swc_base_rename_labels_laws.specs.Laws.{FixedNamesAreLeft, HasNewLabels, IsReady, IsResolvedSo, LabelsAreIds, LooseNamesWereLoose, WasLoose}
 use Rattle.swc_base_rename_labels_laws.proofs.Changed.{changed_there, fits_changed, from_changed, nameless_changed, one_name}
-use Rattle.swc_base_rename_labels_laws.proofs.Meant.{fits_meant, is_left}
+use Rattle.swc_base_rename_labels_laws.proofs.Meant.{fits_meant, is_left, plain_module}
 use Rattle.swc_base_rename_labels_laws.proofs.Texts.{copied}
 
 abbrev module_place : Slot
@@ -113,12 +112,12 @@ module _ (t : Node) (fits : Fits t module_place) (scoped : WellScoped t) (q : Pa
 
 -- ---- names that are free in what is left
 
-module _ (t n : Node) (module_t : IsTrue (is_module t)) (module_n : IsTrue (is_module n)) (clean_t : IsClean t) (clean_n : IsClean n) (left : IsLeftOf n t) (each : EachInOneScope t) where
+module _ (t n : Node) (plain_t : IsPlainProgram t) (plain_n : IsPlainProgram n) (clean_t : IsClean t) (clean_n : IsClean n) (left : IsLeftOf n t) (each : EachInOneScope t) where
   whole : IsPlain t
-  whole = plain_clean t module_t clean_t
+  whole = plain_clean t plain_t clean_t
 
   plain : IsPlain n
-  plain = plain_clean n module_n clean_n
+  plain = plain_clean n plain_n clean_n
 
   one : OneTaker n
   one = one_taker_of_fewer t n left.scopes (one_taker t whole each)
@@ -165,7 +164,7 @@ module _ (left : FixedNamesAreLeft) (fits_table : FixedFitsTable) (bare_targets 
   fits_whole = fits_changed by_id before module_place ∙ ready.fits
 
   up_there : (x : List ℕ) → IsFreeName (by_ids M) x → IsFreeName (by_ids before) x
-  up_there = free_up (by_ids before) (by_ids M) (fits_module (by_ids before) fits_whole) (fits_module (by_ids M) fits_ids) (clean_ids before) (clean_ids M) (is_left left fits_table bare_targets texts before labels ready h) ready.scoped.each_in_one_scope
+  up_there = free_up (by_ids before) (by_ids M) (plain_module (by_ids before) fits_whole) (plain_module (by_ids M) fits_ids) (clean_ids before) (clean_ids M) (is_left left fits_table bare_targets texts before labels ready h) ready.scoped.each_in_one_scope
 
   module _ (y : Id) (l : IsLoose u y) (i : Ident) (at : IsAt u l.path l.standing i) (is : id_of i ≡ y) where
     -- the name in the answer with labels

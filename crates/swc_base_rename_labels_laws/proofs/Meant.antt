@@ -1,5 +1,5 @@
 -- What the labels of the fixer's answer stand for: its names' texts, and what they mean.
-use Rattle.std.proofs.Common.{◌≡◌, ℕ, Bool, true, false, IsTrue, Option, Some, None, List, [], ◌∷◌, ◌++◌, length, inl, refl, sym, ap, ◌∙◌, subst}
+use Rattle.std.proofs.Common.{◌≡◌, ℕ, Bool, true, false, Option, Some, None, List, [], ◌∷◌, ◌++◌, length, inl, refl, sym, ap, ◌∙◌, subst}
 use Rattle.std.specs.Prelude.{option_map, if◌then◌else◌}
 use Rattle.swc_tree_marks.specs.declared.ident.Ident.{Ident}
 use Rattle.swc_tree_node.specs.declared.kind.Class.TheVariants as class
@@ -10,8 +10,9 @@ use Rattle.swc_tree_node.specs.declared.node.Node.{Node, Identifier}
 use Rattle.swc_tree_node.specs.Fits.{Fits}
 use Rattle.swc_tree_scoping.specs.Places.{place_at, program_place}
 use Rattle.swc_tree_scoping.specs.Readings.{by_ids, by_texts, with_identifiers}
-use Rattle.swc_tree_scoping.specs.WellScoped.{IsClean, is_module}
-use Rattle.swc_tree_renaming.specs.Apart.{CapturesNone, HasTexts, MeanTheirIds, SameScopes}
+use Rattle.swc_tree_scoping.specs.WellScoped.{IsClean}
+use Rattle.swc_tree_renaming.specs.Apart.{CapturesNone, HasTexts, IsPlainProgram, MeanTheirIds, SameScopes}
+use Rattle.swc_tree_renaming.proofs.Global.{module_settled, plain_if_module}
 use Rattle.swc_tree_renaming.proofs.Shape.{same_scopes, twice}
 use Rattle.swc_tree_renaming.proofs.Whole.{by_id, captures_none}
 use Rattle.swc_tree_grammar.specs.Fixed.{fixed}
@@ -43,6 +44,9 @@ use Rattle.swc_base_rename_labels_laws.proofs.Texts.{fits_labelled, label_means,
 
 abbrev module_place : Slot
 module_place = slot.One (content.Node class.Module)
+
+pub plain_module : (t : Node) → Fits t module_place → IsPlainProgram t
+plain_module t f = let m = fits_module t f in (inl m, module_settled t m)
 
 -- ---- texts
 
@@ -100,9 +104,6 @@ module _ (left : FixedNamesAreLeft) (fits_table : FixedFitsTable) (bare_targets 
   pub fits_texts : Fits (by_texts labels) module_place
   fits_texts = fits_changed bare labels module_place ∙ fits_labels
 
-  pub meant_is_module : IsTrue (is_module (unlabelled labels))
-  meant_is_module = fits_module (unlabelled labels) fits_meant
-
   -- the labels' answer, by ids, and without labels
   shape : SameScopes A (by_texts labels)
   shape = same_scopes A (by_texts labels) (nameless_changed by_id (unlabelled labels) ∙ nameless_changed meant labels ∙ sym (nameless_changed bare labels))
@@ -111,7 +112,7 @@ module _ (left : FixedNamesAreLeft) (fits_table : FixedFitsTable) (bare_targets 
   text = text_by h.new_texts
 
   none : NamesAreApart → CapturesNone (by_ids before) text
-  none apart = captures_none before text ready.scoped (fits_module before ready.fits) (apart before ready.fits (fits_module before ready.fits) ready.scoped ready.writable hygiene_renaming h.new_texts text (λ x. refl) h.named (text_of_id h.new_texts))
+  none apart = captures_none before text ready.scoped (plain_module before ready.fits) (apart before module_place ready.fits (plain_module before ready.fits) ready.scoped ready.writable hygiene_renaming h.new_texts text (λ x. refl) h.named (text_of_id h.new_texts))
 
   has_texts : LabelsTellTexts → HasTexts A text (by_texts labels)
   has_texts tell p w v k l i j e g n =
@@ -122,7 +123,7 @@ module _ (left : FixedNamesAreLeft) (fits_table : FixedFitsTable) (bare_targets 
 
   mean : NamesAreApart → LabelsTellTexts → LeftMeanTheirIds → MeanTheirIds (by_texts labels) (unlabelled labels)
   mean apart tell law =
-      law before (unlabelled labels) (by_texts labels) text (fits_module before ready.fits) meant_is_module (fits_module (by_texts labels) fits_texts) ready.scoped.each_in_one_scope (none apart) is_left shape (clean_texts labels) (has_texts tell)
+      law before (unlabelled labels) (by_texts labels) text (plain_module before ready.fits) (plain_module (unlabelled labels) fits_meant) (plain_module (by_texts labels) fits_texts) ready.scoped.each_in_one_scope (none apart) is_left shape (clean_texts labels) (has_texts tell)
 
 pub labels_are_meant : FixedNamesAreLeft → FixedFitsTable → TargetsStandBare → TextsAreAsWritable → NamesAreApart → LabelsTellTexts → LeftMeanTheirIds → LabelsAreMeant
 labels_are_meant left fits_table bare_targets texts apart tell law before labels ready h = mean left fits_table bare_targets texts before labels ready h apart tell law
@@ -137,5 +138,5 @@ labels_are_ids left fits_table bare_targets texts meaning resolved before labels
     let (c, i0, first) = same.forth p w k i e in
     let (d, j0, second) = same.forth q v l j g in
     let one = meaning before labels ready h p q i0 j0 i j (w, c, first, n) (v, d, second, z) (w, k, e, n) (v, l, g, z) in
-    let two = resolved answer u r.unresolved r.top r.old r.new fits_answer (clean_texts labels) r.fair r.known r.resolved p q i0 j0 a b (w, c, first, n) (v, d, second, z) y x in
+    let two = resolved module_place answer u r.unresolved r.top r.old r.new refl fits_answer (plain_if_module answer (fits_module answer fits_answer)) (clean_texts labels) r.fair r.known r.resolved p q i0 j0 a b (w, c, first, n) (v, d, second, z) y x in
     ((λ s. one.0 (two.1 s)), (λ s. two.0 (one.1 s)))

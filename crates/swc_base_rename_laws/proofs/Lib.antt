@@ -18,15 +18,15 @@ pub mod OuterTextsForms
 pub mod OuterTextsNames
 pub mod OuterTextsWritten
 pub mod OuterTextsStay
-mod WritableStaysShape
-mod WritableStaysForms
+pub mod WritableStaysShape
+pub mod WritableStaysForms
 pub mod WritableStaysNames
 mod WritableStaysExports
 mod WritableStaysLists
 mod WritableStaysPatterns
 mod WritableStaysStripped
 mod WritableStaysHeads
-mod WritableStaysParts
+pub mod WritableStaysParts
 mod WritableStaysMembers
 mod WritableStaysRows
 mod WritableStaysStatements

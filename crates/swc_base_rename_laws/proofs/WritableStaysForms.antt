@@ -185,7 +185,7 @@ module _ (m : Changes) (g : GivesNames m) where
   plain_function_trees p kind.Function (a ∷ b ∷ c ∷ d ∷ e ∷ ts) = rw (flag_same place.Other refl d, flag_same place.Other refl e) refl
   plain_function_trees p k ts = refl
 
-  plain_functions : Even m plain_in
+  pub plain_functions : Even m plain_in
   plain_functions = record { trees = plain_function_trees; properties = λ us vs. refl; imports = λ i us. refl; exports = λ i us. refl; names = λ k i j. refl; lists = λ p ts. refl }
 
   pub plain_function_same : (p : Place) → is_short p ≡ false → (t : Node) → plain_in (out-Node (substituted m false p t)) ≡ plain_in (out-Node t)

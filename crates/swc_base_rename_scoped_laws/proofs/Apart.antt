@@ -16,14 +16,15 @@ use Rattle.swc_tree_scoping.specs.Scopes.{is_binding, is_name, is_reference, is_
 use Rattle.swc_tree_scoping.specs.BoundNames.{Id}
 use Rattle.swc_tree_scoping.specs.Declares.{Bound, Declares as DeclaresIt}
 use Rattle.swc_tree_scoping.specs.Readings.{by_ids, by_texts, id_name, with_identifiers}
+use Rattle.swc_tree_scoping.specs.Resolved.{is_script}
 use Rattle.swc_tree_scoping.specs.WellScoped.{InExportList, IsDeclared, IsFree, WellScoped, is_module}
 use Rattle.swc_tree_scoping.proofs.Remarked.{identifier_is, tree_is}
 use Rattle.swc_tree_scoping.proofs.Under.{no_place_under}
-use Rattle.swc_tree_renaming.specs.Apart.{DeclaredIn, FreeApartFromDeclared, DeclaredApart, IsAtOrAbove, IsRound, NamesApart, OccursIn}
+use Rattle.swc_tree_renaming.specs.Apart.{DeclaredIn, FreeApartFromDeclared, DeclaredApart, IsAtOrAbove, IsPlainProgram, IsRound, NamesApart, OccursIn}
 use Rattle.swc_tree_renaming.proofs.Blank.{layer, out_is, place_at_same}
 use Rattle.swc_tree_renaming.proofs.Core.{declared_taker, first_in, taken_binds}
 use Rattle.swc_tree_renaming.proofs.Shape.{some_same}
-use Rattle.swc_tree_renaming.proofs.Whole.{module_layer}
+use Rattle.swc_tree_renaming.proofs.Whole.{module_layer, script_layer}
 use Rattle.swc_tree_sites.proofs.Loose.{lowered, or_else}
 use Rattle.swc_base_rename_analysis.specs.Analysis.{Declares, IsRound as IsAround, OccursIn as Occurs, first_taking, is_for_body, opened_round, scopes_round}
 use Rattle.swc_base_rename_analysis.specs.Ids.{IsBound, id_at}
@@ -128,7 +129,7 @@ exported_by_ids t p (q, below, i, w, k, ts, path, there, listed) = (
 some_id : {a b : Standing × Id} → Some a ≡ Some b → a.1 ≡ b.1
 some_id e = cc
 
-module _ (t : Node) (s : Slot) (fit : Fits t s) (is_one : IsTrue (is_module t)) (scoped : WellScoped t) (none : NoBodyDeclares t) where
+module _ (t : Node) (s : Slot) (fit : Fits t s) (plain : IsPlainProgram t) (scoped : WellScoped t) (none : NoBodyDeclares t) where
   abbrev A : Node
   A = by_ids t
 
@@ -152,7 +153,9 @@ module _ (t : Node) (s : Slot) (fit : Fits t s) (is_one : IsTrue (is_module t)) 
 
   -- the analysis has a scope for each binding, as the program takes all
   program_takes : (r : Standing) (j : ℕ) → first_taking r (opened_round false program_place (out-Node t) j) ≡ Some []
-  program_takes r j = let (ts, o) = module_layer t is_one in ap (λ y. first_taking r (opened_round false program_place y j)) o
+  program_takes r j = ⊎_elim
+      (λ (h : IsTrue (is_module t)). let (ts, o) = module_layer t h in ap (λ y. first_taking r (opened_round false program_place y j)) o)
+      (λ (h : IsTrue (is_script t)). let (ts, o) = script_layer t h in ap (λ y. first_taking r (opened_round false program_place y j)) o) plain.0
 
   or_root : (x : Option Path) → (u : Path) × (or_else x (Some []) ≡ Some u)
   or_root None = ([], refl)
@@ -237,8 +240,8 @@ module _ (t : Node) (s : Slot) (fit : Fits t s) (is_one : IsTrue (is_module t)) 
         round =
             let (q, at_q, name_q) = from_ids t d.path d.standing x d.binds.at in
             let (k, at_k, same) = from_id t a.1 n.declared.standing (id_of i) n.declared.stands in
-            let (v, is_home, sees) = home t is_one scoped d.path d.standing q at_q d.binds.binds in
-            let one : v ≡ u = some_path (sym (is_home d.path d.standing q refl at_q d.binds.binds) ∙ sym (taker_by_ids t d.standing d.path) ∙ declared_taker A d.standing d.path u x (settled t is_one d.path d.standing q at_q) d.declared) in
+            let (v, is_home, sees) = home t plain.1 scoped d.path d.standing q at_q d.binds.binds in
+            let one : v ≡ u = some_path (sym (is_home d.path d.standing q refl at_q d.binds.binds) ∙ sym (taker_by_ids t d.standing d.path) ∙ declared_taker A d.standing d.path u x (settled t plain.1 d.path d.standing q at_q) d.declared) in
             let taken : taker n.declared.standing t a.1 ≡ Some u = is_home a.1 n.declared.standing k (one_name k i same ∙ name_i ∙ sym name_q) at_k n.declared.binds ∙ ap (λ v. Some v) one in
             inside a.0 a.1 o.path n.declared.standing k u at_k n.declared.binds taken n.declared.taken seen_here
 

@@ -8,10 +8,9 @@ use Rattle.swc_tree_scoping.specs.Places.{Path, program_place}
 use Rattle.swc_tree_scoping.specs.Scopes.{is_binding, is_name, is_reference, is_taken, rounds, scope_at, taker}
 use Rattle.swc_tree_scoping.specs.Declares.{DeclaredBy}
 use Rattle.swc_tree_scoping.specs.Readings.{by_ids, id_name}
-use Rattle.swc_tree_scoping.specs.WellScoped.{IsDeclared, OneScope, Stands, WellScoped, is_module}
+use Rattle.swc_tree_scoping.specs.WellScoped.{IsDeclared, OneScope, Stands, WellScoped}
+use Rattle.swc_tree_renaming.specs.Apart.{HasNoSloppy}
 use Rattle.swc_tree_renaming.proofs.Core.{declared_taker, first_in}
-use Rattle.swc_tree_renaming.proofs.Strict.{no_sloppy_in_modules}
-use Rattle.swc_tree_renaming.proofs.Whole.{module_layer}
 use Rattle.swc_base_rename_scoped_laws.proofs.Around.{IsSeen, seen}
 use Rattle.swc_base_rename_scoped_laws.proofs.ByIds.{IsAt, rounds_by_ids, taker_by_ids, to_ids}
 
@@ -22,9 +21,9 @@ declared t p r i a b = (p, r, record { at = to_ids t p r i a; binds = b })
 pub taken_seen : (t : Node) (r : Standing) (p s : Path) → taker r t p ≡ Some s → IsSeen t s p
 taken_seen t r p s taken = let (whole, c, e) = first_in (λ s. is_taken r (scope_at program_place t s.0)) (rounds program_place t p) s taken in seen t s p whole c
 
-module _ (t : Node) (is_one : IsTrue (is_module t)) where
+module _ (t : Node) (none_sloppy : HasNoSloppy t) where
   pub settled : (p : Path) (r : Standing) (i : Ident) → IsAt t p r i → r ≢ standing.SloppyFunction
-  settled p r i a e = let (ts, o) = module_layer t is_one in no_sloppy_in_modules t ts o p a.place (Identifier a.kind i) a.stands (a.stands_so ∙ e)
+  settled p r i a e = none_sloppy p a.place a.kind i a.stands (a.stands_so ∙ e)
 
 -- the scope takes all bindings of an id
 abbrev pub IsHome : Node → Path → Ident → Type 0
@@ -37,7 +36,7 @@ IsSeenByAll t u i = (p : Path) (r : Standing) (j : Ident) → id_name j ≡ id_n
 stands_so : (t : Node) (p : Path) (r : Standing) (j : Ident) (x : List ℕ) → id_name j ≡ x → IsAt t p r j → Stands (by_ids t) p r x
 stands_so t p r j x e a = subst (Stands (by_ids t) p r) e (to_ids t p r j a)
 
-module _ (t : Node) (is_one : IsTrue (is_module t)) (scoped : WellScoped t) where
+module _ (t : Node) (none_sloppy : HasNoSloppy t) (scoped : WellScoped t) where
   pub home : (p : Path) (r : Standing) (i : Ident) → IsAt t p r i → IsTrue (is_binding r) → (u : Path) × IsHome t u i × IsSeenByAll t u i
   home p r i a b = (one.scope, takes, sees)
     where
@@ -45,7 +44,7 @@ module _ (t : Node) (is_one : IsTrue (is_module t)) (scoped : WellScoped t) wher
       one = scoped.each_in_one_scope (id_name i) (declared t p r i a b)
 
       takes : IsHome t one.scope i
-      takes q v j e c d = sym (taker_by_ids t v q) ∙ declared_taker (by_ids t) v q one.scope (id_name i) (settled t is_one q v j c) (one.bindings q v (record { at = stands_so t q v j (id_name i) e c; binds = d }))
+      takes q v j e c d = sym (taker_by_ids t v q) ∙ declared_taker (by_ids t) v q one.scope (id_name i) (settled t none_sloppy q v j c) (one.bindings q v (record { at = stands_so t q v j (id_name i) e c; binds = d }))
 
       sees : IsSeenByAll t one.scope i
       sees q v j e c n = by (is_binding v) refl n

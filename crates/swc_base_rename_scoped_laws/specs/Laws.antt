@@ -1,10 +1,7 @@
 -- Laws of the names that ids get in well-scoped trees.
-use Rattle.std.specs.Prelude.{◌≡◌, ◌↔◌, ℕ, true, false, IsTrue, Option, Some, List, [], ◌∷◌, ◌++◌, unwrap_or}
+use Rattle.std.specs.Prelude.{◌≡◌, ◌↔◌, ◌⊎◌, ℕ, true, false, IsTrue, Option, Some, List, [], ◌∷◌, ◌++◌, unwrap_or}
 use Rattle.swc_tree_marks.specs.declared.ident.Ident.{Ident}
-use Rattle.swc_tree_node.specs.declared.kind.Class.TheVariants as class
-use Rattle.swc_tree_node.specs.declared.slot.Content.TheVariants as content
 use Rattle.swc_tree_node.specs.declared.slot.Slot.{Slot}
-use Rattle.swc_tree_node.specs.declared.slot.Slot.TheVariants as slot
 use Rattle.swc_tree_node.specs.declared.node.Node.{Node, Identifier}
 use Rattle.swc_tree_node.specs.declared.kind.Kind.{Kind}
 use Rattle.swc_tree_scoping.specs.declared.places.Standing.TheVariants as standing
@@ -15,9 +12,9 @@ use Rattle.swc_base_rename_analysis.specs.Laws.{is_body_at}
 use Rattle.swc_tree_node.specs.Fits.{Fits}
 use Rattle.swc_tree_scoping.specs.BoundNames.{Id}
 use Rattle.swc_tree_scoping.specs.Readings.{id_name}
-use Rattle.swc_tree_scoping.specs.WellScoped.{WellScoped, is_module}
+use Rattle.swc_tree_scoping.specs.WellScoped.{WellScoped}
 use Rattle.swc_tree_grammar.specs.Writable.{is_writable}
-use Rattle.swc_tree_renaming.specs.Apart.{NamesApart}
+use Rattle.swc_tree_renaming.specs.Apart.{IsPlainProgram, NamesApart}
 use Rattle.swc_base_rename_analysis.specs.Named.{Named, Renaming, all_count, outer_count}
 use Rattle.swc_base_rename_analysis.specs.Preserved.{IsPreserved}
 
@@ -44,11 +41,11 @@ GetsNamesApart t = (r : Renaming) (new_texts : Id → Option (List ℕ)) (text :
 
 -- so are those of a well-scoped module in which no body of a `for` statement declares
 abbrev pub NamesAreApartWhereNoBodyDeclares : Type 0
-NamesAreApartWhereNoBodyDeclares = (t : Node) → Fits t (slot.One (content.Node class.Module)) → IsTrue (is_module t) → WellScoped t → NoBodyDeclares t → GetsNamesApart t
+NamesAreApartWhereNoBodyDeclares = (t : Node) (s : Slot) → Fits t s → IsPlainProgram t → WellScoped t → NoBodyDeclares t → GetsNamesApart t
 
 -- so are those of each well-scoped module that can be written down
 abbrev pub NamesAreApart : Type 0
-NamesAreApart = (t : Node) → Fits t (slot.One (content.Node class.Module)) → IsTrue (is_module t) → WellScoped t → IsTrue (is_writable t) → GetsNamesApart t
+NamesAreApart = (t : Node) (s : Slot) → Fits t s → IsPlainProgram t → WellScoped t → IsTrue (is_writable t) → GetsNamesApart t
 
 -- on a well-scoped tree that fits some place, as each module and each script does, it is one whether all earlier names count
 -- at a scope, or only those of the scope and of the scopes round it

@@ -2,3 +2,4 @@ pub mod Decided
 pub mod Cleared
 pub mod NewTexts
 pub mod Spans
+pub mod Words

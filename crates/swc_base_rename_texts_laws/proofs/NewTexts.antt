@@ -1,18 +1,12 @@
--- The normal form of a module that is hygienic has the texts that hygiene gives.
-use Rattle.std.proofs.Common.{◌≡◌, ◌⊎◌, ℕ, Bool, true, false, IsTrue, Option, Some, None, List, [], ◌∷◌, map, refl, sym, ap, ◌∙◌, subst, inl, inr}
+-- The normal form of a program that is hygienic has the texts that hygiene gives.
+use Rattle.std.proofs.Common.{◌≡◌, ◌⊎◌, ℕ, Bool, true, false, Option, Some, None, List, [], refl, sym, ap, ◌∙◌, subst, inl, inr}
 use Rattle.std.specs.Prelude.{is_some, option_and_then, option_map, unwrap_or, if◌then◌else◌}
 use Rattle.std.proofs.lemmas.Slice.Eq.{bytes_eq-Decides}
 use Rattle.swc_tree_marks.specs.declared.ident.Ident.{Ident}
 use Rattle.swc_tree_node.specs.declared.kind.Kind.{Kind}
-use Rattle.swc_tree_node.specs.declared.kind.Kind.TheVariants as kind
-use Rattle.swc_tree_node.specs.declared.kind.Class.TheVariants as class
-use Rattle.swc_tree_node.specs.declared.slot.Content.TheVariants as content
-use Rattle.swc_tree_node.specs.declared.slot.Slot.TheVariants as slot
-use Rattle.swc_tree_node.specs.declared.node.Node.{Node, Identifier, List as Many, Tree, out-Node, roll-Node, roll-out-Node}
+use Rattle.swc_tree_node.specs.declared.node.Node.{Node, Identifier, out-Node, roll-Node, roll-out-Node}
 use Rattle.swc_tree_node.specs.declared.node.Node.TheVariants.{rolls-Identifier}
 use Rattle.swc_tree_node.specs.declared.node.Node.TheOpen.{Node-F}
-use Rattle.swc_tree_node.specs.Fits.{FieldsFit, Fits, belongs}
-use Rattle.swc_tree_node.specs.Table.{slots_of}
 use Rattle.swc_tree_scoping.specs.declared.places.Standing.{Standing}
 use Rattle.swc_tree_scoping.specs.declared.places.Place.{Place}
 use Rattle.swc_tree_scoping.specs.BoundNames.{Id, name_in}
@@ -20,24 +14,16 @@ use Rattle.swc_tree_scoping.specs.Places.{place_at, program_place}
 use Rattle.swc_tree_scoping.specs.Readings.{by_texts}
 use Rattle.swc_tree_scoping.specs.Scopes.{is_name}
 use Rattle.swc_tree_grammar.specs.Normal.{normal_form}
-use Rattle.swc_tree_grammar.specs.Writable.{all_sound, is_writable}
-use Rattle.swc_tree_grammar.proofs.Asked.{of, sound, sound_list, sound_tree}
-use Rattle.swc_tree_grammar.proofs.Items.{listed}
 use Rattle.swc_tree_grammar_texts.proofs.Cleared.{bare}
 use Rattle.swc_base_rename_substitution.specs.declared.place.Place.TheVariants as place
 use Rattle.swc_base_rename_substitution.specs.Identifiers.{Changes, id_of}
 use Rattle.swc_base_rename_substitution.specs.Names.{if_other_text, same_text}
 use Rattle.swc_base_rename_substitution.specs.Substituted.{Substituted, substituted}
-use Rattle.swc_base_rename_analysis.specs.Named.{Named}
-use Rattle.swc_base_rename_analysis.specs.Preserved.{IsPreserved}
-use Rattle.swc_base_rename_naming_laws.specs.Rules.{counting}
-use Rattle.swc_base_rename_program.specs.Renamed.{hygiene_renaming, new_id_by}
+use Rattle.swc_base_rename_program.specs.Renamed.{new_id_by}
 use Rattle.swc_base_rename_laws.specs.NewNames.{HasNewNames}
-use Rattle.swc_base_rename_laws.proofs.Impossible.{impossible}
-use Rattle.swc_base_rename_laws.proofs.NormalFormModule.{tree_only}
 use Rattle.swc_base_rename_laws.proofs.NormalFormNames.{normal_form_has_new_names}
 use Rattle.swc_base_rename_laws.proofs.Unchanged.{stays}
-use Rattle.swc_base_rename_hygiene_laws.proofs.KeepsNormal.{normal_given}
+use Rattle.swc_base_rename_hygiene_laws.proofs.KeepsNormal.{is_program, program_goal}
 use Rattle.swc_base_rename_hygiene_laws.proofs.StaysWritable.{Given, plain_names}
 use Rattle.swc_base_rename_texts_laws.specs.Laws.{HasNewTexts, HygieneGivesNormalFormNewTexts}
 use Rattle.swc_base_rename_texts_laws.proofs.Cleared.{bare_there, outline_texts}
@@ -106,32 +92,6 @@ module _ (before given : Node) (h : Given before given) where
   pub substituted_given : Substituted m false before given
   substituted_given = by_map (decided has before)
 
--- ---- the normal form of a module with its names and without contexts
-
-abbrev Texts : Node → (Id → Option (List ℕ)) → Type 0
-Texts t new_texts = Named t hygiene_renaming (IsPreserved t hygiene_renaming.preserves) (counting t hygiene_renaming) new_texts
-
-items_sound : (a : Node) (ts : List Node) (c : Node) → sound (Tree kind.Module (a ∷ Many ts ∷ c ∷ [])) (record { strict = false; assigned = false }) ≡ true → all_sound (map of ts) (record { strict = true; assigned = false }) ≡ true
-items_sound a ts c h = sym (sound_list ts (record { strict = true; assigned = false })) ∙ sym (sound_tree kind.Module (a ∷ Many ts ∷ c ∷ []) (record { strict = false; assigned = false })) ∙ h
-
-abbrev Goal : Node → Type 0
-Goal t = (new_texts : Id → Option (List ℕ)) → Texts t new_texts → Fits t (slot.One (content.Node class.Module)) → IsTrue (is_writable t)
-    → normal_form (by_texts (substituted (new_id_by new_texts) false place.Other t)) ≡ by_texts (normal_form (substituted (new_id_by new_texts) false place.Other t))
-
-of_kind : (k : Kind) (ts : List Node) → IsTrue (belongs k class.Module) → FieldsFit (slots_of k) ts → Goal (Tree k ts)
-of_kind kind.Module [] b f = absurd f
-of_kind kind.Module (x ∷ []) b f = absurd f.1
-of_kind kind.Module (x ∷ y ∷ []) b f = absurd f.1.1
-of_kind kind.Module (x ∷ y ∷ z ∷ t ∷ ts) b f = absurd f.1.1.1
-of_kind kind.Module (x ∷ y ∷ z ∷ []) b f =
-    let l = listed y (content.Node class.ModuleItem) f.1.0 in
-    subst (λ y. Goal (Tree kind.Module (x ∷ y ∷ z ∷ []))) (sym l.is)
-    (λ new_texts named fits writable. normal_given x l.items z new_texts named fits (items_sound x l.items z writable) l.fit)
-of_kind k ts b f = impossible b
-
-pub module_goal : (t : Node) → Fits t (slot.One (content.Node class.Module)) → Goal t
-module_goal t f = let x = tree_only class.Module refl refl t f in subst Goal (sym x.2) (of_kind x.0 x.1 x.4 x.5)
-
 -- ---- texts
 
 abbrev new_of : Id → Option (List ℕ) → Option Id
@@ -161,14 +121,14 @@ new_texts_of new_texts t u n = record {
 }
 
 pub hygiene_gives_normal_form_new_texts : HygieneGivesNormalFormNewTexts
-hygiene_gives_normal_form_new_texts table config before after plain fits writable (given, renamed, cleared) =
+hygiene_gives_normal_form_new_texts table config goal before after g plain fits writable (given, renamed, cleared) =
     let names = plain_names table config before given plain renamed in
     let answer = substituted (new_id_by names.new_texts) false place.Other before in
     let same : normal_form after ≡ by_texts (normal_form answer)
-    = ap normal_form cleared ∙ ap (λ t. normal_form (by_texts t)) (substituted_given before given names) ∙ module_goal before fits names.new_texts names.named fits writable in
+    = ap normal_form cleared ∙ ap (λ t. normal_form (by_texts t)) (substituted_given before given names) ∙ program_goal goal before names.new_texts g names.named fits writable in
     record {
       new_texts = names.new_texts;
       named = names.named;
       normal = subst (HasNewTexts names.new_texts (normal_form before)) (sym same)
-          (new_texts_of names.new_texts (normal_form before) (normal_form answer) (normal_form_has_new_names (new_id_by names.new_texts) before answer (inl fits) writable refl));
+          (new_texts_of names.new_texts (normal_form before) (normal_form answer) (normal_form_has_new_names (new_id_by names.new_texts) before answer (is_program goal before g fits) writable refl));
     }

@@ -1,5 +1,5 @@
--- The normal form of a module that is hygienic has the spans that the module's has.
-use Rattle.std.proofs.Common.{◌≡◌, false, List, map, refl, sym, ap, ◌∙◌, subst, inl}
+-- The normal form of a program that is hygienic has the spans that the program's has.
+use Rattle.std.proofs.Common.{◌≡◌, false, List, map, refl, sym, ap, ◌∙◌, subst}
 use Rattle.swc_tree_node.specs.declared.node.Node.{Node, List as Many, Tree}
 use Rattle.swc_tree_scoping.specs.Readings.{by_texts}
 use Rattle.swc_tree_grammar.specs.Normal.{normal_form}
@@ -10,9 +10,10 @@ use Rattle.swc_base_rename_substitution.specs.Substituted.{substituted}
 use Rattle.swc_base_rename_program.specs.Renamed.{new_id_by}
 use Rattle.swc_base_rename_laws.specs.NewNames.{SameButForNames, nameless}
 use Rattle.swc_base_rename_laws.proofs.NormalFormSpans.{nameless_identifier, nameless_list, nameless_tree, normal_form_keeps_spans}
+use Rattle.swc_base_rename_hygiene_laws.proofs.KeepsNormal.{is_program, program_goal}
 use Rattle.swc_base_rename_hygiene_laws.proofs.StaysWritable.{plain_names}
 use Rattle.swc_base_rename_texts_laws.specs.Laws.{HygieneKeepsSpans}
-use Rattle.swc_base_rename_texts_laws.proofs.NewTexts.{module_goal, substituted_given}
+use Rattle.swc_base_rename_texts_laws.proofs.NewTexts.{substituted_given}
 
 abbrev Same : Node → Type 0
 Same t = nameless (by_texts t) ≡ nameless t
@@ -27,10 +28,10 @@ nameless_texts t = by_children Same
     (λ k ts l. ap nameless (text_tree k ts) ∙ nameless_tree k (map by_texts ts) ∙ ap (Tree k) (all_same ts l) ∙ sym (nameless_tree k ts)) t
 
 pub hygiene_keeps_spans : HygieneKeepsSpans
-hygiene_keeps_spans table config before after plain fits writable (given, renamed, cleared) =
+hygiene_keeps_spans table config goal before after g plain fits writable (given, renamed, cleared) =
     let names = plain_names table config before given plain renamed in
     let answer = substituted (new_id_by names.new_texts) false place.Other before in
     let same : normal_form after ≡ by_texts (normal_form answer)
-    = ap normal_form cleared ∙ ap (λ t. normal_form (by_texts t)) (substituted_given before given names) ∙ module_goal before fits names.new_texts names.named fits writable in
+    = ap normal_form cleared ∙ ap (λ t. normal_form (by_texts t)) (substituted_given before given names) ∙ program_goal goal before names.new_texts g names.named fits writable in
     subst (SameButForNames (normal_form before)) (sym same)
-    (normal_form_keeps_spans (new_id_by names.new_texts) before answer (inl fits) writable refl ∙ sym (nameless_texts (normal_form answer)))
+    (normal_form_keeps_spans (new_id_by names.new_texts) before answer (is_program goal before g fits) writable refl ∙ sym (nameless_texts (normal_form answer)))

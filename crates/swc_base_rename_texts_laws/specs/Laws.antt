@@ -1,11 +1,9 @@
 -- Which texts hygiene gives the names of a normal form.
-use Rattle.std.specs.Prelude.{◌≡◌, ℕ, Option, Some, List, [], unwrap_or, if◌then◌else◌}
+use Rattle.std.specs.Prelude.{◌≡◌, ℕ, IsTrue, Option, Some, List, [], unwrap_or, if◌then◌else◌}
 use Rattle.swc_tree_marks.specs.declared.ident.Ident.{Ident}
 use Rattle.swc_tree_marks.specs.Globals.{Table}
 use Rattle.swc_tree_node.specs.declared.kind.Kind.{Kind}
-use Rattle.swc_tree_node.specs.declared.kind.Class.TheVariants as class
-use Rattle.swc_tree_node.specs.declared.slot.Content.TheVariants as content
-use Rattle.swc_tree_node.specs.declared.slot.Slot.TheVariants as slot
+use Rattle.swc_tree_node.specs.declared.slot.Slot.{Slot}
 use Rattle.swc_tree_node.specs.declared.node.Node.{Node, Identifier}
 use Rattle.swc_tree_node.specs.Fits.{Fits}
 use Rattle.swc_tree_scoping.specs.declared.places.Standing.{Standing}
@@ -13,6 +11,7 @@ use Rattle.swc_tree_scoping.specs.declared.places.Place.{Place}
 use Rattle.swc_tree_scoping.specs.Places.{Path, place_at, program_place}
 use Rattle.swc_tree_scoping.specs.BoundNames.{Id}
 use Rattle.swc_tree_scoping.specs.Scopes.{is_name}
+use Rattle.swc_tree_renaming.specs.Apart.{is_goal}
 use Rattle.swc_tree_grammar.specs.Normal.{normal_form}
 use Rattle.swc_tree_grammar.specs.Writable.{Writable}
 use Rattle.swc_base_rename_substitution.specs.declared.config.Config.{Config}
@@ -40,14 +39,14 @@ pub record HasHygienicTexts (before after : Node) : Type 0 where
   pub named : Named before hygiene_renaming (IsPreserved before hygiene_renaming.preserves) (counting before hygiene_renaming) new_texts
   pub normal : HasNewTexts new_texts (normal_form before) (normal_form after)
 
--- a module that can be written down has the same normal form but for the names that hygiene gives, which have there just
+-- a program that can be written down has the same normal form but for the names that hygiene gives, which have there just
 -- the texts of its map
 abbrev pub HygieneGivesNormalFormNewTexts : Type 0
-HygieneGivesNormalFormNewTexts = (table : Table) (config : Config) (before after : Node) → IsPlain config before → Fits before (slot.One (content.Node class.Module)) → Writable before
+HygieneGivesNormalFormNewTexts = (table : Table) (config : Config) (goal : Slot) (before after : Node) → IsTrue (is_goal goal) → IsPlain config before → Fits before goal → Writable before
     → IsHygienic table config before after → HasHygienicTexts before after
 
 -- ... and nothing else of it changes, spans neither: each identifier stands where it stood, and has another text and no context
 -- at most
 abbrev pub HygieneKeepsSpans : Type 0
-HygieneKeepsSpans = (table : Table) (config : Config) (before after : Node) → IsPlain config before → Fits before (slot.One (content.Node class.Module)) → Writable before
+HygieneKeepsSpans = (table : Table) (config : Config) (goal : Slot) (before after : Node) → IsTrue (is_goal goal) → IsPlain config before → Fits before goal → Writable before
     → IsHygienic table config before after → SameButForNames (normal_form before) (normal_form after)

@@ -5,13 +5,13 @@
 
 ghost use Rattle.swc_base_rename_texts_laws.specs.Laws.{HygieneGivesNormalFormNewTexts, HygieneKeepsSpans};
 
-/// The normal form of what hygiene makes of a module is the module's own, with the texts that hygiene gives where names
+/// The normal form of what hygiene makes of a program is the program's own, with the texts that hygiene gives where names
 /// are bound or referred to, where nothing reads names and classes don't keep theirs.
 pub fn hygiene_gives_normal_form_new_texts()
     ensures { HygieneGivesNormalFormNewTexts }
 {}
 
-/// The normal form of what hygiene makes of such a module is the module's own, spans too, but for texts and contexts.
+/// The normal form of what hygiene makes of such a program is the program's own, spans too, but for texts and contexts.
 pub fn hygiene_keeps_spans()
     ensures { HygieneKeepsSpans }
 {}

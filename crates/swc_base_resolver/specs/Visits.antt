@@ -12,17 +12,20 @@ use Rattle.swc_tree_scoping.specs.Places.{program_place}
 use Rattle.swc_tree_scoping.specs.Resolved.{Resolved}
 use Rattle.swc_tree_scoping.specs.Scopes.{scope_count}
 use Rattle.swc_tree_scoping.specs.WellScoped.{IsClean, NoEarlyErrorOfNames, WellScoped}
+use Rattle.swc_tree_renaming.specs.Apart.{IsPlainScript}
 use Rattle.swc_tree_spaces.specs.NoTypes.{NoTypes}
 use Rattle.swc_tree_spaces.specs.Spaces.{ResolvedBy}
 use Rattle.swc_base_resolver_program.specs.Marked.{IsRefusal, MarksOk, OnlyContexts}
 
 -- each identifier is resolved, over both name spaces, where the table has the two marks; where no node of types stands it is so over
--- values alone, and a module without contexts and early errors of names becomes well-scoped; whatever the marks, only contexts change,
--- and those that are not empty stay; the pass is as it was, and the table has a fresh mark more for each scope but the program
+-- values alone, and a module without contexts and early errors of names becomes well-scoped, and so does such a script that is plain;
+-- whatever the marks, only contexts change, and those that are not empty stay; the pass is as it was, and the table has a fresh mark
+-- more for each scope but the program
 pub record ResolvesNode (pass : ℕ × ℕ) (old : Table) (before : Node) (kept : ℕ × ℕ) (new : Table) (after : Node) : Type 0 where
   pub resolved : MarksOk old pass.0 pass.1 → ResolvedBy pass.0 pass.1 old new before after
   pub by_values : NoTypes before → MarksOk old pass.0 pass.1 → Resolved pass.0 pass.1 old new before after
   pub well_scoped : NoTypes before → MarksOk old pass.0 pass.1 → Fits before (slot.One (content.Node class.Module)) → IsClean before → NoEarlyErrorOfNames before → WellScoped after
+  pub script_well_scoped : NoTypes before → MarksOk old pass.0 pass.1 → Fits before (slot.One (content.Node class.Script)) → IsPlainScript before → IsClean before → NoEarlyErrorOfNames before → WellScoped after
   pub contexts : OnlyContexts before after
   pub same : kept ≡ pass
   pub table : new ≡ with_fresh_marks old pass.1 (scope_count program_place before - 1)

@@ -9,7 +9,7 @@ ghost use Rattle.swc_base_resolver.specs.Memory.{may_lack_memory};
 use std::alloc::Global;
 use std::marker::Model;
 use swc_base_resolver_laws::{
-    a_clean_module_becomes_well_scoped, lists_are_items_without_namespaces,
+    clean_programs_become_well_scoped, lists_are_items_without_namespaces,
 };
 use swc_base_resolver_program::resolve_program;
 use swc_tree::ProgramPass;
@@ -62,7 +62,7 @@ fn resolve(
     ensures cause { IfErr result (RefusesNode (unresolved, top) globals.old program (unresolved, top) globals.new) }
     ensures marks { IsExtended globals.old globals.new }
 {
-    a_clean_module_becomes_well_scoped();
+    clean_programs_become_well_scoped();
     lists_are_items_without_namespaces();
     let answer = resolve_program(alloc, globals, unresolved, top, program)?;
     Ok(answer)
@@ -81,7 +81,8 @@ impl ProgramPass for Resolver {
 
     /// Resolves the node of a program, names of values and names of types. Each run is by itself: the resolver stays as it is. Where
     /// `marks_ok` holds of the two marks, a module without declarations of types and types, without contexts and without early errors of
-    /// names becomes well-scoped.
+    /// names becomes well-scoped; and so does such a script in which no plain function stands in a block of sloppy code, no label names a
+    /// function, the program declares neither `undefined` nor `NaN` nor `Infinity`, and no function has two parameters of one name.
     ///
     /// # Errors
     ///

@@ -1,6 +1,6 @@
 -- Round what an export list names there is the program alone, where no namespace stands: an export list is an item of the
--- module, and in it nothing opens a scope.
-use Rattle.std.proofs.Common.{◌≡◌, ℕ, zero, suc, Bool, true, false, not, ◌&&◌, ◌||◌, ◌==◌, Option, Some, None, List, [], ◌∷◌, ◌++◌, map, refl, sym, ap, ◌∙◌, subst}
+-- module, and in it nothing opens a scope. In a script none stands.
+use Rattle.std.proofs.Common.{◌≡◌, ℕ, zero, suc, Bool, true, false, not, ◌&&◌, ◌||◌, ◌==◌, IsTrue, Option, Some, None, List, [], ◌∷◌, ◌++◌, map, refl, sym, ap, ◌∙◌, subst}
 use Rattle.std.specs.List.{list_all, slice_get}
 use Rattle.std.specs.Prelude.{option_map, unwrap_or}
 use Rattle.swc_tree_node.specs.declared.kind.Kind.{Kind}
@@ -27,10 +27,13 @@ use Rattle.swc_tree_scoping.specs.Scopes.{rounds, seen_as, view_in}
 use Rattle.swc_tree_scoping.specs.WellScoped.{InExportList}
 use Rattle.swc_tree_scoping.proofs.Remarked.{list_is, tree_is}
 use Rattle.swc_tree_scoping.proofs.Under.{lower, no_place_under, no_rounds_under, place_under, rounds_under}
-use Rattle.swc_tree_spaces.specs.NoTypes.{ListsAreItems}
+use Rattle.swc_tree_spaces.specs.NoTypes.{ListsAreItems, NoNamespaces}
+use Rattle.swc_tree_renaming.specs.Apart.{is_goal}
+use Rattle.swc_tree_renaming.proofs.Global.{fits_module, fits_script}
+use Rattle.swc_tree_renaming.proofs.Whole.{module_layer, script_layer}
 use Rattle.swc_base_resolver_laws.specs.Laws.{ListsAreItemsWithoutNamespaces}
 use Rattle.swc_base_resolver_laws.proofs.Same.{impossible, some_same}
-use Rattle.swc_base_resolver_laws.proofs.Fitting.{all_at, all_true, among, child_passes, field_at, item_at, kind_passes, layer_fits, module_fields, module_layer, of_tree, passes}
+use Rattle.swc_base_resolver_laws.proofs.Fitting.{all_at, all_true, among, child_passes, field_at, item_at, kind_passes, layer_fits, module_fields, of_tree, passes}
 
 -- ---- kinds that stand in an export list: none opens a scope
 
@@ -157,6 +160,15 @@ Item = slot.One (content.Node class.ModuleItem)
 abbrev Items : Slot
 Items = slot.List (content.Node class.ModuleItem)
 
+abbrev Script : Slot
+Script = slot.One (content.Node class.Script)
+
+abbrev Statement : Slot
+Statement = slot.One (content.Node class.Stmt)
+
+abbrev Statements : Slot
+Statements = slot.List (content.Node class.Stmt)
+
 -- an export list has none below it, nor has another item
 none_in_item : (q : Path) (j : ℕ) (w v : Place) (e : Node) (ts : List Node) → Fits e Item → NoneAt w e → place_at w e (j ∷ q) ≡ Some (v, Tree kind.NamedExport ts) → ⊥
 none_in_item q j w v e ts f n h = at (child e j) refl
@@ -189,18 +201,18 @@ list_is_item (j ∷ q) w v b ts f n h = at (child b j) refl
         item (l ∷ q) one h = absurd (none_in_item q l (place_below w b j) v e ts one (none_below w b e j o n) h)
 
 -- each export list of a module without namespaces is one of its items
-pub lists_are_items : ListsAreItemsWithoutNamespaces
-lists_are_items t f n [] v ts h =
+module_lists : (t : Node) → Fits t (slot.One (content.Node class.Module)) → NoNamespaces t → ListsAreItems t
+module_lists t f n [] v ts h =
     let is : t ≡ Tree kind.NamedExport ts = ap (λ (z : Place × Node). z.1) (some_same (program_place, t) (v, Tree kind.NamedExport ts) h) in
-    let (us, o) = module_layer t f in
+    let (us, o) = module_layer t (fits_module t f) in
     let e : Node-F.Tree kind.NamedExport ts ≡ Node-F.Tree kind.Module us = sym (outs-Tree kind.NamedExport ts) ∙ ap out-Node (sym is) ∙ o in
     absurd (cc)
-lists_are_items t f n (i ∷ q) v ts h = at (child t i) refl
+module_lists t f n (i ∷ q) v ts h = at (child t i) refl
   where
     at : (o : Option Node) → child t i ≡ o → (n : ℕ) × (i ∷ q ≡ 1 ∷ n ∷ [])
     at None o = let z : ◌≡◌ {A = Option (Place × Node)} (Some (v, Tree kind.NamedExport ts)) None = sym h ∙ no_place_under program_place t i q o in absurd (cc)
     at (Some b) o =
-        let (us, is) = module_layer t f in
+        let (us, is) = module_layer t (fits_module t f) in
         let (u, there, g) = field_at (slots_of kind.Module) us i b (module_fields t us is f) (sym (ap (λ y. slice_get (children_in y) i) is) ∙ o) in
         field i u there g (place_below program_place t i) (none_below program_place t b i o n) (sym (place_under program_place t b i q o) ∙ h)
       where
@@ -209,6 +221,35 @@ lists_are_items t f n (i ∷ q) v ts h = at (child t i) refl
         field (suc zero) u there g w m h = let (n, e) = list_is_item q w v b ts (subst (λ u. Fits b u) (sym (some_same Items u there)) g) m h in (n, ap (λ q. 1 ∷ q) e)
         field (suc (suc zero)) u there g w m h = absurd (none_inside q w v b ts u g (ap (passes inner) (sym (some_same (slot.Optional content.Text) u there))) m h)
         field (suc (suc (suc i))) u there g w m h = absurd (cc)
+
+-- no export list stands in a script without namespaces
+none_in_script : (t : Node) (q : Path) (v : Place) (ts : List Node) → Fits t Script → NoNamespaces t → place_at program_place t q ≡ Some (v, Tree kind.NamedExport ts) → ⊥
+none_in_script t q v ts f n h = none_inside q program_place v t ts Script f refl n h
+
+pub lists_are_items : ListsAreItemsWithoutNamespaces
+lists_are_items (slot.One (content.Node class.Module)) t g f n = module_lists t f n
+lists_are_items (slot.One (content.Node class.Script)) t g f n = λ q v ts h. absurd (none_in_script t q v ts f n h)
+lists_are_items _ t g f n = impossible g
+
+-- ... nor is one an item of any script
+no_script_item : (t : Node) (n : ℕ) (v : Place) (ts : List Node) → Fits t Script → place_at program_place t (1 ∷ n ∷ []) ≡ Some (v, Tree kind.NamedExport ts) → ⊥
+no_script_item t n v ts f h = at (child t 1) refl
+  where
+    at : (o : Option Node) → child t 1 ≡ o → ⊥
+    at None o = let z : ◌≡◌ {A = Option (Place × Node)} (Some (v, Tree kind.NamedExport ts)) None = sym h ∙ no_place_under program_place t 1 (n ∷ []) o in absurd (cc)
+    at (Some b) o =
+        let (us, is) = script_layer t (fits_script t f) in
+        let (ident, belong, fields) = tree_opens kind.Script us class.Script (subst (λ t. Fits t Script) (tree_is t kind.Script us is) f) in
+        let (u, there, g) = field_at (slots_of kind.Script) us 1 b fields (sym (ap (λ y. slice_get (children_in y) 1) is) ∙ o) in
+        item (child b n) refl (subst (λ u. Fits b u) (sym (some_same Statements u there)) g) (sym (place_under program_place t b 1 (n ∷ []) o) ∙ h)
+      where
+        item : (e : Option Node) → child b n ≡ e → Fits b Statements → place_at (place_below program_place t 1) b (n ∷ []) ≡ Some (v, Tree kind.NamedExport ts) → ⊥
+        item None e g h = let z : ◌≡◌ {A = Option (Place × Node)} (Some (v, Tree kind.NamedExport ts)) None = sym h ∙ no_place_under (place_below program_place t 1) b n [] e in absurd (cc)
+        item (Some c) e g h =
+            let (is, l) = only_lists b (content.Node class.Stmt) (out-Node b) refl g in
+            let one = all_at Statement is n c (list_opens is (content.Node class.Stmt) (subst (λ b. Fits b Statements) (list_is b is l) g)) (sym (ap (λ y. slice_get (children_in y) n) l) ∙ e) in
+            let same : c ≡ Tree kind.NamedExport ts = ap (λ (z : Place × Node). z.1) (some_same (place_below (place_below program_place t 1) b n, c) (v, Tree kind.NamedExport ts) (sym (place_under (place_below program_place t 1) b c n [] e) ∙ h)) in
+            impossible (inner_kind c kind.NamedExport ts Statement (ap out-Node same ∙ outs-Tree kind.NamedExport ts) one refl)
 
 -- nothing but the program stands round what an export list names
 item_rounds : (w : Place) (e : Node) (ts : List Node) (p : Path) → out-Node e ≡ Node-F.Tree kind.NamedExport ts → Fits e Item → rounds w e (1 ∷ p) ≡ []
@@ -239,7 +280,7 @@ module_rounds t n p v ts f h = at (child t 1) refl
     at : (o : Option Node) → child t 1 ≡ o → rounds program_place t (1 ∷ n ∷ 1 ∷ p) ≡ ([], true) ∷ []
     at None o = let z : ◌≡◌ {A = Option (Place × Node)} (Some (v, Tree kind.NamedExport ts)) None = sym h ∙ no_place_under program_place t 1 (n ∷ []) o in absurd (cc)
     at (Some b) o =
-        let (us, is) = module_layer t f in
+        let (us, is) = module_layer t (fits_module t f) in
         let (u, there, g) = field_at (slots_of kind.Module) us 1 b (module_fields t us is f) (sym (ap (λ y. slice_get (children_in y) 1) is) ∙ o) in
         let none = items_rounds n p (place_below program_place t 1) v b ts (subst (λ u. Fits b u) (sym (some_same Items u there)) g) (sym (place_under program_place t b 1 (n ∷ []) o) ∙ h) in
         rounds_under program_place t b 1 (n ∷ 1 ∷ p) o ∙ ap (λ l. map (lower 1) l ++ seen_as (opened program_place t) (view_in (out-Node t) 1)) none
@@ -266,9 +307,21 @@ local_field kind.NamedExport (suc (suc (suc zero))) h = absurd (cc)
 local_field kind.NamedExport (suc (suc (suc (suc i)))) h = absurd (cc)
 local_field k i h = absurd (local_role (fields_of k) i refl h)
 
-pub export_rounds : (t : Node) (p : Path) → Fits t (slot.One (content.Node class.Module)) → ListsAreItems t → InExportList t p → rounds program_place t p ≡ ([], true) ∷ []
-export_rounds t p f lists (q, r, i, w, k, ts, e, h, l) =
-    let (is, one) = local_field k i l in
-    let there : place_at program_place t q ≡ Some (w, Tree kind.NamedExport ts) = h ∙ ap (λ k. Some (w, Tree k ts)) is in
+-- what an export list names, by the list's path
+named_in : (t : Node) (p : Path) → InExportList t p → (q r : Path) × (w : Place) × (ts : List Node) × (p ≡ q ++ (1 ∷ r)) × (place_at program_place t q ≡ Some (w, Tree kind.NamedExport ts))
+named_in t p (q, r, i, w, k, ts, e, h, l) = let (is, one) = local_field k i l in (q, r, w, ts, e ∙ ap (λ i. q ++ (i ∷ r)) one, h ∙ ap (λ k. Some (w, Tree k ts)) is)
+
+pub no_list_in_scripts : (t : Node) (p : Path) → Fits t Script → NoNamespaces t → InExportList t p → ⊥
+no_list_in_scripts t p f n listed = let (q, r, w, ts, e, there) = named_in t p listed in none_in_script t q w ts f n there
+
+pub export_rounds : (goal : Slot) (t : Node) (p : Path) → IsTrue (is_goal goal) → Fits t goal → ListsAreItems t → InExportList t p → rounds program_place t p ≡ ([], true) ∷ []
+export_rounds goal t p g f lists listed =
+    let (q, r, w, ts, e, there) = named_in t p listed in
     let (n, at) = lists q w ts there in
-    ap (rounds program_place t) (e ∙ ap (λ i. q ++ (i ∷ r)) one ∙ ap (λ q. q ++ (1 ∷ r)) at) ∙ module_rounds t n r w ts f (ap (place_at program_place t) (sym at) ∙ there)
+    ap (rounds program_place t) (e ∙ ap (λ q. q ++ (1 ∷ r)) at) ∙ by goal g f n r w ts (ap (place_at program_place t) (sym at) ∙ there)
+  where
+    by : (goal : Slot) → IsTrue (is_goal goal) → Fits t goal → (n : ℕ) (r : Path) (w : Place) (ts : List Node) → place_at program_place t (1 ∷ n ∷ []) ≡ Some (w, Tree kind.NamedExport ts)
+        → rounds program_place t (1 ∷ n ∷ 1 ∷ r) ≡ ([], true) ∷ []
+    by (slot.One (content.Node class.Module)) g f n r w ts h = module_rounds t n r w ts f h
+    by (slot.One (content.Node class.Script)) g f n r w ts h = absurd (no_script_item t n w ts f h)
+    by _ g f n r w ts h = impossible g

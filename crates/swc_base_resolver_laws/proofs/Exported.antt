@@ -1,4 +1,4 @@
--- What a module exports is declared by the program.
+-- What a program exports is declared by the program.
 use Rattle.std.proofs.Common.{◌≡◌, ℕ, true, inl, inr, Option, Some, List, [], ◌∷◌, refl, sym, ap, ◌∙◌, subst}
 use Rattle.swc_tree_node.specs.declared.node.Node.{Node}
 use Rattle.swc_tree_scoping.specs.declared.places.Standing.TheVariants as standing
@@ -30,6 +30,6 @@ module _ (t u : Node) (g : Resolving t u) (lists : ListsAreItems t) where
       let there = in_list p listed in
       let declares : Declares t [] x = exported p x there st in
       let (m, means, its) = reference_context t u g p standing.Reference x st refl in
-      let program : m ≡ Some [] = means_program x m declares (subst (λ ss. First (DeclaresFor t x) ss m) (export_rounds t p g.fitting lists there) means) in
+      let program : m ≡ Some [] = means_program x m declares (subst (λ ss. First (DeclaresFor t x) ss m) (export_rounds g.goal t p g.program g.fitting lists there) means) in
       let name : n ≡ name_of x (marks t u g [] ∷ []) = name_is t u g p standing.Reference n c ∙ ap (name_of x) (its ∙ ap (λ m. mark_in (marks t u g) g.unresolved m ∷ []) program) in
       subst (λ n. DeclaresFor (by_ids u) n ([], true)) (sym name) (declares_forth t u g x ([], true) declares)

@@ -121,33 +121,6 @@ module _ (p : ℕ → Bool) (rows : (k : Kind) → p (kind_number k) ≡ true �
           let (u, f, z) = child_passes t c i s (out-Node t) refl h g o in
           below (place_below w t i) c u f z (sym (place_under w t c i q o) ∙ e)
 
--- a tree that fits as a module is one
-module_kind : (k : Kind) → IsTrue (belongs k class.Module) → k ≡ kind.Module
-module_kind kind.Module h = refl
-module_kind _ h = impossible h
-
-no_identifier : (k : Kind) → IsTrue (is_identifier k) → IsTrue (belongs k class.Module) → ⊥
-no_identifier kind.Module h g = impossible h
-no_identifier _ h g = impossible g
-
-pub module_layer : (t : Node) → Fits t (slot.One (content.Node class.Module)) → (ts : List Node) × (out-Node t ≡ Node-F.Tree kind.Module ts)
-module_layer t h = at (out-Node t) refl
-  where
-    M : Slot
-    M = slot.One (content.Node class.Module)
-
-    at : (y : Node-F Node) → out-Node t ≡ y → (ts : List Node) × (out-Node t ≡ Node-F.Tree kind.Module ts)
-    at (Node-F.Tree k ts) o =
-        let f = both (not (is_identifier k)) (belongs k class.Module && each_fits (slots_of k) (map fits ts)) (layer_fits t (Node-F.Tree k ts) M o h) in
-        let g = both (belongs k class.Module) (each_fits (slots_of k) (map fits ts)) f.1 in
-        (ts, o ∙ ap (λ k. Node-F.Tree k ts) (module_kind k g.0))
-    at (Node-F.Identifier k i) o = let f = both (is_identifier k) (belongs k class.Module) (layer_fits t (Node-F.Identifier k i) M o h) in absurd (no_identifier k f.0 f.1)
-    at Node-F.Absent o = impossible (layer_fits t Node-F.Absent M o h)
-    at (Node-F.Flag x) o = impossible (layer_fits t (Node-F.Flag x) M o h)
-    at (Node-F.Word x) o = impossible (layer_fits t (Node-F.Word x) M o h)
-    at (Node-F.Text x) o = impossible (layer_fits t (Node-F.Text x) M o h)
-    at (Node-F.Span x) o = impossible (layer_fits t (Node-F.Span x) M o h)
-    at (Node-F.List x) o = impossible (layer_fits t (Node-F.List x) M o h)
-
+-- the fields of a module
 pub module_fields : (t : Node) (ts : List Node) → out-Node t ≡ Node-F.Tree kind.Module ts → Fits t (slot.One (content.Node class.Module)) → FieldsFit (slots_of kind.Module) ts
 module_fields t ts o h = fields_open (slots_of kind.Module) ts (both (belongs kind.Module class.Module) (each_fits (slots_of kind.Module) (map fits ts)) (layer_fits t (Node-F.Tree kind.Module ts) (slot.One (content.Node class.Module)) o h)).1

@@ -10,3 +10,4 @@ pub mod Exported
 pub mod Redeclared
 pub mod Meanings
 pub mod Whole
+pub mod Plain

@@ -1,4 +1,4 @@
--- The names of a module mean the ids that they are given: they have one text and one scope exactly if they get one id.
+-- The names of a program mean the ids that they are given: they have one text and one scope exactly if they get one id.
 use Rattle.std.proofs.Common.{◌≡◌, ℕ, true, inl, inr, IsTrue, Option, Some, None, List, [], ◌∷◌, refl, sym, ap, ◌∙◌, subst}
 use Rattle.swc_tree_marks.specs.declared.ident.Ident.{Ident}
 use Rattle.swc_tree_node.specs.declared.node.Node.{Node, Identifier}
@@ -115,7 +115,7 @@ module _ (t u : Node) (g : Resolving t u) where
   stands : (p : Path) (i : Ident) (m : NameAt t p i) → Stands t p m.0.standing i.sym
   stands p i m = record { place = m.0; kind = m.1; identifier = i; stands = m.2; stands_so = refl; named = refl }
 
-  -- an identifier of the answer is that of the module with its new context
+  -- an identifier of the answer is that of the program with its new context
   answered : (p : Path) (i a : Ident) → NameAt t p i → NameAt u p a → a ≡ record i { ctxt = contexts t u g p }
   answered p i a (w, k, h, n) (v, l, e, z) =
       identifier_same l k a (record i { ctxt = contexts t u g p })
@@ -154,5 +154,5 @@ module _ (t u : Node) (g : Resolving t u) where
           (texts, (here.owner, here.belongs, subst (Belongs t q n.0.standing j.sym) (sym one) there.belongs))
 
 pub resolved_names_mean_their_ids : ResolvedNamesMeanTheirIds
-resolved_names_mean_their_ids t u unresolved top old new fitting clean fair known resolved =
-    mean_their_ids t u (record { unresolved = unresolved; top = top; old = old; new = new; fitting = fitting; clean = clean; fair = fair; known = known; resolved = resolved })
+resolved_names_mean_their_ids goal t u unresolved top old new program fitting plain clean fair known resolved =
+    mean_their_ids t u (record { unresolved = unresolved; top = top; old = old; new = new; goal = goal; program = program; fitting = fitting; plain = plain; clean = clean; fair = fair; known = known; resolved = resolved })

@@ -1,16 +1,12 @@
--- A module and what it is resolved to, read by ids: the same places and scopes, and what each name becomes.
-use Rattle.std.proofs.Common.{◌≡◌, ◌≢◌, ℕ, Bool, true, false, ◌&&◌, ◌⊎◌, inl, inr, ⊎_elim, IsTrue, Option, Some, None, List, [], ◌∷◌, ◌++◌, map, length, drop, take, Contains, refl, sym, ap, ◌∙◌, subst, cond, arith}
+-- A program and what it is resolved to, read by ids: the same places and scopes, and what each name becomes.
+use Rattle.std.proofs.Common.{◌≡◌, ◌≢◌, ℕ, Bool, true, false, ◌⊎◌, inl, inr, ⊎_elim, IsTrue, Option, Some, None, List, [], ◌∷◌, ◌++◌, map, length, drop, take, Contains, refl, sym, ap, ◌∙◌, subst, cond}
 use Rattle.std.specs.Option.{is_some, option_map}
 use Rattle.std.proofs.lemmas.List.{append-nil}
-use Rattle.std.proofs.lemmas.List.Elements.{Contains-append_right}
 use Rattle.std.proofs.Math.Seq.{drop-append_seam, take-append_seam}
 use Rattle.swc_tree_marks.specs.declared.ident.Ident.{Ident}
 use Rattle.swc_tree_marks.specs.Globals.{Table, numbers}
 use Rattle.swc_tree_node.specs.declared.kind.Kind.{Kind}
-use Rattle.swc_tree_node.specs.declared.kind.Kind.TheVariants as kind
-use Rattle.swc_tree_node.specs.declared.kind.Class.TheVariants as class
-use Rattle.swc_tree_node.specs.declared.slot.Content.TheVariants as content
-use Rattle.swc_tree_node.specs.declared.slot.Slot.TheVariants as slot
+use Rattle.swc_tree_node.specs.declared.slot.Slot.{Slot}
 use Rattle.swc_tree_node.specs.declared.node.Node.{Node, Identifier, Tree, out-Node}
 use Rattle.swc_tree_node.specs.declared.node.Node.TheOpen.{Node-F}
 use Rattle.swc_tree_node.specs.declared.node.Node.TheVariants.{outs-Identifier, outs-List, outs-Tree}
@@ -19,30 +15,33 @@ use Rattle.swc_tree_scoping.specs.declared.places.Standing.{Standing}
 use Rattle.swc_tree_scoping.specs.declared.places.Standing.TheVariants as standing
 use Rattle.swc_tree_scoping.specs.declared.places.Place.{Place}
 use Rattle.swc_tree_scoping.specs.declared.places.Scope.{Scope}
-use Rattle.swc_tree_scoping.specs.declared.places.Scope.TheVariants as scope
-use Rattle.swc_tree_scoping.specs.Places.{Path, opened_in, place_at, program_place}
-use Rattle.swc_tree_scoping.specs.Scopes.{IsScope, Round, first_that, is_binding, is_reference, is_taken, rounds, scope_at, seen_as, taker, view_in}
-use Rattle.swc_tree_scoping.specs.Declares.{Bound, DeclaredBy, First, Means, PassesNone, is_lexical}
+use Rattle.swc_tree_scoping.specs.Places.{Path, place_at, program_place}
+use Rattle.swc_tree_scoping.specs.Scopes.{IsScope, Round, first_that, is_binding, is_reference, is_taken, rounds, scope_at, taker}
+use Rattle.swc_tree_scoping.specs.Declares.{Bound, First, Means, PassesNone, is_lexical}
 use Rattle.swc_tree_scoping.specs.Readings.{by_ids, by_texts, id_name}
-use Rattle.swc_tree_scoping.specs.Resolved.{Contexts, HasContext, Resolved, is_global_value, is_script, mark_in, own_meaning, remarked}
+use Rattle.swc_tree_scoping.specs.Resolved.{Contexts, HasContext, Resolved, mark_in, remarked}
 use Rattle.swc_tree_scoping.specs.WellScoped.{IsClean, NoEarlyErrorOfNames, NoRedeclaration, Stands}
-use Rattle.swc_tree_scoping.proofs.First.{last_round, round_opens}
+use Rattle.swc_tree_scoping.proofs.First.{round_opens}
 use Rattle.swc_tree_scoping.proofs.Remarked.{each_remarked, identifier_is, list_is, remarked-Identifier, remarked-List, remarked-Tree, remarked-leaf, tree_is}
+use Rattle.swc_tree_renaming.specs.Apart.{IsPlainIfScript, IsPlainProgram, is_goal}
 use Rattle.swc_tree_renaming.proofs.Blank.{layer, out_is, place_at_same, rounds_same, scope_at_same}
 use Rattle.swc_base_resolver_laws.proofs.Same.{by_text, clean_stays, impossible, some_same, texts_stay}
 use Rattle.swc_tree_renaming.proofs.Shape.{place_at_remarked}
-use Rattle.swc_tree_renaming.proofs.Core.{declared_taker, first_in, taken_binds}
-use Rattle.swc_tree_renaming.proofs.Strict.{no_sloppy_in_modules}
+use Rattle.swc_tree_renaming.proofs.Core.{declared_taker, first_in, own_meaning_is, taken_binds}
+use Rattle.swc_tree_renaming.proofs.Global.{plain_means_no_global_value, plain_of_goal}
+use Rattle.swc_tree_renaming.proofs.Whole.{program_layer, stands_round}
 use Rattle.swc_base_resolver_laws.proofs.Lists.{each_at, row_of, taken_there}
-use Rattle.swc_base_resolver_laws.proofs.Fitting.{module_layer}
 
--- a clean module without early errors of names, and what it is resolved to
+-- a clean program without early errors of names, and what it is resolved to
 pub record Resolving (t u : Node) : Type 0 where
   pub unresolved : ℕ
   pub top : ℕ
   pub old : Table
   pub new : Table
-  pub fitting : Fits t (slot.One (content.Node class.Module))
+  pub goal : Slot
+  pub program : IsTrue (is_goal goal)
+  pub fitting : Fits t goal
+  pub plain : IsPlainIfScript t
   pub clean : IsClean t
   pub fair : NoEarlyErrorOfNames t
   pub known : Contains (numbers old) unresolved
@@ -165,11 +164,6 @@ meets_taker t x (z ∷ zs) m s passes f e = next (V z) refl passes f e (λ p g h
     next false v (inr (none, rest)) (inl (inr b, is)) e later = absurd (none (standing.CatchParameter, refl, b))
     next false v (inr (none, rest)) (inr (nor, f)) e later = later rest f e
 
-own_meaning_is : (t : Node) → is_script t ≡ false → (x : List ℕ) (o : Option Path) → own_meaning t x o ≡ o
-own_meaning_is t n x None = refl
-own_meaning_is t n x (Some []) = ap (λ b. cond (b && is_global_value x) None (Some [])) n
-own_meaning_is t n x (Some (i ∷ s)) = refl
-
 module _ (t u : Node) (g : Resolving t u) where
   abbrev pub contexts : Contexts
   contexts = g.resolved.contexts
@@ -186,11 +180,8 @@ module _ (t u : Node) (g : Resolving t u) where
   pub no_redeclaration : NoRedeclaration t
   no_redeclaration = subst NoRedeclaration text_is g.fair.no_redeclaration
 
-  pub layer_of : (ts : List Node) × (out-Node t ≡ Node-F.Tree kind.Module ts)
-  layer_of = module_layer t g.fitting
-
-  no_script : is_script t ≡ false
-  no_script = rw layer_of.1 refl
+  plain : IsPlainProgram t
+  plain = plain_of_goal g.goal t g.program g.fitting g.plain
 
   -- ---- places and scopes
 
@@ -260,7 +251,7 @@ module _ (t u : Node) (g : Resolving t u) where
   name_is p r n s = sym s.named ∙ ap (λ (j : Ident). j.sym) (origin p r n s).2
 
   pub no_sloppy : (p : Path) (r : Standing) (x : List ℕ) → Stands t p r x → r ≢ standing.SloppyFunction
-  no_sloppy p r x s e = no_sloppy_in_modules t layer_of.0 layer_of.1 p s.place (Identifier s.kind s.identifier) s.stands (s.stands_so ∙ e)
+  no_sloppy p r x s e = plain.1 p s.place s.kind s.identifier s.stands (s.stands_so ∙ e)
 
   pub taken_bound : (r : Standing) (p s : Path) → taker r t p ≡ Some s → IsTrue (is_binding r)
   taken_bound r p s e = let (whole, there, f) = first_in (λ s. is_taken r (scope_at program_place t s.0)) (rounds program_place t p) s e in taken_binds r (scope_at program_place t s) f
@@ -283,7 +274,7 @@ module _ (t u : Node) (g : Resolving t u) where
   pub reference_context : (p : Path) (r : Standing) (x : List ℕ) → Stands t p r x → IsTrue (is_reference r) → (m : Option Path) × Means t p x m × (contexts p ≡ mark_in marks g.unresolved m ∷ [])
   reference_context p r x s h =
       let (m, means, e) = (context_at p r x s).reference h in
-      (m, means, e ∙ ap (λ m. mark_in marks g.unresolved m ∷ []) (own_meaning_is t no_script x m))
+      (m, means, e ∙ ap (λ m. mark_in marks g.unresolved m ∷ []) (own_meaning_is t (plain_means_no_global_value t g.plain) p r x s h m means))
 
   -- a binding has the mark of the scope that takes it
   pub binding_context : (p : Path) (r : Standing) (x : List ℕ) → Stands t p r x → IsTrue (is_binding r) → (s : Path) × (taker r t p ≡ Some s) × (contexts p ≡ marks s ∷ [])
@@ -317,13 +308,8 @@ module _ (t u : Node) (g : Resolving t u) where
       g.resolved.fresh (i ∷ s) h (λ n. absurd (cc)) parent (subst (λ m. Contains g.old (m, parent)) same there)
 
   -- the program stands round all names
-  module_opens : scope_at program_place t [] ≡ Some scope.Program
-  module_opens = ap (opened_in program_place) layer_of.1
-
   pub in_program : (p : Path) (r : Standing) (x : List ℕ) → Stands t p r x → IsTrue (is_reference r) → Contains (rounds program_place t p) ([], true)
   in_program [] r x s h =
       let root : program_place ≡ s.place = ap (λ (q : Place × Node). q.0) (some_same (program_place, t) (s.place, Identifier s.kind s.identifier) s.stands) in
       impossible (subst (λ r. IsTrue (is_reference r)) (sym s.stands_so ∙ ap (λ (w : Place). w.standing) (sym root)) h)
-  in_program (i ∷ p) r x s h =
-      let (front, e) = last_round t p i module_opens in
-      subst (λ l. Contains l ([], true)) (sym (e ∙ ap (λ y. front ++ seen_as (Some scope.Program) (view_in y i)) layer_of.1)) (Contains-append_right front (([], true) ∷ []) ([], true) (0, omega arith, refl))
+  in_program (i ∷ p) r x s h = stands_round t (program_layer t plain.0) i p

@@ -1,5 +1,5 @@
 -- No id is declared against the rules, since no text was.
-use Rattle.std.proofs.Common.{◌≡◌, ℕ, Bool, inl, inr, ⊎_elim, IsTrue, List, [], ◌∷◌, refl, sym, ◌∙◌, subst}
+use Rattle.std.proofs.Common.{◌≡◌, ℕ, Bool, inl, inr, ⊎_elim, IsTrue, List, [], ◌∷◌, refl, sym, ap, ◌∙◌, subst}
 use Rattle.swc_tree_node.specs.declared.kind.Kind.{Kind}
 use Rattle.swc_tree_node.specs.declared.node.Node.{Node}
 use Rattle.swc_tree_scoping.specs.declared.places.Standing.{Standing}
@@ -9,9 +9,12 @@ use Rattle.swc_tree_scoping.specs.Scopes.{Round, is_taken, rounds}
 use Rattle.swc_tree_scoping.specs.Declares.{PassesNone, is_lexical}
 use Rattle.swc_tree_scoping.specs.Readings.{by_ids}
 use Rattle.swc_tree_scoping.specs.WellScoped.{IsArrowOrMethod, IsAt, IsLexical, NoCaughtVariable, NoParameterTwice, NoRedeclaration, NoVariablePasses, NoneTwice, Stands, has_unique_parameters, is_catch_parameter, is_method, is_module}
+use Rattle.swc_tree_renaming.specs.Apart.{nameless}
 use Rattle.swc_tree_renaming.proofs.Core.{declared_taker, taker_declares}
+use Rattle.swc_tree_renaming.proofs.Shape.{nameless_by_ids, nameless_remarked}
+use Rattle.swc_tree_renaming.proofs.Whole.{module_too}
 use Rattle.swc_base_resolver_laws.proofs.Same.{impossible}
-use Rattle.swc_base_resolver_laws.proofs.Names.{Resolving, contexts, layer_of, name_is, name_of, no_redeclaration, no_sloppy, rounds_is, scope_is, stands_back, taker_is, text_at, tree_there}
+use Rattle.swc_base_resolver_laws.proofs.Names.{Resolving, contexts, name_is, name_of, no_redeclaration, no_sloppy, rounds_is, scope_is, stands_back, taker_is, text_at, tree_there}
 use Rattle.swc_base_resolver_laws.proofs.Declared.{bound_back}
 use Rattle.swc_base_resolver_laws.proofs.OneScope.{same_id}
 
@@ -20,12 +23,12 @@ catch_is_lexical standing.CatchParameter h = refl
 catch_is_lexical _ h = impossible h
 
 module _ (t u : Node) (g : Resolving t u) where
-  module_is : IsTrue (is_module t)
-  module_is = rw (layer_of t u g).1 refl
+  module_back : IsTrue (is_module (by_ids u)) → IsTrue (is_module t)
+  module_back = module_too (by_ids u) t (nameless_by_ids u ∙ ap nameless g.resolved.only_contexts ∙ nameless_remarked (contexts t u g) t)
 
   lexical_back : (p : Path) (r : Standing) → IsLexical (by_ids u) p r → IsLexical t p r
   lexical_back p r (inl h) = inl h
-  lexical_back p r (inr (is, one, e)) = inr (is, module_is, sym (taker_is t u g standing.Function p) ∙ e)
+  lexical_back p r (inr (is, one, e)) = inr (is, module_back one, sym (taker_is t u g standing.Function p) ∙ e)
 
   none_twice : NoneTwice (by_ids u)
   none_twice n s p q r v a b da db lexical =

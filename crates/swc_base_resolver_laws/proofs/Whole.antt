@@ -1,10 +1,10 @@
--- A clean module becomes well-scoped.
+-- A clean program becomes well-scoped.
 use Rattle.std.proofs.Common.{sym, ◌∙◌, subst}
 use Rattle.std.specs.Prelude.{codes}
 use Rattle.swc_tree_node.specs.declared.node.Node.{Node}
 use Rattle.swc_tree_scoping.specs.WellScoped.{IsDeclared, NoEvalOrArguments, WellScoped}
 use Rattle.swc_tree_spaces.specs.NoTypes.{ListsAreItems}
-use Rattle.swc_base_resolver_laws.specs.Laws.{CleanModulesBecomeWellScoped}
+use Rattle.swc_base_resolver_laws.specs.Laws.{CleanProgramsBecomeWellScoped}
 use Rattle.swc_base_resolver_laws.proofs.Names.{Resolving, same_texts, text_is}
 use Rattle.swc_base_resolver_laws.proofs.OneScope.{each_in_one_scope}
 use Rattle.swc_base_resolver_laws.proofs.FreeIds.{free_apart}
@@ -25,6 +25,6 @@ well_scoped t u g lists = record {
   no_eval_or_arguments = no_eval_or_arguments t u g;
 }
 
-pub clean_modules_become_well_scoped : CleanModulesBecomeWellScoped
-clean_modules_become_well_scoped t u unresolved top old new fitting lists clean fair known resolved =
-    well_scoped t u (record { unresolved = unresolved; top = top; old = old; new = new; fitting = fitting; clean = clean; fair = fair; known = known; resolved = resolved }) lists
+pub clean_programs_become_well_scoped : CleanProgramsBecomeWellScoped
+clean_programs_become_well_scoped goal t u unresolved top old new program fitting plain lists clean fair known resolved =
+    well_scoped t u (record { unresolved = unresolved; top = top; old = old; new = new; goal = goal; program = program; fitting = fitting; plain = plain; clean = clean; fair = fair; known = known; resolved = resolved }) lists

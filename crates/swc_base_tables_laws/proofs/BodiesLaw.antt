@@ -7,6 +7,7 @@ use Rattle.swc_tree_marks.specs.Globals.{Table, numbers}
 use Rattle.swc_tree_node.specs.declared.kind.Kind.TheVariants as kind
 use Rattle.swc_tree_node.specs.declared.kind.Class.TheVariants as class
 use Rattle.swc_tree_node.specs.declared.slot.Content.TheVariants as content
+use Rattle.swc_tree_node.specs.declared.slot.Slot.{Slot}
 use Rattle.swc_tree_node.specs.declared.slot.Slot.TheVariants as slot
 use Rattle.swc_tree_node.specs.declared.node.Node.{Node, Absent}
 use Rattle.swc_tree_node.specs.Fits.{Fits}
@@ -17,14 +18,15 @@ use Rattle.swc_tree_scoping.specs.Declares.{Declares, DeclaresFor, Means}
 use Rattle.swc_tree_scoping.specs.Readings.{by_ids, id_name}
 use Rattle.swc_tree_scoping.specs.Resolved.{Resolved, mark_in}
 use Rattle.swc_tree_scoping.specs.WellScoped.{IsClean, IsDeclared, IsFree, NoEarlyErrorOfNames, Stands, WellScoped}
-use Rattle.swc_tree_renaming.specs.Apart.{NameAt}
+use Rattle.swc_tree_renaming.specs.Apart.{IsPlainIfScript, NameAt}
 use Rattle.swc_tree_renaming.proofs.Core.{head_in, taker_declares}
+use Rattle.swc_tree_renaming.proofs.Global.{fits_module, plain_if_module}
 use Rattle.swc_tree_renaming.proofs.Whole.{from_ids}
 use Rattle.swc_base_resolver_laws.proofs.Declared.{bound_forth, declares_bound}
 use Rattle.swc_base_resolver_laws.proofs.FreeIds.{free_context}
 use Rattle.swc_base_resolver_laws.proofs.Lists.{found, row_of}
 use Rattle.swc_base_resolver_laws.proofs.Names.{Resolving, binding_context, contexts, marks, name_apart, name_is, name_of, no_sloppy, reference_context, round_scope, stands_back, taker_is, takers_scope, text_at}
-use Rattle.swc_base_resolver_laws.proofs.Whole.{clean_modules_become_well_scoped}
+use Rattle.swc_base_resolver_laws.proofs.Whole.{clean_programs_become_well_scoped}
 use Rattle.swc_tree_spaces.specs.NoTypes.{ListsAreItems}
 use Rattle.swc_tree_spaces_laws.proofs.Agree.{resolved_alike}
 use Rattle.swc_base_tables_injection.specs.Alone.{alone, opening}
@@ -49,11 +51,17 @@ module _ (helper global : ℕ) (old new : Table) (W : Node) (statements : List N
   abbrev V : Node
   V = alone kind.Module true statements
 
+  abbrev module_place : Slot
+  module_place = slot.One (content.Node class.Module)
+
+  plain : IsPlainIfScript W
+  plain = plain_if_module W (fits_module W fitting)
+
   abbrev G : Resolving W V
-  G = record { unresolved = global; top = helper; old = old; new = new; fitting = fitting; clean = clean; fair = fair; known = known; resolved = resolved }
+  G = record { unresolved = global; top = helper; old = old; new = new; goal = module_place; program = refl; fitting = fitting; plain = plain; clean = clean; fair = fair; known = known; resolved = resolved }
 
   well_scoped_alone : WellScoped V
-  well_scoped_alone = clean_modules_become_well_scoped W V global helper old new fitting lists clean fair known resolved
+  well_scoped_alone = clean_programs_become_well_scoped module_place W V global helper old new refl fitting plain lists clean fair known resolved
 
   abbrev HasContextThere : Path → Type 0
   HasContextThere q = (contexts W V G q ≡ global ∷ []) ⊎ ((s : Path) × IsScope W s × (contexts W V G q ≡ marks W V G s ∷ []))

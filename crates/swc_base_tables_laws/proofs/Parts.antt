@@ -13,7 +13,9 @@ use Rattle.swc_tree_node.specs.declared.node.Node.TheVariants.{outs-List}
 use Rattle.swc_tree_node.specs.Table.{slots_of}
 use Rattle.swc_tree_node.specs.Fits.{FieldsFit, Fits}
 use Rattle.swc_tree_scoping.proofs.Remarked.{list_is, tree_is}
-use Rattle.swc_base_resolver_laws.proofs.Fitting.{layer_fits, module_fields, module_layer}
+use Rattle.swc_tree_renaming.proofs.Global.{fits_module}
+use Rattle.swc_tree_renaming.proofs.Whole.{module_layer}
+use Rattle.swc_base_resolver_laws.proofs.Fitting.{layer_fits, module_fields}
 use Rattle.swc_base_resolver_laws.proofs.Same.{impossible}
 use Rattle.swc_base_tables_injection.specs.Bodies.{body_in, is_string, program_in, put_in}
 use Rattle.swc_base_tables_laws.proofs.Modules.{HasNoNames, layer_is, module_of}
@@ -68,7 +70,7 @@ of_fields t (a ∷ b ∷ z ∷ y ∷ ts) e h = absurd h.1.1.1
 
 pub parts_of : (t : Node) → Fits t (slot.One (content.Node class.Module)) → Parts t
 parts_of t h =
-    let (ts, o) = module_layer t h in
+    let (ts, o) = module_layer t (fits_module t h) in
     of_fields t ts (tree_is t kind.Module ts o) (module_fields t ts o h)
 
 -- with more statements

@@ -1,16 +1,14 @@
 -- What chaining leads to, by what the resolver and finishing lead to.
-use Rattle.std.proofs.Common.{◌≡◌, ◌≢◌, false, ℕ, ◌+◌, ◌<◌, Result, Ok, Err, IfErr, inl, inr, refl, ap, subst, sym, ◌∙◌}
+use Rattle.std.proofs.Common.{◌≡◌, ◌≢◌, false, IsTrue, ℕ, ◌+◌, ◌<◌, Result, Ok, Err, IfErr, inl, inr, refl, ap, subst, sym, ◌∙◌}
 use Rattle.swc_base_fixer_unparen.specs.Moves.{Moving}
 use Rattle.swc_base_rename_program.specs.Renamed.{IsHygienic}
 use Rattle.swc_tree_marks.specs.declared.error.PassError.{PassError}
 use Rattle.swc_tree_marks.specs.declared.error.PassError.TheVariants as error
 use Rattle.swc_tree_marks.specs.Globals.{Table, greatest}
 use Rattle.swc_tree_node.specs.declared.node.Node.{Node}
-use Rattle.swc_tree_node.specs.declared.kind.Class.TheVariants as class
-use Rattle.swc_tree_node.specs.declared.slot.Content.TheVariants as content
 use Rattle.swc_tree_node.specs.declared.slot.Slot.{Slot}
-use Rattle.swc_tree_node.specs.declared.slot.Slot.TheVariants as slot
 use Rattle.swc_tree_node.specs.Fits.{Fits}
+use Rattle.swc_tree_renaming.specs.Apart.{IsPlainIfScript, is_goal}
 use Rattle.swc_tree_spaces.specs.NoTypes.{NoTypes}
 use Rattle.swc_tree_spaces.specs.Spaces.{has_types}
 use Rattle.swc_tree_has_types.proofs.Remarked.{types_of_remarked}
@@ -23,15 +21,14 @@ use Rattle.swc_base_resolver.specs.Visits.{RefusesNode, ResolvesNode}
 use Rattle.swc_base_resolver_program.specs.Marked.{IsRefusal, MarksOk}
 use Rattle.swc_base_rename_substitution.specs.declared.config.Config.{Config}
 use Rattle.swc_base_rename_units.specs.Eval.{HasEval}
+use Rattle.swc_base_rename_ids_laws.proofs.Programs.{module_place}
 use Rattle.swc_ecma_transforms_base_laws.specs.Sources.{IsSource, ResolvedSourcesAreReady}
-use Rattle.swc_ecma_transforms_base_laws.specs.Headline.{ChainingKeepsSources, KeepsItsSource}
+use Rattle.swc_ecma_transforms_base_laws.specs.Headline.{ChainingKeepsForms, ChainingKeepsSources, KeepsItsForm, KeepsItsSource}
 use Rattle.swc_ecma_transforms_base_settled_laws.specs.Settled.{ChainChangesNothing, IsAnswer}
 use Rattle.swc_ecma_transforms_base.specs.Chained.{Chains, HasFreshMarks, IsChainRefusal, IsMarked, IsOnceHygienic, marks_for}
 use Rattle.swc_ecma_transforms_base.specs.Finished.{Finishes, IsFinishRefusal}
 use Rattle.swc_ecma_transforms_base.specs.Lent.{MovesFor, MovesPartly}
-
-abbrev module_place : Slot
-module_place = slot.One (content.Node class.Module)
+use Rattle.swc_ecma_transforms_base.proofs.Finishing.{module_plain}
 
 pub marked : (unresolved top : ℕ) (pass kept : ℕ × ℕ) (old new : Table) (given before resolved : Node) → pass ≡ (unresolved, top) → given ≡ before → TypesAreTold → has_types before ≡ false
     → ResolvesNode pass old given kept new resolved → IsMarked unresolved top old before new resolved
@@ -85,26 +82,31 @@ module _ (unresolved top : ℕ) (config : Config) (old : Table) (before : Node) 
   refused_later none (Ok t) h = tt
   refused_later none (Err e) h = refused none e h
 
-  pub source_kept : ChainingKeepsSources → (after : Node) → Finishes new config resolved after → Fits before module_place → IsSource config before → MarksOk old unresolved top
+  pub form_kept : ChainingKeepsForms → (goal : Slot) → IsTrue (is_goal goal) → (after : Node) → Finishes new config resolved after → Fits before goal → IsSource config before → MarksOk old unresolved top → KeepsItsForm before after
+  unfolding answer_to
+  form_kept law goal is after f fits s ok =
+      subst (λ t. KeepsItsForm before t) (sym f.paired) (law config (recorded (pairs f.between)) goal unresolved top old new before resolved f.between is fits s (m.resolved ok) f.hygienic).0
+
+  pub source_kept : ChainingKeepsSources → (goal : Slot) → IsTrue (is_goal goal) → (after : Node) → Finishes new config resolved after → Fits before goal → IsPlainIfScript before → IsSource config before → MarksOk old unresolved top
       → KeepsItsSource unresolved top old new before after
   unfolding answer_to
-  source_kept law after f fits s ok =
+  source_kept law goal is after f fits plain s ok =
       subst (λ t. KeepsItsSource unresolved top old new before t) (sym f.paired)
-      (law config (recorded (pairs f.between)) unresolved top old new before resolved f.between fits s ok.0.1 (m.resolved ok) f.hygienic).0
+      (law config (recorded (pairs f.between)) goal unresolved top old new before resolved f.between is fits s plain ok.0.1 (m.resolved ok) f.hygienic).0
 
   pub answered : ResolvedSourcesAreReady → (after : Node) → Finishes new config resolved after → Fits before module_place → IsSource config before → ¬ HasEval before → MarksOk old unresolved top → IsAnswer after
   unfolding answer_to
   answered ready after f fits s unread ok =
-      let is = ready config before resolved unresolved top old new fits s ok.0.1 (m.resolved ok) in
+      let is = ready config module_place before resolved unresolved top old new refl fits s (module_plain before fits) ok.0.1 (m.resolved ok) in
       record {
         table = new;
         config = config;
         place = recorded (pairs f.between);
         before = resolved;
         middle = f.between;
-        stands = is.fits;
-        finishable = is.finishable;
-        unread = is.unread unread;
+        stands = is.form.fits;
+        finishable = is.form.finishable;
+        unread = is.form.unread unread;
         scoped = is.well_scoped;
         hygienic = f.hygienic;
         paired = f.paired;
@@ -114,18 +116,18 @@ module _ (unresolved top : ℕ) (config : Config) (old : Table) (before : Node) 
   unfolding answer_to
   stays law after f answered keeps ok = f.paired ∙ law new config before resolved f.between unresolved top old new answered keeps ok.0.1 (m.resolved ok) f.hygienic
 
-  not_target : ChainingKeepsSources → Fits before module_place → IsSource config before → MarksOk old unresolved top → (e : PassError) → IsFinishRefusal new config resolved e → e ≢ error.NotAssignable
-  not_target law fits s ok error.NotAssignable h n =
-      let stands = (law config (recorded (pairs h.1.between)) unresolved top old new before resolved h.1.between fits s ok.0.1 (m.resolved ok) h.1.hygienic).1 in let fails = h.1.unassignable in absurd (cc)
-  not_target law fits s ok error.NoMemory h n = absurd (cc n)
-  not_target law fits s ok error.CounterSpent h n = absurd (cc n)
-  not_target law fits s ok error.MarksSpent h n = absurd (cc n)
-  not_target law fits s ok error.TypesLeft h n = absurd (cc n)
+  not_target : ChainingKeepsForms → (goal : Slot) → IsTrue (is_goal goal) → Fits before goal → IsSource config before → MarksOk old unresolved top → (e : PassError) → IsFinishRefusal new config resolved e → e ≢ error.NotAssignable
+  not_target law goal is fits s ok error.NotAssignable h n =
+      let stands = (law config (recorded (pairs h.1.between)) goal unresolved top old new before resolved h.1.between is fits s (m.resolved ok) h.1.hygienic).1 in let fails = h.1.unassignable in absurd (cc)
+  not_target law goal is fits s ok error.NoMemory h n = absurd (cc n)
+  not_target law goal is fits s ok error.CounterSpent h n = absurd (cc n)
+  not_target law goal is fits s ok error.MarksSpent h n = absurd (cc n)
+  not_target law goal is fits s ok error.TypesLeft h n = absurd (cc n)
 
-  pub no_target_later : {T : Type 0} (r : Result T PassError) → ChainingKeepsSources → IfErr r (IsFinishRefusal new config resolved) → Fits before module_place → IsSource config before → MarksOk old unresolved top
+  pub no_target_later : {T : Type 0} (r : Result T PassError) → ChainingKeepsForms → IfErr r (IsFinishRefusal new config resolved) → (goal : Slot) → IsTrue (is_goal goal) → Fits before goal → IsSource config before → MarksOk old unresolved top
       → IfErr r (λ e. e ≢ error.NotAssignable)
-  no_target_later (Ok t) law h fits s ok = tt
-  no_target_later (Err e) law h fits s ok = not_target law fits s ok e h
+  no_target_later (Ok t) law h goal is fits s ok = tt
+  no_target_later (Err e) law h goal is fits s ok = not_target law goal is fits s ok e h
 
   once_hygienic : (t : Node) → IsHygienic new config resolved t → IsOnceHygienic unresolved top config old before new t
   once_hygienic t h = record { resolved = resolved; marked = m; is_so = h }

@@ -1,15 +1,14 @@
--- What finishing promises of a module that can be finished, by what its two passes lead to.
-use Rattle.std.proofs.Common.{◌≡◌, ◌≢◌, ◌↔◌, ◌∙◌, Bool, true, false, Result, Ok, Err, OnErr, IfErr, refl, sym, ap, subst, inl, inr}
+-- What finishing promises of a program that can be finished, by what its two passes lead to.
+use Rattle.std.proofs.Common.{◌≡◌, ◌≢◌, ◌↔◌, ◌∙◌, Bool, true, false, IsTrue, Result, Ok, Err, OnErr, IfErr, refl, sym, ap, subst, inl, inr}
 use Rattle.swc_tree_marks.specs.declared.error.PassError.{PassError}
 use Rattle.swc_tree_marks.specs.declared.error.PassError.TheVariants as error
 use Rattle.swc_tree_marks.specs.Globals.{Table}
 use Rattle.swc_tree_node.specs.declared.node.Node.{Node}
-use Rattle.swc_tree_node.specs.declared.kind.Class.TheVariants as class
-use Rattle.swc_tree_node.specs.declared.slot.Content.TheVariants as content
 use Rattle.swc_tree_node.specs.declared.slot.Slot.{Slot}
-use Rattle.swc_tree_node.specs.declared.slot.Slot.TheVariants as slot
 use Rattle.swc_tree_node.specs.Fits.{Fits}
 use Rattle.swc_tree_scoping.specs.WellScoped.{WellScoped}
+use Rattle.swc_tree_renaming.specs.Apart.{IsPlainIfScript, is_goal}
+use Rattle.swc_tree_renaming.proofs.Global.{fits_module, plain_if_module}
 use Rattle.swc_tree_spaces.specs.Spaces.{has_types}
 use Rattle.swc_tree.specs.Types.{IsDeclined, IsMade}
 use Rattle.swc_tree_grammar.specs.Targets.{all_bare}
@@ -24,12 +23,13 @@ use Rattle.swc_base_rename_program.specs.Renamed.{IsHygienic, IsRenameRefusal, h
 use Rattle.swc_base_rename.specs.declared.hygienic.Hygiene.{Hygiene}
 use Rattle.swc_base_rename.specs.Hygiene.{MakesHygienic, MakesScriptHygienic, RefusesHygiene}
 use Rattle.swc_ecma_transforms_base_laws.specs.Finished.{FinishingMeetsNoTarget}
-use Rattle.swc_ecma_transforms_base_laws.specs.Headline.{FinishingKeepsPromises, IsOfMemoryOrCounters, KeepsItsPromises}
+use Rattle.swc_ecma_transforms_base_laws.specs.Headline.{FinishingKeepsForms, FinishingKeepsPromises, IsOfMemoryOrCounters, KeepsItsForm, KeepsItsPromises}
 use Rattle.swc_ecma_transforms_base_settled_laws.specs.Settled.{IsAnswer}
 use Rattle.swc_base_rename_hygiene_laws.specs.Laws.{IsFinishable}
+use Rattle.swc_base_rename_ids_laws.proofs.Programs.{by_goal, module_place}
 use Rattle.swc_ecma_transforms_base.specs.Finished.{Finishes, IsFinishRefusal}
 use Rattle.swc_ecma_transforms_base.specs.Lent.{MovesPartly}
-use Rattle.swc_ecma_transforms_base.proofs.WritableTypes.{writable_has_no_types}
+use Rattle.swc_ecma_transforms_base.proofs.WritableTypes.{is_untyped, writable_has_no_types}
 
 hygienic_as : (table : Table) (config config' : Config) (given before middle : Node) → config' ≡ config → given ≡ before → IsHygienic table config' given middle → IsHygienic table config before middle
 hygienic_as table config config' given before middle h same m =
@@ -114,14 +114,34 @@ module _ {C : Type 0} (c d : C) where
   unmoved_by_fixer (Ok t) h unmoved = tt
   unmoved_by_fixer (Err e) h unmoved = kept e h unmoved
 
-abbrev module_place : Slot
-module_place = slot.One (content.Node class.Module)
+goal_untyped : (goal : Slot) → IsTrue (is_goal goal) → is_untyped goal ≡ true
+goal_untyped = by_goal (λ goal. is_untyped goal ≡ true) refl refl
+
+module _ (table : Table) (config : Config) (goal : Slot) (before : Node) (is : IsTrue (is_goal goal)) (fits : Fits before goal) (finishable : IsFinishable config before) where
+  pub formed : FinishingKeepsForms → (after : Node) → Finishes table config before after → KeepsItsForm before after
+  unfolding answer_to
+  formed law after f = subst (λ t. KeepsItsForm before t) (sym f.paired) (law table config (recorded (pairs f.between)) goal before f.between is fits finishable f.hygienic)
+
+  pub promised : FinishingKeepsPromises → (after : Node) → Finishes table config before after → IsPlainIfScript before → KeepsItsPromises before after
+  unfolding answer_to
+  promised law after f plain = subst (λ t. KeepsItsPromises before t) (sym f.paired) (law table config (recorded (pairs f.between)) goal before f.between is fits finishable plain f.hygienic)
+
+  no_target : FinishingMeetsNoTarget → (e : PassError) → IsFinishRefusal table config before e → IsOfMemoryOrCounters e
+  no_target law error.NoMemory h = inl refl
+  no_target law error.CounterSpent h = inr refl
+  no_target law error.MarksSpent h = absurd h.1
+  no_target law error.TypesLeft h = let none = writable_has_no_types before goal (goal_untyped goal is) fits finishable.writable in absurd (cc (h, none))
+  no_target law error.NotAssignable h = let stands = law table config goal before h.1.between is fits finishable h.1.hygienic in let fails = h.1.unassignable in absurd (cc)
+
+  pub meets_none : {T : Type 0} (r : Result T PassError) → FinishingMeetsNoTarget → IfErr r (IsFinishRefusal table config before) → IfErr r IsOfMemoryOrCounters
+  meets_none (Ok t) law h = tt
+  meets_none (Err e) law h = no_target law e h
+
+-- a module is asked nothing more
+pub module_plain : (t : Node) → Fits t module_place → IsPlainIfScript t
+module_plain t f = plain_if_module t (fits_module t f)
 
 module _ (table : Table) (config : Config) (before : Node) (fits : Fits before module_place) (finishable : IsFinishable config before) where
-  pub promised : FinishingKeepsPromises → (after : Node) → Finishes table config before after → KeepsItsPromises before after
-  unfolding answer_to
-  promised law after f = subst (λ t. KeepsItsPromises before t) (sym f.paired) (law table config (recorded (pairs f.between)) before f.between fits finishable f.hygienic)
-
   pub answered : ¬ HasEval before → WellScoped before → (after : Node) → Finishes table config before after → IsAnswer after
   unfolding answer_to
   answered unread scoped after f = record {
@@ -137,14 +157,3 @@ module _ (table : Table) (config : Config) (before : Node) (fits : Fits before m
     hygienic = f.hygienic;
     paired = f.paired;
   }
-
-  no_target : FinishingMeetsNoTarget → (e : PassError) → IsFinishRefusal table config before e → IsOfMemoryOrCounters e
-  no_target law error.NoMemory h = inl refl
-  no_target law error.CounterSpent h = inr refl
-  no_target law error.MarksSpent h = absurd h.1
-  no_target law error.TypesLeft h = let none = writable_has_no_types before fits finishable.writable in absurd (cc (h, none))
-  no_target law error.NotAssignable h = let stands = law table config before h.1.between fits finishable h.1.hygienic in let fails = h.1.unassignable in absurd (cc)
-
-  pub meets_none : {T : Type 0} (r : Result T PassError) → FinishingMeetsNoTarget → IfErr r (IsFinishRefusal table config before) → IfErr r IsOfMemoryOrCounters
-  meets_none (Ok t) law h = tt
-  meets_none (Err e) law h = no_target law e h

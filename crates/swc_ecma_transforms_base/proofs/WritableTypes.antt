@@ -1,4 +1,4 @@
--- In a module that can be written down no types stand.
+-- In a program that can be written down no types stand.
 use Rattle.std.proofs.Common.{◌≡◌, ◌==◌, ◌||◌, ℕ, Bool, true, false, not, Some, List, [], ◌∷◌, map, refl, sym, ap, ◌∙◌, rules}
 use Rattle.std.specs.List.{list_all, list_any}
 use Rattle.swc_tree_node.specs.declared.kind.Kind.{Kind}
@@ -82,7 +82,7 @@ is_outer_content (content.Node c) = list_all (λ k. is_outer (kind_number k)) (k
 is_outer_content _ = true
 
 -- none of them may stand in the place
-abbrev is_untyped : Slot → Bool
+abbrev pub is_untyped : Slot → Bool
 is_untyped (slot.One c) = is_outer_content c
 is_untyped (slot.Optional c) = is_outer_content c
 is_untyped (slot.List c) = is_outer_content c
@@ -163,5 +163,5 @@ untyped = by_children Untyped
     (λ s q f h. search (rules, the_lemmas), λ x s q f h. search (rules, the_lemmas), λ w s q f h. search (rules, the_lemmas), λ x s q f h. search (rules, the_lemmas), λ r s q f h. search (rules, the_lemmas), λ k i s q f h. search (rules, the_lemmas))
     untyped_list untyped_tree
 
-pub writable_has_no_types : (t : Node) → Fits t (slot.One (content.Node class.Module)) → Writable t → has_types t ≡ false
-writable_has_no_types t f w = untyped t (slot.One (content.Node class.Module)) refl f (everywhere freeing t (slot.One (content.Node class.Module)) f (record { strict = false; assigned = false }) w)
+pub writable_has_no_types : (t : Node) (s : Slot) → is_untyped s ≡ true → Fits t s → Writable t → has_types t ≡ false
+writable_has_no_types t s q f w = untyped t s q f (everywhere freeing t s f (record { strict = false; assigned = false }) w)

@@ -3,12 +3,13 @@ ghost use Rattle.std.specs.Prelude.{◌≡◌, ◌≢◌, false, OnOk, OnErr, If
 ghost use Rattle.swc_tree_marks.specs.declared.error.PassError.TheVariants as error;
 ghost use Rattle.swc_tree.specs.Passes.{IsEmptied, IsEmptiedScript};
 ghost use Rattle.swc_tree_modules.specs.Nodes.{module_node, script_node};
+ghost use Rattle.swc_tree_renaming.specs.Apart.{IsPlainScript};
 ghost use Rattle.swc_tree_spaces.specs.Spaces.{has_types};
 ghost use Rattle.swc_base_resolver_program.specs.Marked.{MarksOk};
 ghost use Rattle.swc_base_rename_units.specs.Eval.{HasEval};
 ghost use Rattle.swc_ecma_transforms_base_laws.specs.Sources.{IsSource};
 ghost use Rattle.swc_ecma_transforms_base.specs.Chained.{Chains, HasFreshMarks, IsChainRefusal, IsOnceHygienic};
-ghost use Rattle.swc_ecma_transforms_base_laws.specs.Headline.{KeepsItsSource};
+ghost use Rattle.swc_ecma_transforms_base_laws.specs.Headline.{KeepsItsForm, KeepsItsSource};
 ghost use Rattle.swc_ecma_transforms_base_settled_laws.specs.Settled.{IsAnswer};
 ghost use Rattle.swc_ecma_transforms_base.specs.Lent.{Became, MovesFor, MovesPartly};
 
@@ -18,10 +19,12 @@ use std::mem;
 use swc_base_rename::Config;
 use swc_base_resolver::resolver;
 use swc_ecma_transforms_base_apart_laws::a_chain_changes_nothing;
-use swc_ecma_transforms_base_laws::{chaining_keeps_sources, resolved_sources_are_ready};
+use swc_ecma_transforms_base_laws::{
+    chaining_keeps_forms, chaining_keeps_sources, resolved_sources_are_ready,
+};
 use swc_tree::{
     Comments, Globals, JsPass, Mark, Module, NoComments, PassError, Script, empty_module,
-    empty_script, module_fits, types_in_module, types_in_script,
+    empty_script, module_fits, script_fits, types_in_module, types_in_script,
 };
 use swc_tree_spaces_laws::types_are_told;
 
@@ -84,6 +87,12 @@ pub fn chain_module<C: Comments>(
 
 /// The same for a program of the goal Script.
 ///
+/// A script without contexts and early errors of names that can be written down, in which nothing reads names and where classes don't
+/// keep theirs, becomes one that the grammar derives, with the normal form that it had but for the names that it binds; no target of it
+/// is to blame. What `chain_module` promises of names is promised of it if in addition (`IsPlainScript`) no plain function stands in a
+/// block, catch body or case list of sloppy code, no label names a function, its program declares neither `undefined` nor `NaN` nor
+/// `Infinity`, and no function has two parameters of one name.
+///
 /// # Errors
 ///
 /// Those of `chain_module`.
@@ -102,6 +111,9 @@ pub fn chain_script<C: Comments>(
     ensures refused { OnErr result (IsEmptiedScript program.old program.new) }
     ensures cause { IfErr result (IsChainRefusal unresolved top config globals.old (script_node program.old) globals.new) }
     ensures marks { HasFreshMarks top globals.old (script_node program.old) globals.new }
+    ensures form { IsSource config (script_node program.old) → MarksOk globals.old unresolved top → OnOk result (KeepsItsForm (script_node program.old) (script_node program.new)) }
+    ensures promises { IsSource config (script_node program.old) → IsPlainScript (script_node program.old) → MarksOk globals.old unresolved top → OnOk result (KeepsItsSource unresolved top globals.old globals.new (script_node program.old) (script_node program.new)) }
+    ensures no_target { IsSource config (script_node program.old) → MarksOk globals.old unresolved top → IfErr result (λ e. e ≢ error.NotAssignable) }
     ensures moved { OnOk result (Became (MovesFor C.moved (IsOnceHygienic unresolved top config globals.old (script_node program.old) globals.new) (script_node program.new)) comments.entry comments.exit) }
     ensures partly { OnErr result (Became (MovesPartly C.moved (IsOnceHygienic unresolved top config globals.old (script_node program.old) globals.new)) comments.entry comments.exit) }
     ensures unmoved { IfErr result (λ e. e ≢ error.NoMemory → Became (λ c d. d ≡ c) comments.entry comments.exit) }
@@ -179,6 +191,7 @@ fn chain_typeless_module<C: Comments>(
     ensures unmoved { IfErr result (λ e. e ≢ error.NoMemory → comments.new ≡ comments.old) }
 {
     types_are_told();
+    chaining_keeps_forms();
     chaining_keeps_sources();
     resolved_sources_are_ready();
     a_chain_changes_nothing();
@@ -207,6 +220,9 @@ fn chain_script_with<C: Comments>(
     ensures refused { OnErr result (IsEmptiedScript program.old program.new) }
     ensures cause { IfErr result (IsChainRefusal unresolved top config globals.old (script_node program.old) globals.new) }
     ensures marks { HasFreshMarks top globals.old (script_node program.old) globals.new }
+    ensures form { IsSource config (script_node program.old) → MarksOk globals.old unresolved top → OnOk result (KeepsItsForm (script_node program.old) (script_node program.new)) }
+    ensures promises { IsSource config (script_node program.old) → IsPlainScript (script_node program.old) → MarksOk globals.old unresolved top → OnOk result (KeepsItsSource unresolved top globals.old globals.new (script_node program.old) (script_node program.new)) }
+    ensures no_target { IsSource config (script_node program.old) → MarksOk globals.old unresolved top → IfErr result (λ e. e ≢ error.NotAssignable) }
     ensures moved { OnOk result (MovesFor C.moved (IsOnceHygienic unresolved top config globals.old (script_node program.old) globals.new) (script_node program.new) comments.old comments.new) }
     ensures partly { OnErr result (MovesPartly C.moved (IsOnceHygienic unresolved top config globals.old (script_node program.old) globals.new) comments.old comments.new) }
     ensures unmoved { IfErr result (λ e. e ≢ error.NoMemory → comments.new ≡ comments.old) }
@@ -235,11 +251,17 @@ fn chain_typeless_script<C: Comments>(
     ensures refused { OnErr result (IsEmptiedScript program.old program.new) }
     ensures cause { IfErr result (IsChainRefusal unresolved top config globals.old (script_node program.old) globals.new) }
     ensures marks { HasFreshMarks top globals.old (script_node program.old) globals.new }
+    ensures form { IsSource config (script_node program.old) → MarksOk globals.old unresolved top → OnOk result (KeepsItsForm (script_node program.old) (script_node program.new)) }
+    ensures promises { IsSource config (script_node program.old) → IsPlainScript (script_node program.old) → MarksOk globals.old unresolved top → OnOk result (KeepsItsSource unresolved top globals.old globals.new (script_node program.old) (script_node program.new)) }
+    ensures no_target { IsSource config (script_node program.old) → MarksOk globals.old unresolved top → IfErr result (λ e. e ≢ error.NotAssignable) }
     ensures moved { OnOk result (MovesFor C.moved (IsOnceHygienic unresolved top config globals.old (script_node program.old) globals.new) (script_node program.new) comments.old comments.new) }
     ensures partly { OnErr result (MovesPartly C.moved (IsOnceHygienic unresolved top config globals.old (script_node program.old) globals.new) comments.old comments.new) }
     ensures unmoved { IfErr result (λ e. e ≢ error.NoMemory → comments.new ≡ comments.old) }
 {
     types_are_told();
+    chaining_keeps_forms();
+    chaining_keeps_sources();
+    script_fits(program);
     let mut script = mem::replace(program, empty_script(alloc, program.span));
     let mut resolver = resolver(unresolved, top);
     resolver.visit_mut_script(alloc, globals, &mut script)?;

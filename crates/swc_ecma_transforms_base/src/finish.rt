@@ -4,11 +4,12 @@ ghost use Rattle.swc_tree.specs.Passes.{IsEmptied, IsEmptiedScript};
 ghost use Rattle.swc_tree_marks.specs.declared.error.PassError.TheVariants as error;
 ghost use Rattle.swc_tree_modules.specs.Nodes.{module_node, script_node};
 ghost use Rattle.swc_tree_scoping.specs.WellScoped.{WellScoped};
+ghost use Rattle.swc_tree_renaming.specs.Apart.{IsPlainScript};
 ghost use Rattle.swc_base_rename_units.specs.Eval.{HasEval};
 ghost use Rattle.swc_base_rename_program.specs.Renamed.{IsHygienic};
 ghost use Rattle.swc_base_rename_hygiene_laws.specs.Laws.{IsFinishable};
 ghost use Rattle.swc_ecma_transforms_base.specs.Finished.{Finishes, IsFinishRefusal};
-ghost use Rattle.swc_ecma_transforms_base_laws.specs.Headline.{IsOfMemoryOrCounters, KeepsItsPromises};
+ghost use Rattle.swc_ecma_transforms_base_laws.specs.Headline.{IsOfMemoryOrCounters, KeepsItsForm, KeepsItsPromises};
 ghost use Rattle.swc_ecma_transforms_base_settled_laws.specs.Settled.{IsAnswer};
 ghost use Rattle.swc_ecma_transforms_base.specs.Lent.{Became, MovesFor, MovesPartly};
 
@@ -16,10 +17,12 @@ use crate::fixed::{fix_module, fix_script};
 use std::alloc::Global;
 use std::mem;
 use swc_base_rename::{Config, hygiene_with_config};
-use swc_ecma_transforms_base_laws::{finishing_keeps_promises, finishing_meets_no_target};
+use swc_ecma_transforms_base_laws::{
+    finishing_keeps_forms, finishing_keeps_promises, finishing_meets_no_target,
+};
 use swc_tree::{
     Comments, Globals, JsPass, Module, NoComments, PassError, Script, empty_module, empty_script,
-    module_fits,
+    module_fits, script_fits,
 };
 
 /// Makes texts alone tell the names of a program apart, and then sets its parentheses anew, as a printer needs it. Comments
@@ -62,7 +65,13 @@ pub fn finish_module<C: Comments>(
     }
 }
 
-/// The same for a program of the goal Script, of whose answer nothing more is promised.
+/// The same for a program of the goal Script.
+///
+/// A script that can be written down, in which nothing reads names and where classes don't keep theirs, becomes one that the grammar
+/// derives, with the normal form that it had but for the names that it binds; no target of it is to blame then. What `finish_module`
+/// promises of names is promised of it if in addition (`IsPlainScript`) no plain function stands in a block, catch body or case list
+/// of sloppy code, no label names a function, its program declares neither `undefined` nor `NaN` nor `Infinity`, and no function has
+/// two parameters of one id.
 ///
 /// # Errors
 ///
@@ -75,8 +84,11 @@ pub fn finish_script<C: Comments>(
     program: &mut Script,
 ) -> Result<(), PassError>
     ensures done { OnOk result (Finishes globals.old config (script_node program.old) (script_node program.new)) }
+    ensures form { IsFinishable config (script_node program.old) → OnOk result (KeepsItsForm (script_node program.old) (script_node program.new)) }
+    ensures promises { IsFinishable config (script_node program.old) → IsPlainScript (script_node program.old) → OnOk result (KeepsItsPromises (script_node program.old) (script_node program.new)) }
     ensures refused { OnErr result (IsEmptiedScript program.old program.new) }
     ensures cause { IfErr result (IsFinishRefusal globals.old config (script_node program.old)) }
+    ensures no_target { IsFinishable config (script_node program.old) → IfErr result IsOfMemoryOrCounters }
     ensures marks { globals.new ≡ globals.old }
     ensures moved { OnOk result (Became (MovesFor C.moved (IsHygienic globals.old config (script_node program.old)) (script_node program.new)) comments.entry comments.exit) }
     ensures partly { OnErr result (Became (MovesPartly C.moved (IsHygienic globals.old config (script_node program.old))) comments.entry comments.exit) }
@@ -127,13 +139,20 @@ pub(crate) fn finish_script_with<C: Comments>(
     program: &mut Script,
 ) -> Result<(), PassError>
     ensures done { OnOk result (Finishes globals.old config (script_node program.old) (script_node program.new)) }
+    ensures form { IsFinishable config (script_node program.old) → OnOk result (KeepsItsForm (script_node program.old) (script_node program.new)) }
+    ensures promises { IsFinishable config (script_node program.old) → IsPlainScript (script_node program.old) → OnOk result (KeepsItsPromises (script_node program.old) (script_node program.new)) }
     ensures refused { OnErr result (IsEmptiedScript program.old program.new) }
     ensures cause { IfErr result (IsFinishRefusal globals.old config (script_node program.old)) }
+    ensures no_target { IsFinishable config (script_node program.old) → IfErr result IsOfMemoryOrCounters }
     ensures marks { globals.new ≡ globals.old }
     ensures moved { OnOk result (MovesFor C.moved (IsHygienic globals.old config (script_node program.old)) (script_node program.new) comments.old comments.new) }
     ensures partly { OnErr result (MovesPartly C.moved (IsHygienic globals.old config (script_node program.old)) comments.old comments.new) }
     ensures unmoved { IfErr result (λ e. e ≢ error.NoMemory → comments.new ≡ comments.old) }
 {
+    finishing_keeps_forms();
+    finishing_keeps_promises();
+    finishing_meets_no_target();
+    script_fits(program);
     let mut script = mem::replace(program, empty_script(alloc, program.span));
     let mut hygiene = hygiene_with_config(config);
     hygiene.visit_mut_script(alloc, globals, &mut script)?;

@@ -13,6 +13,7 @@ use Rattle.swc_tree_scoping.specs.Readings.{by_texts}
 use Rattle.swc_tree_scoping.specs.Resolved.{Resolved}
 use Rattle.swc_tree_scoping.specs.BoundNames.{Id}
 use Rattle.swc_tree_scoping.specs.WellScoped.{NoEarlyErrorOfNames}
+use Rattle.swc_tree_renaming.proofs.Global.{plain_if_module}
 use Rattle.swc_tree_grammar.specs.Blocks.{with_blocks}
 use Rattle.swc_tree_grammar.specs.Fixed.{fixed}
 use Rattle.swc_tree_grammar.specs.Stripped.{stripped}
@@ -90,7 +91,7 @@ pub answers_are_apart : HygieneStaysFitting → HygieneStaysWritable → AnswerH
 answers_are_apart fitting stays fair fixing needless texts old_pairs law answer u unresolved top old new a known resolved =
     let (given, renamed, cleared) = a.hygienic in
     let names = plain_names a.table a.config a.before given a.finishable.plain renamed in
-    let within : Fits a.middle module_place = fitting a.table a.config a.before a.middle a.finishable.plain a.stands a.hygienic in
+    let within : Fits a.middle module_place = fitting a.table a.config module_place a.before a.middle refl a.finishable.plain a.stands a.hygienic in
     let writable : IsTrue (is_writable a.middle) = stays a.table a.config module_place a.before a.middle a.finishable.plain a.stands a.finishable.writable a.hygienic in
     let v = substituted (labelled_changes names.new_texts) false place.Other (labelled a.before) in
     let text_of_v : by_texts v ≡ a.middle = needs_no_labels needless names.new_texts a.before ∙ ap by_texts (sym (substituted_given a.before given names)) ∙ sym cleared in
@@ -108,7 +109,7 @@ answers_are_apart fitting stays fair fixing needless texts old_pairs law answer 
     } in
     let ready : IsReady a.before = record { fits = a.stands; writable = a.finishable.writable; scoped = a.scoped } in
     let r : IsResolvedSo labels u = record {
-      fair = subst NoEarlyErrorOfNames (sym (text_of_labels ∙ a.paired)) (fair a.table a.config a.place a.before a.middle a.stands a.finishable a.scoped a.hygienic);
+      fair = subst NoEarlyErrorOfNames (sym (text_of_labels ∙ a.paired)) (fair a.table a.config a.place module_place a.before a.middle refl a.stands a.finishable (plain_if_module a.before (fits_module a.before a.stands)) a.scoped a.hygienic);
       unresolved = unresolved;
       top = top;
       old = old;

@@ -1,37 +1,49 @@
--- What is promised of a module that is finished, and of a source that is chained, by the laws of each.
+-- What is promised of a program that is finished, and of a source that is chained, by the laws of each.
 use Rattle.std.proofs.Common.{◌∙◌}
 use Rattle.swc_base_rename_errors_laws.specs.Laws.{AnswerHasNoEarlyErrorOfNames}
-use Rattle.swc_ecma_transforms_base_laws.specs.Finished.{FinishingKeepsIds, FinishingKeepsMeanings, FinishingKeepsModules, FinishingKeepsSpans, FinishingMeetsNoTarget}
-use Rattle.swc_ecma_transforms_base_laws.specs.Headline.{ChainingKeepsSources, FinishingKeepsPromises}
-use Rattle.swc_ecma_transforms_base_laws.specs.Sources.{ResolvedSourcesAreReady}
+use Rattle.swc_ecma_transforms_base_laws.specs.Finished.{FinishingKeepsIds, FinishingKeepsMeanings, FinishingKeepsPrograms, FinishingKeepsSpans, FinishingMeetsNoTarget}
+use Rattle.swc_ecma_transforms_base_laws.specs.Headline.{ChainingKeepsForms, ChainingKeepsSources, FinishingKeepsForms, FinishingKeepsPromises}
+use Rattle.swc_ecma_transforms_base_laws.specs.Sources.{ResolvedSourcesAreReady, ResolvedSourcesHaveTheirForm}
 
-pub keeps_promises : FinishingKeepsModules → FinishingKeepsIds → FinishingKeepsMeanings → AnswerHasNoEarlyErrorOfNames → FinishingKeepsSpans → FinishingKeepsPromises
-keeps_promises modules ids means errors spans table config place before middle f b h =
-    let kept = modules table config place before middle f b h in
+pub keeps_forms : FinishingKeepsPrograms → FinishingKeepsSpans → FinishingKeepsForms
+keeps_forms programs spans table config place goal before middle is f b h =
+    let kept = programs table config place goal before middle is f b h in
+    record { derived = kept.derived; normal_form = kept.normal_form; spans = spans table config place goal before middle is f b h }
+
+pub keeps_promises : FinishingKeepsForms → FinishingKeepsIds → FinishingKeepsMeanings → AnswerHasNoEarlyErrorOfNames → FinishingKeepsPromises
+keeps_promises forms ids means errors table config place goal before middle is f b plain h =
+    let kept = forms table config place goal before middle is f b h in
     record {
       derived = kept.derived;
       normal_form = kept.normal_form;
-      ids = λ scoped unresolved top old new u knows r. ids table config place before middle u unresolved top old new f b scoped h knows r;
-      meanings = λ scoped. means table config place before middle f b scoped h;
-      no_early_error = λ scoped. errors table config place before middle f b scoped h;
-      spans = spans table config place before middle f b h;
+      ids = λ scoped unresolved top old new u knows r. ids table config place goal before middle u unresolved top old new is f b plain scoped h knows r;
+      meanings = λ scoped. means table config place goal before middle is f b plain scoped h;
+      no_early_error = λ scoped. errors table config place goal before middle is f b plain scoped h;
+      spans = kept.spans;
     }
 
-pub keeps_sources : ResolvedSourcesAreReady → FinishingKeepsPromises → FinishingMeetsNoTarget → ChainingKeepsSources
-keeps_sources ready promises bare config place unresolved top old new source resolved middle f s known r h =
-    let is = ready config source resolved unresolved top old new f s known r in
-    let kept = promises new config place resolved middle is.fits is.finishable h in (
+pub chains_keep_forms : ResolvedSourcesHaveTheirForm → FinishingKeepsForms → FinishingMeetsNoTarget → ChainingKeepsForms
+chains_keep_forms resolves forms bare config place goal unresolved top old new source resolved middle is f s r h =
+    let form = resolves config goal source resolved unresolved top old new is f s r in
+    let kept = forms new config place goal resolved middle is form.fits form.finishable h in
+    (record { derived = kept.derived; normal_form = form.same _ kept.normal_form; spans = form.placed ∙ kept.spans }, bare new config goal resolved middle is form.fits form.finishable h)
+
+pub keeps_sources : ResolvedSourcesAreReady → FinishingKeepsPromises → ChainingKeepsForms → ChainingKeepsSources
+keeps_sources resolves promises forms config place goal unresolved top old new source resolved middle is f s plain known r h =
+    let ready = resolves config goal source resolved unresolved top old new is f s plain known r in
+    let kept = promises new config place goal resolved middle is ready.form.fits ready.form.finishable ready.plain h in
+    let form = forms config place goal unresolved top old new source resolved middle is f s r h in (
       record {
         resolved = resolved;
         meant = r;
-        found = is.found;
-        derived = kept.derived;
-        normal_form = is.same _ kept.normal_form;
-        ids = kept.ids is.well_scoped;
-        meanings = kept.meanings is.well_scoped;
-        no_early_error = kept.no_early_error is.well_scoped;
-        spans = is.placed ∙ kept.spans;
+        found = ready.found;
+        derived = form.0.derived;
+        normal_form = form.0.normal_form;
+        ids = kept.ids ready.well_scoped;
+        meanings = kept.meanings ready.well_scoped;
+        no_early_error = kept.no_early_error ready.well_scoped;
+        spans = form.0.spans;
         resolved_spans = kept.spans;
       },
-      bare new config resolved middle is.fits is.finishable h,
+      form.1,
     )

@@ -1,10 +1,6 @@
 -- A source is ready to be finished once it is resolved.
 use Rattle.std.proofs.Common.{◌≡◌, IsTrue, [], refl, sym, ap, ◌∙◌, subst}
 use Rattle.swc_tree_marks.specs.declared.ident.Ident.{Ident}
-use Rattle.swc_tree_node.specs.declared.kind.Class.TheVariants as class
-use Rattle.swc_tree_node.specs.declared.slot.Content.TheVariants as content
-use Rattle.swc_tree_node.specs.declared.slot.Slot.{Slot}
-use Rattle.swc_tree_node.specs.declared.slot.Slot.TheVariants as slot
 use Rattle.swc_tree_node.specs.declared.node.Node.{Node, fold-Node}
 use Rattle.swc_tree_node.specs.declared.node.Node.TheOpen.{Node-F}
 use Rattle.swc_tree_node.specs.Fits.{Fits, fits}
@@ -15,18 +11,14 @@ use Rattle.swc_tree_grammar.specs.Normal.{normal_form}
 use Rattle.swc_tree_grammar.specs.Same.{SameButForBoundNames}
 use Rattle.swc_tree_grammar.specs.Writable.{is_writable}
 use Rattle.swc_tree_grammar_texts.specs.Laws.{TextsAreAsWritable}
-use Rattle.swc_base_fixer_sites.proofs.Answers.{fits_module}
 use Rattle.swc_base_rename_ids_laws.proofs.Exported.{normal_cleared, texts_again}
 use Rattle.swc_base_rename_laws.specs.NewNames.{nameless, nameless_step}
 use Rattle.swc_base_rename_source_laws.specs.Laws.{ReadersNeedNoContexts, SamenessNeedsNoContexts}
 use Rattle.swc_base_rename_units.specs.Eval.{HasEval}
 use Rattle.swc_base_fixer_laws.proofs.NoNamespaces.{writable_has_no_namespaces}
 use Rattle.swc_base_resolver_laws.proofs.ExportLists.{lists_are_items}
-use Rattle.swc_base_resolver_laws.specs.Laws.{CleanModulesBecomeWellScoped, ResolvedNamesMeanTheirIds}
-use Rattle.swc_ecma_transforms_base_laws.specs.Sources.{ResolvedSourcesAreReady}
-
-abbrev module_place : Slot
-module_place = slot.One (content.Node class.Module)
+use Rattle.swc_base_resolver_laws.specs.Laws.{CleanProgramsBecomeWellScoped, ResolvedNamesMeanTheirIds, ResolvedScriptsArePlain}
+use Rattle.swc_ecma_transforms_base_laws.specs.Sources.{ResolvedSourcesAreReady, ResolvedSourcesHaveTheirForm}
 
 -- a tree without texts and contexts, as one whose identifiers are changed
 abbrev unnamed : Ident → Ident
@@ -43,12 +35,12 @@ unnamed_same t j = fold-Node Node (λ y. same_step y j) t
 nameless_texts : (t : Node) → nameless (by_texts t) ≡ nameless t
 nameless_texts t = unnamed_same (by_texts t) ∙ twice (λ i. record i { ctxt = [] }) unnamed t ∙ sym (unnamed_same t)
 
-pub sources_ready : CleanModulesBecomeWellScoped → ResolvedNamesMeanTheirIds → TextsAreAsWritable → SamenessNeedsNoContexts → ReadersNeedNoContexts → ResolvedSourcesAreReady
-sources_ready becomes mean texts same readers config t u unresolved top old new f s known r =
+pub sources_have_form : TextsAreAsWritable → SamenessNeedsNoContexts → ReadersNeedNoContexts → ResolvedSourcesHaveTheirForm
+sources_have_form texts same readers config goal t u unresolved top old new is f s r =
     let clear : by_texts u ≡ t = texts_again t u r.contexts r.only_contexts s.clean in
-    let fits_u : Fits u module_place = ap (λ t. fits t module_place) r.only_contexts ∙ fits-remarked r.contexts t module_place ∙ f in
+    let fits_u : Fits u goal = ap (λ t. fits t goal) r.only_contexts ∙ fits-remarked r.contexts t goal ∙ f in
     let writable_u : IsTrue (is_writable u) = sym (texts u) ∙ ap is_writable clear ∙ s.writable in
-    let normal : normal_form (by_texts u) ≡ by_texts (normal_form u) = ap normal_form clear ∙ normal_cleared unresolved top old new t u s.clean (fits_module t f) r fits_u writable_u in
+    let normal : normal_form (by_texts u) ≡ by_texts (normal_form u) = ap normal_form clear ∙ normal_cleared goal is unresolved top old new t u s.clean f r fits_u writable_u in
     let read_too : HasEval u → HasEval t = λ read. subst HasEval clear (readers u read) in
     record {
       fits = fits_u;
@@ -56,9 +48,15 @@ sources_ready becomes mean texts same readers config t u unresolved top old new 
         plain = record { renames_classes = s.plain.renames_classes; unread = λ read. s.plain.unread (read.0, read_too read.1) };
         writable = writable_u;
       };
-      well_scoped = becomes t u unresolved top old new f (lists_are_items t f (writable_has_no_namespaces t module_place f s.writable)) s.clean s.fair known r;
-      found = mean t u unresolved top old new f s.clean s.fair known r;
       same = λ answer h. subst (λ t. SameButForBoundNames t answer) clear (same u answer normal h);
       placed = ap (λ t. nameless (normal_form t)) (sym clear) ∙ ap nameless normal ∙ nameless_texts (normal_form u);
       unread = λ none read. none (read_too read);
     }
+
+pub sources_ready : ResolvedSourcesHaveTheirForm → CleanProgramsBecomeWellScoped → ResolvedNamesMeanTheirIds → ResolvedScriptsArePlain → ResolvedSourcesAreReady
+sources_ready form becomes mean plain config goal t u unresolved top old new is f s plain_source known r = record {
+  form = form config goal t u unresolved top old new is f s r;
+  plain = plain t u unresolved top old new s.clean r plain_source;
+  well_scoped = becomes goal t u unresolved top old new is f plain_source (lists_are_items goal t is f (writable_has_no_namespaces t goal f s.writable)) s.clean s.fair known r;
+  found = mean goal t u unresolved top old new is f plain_source s.clean s.fair known r;
+}

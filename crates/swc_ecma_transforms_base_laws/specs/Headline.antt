@@ -1,16 +1,14 @@
--- What is promised of a module whose names and parentheses are set for a reader.
-use Rattle.std.specs.Prelude.{◌≡◌, ◌⊎◌, ℕ, Contains, true}
+-- What is promised of a program whose names and parentheses are set for a reader.
+use Rattle.std.specs.Prelude.{◌≡◌, ◌⊎◌, ℕ, Contains, true, IsTrue}
 use Rattle.swc_tree_marks.specs.declared.error.PassError.{PassError}
 use Rattle.swc_tree_marks.specs.declared.error.PassError.TheVariants as error
 use Rattle.swc_tree_marks.specs.Globals.{Table, numbers}
-use Rattle.swc_tree_node.specs.declared.kind.Class.TheVariants as class
 use Rattle.swc_tree_node.specs.declared.node.Node.{Node}
-use Rattle.swc_tree_node.specs.declared.slot.Content.TheVariants as content
-use Rattle.swc_tree_node.specs.declared.slot.Slot.TheVariants as slot
+use Rattle.swc_tree_node.specs.declared.slot.Slot.{Slot}
 use Rattle.swc_tree_node.specs.Fits.{Fits}
 use Rattle.swc_tree_scoping.specs.Resolved.{Resolved}
 use Rattle.swc_tree_scoping.specs.WellScoped.{NoEarlyErrorOfNames, WellScoped}
-use Rattle.swc_tree_renaming.specs.Apart.{Knows, MeanTheirIds, SameIds}
+use Rattle.swc_tree_renaming.specs.Apart.{IsPlainIfScript, Knows, MeanTheirIds, SameIds, is_goal}
 use Rattle.swc_tree_grammar.specs.Due.{Places}
 use Rattle.swc_tree_grammar.specs.Fixed.{fixed}
 use Rattle.swc_tree_grammar.specs.Grammar.{FitsGrammar}
@@ -24,16 +22,23 @@ use Rattle.swc_base_rename_laws.specs.NewNames.{SameButForNames}
 use Rattle.swc_base_rename_hygiene_laws.specs.Laws.{IsFinishable}
 use Rattle.swc_ecma_transforms_base_laws.specs.Sources.{IsSource}
 
--- however the answer is resolved, where the mark of free names is known, it gives two kept names one id exactly if the module did
+-- however the answer is resolved, where the mark of free names is known, it gives two kept names one id exactly if the program did
 abbrev pub KeepsIds : Node → Node → Type 0
 KeepsIds before after = (unresolved top : ℕ) (old new : Table) (u : Node) → Knows old unresolved → Resolved unresolved top old new after u → SameIds (normal_form before) (normal_form u)
 
--- and with no resolver asked: two kept names have one text and one scope, or one text and no scope, exactly if the module had one id for them
+-- and with no resolver asked: two kept names have one text and one scope, or one text and no scope, exactly if the program had one id for them
 abbrev pub KeepsMeanings : Node → Node → Type 0
 KeepsMeanings before after = MeanTheirIds (normal_form after) (normal_form before)
 
--- the grammar derives the answer, it has the normal form of the module but for the names that the module binds, and where the
--- module is well-scoped its names mean what they meant, and no rule for declaring names is broken; what is in the normal form
+-- the grammar derives the answer, it has the normal form of the program but for the names that the program binds, and what is in
+-- the normal form stands where it stood in the source, each identifier too
+pub record KeepsItsForm (before after : Node) : Type 0 where
+  pub derived : FitsGrammar after
+  pub normal_form : SameButForBoundNames before after
+  pub spans : SameButForNames (normal.normal_form before) (normal.normal_form after)
+
+-- the grammar derives the answer, it has the normal form of the program but for the names that the program binds, and where the
+-- program is well-scoped its names mean what they meant, and no rule for declaring names is broken; what is in the normal form
 -- stands where it stood in the source, each identifier too
 pub record KeepsItsPromises (before after : Node) : Type 0 where
   pub derived : FitsGrammar after
@@ -61,13 +66,24 @@ pub record KeepsItsSource (unresolved top : ℕ) (old new : Table) (before after
 abbrev pub IsOfMemoryOrCounters : PassError → Type 0
 IsOfMemoryOrCounters e = (e ≡ error.NoMemory) ⊎ (e ≡ error.CounterSpent)
 
--- hygiene and then the fixer keep these promises, wherever the fixer puts its pairs
+-- hygiene and then the fixer keep the form, wherever the fixer puts its pairs
+abbrev pub FinishingKeepsForms : Type 0
+FinishingKeepsForms = (table : Table) (config : Config) (place : Places) (goal : Slot) (before middle : Node) → IsTrue (is_goal goal) → Fits before goal → IsFinishable config before
+    → IsHygienic table config before middle → KeepsItsForm before (fixed place middle)
+
+-- ... and these promises, of a module, or of a script of which what is asked of scripts holds
 abbrev pub FinishingKeepsPromises : Type 0
-FinishingKeepsPromises = (table : Table) (config : Config) (place : Places) (before middle : Node) → Fits before (slot.One (content.Node class.Module)) → IsFinishable config before
+FinishingKeepsPromises = (table : Table) (config : Config) (place : Places) (goal : Slot) (before middle : Node) → IsTrue (is_goal goal) → Fits before goal → IsFinishable config before → IsPlainIfScript before
     → IsHygienic table config before middle → KeepsItsPromises before (fixed place middle)
 
--- and of a source that is resolved first, where the table has the mark of free names; then the fixer has no target to refuse
+-- the form of a source that is resolved first stays too, and the fixer has no target to refuse
+abbrev pub ChainingKeepsForms : Type 0
+ChainingKeepsForms = (config : Config) (place : Places) (goal : Slot) (unresolved top : ℕ) (old new : Table) (source resolved middle : Node) → IsTrue (is_goal goal) → Fits source goal → IsSource config source
+    → Resolved unresolved top old new source resolved → IsHygienic new config resolved middle
+    → KeepsItsForm source (fixed place middle) × (all_bare middle ≡ true)
+
+-- ... and what is promised of a source, where the table has the mark of free names
 abbrev pub ChainingKeepsSources : Type 0
-ChainingKeepsSources = (config : Config) (place : Places) (unresolved top : ℕ) (old new : Table) (source resolved middle : Node) → Fits source (slot.One (content.Node class.Module)) → IsSource config source
+ChainingKeepsSources = (config : Config) (place : Places) (goal : Slot) (unresolved top : ℕ) (old new : Table) (source resolved middle : Node) → IsTrue (is_goal goal) → Fits source goal → IsSource config source → IsPlainIfScript source
     → Contains (numbers old) unresolved → Resolved unresolved top old new source resolved → IsHygienic new config resolved middle
     → KeepsItsSource unresolved top old new source (fixed place middle) × (all_bare middle ≡ true)

@@ -42,7 +42,7 @@ clean t e p w k i h =
 pub answers_are_clean_modules : HygieneStaysFitting → HygieneStaysWritable → TargetsStandBare → FixingNeedsNoContexts → AnswersAreCleanModules
 answers_are_clean_modules fitting stays targets texts answer a =
     let (given, renamed, cleared) = a.hygienic in
-    let within = fitting a.table a.config a.before a.middle a.finishable.plain a.stands a.hygienic in
+    let within = fitting a.table a.config module_place a.before a.middle refl a.finishable.plain a.stands a.hygienic in
     let writable = stays a.table a.config module_place a.before a.middle a.finishable.plain a.stands a.finishable.writable a.hygienic in
     let inner = blocks_fit (stripped a.middle) module_place (stripped_fits a.middle module_place (targets a.middle module_place within writable) refl within) in
     let once : by_texts a.middle ≡ a.middle = ap by_texts cleared ∙ twice bare bare given ∙ sym cleared in
@@ -52,5 +52,5 @@ answers_are_clean_modules fitting stays targets texts answer a =
     record {
       fits = subst (λ t. Fits t module_place) (sym a.paired) fits_whole;
       clean = subst IsClean (sym a.paired) (clean (fixed a.place a.middle) whole);
-      lists = subst ListsAreItems (sym a.paired) (lists_are_items (fixed a.place a.middle) fits_whole (writable_has_no_namespaces (fixed a.place a.middle) module_place fits_whole written));
+      lists = subst ListsAreItems (sym a.paired) (lists_are_items module_place (fixed a.place a.middle) refl fits_whole (writable_has_no_namespaces (fixed a.place a.middle) module_place fits_whole written));
     }

@@ -105,7 +105,7 @@ module _ (before given : Node) (names : Given before given) (renaming : NewNames
 pub answers_read_no_names : HygieneStaysFitting → HygieneStaysWritable → TargetsStandBare → NewNamesAddNoReader → ContextsAddNoReader → StrippingAddsNoReader → BlocksAddNoReader → DuePairsAddNoReader → AnswersReadNoNames
 answers_read_no_names fitting stays bare renaming contexts stripping blocks pairs answer a h =
     let (given, renamed, cleared) = a.hygienic in
-    let within = fitting a.table a.config a.before a.middle a.finishable.plain a.stands a.hygienic in
+    let within = fitting a.table a.config module_place a.before a.middle refl a.finishable.plain a.stands a.hygienic in
     let writable = stays a.table a.config module_place a.before a.middle a.finishable.plain a.stands a.finishable.writable a.hygienic in
     let inner = blocks_fit (stripped a.middle) module_place (stripped_fits a.middle module_place (bare a.middle module_place within writable) refl within) in
     let read = stripping a.middle module_place within writable (blocks (stripped a.middle) (pairs a.place (with_blocks (stripped a.middle)) module_place inner (subst HasEval a.paired h))) in

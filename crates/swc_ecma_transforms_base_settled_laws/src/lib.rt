@@ -18,7 +18,7 @@ use swc_base_rename_readers_laws::{
 };
 use swc_base_rename_settled_laws::hygiene_keeps_apart;
 use swc_base_rename_source_laws::readers_need_no_contexts;
-use swc_base_resolver_laws::a_clean_module_becomes_well_scoped;
+use swc_base_resolver_laws::clean_programs_become_well_scoped;
 
 /// Where texts are apart where ids meet, hygiene leaves a tree as it is, but without contexts.
 pub fn hygiene_leaves_apart()
@@ -60,7 +60,7 @@ pub fn chain_changes_spans()
     answers_read_no_names();
     answers_are_clean_modules();
     hygiene_leaves_apart();
-    a_clean_module_becomes_well_scoped();
+    clean_programs_become_well_scoped();
     answer_has_no_early_error_of_names();
     readers_need_no_contexts();
     second_run_changes_spans();
@@ -75,7 +75,7 @@ pub fn chain_changes_nothing()
     answers_read_no_names();
     answers_are_clean_modules();
     hygiene_leaves_apart();
-    a_clean_module_becomes_well_scoped();
+    clean_programs_become_well_scoped();
     answer_has_no_early_error_of_names();
     readers_need_no_contexts();
     second_run_changes_nothing();

@@ -11,11 +11,11 @@ use Rattle.swc_tree_scoping.specs.declared.places.Scope.{Scope}
 use Rattle.swc_tree_scoping.specs.declared.places.Scope.TheVariants as scope
 use Rattle.swc_tree_scoping.specs.Places.{Path, program_place}
 use Rattle.swc_tree_scoping.specs.Scopes.{IsScope, Round, scope_at, takes, rounds, is_taken, is_binding, is_reference, taker, first_that, is_name}
-use Rattle.swc_tree_scoping.specs.Declares.{Bound, DeclaredBy, DeclaresFor, First}
+use Rattle.swc_tree_scoping.specs.Declares.{Bound, DeclaredBy, DeclaresFor, First, Means}
 use Rattle.swc_tree_scoping.specs.Resolved.{HasContext, HasDeclarersMark, HasMeantMark, IsCaughtBy, is_global_value, is_script, mark_in, own_meaning}
 use Rattle.swc_tree_scoping.specs.WellScoped.{Stands, IsDeclared, EachInOneScope, IsClean}
 use Rattle.swc_tree_scoping.proofs.First.{Nested, rounds_nested}
-use Rattle.swc_tree_renaming.specs.Apart.{Belongs, IsRound, IsAtOrAbove, OccursIn, DeclaredIn, IsFreeName, CapturesNone, HasTexts, HasNoSloppy, SameScopes}
+use Rattle.swc_tree_renaming.specs.Apart.{Belongs, MeansNoGlobalValue, IsRound, IsAtOrAbove, OccursIn, DeclaredIn, IsFreeName, CapturesNone, HasTexts, HasNoSloppy, SameScopes}
 
 -- lists
 pub head_in : {X : Type 0} (x : X) (xs : List X) → Contains (x ∷ xs) x
@@ -107,16 +107,31 @@ bound_is_name r h = or_left (is_binding r) (is_reference r) h
 reference_is_name : (r : Standing) → IsTrue (is_reference r) → IsTrue (is_name r)
 reference_is_name r h = or_right (is_binding r) (is_reference r) h
 
+-- where no reference to a global value means the program, a reference has the mark of the scope that it means
+pub own_meaning_is : (R : Node) → MeansNoGlobalValue R → (p : Path) (r : Standing) (y : List ℕ) → Stands R p r y → IsTrue (is_reference r) → (o : Option Path) → Means R p y o → own_meaning R y o ≡ o
+own_meaning_is R none p r y at refers None means = refl
+own_meaning_is R none p r y at refers (Some (i ∷ s)) means = refl
+own_meaning_is R none p r y at refers (Some []) means = by (is_script R) refl (is_global_value y) refl
+  where
+    by : (b : Bool) → is_script R ≡ b → (c : Bool) → is_global_value y ≡ c → own_meaning R y (Some []) ≡ Some []
+    by false e c f = ap (λ b. cond (b && is_global_value y) None (Some [])) e
+    by true e false f = ap (λ b. cond (b && is_global_value y) None (Some [])) e ∙ ap (λ c. cond c None (Some [])) f
+    by true e true f = absurd (none p r y e at refers f means)
+
 -- the scope that declares a binding is the one that takes it
 pub as_declared : (t : Node) (r : Standing) (p s : Path) (x : List ℕ) → r ≢ standing.SloppyFunction → taker r t p ≡ Some s → DeclaredBy t p r x s
 as_declared t standing.SloppyFunction p s x n h = absurd (n refl)
 as_declared t _ p s x n h = h
 
+-- where the scopes are the same, bindings are taken by the same
+pub takers_same : (A R : Node) → SameScopes A R → (r : Standing) (p : Path) → taker r A p ≡ taker r R p
+takers_same A R same r p =
+    ap (first_that (λ s. is_taken r (scope_at program_place A s.0))) (same.rounds_same p)
+    ∙ ap (λ (f : Path → Option Scope). first_that (λ s. is_taken r (f s.0)) (rounds program_place R p)) (λ i s. same.scopes_same s i)
+
 module _ (A R : Node) (m : List ℕ → List ℕ) (same : SameScopes A R) (clear : IsClean A) (cleared : IsClean R) (texts : HasTexts A m R) (settled : HasNoSloppy A) where
   pub taken_same : (r : Standing) (p : Path) → taker r A p ≡ taker r R p
-  taken_same r p =
-      ap (first_that (λ s. is_taken r (scope_at program_place A s.0))) (same.rounds_same p)
-      ∙ ap (λ (f : Path → Option Scope). first_that (λ s. is_taken r (f s.0)) (rounds program_place R p)) (λ i s. same.scopes_same s i)
+  taken_same = takers_same A R same
 
   -- what stands in one stands in the other
   stands_forth : (p : Path) (r : Standing) (x : List ℕ) → Stands A p r x → IsTrue (is_name r) → Stands R p r (m x)
@@ -370,12 +385,19 @@ module _ (A R : Node) (m : List ℕ → List ℕ) (same : SameScopes A R) (clear
     owner_tells x y None f g e = apart.frees x y f g e
     owner_tells x y (Some s) d g e = same_scope_apart s x y d g e
 
-    own_meaning_is : is_script R ≡ false → (y : List ℕ) (o : Option Path) → own_meaning R y o ≡ o
-    own_meaning_is n y None = refl
-    own_meaning_is n y (Some []) = ap (λ b. cond (b && is_global_value y) None (Some [])) n
-    own_meaning_is n y (Some (i ∷ s)) = refl
+    -- the name stands there in the answer by its new text
+    stands_anew : (p : Path) (r : Standing) (x : List ℕ) → Stands A p r x → IsTrue (is_name r) → Stands R p r (m x)
+    stands_anew p r x at n =
+        let (l, j, e) = same.forth p at.place at.kind at.identifier at.stands in record {
+          place = at.place;
+          kind = l;
+          identifier = j;
+          stands = e;
+          stands_so = at.stands_so;
+          named = texts p at.place at.place at.kind l at.identifier j at.stands e (subst (λ r. IsTrue (is_name r)) (sym at.stands_so) n) ∙ ap m at.named;
+        }
 
-    module _ (marks : Path → ℕ) (unresolved : ℕ) (module_only : is_script R ≡ false) where
+    module _ (marks : Path → ℕ) (unresolved : ℕ) (no_global : MeansNoGlobalValue R) where
       -- a context is the mark of the scope that declares the name, or the unresolved mark
       abbrev pub HasOwner : List ℕ → List ℕ → Type 0
       HasOwner x c = (o : Option Path) × Owner x o × (c ≡ mark_in marks unresolved o ∷ [])
@@ -384,7 +406,7 @@ module _ (A R : Node) (m : List ℕ → List ℕ) (same : SameScopes A R) (clear
       refers_to p r x c at refers (o, f, e) = (
         o,
         reference p r x at refers o (subst (λ ss. First (DeclaresFor R (m x)) ss o) (sym (same.rounds_same p)) f),
-        e ∙ ap (λ o. mark_in marks unresolved o ∷ []) (own_meaning_is module_only (m x) o),
+        e ∙ ap (λ o. mark_in marks unresolved o ∷ []) (own_meaning_is R no_global p r (m x) (stands_anew p r x at (reference_is_name r refers)) refers o f),
       )
 
       pub taken_by : (p : Path) (r : Standing) (x c : List ℕ) → Stands A p r x → HasTakersMark marks R p r c → HasOwner x c

@@ -1,5 +1,5 @@
 -- A well-scoped module whose ids got texts apart is resolved to the same ids.
-use Rattle.std.proofs.Common.{inl, ◌≡◌, ◌≢◌, ℕ, true, false, IsTrue, Some, List, [], ◌∷◌, ◌++◌, map, length, drop, take, Contains, refl, sym, ap, ◌∙◌, subst, arith}
+use Rattle.std.proofs.Common.{inl, inr, ◌≡◌, ◌≢◌, ◌⊎◌, ℕ, Bool, true, false, IsTrue, Some, List, [], ◌∷◌, ◌++◌, map, length, drop, take, Contains, refl, sym, ap, ◌∙◌, subst, arith}
 use Rattle.std.specs.Option.{option_map}
 use Rattle.std.proofs.lemmas.List.Elements.{Contains-append_right}
 use Rattle.std.proofs.lemmas.List.{append-nil}
@@ -15,16 +15,15 @@ use Rattle.swc_tree_scoping.specs.declared.places.Place.{Place}
 use Rattle.swc_tree_scoping.specs.declared.places.Scope.TheVariants as scope
 use Rattle.swc_tree_scoping.specs.declared.places.View.TheVariants as view
 use Rattle.swc_tree_scoping.specs.Places.{Path, program_place, place_at, opened, opened_in}
-use Rattle.swc_tree_scoping.specs.Scopes.{IsScope, is_reference, seen_as, view_in, is_name}
+use Rattle.swc_tree_scoping.specs.Scopes.{IsScope, is_reference, rounds, seen_as, view_in, is_name}
 use Rattle.swc_tree_scoping.specs.Readings.{by_ids, id_name, with_identifiers}
 use Rattle.swc_tree_scoping.specs.Resolved.{Contexts, HasContext, Resolved, is_script, remarked}
 use Rattle.swc_tree_scoping.specs.WellScoped.{Stands, IsDeclared, IsFree, WellScoped, is_module, IsClean}
 use Rattle.swc_tree_scoping.proofs.First.{last_round}
 use Rattle.swc_tree_scoping.proofs.Remarked.{remarked-Identifier, tree_is, identifier_is}
-use Rattle.swc_tree_renaming.specs.Apart.{HasNoSloppy, HasTexts, IsFreeName, IsRound, Knows, NameAt, NamesApart, Renamed, RenamingKeepsIds, SameId, SameIds, SameScopes, CapturesNone, DeclaredIn, OccursIn, nameless, no_name}
+use Rattle.swc_tree_renaming.specs.Apart.{HasNoSloppy, HasTexts, IsPlainProgram, MeansNoGlobalValue, IsFreeName, IsRound, Knows, NameAt, NamesApart, Renamed, RenamingKeepsIds, SameId, SameIds, SameScopes, CapturesNone, DeclaredIn, OccursIn, nameless, no_name}
 use Rattle.swc_tree_renaming.proofs.Blank.{layer, out_is, place_at_same}
 use Rattle.swc_tree_renaming.proofs.Shape.{nameless_by_ids, out_nameless, place_at_remarked, same_scopes, some_same}
-use Rattle.swc_tree_renaming.proofs.Strict.{no_sloppy_in_modules}
 use Rattle.swc_tree_renaming.proofs.Core.{is_scope, occurs_where_declared, HasOwner, has_owner, same_ids}
 
 -- ids and their names
@@ -57,24 +56,65 @@ module_layer t h = at (out-Node t) refl
     at (Node-F.List x) o = let g = rw o at h in absurd (cc)
     at (Node-F.Identifier k x) o = let g = rw o at h in absurd (cc)
 
+-- a script's root
+script_kind : (k : Kind) (ts : List Node) → IsTrue (is_script (Tree k ts)) → k ≡ kind.Script
+script_kind kind.Script ts h = refl
+script_kind _ ts h = let g = rw (outs-Tree _ ts) at h in absurd (cc)
+
+pub script_layer : (t : Node) → IsTrue (is_script t) → (ts : List Node) × (out-Node t ≡ Node-F.Tree kind.Script ts)
+script_layer t h = at (out-Node t) refl
+  where
+    at : (y : Node-F Node) → out-Node t ≡ y → (ts : List Node) × (out-Node t ≡ Node-F.Tree kind.Script ts)
+    at (Node-F.Tree k ts) o = (ts, o ∙ ap (λ k. Node-F.Tree k ts) (script_kind k ts (subst (λ t. IsTrue (is_script t)) (tree_is t k ts o) h)))
+    at Node-F.Absent o = let g = rw o at h in absurd (cc)
+    at (Node-F.Flag x) o = let g = rw o at h in absurd (cc)
+    at (Node-F.Word x) o = let g = rw o at h in absurd (cc)
+    at (Node-F.Text x) o = let g = rw o at h in absurd (cc)
+    at (Node-F.Span x) o = let g = rw o at h in absurd (cc)
+    at (Node-F.List x) o = let g = rw o at h in absurd (cc)
+    at (Node-F.Identifier k x) o = let g = rw o at h in absurd (cc)
+
+-- a module's or a script's root
+abbrev is_program_kind : Kind → Bool
+is_program_kind kind.Module = true
+is_program_kind kind.Script = true
+is_program_kind _ = false
+
+abbrev pub ProgramLayer : Node → Type 0
+ProgramLayer t = (k : Kind) × (ts : List Node) × (out-Node t ≡ Node-F.Tree k ts) × IsTrue (is_program_kind k)
+
+pub program_layer : (t : Node) → IsTrue (is_module t) ⊎ IsTrue (is_script t) → ProgramLayer t
+program_layer t (inl h) = let (ts, o) = module_layer t h in (kind.Module, ts, o, refl)
+program_layer t (inr h) = let (ts, o) = script_layer t h in (kind.Script, ts, o, refl)
+
 pub no_script : (t : Node) (ts : List Node) → out-Node t ≡ Node-F.Tree kind.Module ts → is_script t ≡ false
 no_script t ts o = rw o refl
 
-module_opens : (t : Node) (ts : List Node) → out-Node t ≡ Node-F.Tree kind.Module ts → opened program_place t ≡ Some scope.Program
-module_opens t ts o = ap (opened_in program_place) o
+kind_opens : (k : Kind) (ts : List Node) → IsTrue (is_program_kind k) → opened_in program_place (Node-F.Tree k ts) ≡ Some scope.Program
+kind_opens kind.Module ts h = refl
+kind_opens kind.Script ts h = refl
+kind_opens _ ts h = absurd (cc)
 
--- what has the shape of a module is one
-pub module_too : (t u : Node) (ts : List Node) → nameless t ≡ nameless u → out-Node t ≡ Node-F.Tree kind.Module ts → (us : List Node) × (out-Node u ≡ Node-F.Tree kind.Module us)
-module_too t u ts shape o = at (out-Node u) refl
+kind_whole : (k : Kind) (ts : List Node) (i : ℕ) → IsTrue (is_program_kind k) → view_in (Node-F.Tree k ts) i ≡ view.Whole
+kind_whole kind.Module ts i h = refl
+kind_whole kind.Script ts i h = refl
+kind_whole _ ts i h = absurd (cc)
+
+pub program_opens : (t : Node) (l : ProgramLayer t) → opened program_place t ≡ Some scope.Program
+program_opens t (k, ts, o, h) = ap (opened_in program_place) o ∙ kind_opens k ts h
+
+-- what has the shape of a tree is one of its kind
+pub tree_too : (t u : Node) (k : Kind) (ts : List Node) → nameless t ≡ nameless u → out-Node t ≡ Node-F.Tree k ts → (us : List Node) × (out-Node u ≡ Node-F.Tree k us)
+tree_too t u k ts shape o = at (out-Node u) refl
   where
-    same : layer (λ i. no_name) (out-Node u) ≡ Node-F.Tree kind.Module (map nameless ts)
+    same : layer (λ i. no_name) (out-Node u) ≡ Node-F.Tree k (map nameless ts)
     same = sym (out_is (λ i. no_name) u) ∙ ap out-Node (sym shape) ∙ out_nameless t _ o
 
-    layers : (y : Node-F Node) → out-Node u ≡ y → layer (λ i. no_name) y ≡ Node-F.Tree kind.Module (map nameless ts)
+    layers : (y : Node-F Node) → out-Node u ≡ y → layer (λ i. no_name) y ≡ Node-F.Tree k (map nameless ts)
     layers y e = ap (layer (λ i. no_name)) (sym e) ∙ same
 
-    at : (y : Node-F Node) → out-Node u ≡ y → (us : List Node) × (out-Node u ≡ Node-F.Tree kind.Module us)
-    at (Node-F.Tree k us) e = let is = layers _ e in let one : k ≡ kind.Module = cc in (us, e ∙ ap (λ k. Node-F.Tree k us) one)
+    at : (y : Node-F Node) → out-Node u ≡ y → (us : List Node) × (out-Node u ≡ Node-F.Tree k us)
+    at (Node-F.Tree l us) e = let is = layers _ e in let one : l ≡ k = cc in (us, e ∙ ap (λ k. Node-F.Tree k us) one)
     at Node-F.Absent e = let is = layers _ e in absurd (cc)
     at (Node-F.Flag x) e = let is = layers _ e in absurd (cc)
     at (Node-F.Word x) e = let is = layers _ e in absurd (cc)
@@ -83,12 +123,24 @@ module_too t u ts shape o = at (out-Node u) refl
     at (Node-F.List x) e = let is = layers _ e in absurd (cc)
     at (Node-F.Identifier k x) e = let is = layers _ e in absurd (cc)
 
+pub program_too : (t u : Node) → nameless t ≡ nameless u → ProgramLayer t → ProgramLayer u
+program_too t u shape (k, ts, o, h) = let (us, e) = tree_too t u k ts shape o in (k, us, e, h)
+
+pub module_too : (t u : Node) → nameless t ≡ nameless u → IsTrue (is_module t) → IsTrue (is_module u)
+module_too t u shape h = let (ts, o) = module_layer t h in rw (tree_too t u kind.Module ts shape o).1 refl
+
+pub script_too : (t u : Node) → nameless t ≡ nameless u → IsTrue (is_script t) → IsTrue (is_script u)
+script_too t u shape h = let (ts, o) = script_layer t h in rw (tree_too t u kind.Script ts shape o).1 refl
+
 -- the program stands round all that stands below it
-program_round : (t : Node) (ts : List Node) → out-Node t ≡ Node-F.Tree kind.Module ts → (i : ℕ) (p : Path) → IsRound t [] (i ∷ p)
-program_round t ts o i p =
-    let (front, e) = last_round t p i (module_opens t ts o) in
-    let whole : view_in (out-Node t) i ≡ view.Whole = ap (λ y. view_in y i) o in
-    (true, subst (λ l. Contains l ([], true)) (sym (e ∙ ap (λ v. front ++ seen_as (Some scope.Program) v) whole)) (Contains-append_right front (([], true) ∷ []) ([], true) (0, omega arith, refl)))
+pub stands_round : (t : Node) → ProgramLayer t → (i : ℕ) (p : Path) → Contains (rounds program_place t (i ∷ p)) ([], true)
+stands_round t (k, ts, o, h) i p =
+    let (front, e) = last_round t p i (program_opens t (k, ts, o, h)) in
+    let whole : view_in (out-Node t) i ≡ view.Whole = ap (λ y. view_in y i) o ∙ kind_whole k ts i h in
+    subst (λ l. Contains l ([], true)) (sym (e ∙ ap (λ v. front ++ seen_as (Some scope.Program) v) whole)) (Contains-append_right front (([], true) ∷ []) ([], true) (0, omega arith, refl))
+
+program_round : (t : Node) → ProgramLayer t → (i : ℕ) (p : Path) → IsRound t [] (i ∷ p)
+program_round t l i p = (true, stands_round t l i p)
 
 not_root : (t : Node) (r : Standing) (x : List ℕ) → Stands t [] r x → IsTrue (is_name r) → ⊥
 not_root t r x s n =
@@ -96,9 +148,9 @@ not_root t r x s n =
     let plain = subst (λ r. IsTrue (is_name r)) (sym s.stands_so ∙ ap (λ (w : Place). w.standing) (sym here)) n in
     absurd (cc)
 
-pub in_program : (t : Node) (ts : List Node) → out-Node t ≡ Node-F.Tree kind.Module ts → (p : Path) (r : Standing) (x : List ℕ) → Stands t p r x → IsTrue (is_name r) → IsRound t [] p
-in_program t ts o [] r x s n = absurd (not_root t r x s n)
-in_program t ts o (i ∷ p) r x s n = program_round t ts o i p
+pub in_program : (t : Node) → ProgramLayer t → (p : Path) (r : Standing) (x : List ℕ) → Stands t p r x → IsTrue (is_name r) → IsRound t [] p
+in_program t l [] r x s n = absurd (not_root t r x s n)
+in_program t l (i ∷ p) r x s n = program_round t l i p
 
 -- an identifier, as it is read by ids
 abbrev pub by_id : Ident → Ident
@@ -132,7 +184,7 @@ stands_there v u c only p w l j h =
     ∙ ap (λ d. Some (w, d)) (remarked-Identifier (λ r. c (p ++ r)) l j) ∙ ap (λ x. Some (w, Identifier l (record j { ctxt = c x }))) (append-nil p)
 
 -- the texts of ids that are apart in a well-scoped module capture none
-module _ (t : Node) (text : List ℕ → List ℕ) (scoped : WellScoped t) (is_one : IsTrue (is_module t)) (apart : NamesApart t text) where
+module _ (t : Node) (text : List ℕ → List ℕ) (scoped : WellScoped t) (plain : IsPlainProgram t) (apart : NamesApart t text) where
   abbrev T : Node
   T = by_ids t
 
@@ -142,8 +194,7 @@ module _ (t : Node) (text : List ℕ → List ℕ) (scoped : WellScoped t) (is_o
   settled_ids : HasNoSloppy T
   settled_ids p w k i h =
       let (l, j, e, is) = from_ids t p w k i h in
-      let (ts, o) = module_layer t is_one in
-      no_sloppy_in_modules t ts o p w (Identifier l j) e
+      plain.1 p w l j e
 
   own_texts : HasTexts T (λ x. x) T
   own_texts p w v k l i j e g n =
@@ -184,8 +235,8 @@ module _ (t : Node) (text : List ℕ → List ℕ) (scoped : WellScoped t) (is_o
     frees = frees_apart;
   }
 
-module _ (t answer u : Node) (text : List ℕ → List ℕ) (unresolved top : ℕ) (old new : List (ℕ × ℕ)) (scoped : WellScoped t) (is_one : IsTrue (is_module t)) (apart : NamesApart t text)
-    (renamed : Renamed (by_ids t) text answer) (knows : Knows old unresolved) (resolved : Resolved unresolved top old new answer u) where
+module _ (t answer u : Node) (text : List ℕ → List ℕ) (unresolved top : ℕ) (old new : List (ℕ × ℕ)) (scoped : WellScoped t) (plain : IsPlainProgram t) (apart : NamesApart t text)
+    (renamed : Renamed (by_ids t) text answer) (no_global : MeansNoGlobalValue answer) (knows : Knows old unresolved) (resolved : Resolved unresolved top old new answer u) where
   abbrev A : Node
   A = by_ids t
 
@@ -193,25 +244,16 @@ module _ (t answer u : Node) (text : List ℕ → List ℕ) (unresolved top : �
   same = same_scopes A answer renamed.shape
 
   clear : IsClean A
-  clear = clean_ids t text scoped is_one apart
+  clear = clean_ids t text scoped plain apart
 
   settled : HasNoSloppy A
-  settled = settled_ids t text scoped is_one apart
+  settled = settled_ids t text scoped plain apart
 
   none : CapturesNone A text
-  none = captures_none t text scoped is_one apart
+  none = captures_none t text scoped plain apart
 
-  module_ts : (ts : List Node) × (out-Node t ≡ Node-F.Tree kind.Module ts)
-  module_ts = module_layer t is_one
-
-  module_ids : (ts : List Node) × (out-Node A ≡ Node-F.Tree kind.Module ts)
-  module_ids = module_too t A module_ts.0 (sym (nameless_by_ids t)) module_ts.1
-
-  module_answer : (ts : List Node) × (out-Node answer ≡ Node-F.Tree kind.Module ts)
-  module_answer = module_too A answer module_ids.0 renamed.shape module_ids.1
-
-  script : is_script answer ≡ false
-  script = no_script answer module_answer.0 module_answer.1
+  layer_ids : ProgramLayer A
+  layer_ids = program_too t A (sym (nameless_by_ids t)) (program_layer t plain.0)
 
   scoped_there : (s : Path) (x : List ℕ) → DeclaredIn A s x → IsScope answer s
   scoped_there s x d = is_scope A answer text same clear renamed.cleared renamed.texts settled s x d
@@ -220,7 +262,7 @@ module _ (t answer u : Node) (text : List ℕ → List ℕ) (unresolved top : �
   others s h ne e = resolved.fresh s h ne knows.0 (subst (λ m. Contains old (m, knows.0)) (sym e) knows.1)
 
   abbrev Owns : List ℕ → List ℕ → Type 0
-  Owns = HasOwner A answer text same clear renamed.cleared renamed.texts settled scoped.each_in_one_scope none resolved.marks unresolved script
+  Owns = HasOwner A answer text same clear renamed.cleared renamed.texts settled scoped.each_in_one_scope none resolved.marks unresolved no_global
 
   read : (p : Path) (i a : Ident) → NameAt t p i → NameAt u p a → (a.sym ≡ text (id_name i)) × Owns (id_name i) a.ctxt
   read p i a (w, k, h, n) (v, l, g, z) =
@@ -233,18 +275,18 @@ module _ (t answer u : Node) (text : List ℕ → List ℕ) (unresolved top : �
       = subst (λ x. HasContext resolved.marks unresolved answer p x w.standing (resolved.contexts p)) name (resolved.resolved p w m j e (renamed.cleared p w m j e)) in
       let st : Stands A p w.standing (id_name i) = record { place = w; kind = k; identifier = by_id i; stands = stands_by_id t p w k i h; stands_so = refl; named = refl } in
       let owner : Owns (id_name i) (resolved.contexts p)
-      = has_owner A answer text same clear renamed.cleared renamed.texts settled scoped.each_in_one_scope none resolved.marks unresolved script p w.standing (id_name i) (resolved.contexts p) st n context in
+      = has_owner A answer text same clear renamed.cleared renamed.texts settled scoped.each_in_one_scope none resolved.marks unresolved no_global p w.standing (id_name i) (resolved.contexts p) st n context in
       (ap (λ (i : Ident). i.sym) is ∙ name, subst (Owns (id_name i)) (ap (λ (i : Ident). i.ctxt) (sym is)) owner)
 
   pub ids_same : SameIds t u
   ids_same p q i j a b ni nj na nb =
       let (ta, oa) = read p i a ni na in
       let (tb, ob) = read q j b nj nb in
-      let both = same_ids A answer text same clear renamed.cleared renamed.texts settled scoped.each_in_one_scope none resolved.marks unresolved script (λ s u x y d e h. resolved.one_to_one s u (scoped_there s x d) (scoped_there u y e) h) (λ s x d. others s (scoped_there s x d))
-      (in_program A module_ids.0 module_ids.1) (id_name i) (id_name j) a.ctxt b.ctxt oa ob in (
+      let both = same_ids A answer text same clear renamed.cleared renamed.texts settled scoped.each_in_one_scope none resolved.marks unresolved no_global (λ s u x y d e h. resolved.one_to_one s u (scoped_there s x d) (scoped_there u y e) h) (λ s x d. others s (scoped_there s x d))
+      (in_program A layer_ids) (id_name i) (id_name j) a.ctxt b.ctxt oa ob in (
         (λ h. id_name_apart i j (both.0 (sym ta ∙ h.0 ∙ tb, h.1))),
         (λ h. let e = both.1 (id_name_same i j h) in (ta ∙ e.0 ∙ sym tb, e.1)),
       )
 
 pub renaming_keeps_ids : RenamingKeepsIds
-renaming_keeps_ids t answer u text unresolved top old new scoped is_one apart renamed knows resolved = ids_same t answer u text unresolved top old new scoped is_one apart renamed knows resolved
+renaming_keeps_ids t answer u text unresolved top old new scoped plain apart renamed no_global knows resolved = ids_same t answer u text unresolved top old new scoped plain apart renamed no_global knows resolved

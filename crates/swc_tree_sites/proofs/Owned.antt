@@ -8,9 +8,9 @@ use Rattle.swc_tree_scoping.specs.declared.places.Place.{Place}
 use Rattle.swc_tree_scoping.specs.Places.{Path, place_at, program_place}
 use Rattle.swc_tree_scoping.specs.Scopes.{is_binding, is_reference, is_name}
 use Rattle.swc_tree_scoping.specs.Declares.{IsUncaught}
-use Rattle.swc_tree_scoping.specs.Resolved.{HasMeantMark, is_script}
+use Rattle.swc_tree_scoping.specs.Resolved.{HasMeantMark}
 use Rattle.swc_tree_scoping.specs.WellScoped.{EachInOneScope, Stands, IsClean}
-use Rattle.swc_tree_renaming.specs.Apart.{CapturesNone, HasNoSloppy, HasTexts, SameScopes}
+use Rattle.swc_tree_renaming.specs.Apart.{CapturesNone, HasNoSloppy, HasTexts, MeansNoGlobalValue, SameScopes}
 use Rattle.swc_tree_renaming.proofs.Core.{HasOwner, refers_to, taken_by as has_taker}
 use Rattle.swc_tree_renaming.proofs.Caught.{uncaught}
 use Rattle.swc_tree_sites.proofs.Loose.{S}
@@ -21,7 +21,7 @@ use Rattle.swc_tree_sites.specs.Smaller.{AreKept, IsPlain}
 -- `A` is what is left of the input, read by ids; `v` is the output and `u` the output resolved, of which `n` and `m` are left
 module _ (A n : Node) (text : List ℕ → List ℕ) (shape : SameScopes A n) (clear : IsClean A) (cleared : IsClean n) (texts : HasTexts A text n) (settled : HasNoSloppy A) (one : EachInOneScope A) (apart : CapturesNone A text)
     (v u m : Node) (marks : Path → ℕ) (unresolved : ℕ) (is : IsMarked v u marks unresolved) (plain : IsPlain n) (same : SameScopes n m) (kept_texts : HasTexts n (λ x. x) m)
-    (kept : AreKept (S program_place m).sites (S program_place u).sites) (no_script : is_script v ≡ false) (none : is_script n ≡ false) where
+    (kept : AreKept (S program_place m).sites (S program_place u).sites) (no_script : MeansNoGlobalValue v) (none : MeansNoGlobalValue n) where
   pub met : (p : Path) (x : List ℕ) → Stands n p standing.Variable x → IsUncaught n p x
   met p x at = let (s, e) = plain.takes p standing.Variable x (record { at = at; binds = refl }) in uncaught A n text shape clear cleared texts settled one apart p s x at e
 

@@ -10,10 +10,11 @@ use Rattle.swc_tree_scoping.specs.declared.places.Standing.TheVariants as standi
 use Rattle.swc_tree_scoping.specs.declared.places.Place.{Place}
 use Rattle.swc_tree_scoping.specs.Places.{Path, place_at, program_place}
 use Rattle.swc_tree_scoping.specs.Scopes.{IsScope, is_binding, is_reference, rounds, taker}
-use Rattle.swc_tree_scoping.specs.Declares.{DeclaresFor, First, IsUncaught, is_settled}
-use Rattle.swc_tree_scoping.specs.Resolved.{HasMeantMark, is_global_value, is_script, mark_in, own_meaning}
+use Rattle.swc_tree_scoping.specs.Declares.{DeclaresFor, First, IsUncaught, Means, is_settled}
+use Rattle.swc_tree_scoping.specs.Resolved.{HasMeantMark, mark_in, own_meaning}
 use Rattle.swc_tree_scoping.specs.WellScoped.{Stands}
-use Rattle.swc_tree_renaming.specs.Apart.{HasTexts, SameScopes}
+use Rattle.swc_tree_renaming.specs.Apart.{HasTexts, MeansNoGlobalValue, SameScopes}
+use Rattle.swc_tree_renaming.proofs.Core.{own_meaning_is}
 use Rattle.swc_tree_sites.specs.Sites.{Binding, Entry, counted}
 use Rattle.swc_tree_sites.proofs.Loose.{S}
 use Rattle.swc_tree_sites.proofs.Found.{env_at, finds}
@@ -28,11 +29,6 @@ use Rattle.swc_tree_sites.specs.Smaller.{AreKept, In, IsPlain, Sub}
 
 abbrev PP : Place
 PP = program_place
-
-own_is : (t : Node) → is_script t ≡ false → (x : List ℕ) (o : Option Path) → own_meaning t x o ≡ o
-own_is t n x None = refl
-own_is t n x (Some []) = ap (λ b. cond (b && is_global_value x) None (Some [])) n
-own_is t n x (Some (i ∷ s)) = refl
 
 module _ (v u n m : Node) (marks : Path → ℕ) (unresolved : ℕ) (is : IsMarked v u marks unresolved) (plain : IsPlain n) (same : SameScopes n m) (texts : HasTexts n (λ x. x) m)
     (kept : AreKept (S program_place m).sites (S program_place u).sites) (uncaught : (p : Path) (x : List ℕ) → Stands n p standing.Variable x → IsUncaught n p x) where
@@ -71,26 +67,36 @@ module _ (v u n m : Node) (marks : Path → ℕ) (unresolved : ℕ) (is : IsMark
       settled_way way (λ e. plain.settled d.path d.place l j there (d.stands_so ∙ e))
 
   -- a reference has the mark of the scope that it means, or the unresolved mark
-  pub reference_mark : is_script v ≡ false → is_script n ≡ false → (q : Path) (w : Place) (k : Kind) (i : Ident) → place_at PP m q ≡ Some (w, Identifier k i) → is_reference w.standing ≡ true → HasMeantMark (marks_of m) unresolved n q i.sym i.ctxt
-  reference_mark no_script none q w k i h refers = ⊎_elim
+  pub reference_mark : MeansNoGlobalValue v → MeansNoGlobalValue n → (q : Path) (w : Place) (k : Kind) (i : Ident) → place_at PP m q ≡ Some (w, Identifier k i) → is_reference w.standing ≡ true → HasMeantMark (marks_of m) unresolved n q i.sym i.ctxt
+  reference_mark whole_none none q w k i h refers =
+      let (x, j, there) = same.back q w k i h in
+      let stands : Stands n q w.standing i.sym = record { place = w; kind = x; identifier = j; stands = there; stands_so = refl; named = sym (texts q w w x k j i there h (reference_names w.standing refers)) } in
+      ⊎_elim
       (λ z.
       let g = (finds u PP (counted w.standing, i, env_at PP m q)).0 z in
+      let (y, b, own) = is.same.back g.path g.place g.kind i g.stands in
+      let refers_there = refers_so g.place.standing w.standing g.stands_so refers in
+      let stood : Stands v g.path g.place.standing i.sym
+      = record { place = g.place; kind = y; identifier = b; stands = own; stands_so = refl; named = sym (is.texts g.path g.place g.place y g.kind b i own g.stands g.names) } in
       let (o, means, c) = (is.resolved g.path g.place g.kind i g.stands g.names).reference (refers_so g.place.standing w.standing g.stands_so refers) in
       let (e, f, there) = to_entries u (DeclaresFor v i.sym) (NamesIt i.sym) (declares_tells v u is.plain is.same is.texts i.sym) (rounds PP u g.path) o
       (subst (λ ss. First (DeclaresFor v i.sym) ss o) (is.same.rounds_same g.path) means) in
       let first : FirstIn (NamesIt i.sym) (env_at PP m q) e = subst (λ l. FirstIn (NamesIt i.sym) l e) (sym (env_is g.path PP u) ∙ g.env) f in
-      let (a, d, here) = from_entries m (DeclaresFor n i.sym) (NamesIt i.sym) (declares_tells n m plain same texts i.sym) (rounds PP m q) e (subst (λ l. FirstIn (NamesIt i.sym) l e) (env_is q PP m) first) in (
+      let (a, d, here) = from_entries m (DeclaresFor n i.sym) (NamesIt i.sym) (declares_tells n m plain same texts i.sym) (rounds PP m q) e (subst (λ l. FirstIn (NamesIt i.sym) l e) (env_is q PP m) first) in
+      let meant : Means n q i.sym a = subst (λ ss. First (DeclaresFor n i.sym) ss a) (sym (same.rounds_same q)) d in (
         a,
-        subst (λ ss. First (DeclaresFor n i.sym) ss a) (sym (same.rounds_same q)) d,
-        c ∙ ap (λ o. mark_in marks unresolved o ∷ []) (own_is v no_script i.sym o) ∙ ap (λ d. d ∷ []) (told q i.sym o a e first there here) ∙ ap (λ o. mark_in (marks_of m) unresolved o ∷ []) (sym (own_is n none i.sym a)),
+        meant,
+        c ∙ ap (λ o. mark_in marks unresolved o ∷ []) (own_meaning_is v whole_none g.path g.place.standing i.sym stood refers_there o means) ∙ ap (λ d. d ∷ []) (told q i.sym o a e first there here)
+            ∙ ap (λ o. mark_in (marks_of m) unresolved o ∷ []) (sym (own_meaning_is n none q w.standing i.sym stands refers a meant)),
       ))
       (λ z.
       let own : NamesIt i.sym (z.taken, true) = ((z.way, z.bound), z.within, z.same.0, way_settled q z.taken z.way z.bound z.env z.within) in
       let first : FirstIn (NamesIt i.sym) (env_at PP m q) (Some (z.taken, true)) = subst (λ l. FirstIn (NamesIt i.sym) l (Some (z.taken, true))) (sym z.env) (inl (own, refl)) in
-      let (a, d, here) = from_entries m (DeclaresFor n i.sym) (NamesIt i.sym) (declares_tells n m plain same texts i.sym) (rounds PP m q) (Some (z.taken, true)) (subst (λ l. FirstIn (NamesIt i.sym) l (Some (z.taken, true))) (env_is q PP m) first) in (
+      let (a, d, here) = from_entries m (DeclaresFor n i.sym) (NamesIt i.sym) (declares_tells n m plain same texts i.sym) (rounds PP m q) (Some (z.taken, true)) (subst (λ l. FirstIn (NamesIt i.sym) l (Some (z.taken, true))) (env_is q PP m) first) in
+      let meant : Means n q i.sym a = subst (λ ss. First (DeclaresFor n i.sym) ss a) (sym (same.rounds_same q)) d in (
         a,
-        subst (λ ss. First (DeclaresFor n i.sym) ss a) (sym (same.rounds_same q)) d,
-        sym z.same.1 ∙ beside q i.sym z.taken z.way z.bound a here z.within ∙ ap (λ o. mark_in (marks_of m) unresolved o ∷ []) (sym (own_is n none i.sym a)),
+        meant,
+        sym z.same.1 ∙ beside q i.sym z.taken z.way z.bound a here z.within ∙ ap (λ o. mark_in (marks_of m) unresolved o ∷ []) (sym (own_meaning_is n none q w.standing i.sym stands refers a meant)),
       ))
       (kept (counted w.standing, i, env_at PP m q)
       ((finds m PP (counted w.standing, i, env_at PP m q)).1 (record { path = q; place = w; kind = k; stands = h; stands_so = refl; names = reference_names w.standing refers; env = refl })))

@@ -1,4 +1,4 @@
--- What is left of a module, with new texts: what it declares, and that it declares none against the rules.
+-- What is left of a program, with new texts: what it declares, and that it declares none against the rules.
 use Rattle.std.proofs.Common.{◌≡◌, ℕ, true, false, IsTrue, ⊎_elim, List, [], sym, ap, ◌∙◌, subst}
 use Rattle.swc_tree_node.specs.declared.node.Node.{Node}
 use Rattle.swc_tree_scoping.specs.declared.places.Place.{Place}
@@ -15,10 +15,10 @@ use Rattle.swc_tree_sites.proofs.Laws.{no_capture_stays}
 use Rattle.swc_tree_sites.proofs.Loose.{S}
 use Rattle.swc_tree_sites.proofs.Round.{taken_by, taken_is}
 use Rattle.swc_tree_sites.proofs.Transport.{binding_names, bound_binds, bound_in, declares_way, in_bound, sub_in, way_declares}
-use Rattle.swc_tree_sites_errors.specs.Laws.{AnswerDeclares, AnswerRedeclaresNone, Answers, DeclaredStays, KeepsScopes}
-use Rattle.swc_tree_sites_errors.proofs.Modules.{plain_module}
-use Rattle.swc_tree_sites_errors.proofs.NewTexts.{new_texts_redeclare_none}
-use Rattle.swc_tree_sites_errors.proofs.Stays.{no_redeclaration_stays, scope_there, set_there}
+use Rattle.swc_tree_sites_laws.proofs.LeftIds.{plain_clean}
+use Rattle.swc_tree_sites_errors.specs.Laws.{AnswerDeclares, AnswerRedeclaresNone, Answers, AreOfOneGoal, DeclaredStays, KeepsScopes}
+use Rattle.swc_tree_sites_errors.proofs.NewTexts.{new_texts_redeclare_none, stays_fair as fair_named}
+use Rattle.swc_tree_sites_errors.proofs.Stays.{no_redeclaration_stays, scope_there, set_there, stays_fair as fair_kept}
 
 abbrev PP : Place
 PP = program_place
@@ -39,9 +39,9 @@ there : (t n : Node) → KeepsScopes n t → (s : Path) (b : Binding) → In b (
 there t n keeps s b h = let (f, e) = scope_there t (taken_by PP n s) (keeps.sets (taken_by PP n s) (set_there n s b h)) in (f, subst (In b) (sym e) h)
 
 pub declared_stays : DeclaredStays
-declared_stays t n mt mn ct cn keeps x (p, r, b) =
-    let plain_t = plain_module t mt ct in
-    let (s, taken) = (plain_module n mn cn).takes p r x b in
+declared_stays t n pt pn ct cn keeps x (p, r, b) =
+    let plain_t = plain_clean t pt ct in
+    let (s, taken) = (plain_clean n pn cn).takes p r x b in
     let own = (taken_is s PP n (r, b.at.identifier)).1 (record { path = p; place = b.at.place; kind = b.at.kind; stands = b.at.stands; stands_so = b.at.stands_so; binds = b.binds; taken = taken }) in
     let (f, h) = there t n keeps s (r, b.at.identifier) own in
     let g = in_bound t plain_t f (r, b.at.identifier) h in
@@ -56,22 +56,33 @@ program_declares t n plain_t plain_n program x d =
 
 module _ (t a n answer : Node) (text : List ℕ → List ℕ) (is : Answers t a n answer text) where
   plain_t : IsPlain t
-  plain_t = plain_module t is.modules.0 is.clean.0
+  plain_t = plain_clean t is.fair.0 is.clean.0
 
   plain_a : IsPlain a
-  plain_a = plain_module a is.modules.1 is.clean.1
+  plain_a = plain_clean a is.plain.0 is.clean.1
 
   plain_n : IsPlain n
-  plain_n = plain_module n is.modules.2 is.clean.2
+  plain_n = plain_clean n is.plain.1 is.clean.2
 
   apart : CapturesNone a text
   apart = no_capture_stays t a text plain_t plain_a is.left is.one is.apart
 
+  keeps : KeepsScopes a t
+  keeps = left_keeps t a is.left is.program
+
+  to_n : AreOfOneGoal a n
+  to_n = sym is.goals.0 ∙ is.goals.1
+
+  to_answer : AreOfOneGoal n answer
+  to_answer = sym is.goals.1 ∙ is.goals.2
+
   pub none_redeclared : NoRedeclaration t → NoRedeclaration answer
   none_redeclared fine =
-      no_redeclaration_stays n answer is.modules.2 is.modules.3 is.clean.2 is.clean.3 is.keeps
-      (new_texts_redeclare_none a n text is.modules.1 is.modules.2 is.clean.1 is.clean.2 is.shape is.texts apart
-      (no_redeclaration_stays t a is.modules.0 is.modules.1 is.clean.0 is.clean.1 (left_keeps t a is.left is.program) fine))
+      let fair_a = fair_kept t a is.fair is.plain.0 is.goals.0 is.clean.0 is.clean.1 keeps fine in
+      let fine_a = no_redeclaration_stays t a is.fair is.plain.0 is.goals.0 is.clean.0 is.clean.1 keeps fine in
+      let fair_n = fair_named a n text fair_a is.plain.1 to_n is.clean.1 is.clean.2 is.shape is.texts apart fine_a in
+      let fine_n = new_texts_redeclare_none a n text fair_a is.plain.1 to_n is.clean.1 is.clean.2 is.shape is.texts apart fine_a in
+      no_redeclaration_stays n answer fair_n is.plain.2 to_answer is.clean.2 is.clean.3 is.keeps fine_n
 
   -- by the new text
   anew : (x : List ℕ) → Declares a [] x → Declares n [] (text x)
@@ -93,7 +104,7 @@ module _ (t a n answer : Node) (text : List ℕ → List ℕ) (is : Answers t a 
       way_declares n plain_n (text x) [] true r bound ways
 
   pub declares : (x : List ℕ) → Declares t [] x → Declares answer [] (text x)
-  declares x d = program_declares n answer plain_n (plain_module answer is.modules.3 is.clean.3) is.keeps.program (text x) (anew x (program_declares t a plain_t plain_a is.program x d))
+  declares x d = program_declares n answer plain_n (plain_clean answer is.plain.2 is.clean.3) is.keeps.program (text x) (anew x (program_declares t a plain_t plain_a is.program x d))
 
 pub answer_redeclares_none : AnswerRedeclaresNone
 answer_redeclares_none t a n answer text is fine = none_redeclared t a n answer text is fine

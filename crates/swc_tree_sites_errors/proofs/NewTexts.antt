@@ -1,4 +1,4 @@
--- Where no name of a module is declared against the rules, none is where each name has a new text that captures none.
+-- Where no name of a program is declared against the rules, none is where each name has a new text that captures none.
 use Rattle.std.proofs.Common.{◌≡◌, ℕ, Bool, true, false, IsTrue, ◌⊎◌, inl, inr, ⊎_elim, Some, List, [], ◌∷◌, Contains, refl, sym, ap, ◌∙◌, subst, cond}
 use Rattle.swc_tree_node.specs.declared.node.Node.{Node}
 use Rattle.swc_tree_scoping.specs.declared.places.Place.{Place}
@@ -7,15 +7,16 @@ use Rattle.swc_tree_scoping.specs.declared.places.Standing.TheVariants as standi
 use Rattle.swc_tree_scoping.specs.Places.{Path, program_place}
 use Rattle.swc_tree_scoping.specs.Scopes.{Round, first_that, is_name, is_taken, rounds, scope_at, taker}
 use Rattle.swc_tree_scoping.specs.Declares.{Bound, BoundAs, PassesNone, is_lexical}
-use Rattle.swc_tree_scoping.specs.WellScoped.{AreFunctionsOfOneBlock, Binds, IsClean, IsLexical, NoParameterTwice, NoRedeclaration, NoVariablePasses, NoneTwice, Stands, is_module}
+use Rattle.swc_tree_scoping.specs.WellScoped.{AreFunctionsOfOneBlock, Binds, IsClean, IsLexical, NoRedeclaration, NoVariablePasses, NoneTwice, Stands}
 use Rattle.swc_tree_scoping.proofs.First.{Nested, rounds_nested}
-use Rattle.swc_tree_renaming.specs.Apart.{CapturesNone, DeclaredIn, HasTexts, IsAtOrAbove, IsRound, SameScopes}
+use Rattle.swc_tree_renaming.specs.Apart.{CapturesNone, DeclaredIn, HasTexts, IsAtOrAbove, IsPlainProgram, IsRound, NoParameterRepeated, SameScopes}
 use Rattle.swc_tree_renaming.proofs.Core.{as_declared, bound_back, bound_declared, first_in, head_in, stands_back, tail_in, taken_same}
 use Rattle.swc_tree_sites.specs.Smaller.{IsPlain}
 use Rattle.swc_tree_sites.proofs.Transport.{binding_names, not_sloppy}
 use Rattle.swc_tree_sites.proofs.Whole.{as_taken}
-use Rattle.swc_tree_sites_errors.specs.Laws.{NewTextsRedeclareNone}
-use Rattle.swc_tree_sites_errors.proofs.Modules.{plain_module, strict_name}
+use Rattle.swc_tree_sites_laws.proofs.LeftIds.{plain_clean}
+use Rattle.swc_tree_sites_errors.specs.Laws.{AreOfOneGoal, IsFair, NewTextsRedeclareNone}
+use Rattle.swc_tree_sites_errors.proofs.Modules.{none_repeated}
 
 abbrev PP : Place
 PP = program_place
@@ -26,13 +27,13 @@ some_path s u e = cc
 abbrev takes_variables : Node → Round → Bool
 takes_variables t s = is_taken standing.Variable (scope_at PP t s.0)
 
-module _ (t n : Node) (text : List ℕ → List ℕ) (module_t : IsTrue (is_module t)) (module_n : IsTrue (is_module n)) (clean_t : IsClean t) (clean_n : IsClean n) (same : SameScopes t n) (texts : HasTexts t text n) (none : CapturesNone t text)
+module _ (t n : Node) (text : List ℕ → List ℕ) (fair : IsFair t) (program_n : IsPlainProgram n) (goals : AreOfOneGoal t n) (clean_t : IsClean t) (clean_n : IsClean n) (same : SameScopes t n) (texts : HasTexts t text n) (none : CapturesNone t text)
     (fine : NoRedeclaration t) where
   plain_t : IsPlain t
-  plain_t = plain_module t module_t clean_t
+  plain_t = plain_clean t fair.0 clean_t
 
   plain_n : IsPlain n
-  plain_n = plain_module n module_n clean_n
+  plain_n = plain_clean n program_n clean_n
 
   -- what a name was called
   was : (p : Path) (r : Standing) (x : List ℕ) → Stands n p r x → IsTrue (is_name r) → (y : List ℕ) × Stands t p r y × (text y ≡ x)
@@ -62,7 +63,7 @@ module _ (t n : Node) (text : List ℕ → List ℕ) (module_t : IsTrue (is_modu
 
       there : IsLexical n p r → IsLexical t p r
       there (inl l) = inl l
-      there (inr l) = inr (l.0, module_t, takers standing.Function p ∙ l.2)
+      there (inr l) = inr (l.0, subst (λ b. IsTrue b) (sym goals) l.1, takers standing.Function p ∙ l.2)
 
       at : (y : List ℕ) × Stands t p r y × (text y ≡ x) → (z : List ℕ) × Stands t q u z × (text z ≡ x) → (p ≡ q) ⊎ AreFunctionsOfOneBlock n p r q u
       at (y, sy, ey) (z, sz, ez) =
@@ -73,15 +74,18 @@ module _ (t n : Node) (text : List ℕ → List ℕ) (module_t : IsTrue (is_modu
           ⊎_elim inl (λ g. absurd (not_sloppy t plain_t p r y sy g.0))
           (fine.none_twice y s p q r u by too (as_declared t r p s y (not_sloppy t plain_t p r y sy) first) (as_declared t u q s y (not_sloppy t plain_t q u y too.at) second) (there lexical))
 
-  no_parameter_twice : NoParameterTwice n
-  no_parameter_twice x f p q b c d e strict = at (was p standing.Parameter x b refl) (was q standing.Parameter x c refl)
+  repeats_none : NoParameterRepeated n
+  repeats_none x f p q b c d e = at (was p standing.Parameter x b refl) (was q standing.Parameter x c refl)
     where
       at : (y : List ℕ) × Stands t p standing.Parameter y × (text y ≡ x) → (z : List ℕ) × Stands t q standing.Parameter z × (text z ≡ x) → p ≡ q
       at (y, sy, ey) (z, sz, ez) =
           let first : taker standing.Parameter t p ≡ Some f = takers standing.Parameter p ∙ d in
           let second : taker standing.Parameter t q ≡ Some f = takers standing.Parameter q ∙ e in
           let one : y ≡ z = one_id p q f standing.Parameter standing.Parameter y z (record { at = sy; binds = refl }) (record { at = sz; binds = refl }) first second (ey ∙ sym ez) in
-          fine.no_parameter_twice y f p q sy (subst (Stands t q standing.Parameter) (sym one) sz) first second (inl (strict_name t module_t p sy.place sy.kind sy.identifier sy.stands))
+          none_repeated t fair fine.no_parameter_twice y f p q sy (subst (Stands t q standing.Parameter) (sym one) sz) first second
+
+  pub stays_fair : IsFair n
+  stays_fair = (program_n, λ s. repeats_none)
 
   -- the scopes that a variable passes
   passes : (p u : Path) (x y : List ℕ) → Stands t p standing.Variable y → text y ≡ x → DeclaredIn t u y → (ss : List Round) → Nested PP t ss → ((s : Round) → Contains ss s → Contains (rounds PP t p) s)
@@ -113,7 +117,7 @@ module _ (t n : Node) (text : List ℕ → List ℕ) (module_t : IsTrue (is_modu
           (passes p u x y sy e (declared p u standing.Variable y (record { at = sy; binds = refl }) taken) (rounds PP t p) (rounds_nested p PP t) (λ s i. i) taken (fine.no_variable_passes p y sy))
 
   pub none_redeclared : NoRedeclaration n
-  none_redeclared = record { none_twice = none_twice; no_variable_passes = no_variable_passes; no_parameter_twice = no_parameter_twice }
+  none_redeclared = record { none_twice = none_twice; no_variable_passes = no_variable_passes; no_parameter_twice = λ x f p q b c d e strict. repeats_none x f p q b c d e }
 
 pub new_texts_redeclare_none : NewTextsRedeclareNone
-new_texts_redeclare_none t n text mt mn ct cn same texts none fine = none_redeclared t n text mt mn ct cn same texts none fine
+new_texts_redeclare_none t n text ft pn goals ct cn same texts none fine = none_redeclared t n text ft pn goals ct cn same texts none fine

@@ -1,4 +1,4 @@
--- Where no name of a module is declared against the rules, none is in a module that keeps its scopes.
+-- Where no name of a program is declared against the rules, none is in one of its goal that keeps its scopes.
 use Rattle.std.proofs.Common.{◌≡◌, ◌≢◌, ℕ, Bool, true, false, IsTrue, ◌⊎◌, inl, inr, ⊎_elim, Some, List, [], ◌∷◌, ◌++◌, refl, sym, ap, ◌∙◌, subst, cond}
 use Rattle.std.specs.List.{flat_map}
 use Rattle.std.specs.Prelude.{nat_eq}
@@ -11,7 +11,8 @@ use Rattle.swc_tree_scoping.specs.declared.places.Standing.TheVariants as standi
 use Rattle.swc_tree_scoping.specs.Places.{Path, program_place}
 use Rattle.swc_tree_scoping.specs.Scopes.{Round, first_that, is_binding, is_name, is_taken, rounds, scope_at, taker}
 use Rattle.swc_tree_scoping.specs.Declares.{Bound, BoundAs, PassesNone, is_lexical}
-use Rattle.swc_tree_scoping.specs.WellScoped.{IsClean, IsLexical, NoParameterTwice, NoRedeclaration, NoVariablePasses, NoneTwice, Stands, is_module}
+use Rattle.swc_tree_scoping.specs.WellScoped.{IsClean, IsLexical, NoRedeclaration, NoVariablePasses, NoneTwice, Stands}
+use Rattle.swc_tree_renaming.specs.Apart.{IsPlainProgram, NoParameterRepeated}
 use Rattle.swc_tree_renaming.proofs.Core.{as_declared, first_in}
 use Rattle.swc_tree_sites.specs.Sites.{Binding, Entry, counted, entry, set_of}
 use Rattle.swc_tree_sites.specs.Smaller.{In, IsPlain}
@@ -21,8 +22,9 @@ use Rattle.swc_tree_sites.proofs.Loose.{S}
 use Rattle.swc_tree_sites.proofs.Round.{entry_of, env_is, taken_by, taken_is}
 use Rattle.swc_tree_sites.proofs.Transport.{bound_binds, bound_in, flat_from, flat_to, in_bound, not_sloppy}
 use Rattle.swc_tree_sites.proofs.Whole.{as_taken}
-use Rattle.swc_tree_sites_errors.specs.Laws.{KeepsScopes, NoRedeclarationStays}
-use Rattle.swc_tree_sites_errors.proofs.Modules.{plain_module, strict_name}
+use Rattle.swc_tree_sites_laws.proofs.LeftIds.{plain_clean}
+use Rattle.swc_tree_sites_errors.specs.Laws.{AreOfOneGoal, IsFair, KeepsScopes, NoRedeclarationStays}
+use Rattle.swc_tree_sites_errors.proofs.Modules.{none_repeated}
 use Rattle.swc_tree_sites_errors.proofs.Twice.{Twice}
 use Rattle.swc_tree_sites_errors.proofs.TwoBelow.{TwoBelow, taken_twice}
 
@@ -122,12 +124,12 @@ module _ (t : Node) (plain : IsPlain t) (x : List ℕ) where
       at true e later = inl e
       at false e later = inr (open_up (taken_by PP t s.0) refl e h later)
 
-module _ (t n : Node) (module_t : IsTrue (is_module t)) (module_n : IsTrue (is_module n)) (clean_t : IsClean t) (clean_n : IsClean n) (keeps : KeepsScopes n t) (fine : NoRedeclaration t) where
+module _ (t n : Node) (fair : IsFair t) (program_n : IsPlainProgram n) (goals : AreOfOneGoal t n) (clean_t : IsClean t) (clean_n : IsClean n) (keeps : KeepsScopes n t) (fine : NoRedeclaration t) where
   plain_t : IsPlain t
-  plain_t = plain_module t module_t clean_t
+  plain_t = plain_clean t fair.0 clean_t
 
   plain_n : IsPlain n
-  plain_n = plain_module n module_n clean_n
+  plain_n = plain_clean n program_n clean_n
 
   -- the scope of the other that takes the same; for the program the program
   scope_of : (s : Path) (b : Binding) → In b (taken_by PP n s) → (f : Path) × (taken_by PP t f ≡ taken_by PP n s) × (s ≡ [] → f ≡ [])
@@ -177,16 +179,19 @@ module _ (t n : Node) (module_t : IsTrue (is_module t)) (module_n : IsTrue (is_m
               there (inl l) = inl l
               there (inr l) =
                   let root : s ≡ [] = some_path s [] (sym taken ∙ ap (λ r. taker r n p) l.0 ∙ l.2) in
-                  inr (l.0, module_t, ap (λ r. taker r t two.one.path) (sym l.0) ∙ two.one.taken ∙ ap (λ f. Some f) (top root))
+                  inr (l.0, subst (λ b. IsTrue b) (sym goals) l.1, ap (λ r. taker r t two.one.path) (sym l.0) ∙ two.one.taken ∙ ap (λ f. Some f) (top root))
 
-  no_parameter_twice : NoParameterTwice n
-  no_parameter_twice x f p q b c d e strict = ⊎_elim (λ z. z) (λ ne. absurd (against (two_at p q f standing.Parameter standing.Parameter x b c refl refl d e ne))) (decide p q)
+  repeats_none : NoParameterRepeated n
+  repeats_none x f p q b c d e = ⊎_elim (λ z. z) (λ ne. absurd (against (two_at p q f standing.Parameter standing.Parameter x b c refl refl d e ne))) (decide p q)
     where
       against : BothThere f (standing.Parameter, b.identifier) (standing.Parameter, c.identifier) → ⊥
-      against (g, two, top) = two.apart (fine.no_parameter_twice x g two.one.path two.other.path
+      against (g, two, top) = two.apart (none_repeated t fair fine.no_parameter_twice x g two.one.path two.other.path
           (record { place = two.one.place; kind = two.one.kind; identifier = b.identifier; stands = two.one.stands; stands_so = two.one.stands_so; named = b.named })
           (record { place = two.other.place; kind = two.other.kind; identifier = c.identifier; stands = two.other.stands; stands_so = two.other.stands_so; named = c.named })
-          two.one.taken two.other.taken (inl (strict_name t module_t two.one.path two.one.place two.one.kind b.identifier two.one.stands)))
+          two.one.taken two.other.taken)
+
+  pub stays_fair : IsFair n
+  stays_fair = (program_n, λ s. repeats_none)
 
   no_variable_passes : NoVariablePasses is_lexical n
   no_variable_passes p x b =
@@ -200,7 +205,7 @@ module _ (t n : Node) (module_t : IsTrue (is_module t)) (module_n : IsTrue (is_m
       from_env n plain_n x (rounds PP n p) (subst (PassesIn x) (sym (env_is g.path PP t) ∙ g.env ∙ env_is p PP n) passes)
 
   pub none_redeclared : NoRedeclaration n
-  none_redeclared = record { none_twice = none_twice; no_variable_passes = no_variable_passes; no_parameter_twice = no_parameter_twice }
+  none_redeclared = record { none_twice = none_twice; no_variable_passes = no_variable_passes; no_parameter_twice = λ x f p q b c d e strict. repeats_none x f p q b c d e }
 
 pub no_redeclaration_stays : NoRedeclarationStays
-no_redeclaration_stays t n mt mn ct cn keeps fine = none_redeclared t n mt mn ct cn keeps fine
+no_redeclaration_stays t n ft pn goals ct cn keeps fine = none_redeclared t n ft pn goals ct cn keeps fine

@@ -5,17 +5,17 @@
 
 ghost use Rattle.swc_tree_sites_errors.specs.Laws.{AnswerDeclares, AnswerRedeclaresNone, DeclaredStays, NewTextsRedeclareNone, NoRedeclarationStays, ReadingsKeepScopes};
 
-/// Where no name of a module is declared against the rules, none is in a module that keeps its scopes.
+/// Where no name of a program is declared against the rules, none is in one of its goal that keeps its scopes.
 pub fn no_redeclaration_stays()
     ensures { NoRedeclarationStays }
 {}
 
-/// Nor in a module of the same shape whose new texts capture none.
+/// Nor in a program of the same shape whose new texts capture none.
 pub fn new_texts_redeclare_none()
     ensures { NewTextsRedeclareNone }
 {}
 
-/// What is declared in a module that keeps the scopes of another is declared in that one.
+/// What is declared in a program that keeps the scopes of another is declared in that one.
 pub fn declared_stays()
     ensures { DeclaredStays }
 {}
@@ -25,13 +25,13 @@ pub fn readings_keep_scopes()
     ensures { ReadingsKeepScopes }
 {}
 
-/// What is left of a module, with new texts that capture none, declares no name against the rules, where the module
+/// What is left of a program, with new texts that capture none, declares no name against the rules, where the program
 /// declares none; so does an answer that keeps its scopes.
 pub fn answer_redeclares_none()
     ensures { AnswerRedeclaresNone }
 {}
 
-/// The program of such an answer declares what the module's does, by its new text.
+/// Such an answer declares at its top what the program does there, by its new text.
 pub fn answer_declares()
     ensures { AnswerDeclares }
 {}

@@ -2,25 +2,21 @@
 use Rattle.std.proofs.Common.{◌≡◌, ◌≢◌, ℕ, false, IsTrue, Some, List, [], ◌∷◌, Contains, refl, sym, ap, ◌∙◌, subst}
 use Rattle.swc_tree_marks.specs.declared.ident.Ident.{Ident}
 use Rattle.swc_tree_node.specs.declared.kind.Kind.{Kind}
-use Rattle.swc_tree_node.specs.declared.kind.Kind.TheVariants as kind
-use Rattle.swc_tree_node.specs.declared.node.Node.{Node, Identifier, out-Node}
-use Rattle.swc_tree_node.specs.declared.node.Node.TheOpen.{Node-F}
+use Rattle.swc_tree_node.specs.declared.node.Node.{Node, Identifier}
 use Rattle.swc_tree_scoping.specs.declared.places.Standing.{Standing}
 use Rattle.swc_tree_scoping.specs.declared.places.Standing.TheVariants as standing
 use Rattle.swc_tree_scoping.specs.Declares.{IsUncaught}
 use Rattle.swc_tree_scoping.specs.declared.places.Place.{Place}
-use Rattle.swc_tree_scoping.specs.declared.places.Scope.TheVariants as scope
-use Rattle.swc_tree_scoping.specs.Places.{Path, opened, opened_in, place_at, program_place}
+use Rattle.swc_tree_scoping.specs.Places.{Path, place_at, program_place}
 use Rattle.swc_tree_scoping.specs.Scopes.{IsScope, is_binding, taker}
 use Rattle.swc_tree_scoping.specs.Readings.{by_ids, id_name}
-use Rattle.swc_tree_scoping.specs.Resolved.{HasContext, Resolved, is_script}
-use Rattle.swc_tree_scoping.specs.WellScoped.{Binds, EachInOneScope, IsClean, Stands, is_module}
+use Rattle.swc_tree_scoping.specs.Resolved.{HasContext, Resolved}
+use Rattle.swc_tree_scoping.specs.WellScoped.{Binds, EachInOneScope, IsClean, Stands}
 use Rattle.swc_tree_scoping.proofs.First.{has_taker}
-use Rattle.swc_tree_renaming.specs.Apart.{CapturesNone, DeclaredIn, HasNoSloppy, HasTexts, Knows, NameAt, SameIds, SameScopes, nameless}
+use Rattle.swc_tree_renaming.specs.Apart.{CapturesNone, DeclaredIn, HasNoSloppy, HasTexts, IsPlainProgram, Knows, MeansNoGlobalValue, NameAt, SameIds, SameScopes, nameless}
 use Rattle.swc_tree_renaming.proofs.Core.{HasOwner, declared_taker, same_ids, taken_same}
 use Rattle.swc_tree_renaming.proofs.Shape.{nameless_by_ids, nameless_remarked, same_scopes, some_same}
-use Rattle.swc_tree_renaming.proofs.Strict.{no_sloppy_in_modules}
-use Rattle.swc_tree_renaming.proofs.Whole.{by_id, from_ids, id_name_apart, id_name_same, identifier_same, in_program, module_layer, module_too, no_script, stands_by_id, stands_there}
+use Rattle.swc_tree_renaming.proofs.Whole.{by_id, from_ids, id_name_apart, id_name_same, identifier_same, ProgramLayer, in_program, program_layer, program_opens, program_too, stands_by_id, stands_there}
 use Rattle.swc_tree_sites_laws.specs.Laws.{LeftKeepsIds}
 use Rattle.swc_tree_sites.specs.Sites.{Binding, taken_at}
 use Rattle.swc_tree_sites.specs.Smaller.{In, IsLeftOf, IsPlain}
@@ -32,22 +28,19 @@ use Rattle.swc_tree_sites.proofs.Owners.{marks_apart, others_resolved}
 use Rattle.swc_tree_sites.proofs.Round.{taken_by, taken_is}
 use Rattle.swc_tree_sites.proofs.Whole.{one_taker, one_taker_of_fewer, scopes_of_kept}
 
--- a clean module is plain
-module_opens : (t : Node) (ts : List Node) → out-Node t ≡ Node-F.Tree kind.Module ts → opened program_place t ≡ Some scope.Program
-module_opens t ts o = ap (opened_in program_place) o
-
+-- a clean plain program is plain
 no_root : (t : Node) (r : Standing) (x : List ℕ) → Binds t [] r x → (s : Path) × (taker r t [] ≡ Some s)
 no_root t r x b =
     let here : program_place ≡ b.at.place = ap (λ (q : Place × Node). q.0) (some_same (program_place, t) (b.at.place, Identifier b.at.kind b.at.identifier) b.at.stands) in
     let plain = subst (λ r. IsTrue (is_binding r)) (sym b.at.stands_so ∙ ap (λ (w : Place). w.standing) (sym here)) b.binds in
     absurd (cc)
 
-plain_module : (t : Node) (ts : List Node) → out-Node t ≡ Node-F.Tree kind.Module ts → IsClean t → IsPlain t
-plain_module t ts o clean = record { unmarked = clean; settled = λ p w k i h. no_sloppy_in_modules t ts o p w (Identifier k i) h; takes = takes }
+plain_program : (t : Node) → ProgramLayer t → HasNoSloppy t → IsClean t → IsPlain t
+plain_program t l none clean = record { unmarked = clean; settled = none; takes = takes }
   where
     takes : (p : Path) (r : Standing) (x : List ℕ) → Binds t p r x → (s : Path) × (taker r t p ≡ Some s)
     takes [] r x b = no_root t r x b
-    takes (i ∷ p) r x b = has_taker t p i r (module_opens t ts o) b.binds
+    takes (i ∷ p) r x b = has_taker t p i r (program_opens t l) b.binds
 
 pub clean_ids : (t : Node) → IsClean (by_ids t)
 clean_ids t p w k i h = let (l, j, e, is) = from_ids t p w k i h in ap (λ (i : Ident). i.ctxt) is
@@ -74,33 +67,33 @@ is_marked unresolved top old new v u plain r = record {
         = ap (λ (q : Place × Node). q.1) (some_same (z, Identifier l j) (w, Identifier k (record i { ctxt = r.contexts p })) (sym g ∙ stands_there v u r.contexts r.only_contexts p w k i e)) in
         identifier_same l k j (record i { ctxt = r.contexts p }) node
 
-ids_module : (b : Node) → IsTrue (is_module b) → (ts : List Node) × (out-Node (by_ids b) ≡ Node-F.Tree kind.Module ts)
-ids_module b h = let (ts, o) = module_layer b h in module_too b (by_ids b) ts (sym (nameless_by_ids b)) o
+ids_layer : (b : Node) → IsPlainProgram b → ProgramLayer (by_ids b)
+ids_layer b h = program_too b (by_ids b) (sym (nameless_by_ids b)) (program_layer b h.0)
 
-plain_ids : (b : Node) → IsTrue (is_module b) → IsPlain (by_ids b)
-plain_ids b h = let (ts, o) = ids_module b h in plain_module (by_ids b) ts o (clean_ids b)
+none_by_ids : (b : Node) → HasNoSloppy b → HasNoSloppy (by_ids b)
+none_by_ids b none p w k i h = let (l, j, e, is) = from_ids b p w k i h in none p w l j e
 
-pub plain_clean : (b : Node) → IsTrue (is_module b) → IsClean b → IsPlain b
-plain_clean b h clean = let (ts, o) = module_layer b h in plain_module b ts o clean
+plain_ids : (b : Node) → IsPlainProgram b → IsPlain (by_ids b)
+plain_ids b h = plain_program (by_ids b) (ids_layer b h) (none_by_ids b h.1) (clean_ids b)
 
-no_script_of : (b : Node) → IsTrue (is_module b) → is_script b ≡ false
-no_script_of b h = let (ts, o) = module_layer b h in no_script b ts o
+pub plain_clean : (b : Node) → IsPlainProgram b → IsClean b → IsPlain b
+plain_clean b h clean = plain_program b (program_layer b h.0) h.1 clean
 
 -- what is left of a program, read by ids
-module _ (t a : Node) (text : List ℕ → List ℕ) (module_t : IsTrue (is_module t)) (module_a : IsTrue (is_module a)) (each : EachInOneScope (by_ids t)) (none : CapturesNone (by_ids t) text) (left : IsLeftOf (by_ids a) (by_ids t)) where
+module _ (t a : Node) (text : List ℕ → List ℕ) (module_t : IsPlainProgram t) (module_a : IsPlainProgram a) (each : EachInOneScope (by_ids t)) (none : CapturesNone (by_ids t) text) (left : IsLeftOf (by_ids a) (by_ids t)) where
   pub one_scope : EachInOneScope (by_ids a)
   one_scope = scopes_of_kept (by_ids t) (by_ids a) (plain_ids t module_t) (plain_ids a module_a) left.names left.scopes each
 
   pub captures : CapturesNone (by_ids a) text
   captures = captures_none (by_ids t) (by_ids a) text (plain_ids t module_t) (plain_ids a module_a) left.names (one_taker_of_fewer (by_ids t) (by_ids a) left.scopes (one_taker (by_ids t) (plain_ids t module_t) each)) each none
 
-pub settled : (a : Node) → IsTrue (is_module a) → HasNoSloppy (by_ids a)
+pub settled : (a : Node) → IsPlainProgram a → HasNoSloppy (by_ids a)
 settled a h = (plain_ids a h).settled
 
-module _ (t a answer n u m : Node) (text : List ℕ → List ℕ) (unresolved top : ℕ) (old new : List (ℕ × ℕ)) (module_t : IsTrue (is_module t)) (module_a : IsTrue (is_module a)) (module_answer : IsTrue (is_module answer)) (module_n : IsTrue (is_module n))
+module _ (t a answer n u m : Node) (text : List ℕ → List ℕ) (unresolved top : ℕ) (old new : List (ℕ × ℕ)) (module_t : IsPlainProgram t) (module_a : IsPlainProgram a) (module_answer : IsPlainProgram answer) (module_n : IsPlainProgram n)
     (each : EachInOneScope (by_ids t)) (none : CapturesNone (by_ids t) text) (left : IsLeftOf (by_ids a) (by_ids t)) (shape : SameScopes (by_ids a) n) (cleared : IsClean n) (texts : HasTexts (by_ids a) text n)
     (clean : IsClean answer) (knows : Knows old unresolved) (r : Resolved unresolved top old new answer u) (left_there : IsLeftOf m u) (program : taken_at program_place m ≡ taken_at program_place u)
-    (same : SameScopes n m) (kept_texts : HasTexts n (λ x. x) m) where
+    (same : SameScopes n m) (kept_texts : HasTexts n (λ x. x) m) (none_answer : MeansNoGlobalValue answer) (none_n : MeansNoGlobalValue n) where
   abbrev A : Node
   A = by_ids a
 
@@ -120,7 +113,7 @@ module _ (t a answer n u m : Node) (text : List ℕ → List ℕ) (unresolved to
   settled_a = settled a module_a
 
   abbrev Owns : List ℕ → List ℕ → Type 0
-  Owns = HasOwner A n text shape (clean_ids a) cleared texts settled_a each_a none_a (marks_of m) unresolved (no_script_of n module_n)
+  Owns = HasOwner A n text shape (clean_ids a) cleared texts settled_a each_a none_a (marks_of m) unresolved none_n
 
   -- what the scope takes that declares a name
   taken : (s : Path) (x : List ℕ) → DeclaredIn A s x → (b : Binding) × In b (taken_by program_place m s)
@@ -137,7 +130,7 @@ module _ (t a answer n u m : Node) (text : List ℕ → List ℕ) (unresolved to
   others s h ne e = r.fresh s h ne knows.0 (subst (λ m. Contains old (m, knows.0)) (sym e) knows.1)
 
   uncaught_n : (p : Path) (x : List ℕ) → Stands n p standing.Variable x → IsUncaught n p x
-  uncaught_n = met A n text shape (clean_ids a) cleared texts settled_a each_a none_a answer u m r.marks unresolved marked plain_n same kept_texts left_there.names (no_script_of answer module_answer) (no_script_of n module_n)
+  uncaught_n = met A n text shape (clean_ids a) cleared texts settled_a each_a none_a answer u m r.marks unresolved marked plain_n same kept_texts left_there.names none_answer none_n
 
   one_to_one : (s g : Path) (x y : List ℕ) → DeclaredIn A s x → DeclaredIn A g y → marks_of m s ≡ marks_of m g → s ≡ g
   one_to_one s g x y d e h =
@@ -158,19 +151,18 @@ module _ (t a answer n u m : Node) (text : List ℕ → List ℕ) (unresolved to
       let place : v ≡ w = ap (λ (q : Place × Node). q.0) (some_same (v, Identifier l b) (w, Identifier d y) (sym g ∙ f)) in
       let g_w : place_at program_place m p ≡ Some (w, Identifier l b) = g ∙ ap (λ (v : Place). Some (v, Identifier l b)) place in (
         kept_texts p w w c l j b e g_w names ∙ texts p w w k c (by_id i) j at.stands e names,
-        has_owner A n text shape (clean_ids a) cleared texts settled_a each_a none_a answer u m r.marks unresolved marked plain_n same kept_texts left_there.names (no_script_of answer module_answer) (no_script_of n module_n) p w l b (id_name i) g_w names at,
+        has_owner A n text shape (clean_ids a) cleared texts settled_a each_a none_a answer u m r.marks unresolved marked plain_n same kept_texts left_there.names none_answer none_n p w l b (id_name i) g_w names at,
       )
 
   pub ids_same : SameIds a m
   ids_same p q i j b c ni nj nb nc =
       let (tb, ob) = read p i b ni nb in
       let (tc, oc) = read q j c nj nc in
-      let (ts, o) = ids_module a module_a in
-      let both = same_ids A n text shape (clean_ids a) cleared texts settled_a each_a none_a (marks_of m) unresolved (no_script_of n module_n) one_to_one apart_from_unresolved (in_program A ts o) (id_name i) (id_name j) b.ctxt c.ctxt ob oc in (
+      let both = same_ids A n text shape (clean_ids a) cleared texts settled_a each_a none_a (marks_of m) unresolved none_n one_to_one apart_from_unresolved (in_program A (ids_layer a module_a)) (id_name i) (id_name j) b.ctxt c.ctxt ob oc in (
         (λ h. id_name_apart i j (both.0 (sym tb ∙ h.0 ∙ tc, h.1))),
         (λ h. let e = both.1 (id_name_same i j h) in (tb ∙ e.0 ∙ sym tc, e.1)),
       )
 
 pub left_keeps_ids : LeftKeepsIds
-left_keeps_ids t a answer n u m text unresolved top old new mt ma mv mn each none left shape cleared texts clean knows r left_there program same kept_texts =
-    ids_same t a answer n u m text unresolved top old new mt ma mv mn each none left shape cleared texts clean knows r left_there program same kept_texts
+left_keeps_ids t a answer n u m text unresolved top old new mt ma mv mn each none left shape cleared texts clean knows r left_there program same kept_texts none_answer none_n =
+    ids_same t a answer n u m text unresolved top old new mt ma mv mn each none left shape cleared texts clean knows r left_there program same kept_texts none_answer none_n

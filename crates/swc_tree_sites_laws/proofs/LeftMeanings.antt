@@ -7,8 +7,8 @@ use Rattle.swc_tree_scoping.specs.declared.places.Place.{Place}
 use Rattle.swc_tree_scoping.specs.Places.{Path}
 use Rattle.swc_tree_scoping.specs.Scopes.{is_name}
 use Rattle.swc_tree_scoping.specs.Readings.{by_ids, id_name}
-use Rattle.swc_tree_scoping.specs.WellScoped.{EachInOneScope, IsClean, Stands, is_module}
-use Rattle.swc_tree_renaming.specs.Apart.{Belongs, CapturesNone, HasTexts, MeanOne, MeanTheirIds, NameAt, SameId, SameScopes}
+use Rattle.swc_tree_scoping.specs.WellScoped.{EachInOneScope, IsClean, Stands}
+use Rattle.swc_tree_renaming.specs.Apart.{Belongs, CapturesNone, HasTexts, IsPlainProgram, MeanOne, MeanTheirIds, NameAt, SameId, SameScopes}
 use Rattle.swc_tree_renaming.proofs.Core.{Owner, belongs_to_owner, one_owner, owner_tells}
 use Rattle.swc_tree_renaming.proofs.Shape.{some_same}
 use Rattle.swc_tree_renaming.proofs.Whole.{by_id, id_name_apart, id_name_same, stands_by_id}
@@ -17,7 +17,7 @@ use Rattle.swc_tree_sites_laws.specs.Laws.{LeftMeanTheirIds}
 use Rattle.swc_tree_sites_laws.proofs.Decided.{belongs_somewhere}
 use Rattle.swc_tree_sites_laws.proofs.LeftIds.{captures, clean_ids, one_scope, plain_clean, settled}
 
-module _ (t a n : Node) (text : List ℕ → List ℕ) (module_t : IsTrue (is_module t)) (module_a : IsTrue (is_module a)) (module_n : IsTrue (is_module n)) (each : EachInOneScope (by_ids t)) (none : CapturesNone (by_ids t) text)
+module _ (t a n : Node) (text : List ℕ → List ℕ) (module_t : IsPlainProgram t) (module_a : IsPlainProgram a) (module_n : IsPlainProgram n) (each : EachInOneScope (by_ids t)) (none : CapturesNone (by_ids t) text)
     (left : IsLeftOf (by_ids a) (by_ids t)) (shape : SameScopes (by_ids a) n) (cleared : IsClean n) (texts : HasTexts (by_ids a) text n) where
   abbrev A : Node
   A = by_ids a

@@ -6,10 +6,10 @@ use Rattle.swc_tree_node.specs.declared.slot.Slot.TheVariants as slot
 use Rattle.swc_tree_node.specs.declared.node.Node.{Node}
 use Rattle.swc_tree_node.specs.Fits.{Fits}
 use Rattle.swc_tree_scoping.specs.Places.{program_place}
-use Rattle.swc_tree_scoping.specs.WellScoped.{EachInOneScope, IsClean, is_module}
+use Rattle.swc_tree_scoping.specs.WellScoped.{EachInOneScope, IsClean}
 use Rattle.swc_tree_scoping.specs.Readings.{by_ids}
 use Rattle.swc_tree_scoping.specs.Resolved.{Resolved}
-use Rattle.swc_tree_renaming.specs.Apart.{CapturesNone, HasTexts, Knows, MeanTheirIds, SameIds, SameScopes}
+use Rattle.swc_tree_renaming.specs.Apart.{CapturesNone, HasTexts, IsPlainProgram, Knows, MeanTheirIds, MeansNoGlobalValue, SameIds, SameScopes}
 use Rattle.swc_tree_grammar.specs.Stripped.{stripped}
 use Rattle.swc_tree_grammar.specs.Targets.{all_bare}
 use Rattle.swc_tree_sites.specs.Sites.{sites_of, taken_at}
@@ -33,15 +33,15 @@ IdsAreLeft = (n t : Node) → IsLeftOf n t → IsLeftOf (by_ids n) (by_ids t)
 -- what is left of the resolved answer exactly if they have one in what is left of the program.
 abbrev pub LeftKeepsIds : Type 0
 LeftKeepsIds = (t a answer n u m : Node) (text : List ℕ → List ℕ) (unresolved top : ℕ) (old new : List (ℕ × ℕ))
-    → IsTrue (is_module t) → IsTrue (is_module a) → IsTrue (is_module answer) → IsTrue (is_module n)
+    → IsPlainProgram t → IsPlainProgram a → IsPlainProgram answer → IsPlainProgram n
     → EachInOneScope (by_ids t) → CapturesNone (by_ids t) text → IsLeftOf (by_ids a) (by_ids t)
     → SameScopes (by_ids a) n → IsClean n → HasTexts (by_ids a) text n
     → IsClean answer → Knows old unresolved → Resolved unresolved top old new answer u
     → IsLeftOf m u → taken_at program_place m ≡ taken_at program_place u → SameScopes n m → HasTexts n (λ x. x) m
-    → SameIds a m
+    → MeansNoGlobalValue answer → MeansNoGlobalValue n → SameIds a m
 
 -- ... and the names of what is left of the answer mean the ids of what is left of the program, with no resolver asked
 abbrev pub LeftMeanTheirIds : Type 0
-LeftMeanTheirIds = (t a n : Node) (text : List ℕ → List ℕ) → IsTrue (is_module t) → IsTrue (is_module a) → IsTrue (is_module n)
+LeftMeanTheirIds = (t a n : Node) (text : List ℕ → List ℕ) → IsPlainProgram t → IsPlainProgram a → IsPlainProgram n
     → EachInOneScope (by_ids t) → CapturesNone (by_ids t) text → IsLeftOf (by_ids a) (by_ids t)
     → SameScopes (by_ids a) n → IsClean n → HasTexts (by_ids a) text n → MeanTheirIds n a

@@ -1,7 +1,7 @@
--- What is asked of a node in strict code.
-use Rattle.std.proofs.Common.{Bool, true}
+-- What is asked of a node.
+use Rattle.std.proofs.Common.{Bool}
 use Rattle.swc_tree_grammar.specs.Writable.{Round}
 
--- strict code, in which the names in a pattern are assigned to or bound
-abbrev pub code : Bool → Round
-code assigned = record { strict = true; assigned = assigned }
+-- code that is strict or not, in which the names in a pattern are assigned to or bound
+abbrev pub code : Bool → Bool → Round
+code strict assigned = record { strict = strict; assigned = assigned }

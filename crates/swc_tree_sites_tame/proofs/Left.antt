@@ -1,6 +1,6 @@
 -- A statement that may be the body of a loop or a branch leaves nothing that a block takes.
 use Rattle.std.proofs.Common.{◌≡◌, ◌≢◌, ℕ, zero, suc, ◌==◌, ◌⊎◌, Bool, true, false, not, ◌&&◌, ◌||◌, IsTrue, ⊎_elim, inl, inr, Some, None, Option, List, [], ◌∷◌, ◌++◌, map, refl, sym, ap, ◌∙◌, subst, cond}
-use Rattle.std.specs.List.{filter, list_all}
+use Rattle.std.specs.List.{filter, list_all, slice_get}
 use Rattle.swc_tree_marks.specs.declared.ident.Ident.{Ident}
 use Rattle.swc_tree_node.specs.declared.kind.Kind.{Kind}
 use Rattle.swc_tree_node.specs.declared.kind.Kind.TheVariants as kind
@@ -30,7 +30,7 @@ use Rattle.swc_tree_scoping.specs.Scopes.{is_binding, takes}
 use Rattle.swc_tree_scoping.specs.Folds.{each_in}
 use Rattle.swc_tree_grammar.specs.Levels.{is_absent, is_absent_in, word_in}
 use Rattle.swc_tree_grammar.specs.Forms.{Form, Ordinary, form, form_in, form_of_function, form_of_word, is_body, is_branch, is_using}
-use Rattle.swc_tree_grammar.specs.Writable.{all_sound, head, sound_in}
+use Rattle.swc_tree_grammar.specs.Writable.{all_sound, branch, head, sound_in}
 use Rattle.swc_tree_grammar.specs.Blocks.{takes_else, takes_else_step}
 use Rattle.swc_tree_grammar.proofs.Asked.{of, sound, sound_tree}
 use Rattle.swc_tree_grammar.proofs.Walks.{takes_else_of_tree}
@@ -46,6 +46,7 @@ use Rattle.swc_tree_sites.proofs.Pending.{apart, keyword_cases, left_fits}
 use Rattle.swc_tree_sites_laws.proofs.Expressions.{P, of_identifier}
 use Rattle.swc_tree_sites_written.specs.Tame.{is_loose}
 use Rattle.swc_tree_sites_tame.proofs.Asked.{code}
+use Rattle.swc_tree_sites_tame.proofs.Sloppy.{Nested, is_around, nested_field, strict_branch}
 
 -- nothing among them is what a block takes; or only what the scope takes too
 abbrev loose : List Binding → Bool
@@ -257,11 +258,11 @@ body_branch : (f : Form) → is_body f ≡ true → is_branch true f ≡ true
 body_branch Ordinary h = refl
 body_branch _ h = absurd (cc)
 
-abbrev may_stand : Bool → Node → Bool
-may_stand a t = is_branch true (form t) && sound t (code a)
+abbrev may_stand : Bool → Bool → Node → Bool
+may_stand s a t = is_branch true (form t) && sound t (code s a)
 
 abbrev Leaves : Node → Type 0
-Leaves t = (p : Standing) (n a : Bool) → is_spot p ≡ true → Fits t statement → (is_absent t || may_stand a t) ≡ true → Loose (S (P p n) t)
+Leaves t = (p : Standing) (n s a : Bool) → is_spot p ≡ true → Fits t statement → (s ≡ false → Nested t) → (is_absent t || may_stand s a t) ≡ true → Loose (S (P p n) t)
 
 data Parts : List Slot → List Node → Type 0 where
   none : Parts [] []
@@ -274,11 +275,18 @@ parts (s ∷ ss) [] h f = absurd f
 parts (s ∷ ss) (t ∷ ts) h f = more f.0 h.0 (parts ss ts h.1 f.1)
 
 -- what is asked of the parts of a statement
-maybe : (a : Bool) (t : Node) → may_stand a t ≡ true → (is_absent t || may_stand a t) ≡ true
-maybe a t h = or_right (is_absent t) (may_stand a t) h
+maybe : (s a : Bool) (t : Node) → may_stand s a t ≡ true → (is_absent t || may_stand s a t) ≡ true
+maybe s a t h = or_right (is_absent t) (may_stand s a t) h
 
-in_loop : (a : Bool) (t : Node) → (is_body (form t) && sound t (code a)) ≡ true → (is_absent t || may_stand a t) ≡ true
-in_loop a t h = let z = both (is_body (form t)) (sound t (code a)) h in maybe a t (also (body_branch (form t) z.0) z.1)
+in_loop : (s a : Bool) (t : Node) → (is_body (form t) && sound t (code s a)) ≡ true → (is_absent t || may_stand s a t) ≡ true
+in_loop s a t h = let z = both (is_body (form t)) (sound t (code s a)) h in maybe s a t (also (body_branch (form t) z.0) z.1)
+
+in_branch : (s a : Bool) (t : Node) → Fits t statement → (s ≡ false → Nested t) → (is_absent t || branch (of t) (code s a)) ≡ true → (is_absent t || may_stand s a t) ≡ true
+in_branch s a t f m = at (is_absent t)
+  where
+    at : (b : Bool) → (b || branch (of t) (code s a)) ≡ true → (b || may_stand s a t) ≡ true
+    at true h = refl
+    at false h = let z = both (is_branch s (form t)) (sound t (code s a)) h in also (strict_branch s t class.Stmt f m z.0) z.1
 
 stands_there : (t : Node) → Fits t (one class.Stmt) → Fits t statement
 stands_there t f = wider class.Stmt class.Stmt statement refl refl t f
@@ -425,38 +433,51 @@ no_function : (b : Bool) → is_branch true (form_of_function b) ≡ true → �
 no_function true h = absurd (cc)
 no_function false h = absurd (cc)
 
+-- a field of a statement round it
+field : (k : Kind) (ts : List Node) (s : Bool) → is_around k ≡ true → (s ≡ false → Nested (Tree k ts)) → (i : ℕ) (c : Node) → slice_get ts i ≡ Some c → s ≡ false → Nested c
+field k ts s a m i c e g = nested_field k ts a (m g) i c e
+
 -- each kind of statement
-row : (k : Kind) {ts : List Node} → Parts (slots_of k) ts → (p : Standing) (n a : Bool) → is_spot p ≡ true → is_branch true (form_in (Node-F.Tree k ts)) ≡ true → sound_in (Node-F.Tree k (map of ts)) (code a) ≡ true → IsTrue (belongs k class.Stmt) → Loose (S (P p n) (Tree k ts))
-row kind.BlockStmt {ts = ts} d p n a q b h e = block_left ts p n q
-row kind.EmptyStmt (more {t = x} f _ none) p n a q b h e = open_left kind.EmptyStmt (x ∷ []) p n refl (span_left standing.Plain n x refl f, tt)
-row kind.DebuggerStmt (more {t = x} f _ none) p n a q b h e = open_left kind.DebuggerStmt (x ∷ []) p n refl (span_left standing.Plain n x refl f, tt)
-row kind.BreakStmt (more {t = x} f _ (more {t = y} g _ none)) p n a q b h e =
+row : (k : Kind) {ts : List Node} → Parts (slots_of k) ts → (p : Standing) (n s a : Bool) → is_spot p ≡ true → is_branch true (form_in (Node-F.Tree k ts)) ≡ true → sound_in (Node-F.Tree k (map of ts)) (code s a) ≡ true → IsTrue (belongs k class.Stmt)
+    → (s ≡ false → Nested (Tree k ts)) → Loose (S (P p n) (Tree k ts))
+row kind.BlockStmt {ts = ts} d p n s a q b h e m = block_left ts p n q
+row kind.EmptyStmt (more {t = x} f _ none) p n s a q b h e m = open_left kind.EmptyStmt (x ∷ []) p n refl (span_left standing.Plain n x refl f, tt)
+row kind.DebuggerStmt (more {t = x} f _ none) p n s a q b h e m = open_left kind.DebuggerStmt (x ∷ []) p n refl (span_left standing.Plain n x refl f, tt)
+row kind.BreakStmt (more {t = x} f _ (more {t = y} g _ none)) p n s a q b h e m =
     open_left kind.BreakStmt (x ∷ y ∷ []) p n refl (span_left standing.Plain n x refl f, (nothing_left (slot.Optional (content.Node class.Ident)) (λ r. refl) standing.Label n y refl g, tt))
-row kind.ContinueStmt (more {t = x} f _ (more {t = y} g _ none)) p n a q b h e =
+row kind.ContinueStmt (more {t = x} f _ (more {t = y} g _ none)) p n s a q b h e m =
     open_left kind.ContinueStmt (x ∷ y ∷ []) p n refl (span_left standing.Plain n x refl f, (nothing_left (slot.Optional (content.Node class.Ident)) (λ r. refl) standing.Label n y refl g, tt))
-row kind.ReturnStmt (more {t = x} f _ (more {t = y} g _ none)) p n a q b h e = open_left kind.ReturnStmt (x ∷ y ∷ []) p n refl (span_left standing.Plain n x refl f, (maybe_expression_left n y g, tt))
-row kind.ThrowStmt (more {t = x} f _ (more {t = y} g _ none)) p n a q b h e = open_left kind.ThrowStmt (x ∷ y ∷ []) p n refl (span_left standing.Plain n x refl f, (expression_left n y g, tt))
-row kind.ExprStmt (more {t = x} f _ (more {t = y} g _ none)) p n a q b h e = open_left kind.ExprStmt (x ∷ y ∷ []) p n refl (span_left standing.Plain n x refl f, (expression_left n y g, tt))
-row kind.WithStmt (more {t = x} f _ (more {t = y} g _ (more {t = z} i l none))) p n a q b h e =
-    let u = half h in open_left kind.WithStmt (x ∷ y ∷ z ∷ []) p n refl (span_left standing.Plain n x refl f, (expression_left n y g, (l standing.Plain n a refl (stands_there z i) (in_loop a z u.1), tt)))
-row kind.LabeledStmt (more {t = x} f _ (more {t = y} g _ (more {t = z} i l none))) p n a q b h e =
-    let u = half h in open_left kind.LabeledStmt (x ∷ y ∷ z ∷ []) p n refl
-    (span_left standing.Plain n x refl f, (nothing_left (one class.Ident) (λ r. refl) standing.Label n y refl g, (l standing.Plain n a refl (stands_there z i) (maybe a z u.1), tt)))
-row kind.IfStmt (more {t = x} f _ (more {t = y} g _ (more {t = z} i l (more {t = v} j m none)))) p n a q b h e =
-    let u = half h in let w = half u.1 in open_left kind.IfStmt (x ∷ y ∷ z ∷ v ∷ []) p n refl
-    (span_left standing.Plain n x refl f, (expression_left n y g, (l standing.Branch n a refl (stands_there z i) (maybe a z w.0), (m standing.Branch n a refl j w.1, tt))))
-row kind.SwitchStmt (more {t = x} f _ (more {t = y} g _ (more {t = z} i _ none))) p n a q b h e =
+row kind.ReturnStmt (more {t = x} f _ (more {t = y} g _ none)) p n s a q b h e m = open_left kind.ReturnStmt (x ∷ y ∷ []) p n refl (span_left standing.Plain n x refl f, (maybe_expression_left n y g, tt))
+row kind.ThrowStmt (more {t = x} f _ (more {t = y} g _ none)) p n s a q b h e m = open_left kind.ThrowStmt (x ∷ y ∷ []) p n refl (span_left standing.Plain n x refl f, (expression_left n y g, tt))
+row kind.ExprStmt (more {t = x} f _ (more {t = y} g _ none)) p n s a q b h e m = open_left kind.ExprStmt (x ∷ y ∷ []) p n refl (span_left standing.Plain n x refl f, (expression_left n y g, tt))
+row kind.WithStmt (more {t = x} f _ (more {t = y} g _ (more {t = z} i l none))) p n s a q b h e m =
+    let u = half h in open_left kind.WithStmt (x ∷ y ∷ z ∷ []) p n refl (span_left standing.Plain n x refl f, (expression_left n y g, (l standing.Plain n s a refl (stands_there z i) (field kind.WithStmt (x ∷ y ∷ z ∷ []) s refl m 2 z refl) (in_loop s a z u.1), tt)))
+row kind.LabeledStmt (more {t = x} f _ (more {t = y} g _ (more {t = z} i l none))) p n s a q b h e m =
+    let u = half h in let o = field kind.LabeledStmt (x ∷ y ∷ z ∷ []) s refl m 2 z refl in open_left kind.LabeledStmt (x ∷ y ∷ z ∷ []) p n refl (
+      span_left standing.Plain n x refl f,
+      (nothing_left (one class.Ident) (λ r. refl) standing.Label n y refl g, (l standing.Plain n s a refl (stands_there z i) o (in_branch s a z (stands_there z i) o (or_right (is_absent z) _ u.1)), tt)),
+    )
+row kind.IfStmt (more {t = x} f _ (more {t = y} g _ (more {t = z} i l (more {t = v} j k none)))) p n s a q b h e m =
+    let u = half h in let w = half u.1 in
+    let o = field kind.IfStmt (x ∷ y ∷ z ∷ v ∷ []) s refl m 2 z refl in let c = field kind.IfStmt (x ∷ y ∷ z ∷ v ∷ []) s refl m 3 v refl in open_left kind.IfStmt (x ∷ y ∷ z ∷ v ∷ []) p n refl (
+      span_left standing.Plain n x refl f,
+      (
+        expression_left n y g,
+        (l standing.Branch n s a refl (stands_there z i) o (in_branch s a z (stands_there z i) o (or_right (is_absent z) _ w.0)), (k standing.Branch n s a refl j c (in_branch s a v j c w.1), tt)),
+      ),
+    )
+row kind.SwitchStmt (more {t = x} f _ (more {t = y} g _ (more {t = z} i _ none))) p n s a q b h e m =
     ap (λ (s : Sites). loose s.pending) (by_fields kind.SwitchStmt (x ∷ y ∷ z ∷ []) p n (Some scope.Switch) refl)
     ∙ scoped scope.Switch (view_from kind.SwitchStmt) (field_sites p n kind.SwitchStmt (x ∷ y ∷ z ∷ []))
     (all_append (λ b. not (takes b.0 scope.Block)) (S (P standing.Reference n) y).pending [] (expression_left n y g) refl) (surely scope.Switch switch_takes (joined (field_sites p n kind.SwitchStmt (x ∷ y ∷ z ∷ []))).pending)
-row kind.TryStmt (more {t = x} f _ (more {t = y} g _ (more {t = z} i _ (more {t = v} j _ none)))) p n a q b h e =
+row kind.TryStmt (more {t = x} f _ (more {t = y} g _ (more {t = z} i _ (more {t = v} j _ none)))) p n s a q b h e m =
     open_left kind.TryStmt (x ∷ y ∷ z ∷ v ∷ []) p n refl
     (span_left standing.Plain n x refl f, (some_block standing.Plain n y refl (wider class.BlockStmt class.BlockStmt (slot.Optional (content.Node class.BlockStmt)) refl refl y g), (some_catch n z i, (some_block standing.Plain n v refl j, tt))))
-row kind.WhileStmt (more {t = x} f _ (more {t = y} g _ (more {t = z} i l none))) p n a q b h e =
-    let u = half h in open_left kind.WhileStmt (x ∷ y ∷ z ∷ []) p n refl (span_left standing.Plain n x refl f, (expression_left n y g, (l standing.Plain n a refl (stands_there z i) (in_loop a z u.1), tt)))
-row kind.DoWhileStmt (more {t = x} f _ (more {t = z} i l (more {t = y} g _ none))) p n a q b h e =
-    let u = half h in open_left kind.DoWhileStmt (x ∷ z ∷ y ∷ []) p n refl (span_left standing.Plain n x refl f, (l standing.Plain n a refl (stands_there z i) (in_loop a z u.1), (expression_left n y g, tt)))
-row kind.ForStmt (more {t = x} f _ (more {t = y} g _ (more {t = z} i _ (more {t = v} j _ (more {t = w} k l none))))) p n a q b h e =
+row kind.WhileStmt (more {t = x} f _ (more {t = y} g _ (more {t = z} i l none))) p n s a q b h e m =
+    let u = half h in open_left kind.WhileStmt (x ∷ y ∷ z ∷ []) p n refl (span_left standing.Plain n x refl f, (expression_left n y g, (l standing.Plain n s a refl (stands_there z i) (field kind.WhileStmt (x ∷ y ∷ z ∷ []) s refl m 2 z refl) (in_loop s a z u.1), tt)))
+row kind.DoWhileStmt (more {t = x} f _ (more {t = z} i l (more {t = y} g _ none))) p n s a q b h e m =
+    let u = half h in open_left kind.DoWhileStmt (x ∷ z ∷ y ∷ []) p n refl (span_left standing.Plain n x refl f, (l standing.Plain n s a refl (stands_there z i) (field kind.DoWhileStmt (x ∷ z ∷ y ∷ []) s refl m 1 z refl) (in_loop s a z u.1), (expression_left n y g, tt)))
+row kind.ForStmt (more {t = x} f _ (more {t = y} g _ (more {t = z} i _ (more {t = v} j _ (more {t = w} k l none))))) p n s a q b h e m =
     let u = half h in scope_left scope.For kind.ForStmt (x ∷ y ∷ z ∷ v ∷ w ∷ []) p n refl (λ i. refl) (all_kept scope.For (field_sites p n kind.ForStmt (x ∷ y ∷ z ∷ v ∷ w ∷ [])) (
       keeps scope.For (S (P standing.Plain n) x) (span_left standing.Plain n x refl f),
       (
@@ -465,24 +486,24 @@ row kind.ForStmt (more {t = x} f _ (more {t = y} g _ (more {t = z} i _ (more {t 
           keeps scope.For (S (P standing.Reference n) z) (maybe_expression_left n z i),
           (
             keeps scope.For (S (P standing.Reference n) v) (maybe_expression_left n v j),
-            (keeps scope.For (S (P standing.Plain n) w) (l standing.Plain n a refl (stands_there w k) (in_loop a w u.1)), tt),
+            (keeps scope.For (S (P standing.Plain n) w) (l standing.Plain n s a refl (stands_there w k) (field kind.ForStmt (x ∷ y ∷ z ∷ v ∷ w ∷ []) s refl m 4 w refl) (in_loop s a w u.1)), tt),
           ),
         ),
       ),
     ))
-row kind.ForInStmt (more {t = x} f _ (more {t = y} g _ (more {t = z} i _ (more {t = w} k l none)))) p n a q b h e =
-    let u = half {a = not (is_using y)} h in let v = half {a = head (of y) (code a)} u.1 in let m = half {a = all_sound (of z ∷ []) (code false)} v.1 in scope_left scope.For kind.ForInStmt (x ∷ y ∷ z ∷ w ∷ []) p n refl (λ i. refl) (all_kept scope.For (field_sites p n kind.ForInStmt (x ∷ y ∷ z ∷ w ∷ [])) (
+row kind.ForInStmt (more {t = x} f _ (more {t = y} g _ (more {t = z} i _ (more {t = w} k l none)))) p n s a q b h e m =
+    let u = half {a = not (is_using y)} h in let v = half {a = head (of y) (code s a)} u.1 in let c = half {a = all_sound (of z ∷ []) (code s false)} v.1 in scope_left scope.For kind.ForInStmt (x ∷ y ∷ z ∷ w ∷ []) p n refl (λ i. refl) (all_kept scope.For (field_sites p n kind.ForInStmt (x ∷ y ∷ z ∷ w ∷ [])) (
       keeps scope.For (S (P standing.Plain n) x) (span_left standing.Plain n x refl f),
       (
         head_kept n y g,
         (
           keeps scope.For (S (P standing.Reference n) z) (expression_left n z i),
-          (keeps scope.For (S (P standing.Plain n) w) (l standing.Plain n a refl (stands_there w k) (in_loop a w m.1)), tt),
+          (keeps scope.For (S (P standing.Plain n) w) (l standing.Plain n s a refl (stands_there w k) (field kind.ForInStmt (x ∷ y ∷ z ∷ w ∷ []) s refl m 3 w refl) (in_loop s a w c.1)), tt),
         ),
       ),
     ))
-row kind.ForOfStmt (more {t = x} f _ (more {t = v} j _ (more {t = y} g _ (more {t = z} i _ (more {t = w} k l none))))) p n a q b h e =
-    let u = half {a = head (of y) (code a)} h in let m = half {a = all_sound (of z ∷ []) (code false)} u.1 in scope_left scope.For kind.ForOfStmt (x ∷ v ∷ y ∷ z ∷ w ∷ []) p n refl (λ i. refl) (all_kept scope.For (field_sites p n kind.ForOfStmt (x ∷ v ∷ y ∷ z ∷ w ∷ [])) (
+row kind.ForOfStmt (more {t = x} f _ (more {t = v} j _ (more {t = y} g _ (more {t = z} i _ (more {t = w} k l none))))) p n s a q b h e m =
+    let u = half {a = head (of y) (code s a)} h in let c = half {a = all_sound (of z ∷ []) (code s false)} u.1 in scope_left scope.For kind.ForOfStmt (x ∷ v ∷ y ∷ z ∷ w ∷ []) p n refl (λ i. refl) (all_kept scope.For (field_sites p n kind.ForOfStmt (x ∷ v ∷ y ∷ z ∷ w ∷ [])) (
       keeps scope.For (S (P standing.Plain n) x) (span_left standing.Plain n x refl f),
       (
         keeps scope.For (S (P standing.Plain n) v) (flag_left standing.Plain n v refl j),
@@ -490,12 +511,12 @@ row kind.ForOfStmt (more {t = x} f _ (more {t = v} j _ (more {t = y} g _ (more {
           head_kept n y g,
           (
             keeps scope.For (S (P standing.Reference n) z) (expression_left n z i),
-            (keeps scope.For (S (P standing.Plain n) w) (l standing.Plain n a refl (stands_there w k) (in_loop a w m.1)), tt),
+            (keeps scope.For (S (P standing.Plain n) w) (l standing.Plain n s a refl (stands_there w k) (field kind.ForOfStmt (x ∷ v ∷ y ∷ z ∷ w ∷ []) s refl m 4 w refl) (in_loop s a w c.1)), tt),
           ),
         ),
       ),
     ))
-row kind.VarDecl (more {t = x} f _ (more {t = y} g _ (more {t = z} i _ none))) p n a q b h e =
+row kind.VarDecl (more {t = x} f _ (more {t = y} g _ (more {t = z} i _ none))) p n s a q b h e m =
     let var : by_keyword (x ∷ y ∷ z ∷ []) ≡ standing.Variable = span_rest x (by_keyword (y ∷ z ∷ [])) f ∙ var_said (out-Node y) (by_keyword (z ∷ [])) b in
     open_left kind.VarDecl (x ∷ y ∷ z ∷ []) p n refl (
       span_left standing.Plain n x refl f,
@@ -504,20 +525,20 @@ row kind.VarDecl (more {t = x} f _ (more {t = y} g _ (more {t = z} i _ none))) p
         (subst (λ q. Loose (S (P q n) z)) (sym var) (declared_left standing.Variable n (λ r. not (takes r scope.Block)) (λ e. absurd (cc)) variable_free z i), tt),
       ),
     )
-row kind.FnDecl (more _ _ (more {t = y} _ _ none)) p n a q b h e = absurd (no_function (is_plain_function (Some y)) b)
-row kind.ClassDecl d p n a q b h e = absurd (cc)
-row kind.UsingDecl d p n a q b h e = absurd (cc)
-row _ d p n a q b h e = absurd (cc)
+row kind.FnDecl (more _ _ (more {t = y} _ _ none)) p n s a q b h e m = absurd (no_function (is_plain_function (Some y)) b)
+row kind.ClassDecl d p n s a q b h e m = absurd (cc)
+row kind.UsingDecl d p n s a q b h e m = absurd (cc)
+row _ d p n s a q b h e m = absurd (cc)
 
 tree_leaves : (k : Kind) (ts : List Node) → Each Leaves ts → Leaves (Tree k ts)
-tree_leaves k ts l p n a q f h =
+tree_leaves k ts l p n s a q f m h =
     let o = opens k ts class.Stmt f in
-    let there : may_stand a (Tree k ts) ≡ true = ap (λ b. b || may_stand a (Tree k ts)) (sym (ap is_absent_in (outs-Tree k ts))) ∙ h in
-    let z = both (is_branch true (form (Tree k ts))) (sound (Tree k ts) (code a)) there in
-    row k (parts (slots_of k) ts l o.2) p n a q (ap (λ y. is_branch true (form_in y)) (sym (outs-Tree k ts)) ∙ z.0) (sym (sound_tree k ts (code a)) ∙ z.1) o.1
+    let there : may_stand s a (Tree k ts) ≡ true = ap (λ b. b || may_stand s a (Tree k ts)) (sym (ap is_absent_in (outs-Tree k ts))) ∙ h in
+    let z = both (is_branch true (form (Tree k ts))) (sound (Tree k ts) (code s a)) there in
+    row k (parts (slots_of k) ts l o.2) p n s a q (ap (λ y. is_branch true (form_in y)) (sym (outs-Tree k ts)) ∙ z.0) (sym (sound_tree k ts (code s a)) ∙ z.1) o.1 m
 
 leaf_leaves : (t : Node) → ((w : Place) → S w t ≡ joined []) → Leaves t
-leaf_leaves t e p n a q f h = ap (λ (x : Sites). loose x.pending) (e (P p n))
+leaf_leaves t e p n s a q f m h = ap (λ (x : Sites). loose x.pending) (e (P p n))
 
 leaves : (t : Node) → Leaves t
 leaves t = by_children Leaves (
@@ -526,9 +547,9 @@ leaves t = by_children Leaves (
   λ v. leaf_leaves (Word v) (λ w. out_step w (Word v) _ (outs-Word v)),
   λ x. leaf_leaves (Text x) (λ w. out_step w (Text x) _ (outs-Text x)),
   λ s. leaf_leaves (Span s) (λ w. out_step w (Span s) _ (outs-Span s)),
-  λ k i p n a q f h. name_left p n k i (spot_inert p q),
+  λ k i p n s a q f m h. name_left p n k i (spot_inert p q),
 )
-    (λ ts l p n a q f h. absurd (absent_list ts class.Stmt f))
+    (λ ts l p n s a q f m h. absurd (absent_list ts class.Stmt f))
     tree_leaves t
 
 -- a statement that ends in an `if` without `else` is no declaration
@@ -556,5 +577,5 @@ ending t = by_children (λ t. takes_else t ≡ true → is_branch true (form t) 
     (λ k ts b h. ap (λ y. is_branch true (form_in y)) (outs-Tree k ts) ∙ ending_kind k ts (map takes_else ts) (sym (takes_else_of_tree k ts) ∙ h)) t
 
 -- such a statement leaves nothing that a block takes
-pub ending_loose : (t : Node) (a : Bool) → Fits t (one class.Stmt) → sound t (code a) ≡ true → takes_else t ≡ true → is_loose t ≡ true
-ending_loose t a f h e = leaves t standing.Plain true a refl (stands_there t f) (maybe a t (also (ending t e) h))
+pub ending_loose : (t : Node) (s a : Bool) → Fits t (one class.Stmt) → (s ≡ false → Nested t) → sound t (code s a) ≡ true → takes_else t ≡ true → is_loose t ≡ true
+ending_loose t s a f m h e = leaves t standing.Plain true s a refl (stands_there t f) m (maybe s a t (also (ending t e) h))

@@ -134,19 +134,19 @@ or_right : (a b : Bool) → b ≡ true → (a || b) ≡ true
 or_right true b h = refl
 or_right false b h = h
 
-element_shaped : (t : Node) → element t (code false) ≡ true → shaped_in (out-Node t) ≡ true
+element_shaped : (t : Node) → element t (code true false) ≡ true → shaped_in (out-Node t) ≡ true
 element_shaped t h = tested (out-Node t) (or_right (is_absent_in (out-Node t)) _ (or_right (property_in (out-Node t)) _ h))
 
-pub element_binds : (t : Node) → element t (code false) ≡ true → binds false (out-Node t) ≡ true
+pub element_binds : (t : Node) → element t (code true false) ≡ true → binds false (out-Node t) ≡ true
 element_binds t h = shaped_binds (out-Node t) (element_shaped t h)
 
-pub pattern_binds : (t : Node) → pattern t (code false) ≡ true → binds false (out-Node t) ≡ true
+pub pattern_binds : (t : Node) → pattern t (code true false) ≡ true → binds false (out-Node t) ≡ true
 pattern_binds t h = element_binds t (or_right (default_in (out-Node t)) _ h)
 
-pub maybe_pattern_binds : (t : Node) → (is_absent t || pattern t (code false)) ≡ true → binds false (out-Node t) ≡ true
+pub maybe_pattern_binds : (t : Node) → (is_absent t || pattern t (code true false)) ≡ true → binds false (out-Node t) ≡ true
 maybe_pattern_binds t h = at (is_absent t) refl h
   where
-    at : (b : Bool) → is_absent t ≡ b → (b || pattern t (code false)) ≡ true → binds false (out-Node t) ≡ true
+    at : (b : Bool) → is_absent t ≡ b → (b || pattern t (code true false)) ≡ true → binds false (out-Node t) ≡ true
     at true e h = shaped_binds (out-Node t) (tested (out-Node t) (ap (λ b. b || (property_in (out-Node t) || (default_in (out-Node t) || (is_plain_pattern_in (out-Node t) || false)))) e))
     at false e h = pattern_binds t h
 
@@ -156,13 +156,13 @@ rest_shaped (Node-F.Tree k ts) h = no h
 rest_shaped y h = no h
 
 -- an element that is no parameter
-own_element : (t : Node) (y : Node-F Node) → out-Node t ≡ y → (is_absent_in y || (property_in y || element t (code false))) ≡ true → part_binds false y ≡ true
+own_element : (t : Node) (y : Node-F Node) → out-Node t ≡ y → (is_absent_in y || (property_in y || element t (code true false))) ≡ true → part_binds false y ≡ true
 own_element t y o h = shaped_part y (tested y (ap (λ z. is_absent_in y || (property_in y || (default_in z || (is_plain_pattern_in z || false)))) (sym o) ∙ h))
 
 own_rest : (t : Node) (y : Node-F Node) → out-Node t ≡ y → has_kind is_rest t ≡ true → part_binds false y ≡ true
 own_rest t y o h = shaped_part y (rest_shaped y (ap (has_kind_in is_rest) (sym o) ∙ h))
 
-item_in : (t : Node) (y : Node-F Node) → out-Node t ≡ y → (is_absent_in y || (property_in y || element (pattern_of_param_in t y) (code false))) ≡ true → part_binds false y ≡ true
+item_in : (t : Node) (y : Node-F Node) → out-Node t ≡ y → (is_absent_in y || (property_in y || element (pattern_of_param_in t y) (code true false))) ≡ true → part_binds false y ≡ true
 item_in t (Node-F.Tree kind.Param (a ∷ p ∷ [])) o h = element_shaped p h
 item_in t (Node-F.Tree kind.Param []) o h = own_element t (Node-F.Tree kind.Param []) o h
 item_in t (Node-F.Tree kind.Param (a ∷ [])) o h = own_element t (Node-F.Tree kind.Param (a ∷ [])) o h
@@ -178,26 +178,26 @@ rest_in t (Node-F.Tree kind.Param (a ∷ b ∷ c ∷ ts)) o h = own_rest t (Node
 rest_in t (Node-F.Tree k ts) o h = own_rest t (Node-F.Tree k ts) o h
 rest_in t y o h = own_rest t y o h
 
-item_binds : (t : Node) → is_element (code false) t ≡ true → part_binds false (out-Node t) ≡ true
+item_binds : (t : Node) → is_element (code true false) t ≡ true → part_binds false (out-Node t) ≡ true
 item_binds t h = item_in t (out-Node t) refl h
 
-last_binds : (t : Node) (b : Bool) → has_kind is_rest (pattern_of t) ≡ b → (b || is_element (code false) t) ≡ true → part_binds false (out-Node t) ≡ true
+last_binds : (t : Node) (b : Bool) → has_kind is_rest (pattern_of t) ≡ b → (b || is_element (code true false) t) ≡ true → part_binds false (out-Node t) ≡ true
 last_binds t true e h = rest_in t (out-Node t) refl e
 last_binds t false e h = item_binds t h
 
-elements_bind : (ts : List Node) → elements (code false) ts ≡ true → list_all (λ t. part_binds false (out-Node t)) ts ≡ true
-elements_bind [] h = refl
-elements_bind (t ∷ []) h = also (last_binds t _ refl h) refl
-elements_bind (t ∷ u ∷ ts) h = let z = both (is_element (code false) t) (elements (code false) (u ∷ ts)) h in also (item_binds t z.0) (elements_bind (u ∷ ts) z.1)
+elements_bind : (s : Bool) (ts : List Node) → elements (code s false) ts ≡ true → list_all (λ t. part_binds false (out-Node t)) ts ≡ true
+elements_bind s [] h = refl
+elements_bind s (t ∷ []) h = also (last_binds t _ refl h) refl
+elements_bind s (t ∷ u ∷ ts) h = let z = both (is_element (code s false) t) (elements (code s false) (u ∷ ts)) h in also (item_binds t z.0) (elements_bind s (u ∷ ts) z.1)
 
-many_bind : (ts : List Node) → elements (code false) (items_of (Many ts)) ≡ true → binds false (out-Node (Many ts)) ≡ true
-many_bind ts h = ap (binds false) (outs-List ts) ∙ elements_bind ts (ap (λ y. elements (code false) (items_in y)) (sym (outs-List ts)) ∙ h)
+many_bind : (s : Bool) (ts : List Node) → elements (code s false) (items_of (Many ts)) ≡ true → binds false (out-Node (Many ts)) ≡ true
+many_bind s ts h = ap (binds false) (outs-List ts) ∙ elements_bind s ts (ap (λ y. elements (code s false) (items_in y)) (sym (outs-List ts)) ∙ h)
 
-pub list_binds : (d : Node) (c : Content) → Fits d (slot.List c) → elements (code false) (items_of d) ≡ true → binds false (out-Node d) ≡ true
-list_binds d c f h = only_list (slot.List c) (λ d. elements (code false) (items_of d) ≡ true → binds false (out-Node d) ≡ true) refl refl (λ ts f. many_bind ts) d f h
+pub list_binds : (s : Bool) (d : Node) (c : Content) → Fits d (slot.List c) → elements (code s false) (items_of d) ≡ true → binds false (out-Node d) ≡ true
+list_binds s d c f h = only_list (slot.List c) (λ d. elements (code s false) (items_of d) ≡ true → binds false (out-Node d) ≡ true) refl refl (λ ts f. many_bind s ts) d f h
 
-pub holes_bind : (d : Node) (c : Content) → Fits d (slot.Holes c) → elements (code false) (items_of d) ≡ true → binds false (out-Node d) ≡ true
-holes_bind d c f h = only_list (slot.Holes c) (λ d. elements (code false) (items_of d) ≡ true → binds false (out-Node d) ≡ true) refl refl (λ ts f. many_bind ts) d f h
+pub holes_bind : (s : Bool) (d : Node) (c : Content) → Fits d (slot.Holes c) → elements (code s false) (items_of d) ≡ true → binds false (out-Node d) ≡ true
+holes_bind s d c f h = only_list (slot.Holes c) (λ d. elements (code s false) (items_of d) ≡ true → binds false (out-Node d) ≡ true) refl refl (λ ts f. many_bind s ts) d f h
 
 -- ---- declarators, and the name that a property binds
 

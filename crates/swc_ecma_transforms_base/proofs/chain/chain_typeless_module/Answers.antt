@@ -1,7 +1,8 @@
-use Rattle.std.proofs.Common.{ap, rules}
+use Rattle.std.proofs.Common.{ap, refl, rules}
 use Rattle.swc_tree_modules.specs.Nodes.{module_node}
+use Rattle.swc_base_rename_ids_laws.proofs.Programs.{module_place}
 use Rattle.swc_ecma_transforms_base.proofs.Chaining.{answered, chained, fresh_first, marked, moved_once, moved_partly, no_target_first, no_target_later, refused_first, refused_later, source_kept, stays}
-use Rattle.swc_ecma_transforms_base.proofs.Finishing.{where_refused}
+use Rattle.swc_ecma_transforms_base.proofs.Finishing.{module_plain, where_refused}
 use Rattle.swc_ecma_transforms_base.proofs.chain.chain_typeless_module.Goals as goal
 
 -- src/chain.rt
@@ -24,7 +25,7 @@ returns-in_err-finish_module_with-clause-no_target g c =
     let m = marked c.args.unresolved c.args.top c.resolver-resolver.result c.visit_mut_module.new.self c.args.globals.now c.visit_mut_module.new.globals (module_node c.replace-module.result) (module_node c.args.program.now)
     (module_node c.visit_mut_module.new.program) c.resolver-resolver.ensures (ap module_node c.replace-module.ensures.value) c.types_are_told.ensures c.requires.no_types c.in_ok-visit_mut_module.ensures.done.made in
     no_target_later c.args.unresolved c.args.top c.args.config c.args.globals.now (module_node c.args.program.now) c.visit_mut_module.new.globals (module_node c.visit_mut_module.new.program) m
-    c.from_residual-in_err-finish_module_with.result c.chaining_keeps_sources.ensures (search rules) c.module_fits.ensures
+    c.from_residual-in_err-finish_module_with.result c.chaining_keeps_forms.ensures (search rules) module_place refl c.module_fits.ensures
 
 pub returns-clause-promises : goal.returns-clause-promises
 returns-clause-promises g c =
@@ -32,7 +33,7 @@ returns-clause-promises g c =
     (module_node c.visit_mut_module.new.program) c.resolver-resolver.ensures (ap module_node c.replace-module.ensures.value) c.types_are_told.ensures c.requires.no_types c.in_ok-visit_mut_module.ensures.done.made in
     rw c.finish_module_with.ensures.marks
     (source_kept c.args.unresolved c.args.top c.args.config c.args.globals.now (module_node c.args.program.now) c.visit_mut_module.new.globals (module_node c.visit_mut_module.new.program) m
-    c.chaining_keeps_sources.ensures (module_node c.finish_module_with.new.program) c.in_ok-finish_module_with.ensures.done c.module_fits.ensures)
+    c.chaining_keeps_sources.ensures module_place refl (module_node c.finish_module_with.new.program) c.in_ok-finish_module_with.ensures.done c.module_fits.ensures (module_plain (module_node c.args.program.now) c.module_fits.ensures))
 
 pub returns-clause-answer : goal.returns-clause-answer
 returns-clause-answer g c =

@@ -1,6 +1,7 @@
-use Rattle.std.proofs.Common.{ap, rules}
+use Rattle.std.proofs.Common.{ap, refl, rules}
 use Rattle.swc_tree_modules.specs.Nodes.{script_node}
-use Rattle.swc_ecma_transforms_base.proofs.Chaining.{chained, fresh_first, marked, moved_once, moved_partly, refused_first, refused_later}
+use Rattle.swc_tree_sites_scripts.specs.Laws.{script_place}
+use Rattle.swc_ecma_transforms_base.proofs.Chaining.{chained, form_kept, fresh_first, marked, moved_once, moved_partly, no_target_first, no_target_later, refused_first, refused_later, source_kept}
 use Rattle.swc_ecma_transforms_base.proofs.Finishing.{where_refused}
 use Rattle.swc_ecma_transforms_base.proofs.chain.chain_typeless_script.Goals as goal
 
@@ -45,3 +46,30 @@ pub returns-in_err-visit_mut_script-clause-marks : goal.returns-in_err-visit_mut
 returns-in_err-visit_mut_script-clause-marks g c =
     fresh_first c.args.unresolved c.args.top c.args.config c.resolver-resolver.result c.visit_mut_script.new.self c.args.globals.now c.visit_mut_script.new.globals (script_node c.replace-script.result) (script_node c.args.program.now)
     c.resolver-resolver.ensures (ap script_node c.replace-script.ensures.value) _ c.in_err-visit_mut_script.ensures.cause
+
+pub returns-clause-form : goal.returns-clause-form
+returns-clause-form g c =
+    let m = marked c.args.unresolved c.args.top c.resolver-resolver.result c.visit_mut_script.new.self c.args.globals.now c.visit_mut_script.new.globals (script_node c.replace-script.result) (script_node c.args.program.now)
+    (script_node c.visit_mut_script.new.program) c.resolver-resolver.ensures (ap script_node c.replace-script.ensures.value) c.types_are_told.ensures c.requires.no_types c.in_ok-visit_mut_script.ensures.done.made in
+    form_kept c.args.unresolved c.args.top c.args.config c.args.globals.now (script_node c.args.program.now) c.visit_mut_script.new.globals (script_node c.visit_mut_script.new.program) m
+    c.chaining_keeps_forms.ensures script_place refl (script_node c.finish_script_with.new.program) c.in_ok-finish_script_with.ensures.done c.script_fits.ensures
+
+pub returns-clause-promises : goal.returns-clause-promises
+returns-clause-promises g c =
+    let m = marked c.args.unresolved c.args.top c.resolver-resolver.result c.visit_mut_script.new.self c.args.globals.now c.visit_mut_script.new.globals (script_node c.replace-script.result) (script_node c.args.program.now)
+    (script_node c.visit_mut_script.new.program) c.resolver-resolver.ensures (ap script_node c.replace-script.ensures.value) c.types_are_told.ensures c.requires.no_types c.in_ok-visit_mut_script.ensures.done.made in
+    rw c.finish_script_with.ensures.marks
+    (λ source plain ok. source_kept c.args.unresolved c.args.top c.args.config c.args.globals.now (script_node c.args.program.now) c.visit_mut_script.new.globals (script_node c.visit_mut_script.new.program) m
+    c.chaining_keeps_sources.ensures script_place refl (script_node c.finish_script_with.new.program) c.in_ok-finish_script_with.ensures.done c.script_fits.ensures (λ s. plain) source ok)
+
+pub returns-in_err-finish_script_with-clause-no_target : goal.returns-in_err-finish_script_with-clause-no_target
+returns-in_err-finish_script_with-clause-no_target g c =
+    let m = marked c.args.unresolved c.args.top c.resolver-resolver.result c.visit_mut_script.new.self c.args.globals.now c.visit_mut_script.new.globals (script_node c.replace-script.result) (script_node c.args.program.now)
+    (script_node c.visit_mut_script.new.program) c.resolver-resolver.ensures (ap script_node c.replace-script.ensures.value) c.types_are_told.ensures c.requires.no_types c.in_ok-visit_mut_script.ensures.done.made in
+    no_target_later c.args.unresolved c.args.top c.args.config c.args.globals.now (script_node c.args.program.now) c.visit_mut_script.new.globals (script_node c.visit_mut_script.new.program) m
+    c.from_residual-in_err-finish_script_with.result c.chaining_keeps_forms.ensures (search rules) script_place refl c.script_fits.ensures
+
+pub returns-in_err-visit_mut_script-clause-no_target : goal.returns-in_err-visit_mut_script-clause-no_target
+returns-in_err-visit_mut_script-clause-no_target g c =
+    λ source ok. no_target_first c.args.unresolved c.args.top c.args.config c.resolver-resolver.result c.visit_mut_script.new.self c.args.globals.now c.visit_mut_script.new.globals (script_node c.replace-script.result) (script_node c.args.program.now)
+    c.resolver-resolver.ensures (ap script_node c.replace-script.ensures.value) c.from_residual.result (search rules)

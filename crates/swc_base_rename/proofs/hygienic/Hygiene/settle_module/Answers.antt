@@ -17,7 +17,7 @@ returns-clause-done c =
     (subst (λ u. IsHygienic c.args.globals.now c.args.self.now.config c.in_ok-node.node u) (sym c.from_node.ensures) c.in_ok-answer.ensures.hygienic) in
     record {
       hygienic = hygienic;
-      spans = λ plain writable. c.hygiene_keeps_spans.ensures c.args.globals.now c.args.self.now.config t (module_node c.from_node.result) plain fits writable hygienic;
+      spans = λ plain writable. c.hygiene_keeps_spans.ensures c.args.globals.now c.args.self.now.config (slot.One (content.Node class.Module)) t (module_node c.from_node.result) refl plain fits writable hygienic;
       same = refl;
       marks = refl;
     }

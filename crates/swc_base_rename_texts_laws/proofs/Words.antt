@@ -1,4 +1,4 @@
--- A new text is `eval` or `arguments` only where it is the old one.
+-- A new text is a word without digits only where it is the old one.
 use Rattle.std.proofs.Common.{◌≡◌, ℕ, zero, suc, ◌/◌, ◌%◌, Bool, true, false, ◌||◌, ◌==◌, Option, Some, None, List, [], ◌∷◌, ◌++◌, decimal, refl, sym, ap, ◌∙◌, arith}
 use Rattle.std.specs.Prelude.{if◌then◌else◌, unwrap_or}
 use Rattle.std.specs.Fmt.{digits, digits_onto, digit_glyph}

@@ -1,0 +1,6 @@
+use Rattle.swc_ecma_transforms_base_laws.proofs.finishing_keeps_forms.Goals as goal
+use Rattle.swc_ecma_transforms_base_laws.proofs.Promised.{keeps_forms}
+
+-- src/lib.rt
+pub returns : goal.returns
+returns c = keeps_forms c.finishing_keeps_programs.ensures c.finishing_keeps_spans.ensures

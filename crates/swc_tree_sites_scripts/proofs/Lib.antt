@@ -1,0 +1,13 @@
+pub mod Bridge
+pub mod Labels
+pub mod KeepsPlaces
+pub mod Sloppy
+pub mod Scripts
+pub mod KeepsCode
+pub mod KeepsStripped
+pub mod KeepsPairs
+pub mod KeepsNested
+pub mod KeepsBlocks
+pub mod KeepsWritten
+pub mod Keeps
+pub mod Left
