@@ -29,12 +29,13 @@ import injection_laws
 import kept_laws
 import naming_laws
 import scoping_laws
+import script_laws
 import settled_laws
 import sites_laws
 import substitution_laws
 import units_laws
 
-MODULES = (grammar_laws, headline_laws, injection_laws, kept_laws, naming_laws, scoping_laws, settled_laws, sites_laws, substitution_laws, units_laws)
+MODULES = (grammar_laws, headline_laws, injection_laws, kept_laws, naming_laws, scoping_laws, script_laws, settled_laws, sites_laws, substitution_laws, units_laws)
 # texts that every law tries first, as modules and as scripts
 WRITTEN = [
     '#x, y;', '`${#x}`;', 'export var a#1, a#2;', 'export var { a, b: a };', 'let?.[x];', 'let[x];', '((let[x])) = 1;', '(a?.b).c; a?.b.c;',
@@ -43,7 +44,7 @@ WRITTEN = [
     'export { a as b } from "m"; var a, b;', '({ set a(...b) {} });', 'a: for (;;) continue a; export { c as a }; var c;',
     'var __proto__, a; ({ __proto__, a });', 'try {} catch (a) { var a; }', '{ function f() {} } f;', 'switch (a) { case 0: let a; }',
     'function f(a, b = a) { var a; }', 'function f(a = b) { var b; }', 'switch (b) { case 0: let b; }', 'class a extends a {} (class b extends b {});',
-    '{ let a; { function a() {} } } a;', 'if (a) function b() {} b;', 'try {} catch ({ a = b }) { let b; }', 'let a; if (a) { let a; }', 'let a#2; if (a#2) { let a#3; }']
+    '{ let a; { function a() {} } } a;', 'if (a) function b() {} b;', 'try {} catch ({ a = b }) { let b; }', 'let a; if (a) { let a; }', 'let a#2; if (a#2) { let a#3; }', 'if (a) if (b) l: function f() {}']
 FEWEST, BIGGEST = 2, 40
 
 

@@ -1,7 +1,5 @@
 // The command chain_scopes: files through `jsbase chain` and back, and the scopes of the answer held against the source's.
-import { readdirSync, statSync } from 'node:fs';
-import { join } from 'node:path';
-import { read } from './command.mjs';
+import { filesBelow, read } from './command.mjs';
 import { giveFewTexts, renamedBetween } from './few_texts.mjs';
 import { pass, programAt } from './jsbase.mjs';
 import { parseAs } from './parser.mjs';
@@ -26,19 +24,6 @@ Files with a direct eval or \`with\` are left out.
 `;
 
 const COLUMNS = ['same scopes', 'other', 'refused', 'left out', 'not parsed', 'identifiers', 'of other text', 'renamed by hygiene'];
-const SUFFIX = /\.[mc]?js$/;
-
-function filesOf(path) {
-  if (!statSync(path).isDirectory()) {
-    return [path];
-  }
-  const entries = readdirSync(path, { withFileTypes: true }).sort((one, other) => (one.name < other.name ? -1 : 1));
-  return entries.flatMap((entry) => {
-    const below = join(path, entry.name);
-    const isFile = SUFFIX.test(entry.name) && statSync(below, { throwIfNoEntry: false })?.isFile();
-    return entry.isDirectory() ? filesOf(below) : isFile ? [below] : [];
-  });
-}
 
 /** Whether names may be read as texts there. */
 function isDynamic(tree) {
@@ -91,7 +76,7 @@ function tried(way, file, few) {
 }
 
 function row(way, path, few) {
-  const files = filesOf(path);
+  const files = filesBelow(path);
   const counts = { identifiers: 0, 'of other text': 0, 'renamed by hygiene': 0 };
   for (const file of files) {
     const { how, why, identifiers, differ, anew } = tried(way, file, few);

@@ -1,5 +1,6 @@
 // What the commands share: arguments, input and how they end.
-import { readFileSync } from 'node:fs';
+import { readFileSync, readdirSync, statSync } from 'node:fs';
+import { join } from 'node:path';
 import { parseArgs } from 'node:util';
 import { Missing, Usage, problemOf } from './problems.mjs';
 
@@ -14,6 +15,21 @@ export function kindOf({ module, script }) {
     return 'module';
   }
   return script ? 'script' : null;
+}
+
+const SUFFIX = /\.[mc]?js$/;
+
+/** A file, or the files of JavaScript below a folder. */
+export function filesBelow(path) {
+  if (!statSync(path, { throwIfNoEntry: false })?.isDirectory()) {
+    return [path];
+  }
+  const entries = readdirSync(path, { withFileTypes: true }).sort((one, other) => (one.name < other.name ? -1 : 1));
+  return entries.flatMap((entry) => {
+    const below = join(path, entry.name);
+    const isFile = SUFFIX.test(entry.name) && statSync(below, { throwIfNoEntry: false })?.isFile();
+    return entry.isDirectory() ? filesBelow(below) : isFile ? [below] : [];
+  });
 }
 
 function parsed(argv, options) {

@@ -38,7 +38,8 @@ export class LeftOut extends Problem {
   }
 }
 
-function lineAndColumn(source, position) {
+/** Where an offset of a text is: line and column, both from 1. */
+export function lineAndColumn(source, position) {
   const lines = source.slice(0, position).split(/\r\n|[\n\r\u2028\u2029]/);
   return `${lines.length}:${lines.at(-1).length + 1}`;
 }
