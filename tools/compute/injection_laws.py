@@ -43,8 +43,8 @@ def module_of_helpers(random, size):
     return t and with_helpers(random, t, [js.codes('_a'), js.codes('_b'), js.codes('_c')])
 
 
-def is_injectable(helper, free, offered, t):
-    """what `IsInjectable` says of a module, where `offered` are texts"""
+def is_injectable(helper, free, offered, t, is_of_goal=None):
+    """what `IsInjectable` says of a module, or of a program of which `is_of_goal` holds, where `offered` are texts"""
     program, ids = scoping.Program(D.all, t), scoping.by_ids(D.all, t)
     for p, standing, text in scoping.Stands(program):
         context = program.identifier(p).ctxt
@@ -55,7 +55,7 @@ def is_injectable(helper, free, offered, t):
                 return False
         elif scoping.IsDeclared(ids, ids.name(p)) == (context == (free,)):
             return False
-    return is_module(t) and fits_place(t) and scoping.WellScoped(D.all, t)
+    return (is_of_goal or is_module)(t) and fits_place(t) and scoping.WellScoped(D.all, t)
 
 
 def faults_or_true(answer):

@@ -106,11 +106,8 @@ def bare_normal_form_is_left(t):
     return Bad(fault, normal_form(t)) if fault else True
 
 
-@law(any_module)
-def tame_written_out_is_left(t):
-    """a tame module, written out, is left of it and loses no name and no scope, and its program takes what it took"""
-    if not is_fitting_module(t) or not is_tame(t):
-        return None
+def written_fault(t):
+    """what a program that is written out lacks of its names and scopes, or has beyond what is left of it"""
     answer = written_out(t)
     fault = left_fault(answer, t)
     if fault:
@@ -120,7 +117,13 @@ def tame_written_out_is_left(t):
     after, before = sites(answer), sites(t)
     if not set(before.sites) <= set(after.sites):
         return Bad('lost names in', answer)
-    return after.sets == before.sets or Bad('lost scopes in', answer)
+    return None if after.sets == before.sets else Bad('lost scopes in', answer)
+
+
+@law(any_module)
+def tame_written_out_is_left(t):
+    """a tame module, written out, is left of it and loses no name and no scope, and its program takes what it took"""
+    return (written_fault(t) or True) if is_fitting_module(t) and is_tame(t) else None
 
 
 @law(any_module)

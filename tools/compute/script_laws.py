@@ -8,7 +8,7 @@ import units
 from grammar_laws import is_same
 from headline_laws import meanings_fault, names_at
 from lawbook import Bad, D, fits_grammar, fits_place, fixed, is_writable, law, normal_form
-from kept_laws import is_tame, keeps_scopes, left_fault, neighbours, redeclares_none, taken_by_program, unpaired, written_out
+from kept_laws import is_tame, keeps_scopes, left_fault, neighbours, redeclares_none, taken_by_program, unpaired, written_fault
 from naming_laws import names_apart_faults
 from naming import hygiene
 import naming
@@ -381,14 +381,7 @@ def tame_script_written_out_is_left(t):
     """a tame script without such functions, written out, is left of it, and loses no name and no scope"""
     if not plain_script(t) or not is_tame(t):
         return None
-    answer = written_out(t)
-    fault = left_fault(answer, t)
-    if fault:
-        return Bad(fault, answer)
-    if taken_by_program(answer) != taken_by_program(t):
-        return Bad('the program takes others in', answer)
-    after, before = sites(answer), sites(t)
-    return set(before.sites) <= set(after.sites) and after.sets == before.sets or Bad('lost names or scopes in', answer)
+    return written_fault(t) or True
 
 
 def as_module(t):
@@ -471,17 +464,7 @@ def script_of_helpers(random, size):
 
 
 def is_injectable_script(helper, free, offered, t):
-    program, ids = scoping.Program(D.all, t), scoping.by_ids(D.all, t)
-    for p, standing, text in scoping.Stands(program):
-        context = program.identifier(p).ctxt
-        if not program.S.is_name(standing):
-            continue
-        if context == (helper,):
-            if not program.S.is_reference(standing) or text not in offered:
-                return False
-        elif scoping.IsDeclared(ids, ids.name(p)) == (context == (free,)):
-            return False
-    return is_script(t) and fits_place(t) and scoping.WellScoped(D.all, t)
+    return injection_laws.is_injectable(helper, free, offered, t, is_script)
 
 
 @law(script_of_helpers)
