@@ -376,6 +376,31 @@ def normal_form_of_plain_script_is_plain(t):
     return True
 
 
+def is_settled(t):
+    return D.all.swc_tree_sites_scripts.Settled.is_settled(D.scoping.Places.program_place, t)
+
+
+@law(any_script)
+def settled_by_place_is_settled(t):
+    """a script that is settled by place has neither a plain function in a block of sloppy code nor a label of a function, and of one that
+    can be written down the other way round"""
+    if not is_script(t) or not fits_place(t):
+        return None
+    neither = has_no_sloppy(t) and labels_no_function(t)
+    return is_settled(t) == neither or (not is_settled(t) and not is_writable(t)) or Bad('settled by place:', str(is_settled(t)))
+
+
+@law(any_script)
+def settled_scripts_stay_settled(t):
+    """a script that can be written down and is settled by place is so stripped, in its normal form, with its due pairs and fixed"""
+    if not is_script(t) or not fits_place(t) or not is_writable(t) or not is_settled(t):
+        return None
+    for answer in (unpaired(t), normal_form(t), D.grammar.Due.with_due_pairs(lambda span: span, t), fixed(t)):
+        if not is_settled(answer):
+            return Bad('not settled:', answer)
+    return True
+
+
 @law(any_script)
 def tame_script_written_out_is_left(t):
     """a tame script without such functions, written out, is left of it, and loses no name and no scope"""
