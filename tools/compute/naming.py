@@ -24,7 +24,7 @@ SOURCES = {
     'IsFirstFrom': 'e1a42cf44b28',
     'IsFreeText': '86504a02fa5b',
     'IsFromStart': 'b0fdf73a261f',
-    'IsLeast': '30d69219570a',
+    'IsLeast': 'd77722fdf7fd',
     'IsLoose': '96871fd9378a',
     'IsNamedAt': '1453d9457984',
     'IsOwnName': 'cc4e04f1099b',
@@ -208,7 +208,7 @@ class Naming:
         for a, x in self.sites:
             n = taken[x]
             clauses = {
-                'from_start': self.IsFromStart(taken, a, n), 'free': self.IsFreeText(taken, a, self.r.text(x, n)),
+                'within': n < 2 ** 64, 'from_start': self.IsFromStart(taken, a, n), 'free': self.IsFreeText(taken, a, self.r.text(x, n)),
                 'least': not any(self.IsFromStart(taken, a, m) and self.IsFreeText(taken, a, self.r.text(x, m)) for m in range(n)),
                 'text': new_texts.get(x) == self.r.text(x, n)}
             found += [(name, x) for name, holds in clauses.items() if not holds]

@@ -51,7 +51,8 @@ own_kind w kind.ClassExpr has_name = Some Fn
 own_kind w kind.FnDecl has_name = None
 own_kind w k has_name = option_and_then kind_of (opened_as w k has_name)
 
--- the body of a `for` statement is a block, whatever stands there
+-- the body of a `for` statement is a block, unless it opens a scope itself: in `for (;;) namespace a {}` that of the namespace
+-- takes the block's place
 abbrev pub body_kind : Bool → Option ScopeKind → Option ScopeKind
 body_kind true None = Some Block
 body_kind for_body s = s

@@ -1,5 +1,5 @@
 -- Which ids get new names, and which names.
-use Rattle.std.specs.Prelude.{◌≡◌, ◌≢◌, ◌<◌, ℕ, Bool, not, ◌||◌, IsTrue, Option, Some, List, codes}
+use Rattle.std.specs.Prelude.{◌≡◌, ◌≢◌, ◌<◌, ◌^◌, ℕ, Bool, not, ◌||◌, IsTrue, Option, Some, List, codes}
 use Rattle.swc_tree_node.specs.declared.node.Node.{Node}
 use Rattle.swc_tree_scoping.specs.Places.{Path}
 use Rattle.swc_tree_scoping.specs.BoundNames.{Id}
@@ -50,8 +50,9 @@ pub record IsFreeText (t : Node) (r : Renaming) (preserved : List ℕ → Type 0
 abbrev pub IsFromStart : Node → Renaming → (Id → ℕ) → Site → ℕ → Type 0
 IsFromStart t r taken a n = IsTrue (counts_on r) → (b : Site) (y : Id) → IsEarlier t r a b y → b.0 ≡ a.0 → taken y < n
 
--- the least counter from the start whose text is free
+-- the least counter from the start whose text is free; a counter is a `usize`
 pub record IsLeast (t : Node) (r : Renaming) (preserved : List ℕ → Type 0) (counts : Counting) (taken : Id → ℕ) (a : Site) (x : Id) : Type 0 where
+  pub within : taken x < 2 ^ 64
   pub from_start : IsFromStart t r taken a (taken x)
   pub free : IsFreeText t r preserved counts taken a (r.text x (taken x))
   pub least : (n : ℕ) → n < taken x → IsFromStart t r taken a n → ¬ IsFreeText t r preserved counts taken a (r.text x n)

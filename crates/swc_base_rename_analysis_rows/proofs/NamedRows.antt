@@ -1,6 +1,6 @@
 -- Which ids get names, and which: each clause met by one tree and not by another.
 use Rattle.std.specs.Str.{bytes_eq}
-use Rattle.std.proofs.Common.{◌≡◌, ℕ, zero, suc, ◌+◌, ◌<◌, Bool, true, false, ◌&&◌, ◌||◌, ◌⊎◌, inl, inr, Option, Some, None, List, [], ◌∷◌, ◌++◌, codes, refl, sym, ap, ◌∙◌, subst, arith}
+use Rattle.std.proofs.Common.{◌≡◌, ℕ, zero, suc, ◌+◌, ◌<◌, ◌^◌, Bool, true, false, ◌&&◌, ◌||◌, ◌⊎◌, inl, inr, Option, Some, None, List, [], ◌∷◌, ◌++◌, codes, refl, sym, ap, ◌∙◌, subst, arith}
 use Rattle.std.specs.Prelude.{if◌then◌else◌}
 use Rattle.std.specs.declared.cmp.Ordering.TheVariants.{Less, Equal, Greater}
 use Rattle.swc_tree_node.specs.declared.kind.Word.TheVariants as word
@@ -182,19 +182,23 @@ with_reset_all_are on = absurd (cc)
 -- least counters
 pub first_takes_zero : IsLeast (draw twice) hygiene preserved all_count counters first (id_of a1)
 first_takes_zero = record {
+  within = omega arith;
   from_start = λ on. absurd (cc);
   free = record { not_preserved = none_preserved (codes "a"); not_held = λ b y e c o s. none_earlier b y e };
   least = λ n l. absurd (omega arith);
 }
 
 pub second_takes_one : IsLeast (draw twice) hygiene preserved all_count counters second (id_of a2)
-second_takes_one = record { from_start = λ on. absurd (cc); free = other_text_is_free; least = λ n l s f. held_text_is_not_free (subst (λ n. IsFreeText (draw twice) hygiene preserved all_count counters second (numbered_text (id_of a2) n)) (only_zero n l) f) }
+second_takes_one = record { within = omega arith; from_start = λ on. absurd (cc); free = other_text_is_free; least = λ n l s f. held_text_is_not_free (subst (λ n. IsFreeText (draw twice) hygiene preserved all_count counters second (numbered_text (id_of a2) n)) (only_zero n l) f) }
   where
     only_zero : (n : ℕ) → n < 1 → n ≡ 0
     only_zero n l = omega arith
 
 pub two_is_not_least : ¬ IsLeast (draw twice) hygiene preserved all_count (λ x. if same x (id_of a2) then 2 else 0) second (id_of a2)
 two_is_not_least h = h.least 1 (omega arith) (λ on. absurd (cc)) (record { not_preserved = none_preserved (codes "a1"); not_held = λ b y e c o s. texts_apart (codes "a") (codes "a1") refl refl (sym (ap (λ y. numbered_text y (if same y (id_of a2) then 2 else 0)) (earlier_is_first b y e).1) ∙ s) })
+
+pub counter_past_usize_is_not_least : (m : ℕ) → ¬ IsLeast (draw twice) hygiene preserved all_count (λ x. 2 ^ 64 + m) first (id_of a1)
+counter_past_usize_is_not_least m h = let within : 2 ^ 64 + m < 2 ^ 64 = h.within in absurd (omega (arith, within))
 
 -- the map
 pub is_named : Named (draw twice) hygiene preserved all_count one_for_each

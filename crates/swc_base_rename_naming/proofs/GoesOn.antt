@@ -71,7 +71,7 @@ module _ (text : Id → ℕ → List ℕ) (preserved : List ℕ → Bool) (occur
       let from = f.least.from in
       record {
         counter = f.counter;
-        least = record { from = omega (arith, from); free = f.least.free; least = earlier maps tried s x start f.counter h f.least.least };
+        least = record { from = omega (arith, from); below = f.least.below; free = f.least.free; least = earlier maps tried s x start f.counter h f.least.least };
         is_found = f.is_found;
         past = f.past;
       }

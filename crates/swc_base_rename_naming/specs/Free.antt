@@ -17,9 +17,10 @@ Test = List ℕ → Bool
 abbrev pub AllTaken : Texts → Test → ℕ → ℕ → Type 0
 AllTaken text taken start end = (k : ℕ) → start ≤ k → k < end → taken (text k) ≡ true
 
--- the counter is the least from the start on whose text is free
+-- the counter is the least from the start on whose text is free, and below the greatest
 pub record IsLeastFree (text : Texts) (taken : Test) (start counter : ℕ) : Type 0 where
   pub from : start ≤ counter
+  pub below : counter < greatest
   pub free : taken (text counter) ≡ false
   pub least : AllTaken text taken start counter
 

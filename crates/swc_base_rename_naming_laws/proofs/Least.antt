@@ -139,6 +139,7 @@ module _ (t : Node) (r : Renaming) (a : Analysis) (scopes places : List Path) (m
     -- the least
     pub least_at : (m : ℕ) → IsChosen n choices (numbers_of t a scopes places means one, m) → taken x ≡ m → IsLeast t r preserved counts taken b x
     least_at m h took = record {
+      within = (let below = h.below in omega (arith, below, took));
       from_start = start_from (taken x) (let from = h.from in omega (arith, from, took));
       free = subst (IsFreeText t r preserved counts taken b) (fits.text one.id x m here.is.id ∙ ap (r.text x) (sym took)) (free_to (n.text one.id m) h.free);
       least = λ k less from free. true_is_false (sym (h.least k (start_to k from) (omega (arith, less, took))) ∙ free_from (n.text one.id k) (subst (IsFreeText t r preserved counts taken b) (sym (fits.text one.id x k here.is.id)) free));

@@ -12,6 +12,7 @@ free_alike h t r counts taken a text f = record { not_preserved = λ q. f.not_pr
 module _ {P Q : List ℕ → Type 0} (same : (text : List ℕ) → P text ↔ Q text) (t : Node) (r : Renaming) where
   least_alike : (counts : Counting) (taken : Id → ℕ) (a : Site) (x : Id) → IsLeast t r P counts taken a x → IsLeast t r Q counts taken a x
   least_alike counts taken a x l = record {
+    within = l.within;
     from_start = l.from_start;
     free = free_alike (λ text. (same text).1) t r counts taken a (r.text x (taken x)) l.free;
     least = λ n below from free. l.least n below from (free_alike (λ text. (same text).0) t r counts taken a (r.text x n) free);

@@ -104,10 +104,10 @@ module _ (t : Node) (outside : CountsOutside t) (r : Renaming) (preserved : List
   from_outer taken a text f = record { not_preserved = f.not_preserved; not_held = λ b y e c o. f.not_held b y e (outside a b y e.named.declared o e.before) o }
 
   least_outer : (taken : Id → ℕ) (a : Site) (x : Id) → IsLeast t r preserved all_count taken a x → IsLeast t r preserved (outer_count t) taken a x
-  least_outer taken a x l = record { from_start = l.from_start; free = to_outer taken a (r.text x (taken x)) l.free; least = λ n less start free. l.least n less start (from_outer taken a (r.text x n) free) }
+  least_outer taken a x l = record { within = l.within; from_start = l.from_start; free = to_outer taken a (r.text x (taken x)) l.free; least = λ n less start free. l.least n less start (from_outer taken a (r.text x n) free) }
 
   least_all : (taken : Id → ℕ) (a : Site) (x : Id) → IsLeast t r preserved (outer_count t) taken a x → IsLeast t r preserved all_count taken a x
-  least_all taken a x l = record { from_start = l.from_start; free = from_outer taken a (r.text x (taken x)) l.free; least = λ n less start free. l.least n less start (to_outer taken a (r.text x n) free) }
+  least_all taken a x l = record { within = l.within; from_start = l.from_start; free = from_outer taken a (r.text x (taken x)) l.free; least = λ n less start free. l.least n less start (to_outer taken a (r.text x n) free) }
 
   pub flat_where_outside : (new_texts : Id → Option (List ℕ)) → Named t r preserved all_count new_texts ↔ Named t r preserved (outer_count t) new_texts
   flat_where_outside new_texts = (
