@@ -90,7 +90,9 @@ pub fn pair_tree<P: Pairing>(
     Ok(node)
 }
 
+// It goes into the loop below, which has just asked for parts: so that is asked once, and a level of the tree takes one call.
 #[cycle(pair_node)]
+#[inline(always)]
 fn pair_node<P: Pairing>(
     alloc: Global,
     recorded: &Record,

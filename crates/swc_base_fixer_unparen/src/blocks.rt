@@ -25,8 +25,8 @@ fn last_statement(kind: Kind, fields: &[Node]) -> Option<usize>
     }
 }
 
-// Whether an `else` right behind the statement would go to an `if` in it.
-fn takes_else(statement: &Node) -> bool
+/// Whether an `else` right behind the statement would go to an `if` in it.
+pub fn takes_else(statement: &Node) -> bool
     ensures { result ≡ takes_an_else statement.now }
 {
     match statement {

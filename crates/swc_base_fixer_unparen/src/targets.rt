@@ -26,10 +26,10 @@ fn content_field(kind: Kind, fields: &[Node]) -> Option<usize>
     }
 }
 
-// Whether a node is an identifier, a member or a property of `super`, but for pairs and sequences of
-// one item.
+/// Whether a node is an identifier, a member or a property of `super`, but for pairs and sequences of
+/// one item.
 #[tactic(auto, using(crate::proofs::Fields::target_in_field, crate::proofs::Fields::target_by_kind, crate::proofs::Fields::only_target, crate::proofs::Fields::no_target))]
-fn is_target(node: &Node) -> bool
+pub fn is_target(node: &Node) -> bool
     ensures { result ≡ target node.now }
 {
     match node {

@@ -1,13 +1,15 @@
 -- What reads names in a tree: at the node itself or in one of its children, and whether anything does.
-use Rattle.std.proofs.Common.{◌≡◌, ◌↔◌, ℕ, zero, suc, Bool, true, false, IsTrue, ◌⊎◌, inl, inr, Option, Some, None, List, [], ◌∷◌, refl, sym, ap, ◌∙◌, subst}
+use Rattle.std.proofs.Common.{◌≡◌, ◌↔◌, ℕ, zero, suc, ◌+◌, ◌<◌, Bool, true, false, IsTrue, ◌⊎◌, inl, inr, Option, Some, None, List, [], ◌∷◌, refl, sym, ap, ◌∙◌, subst, arith}
 use Rattle.std.specs.List.{slice_get}
 use Rattle.swc_tree_node.specs.declared.kind.Kind.{Kind}
 use Rattle.swc_tree_node.specs.declared.node.Node.{Node, List as Many, Tree, out-Node, roll-Node, roll-out-Node}
 use Rattle.swc_tree_node.specs.declared.node.Node.TheVariants.{outs-List, outs-Tree, rolls-List, rolls-Tree}
 use Rattle.swc_tree_node.specs.declared.node.Node.TheOpen.{Node-F}
+use Rattle.swc_tree_node.specs.Parts.{has_parts, has_parts_in}
 use Rattle.swc_tree_scoping.specs.Places.{Path, child, children_in, given}
 use Rattle.swc_tree_scoping.proofs.Under.{by_children}
 use Rattle.swc_base_rename_units.specs.Eval.{AnyHasEval, HasEval, node_at, reads_names}
+use Rattle.swc_base_rename_units.proofs.Steps.{parted}
 
 -- what a path goes to, by its first step
 pub some_same : {X : Type 0} {a b : X} → Some a ≡ Some b → a ≡ b
@@ -121,21 +123,41 @@ at_tree a b t k ts us vs is one other reads lost h = (λ g. reads_in t (Node-F.T
     down (inl r) = absurd (cc)
     down (inr r) = h.1 (subst AnyHasEval (sym other) r)
 
--- a leaf has no children
-pub leaf : (t : Node) → ((ts : List Node) → t ≡ Many ts → ⊥) → ((k : Kind) (ts : List Node) → t ≡ Tree k ts → ⊥) → (children_in (out-Node t) ≡ []) × (reads_names (out-Node t) ≡ false)
+-- none of some trees has one, nor has the next
+pub next_without : (ts : List Node) (i : ℕ) (t : Node) → slice_get ts i ≡ Some t → (HasEval t → ⊥) → ((k : ℕ) (c : Node) → k < i → slice_get ts k ≡ Some c → HasEval c → ⊥)
+    → (k : ℕ) (c : Node) → k < i + 1 → slice_get ts k ≡ Some c → HasEval c → ⊥
+next_without ts i t here none before k c below there h = by (parted k i (omega (arith, below)))
+  where
+    by : (k < i) ⊎ (k ≡ i) → ⊥
+    by (inl less) = before k c less there h
+    by (inr same) = none (subst HasEval (some_same (sym (subst (λ k. slice_get ts k ≡ Some c) same there) ∙ here)) h)
+
+-- a node without parts has no children
+abbrev pub IsIdle : Node-F Node → Type 0
+IsIdle y = (children_in y ≡ []) × (reads_names y ≡ false)
+
+none_if_idle : (t : Node) → IsIdle (out-Node t) → HasEval t → ⊥
+none_if_idle t none h = down (reads_open t h)
+  where
+    down : ReadsBelow t → ⊥
+    down (inl r) = let never : true ≡ false = sym r ∙ none.1 in absurd (cc)
+    down (inr (i, c, e, r)) = let never : slice_get {X = Node} [] i ≡ Some c = ap (λ l. slice_get l i) (sym none.0) ∙ e in absurd (cc)
+
+idle_without_parts : (y : Node-F Node) → has_parts_in y ≡ false → IsIdle y
+idle_without_parts (Node-F.List ts) h = absurd (cc)
+idle_without_parts (Node-F.Tree k ts) h = absurd (cc)
+idle_without_parts y h = (refl, refl)
+
+pub none_without_parts : (t : Node) → has_parts t ≡ false → HasEval t → ⊥
+none_without_parts t h = none_if_idle t (idle_without_parts (out-Node t) h)
+
+pub leaf : (t : Node) → ((ts : List Node) → t ≡ Many ts → ⊥) → ((k : Kind) (ts : List Node) → t ≡ Tree k ts → ⊥) → IsIdle (out-Node t)
 leaf t no_list no_tree = by (out-Node t) (sym (roll-out-Node t))
   where
-    by : (y : Node-F Node) → t ≡ roll-Node y → (children_in y ≡ []) × (reads_names y ≡ false)
+    by : (y : Node-F Node) → t ≡ roll-Node y → IsIdle y
     by (Node-F.List ts) e = absurd (no_list ts (e ∙ rolls-List ts))
     by (Node-F.Tree k ts) e = absurd (no_tree k ts (e ∙ rolls-Tree k ts))
     by y e = (refl, refl)
 
 pub at_leaf : (t : Node) → ((ts : List Node) → t ≡ Many ts → ⊥) → ((k : Kind) (ts : List Node) → t ≡ Tree k ts → ⊥) → IsTrue false ↔ HasEval t
-at_leaf t no_list no_tree = (λ g. absurd (cc), λ h. down (reads_open t h))
-  where
-    none : (children_in (out-Node t) ≡ []) × (reads_names (out-Node t) ≡ false)
-    none = leaf t no_list no_tree
-
-    down : ReadsBelow t → IsTrue false
-    down (inl r) = sym none.1 ∙ r
-    down (inr (i, c, e, r)) = let never : slice_get {X = Node} [] i ≡ Some c = ap (λ l. slice_get l i) (sym none.0) ∙ e in absurd (cc)
+at_leaf t no_list no_tree = (λ g. absurd (cc), λ h. absurd (none_if_idle t (leaf t no_list no_tree) h))

@@ -74,7 +74,11 @@ fn any_has_eval(nodes: &[Node]) -> bool
     ensures { IsTrue result ↔ AnyHasEval nodes.now }
 {
     for i in 0..nodes.len() {
-        if has_eval(&nodes[i]) {
+        let node = &nodes[i];
+        if !node.has_parts() {
+            continue;
+        }
+        if has_eval(node) {
             return true;
         }
     }

@@ -1,6 +1,6 @@
 -- What stripping, writing out and setting pairs keep of the names of a script in which no plain function stands in a block, catch body
 -- or case list of sloppy code, and no label names a function.
-use Rattle.std.specs.Prelude.{◌≡◌, IsTrue}
+use Rattle.std.specs.Prelude.{◌≡◌}
 use Rattle.swc_tree_node.specs.declared.kind.Class.TheVariants as class
 use Rattle.swc_tree_node.specs.declared.slot.Content.TheVariants as content
 use Rattle.swc_tree_node.specs.declared.slot.Slot.{Slot}

@@ -1,4 +1,6 @@
-use Rattle.swc_base_rename_units.proofs.Readers.{at_leaf, at_list, at_reader, at_tree}
+use Rattle.std.proofs.Common.{sym, ◌∙◌, refl, arith}
+use Rattle.swc_tree_node.proofs.Lent.{looked_at}
+use Rattle.swc_base_rename_units.proofs.Readers.{at_leaf, at_list, at_reader, at_tree, next_without, none_without_parts}
 use Rattle.swc_base_rename_units.proofs.eval.+has_eval.Goals as goal
 
 pub has_eval-returns-in-List : goal.has_eval-returns-in-List
@@ -16,3 +18,9 @@ has_eval-returns-else-reads_names t c =
 
 pub has_eval-returns-in_default : goal.has_eval-returns-in_default
 has_eval-returns-in_default t c = at_leaf c.args.node.now c.in_default.not-List c.in_default.not-Tree
+
+pub any_has_eval-loop-i-preserved-then-not-has_parts : goal.any_has_eval-loop-i-preserved-then-not-has_parts
+any_has_eval-loop-i-preserved-then-not-has_parts t c =
+    let node = c.index-nodes-i.result in
+    next_without c.args.nodes.now c.loop-i.i node (looked_at c.args.nodes.now c.args.nodes.now c.loop-i.i node (omega arith) refl c.index-nodes-i.is)
+    (none_without_parts node (sym c.has_parts.ensures ∙ c.if-not-has_parts.true)) c.loop-i.invariant
