@@ -1,5 +1,5 @@
-mod Spans
+pub mod Spans
 pub mod Programs
-mod Globals
+pub mod Globals
 pub mod Exported
 mod Join

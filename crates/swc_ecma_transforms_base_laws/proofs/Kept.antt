@@ -23,7 +23,8 @@ use Rattle.swc_base_rename_program.specs.Renamed.{IsHygienic}
 use Rattle.swc_base_rename_substitution.specs.declared.config.Config.{Config}
 use Rattle.swc_base_rename_ids_laws.specs.Laws.{HygieneKeepsIds, HygieneKeepsMeanings, IsSettledIfScript, IsWrittenAs}
 use Rattle.swc_base_rename_ids_laws.proofs.Programs.{by_goal}
-use Rattle.swc_ecma_transforms_base_laws.specs.Finished.{FinishingKeepsIds, FinishingKeepsMeanings, FinishingKeepsPrograms, FinishingKeepsSpans, FinishingMeetsNoTarget}
+use Rattle.swc_base_alpha_chained_laws.specs.Laws.{HygieneKeepsSources}
+use Rattle.swc_ecma_transforms_base_laws.specs.Finished.{FinishingKeepsIds, FinishingKeepsMeanings, FinishingKeepsPrograms, FinishingKeepsSources, FinishingKeepsSpans, FinishingMeetsNoTarget}
 
 pub keeps_programs : HygieneStaysFitting → HygieneStaysWritable → HygieneKeepsNormalForm → FixedFits → NormalFormStays → FinishingKeepsPrograms
 keeps_programs fitting stays same fit normal table config place goal before middle is f b h =
@@ -77,3 +78,7 @@ module _ (fitting : HygieneStaysFitting) (stays : HygieneStaysWritable) (stays_s
   pub keeps_meanings : HygieneKeepsMeanings → FinishingKeepsMeanings
   keeps_meanings meanings table config place goal before middle is f b plain scoped h =
       meanings table config goal before middle (fixed place middle) is f b plain scoped h (written_as table config place goal before middle is f b plain h)
+
+  pub keeps_their_sources : HygieneKeepsSources → FinishingKeepsSources
+  keeps_their_sources sources table config place goal source before middle is f b plain scoped h from =
+      sources table config goal source before middle (fixed place middle) is f b plain scoped h (written_as table config place goal before middle is f b plain h) from

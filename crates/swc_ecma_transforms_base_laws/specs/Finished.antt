@@ -18,6 +18,8 @@ use Rattle.swc_base_rename_substitution.specs.declared.config.Config.{Config}
 use Rattle.swc_base_rename_program.specs.Renamed.{IsHygienic}
 use Rattle.swc_base_rename_laws.specs.NewNames.{SameButForNames}
 use Rattle.swc_base_rename_hygiene_laws.specs.Laws.{IsFinishable}
+use Rattle.swc_base_alpha_laws.specs.Alpha.{AlphaEquivalent}
+use Rattle.swc_base_alpha_chained_laws.specs.Laws.{ComesFrom}
 
 -- the answer can be written down, the grammar derives it, and it has the normal form of the program but for the names that the
 -- program binds
@@ -52,3 +54,8 @@ FinishingKeepsIds = (table : Table) (config : Config) (place : Places) (goal : S
 abbrev pub FinishingKeepsMeanings : Type 0
 FinishingKeepsMeanings = (table : Table) (config : Config) (place : Places) (goal : Slot) (before middle : Node) → IsTrue (is_goal goal) → Fits before goal → IsFinishable config before → IsPlainIfScript before → WellScoped before
     → IsHygienic table config before middle → MeanTheirIds (normal_form (fixed place middle)) (normal_form before)
+
+-- And it is the same program, but for names, as each source that the program comes from.
+abbrev pub FinishingKeepsSources : Type 0
+FinishingKeepsSources = (table : Table) (config : Config) (place : Places) (goal : Slot) (source before middle : Node) → IsTrue (is_goal goal) → Fits before goal → IsFinishable config before → IsPlainIfScript before → WellScoped before
+    → IsHygienic table config before middle → ComesFrom source before → AlphaEquivalent source (fixed place middle)

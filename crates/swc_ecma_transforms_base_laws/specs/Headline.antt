@@ -20,6 +20,8 @@ use Rattle.swc_base_rename_substitution.specs.declared.config.Config.{Config}
 use Rattle.swc_base_rename_program.specs.Renamed.{IsHygienic}
 use Rattle.swc_base_rename_laws.specs.NewNames.{SameButForNames}
 use Rattle.swc_base_rename_hygiene_laws.specs.Laws.{IsFinishable}
+use Rattle.swc_base_alpha_laws.specs.Alpha.{AlphaEquivalent}
+use Rattle.swc_base_alpha_chained_laws.specs.Laws.{ComesFrom}
 use Rattle.swc_ecma_transforms_base_laws.specs.Sources.{IsSource}
 
 -- however the answer is resolved, where the mark of free names is known, it gives two kept names one id exactly if the program did
@@ -37,10 +39,12 @@ pub record KeepsItsForm (before after : Node) : Type 0 where
   pub normal_form : SameButForBoundNames before after
   pub spans : SameButForNames (normal.normal_form before) (normal.normal_form after)
 
--- the grammar derives the answer, it has the normal form of the program but for the names that the program binds, and where the
+-- where the program is well-scoped, the answer is the same program, but for names, as each source that it comes from; the grammar
+-- derives the answer, it has the normal form of the program but for the names that the program binds, and where the
 -- program is well-scoped its names mean what they meant, and no rule for declaring names is broken; what is in the normal form
 -- stands where it stood in the source, each identifier too
 pub record KeepsItsPromises (before after : Node) : Type 0 where
+  pub alpha : WellScoped before → (source : Node) → ComesFrom source before → AlphaEquivalent source after
   pub derived : FitsGrammar after
   pub normal_form : SameButForBoundNames before after
   pub ids : WellScoped before → KeepsIds before after
@@ -48,9 +52,11 @@ pub record KeepsItsPromises (before after : Node) : Type 0 where
   pub no_early_error : WellScoped before → NoEarlyErrorOfNames after
   pub spans : SameButForNames (normal.normal_form before) (normal.normal_form after)
 
--- the same of a source that is resolved first: its names mean the ids that the resolver found, and so do those of the answer; what is
--- in the normal form stands where it stood in the source, and in the resolved one
+-- the answer is the same program as the source, but for the names that it binds, and the grammar derives it; the names of the source
+-- mean the ids that the resolver found, and so do those of the answer, which has no early error of names; what is in the normal form
+-- stands where it stood in the source, and in the resolved one
 pub record KeepsItsSource (unresolved top : ℕ) (old new : Table) (before after : Node) : Type 0 where
+  pub alpha : AlphaEquivalent before after
   pub resolved : Node
   pub meant : Resolved unresolved top old new before resolved
   pub found : MeanTheirIds before resolved

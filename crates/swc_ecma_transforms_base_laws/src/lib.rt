@@ -4,10 +4,11 @@
 //! that it rests on; a caller of the two passes calls it, and then knows the law.
 #![tactic(auto)]
 
-ghost use Rattle.swc_ecma_transforms_base_laws.specs.Finished.{FinishingKeepsIds, FinishingKeepsMeanings, FinishingKeepsPrograms, FinishingKeepsSpans, FinishingMeetsNoTarget};
+ghost use Rattle.swc_ecma_transforms_base_laws.specs.Finished.{FinishingKeepsIds, FinishingKeepsMeanings, FinishingKeepsPrograms, FinishingKeepsSources, FinishingKeepsSpans, FinishingMeetsNoTarget};
 ghost use Rattle.swc_ecma_transforms_base_laws.specs.Headline.{ChainingKeepsForms, ChainingKeepsSources, FinishingKeepsForms, FinishingKeepsPromises};
 ghost use Rattle.swc_ecma_transforms_base_laws.specs.Sources.{ResolvedSourcesAreReady, ResolvedSourcesHaveTheirForm};
 
+use swc_base_alpha_chained_laws::hygiene_keeps_sources;
 use swc_base_fixer_laws::{fixed_fits, fixed_fits_table, normal_form_stays, targets_stand_bare};
 use swc_base_fixer_sites::fixer_stays_clean;
 use swc_base_rename_errors_laws::answer_has_no_early_error_of_names;
@@ -87,6 +88,23 @@ pub fn finishing_keeps_meanings()
     normal_form_stays();
 }
 
+/// What hygiene and then the fixer made of such a well-scoped program is the same program, but for names, as each source that it comes
+/// from.
+pub fn finishing_keeps_sources()
+    ensures { FinishingKeepsSources }
+{
+    hygiene_keeps_sources();
+    hygiene_stays_fitting();
+    hygiene_stays_writable();
+    hygiene_stays_settled();
+    targets_stand_bare();
+    fixed_fits();
+    fixed_fits_table();
+    fixer_stays_clean();
+    fixed_scripts_lose_no_name();
+    normal_form_stays();
+}
+
 /// A program without contexts that can be written down is, once it is resolved, such that hygiene and the fixer may finish it; and
 /// what is the same as it then, but for bound names, is so to the source.
 pub fn resolved_sources_have_their_form()
@@ -120,6 +138,7 @@ pub fn finishing_keeps_forms()
 pub fn finishing_keeps_promises()
     ensures { FinishingKeepsPromises }
 {
+    finishing_keeps_sources();
     finishing_keeps_forms();
     finishing_keeps_ids();
     finishing_keeps_meanings();

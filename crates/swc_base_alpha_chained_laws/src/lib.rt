@@ -1,0 +1,61 @@
+//! A program that is resolved, made hygienic and written down is the same program but for the names that it binds.
+//!
+//! `specs/Laws.antt` states the laws. Each is the contract of a function that does nothing but call the laws that it rests on; a
+//! caller calls it, and then knows the law.
+#![tactic(auto)]
+
+ghost use Rattle.swc_base_alpha_chained_laws.specs.Laws.{NormalFormsCatchNone, NormalNamesMeanTheirIds, HygieneKeepsSources};
+
+use swc_base_fixer_laws::targets_stand_bare;
+use swc_base_rename_ids_laws::hygiene_keeps_meanings;
+use swc_base_rename_scoped_laws::names_are_apart;
+use swc_base_rename_texts_laws::hygiene_gives_normal_form_new_texts;
+use swc_tree_grammar_texts::texts_are_as_writable;
+use swc_tree_sites_laws::{ids_are_left, stripped_takes_the_same};
+use swc_tree_sites_scripts::plain_scripts_are_left;
+use swc_tree_sites_tame::{writable_modules_are_tame, writable_normal_form_is_left};
+use swc_tree_sites_written::written_out_is_left;
+
+/// In the normal form of a source that can be written down no `var` declares a catch parameter's name again.
+pub fn normal_forms_catch_none()
+    ensures { NormalFormsCatchNone }
+{
+    texts_are_as_writable();
+    writable_normal_form_is_left();
+    plain_scripts_are_left();
+    targets_stand_bare();
+    writable_modules_are_tame();
+    written_out_is_left();
+    stripped_takes_the_same();
+}
+
+/// Two names of a source's normal form mean one thing exactly if the resolver found one id for them.
+pub fn normal_names_mean_their_ids()
+    ensures { NormalNamesMeanTheirIds }
+{
+    texts_are_as_writable();
+    writable_normal_form_is_left();
+    plain_scripts_are_left();
+    targets_stand_bare();
+    writable_modules_are_tame();
+    written_out_is_left();
+    stripped_takes_the_same();
+}
+
+/// Each way to write down what hygiene made of a well-scoped program is one, but for names, with each source that the program comes
+/// from.
+pub fn hygiene_keeps_sources()
+    ensures { HygieneKeepsSources }
+{
+    names_are_apart();
+    hygiene_gives_normal_form_new_texts();
+    ids_are_left();
+    hygiene_keeps_meanings();
+    texts_are_as_writable();
+    writable_normal_form_is_left();
+    plain_scripts_are_left();
+    targets_stand_bare();
+    writable_modules_are_tame();
+    written_out_is_left();
+    stripped_takes_the_same();
+}

@@ -1,0 +1,4 @@
+pub mod Equivalence
+pub mod Ids
+pub mod Decided
+pub mod Alike
