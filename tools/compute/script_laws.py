@@ -5,7 +5,7 @@ import renaming
 import scoping
 import trees
 import units
-from grammar_laws import is_same
+from grammar_laws import is_same, set_anew
 from headline_laws import meanings_fault, names_at
 from lawbook import Bad, D, fits_grammar, fits_place, fixed, is_writable, law, normal_form
 from kept_laws import is_tame, keeps_scopes, left_fault, neighbours, redeclares_none, taken_by_program, unpaired, written_fault
@@ -139,15 +139,17 @@ def means_no_global_value(t):
     return not any(program.name(p) in GLOBAL_VALUES and scoping.Means(ids, p, n) == () for p, _, n in scoping.References(ids))
 
 
-PREMISES = [
-    ('fits', fits_place),
-    ('writable', lambda t: D.grammar.Writable.is_writable(t)),
-    ('no reader', lambda t: not units.HasEval(D.all, t)),
+PLAIN = [
     ('no sloppy function in a block', has_no_sloppy),
     ('labels no function', labels_no_function),
     ('declares no global value', declares_no_global_value),
     ('repeats no parameter', repeats_no_parameter),
 ]
+PREMISES = [
+    ('fits', fits_place),
+    ('writable', lambda t: D.grammar.Writable.is_writable(t)),
+    ('no reader', lambda t: not units.HasEval(D.all, t)),
+] + PLAIN
 SCOPED = [('well-scoped: ' + name, lambda t, rule=rule: rule(D.all, t)) for name, rule in scoping.WELL_SCOPED]
 SOURCE = [('clean', lambda t: scoping.IsClean(D.all, t))] + [('source: ' + name, lambda t, rule=rule: rule(D.all, t)) for name, rule in scoping.NO_EARLY_ERROR]
 
@@ -179,6 +181,11 @@ def hygienic(t, keeps=False):
     return with_hygiene(t, keeps)
 
 
+def chained_again(answer, top, keeps=False):
+    """what a chain makes of what was answered"""
+    return set_anew(hygienic(scoping.resolved(D.all, answer, 1, top), keeps))
+
+
 def clauses(t, answer):
     """the clauses of `KeepsItsPromises` that do not hold, with what is wrong"""
     found = {}
@@ -196,6 +203,9 @@ def clauses(t, answer):
     faults = scoping.faults(scoping.NO_EARLY_ERROR, D.all, answer)
     if faults:
         found['no_early_error'] = Bad(', '.join(faults), 'in', answer)
+    again = chained_again(answer, 2)
+    if again != answer:
+        found['again'] = Bad('chained again:', again, 'once:', answer)
     return found
 
 
@@ -542,7 +552,7 @@ def offered_alone(bodies, strict):
 @law(bodies_and_script)
 def bodies_keep_script_well_scoped(t):
     """a script that helpers may be brought into is well-scoped with their bodies, which stand before an empty statement here, resolved in
-    a script of their own of its strictness, where their references to global values do not mean their own program"""
+    a script of their own of its strictness, where they are a plain script, and begin with `use strict` only if the script is strict"""
     if not is_script(t):
         return None
     items = t[2][1][1]
@@ -552,7 +562,7 @@ def bodies_keep_script_well_scoped(t):
     bodies, rest = items[:end], with_items(t, items[end + 1:])
     strict = strict_script(rest)
     whole = alone(bodies, strict)
-    if not fits_place(whole) or not scoping.IsClean(D.all, whole) or not scoping.NoEarlyErrorOfNames(D.all, whole) or not means_no_global_value(whole):
+    if not fits_place(whole) or missing(whole, PLAIN + SOURCE) or D.scoping.Places.has_use_strict(bodies) and not strict:
         return None
     offered, met = set(offered_alone(bodies, strict)), False
     for helper, free in injection_laws.MARKS:
@@ -560,10 +570,10 @@ def bodies_keep_script_well_scoped(t):
             continue
         met = True
         first = max(injection_laws.known_marks(rest)) + 1
-        answer = scoping.resolved(D.all, whole, free, helper, first)
-        faults = scoping.faults(scoping.WELL_SCOPED, D.all, D.injection.Bodies.put_in(D.injection.Alone.statements_of(answer), rest))
+        answer = D.injection.Bodies.put_in(D.injection.Alone.statements_of(scoping.resolved(D.all, whole, free, helper, first)), rest)
+        faults = scoping.faults(scoping.WELL_SCOPED, D.all, answer)
         if faults:
-            return Bad(', '.join(faults), 'in', D.injection.Bodies.put_in(D.injection.Alone.statements_of(answer), rest))
+            return Bad(', '.join(faults), 'in', answer)
     return True if met else None
 
 

@@ -106,6 +106,9 @@ def clauses(t, answer, top):
     faults = early_errors(answer)
     if faults:
         found['no_early_error'] = s.Bad(', '.join(faults), 'in', answer)
+    again = s.chained_again(answer, top)
+    if again != answer:
+        found['again'] = s.Bad('chained again:', again, 'once:', answer)
     return found
 
 

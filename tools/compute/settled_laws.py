@@ -4,13 +4,30 @@ import naming
 import scoping
 import units
 from grammar_laws import crowded, paired_anew, set_anew
-from lawbook import Bad, D, any_tree, fits_place, fixed, ids_of, is_module, is_writable, law, well_scoped_module, writable_module
+from lawbook import LAWS, Bad, D, any_tree, fits_place, fixed, ids_of, is_module, is_writable, law, same, well_scoped_module, well_scoped_program, writable_module
 from naming import Analysis, is_name
 from naming_laws import writable_and_well_scoped
 from naming_rows import HYGIENE, cleared, with_hygiene
+from script_laws import PREMISES, SCOPED, is_script, missing, well_scoped_script
 from sites_laws import is_copy, sites, without_some
 from substitution_laws import changes_of, substituted
 from trees import with_identifiers
+
+
+def finishable_script(t):
+    return is_script(t) and not missing(t, PREMISES + SCOPED)
+
+
+def law_of_goals(function):
+    """adds a law of well-scoped modules that can be written down, and the same of plain scripts in which nothing reads names"""
+    def of(premise, words):
+        def asked(t):
+            return function(t) if premise(t) else None
+        asked.__doc__ = words + function.__doc__
+        return asked
+    LAWS[function.__name__] = (well_scoped_module, of(writable_and_well_scoped, ''))
+    LAWS[function.__name__ + '_of_scripts'] = (well_scoped_script, of(finishable_script, 'of plain scripts: '))
+    return function
 
 
 def own(x):
@@ -29,11 +46,9 @@ def elsewhere(span):
     return js.REC(lo=span.hi + 7, hi=span.lo)
 
 
-@law(well_scoped_module)
+@law_of_goals
 def second_chain_changes_nothing(t):
     """what finishing answers to a well-scoped module that can be written down, a chain answers again, spans and all, wherever its pairs were put"""
-    if not writable_and_well_scoped(t):
-        return None
     for tree in (t, crowded(t)):
         for once in (finish(tree), paired_anew(elsewhere, with_hygiene(tree))):
             twice = finish(scoping.resolved(D.all, once, 1, 2))
@@ -42,11 +57,9 @@ def second_chain_changes_nothing(t):
     return True
 
 
-@law(well_scoped_module)
+@law_of_goals
 def one_analysis_scope(t):
     """an id is declared by one scope of the analysis"""
-    if not writable_and_well_scoped(t):
-        return None
     a = Analysis(D.all, t)
     found = {}
     for s, p, x in a.declares:
@@ -89,11 +102,9 @@ def apart_where_met_fault(a, text):
     return None
 
 
-@law(well_scoped_module)
+@law_of_goals
 def first_apart(t):
     """the texts that hygiene gives the ids of a well-scoped module are apart where ids meet"""
-    if not writable_and_well_scoped(t):
-        return None
     a = Analysis(D.all, t)
     if not a.declares:
         return None
@@ -101,11 +112,9 @@ def first_apart(t):
     return True if f is None else Bad(repr(f))
 
 
-@law(well_scoped_module)
+@law_of_goals
 def second_apart(t):
     """and so are the own texts of the answer, once it is resolved"""
-    if not writable_and_well_scoped(t):
-        return None
     a = Analysis(D.all, scoping.resolved(D.all, finish(t), 1, 2))
     if not a.declares:
         return None
@@ -113,10 +122,10 @@ def second_apart(t):
     return True if f is None else Bad(repr(f))
 
 
-@law(well_scoped_module)
+@law(well_scoped_program)
 def apart_is_kept(t):
-    """on any well-scoped module: texts apart where ids meet, then hygiene keeps all; and it keeps all only then"""
-    if not is_module(t) or not scoping.WellScoped(D.all, t):
+    """on any well-scoped program: texts apart where ids meet, then hygiene keeps all; and it keeps all only then"""
+    if not scoping.WellScoped(D.all, t):
         return None
     a = Analysis(D.all, t)
     if not a.declares:
@@ -138,6 +147,14 @@ def meetings_are_meetings(t):
     if by_paths != by_fold:
         return Bad(repr(sorted(by_paths ^ by_fold)[:2]))
     return True if by_fold else None
+
+
+@law(any_tree)
+def programs_take_all(t):
+    """a program takes all that is bound in it"""
+    if not fits_place(t):
+        return None
+    return not ids_met(t).pending or Bad(repr(ids_met(t).pending[0]))
 
 
 @law(any_tree)
@@ -185,11 +202,9 @@ def labelled(t):
     return u, new, v
 
 
-@law(well_scoped_module)
+@law_of_goals
 def meetings_substituted(t):
     """with new texts the new ids meet of ids that met, and no others"""
-    if not writable_and_well_scoped(t):
-        return None
     u, new, v = labelled(t)
     after = set(ids_met(v).pairs)
     before = {(new[x], new[y]) for x, y in ids_met(u).pairs}
@@ -198,8 +213,8 @@ def meetings_substituted(t):
 
 @law(any_tree)
 def meetings_with_new_names(t):
-    """in a module that fits, with any new ids the new ids meet of ids that met, and no others"""
-    if not is_module(t) or not fits_place(t):
+    """in a program that fits, with any new ids the new ids meet of ids that met, and no others"""
+    if not fits_place(t):
         return None
     found = list(ids_of(t))
     for new in ({x: found[(3 * n + 1) % len(found)] for n, x in enumerate(found) if n % 3}, {x: (x[0], (7,)) for x in found[::2]}):
@@ -211,25 +226,21 @@ def meetings_with_new_names(t):
     return True
 
 
-@law(well_scoped_module)
+@law_of_goals
 def meetings_of_answers(t):
     """what meets in the answer, met in the input; and the labelled answer without labels is the answer"""
-    if not writable_and_well_scoped(t):
-        return None
     u, new, v = labelled(t)
     answer = fixed(v)
-    if cleared(answer) != finish(t):
+    if not same(cleared(answer), finish(t)):
         return Bad('not the answer', answer)
     after = set(ids_met(answer).pairs)
     before = {(new[x], new[y]) for x, y in ids_met(u).pairs}
     return after <= before or Bad(repr(sorted(after - before)[:2]), 'in', answer)
 
 
-@law(well_scoped_module)
+@law_of_goals
 def labels_are_ids(t):
     """two names of the answer have one label exactly if a resolver gives them one id"""
-    if not writable_and_well_scoped(t):
-        return None
     u, new, v = labelled(t)
     answer = fixed(v)
     r = scoping.resolved(D.all, cleared(answer), 1, 2)
@@ -244,11 +255,9 @@ def labels_are_ids(t):
     return True if forth else None
 
 
-@law(well_scoped_module)
+@law_of_goals
 def labelled_answers_are_left(t):
     """the labelled answer, its labels read as the ids that they stand for, is left of the input"""
-    if not writable_and_well_scoped(t):
-        return None
     u, new, v = labelled(t)
     old = {y: x for x, y in new.items()}
     answer = with_identifiers(lambda i: old.get((i.sym, i.ctxt), (i.sym, i.ctxt)), fixed(v))
@@ -259,20 +268,18 @@ def labelled_answers_are_left(t):
     return without_some(after.sets, before.sets) or Bad('other scopes in', answer)
 
 
-@law(well_scoped_module)
+@law_of_goals
 def answers_read_no_names(t):
     """where nothing reads names, nothing does in the answer"""
-    if not writable_and_well_scoped(t) or units.HasEval(D.all, t):
+    if units.HasEval(D.all, t):
         return None
     return not units.HasEval(D.all, finish(t)) or Bad('eval')
 
 
-@law(well_scoped_module)
+@law_of_goals
 def substituted_is_left(t):
     """the labelled input with its new texts, its labels read as the ids that they stand for, has the names and scopes of the
     input, and copies, and the program takes the same"""
-    if not writable_and_well_scoped(t):
-        return None
     u, new, v = labelled(t)
     old = {y: x for x, y in new.items()}
     answer = with_identifiers(lambda i: old.get((i.sym, i.ctxt), (i.sym, i.ctxt)), v)
@@ -305,11 +312,9 @@ def fixing_clears_contexts(t):
     return fixed(cleared(t)) == cleared(fixed(t)) or Bad('in', fixed(t))
 
 
-@law(well_scoped_module)
+@law_of_goals
 def answers_carry_labels(t):
     """the clauses of `Carries`, of the coded input and of the labelled answer without labels, resolved"""
-    if not writable_and_well_scoped(t):
-        return None
     u, new, v = labelled(t)
     old = {y: x for x, y in new.items()}
     answer = fixed(v)
@@ -339,3 +344,9 @@ def answers_carry_labels(t):
             if y not in forth or not naming.IsLoose(first, forth[y]) or new[forth[y]][0] != forth[y][0]:
                 return Bad('loose', repr(y))
     return True if names else None
+
+
+@law_of_goals
+def answers_are_plain(t):
+    """what is asked of a script alone is so of the answer"""
+    return [name for name, holds in PREMISES if not holds(finish(t))] == [] or Bad('not plain:', finish(t))

@@ -3,4 +3,4 @@
 
 mod twice;
 
-pub use twice::finish_and_chain;
+pub use twice::{finish_and_chain, finish_and_chain_script};

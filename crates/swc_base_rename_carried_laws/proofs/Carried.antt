@@ -2,6 +2,7 @@
 use Rattle.std.proofs.Common.{◌≡◌, ◌↔◌, ℕ, IsTrue, Option, Some, None, List, [], refl, sym, ap, ◌∙◌, subst}
 use Rattle.std.specs.Prelude.{unwrap_or, option_map}
 use Rattle.swc_tree_marks.specs.declared.ident.Ident.{Ident}
+use Rattle.swc_tree_node.specs.declared.slot.Slot.{Slot}
 use Rattle.swc_tree_node.specs.declared.node.Node.{Node}
 use Rattle.swc_tree_scoping.specs.declared.places.Standing.{Standing}
 use Rattle.swc_tree_scoping.specs.declared.places.Place.{Place}
@@ -15,7 +16,6 @@ use Rattle.swc_tree_renaming.proofs.Whole.{stands_there}
 use Rattle.swc_tree_grammar_texts.proofs.Cleared.{bare}
 use Rattle.swc_tree_sites.specs.Smaller.{In}
 use Rattle.swc_tree_sites.proofs.Transport.{binding_names}
-use Rattle.swc_base_fixer_sites.proofs.Answers.{fits_module}
 use Rattle.swc_base_rename_substitution.specs.Names.{if_other_text}
 use Rattle.swc_base_rename_analysis.specs.Analysis.{Declares, IsAnalysed, OccursIn}
 use Rattle.swc_base_rename_analysis.specs.Ids.{id_at}
@@ -30,7 +30,7 @@ use Rattle.swc_base_rename_contexts_laws.specs.Laws.{id_of_label, labelled_chang
 use Rattle.swc_base_rename_labels_laws.specs.Labels.{label, labelled, meant, unlabelled}
 use Rattle.swc_base_rename_labels_laws.specs.Laws.{HasNewLabels, IsReady, IsResolvedSo, LabelsAreIds, LabelsTellTexts, LooseNamesWereLoose, WasLoose}
 use Rattle.swc_base_rename_labels_laws.proofs.Changed.{changed_there, from_changed, nameless_changed, one_name, one_place}
-use Rattle.swc_base_rename_labels_laws.proofs.Meant.{keeps}
+use Rattle.swc_base_rename_labels_laws.proofs.Meant.{keeps, plain_before}
 use Rattle.swc_base_rename_labels_laws.proofs.Texts.{label_means}
 use Rattle.swc_base_rename_carried_laws.specs.Laws.{LabelledAnswersAreApartGiven, LabelsMeetAsTheOld}
 use Rattle.swc_base_rename_carried_laws.proofs.Around.{declares_alike, occurs_alike}
@@ -68,7 +68,7 @@ module _ (new_texts : Id → Option (List ℕ)) where
 
 -- ---- the answer with labels, and the one that is resolved
 
-module _ (before labels u : Node) (ready : IsReady before) (h : HasNewLabels before labels) (r : IsResolvedSo labels u) where
+module _ (goal : Slot) (before labels u : Node) (ready : IsReady goal before) (h : HasNewLabels goal before labels) (r : IsResolvedSo labels u) where
   abbrev answer : Node
   answer = by_texts labels
 
@@ -117,7 +117,7 @@ module _ (before labels u : Node) (ready : IsReady before) (h : HasNewLabels bef
   -- ---- ids
 
   texts_told : LabelsTellTexts → (p : Path) (x : Id) → IsNameAt u p x → given_text h.new_texts (label_in labels p) ≡ x.0
-  texts_told tell p x (w, e, n) = let l = label_at p w x e n in ap (given_text h.new_texts) l.label_is ∙ sym (tell before labels ready h p l.name l.there) ∙ l.text
+  texts_told tell p x (w, e, n) = let l = label_at p w x e n in ap (given_text h.new_texts) l.label_is ∙ sym (tell goal before labels ready h p l.name l.there) ∙ l.text
 
   meant_there : (p : Path) (i : Ident) → NameAt labels p i → NameAt M p (meant i)
   meant_there p i (w, k, e, n) = (w, k, changed_there meant labels p w k i e, n)
@@ -126,7 +126,7 @@ module _ (before labels u : Node) (ready : IsReady before) (h : HasNewLabels bef
   ids_told ids p q x y (w, e, n) (v, g, z) =
       let a = label_at p w x e n in
       let b = label_at q v y g z in
-      let both = ids before labels u ready h r p q (meant a.name) (meant b.name) a.ident b.ident (meant_there p a.name a.there) (meant_there q b.name b.there) a.here b.here in (
+      let both = ids goal before labels u ready h r p q (meant a.name) (meant b.name) a.ident b.ident (meant_there p a.name a.there) (meant_there q b.name b.there) a.here b.here in (
         (λ s. a.label_is ∙ id_same (meant a.name) (meant b.name) (both.0 (same_id a.ident b.ident (a.is ∙ s ∙ sym b.is))) ∙ sym b.label_is),
         (λ s. sym a.is ∙ id_same a.ident b.ident (both.1 (same_id (meant a.name) (meant b.name) (sym a.label_is ∙ s ∙ b.label_is))) ∙ b.is),
       )
@@ -177,7 +177,7 @@ module _ (before labels u : Node) (ready : IsReady before) (h : HasNewLabels bef
   -- the labels of names that are loose were loose
   module _ (loose : LooseNamesWereLoose) (y : Id) (l : IsLoose u y) where
     abbrev was : WasLoose before labels l.path
-    was = loose before labels u ready h r y l
+    was = loose goal before labels u ready h r y l
 
     names : IsTrue (is_name l.standing)
     names =
@@ -204,7 +204,7 @@ module _ (before labels u : Node) (ready : IsReady before) (h : HasNewLabels bef
         let n = binding_names d.standing d.binds in
         let a = label_at p d.standing x d.stands n in
         let b = label_at o.path o.standing y o.stands o.names in
-        let (z, w, i, e, g) = old_pairs before labels ready h (id_of a.name) (id_of b.name) (met_there meetings s p x y d o n) in
+        let (z, w, i, e, g) = old_pairs goal before labels ready h (id_of a.name) (id_of b.name) (met_there meetings s p x y d o n) in
         let first = old_analysed h.new_texts before h.named z (id_of a.name) e (λ c. d.analysed (sym a.text ∙ c)) in
         let second = old_analysed h.new_texts before h.named w (id_of b.name) g (λ c. o.analysed (sym b.text ∙ c)) in
         let (v, q, declared, occurs) = pairs_meet (labelled before) z w i first second in (
@@ -218,6 +218,6 @@ module _ (before labels u : Node) (ready : IsReady before) (h : HasNewLabels bef
     carries = record { texts = texts_told tell; same = ids_told ids; meet = met_before; loose = loose_told loose }
 
 pub labelled_answers_are_apart : HygieneTellsMetApart → LabelsCarryApart → LabelsTellTexts → LabelsAreIds → LooseNamesWereLoose → MeetingsAreMet → PairsMeet → LabelledAnswersAreApartGiven
-labelled_answers_are_apart told_apart carry tell ids loose meetings pairs_meet old_pairs before labels u ready h r =
-    carry before u (given_text h.new_texts) (label_in labels) (carries before labels u ready h r tell ids loose meetings pairs_meet old_pairs)
-    (told_apart before h.new_texts ready.fits (fits_module before ready.fits) ready.scoped h.named)
+labelled_answers_are_apart told_apart carry tell ids loose meetings pairs_meet old_pairs goal before labels u ready h r =
+    carry before u (given_text h.new_texts) (label_in labels) (carries goal before labels u ready h r tell ids loose meetings pairs_meet old_pairs)
+    (told_apart before goal h.new_texts ready.fits (plain_before goal before ready) ready.scoped h.named)

@@ -1,4 +1,4 @@
-//! Where what the fixer makes of a module with labels is resolved, its own texts are apart where ids meet.
+//! Where what the fixer makes of a program with labels is resolved, its own texts are apart where ids meet.
 //!
 //! `specs/Laws.antt` states the law. It is an implication: that ids with labels meet as the old ones did is its premise. It is the contract of a
 //! function that does nothing but call those of the laws that it rests on.

@@ -15,14 +15,18 @@ use Rattle.swc_tree_node.specs.declared.node.Node.TheOpen.{Node-F}
 use Rattle.swc_tree_node.specs.declared.node.Node.TheVariants.{outs-Tree}
 use Rattle.swc_tree_node.specs.Fits.{Fits}
 use Rattle.swc_tree_scoping.specs.declared.places.Place.{Place}
+use Rattle.swc_tree_scoping.specs.declared.places.Standing.TheVariants as standing
 use Rattle.swc_tree_scoping.specs.Places.{Path, place_at, program_place}
-use Rattle.swc_tree_scoping.specs.Scopes.{first_that, is_name, is_taken, rounds, scope_at, taker}
+use Rattle.swc_tree_scoping.specs.Resolved.{is_global_value, is_script}
+use Rattle.swc_tree_scoping.specs.Scopes.{first_that, is_binding, is_name, is_taken, rounds, scope_at, taker}
 use Rattle.swc_tree_scoping.specs.Readings.{by_ids, by_texts, id_name, with_identifiers}
-use Rattle.swc_tree_scoping.specs.WellScoped.{ExportsDeclared, InExportList, IsClean, IsDeclared, NoEarlyErrorOfNames, WellScoped}
-use Rattle.swc_tree_renaming.specs.Apart.{HasTexts, IsPlainIfScript, SameScopes, is_goal, nameless, no_name}
+use Rattle.swc_tree_scoping.specs.WellScoped.{ExportsDeclared, InExportList, IsClean, IsDeclared, NoEarlyErrorOfNames, Stands, WellScoped}
+use Rattle.swc_tree_renaming.specs.Apart.{DeclaresNoGlobalValue, HasTexts, IsPlainIfScript, NoParameterRepeated, SameScopes, is_goal, labels_no_function, nameless, no_name}
+use Rattle.swc_tree_renaming.proofs.Core.{takers_same}
+use Rattle.swc_tree_renaming.proofs.Global.{fits_module, no_module_is_script}
 use Rattle.swc_tree_renaming.proofs.Shape.{nameless_by_ids, same_scopes, some_same, twice}
 use Rattle.swc_tree_renaming.proofs.Blank.{layer, out_is, place_at_same}
-use Rattle.swc_tree_renaming.proofs.Whole.{by_id, captures_none, from_ids, id_name_same, identifier_same, with_identifier}
+use Rattle.swc_tree_renaming.proofs.Whole.{by_id, captures_none, from_ids, id_name_apart, id_name_same, identifier_same, with_identifier}
 use Rattle.swc_tree_grammar.specs.Due.{Places}
 use Rattle.swc_tree_grammar.specs.Fixed.{fixed}
 use Rattle.swc_tree_grammar.specs.Normal.{normal_form}
@@ -36,7 +40,7 @@ use Rattle.swc_tree_sites_laws.proofs.LeftByIds.{ids_are_left}
 use Rattle.swc_tree_sites_laws.proofs.LeftIds.{plain_clean}
 use Rattle.swc_tree_sites_laws.proofs.LeftStripped.{stripped_takes}
 use Rattle.swc_tree_sites_errors.specs.Laws.{Answers, KeepsScopes}
-use Rattle.swc_tree_sites_errors.proofs.Left.{answer_declares, answer_redeclares_none, declared_stays, left_keeps}
+use Rattle.swc_tree_sites_errors.proofs.Left.{answer_declares, answer_redeclares_none, declared_stays, fair_answer, left_keeps}
 use Rattle.swc_tree_sites_errors.proofs.Named.{keeps_by}
 use Rattle.swc_tree_sites_tame.proofs.Modules.{modules_tame}
 use Rattle.swc_tree_sites_scripts.specs.Laws.{FixedScriptsLoseNoName, PlainScriptsAreLeft, script_place}
@@ -167,6 +171,10 @@ program_declares t plain b h =
     = ap (first_that (λ s. is_taken b.0 (scope_at PP t s.0))) (same.rounds_same d.path) ∙ ap (λ (f : Path → Option Scope). first_that (λ s. is_taken b.0 (f s.0)) (rounds PP (by_ids t) d.path)) (λ i s. same.scopes_same s i) in
     let bound : Bound (by_ids t) [] b.0 (id_name b.1) = record { path = d.path; place = d.place; kind = d.kind; identifier = by_id b.1; stands = there; stands_so = d.stands_so; named = refl; unmarked = refl; taken = sym takers ∙ d.taken } in
     way_declares (by_ids t) plain (id_name b.1) [] true b.0 bound (settled_way b.0 (λ e. plain.settled d.path d.place d.kind (by_id b.1) there (d.stands_so ∙ e)))
+
+-- a name of a global value has no digit, as a text with a number has
+abbrev pub NoDigit : Type 0
+NoDigit = (x : List ℕ) → IsTrue (is_global_value x) → list_any is_digit x ≡ false
 
 -- ---- the laws that it rests on
 
@@ -309,6 +317,53 @@ module _ (laws : Laws) (table : Table) (config : Config) (place : Places) (goal 
     no_redeclaration = answer_redeclares_none (by_ids before) (by_ids N) F (by_texts after) text answers scoped.no_redeclaration;
     no_eval_or_arguments = ((λ d. scoped.no_eval_or_arguments.0 (declared_word (codes "eval") refl d)), (λ d. scoped.no_eval_or_arguments.1 (declared_word (codes "arguments") refl d)));
   }
+
+  -- ---- what is asked of a script alone: the answer to a plain script is one
+
+  script_before : IsTrue (is_script after) → IsTrue (is_script before)
+  script_before s = script_too goal after before answer.form.own form_before.own s
+
+  unlabelled : IsTrue (is_script after) → IsTrue (labels_no_function after)
+  unlabelled s = by_goal goal is fits_middle settled_middle fits_after
+    where
+      by_goal : (goal : Slot) → IsTrue (is_goal goal) → Fits middle goal → IsSettledIn goal middle → Fits after goal → IsTrue (labels_no_function after)
+      by_goal (slot.One (content.Node class.Module)) is f settled g = absurd (no_module_is_script after (fits_module after g) s)
+      by_goal (slot.One (content.Node class.Script)) is f settled g = (laws.whole place middle f writable_middle (settled refl)).settled.1
+      by_goal _ is f settled g = absurd (cc)
+
+  -- a name of a global value is nobody's new text: where the answer's program takes it, the script's does
+  no_global_value : NoDigit → DeclaresNoGlobalValue after
+  no_global_value no_digit p w k i s e binds global taken =
+      let keeps : KeepsScopes after K = subst (KeepsScopes after) same_form answer.keeps in
+      let x : Binding = (w.standing, i) in
+      let d = (taken_is [] PP K x).0 (subst (In x) keeps.program ((taken_is [] PP after x).1 (record { path = p; place = w; kind = k; stands = e; stands_so = refl; binds = binds; taken = taken }))) in
+      let (l, j, there) = same_shape.back d.path d.place d.kind i d.stands in
+      let names : IsTrue (is_name d.place.standing) = subst (λ r. IsTrue (is_name r)) (sym d.stands_so) (binding_names w.standing binds) in
+      let word : j.sym ≡ i.sym
+      = same_word before _ _ given.new_texts given.named j i.sym (no_digit i.sym global) (sym (named d.path d.place d.place l d.kind j (by_text i) there (stands_named by_text K d.path d.place d.kind i d.stands) names)) in
+      let y : Binding = (w.standing, j) in
+      let b = (taken_is [] PP before y).0 (subst (In y) form_before.takes ((taken_is [] PP N y).1
+      (record { path = d.path; place = d.place; kind = l; stands = there; stands_so = d.stands_so; binds = binds; taken = takers_same N K same_shape w.standing d.path ∙ d.taken }))) in
+      (plain (script_before s)).no_global_value b.path b.place b.kind j (script_before s) b.stands (subst (λ r. IsTrue (is_binding r)) (sym b.stands_so) binds)
+      (subst (λ x. IsTrue (is_global_value x)) (sym word) global) (subst (λ r. taker r before b.path ≡ Some []) (sym b.stands_so) b.taken)
+
+  none_repeated : IsTrue (is_script after) → NoParameterRepeated (by_ids after)
+  none_repeated s name f p q a b ta tb =
+      let fair = (fair_answer (by_ids before) (by_ids N) F (by_texts after) text answers scoped.no_redeclaration).0 in
+      let same : SameScopes (by_texts after) (by_ids after) = same_scopes (by_texts after) (by_ids after) (nameless_renamed by_text after ∙ sym (nameless_by_ids after)) in
+      let (k, i, here, one) = from_ids after p a.place a.kind a.identifier a.stands in
+      let (l, j, there, other) = from_ids after q b.place b.kind b.identifier b.stands in
+      let own : id_name i ≡ name = ap (λ (i : Ident). i.sym) (sym one) ∙ a.named in
+      let too : id_name j ≡ name = ap (λ (i : Ident). i.sym) (sym other) ∙ b.named in
+      let word : j.sym ≡ i.sym = (id_name_apart j i (too ∙ sym own)).0 in
+      let stands_p : Stands (by_texts after) p standing.Parameter i.sym
+      = record { place = a.place; kind = k; identifier = by_text i; stands = stands_named by_text after p a.place k i here; stands_so = a.stands_so; named = refl } in
+      let stands_q : Stands (by_texts after) q standing.Parameter i.sym
+      = record { place = b.place; kind = l; identifier = by_text j; stands = stands_named by_text after q b.place l j there; stands_so = b.stands_so; named = word } in
+      fair.1 (script_too goal after (by_texts after) answer.form.own of_after s) i.sym f p q stands_p stands_q (takers_same (by_texts after) (by_ids after) same standing.Parameter p ∙ ta) (takers_same (by_texts after) (by_ids after) same standing.Parameter q ∙ tb)
+
+  pub stays_plain : NoDigit → IsPlainIfScript after
+  stays_plain no_digit s = record { settled = answer.form.own.settled; unlabelled = unlabelled s; no_global_value = no_global_value no_digit; no_parameter_repeated = none_repeated s }
 
   -- ---- what export lists name: no script has one
 

@@ -1,18 +1,16 @@
--- What the fixer makes of a module with new names is left of the module, where names are told apart by their contexts.
+-- What the fixer makes of a program with new names is left of the program, where names are told apart by their contexts.
 use Rattle.std.proofs.Common.{◌≡◌, ◌⊎◌, ⊎_elim, inl, inr, ℕ, Bool, true, false, IsTrue, Option, Some, None, List, [], ◌∷◌, map, refl, sym, ap, ◌∙◌, subst}
 use Rattle.std.specs.Prelude.{unwrap_or, if◌then◌else◌}
 use Rattle.swc_tree_marks.specs.declared.ident.Ident.{Ident}
-use Rattle.swc_tree_node.specs.declared.kind.Class.TheVariants as class
-use Rattle.swc_tree_node.specs.declared.slot.Content.TheVariants as content
 use Rattle.swc_tree_node.specs.declared.slot.Slot.{Slot}
-use Rattle.swc_tree_node.specs.declared.slot.Slot.TheVariants as slot
 use Rattle.swc_tree_node.specs.declared.node.Node.{Node, fold-Node}
 use Rattle.swc_tree_node.specs.declared.node.Node.TheOpen.{Node-F}
 use Rattle.swc_tree_node.specs.Fits.{Fits}
 use Rattle.swc_tree_scoping.specs.Places.{place_at, program_place}
 use Rattle.swc_tree_scoping.specs.Readings.{rename_step, with_identifiers}
 use Rattle.swc_tree_scoping.specs.Scopes.{is_name}
-use Rattle.swc_tree_renaming.specs.Apart.{nameless, no_name}
+use Rattle.swc_tree_renaming.specs.Apart.{IsSettled, is_goal, nameless, no_name}
+use Rattle.swc_tree_renaming.proofs.Global.{fits_script}
 use Rattle.swc_tree_renaming.proofs.Shape.{twice}
 use Rattle.swc_tree_grammar.specs.Due.{Places}
 use Rattle.swc_tree_grammar.specs.Fixed.{fixed}
@@ -25,6 +23,7 @@ use Rattle.swc_tree_sites.specs.Smaller.{AreKept, In, IsCopy, IsLeftOf, Sub}
 use Rattle.swc_tree_sites.proofs.Found.{in_map, map_in}
 use Rattle.swc_tree_sites.proofs.Kept.{S}
 use Rattle.swc_tree_sites_laws.proofs.LeftByIds.{bound_by, site_by, sites_by}
+use Rattle.swc_tree_sites_scripts.specs.Laws.{FixedScriptsLoseNoName, PlainScriptsAreLeft, script_place}
 use Rattle.swc_tree_sites_tame.specs.Laws.{WritableModulesAreTame, WritableNormalFormIsLeft}
 use Rattle.swc_tree_sites_written.specs.Laws.{WrittenOutLosesNone}
 use Rattle.swc_base_fixer_laws.specs.Laws.{FixedFits, FixedFitsTable, NormalFormStays, TargetsStandBare}
@@ -33,13 +32,13 @@ use Rattle.swc_base_rename_substitution.specs.Identifiers.{Changes, id_of}
 use Rattle.swc_base_rename_substitution.specs.Names.{Id}
 use Rattle.swc_base_rename_laws.specs.Laws.{NormalFormHasNewNames, NormalFormKeepsSpans}
 use Rattle.swc_base_rename_laws.specs.NewNames.{HasNewNames, SameButForNames, nameless as unnamed, nameless_step}
+use Rattle.swc_base_rename_hygiene_laws.proofs.KeepsNormal.{is_program}
+use Rattle.swc_base_rename_ids_laws.proofs.Programs.{by_goal, module_place}
 use Rattle.swc_base_rename_labels_laws.specs.Labels.{KeepsContexts, by_contexts, named_by}
-use Rattle.swc_base_rename_labels_laws.specs.Laws.{FixedNamesAreLeft}
+use Rattle.swc_base_rename_labels_laws.specs.Laws.{FixedNamesAreLeft, IsWrittenOf}
 use Rattle.swc_base_rename_labels_laws.proofs.Alike.{Agree, alike_sites}
 use Rattle.swc_base_rename_labels_laws.proofs.Changed.{changed_there, one_name}
-
-abbrev module_place : Slot
-module_place = slot.One (content.Node class.Module)
+use Rattle.swc_base_rename_labels_laws.proofs.Programs.{normal_left}
 
 -- ---- trees that are the same but for the texts and contexts of identifiers
 
@@ -99,18 +98,45 @@ pub record InNormal (f u : Node) : Type 0 where
   pub names : (s : Site) → In s (S program_place f).sites → In s (S program_place (normal_form u)).sites
   pub sets : (S program_place f).sets ≡ (S program_place (normal_form u)).sets
 
-module _ (loses : StrippingAnswersLosesNone) (written : WrittenOutLosesNone) (tame : WritableModulesAreTame) (stays : NormalFormStays) (fit : FixedFits) (fits_table : FixedFitsTable) (bare : TargetsStandBare) where
-  pub answer_in_normal : (place : Places) (u : Node) → Fits u module_place → IsTrue (is_writable u) → InNormal (fixed place u) u
-  answer_in_normal place u fits_u writable_u =
-      let fits_f = fits_table place u module_place refl fits_u (bare u module_place fits_u writable_u) in
-      let writable_f = (fit place u module_place refl fits_u writable_u).0 in
-      let all_kept = written (stripped (fixed place u)) (stripped_fits (fixed place u) module_place (bare (fixed place u) module_place fits_f writable_f) refl fits_f) (tame (fixed place u) fits_f writable_f) in
-      let answers : S program_place (stripped (fixed place u)) ≡ S program_place (fixed place u) = loses place u fits_u writable_u in
-      let normal : written_out (stripped (fixed place u)) ≡ normal_form u = stays place u module_place fits_u in
+-- the laws of the fixer and of normal forms that it rests on
+pub record Laws : Type 0 where
+  pub loses : StrippingAnswersLosesNone
+  pub written : WrittenOutLosesNone
+  pub tame : WritableModulesAreTame
+  pub stays : NormalFormStays
+  pub fit : FixedFits
+  pub fits_table : FixedFitsTable
+  pub bare : TargetsStandBare
+  pub scripts_lose : FixedScriptsLoseNoName
+  pub modules_left : WritableNormalFormIsLeft
+  pub scripts_left : PlainScriptsAreLeft
+  pub new_names : NormalFormHasNewNames
+
+module _ (laws : Laws) (place : Places) where
+  module_in_normal : (u : Node) → Fits u module_place → IsTrue (is_writable u) → InNormal (fixed place u) u
+  module_in_normal u fits_u writable_u =
+      let fits_f = laws.fits_table place u module_place refl fits_u (laws.bare u module_place fits_u writable_u) in
+      let writable_f = (laws.fit place u module_place refl fits_u writable_u).0 in
+      let all_kept = laws.written (stripped (fixed place u)) (stripped_fits (fixed place u) module_place (laws.bare (fixed place u) module_place fits_f writable_f) refl fits_f) (laws.tame (fixed place u) fits_f writable_f) in
+      let answers : S program_place (stripped (fixed place u)) ≡ S program_place (fixed place u) = laws.loses place u fits_u writable_u in
+      let normal : written_out (stripped (fixed place u)) ≡ normal_form u = laws.stays place u module_place fits_u in
       record {
         names = λ s i. subst (λ t. In s (S program_place t).sites) normal (all_kept.0 s (subst (λ (a : Sites). In s a.sites) (sym answers) i));
         sets = ap (λ (a : Sites). a.sets) (sym answers) ∙ sym all_kept.1 ∙ ap (λ t. (S program_place t).sets) normal;
       }
+
+  script_in_normal : (u : Node) → Fits u script_place → IsTrue (is_writable u) → IsSettled u → InNormal (fixed place u) u
+  script_in_normal u fits_u writable_u settled =
+      let kept = laws.scripts_lose place u fits_u writable_u settled in
+      let normal : normal_form (fixed place u) ≡ normal_form u = laws.stays place u script_place fits_u in
+      record {
+        names = λ s i. subst (λ t. In s (S program_place t).sites) normal (kept.names s i);
+        sets = sym kept.sets ∙ ap (λ t. (S program_place t).sets) normal;
+      }
+
+  pub answer_in_normal : (goal : Slot) → IsTrue (is_goal goal) → (u : Node) → IsWrittenOf goal u → InNormal (fixed place u) u
+  answer_in_normal = by_goal (λ goal. (u : Node) → IsWrittenOf goal u → InNormal (fixed place u) u)
+      (λ u w. module_in_normal u w.fits w.writable) (λ u w. script_in_normal u w.fits w.writable (w.settled (fits_script u w.fits)))
 
 -- ---- what is left
 
@@ -155,11 +181,11 @@ module _ (name : List ℕ → List ℕ) (t u f : Node) (inside : InNormal f u) (
   pub is_left : IsLeftOf (by_contexts name f) (by_contexts name t)
   is_left = record { names = names_kept; scopes = sets_kept }
 
-pub fixed_names_are_left : StrippingAnswersLosesNone → WrittenOutLosesNone → WritableModulesAreTame → NormalFormStays → FixedFits → FixedFitsTable → TargetsStandBare → WritableNormalFormIsLeft → NormalFormHasNewNames → NormalFormKeepsSpans
-    → FixedNamesAreLeft
-fixed_names_are_left loses written tame stays fit fits_table bare normal_left new_names spans m name place t u keeps fits_t writable_t sub fits_u writable_u =
-    let same_names = new_names m t u (inl fits_t) writable_t sub in
-    let same_spans = spans m t u (inl fits_t) writable_t sub in
-    is_left name t u (fixed place u) (answer_in_normal loses written tame stays fit fits_table bare place u fits_u writable_u)
+pub fixed_names_are_left : Laws → NormalFormKeepsSpans → FixedNamesAreLeft
+fixed_names_are_left laws spans m name place goal t u keeps is first sub last =
+    let program = is_program goal t is first.fits in
+    let same_names = laws.new_names m t u program first.writable sub in
+    let same_spans = spans m t u program first.writable sub in
+    is_left name t u (fixed place u) (answer_in_normal laws place goal is u last)
     (alike_sites (named_by name) (normal_form t) (normal_form u) program_place (same_shape (normal_form t) (normal_form u) same_spans) (agree m keeps name (normal_form t) (normal_form u) same_names same_spans))
-    (normal_left t fits_t writable_t)
+    (normal_left laws.modules_left laws.scripts_left goal is t first)

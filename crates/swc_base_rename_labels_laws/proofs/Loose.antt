@@ -3,10 +3,7 @@ use Rattle.std.proofs.Common.{◌≡◌, ◌⊎◌, ⊎_elim, inl, inr, ℕ, Boo
 use Rattle.std.specs.Prelude.{option_map}
 use Rattle.swc_tree_marks.specs.declared.ident.Ident.{Ident}
 use Rattle.swc_tree_node.specs.declared.kind.Kind.{Kind}
-use Rattle.swc_tree_node.specs.declared.kind.Class.TheVariants as class
-use Rattle.swc_tree_node.specs.declared.slot.Content.TheVariants as content
 use Rattle.swc_tree_node.specs.declared.slot.Slot.{Slot}
-use Rattle.swc_tree_node.specs.declared.slot.Slot.TheVariants as slot
 use Rattle.swc_tree_node.specs.declared.node.Node.{Node, Identifier, Tree}
 use Rattle.swc_tree_node.specs.declared.node.Node.TheVariants.{outs-Tree}
 use Rattle.swc_tree_node.specs.Fits.{Fits}
@@ -35,6 +32,7 @@ use Rattle.swc_tree_sites.proofs.Round.{taken_is}
 use Rattle.swc_tree_sites.proofs.Transport.{OneTaker, binding_names, found, reference_names, refers_so, region, there, up}
 use Rattle.swc_tree_sites.proofs.Whole.{one_taker, one_taker_of_fewer}
 use Rattle.swc_tree_sites_laws.proofs.LeftIds.{clean_ids, plain_clean}
+use Rattle.swc_tree_sites_scripts.specs.Laws.{FixedScriptsLoseNoName}
 use Rattle.swc_base_fixer_laws.specs.Laws.{FixedFitsTable, TargetsStandBare}
 use Rattle.swc_base_rename_analysis.specs.Ids.{IsBound}
 use Rattle.swc_base_rename_analysis.specs.Preserved.{IsLoose, is_name_or_label}
@@ -44,12 +42,10 @@ use Rattle.swc_base_rename_scoped_laws.proofs.Homes.{declared}
 use Rattle.swc_base_rename_contexts_laws.specs.Laws.{id_of_label}
 use Rattle.swc_base_rename_labels_laws.specs.Labels.{meant, unlabelled}
 use Rattle.swc_base_rename_labels_laws.specs.Laws.{FixedNamesAreLeft, HasNewLabels, IsReady, IsResolvedSo, LabelsAreIds, LooseNamesWereLoose, WasLoose}
-use Rattle.swc_base_rename_labels_laws.proofs.Changed.{changed_there, fits_changed, from_changed, nameless_changed, one_name}
-use Rattle.swc_base_rename_labels_laws.proofs.Meant.{fits_meant, is_left, plain_module}
+use Rattle.swc_base_rename_labels_laws.proofs.Changed.{changed_there, from_changed, nameless_changed, one_name}
+use Rattle.swc_base_rename_labels_laws.proofs.Meant.{fits_meant, is_left, plain_before, plain_meant}
+use Rattle.swc_base_rename_labels_laws.proofs.Programs.{plain_changed}
 use Rattle.swc_base_rename_labels_laws.proofs.Texts.{copied}
-
-abbrev module_place : Slot
-module_place = slot.One (content.Node class.Module)
 
 false_true : {X : Type 0} → false ≡ true → X
 false_true e = absurd (cc)
@@ -92,14 +88,14 @@ reference_cases standing.Reference h = inl refl
 reference_cases standing.Body h = inr refl
 reference_cases _ h = absurd (cc)
 
--- ---- a free name of a module is loose
+-- ---- a free name of a program is loose
 
-module _ (t : Node) (fits : Fits t module_place) (scoped : WellScoped t) (q : Path) (v : Standing) (i : Ident) (at : IsAt t q v i) (refers : IsTrue (is_reference v)) (undeclared : ¬ IsDeclared (by_ids t) (id_name i)) where
+module _ (t : Node) (place : Slot) (fits : Fits t place) (scoped : WellScoped t) (q : Path) (v : Standing) (i : Ident) (at : IsAt t q v i) (refers : IsTrue (is_reference v)) (undeclared : ¬ IsDeclared (by_ids t) (id_name i)) where
   not_listed : InExportList t q → ⊥
   not_listed h = ⊎_elim
       (λ (e : v ≡ standing.Reference).
       undeclared (declares_declared (by_ids t) [] (id_name i) (scoped.exports_declared q (id_name i) (exported_by_ids t q h) (to_ids t q standing.Reference i (subst (λ v. IsAt t q v i) e at)))))
-      (λ (e : v ≡ standing.Body). no_body_exported t module_place fits q i h (subst (λ v. IsAt t q v i) e at)) (reference_cases v refers)
+      (λ (e : v ≡ standing.Body). no_body_exported t place fits q i h (subst (λ v. IsAt t q v i) e at)) (reference_cases v refers)
 
   unbound : IsBound t (id_of i) → ⊥
   unbound (p, r, h, b) = let (j, a, e) = from_id t p r (id_of i) h in undeclared (subst (IsDeclared (by_ids t)) (one_id_name j i e) (declared t p r j a b))
@@ -146,7 +142,8 @@ module _ (t n : Node) (plain_t : IsPlainProgram t) (plain_n : IsPlainProgram n) 
 
 -- ---- loose ids
 
-module _ (left : FixedNamesAreLeft) (fits_table : FixedFitsTable) (bare_targets : TargetsStandBare) (texts : TextsAreAsWritable) (ids : LabelsAreIds) (before labels u : Node) (ready : IsReady before) (h : HasNewLabels before labels)
+module _ (left : FixedNamesAreLeft) (fits_table : FixedFitsTable) (bare_targets : TargetsStandBare) (lose : FixedScriptsLoseNoName) (texts : TextsAreAsWritable) (ids : LabelsAreIds) (goal : Slot) (before labels u : Node) (ready : IsReady goal before)
+    (h : HasNewLabels goal before labels)
     (r : IsResolvedSo labels u) where
   abbrev M : Node
   M = unlabelled labels
@@ -157,14 +154,14 @@ module _ (left : FixedNamesAreLeft) (fits_table : FixedFitsTable) (bare_targets 
   same : SameScopes M u
   same = same_scopes M u (nameless_changed meant labels ∙ sym (nameless_changed bare labels) ∙ sym (nameless_remarked r.resolved.contexts answer) ∙ ap nameless (sym r.resolved.only_contexts))
 
-  fits_ids : Fits (by_ids M) module_place
-  fits_ids = fits_changed by_id M module_place ∙ fits_meant left fits_table bare_targets texts before labels ready h
+  plain_ids : IsPlainProgram (by_ids M)
+  plain_ids = plain_changed goal ready.program by_id M (fits_meant left fits_table bare_targets lose texts goal before labels ready h) (plain_meant left fits_table bare_targets lose texts goal before labels ready h).1
 
-  fits_whole : Fits (by_ids before) module_place
-  fits_whole = fits_changed by_id before module_place ∙ ready.fits
+  plain_whole : IsPlainProgram (by_ids before)
+  plain_whole = plain_changed goal ready.program by_id before ready.fits (plain_before goal before ready).1
 
   up_there : (x : List ℕ) → IsFreeName (by_ids M) x → IsFreeName (by_ids before) x
-  up_there = free_up (by_ids before) (by_ids M) (plain_module (by_ids before) fits_whole) (plain_module (by_ids M) fits_ids) (clean_ids before) (clean_ids M) (is_left left fits_table bare_targets texts before labels ready h) ready.scoped.each_in_one_scope
+  up_there = free_up (by_ids before) (by_ids M) plain_whole plain_ids (clean_ids before) (clean_ids M) (is_left left fits_table bare_targets lose texts goal before labels ready h) ready.scoped.each_in_one_scope
 
   module _ (y : Id) (l : IsLoose u y) (i : Ident) (at : IsAt u l.path l.standing i) (is : id_of i ≡ y) where
     -- the name in the answer with labels
@@ -212,7 +209,7 @@ module _ (left : FixedNamesAreLeft) (fits_table : FixedFitsTable) (bare_targets 
         let names : is_name b.at.place.standing ≡ true = ap is_name b.at.stands_so ∙ binding_names v b.binds in
         let (d, j, bound) = same.forth q b.at.place c x stands in
         let one_label : SameId x z = id_name_apart x z (ap (λ (i : Ident). i.sym) (sym one) ∙ b.at.named) in
-        let one_id : SameId j i = (ids before labels u ready h r q l.path x z j i (b.at.place, c, stands, names) name_there (b.at.place, d, bound, names) (at.place, at.kind, at.stands, reference_names at.place.standing refers)).1 one_label in
+        let one_id : SameId j i = (ids goal before labels u ready h r q l.path x z j i (b.at.place, c, stands, names) name_there (b.at.place, d, bound, names) (at.place, at.kind, at.stands, reference_names at.place.standing refers)).1 one_label in
         let one_so : id_of j ≡ id_of i = λ n. (one_id.0 n, one_id.1 n) in
         l.unbound (q, v, to_id u q v j (record { place = b.at.place; kind = d; stands = bound; stands_so = b.at.stands_so }) ∙ ap (λ (x : Id). Some (v, x)) (one_so ∙ is), b.binds)
 
@@ -232,7 +229,7 @@ module _ (left : FixedNamesAreLeft) (fits_table : FixedFitsTable) (bare_targets 
         let name : id_name j ≡ id_name z = ap (λ (i : Ident). i.sym) (sym one) ∙ f.at.named in
         let one_id = id_name_apart j z name in
         let loose : IsLoose before (id_of j)
-        = free_is_loose before ready.fits ready.scoped f.path f.standing j (record { place = f.at.place; kind = c; stands = stands; stands_so = f.at.stands_so }) f.refers (λ d. f.undeclared (subst (IsDeclared (by_ids before)) name d)) in
+        = free_is_loose before goal ready.fits ready.scoped f.path f.standing j (record { place = f.at.place; kind = c; stands = stands; stands_so = f.at.stands_so }) f.refers (λ d. f.undeclared (subst (IsDeclared (by_ids before)) name d)) in
         let id_is : id_of j ≡ id_of_label label_there.name.ctxt = λ n. (one_id.0 n, one_id.1 n) in
         record {
           name = label_there.name;
@@ -240,7 +237,7 @@ module _ (left : FixedNamesAreLeft) (fits_table : FixedFitsTable) (bare_targets 
           loose = subst (IsLoose before) id_is loose;
         }
 
-pub loose_names_were_loose : FixedNamesAreLeft → FixedFitsTable → TargetsStandBare → TextsAreAsWritable → LabelsAreIds → LooseNamesWereLoose
-loose_names_were_loose left fits_table bare_targets texts ids before labels u ready h r y l =
+pub loose_names_were_loose : FixedNamesAreLeft → FixedFitsTable → TargetsStandBare → FixedScriptsLoseNoName → TextsAreAsWritable → LabelsAreIds → LooseNamesWereLoose
+loose_names_were_loose left fits_table bare_targets lose texts ids goal before labels u ready h r y l =
     let (i, at, is) = from_id u l.path l.standing y l.stands in
-    was_loose left fits_table bare_targets texts ids before labels u ready h r y l i at is
+    was_loose left fits_table bare_targets lose texts ids goal before labels u ready h r y l i at is

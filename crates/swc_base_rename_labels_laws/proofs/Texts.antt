@@ -1,14 +1,11 @@
--- Each name of what the fixer makes of a module with labels has the text of its label.
+-- Each name of what the fixer makes of a program with labels has the text of its label.
 use Rattle.std.proofs.Common.{◌≡◌, ⊎_elim, inl, ℕ, Bool, true, false, IsTrue, Option, Some, None, List, refl, sym, ap, ◌∙◌, subst}
 use Rattle.std.specs.Prelude.{option_map, unwrap_or, if◌then◌else◌}
 use Rattle.std.proofs.lemmas.Slice.Eq.{bytes_eq-Decides}
 use Rattle.std.proofs.Math.Seq.{drop-append_seam, take-append_seam}
 use Rattle.swc_tree_marks.specs.declared.ident.Ident.{Ident}
 use Rattle.swc_tree_node.specs.declared.kind.Kind.{Kind}
-use Rattle.swc_tree_node.specs.declared.kind.Class.TheVariants as class
-use Rattle.swc_tree_node.specs.declared.slot.Content.TheVariants as content
 use Rattle.swc_tree_node.specs.declared.slot.Slot.{Slot}
-use Rattle.swc_tree_node.specs.declared.slot.Slot.TheVariants as slot
 use Rattle.swc_tree_node.specs.declared.node.Node.{Node, Identifier}
 use Rattle.swc_tree_node.specs.Fits.{Fits}
 use Rattle.swc_tree_scoping.specs.declared.places.Place.{Place}
@@ -33,9 +30,6 @@ use Rattle.swc_base_rename_laws.proofs.Outline.{identifiers_alike}
 use Rattle.swc_base_rename_contexts_laws.specs.Laws.{id_of_label, labelled_changes}
 use Rattle.swc_base_rename_labels_laws.specs.Labels.{label, labelled, text_of_label}
 use Rattle.swc_base_rename_labels_laws.proofs.Changed.{fits_changed, from_changed, one_name}
-
-abbrev module_place : Slot
-module_place = slot.One (content.Node class.Module)
 
 -- ---- trees with labels
 

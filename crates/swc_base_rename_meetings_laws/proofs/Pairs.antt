@@ -1,4 +1,4 @@
--- In a module with some more pairs of parentheses the same ids meet.
+-- In a program with some more pairs of parentheses the same ids meet.
 use Rattle.std.proofs.Common.{◌≡◌, ℕ, zero, suc, Bool, true, false, not, ◌&&◌, ◌||◌, IsTrue, Option, Some, None, List, [], ◌∷◌, map, refl, sym, ap, ◌∙◌, subst, cond}
 use Rattle.std.specs.List.{list_all, slice_get}
 use Rattle.std.specs.Prelude.{unwrap_or, option_map}
@@ -24,6 +24,7 @@ use Rattle.swc_tree_scoping.specs.declared.places.Place.{Place}
 use Rattle.swc_tree_scoping.specs.Places.{binds_patterns, by_keyword, field_role, has_own_name, is_identifier_expression, is_there, part_standing, place_in, program_place, standing_below}
 use Rattle.swc_tree_scoping.specs.Folds.{each_in}
 use Rattle.swc_tree_scoping.proofs.Remarked.{tree_is}
+use Rattle.swc_tree_renaming.specs.Apart.{is_goal}
 use Rattle.swc_tree_grammar.specs.Due.{with_due_pairs}
 use Rattle.swc_tree_grammar.proofs.Places.{Stands, stands}
 use Rattle.swc_tree_sites.proofs.Leaves.{Field}
@@ -292,8 +293,20 @@ mutual
       ∙ ap (both (cond (g zero) (M (ps zero) t (b zero) (r zero)) nothing))
       (fields_keep d fit.1 (λ i. g (suc i)) (λ i. b (suc i)) (λ i. o (suc i)) (λ i. r (suc i)) (λ i. e (suc i)) (λ i. ps (suc i)) (λ i. qs (suc i)) (λ i. fine (suc i)))
 
+-- the place of a program holds no head of a `for`
+no_head : (goal : Slot) → IsTrue (is_goal goal) → is_head goal ≡ true → ⊥
+no_head (slot.One (content.Node class.Module)) h e = absurd (cc)
+no_head (slot.One (content.Node class.Script)) h e = absurd (cc)
+no_head _ h e = absurd (cc)
+
+-- nor parts of patterns and expressions
+pub no_parts : (goal : Slot) → IsTrue (is_goal goal) → has_parts goal ≡ true → ⊥
+no_parts (slot.One (content.Node class.Module)) h e = absurd (cc)
+no_parts (slot.One (content.Node class.Script)) h e = absurd (cc)
+no_parts _ h e = absurd (cc)
+
 pub due_pairs_keep_meetings : DuePairsKeepMeetings
-due_pairs_keep_meetings place t fit =
+due_pairs_keep_meetings place goal t is fit =
     ap (λ (m : Meeting). m false None) (placed (with_due_pairs place t) program_place (T standing.Plain) refl)
-    ∙ keeps (due_set place t (slot.One (content.Node class.Module)) fit) fit standing.Plain false None (λ e. absurd (cc)) (λ e. absurd (cc)) (λ e. (refl, refl))
+    ∙ keeps (due_set place t goal fit) fit standing.Plain false None (λ e. absurd (no_head goal is e)) (λ e. absurd (no_parts goal is e)) (λ e. (refl, refl))
     ∙ ap (λ (m : Meeting). m false None) (sym (placed t program_place (T standing.Plain) refl))

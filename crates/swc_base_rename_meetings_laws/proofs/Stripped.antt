@@ -1,4 +1,4 @@
--- In a module that is stripped no more ids meet.
+-- In a program that is stripped no more ids meet.
 use Rattle.std.proofs.Common.{◌≡◌, ℕ, zero, suc, Bool, true, false, not, ◌||◌, IsTrue, Option, Some, None, List, [], ◌∷◌, map, refl, sym, ap, ◌∙◌, subst, cond, rules}
 use Rattle.std.specs.List.{filter, flat_map, list_all, slice_get}
 use Rattle.std.specs.Prelude.{option_map, unwrap_or}
@@ -48,7 +48,7 @@ use Rattle.swc_base_rename_meetings_laws.specs.Laws.{StrippingAddsNoPairs}
 use Rattle.swc_base_rename_meetings_laws.proofs.Bodies.{Kept, no_body, no_own, with_own}
 use Rattle.swc_base_rename_meetings_laws.proofs.Expressions.{T, alike, of_identifier}
 use Rattle.swc_base_rename_meetings_laws.proofs.Lists.{E, EachIn, Q, X, all_at, all_in, each_all, each_filter, each_through, list_expr, of_list, of_sequence, settled_in}
-use Rattle.swc_base_rename_meetings_laws.proofs.Pairs.{item_parts, own_part}
+use Rattle.swc_base_rename_meetings_laws.proofs.Pairs.{item_parts, no_parts, own_part}
 use Rattle.swc_base_rename_meetings_laws.proofs.StrippedLooks.{Bares, bare_below, identifier_kept, keyword_kept, own_expression, own_kept, there_kept}
 
 abbrev Claim : Node → Type 0
@@ -334,8 +334,8 @@ claim t = by_children Claim (
     list_claim tree_claim t
 
 pub stripping_adds_no_pairs : StrippingAddsNoPairs
-stripping_adds_no_pairs t fit b none z h =
-    let inner = claim t standing.Plain standing.Plain (slot.One (content.Node class.Module)) false None fit b (λ e. absurd (cc)) (same_answers standing.Plain t refl) (λ e. (refl, refl)) in
+stripping_adds_no_pairs goal t is fit b none z h =
+    let inner = claim t standing.Plain standing.Plain goal false None fit b (λ e. absurd (no_parts goal is e)) (same_answers standing.Plain t refl) (λ e. (refl, refl)) in
     let less : Within (met (stripped t)) (met t)
     = subst (λ (m : Met). Within m (met t)) (ap (λ (m : Meeting). m false None) (sym (placed (stripped t) program_place (T standing.Plain) refl)))
     (subst (Within (M (T standing.Plain) (stripped t) false None)) (ap (λ (m : Meeting). m false None) (sym (placed t program_place (T standing.Plain) refl))) inner) in

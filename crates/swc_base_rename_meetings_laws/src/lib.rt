@@ -6,12 +6,12 @@
 
 ghost use Rattle.swc_base_rename_meetings_laws.specs.Laws.{DuePairsKeepMeetings, StrippingAddsNoPairs};
 
-/// A module with its due pairs has the same names, and the same ids meet in it.
+/// A program with its due pairs has the same names, and the same ids meet in it.
 pub fn due_pairs_keep_meetings()
     ensures { DuePairsKeepMeetings }
 {}
 
-/// In a module that is stripped no more ids meet, where a scope takes each binding.
+/// In a program that is stripped no more ids meet, where a scope takes each binding.
 pub fn stripping_adds_no_pairs()
     ensures { StrippingAddsNoPairs }
 {}

@@ -326,17 +326,17 @@ module _ (m : Changes) where
   )
       (λ ts h. claim (Many ts) (ap is_exported_in (outs-List ts)) (list_single ts h)) tree_claim
 
--- what a module meets anew
-pub new_names_within : (m : Changes) (t : Node) → Fits t (slot.One (content.Node class.Module)) → Within (met (substituted m false place.Other t)) (mapped (anew m) (met t))
-new_names_within m t fit = (claims m t).0 place.Other program_place (slot.One (content.Node class.Module)) false None None (agrees_plain place.Other program_place refl refl) fit refl
+-- what a tree meets anew
+pub new_names_within : (m : Changes) (s : Slot) (t : Node) → Fits t s → Within (met (substituted m false place.Other t)) (mapped (anew m) (met t))
+new_names_within m s t fit = (claims m t).0 place.Other program_place s false None None (agrees_plain place.Other program_place refl refl) fit refl
 
 nothing_left : {X : Type 0} (xs : List X) → Subset xs [] → xs ≡ []
 nothing_left [] h = refl
 nothing_left (x ∷ xs) h = absurd (h x (inl refl))
 
 pub substitution_keeps_meetings : SubstitutionKeepsMeetings
-substitution_keeps_meetings m t answer fit none is =
-    let less : Within (met answer) (mapped (anew m) (met t)) = subst (λ u. Within (met u) (mapped (anew m) (met t))) (sym is) (new_names_within m t fit) in
+substitution_keeps_meetings m s t answer fit none is =
+    let less : Within (met answer) (mapped (anew m) (met t)) = subst (λ u. Within (met u) (mapped (anew m) (met t))) (sym is) (new_names_within m s t fit) in
     let empty : (mapped (anew m) (met t)).pending ≡ [] = ap (λ l. map (other_bound (anew m)) l) none in
     record {
       pending = nothing_left (met answer).pending (λ x i. subst (In x) empty (less.pending x i));

@@ -1,8 +1,6 @@
 -- Which ids meet in a tree whose names are given anew.
 use Rattle.std.specs.Prelude.{◌≡◌, false, [], map, unwrap_or}
-use Rattle.swc_tree_node.specs.declared.kind.Class.TheVariants as class
-use Rattle.swc_tree_node.specs.declared.slot.Content.TheVariants as content
-use Rattle.swc_tree_node.specs.declared.slot.Slot.TheVariants as slot
+use Rattle.swc_tree_node.specs.declared.slot.Slot.{Slot}
 use Rattle.swc_tree_node.specs.declared.node.Node.{Node}
 use Rattle.swc_tree_node.specs.Fits.{Fits}
 use Rattle.swc_tree_scoping.specs.BoundNames.{Id}
@@ -31,7 +29,7 @@ pub record MeetsNoMore (a b : Met) : Type 0 where
   pub names : (x : Id) → In x a.names → In x b.names
   pub pairs : (z : Id × Id) → In z a.pairs → In z b.pairs
 
--- in a module in which a scope takes each binding, where names are given anew and no class keeps its name, new ids meet of
--- ids that met: what is added to export lists meets what the bindings meet
+-- in a tree that fits some place, as each module and each script does, in which a scope takes each binding, where names are given anew
+-- and no class keeps its name, new ids meet of ids that met: what is added to export lists meets what the bindings meet
 abbrev pub SubstitutionKeepsMeetings : Type 0
-SubstitutionKeepsMeetings = (m : Changes) (t answer : Node) → Fits t (slot.One (content.Node class.Module)) → (met t).pending ≡ [] → Substituted m false t answer → MeetsNoMore (met answer) (mapped (anew m) (met t))
+SubstitutionKeepsMeetings = (m : Changes) (place : Slot) (t answer : Node) → Fits t place → (met t).pending ≡ [] → Substituted m false t answer → MeetsNoMore (met answer) (mapped (anew m) (met t))

@@ -6,7 +6,7 @@
 
 ghost use Rattle.swc_base_rename_meetings_names_laws.specs.Laws.{SubstitutionKeepsMeetings};
 
-/// In a module whose names are given anew, with no class that keeps its name, ids meet that are the new ones of ids that met.
+/// In a tree that fits some place, whose names are given anew, with no class that keeps its name, ids meet that are the new ones of ids that met.
 pub fn substitution_keeps_meetings()
     ensures { SubstitutionKeepsMeetings }
 {}

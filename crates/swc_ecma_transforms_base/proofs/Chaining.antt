@@ -21,14 +21,12 @@ use Rattle.swc_base_resolver.specs.Visits.{RefusesNode, ResolvesNode}
 use Rattle.swc_base_resolver_program.specs.Marked.{IsRefusal, MarksOk}
 use Rattle.swc_base_rename_substitution.specs.declared.config.Config.{Config}
 use Rattle.swc_base_rename_units.specs.Eval.{HasEval}
-use Rattle.swc_base_rename_ids_laws.proofs.Programs.{module_place}
 use Rattle.swc_ecma_transforms_base_laws.specs.Sources.{IsSource, ResolvedSourcesAreReady}
 use Rattle.swc_ecma_transforms_base_laws.specs.Headline.{ChainingKeepsForms, ChainingKeepsSources, KeepsItsForm, KeepsItsSource}
 use Rattle.swc_ecma_transforms_base_settled_laws.specs.Settled.{ChainChangesNothing, IsAnswer}
 use Rattle.swc_ecma_transforms_base.specs.Chained.{Chains, HasFreshMarks, IsChainRefusal, IsMarked, IsOnceHygienic, marks_for}
 use Rattle.swc_ecma_transforms_base.specs.Finished.{Finishes, IsFinishRefusal}
 use Rattle.swc_ecma_transforms_base.specs.Lent.{MovesFor, MovesPartly}
-use Rattle.swc_ecma_transforms_base.proofs.Finishing.{module_plain}
 
 pub marked : (unresolved top : ℕ) (pass kept : ℕ × ℕ) (old new : Table) (given before resolved : Node) → pass ≡ (unresolved, top) → given ≡ before → TypesAreTold → has_types before ≡ false
     → ResolvesNode pass old given kept new resolved → IsMarked unresolved top old before new resolved
@@ -94,20 +92,24 @@ module _ (unresolved top : ℕ) (config : Config) (old : Table) (before : Node) 
       subst (λ t. KeepsItsSource unresolved top old new before t) (sym f.paired)
       (law config (recorded (pairs f.between)) goal unresolved top old new before resolved f.between is fits s plain ok.0.1 (m.resolved ok) f.hygienic).0
 
-  pub answered : ResolvedSourcesAreReady → (after : Node) → Finishes new config resolved after → Fits before module_place → IsSource config before → ¬ HasEval before → MarksOk old unresolved top → IsAnswer after
+  pub answered : ResolvedSourcesAreReady → (goal : Slot) → IsTrue (is_goal goal) → (after : Node) → Finishes new config resolved after → Fits before goal → IsPlainIfScript before → IsSource config before → ¬ HasEval before → MarksOk old unresolved top
+      → IsAnswer after
   unfolding answer_to
-  answered ready after f fits s unread ok =
-      let is = ready config module_place before resolved unresolved top old new refl fits s (module_plain before fits) ok.0.1 (m.resolved ok) in
+  answered ready goal is after f fits plain s unread ok =
+      let prepared = ready config goal before resolved unresolved top old new is fits s plain ok.0.1 (m.resolved ok) in
       record {
         table = new;
         config = config;
         place = recorded (pairs f.between);
         before = resolved;
         middle = f.between;
-        stands = is.form.fits;
-        finishable = is.form.finishable;
-        unread = is.form.unread unread;
-        scoped = is.well_scoped;
+        goal = goal;
+        program = is;
+        stands = prepared.form.fits;
+        finishable = prepared.form.finishable;
+        plain = prepared.plain;
+        unread = prepared.form.unread unread;
+        scoped = prepared.well_scoped;
         hygienic = f.hygienic;
         paired = f.paired;
       }

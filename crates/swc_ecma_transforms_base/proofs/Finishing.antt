@@ -137,23 +137,25 @@ module _ (table : Table) (config : Config) (goal : Slot) (before : Node) (is : I
   meets_none (Ok t) law h = tt
   meets_none (Err e) law h = no_target law e h
 
--- a module is asked nothing more
-pub module_plain : (t : Node) → Fits t module_place → IsPlainIfScript t
-module_plain t f = plain_if_module t (fits_module t f)
-
-module _ (table : Table) (config : Config) (before : Node) (fits : Fits before module_place) (finishable : IsFinishable config before) where
-  pub answered : ¬ HasEval before → WellScoped before → (after : Node) → Finishes table config before after → IsAnswer after
+  pub answered : IsPlainIfScript before → ¬ HasEval before → WellScoped before → (after : Node) → Finishes table config before after → IsAnswer after
   unfolding answer_to
-  answered unread scoped after f = record {
+  answered plain unread scoped after f = record {
     table = table;
     config = config;
     place = recorded (pairs f.between);
     before = before;
     middle = f.between;
+    goal = goal;
+    program = is;
     stands = fits;
     finishable = finishable;
+    plain = plain;
     unread = unread;
     scoped = scoped;
     hygienic = f.hygienic;
     paired = f.paired;
   }
+
+-- a module is asked nothing more
+pub module_plain : (t : Node) → Fits t module_place → IsPlainIfScript t
+module_plain t f = plain_if_module t (fits_module t f)

@@ -32,7 +32,8 @@ use swc_tree_spaces_laws::types_are_told;
 /// pairs that are not set again. Neither mark may be the root; which scope each name means is promised where `marks_ok` holds of them.
 ///
 /// A module without contexts and early errors of names that can be written down, in which nothing reads names and where classes don't
-/// keep theirs, becomes one that the grammar derives, with the normal form that it had but for the names that it binds. Two names
+/// keep theirs, becomes the same module but for the names that it binds (`AlphaEquivalent`): of one shape, with free names, labels and
+/// keys as they were, and two names for one thing exactly if they were. The grammar derives it. Two names
 /// of the source have one text and one scope, or one text and no scope, exactly if the resolver gave them one id; two kept names of the
 /// answer have so exactly then, and exactly then get one id, however the answer is resolved. No target of it is to blame.
 ///
@@ -93,6 +94,9 @@ pub fn chain_module<C: Comments>(
 /// block, catch body or case list of sloppy code, no label names a function, its program declares neither `undefined` nor `NaN` nor
 /// `Infinity`, and no function has two parameters of one name.
 ///
+/// What `finish_script` answered to a well-scoped script of that kind, or this call to such a source, stays as it is, spans too, if no
+/// direct `eval` and no `with` stood in it, not even an ignored one (`IsAnswer`).
+///
 /// # Errors
 ///
 /// Those of `chain_module`.
@@ -113,7 +117,9 @@ pub fn chain_script<C: Comments>(
     ensures marks { HasFreshMarks top globals.old (script_node program.old) globals.new }
     ensures form { IsSource config (script_node program.old) → MarksOk globals.old unresolved top → OnOk result (KeepsItsForm (script_node program.old) (script_node program.new)) }
     ensures promises { IsSource config (script_node program.old) → IsPlainScript (script_node program.old) → MarksOk globals.old unresolved top → OnOk result (KeepsItsSource unresolved top globals.old globals.new (script_node program.old) (script_node program.new)) }
+    ensures answer { IsSource config (script_node program.old) → IsPlainScript (script_node program.old) → ¬ HasEval (script_node program.old) → MarksOk globals.old unresolved top → OnOk result (IsAnswer (script_node program.new)) }
     ensures no_target { IsSource config (script_node program.old) → MarksOk globals.old unresolved top → IfErr result (λ e. e ≢ error.NotAssignable) }
+    ensures again { IsAnswer (script_node program.old) → config.keep_class_names ≡ false → MarksOk globals.old unresolved top → OnOk result (script_node program.new ≡ script_node program.old) }
     ensures moved { OnOk result (Became (MovesFor C.moved (IsOnceHygienic unresolved top config globals.old (script_node program.old) globals.new) (script_node program.new)) comments.entry comments.exit) }
     ensures partly { OnErr result (Became (MovesPartly C.moved (IsOnceHygienic unresolved top config globals.old (script_node program.old) globals.new)) comments.entry comments.exit) }
     ensures unmoved { IfErr result (λ e. e ≢ error.NoMemory → Became (λ c d. d ≡ c) comments.entry comments.exit) }
@@ -222,7 +228,9 @@ fn chain_script_with<C: Comments>(
     ensures marks { HasFreshMarks top globals.old (script_node program.old) globals.new }
     ensures form { IsSource config (script_node program.old) → MarksOk globals.old unresolved top → OnOk result (KeepsItsForm (script_node program.old) (script_node program.new)) }
     ensures promises { IsSource config (script_node program.old) → IsPlainScript (script_node program.old) → MarksOk globals.old unresolved top → OnOk result (KeepsItsSource unresolved top globals.old globals.new (script_node program.old) (script_node program.new)) }
+    ensures answer { IsSource config (script_node program.old) → IsPlainScript (script_node program.old) → ¬ HasEval (script_node program.old) → MarksOk globals.old unresolved top → OnOk result (IsAnswer (script_node program.new)) }
     ensures no_target { IsSource config (script_node program.old) → MarksOk globals.old unresolved top → IfErr result (λ e. e ≢ error.NotAssignable) }
+    ensures again { IsAnswer (script_node program.old) → config.keep_class_names ≡ false → MarksOk globals.old unresolved top → OnOk result (script_node program.new ≡ script_node program.old) }
     ensures moved { OnOk result (MovesFor C.moved (IsOnceHygienic unresolved top config globals.old (script_node program.old) globals.new) (script_node program.new) comments.old comments.new) }
     ensures partly { OnErr result (MovesPartly C.moved (IsOnceHygienic unresolved top config globals.old (script_node program.old) globals.new) comments.old comments.new) }
     ensures unmoved { IfErr result (λ e. e ≢ error.NoMemory → comments.new ≡ comments.old) }
@@ -253,7 +261,9 @@ fn chain_typeless_script<C: Comments>(
     ensures marks { HasFreshMarks top globals.old (script_node program.old) globals.new }
     ensures form { IsSource config (script_node program.old) → MarksOk globals.old unresolved top → OnOk result (KeepsItsForm (script_node program.old) (script_node program.new)) }
     ensures promises { IsSource config (script_node program.old) → IsPlainScript (script_node program.old) → MarksOk globals.old unresolved top → OnOk result (KeepsItsSource unresolved top globals.old globals.new (script_node program.old) (script_node program.new)) }
+    ensures answer { IsSource config (script_node program.old) → IsPlainScript (script_node program.old) → ¬ HasEval (script_node program.old) → MarksOk globals.old unresolved top → OnOk result (IsAnswer (script_node program.new)) }
     ensures no_target { IsSource config (script_node program.old) → MarksOk globals.old unresolved top → IfErr result (λ e. e ≢ error.NotAssignable) }
+    ensures again { IsAnswer (script_node program.old) → config.keep_class_names ≡ false → MarksOk globals.old unresolved top → OnOk result (script_node program.new ≡ script_node program.old) }
     ensures moved { OnOk result (MovesFor C.moved (IsOnceHygienic unresolved top config globals.old (script_node program.old) globals.new) (script_node program.new) comments.old comments.new) }
     ensures partly { OnErr result (MovesPartly C.moved (IsOnceHygienic unresolved top config globals.old (script_node program.old) globals.new) comments.old comments.new) }
     ensures unmoved { IfErr result (λ e. e ≢ error.NoMemory → comments.new ≡ comments.old) }
@@ -261,6 +271,8 @@ fn chain_typeless_script<C: Comments>(
     types_are_told();
     chaining_keeps_forms();
     chaining_keeps_sources();
+    resolved_sources_are_ready();
+    a_chain_changes_nothing();
     script_fits(program);
     let mut script = mem::replace(program, empty_script(alloc, program.span));
     let mut resolver = resolver(unresolved, top);

@@ -30,8 +30,10 @@ use swc_tree::{
 ///
 /// A module that can be written down, in which nothing reads names and where classes don't keep theirs, becomes one that the
 /// grammar derives, with the normal form that it had but for the names that it binds; no target of it is to blame then. Where it
-/// is well-scoped, the answer gives two kept names one id exactly if it did, however the answer is resolved; by itself it gives
-/// them one text and one scope, or one text and no scope, exactly then; and it has no early error of names. If in addition no direct
+/// is well-scoped, the answer is the same program, but for names, as each source without contexts that it could be resolved from, in
+/// which no `var` declares a catch parameter's name again (`ComesFrom`, `AlphaEquivalent`); it gives two kept names one id exactly if
+/// the module did, however it is resolved; by itself it gives them one text and one scope, or one text and no scope, exactly then; and
+/// it has no early error of names. If in addition no direct
 /// `eval` and no `with` stands in it, not even an ignored one, `chain_module` answers the answer again, spans too (`IsAnswer`).
 ///
 /// # Errors
@@ -71,7 +73,7 @@ pub fn finish_module<C: Comments>(
 /// derives, with the normal form that it had but for the names that it binds; no target of it is to blame then. What `finish_module`
 /// promises of names is promised of it if in addition (`IsPlainScript`) no plain function stands in a block, catch body or case list
 /// of sloppy code, no label names a function, its program declares neither `undefined` nor `NaN` nor `Infinity`, and no function has
-/// two parameters of one id.
+/// two parameters of one id; and `chain_script` answers the answer again where `chain_module` does (`IsAnswer`).
 ///
 /// # Errors
 ///
@@ -86,6 +88,7 @@ pub fn finish_script<C: Comments>(
     ensures done { OnOk result (Finishes globals.old config (script_node program.old) (script_node program.new)) }
     ensures form { IsFinishable config (script_node program.old) → OnOk result (KeepsItsForm (script_node program.old) (script_node program.new)) }
     ensures promises { IsFinishable config (script_node program.old) → IsPlainScript (script_node program.old) → OnOk result (KeepsItsPromises (script_node program.old) (script_node program.new)) }
+    ensures answer { IsFinishable config (script_node program.old) → IsPlainScript (script_node program.old) → ¬ HasEval (script_node program.old) → WellScoped (script_node program.old) → OnOk result (IsAnswer (script_node program.new)) }
     ensures refused { OnErr result (IsEmptiedScript program.old program.new) }
     ensures cause { IfErr result (IsFinishRefusal globals.old config (script_node program.old)) }
     ensures no_target { IsFinishable config (script_node program.old) → IfErr result IsOfMemoryOrCounters }
@@ -141,6 +144,7 @@ pub(crate) fn finish_script_with<C: Comments>(
     ensures done { OnOk result (Finishes globals.old config (script_node program.old) (script_node program.new)) }
     ensures form { IsFinishable config (script_node program.old) → OnOk result (KeepsItsForm (script_node program.old) (script_node program.new)) }
     ensures promises { IsFinishable config (script_node program.old) → IsPlainScript (script_node program.old) → OnOk result (KeepsItsPromises (script_node program.old) (script_node program.new)) }
+    ensures answer { IsFinishable config (script_node program.old) → IsPlainScript (script_node program.old) → ¬ HasEval (script_node program.old) → WellScoped (script_node program.old) → OnOk result (IsAnswer (script_node program.new)) }
     ensures refused { OnErr result (IsEmptiedScript program.old program.new) }
     ensures cause { IfErr result (IsFinishRefusal globals.old config (script_node program.old)) }
     ensures no_target { IsFinishable config (script_node program.old) → IfErr result IsOfMemoryOrCounters }

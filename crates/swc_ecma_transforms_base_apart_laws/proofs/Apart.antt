@@ -1,19 +1,16 @@
 -- What hygiene and then the fixer answer has texts apart where ids meet, once it is resolved: by the laws of labels.
-use Rattle.std.proofs.Common.{◌≡◌, ℕ, Bool, true, false, IsTrue, nat_eq, Option, Some, None, List, [], refl, sym, ap, ◌∙◌, subst}
+use Rattle.std.proofs.Common.{◌≡◌, ℕ, Bool, true, false, IsTrue, inl, nat_eq, Option, Some, None, List, [], refl, sym, ap, ◌∙◌, subst}
 use Rattle.std.specs.Prelude.{option_map, if◌then◌else◌}
 use Rattle.std.specs.Cmp.Lexicographic.{pointwise}
 use Rattle.std.proofs.Math.Seq.{drop-append_seam, take-append_seam}
-use Rattle.swc_tree_node.specs.declared.kind.Class.TheVariants as class
-use Rattle.swc_tree_node.specs.declared.slot.Content.TheVariants as content
-use Rattle.swc_tree_node.specs.declared.slot.Slot.{Slot}
-use Rattle.swc_tree_node.specs.declared.slot.Slot.TheVariants as slot
 use Rattle.swc_tree_node.specs.declared.node.Node.{Node}
 use Rattle.swc_tree_node.specs.Fits.{Fits, fits}
 use Rattle.swc_tree_scoping.specs.Readings.{by_texts}
 use Rattle.swc_tree_scoping.specs.Resolved.{Resolved}
 use Rattle.swc_tree_scoping.specs.BoundNames.{Id}
 use Rattle.swc_tree_scoping.specs.WellScoped.{NoEarlyErrorOfNames}
-use Rattle.swc_tree_renaming.proofs.Global.{plain_if_module}
+use Rattle.swc_tree_renaming.specs.Apart.{IsPlainIfScript, nameless}
+use Rattle.swc_tree_renaming.proofs.Global.{fits_goal}
 use Rattle.swc_tree_grammar.specs.Blocks.{with_blocks}
 use Rattle.swc_tree_grammar.specs.Fixed.{fixed}
 use Rattle.swc_tree_grammar.specs.Stripped.{stripped}
@@ -25,42 +22,45 @@ use Rattle.swc_tree_grammar_texts.proofs.Cleared.{bare}
 use Rattle.swc_tree_sites.specs.Smaller.{In}
 use Rattle.swc_tree_sites.proofs.Found.{in_map}
 use Rattle.swc_base_fixer_laws.specs.Laws.{TargetsStandBare}
-use Rattle.swc_base_fixer_sites.proofs.Answers.{fits_module}
 use Rattle.swc_base_fixer_texts.specs.Laws.{FixingNeedsNoContexts}
 use Rattle.swc_base_rename_substitution.specs.declared.place.Place.TheVariants as place
 use Rattle.swc_base_rename_substitution.specs.Names.{if_other_text}
 use Rattle.swc_base_rename_substitution.specs.Substituted.{substituted}
 use Rattle.swc_base_rename_program.specs.Renamed.{new_id_by}
-use Rattle.swc_base_rename_hygiene_laws.specs.Laws.{HygieneStaysFitting, HygieneStaysWritable}
+use Rattle.swc_base_rename_hygiene_laws.specs.Laws.{HygieneStaysFitting, HygieneStaysSettled, HygieneStaysWritable}
 use Rattle.swc_base_rename_hygiene_laws.proofs.StaysWritable.{plain_names}
 use Rattle.swc_base_rename_texts_laws.proofs.NewTexts.{substituted_given}
 use Rattle.swc_base_rename_errors_laws.specs.Laws.{AnswerHasNoEarlyErrorOfNames}
+use Rattle.swc_base_rename_errors_laws.proofs.Programs.{goal_open}
+use Rattle.swc_base_rename_ids_laws.specs.Laws.{IsSettledIfScript}
+use Rattle.swc_base_rename_ids_laws.proofs.Programs.{script_of_goal}
 use Rattle.swc_base_rename_contexts_laws.specs.Laws.{SubstitutionNeedsNoContexts, id_of_label, labelled_changes, new_text, own_label, with_label}
 use Rattle.swc_base_rename_meetings_laws.specs.Laws.{DuePairsKeepMeetings, StrippingAddsNoPairs}
 use Rattle.swc_base_rename_meetings_names_laws.specs.Laws.{SubstitutionKeepsMeetings, anew, other_pair}
-use Rattle.swc_base_rename_settled_laws.specs.Laws.{BlocksAddNoPairs, ModulesTakeAll}
+use Rattle.swc_base_rename_settled_laws.specs.Laws.{BlocksAddNoPairs, ProgramsTakeAll}
 use Rattle.swc_base_rename_settled_laws.specs.Meetings.{Met, met}
 use Rattle.swc_base_rename_labels_laws.specs.Labels.{labelled}
 use Rattle.swc_base_rename_labels_laws.specs.Laws.{HasNewLabels, IsReady, IsResolvedSo}
-use Rattle.swc_base_rename_labels_laws.proofs.Changed.{fits_changed}
+use Rattle.swc_base_rename_labels_laws.proofs.Changed.{fits_changed, nameless_changed}
+use Rattle.swc_base_rename_labels_laws.proofs.Programs.{settled_shape}
 use Rattle.swc_base_rename_labels_laws.proofs.Texts.{fits_labelled}
 use Rattle.swc_base_rename_carried_laws.specs.Laws.{LabelledAnswersAreApartGiven, LabelsMeetAsTheOld}
-use Rattle.swc_ecma_transforms_base_settled_laws.specs.Settled.{AnswersAreApart, ChainChangesNothing, ChainChangesNothingGiven, ChainChangesSpans, ChainChangesSpansGiven}
-
-abbrev module_place : Slot
-module_place = slot.One (content.Node class.Module)
+use Rattle.swc_ecma_transforms_base_settled_laws.specs.Settled.{AnswersAreApart, AnswersAreCleanPrograms, ChainChangesNothing, ChainChangesNothingGiven, ChainChangesSpans, ChainChangesSpansGiven}
 
 -- ---- ids with labels meet as the old ones did
 
-pub labels_meet_as_the_old : DuePairsKeepMeetings → BlocksAddNoPairs → StrippingAddsNoPairs → ModulesTakeAll → SubstitutionKeepsMeetings → TargetsStandBare → LabelsMeetAsTheOld
-labels_meet_as_the_old pairs blocks strips take keeps targets before labels ready h x y i =
-    let first = fits_labelled before module_place ready.fits in
-    let bare_targets = targets h.given module_place h.fits h.writable in
-    let within : Fits (stripped h.given) module_place = stripped_fits h.given module_place bare_targets refl h.fits in
-    let blocked = blocks_fit (stripped h.given) module_place within in
-    let in_blocks : In {X = Id × Id} (x, y) (met (with_blocks (stripped h.given))).pairs = subst (λ (m : Met). In {X = Id × Id} (x, y) m.pairs) (ap met h.fixed_so ∙ pairs h.place (with_blocks (stripped h.given)) blocked) i in
-    let in_given = strips h.given h.fits bare_targets (take h.given (fits_module h.given h.fits)) (x, y) (blocks (stripped h.given) (take (stripped h.given) (fits_module (stripped h.given) within)) (x, y) in_blocks) in
-    let all = keeps (labelled_changes h.new_texts) (labelled before) h.given first (take (labelled before) (fits_module (labelled before) first)) h.substituted in
+pub labels_meet_as_the_old : DuePairsKeepMeetings → BlocksAddNoPairs → StrippingAddsNoPairs → ProgramsTakeAll → SubstitutionKeepsMeetings → TargetsStandBare → LabelsMeetAsTheOld
+labels_meet_as_the_old pairs blocks strips take keeps targets goal before labels ready h x y i =
+    let is = ready.program in
+    let first = fits_labelled before goal ready.fits in
+    let bare_targets = targets h.given goal h.written.fits h.written.writable in
+    let within : Fits (stripped h.given) goal = stripped_fits h.given goal bare_targets (goal_open goal is) h.written.fits in
+    let blocked = blocks_fit (stripped h.given) goal within in
+    let in_blocks : In {X = Id × Id} (x, y) (met (with_blocks (stripped h.given))).pairs
+    = subst (λ (m : Met). In {X = Id × Id} (x, y) m.pairs) (ap met h.fixed_so ∙ pairs h.place goal (with_blocks (stripped h.given)) is blocked) i in
+    let in_given = strips goal h.given is h.written.fits bare_targets (take h.given (fits_goal goal h.given is h.written.fits)) (x, y)
+    (blocks (stripped h.given) (take (stripped h.given) (fits_goal goal (stripped h.given) is within)) (x, y) in_blocks) in
+    let all = keeps (labelled_changes h.new_texts) goal (labelled before) h.given first (take (labelled before) (fits_goal goal (labelled before) is first)) h.substituted in
     let (z, j, e) = in_map (other_pair (anew (labelled_changes h.new_texts))) (x, y) (met (labelled before)).pairs (all.pairs (x, y) in_given) in
     (z.0, z.1, j, ap (λ (z : Id × Id). z.0) e, ap (λ (z : Id × Id). z.1) e)
 
@@ -87,29 +87,36 @@ needs_no_labels needless new_texts t =
 
 -- ---- answers
 
-pub answers_are_apart : HygieneStaysFitting → HygieneStaysWritable → AnswerHasNoEarlyErrorOfNames → FixingNeedsNoContexts → SubstitutionNeedsNoContexts → TextsAreAsWritable → LabelsMeetAsTheOld → LabelledAnswersAreApartGiven → AnswersAreApart
-answers_are_apart fitting stays fair fixing needless texts old_pairs law answer u unresolved top old new a known resolved =
+pub answers_are_apart : HygieneStaysFitting → HygieneStaysWritable → HygieneStaysSettled → AnswerHasNoEarlyErrorOfNames → AnswersAreCleanPrograms → FixingNeedsNoContexts → SubstitutionNeedsNoContexts → TextsAreAsWritable → LabelsMeetAsTheOld → LabelledAnswersAreApartGiven
+    → AnswersAreApart
+answers_are_apart fitting stays stays_settled fair cleans fixing needless texts old_pairs law answer u unresolved top old new a known resolved =
     let (given, renamed, cleared) = a.hygienic in
     let names = plain_names a.table a.config a.before given a.finishable.plain renamed in
-    let within : Fits a.middle module_place = fitting a.table a.config module_place a.before a.middle refl a.finishable.plain a.stands a.hygienic in
-    let writable : IsTrue (is_writable a.middle) = stays a.table a.config module_place a.before a.middle a.finishable.plain a.stands a.finishable.writable a.hygienic in
+    let within : Fits a.middle a.goal = fitting a.table a.config a.goal a.before a.middle a.program a.finishable.plain a.stands a.hygienic in
+    let writable : IsTrue (is_writable a.middle) = stays a.table a.config a.goal a.before a.middle a.finishable.plain a.stands a.finishable.writable a.hygienic in
+    let settled : IsSettledIfScript a.middle
+    = (λ s. let p = a.plain (script_of_goal a.goal a.program a.middle a.before within a.stands (inl s)) in stays_settled a.table a.config a.goal a.before a.middle a.program a.finishable.plain a.stands a.hygienic (p.settled, p.unlabelled)) in
     let v = substituted (labelled_changes names.new_texts) false place.Other (labelled a.before) in
     let text_of_v : by_texts v ≡ a.middle = needs_no_labels needless names.new_texts a.before ∙ ap by_texts (sym (substituted_given a.before given names)) ∙ sym cleared in
     let labels = fixed a.place v in
     let text_of_labels : by_texts labels ≡ answer = sym (fixing a.place v) ∙ ap (fixed a.place) text_of_v ∙ sym a.paired in
-    let h : HasNewLabels a.before labels = record {
+    let h : HasNewLabels a.goal a.before labels = record {
       new_texts = names.new_texts;
       named = names.named;
       place = a.place;
       given = v;
       substituted = refl;
-      fits = sym (fits_changed bare v module_place) ∙ ap (λ t. fits t module_place) text_of_v ∙ within;
-      writable = sym (texts v) ∙ ap is_writable text_of_v ∙ writable;
+      written = record {
+        fits = sym (fits_changed bare v a.goal) ∙ ap (λ t. fits t a.goal) text_of_v ∙ within;
+        writable = sym (texts v) ∙ ap is_writable text_of_v ∙ writable;
+        settled = settled_shape a.middle v (ap nameless (sym text_of_v) ∙ nameless_changed bare v) settled;
+      };
       fixed_so = refl;
     } in
-    let ready : IsReady a.before = record { fits = a.stands; writable = a.finishable.writable; scoped = a.scoped } in
+    let ready : IsReady a.goal a.before = record { program = a.program; fits = a.stands; writable = a.finishable.writable; plain = a.plain; scoped = a.scoped } in
     let r : IsResolvedSo labels u = record {
-      fair = subst NoEarlyErrorOfNames (sym (text_of_labels ∙ a.paired)) (fair a.table a.config a.place module_place a.before a.middle refl a.stands a.finishable (plain_if_module a.before (fits_module a.before a.stands)) a.scoped a.hygienic);
+      plain = subst IsPlainIfScript (sym text_of_labels) (cleans answer a).plain;
+      fair = subst NoEarlyErrorOfNames (sym (text_of_labels ∙ a.paired)) (fair a.table a.config a.place a.goal a.before a.middle a.program a.stands a.finishable a.plain a.scoped a.hygienic);
       unresolved = unresolved;
       top = top;
       old = old;
@@ -117,7 +124,7 @@ answers_are_apart fitting stays fair fixing needless texts old_pairs law answer 
       known = known;
       resolved = subst (λ t. Resolved unresolved top old new t u) (sym text_of_labels) resolved;
     } in
-    law old_pairs a.before labels u ready h r
+    law old_pairs a.goal a.before labels u ready h r
 
 pub a_chain_changes_spans : ChainChangesSpansGiven → AnswersAreApart → ChainChangesSpans
 a_chain_changes_spans chain apart = chain apart

@@ -12,21 +12,25 @@ use swc_base_fixer_texts::fixing_needs_no_contexts;
 use swc_base_rename_carried_laws::labelled_answers_are_apart;
 use swc_base_rename_contexts_laws::substitution_needs_no_contexts;
 use swc_base_rename_errors_laws::answer_has_no_early_error_of_names;
-use swc_base_rename_hygiene_laws::{hygiene_stays_fitting, hygiene_stays_writable};
+use swc_base_rename_hygiene_laws::{
+    hygiene_stays_fitting, hygiene_stays_settled, hygiene_stays_writable,
+};
 use swc_base_rename_meetings_laws::{due_pairs_keep_meetings, stripping_adds_no_pairs};
 use swc_base_rename_meetings_names_laws::substitution_keeps_meetings;
-use swc_base_rename_settled_laws::{blocks_add_no_pairs, modules_take_all};
-use swc_ecma_transforms_base_settled_laws::{chain_changes_nothing, chain_changes_spans};
+use swc_base_rename_settled_laws::{blocks_add_no_pairs, programs_take_all};
+use swc_ecma_transforms_base_settled_laws::{
+    answers_are_clean_programs, chain_changes_nothing, chain_changes_spans,
+};
 use swc_tree_grammar_texts::texts_are_as_writable;
 
-/// Ids that meet in what the fixer makes of a module with labels are the new ones of ids that met.
+/// Ids that meet in what the fixer makes of a program with labels are the new ones of ids that met.
 pub fn labels_meet_as_the_old()
     ensures { LabelsMeetAsTheOld }
 {
     due_pairs_keep_meetings();
     blocks_add_no_pairs();
     stripping_adds_no_pairs();
-    modules_take_all();
+    programs_take_all();
     substitution_keeps_meetings();
     targets_stand_bare();
 }
@@ -37,7 +41,9 @@ pub fn answers_are_apart()
 {
     hygiene_stays_fitting();
     hygiene_stays_writable();
+    hygiene_stays_settled();
     answer_has_no_early_error_of_names();
+    answers_are_clean_programs();
     fixing_needs_no_contexts();
     substitution_needs_no_contexts();
     texts_are_as_writable();

@@ -1,16 +1,13 @@
--- What hygiene and then the fixer answer is a module without contexts.
-use Rattle.std.proofs.Common.{◌≡◌, refl, sym, ap, ◌∙◌, subst}
+-- What hygiene and then the fixer answer is a program without contexts, and of a plain script a plain script.
+use Rattle.std.proofs.Common.{◌≡◌, sym, ap, ◌∙◌, subst}
 use Rattle.swc_tree_marks.specs.declared.ident.Ident.{Ident}
-use Rattle.swc_tree_node.specs.declared.kind.Class.TheVariants as class
-use Rattle.swc_tree_node.specs.declared.slot.Content.TheVariants as content
-use Rattle.swc_tree_node.specs.declared.slot.Slot.{Slot}
-use Rattle.swc_tree_node.specs.declared.slot.Slot.TheVariants as slot
 use Rattle.swc_tree_node.specs.declared.node.Node.{Node, Identifier}
 use Rattle.swc_tree_node.specs.Fits.{Fits}
 use Rattle.swc_tree_scoping.specs.declared.places.Place.{Place}
 use Rattle.swc_tree_scoping.specs.Places.{place_at, program_place}
 use Rattle.swc_tree_scoping.specs.Readings.{by_texts}
 use Rattle.swc_tree_scoping.specs.WellScoped.{IsClean}
+use Rattle.swc_tree_renaming.specs.Apart.{IsPlainIfScript}
 use Rattle.swc_tree_renaming.proofs.Shape.{some_same, twice}
 use Rattle.swc_tree_renaming.proofs.Whole.{identifier_same}
 use Rattle.swc_tree_grammar.specs.Blocks.{with_blocks}
@@ -27,11 +24,10 @@ use Rattle.swc_tree_spaces.specs.NoTypes.{ListsAreItems}
 use Rattle.swc_base_fixer_laws.proofs.Fixed.{fixed_fits}
 use Rattle.swc_base_fixer_laws.proofs.NoNamespaces.{writable_has_no_namespaces}
 use Rattle.swc_base_resolver_laws.proofs.ExportLists.{lists_are_items}
-use Rattle.swc_base_rename_hygiene_laws.specs.Laws.{HygieneStaysFitting, HygieneStaysWritable}
-use Rattle.swc_ecma_transforms_base_settled_laws.specs.Settled.{AnswersAreCleanModules}
-
-abbrev module_place : Slot
-module_place = slot.One (content.Node class.Module)
+use Rattle.swc_base_rename_errors_laws.proofs.Errors.{Laws, stays_plain}
+use Rattle.swc_base_rename_errors_laws.proofs.Programs.{goal_open}
+use Rattle.swc_base_rename_ids_laws.proofs.Globals.{no_digit}
+use Rattle.swc_ecma_transforms_base_settled_laws.specs.Settled.{AnswersAreCleanPrograms}
 
 -- a tree that has no contexts to take off has none
 clean : (t : Node) → by_texts t ≡ t → IsClean t
@@ -39,18 +35,20 @@ clean t e p w k i h =
     let node = some_same (w, Identifier k i) (w, Identifier k (bare i)) (sym h ∙ sym (ap (λ t. place_at program_place t p) e) ∙ bare_there p program_place w t k i h) in
     ap (λ (i : Ident). i.ctxt) (identifier_same k k i (bare i) (ap (λ (q : Place × Node). q.1) node))
 
-pub answers_are_clean_modules : HygieneStaysFitting → HygieneStaysWritable → TargetsStandBare → FixingNeedsNoContexts → AnswersAreCleanModules
-answers_are_clean_modules fitting stays targets texts answer a =
+pub answers_are_clean_programs : Laws → TargetsStandBare → FixingNeedsNoContexts → AnswersAreCleanPrograms
+answers_are_clean_programs laws targets texts answer a =
     let (given, renamed, cleared) = a.hygienic in
-    let within = fitting a.table a.config module_place a.before a.middle refl a.finishable.plain a.stands a.hygienic in
-    let writable = stays a.table a.config module_place a.before a.middle a.finishable.plain a.stands a.finishable.writable a.hygienic in
-    let inner = blocks_fit (stripped a.middle) module_place (stripped_fits a.middle module_place (targets a.middle module_place within writable) refl within) in
+    let opens = goal_open a.goal a.program in
+    let within = laws.fits a.table a.config a.goal a.before a.middle a.program a.finishable.plain a.stands a.hygienic in
+    let writable = laws.writable a.table a.config a.goal a.before a.middle a.finishable.plain a.stands a.finishable.writable a.hygienic in
+    let inner = blocks_fit (stripped a.middle) a.goal (stripped_fits a.middle a.goal (targets a.middle a.goal within writable) opens within) in
     let once : by_texts a.middle ≡ a.middle = ap by_texts cleared ∙ twice bare bare given ∙ sym cleared in
     let whole : by_texts (fixed a.place a.middle) ≡ fixed a.place a.middle = sym (texts a.place a.middle) ∙ ap (fixed a.place) once in
-    let fits_whole : Fits (fixed a.place a.middle) module_place = due_fits a.place (with_blocks (stripped a.middle)) module_place inner in
-    let written = (fixed_fits a.place a.middle module_place refl within writable).0 in
+    let fits_whole : Fits (fixed a.place a.middle) a.goal = due_fits a.place (with_blocks (stripped a.middle)) a.goal inner in
+    let written = (fixed_fits a.place a.middle a.goal opens within writable).0 in
     record {
-      fits = subst (λ t. Fits t module_place) (sym a.paired) fits_whole;
+      fits = subst (λ t. Fits t a.goal) (sym a.paired) fits_whole;
       clean = subst IsClean (sym a.paired) (clean (fixed a.place a.middle) whole);
-      lists = subst ListsAreItems (sym a.paired) (lists_are_items module_place (fixed a.place a.middle) refl fits_whole (writable_has_no_namespaces (fixed a.place a.middle) module_place fits_whole written));
+      lists = subst ListsAreItems (sym a.paired) (lists_are_items a.goal (fixed a.place a.middle) a.program fits_whole (writable_has_no_namespaces (fixed a.place a.middle) a.goal fits_whole written));
+      plain = subst IsPlainIfScript (sym a.paired) (stays_plain laws a.table a.config a.place a.goal a.before a.middle a.program a.stands a.finishable a.plain a.scoped a.hygienic no_digit);
     }

@@ -8,10 +8,6 @@ use Rattle.std.proofs.lemmas.Bool.Decides.{nat_tests}
 use Rattle.std.proofs.lemmas.List.Folds.{list_any-append}
 use Rattle.std.proofs.lemmas.Slice.Eq.{bytes_eq-Decides}
 use Rattle.std.proofs.Math.Bool.{or-true}
-use Rattle.swc_tree_node.specs.declared.kind.Class.TheVariants as class
-use Rattle.swc_tree_node.specs.declared.slot.Content.TheVariants as content
-use Rattle.swc_tree_node.specs.declared.slot.Slot.{Slot}
-use Rattle.swc_tree_node.specs.declared.slot.Slot.TheVariants as slot
 use Rattle.swc_tree_node.specs.declared.node.Node.{Node}
 use Rattle.swc_tree_scoping.specs.BoundNames.{Id}
 use Rattle.swc_tree_grammar.specs.Blocks.{with_blocks}
@@ -26,13 +22,11 @@ use Rattle.swc_base_rename_substitution.specs.Names.{if_other_text, same_text}
 use Rattle.swc_base_rename_units.specs.Eval.{HasEval}
 use Rattle.swc_base_rename_units.proofs.Readers.{Decided, reads_decided, some_same}
 use Rattle.swc_base_rename_program.specs.Renamed.{new_id_by}
+use Rattle.swc_base_rename_errors_laws.proofs.Programs.{goal_open}
 use Rattle.swc_base_rename_hygiene_laws.specs.Laws.{HygieneStaysFitting, HygieneStaysWritable}
 use Rattle.swc_base_rename_hygiene_laws.proofs.StaysWritable.{Given, plain_names}
 use Rattle.swc_base_rename_readers_laws.specs.Laws.{BlocksAddNoReader, ContextsAddNoReader, DuePairsAddNoReader, NewNamesAddNoReader, StrippingAddsNoReader}
 use Rattle.swc_ecma_transforms_base_settled_laws.specs.Settled.{AnswersReadNoNames}
-
-abbrev module_place : Slot
-module_place = slot.One (content.Node class.Module)
 
 -- ---- a text with a number behind it is not `eval`
 
@@ -105,8 +99,8 @@ module _ (before given : Node) (names : Given before given) (renaming : NewNames
 pub answers_read_no_names : HygieneStaysFitting → HygieneStaysWritable → TargetsStandBare → NewNamesAddNoReader → ContextsAddNoReader → StrippingAddsNoReader → BlocksAddNoReader → DuePairsAddNoReader → AnswersReadNoNames
 answers_read_no_names fitting stays bare renaming contexts stripping blocks pairs answer a h =
     let (given, renamed, cleared) = a.hygienic in
-    let within = fitting a.table a.config module_place a.before a.middle refl a.finishable.plain a.stands a.hygienic in
-    let writable = stays a.table a.config module_place a.before a.middle a.finishable.plain a.stands a.finishable.writable a.hygienic in
-    let inner = blocks_fit (stripped a.middle) module_place (stripped_fits a.middle module_place (bare a.middle module_place within writable) refl within) in
-    let read = stripping a.middle module_place within writable (blocks (stripped a.middle) (pairs a.place (with_blocks (stripped a.middle)) module_place inner (subst HasEval a.paired h))) in
+    let within = fitting a.table a.config a.goal a.before a.middle a.program a.finishable.plain a.stands a.hygienic in
+    let writable = stays a.table a.config a.goal a.before a.middle a.finishable.plain a.stands a.finishable.writable a.hygienic in
+    let inner = blocks_fit (stripped a.middle) a.goal (stripped_fits a.middle a.goal (bare a.middle a.goal within writable) (goal_open a.goal a.program) within) in
+    let read = stripping a.middle a.goal within writable (blocks (stripped a.middle) (pairs a.place (with_blocks (stripped a.middle)) a.goal inner (subst HasEval a.paired h))) in
     a.unread (given_reads a.before given (plain_names a.table a.config a.before given a.finishable.plain renamed) renaming (contexts given (subst HasEval cleared read)))

@@ -1,15 +1,13 @@
 -- What hygiene and then the fixer answer, the three passes in a chain answer again.
-use Rattle.std.specs.Prelude.{◌≡◌, ℕ, false, Contains}
+use Rattle.std.specs.Prelude.{◌≡◌, ℕ, false, IsTrue, Contains}
 use Rattle.swc_tree_marks.specs.Globals.{Table, numbers}
-use Rattle.swc_tree_node.specs.declared.kind.Class.TheVariants as class
-use Rattle.swc_tree_node.specs.declared.slot.Content.TheVariants as content
 use Rattle.swc_tree_node.specs.declared.slot.Slot.{Slot}
-use Rattle.swc_tree_node.specs.declared.slot.Slot.TheVariants as slot
 use Rattle.swc_tree_node.specs.declared.node.Node.{Node}
 use Rattle.swc_tree_node.specs.Fits.{Fits}
 use Rattle.swc_tree_scoping.specs.Readings.{by_texts}
 use Rattle.swc_tree_scoping.specs.Resolved.{Resolved}
 use Rattle.swc_tree_scoping.specs.WellScoped.{IsClean, WellScoped}
+use Rattle.swc_tree_renaming.specs.Apart.{IsPlainIfScript, is_goal}
 use Rattle.swc_tree_spaces.specs.NoTypes.{ListsAreItems}
 use Rattle.swc_tree_grammar.specs.Due.{Places}
 use Rattle.swc_tree_grammar.specs.Fixed.{fixed, recorded}
@@ -26,28 +24,32 @@ abbrev pub HygieneLeavesApart : Type 0
 HygieneLeavesApart = (table : Table) (config : Config) (t answer : Node) (s : Slot) → IsPlain config t → Fits t s → WellScoped t → ApartWhereMet t own_text
     → IsHygienic table config t answer → answer ≡ by_texts t
 
--- what hygiene and then the fixer may answer to a well-scoped module that can be finished and in which nothing reads names
+-- what hygiene and then the fixer may answer to a well-scoped module, or plain script, that can be finished and in which nothing reads names
 pub record IsAnswer (answer : Node) : Type 0 where
   pub table : Table
   pub config : Config
   pub place : Places
   pub before : Node
   pub middle : Node
-  pub stands : Fits before (slot.One (content.Node class.Module))
+  pub goal : Slot
+  pub program : IsTrue (is_goal goal)
+  pub stands : Fits before goal
   pub finishable : IsFinishable config before
+  pub plain : IsPlainIfScript before
   pub unread : ¬ HasEval before
   pub scoped : WellScoped before
   pub hygienic : IsHygienic table config before middle
   pub paired : answer ≡ fixed place middle
 
--- it is a module without contexts, each export list of which is one of its items
-pub record IsCleanModule (answer : Node) : Type 0 where
-  pub fits : Fits answer (slot.One (content.Node class.Module))
+-- it is a program of that goal without contexts, each export list of which is one of its items; if it is a script, a plain one
+pub record IsCleanProgram (goal : Slot) (answer : Node) : Type 0 where
+  pub fits : Fits answer goal
   pub clean : IsClean answer
   pub lists : ListsAreItems answer
+  pub plain : IsPlainIfScript answer
 
-abbrev pub AnswersAreCleanModules : Type 0
-AnswersAreCleanModules = (answer : Node) → IsAnswer answer → IsCleanModule answer
+abbrev pub AnswersAreCleanPrograms : Type 0
+AnswersAreCleanPrograms = (answer : Node) → (a : IsAnswer answer) → IsCleanProgram a.goal answer
 
 -- and nothing reads names in it
 abbrev pub AnswersReadNoNames : Type 0

@@ -1,24 +1,29 @@
-//! What hygiene and then the fixer answer is a module without contexts, in which nothing reads names, and a chain answers it again, as far as its texts are apart.
+//! What hygiene and then the fixer answer is a program without contexts, in which nothing reads names, and a chain answers it again, as far as its texts are apart.
 //!
 //! `specs/Settled.antt` states the laws. The last two are implications: that the texts of a resolved answer are apart where its ids meet is
 //! their premise, which `swc_ecma_transforms_base_apart_laws` gives. Each law is the contract of a function that does nothing but call those of the laws that it rests on.
 #![tactic(auto)]
 
-ghost use Rattle.swc_ecma_transforms_base_settled_laws.specs.Settled.{AnswersAreCleanModules, AnswersReadNoNames, ChainChangesNothingGiven, ChainChangesSpansGiven, HygieneLeavesApart};
+ghost use Rattle.swc_ecma_transforms_base_settled_laws.specs.Settled.{AnswersAreCleanPrograms, AnswersReadNoNames, ChainChangesNothingGiven, ChainChangesSpansGiven, HygieneLeavesApart};
 
 use swc_base_fixer_laws::{
     second_run_changes_nothing, second_run_changes_spans, targets_stand_bare,
 };
 use swc_base_fixer_texts::fixing_needs_no_contexts;
 use swc_base_rename_errors_laws::answer_has_no_early_error_of_names;
-use swc_base_rename_hygiene_laws::{hygiene_stays_fitting, hygiene_stays_writable};
+use swc_base_rename_hygiene_laws::{
+    hygiene_stays_fitting, hygiene_stays_settled, hygiene_stays_writable,
+};
 use swc_base_rename_readers_laws::{
     blocks_add_no_reader, contexts_add_no_reader, due_pairs_add_no_reader, new_names_add_no_reader,
     stripping_adds_no_reader,
 };
+use swc_base_rename_scoped_laws::names_are_apart;
 use swc_base_rename_settled_laws::hygiene_keeps_apart;
 use swc_base_rename_source_laws::readers_need_no_contexts;
+use swc_base_rename_texts_laws::hygiene_gives_normal_form_new_texts;
 use swc_base_resolver_laws::clean_programs_become_well_scoped;
+use swc_tree_sites_scripts::{fixed_scripts_lose_no_name, plain_scripts_are_left};
 
 /// Where texts are apart where ids meet, hygiene leaves a tree as it is, but without contexts.
 pub fn hygiene_leaves_apart()
@@ -27,7 +32,7 @@ pub fn hygiene_leaves_apart()
     hygiene_keeps_apart();
 }
 
-/// Where nothing reads names in a module, nothing does in what hygiene and then the fixer answer.
+/// Where nothing reads names in a program, nothing does in what hygiene and then the fixer answer.
 pub fn answers_read_no_names()
     ensures { AnswersReadNoNames }
 {
@@ -41,12 +46,17 @@ pub fn answers_read_no_names()
     due_pairs_add_no_reader();
 }
 
-/// What hygiene and then the fixer answer is a module without contexts.
-pub fn answers_are_clean_modules()
-    ensures { AnswersAreCleanModules }
+/// What hygiene and then the fixer answer is a program without contexts, of a plain script a plain script.
+pub fn answers_are_clean_programs()
+    ensures { AnswersAreCleanPrograms }
 {
-    hygiene_stays_fitting();
+    names_are_apart();
+    hygiene_gives_normal_form_new_texts();
     hygiene_stays_writable();
+    hygiene_stays_fitting();
+    hygiene_stays_settled();
+    plain_scripts_are_left();
+    fixed_scripts_lose_no_name();
     targets_stand_bare();
     fixing_needs_no_contexts();
 }
@@ -58,7 +68,7 @@ pub fn chain_changes_spans()
 {
     hygiene_stays_fitting();
     answers_read_no_names();
-    answers_are_clean_modules();
+    answers_are_clean_programs();
     hygiene_leaves_apart();
     clean_programs_become_well_scoped();
     answer_has_no_early_error_of_names();
@@ -73,7 +83,7 @@ pub fn chain_changes_nothing()
     hygiene_stays_fitting();
     hygiene_stays_writable();
     answers_read_no_names();
-    answers_are_clean_modules();
+    answers_are_clean_programs();
     hygiene_leaves_apart();
     clean_programs_become_well_scoped();
     answer_has_no_early_error_of_names();

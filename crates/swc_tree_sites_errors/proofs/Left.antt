@@ -16,7 +16,7 @@ use Rattle.swc_tree_sites.proofs.Loose.{S}
 use Rattle.swc_tree_sites.proofs.Round.{taken_by, taken_is}
 use Rattle.swc_tree_sites.proofs.Transport.{binding_names, bound_binds, bound_in, declares_way, in_bound, sub_in, way_declares}
 use Rattle.swc_tree_sites_laws.proofs.LeftIds.{plain_clean}
-use Rattle.swc_tree_sites_errors.specs.Laws.{AnswerDeclares, AnswerRedeclaresNone, Answers, AreOfOneGoal, DeclaredStays, KeepsScopes}
+use Rattle.swc_tree_sites_errors.specs.Laws.{AnswerDeclares, AnswerRedeclaresNone, Answers, AreOfOneGoal, DeclaredStays, IsFair, KeepsScopes}
 use Rattle.swc_tree_sites_errors.proofs.NewTexts.{new_texts_redeclare_none, stays_fair as fair_named}
 use Rattle.swc_tree_sites_errors.proofs.Stays.{no_redeclaration_stays, scope_there, set_there, stays_fair as fair_kept}
 
@@ -76,13 +76,14 @@ module _ (t a n answer : Node) (text : List ℕ → List ℕ) (is : Answers t a 
   to_answer : AreOfOneGoal n answer
   to_answer = sym is.goals.1 ∙ is.goals.2
 
-  pub none_redeclared : NoRedeclaration t → NoRedeclaration answer
-  none_redeclared fine =
+  -- the answer is such a program, and declares none against the rules
+  pub fair_answer : NoRedeclaration t → IsFair answer × NoRedeclaration answer
+  fair_answer fine =
       let fair_a = fair_kept t a is.fair is.plain.0 is.goals.0 is.clean.0 is.clean.1 keeps fine in
       let fine_a = no_redeclaration_stays t a is.fair is.plain.0 is.goals.0 is.clean.0 is.clean.1 keeps fine in
       let fair_n = fair_named a n text fair_a is.plain.1 to_n is.clean.1 is.clean.2 is.shape is.texts apart fine_a in
       let fine_n = new_texts_redeclare_none a n text fair_a is.plain.1 to_n is.clean.1 is.clean.2 is.shape is.texts apart fine_a in
-      no_redeclaration_stays n answer fair_n is.plain.2 to_answer is.clean.2 is.clean.3 is.keeps fine_n
+      (fair_kept n answer fair_n is.plain.2 to_answer is.clean.2 is.clean.3 is.keeps fine_n, no_redeclaration_stays n answer fair_n is.plain.2 to_answer is.clean.2 is.clean.3 is.keeps fine_n)
 
   -- by the new text
   anew : (x : List ℕ) → Declares a [] x → Declares n [] (text x)
@@ -107,7 +108,7 @@ module _ (t a n answer : Node) (text : List ℕ → List ℕ) (is : Answers t a 
   declares x d = program_declares n answer plain_n (plain_clean answer is.plain.2 is.clean.3) is.keeps.program (text x) (anew x (program_declares t a plain_t plain_a is.program x d))
 
 pub answer_redeclares_none : AnswerRedeclaresNone
-answer_redeclares_none t a n answer text is fine = none_redeclared t a n answer text is fine
+answer_redeclares_none t a n answer text is fine = (fair_answer t a n answer text is fine).1
 
 pub answer_declares : AnswerDeclares
 answer_declares t a n answer text is x d = declares t a n answer text is x d

@@ -3,4 +3,16 @@ use Rattle.swc_base_rename_labels_laws.proofs.Meant.{labels_tell_texts}
 
 -- src/lib.rt
 pub returns : goal.returns
-returns c = labels_tell_texts c.stripping_answers_loses_none.ensures c.written_out_loses_none.ensures c.writable_modules_are_tame.ensures c.normal_form_stays.ensures c.fixed_fits.ensures c.fixed_fits_table.ensures c.targets_stand_bare.ensures c.writable_normal_form_is_left.ensures c.normal_form_has_new_names.ensures c.texts_are_as_writable.ensures
+returns c = labels_tell_texts (record {
+  loses = c.stripping_answers_loses_none.ensures;
+  written = c.written_out_loses_none.ensures;
+  tame = c.writable_modules_are_tame.ensures;
+  stays = c.normal_form_stays.ensures;
+  fit = c.fixed_fits.ensures;
+  fits_table = c.fixed_fits_table.ensures;
+  bare = c.targets_stand_bare.ensures;
+  scripts_lose = c.fixed_scripts_lose_no_name.ensures;
+  modules_left = c.writable_normal_form_is_left.ensures;
+  scripts_left = c.plain_scripts_are_left.ensures;
+  new_names = c.normal_form_has_new_names.ensures;
+}) c.texts_are_as_writable.ensures

@@ -40,7 +40,7 @@ returns-clause-answer g c =
     let m = marked c.args.unresolved c.args.top c.resolver-resolver.result c.visit_mut_module.new.self c.args.globals.now c.visit_mut_module.new.globals (module_node c.replace-module.result) (module_node c.args.program.now)
     (module_node c.visit_mut_module.new.program) c.resolver-resolver.ensures (ap module_node c.replace-module.ensures.value) c.types_are_told.ensures c.requires.no_types c.in_ok-visit_mut_module.ensures.done.made in
     answered c.args.unresolved c.args.top c.args.config c.args.globals.now (module_node c.args.program.now) c.visit_mut_module.new.globals (module_node c.visit_mut_module.new.program) m
-    c.resolved_sources_are_ready.ensures (module_node c.finish_module_with.new.program) c.in_ok-finish_module_with.ensures.done c.module_fits.ensures
+    c.resolved_sources_are_ready.ensures module_place refl (module_node c.finish_module_with.new.program) c.in_ok-finish_module_with.ensures.done c.module_fits.ensures (module_plain (module_node c.args.program.now) c.module_fits.ensures)
 
 pub returns-clause-again : goal.returns-clause-again
 returns-clause-again g c =

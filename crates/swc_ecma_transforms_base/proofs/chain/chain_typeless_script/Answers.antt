@@ -1,7 +1,7 @@
 use Rattle.std.proofs.Common.{ap, refl, rules}
 use Rattle.swc_tree_modules.specs.Nodes.{script_node}
 use Rattle.swc_tree_sites_scripts.specs.Laws.{script_place}
-use Rattle.swc_ecma_transforms_base.proofs.Chaining.{chained, form_kept, fresh_first, marked, moved_once, moved_partly, no_target_first, no_target_later, refused_first, refused_later, source_kept}
+use Rattle.swc_ecma_transforms_base.proofs.Chaining.{answered, chained, form_kept, fresh_first, marked, moved_once, moved_partly, no_target_first, no_target_later, refused_first, refused_later, source_kept, stays}
 use Rattle.swc_ecma_transforms_base.proofs.Finishing.{where_refused}
 use Rattle.swc_ecma_transforms_base.proofs.chain.chain_typeless_script.Goals as goal
 
@@ -61,6 +61,20 @@ returns-clause-promises g c =
     rw c.finish_script_with.ensures.marks
     (λ source plain ok. source_kept c.args.unresolved c.args.top c.args.config c.args.globals.now (script_node c.args.program.now) c.visit_mut_script.new.globals (script_node c.visit_mut_script.new.program) m
     c.chaining_keeps_sources.ensures script_place refl (script_node c.finish_script_with.new.program) c.in_ok-finish_script_with.ensures.done c.script_fits.ensures (λ s. plain) source ok)
+
+pub returns-clause-answer : goal.returns-clause-answer
+returns-clause-answer g c =
+    let m = marked c.args.unresolved c.args.top c.resolver-resolver.result c.visit_mut_script.new.self c.args.globals.now c.visit_mut_script.new.globals (script_node c.replace-script.result) (script_node c.args.program.now)
+    (script_node c.visit_mut_script.new.program) c.resolver-resolver.ensures (ap script_node c.replace-script.ensures.value) c.types_are_told.ensures c.requires.no_types c.in_ok-visit_mut_script.ensures.done.made in
+    λ source plain. answered c.args.unresolved c.args.top c.args.config c.args.globals.now (script_node c.args.program.now) c.visit_mut_script.new.globals (script_node c.visit_mut_script.new.program) m
+    c.resolved_sources_are_ready.ensures script_place refl (script_node c.finish_script_with.new.program) c.in_ok-finish_script_with.ensures.done c.script_fits.ensures (λ s. plain) source
+
+pub returns-clause-again : goal.returns-clause-again
+returns-clause-again g c =
+    let m = marked c.args.unresolved c.args.top c.resolver-resolver.result c.visit_mut_script.new.self c.args.globals.now c.visit_mut_script.new.globals (script_node c.replace-script.result) (script_node c.args.program.now)
+    (script_node c.visit_mut_script.new.program) c.resolver-resolver.ensures (ap script_node c.replace-script.ensures.value) c.types_are_told.ensures c.requires.no_types c.in_ok-visit_mut_script.ensures.done.made in
+    stays c.args.unresolved c.args.top c.args.config c.args.globals.now (script_node c.args.program.now) c.visit_mut_script.new.globals (script_node c.visit_mut_script.new.program) m
+    c.a_chain_changes_nothing.ensures (script_node c.finish_script_with.new.program) c.in_ok-finish_script_with.ensures.done
 
 pub returns-in_err-finish_script_with-clause-no_target : goal.returns-in_err-finish_script_with-clause-no_target
 returns-in_err-finish_script_with-clause-no_target g c =

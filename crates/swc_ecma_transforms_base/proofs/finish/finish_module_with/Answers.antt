@@ -43,7 +43,7 @@ pub returns-clause-answer : goal.returns-clause-answer
 returns-clause-answer g c =
     let m = made_hygienic c.args.globals.now c.visit_mut_module.new.globals c.args.config c.hygiene_with_config-hygiene.result c.visit_mut_module.new.self (module_node c.replace-module.result) (module_node c.args.program.now)
     (module_node c.visit_mut_module.new.program) c.hygiene_with_config-hygiene.ensures (ap module_node c.replace-module.ensures.value) c.in_ok-visit_mut_module.ensures.done.made in
-    λ f unread scoped. answered c.args.globals.now c.args.config (module_node c.args.program.now) c.module_fits.ensures f unread scoped (module_node c.fix_module.new.program)
+    λ f unread scoped. answered c.args.globals.now c.args.config module_place (module_node c.args.program.now) refl c.module_fits.ensures f (module_plain (module_node c.args.program.now) c.module_fits.ensures) unread scoped (module_node c.fix_module.new.program)
     (record { no_types = (typeless (module_node c.replace-module.result) (module_node c.args.program.now) _ (ap module_node c.replace-module.ensures.value) c.in_ok-visit_mut_module.ensures.done); between = module_node c.visit_mut_module.new.program; hygienic = m; assignable = c.in_ok-fix_module.ensures.assignable; paired = c.in_ok-fix_module.ensures.answer })
 
 pub returns-in_err-visit_mut_module-clause-cause : goal.returns-in_err-visit_mut_module-clause-cause
