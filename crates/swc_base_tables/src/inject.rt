@@ -1,11 +1,12 @@
 //! Bringing helpers into a program, as a pass.
-ghost use Rattle.std.specs.Prelude.{◌≡◌, ◌≢◌, ◌⊎◌, Some, None, true, OnErr, OnOk, IfOk, IfErr};
+ghost use Rattle.std.specs.Prelude.{◌≡◌, ◌≢◌, ◌⊎◌, Some, None, true, false, OnErr, OnOk, IfOk, IfErr};
 ghost use Rattle.swc_tree_node.specs.declared.slot.Slot.{Slot as Slot'};
 ghost use Rattle.swc_tree_node.specs.Fits.{Fits};
 ghost use Rattle.swc_tree.specs.Passes.{IsEmptied, IsEmptiedScript, IsExtended};
 ghost use Rattle.swc_tree_modules.specs.Nodes.{module_node, script_node};
+ghost use Rattle.swc_tree_spaces.specs.Spaces.{has_types};
 ghost use Rattle.swc_base_tables_program.specs.Given.{Covers};
-ghost use Rattle.swc_base_tables.specs.Kept.{KeepsWellScoped};
+ghost use Rattle.swc_base_tables.specs.Kept.{KeepsScriptWellScoped, KeepsWellScoped};
 ghost use Rattle.swc_base_tables.specs.Types.{InjectsProgram, RefusesProgram, brings_types, meets_types};
 ghost use Rattle.swc_base_tables.specs.Visits.{GetsHelpers, InjectsNode, IsRefusedHelpers, RefusesNode};
 
@@ -13,12 +14,15 @@ use crate::bodies::HelperBodies;
 use std::alloc::Global;
 use std::mem;
 use swc_base_tables_helpers::{HelperData, Helpers};
-use swc_base_tables_laws::injection_keeps_a_module_well_scoped;
+use swc_base_tables_laws::{
+    injection_keeps_a_module_well_scoped, injection_keeps_a_script_well_scoped,
+};
 use swc_tree::{JsPass, empty_module, empty_script, types_in_module, types_in_script};
 use swc_tree_handle::Opened;
 use swc_tree_marks::{Globals, Mark, PassError};
 use swc_tree_modules::{Module, Script};
 use swc_tree_node::Node;
+use swc_tree_spaces_laws::types_are_told;
 
 /// Brings helpers into the first program that it is run on. Contracts see whether it has yet run by its bodies.
 #[derive(Drop)]
@@ -124,10 +128,13 @@ impl InjectHelpers {
         program: &mut Script,
     ) -> Result<(), PassError>
         ensures done { OnOk result (InjectsNode self.old globals.old (script_node program.old) self.new globals.new (script_node program.new)) }
+        ensures well_scoped { has_types (script_node program.old) ≡ false → OnOk result (KeepsScriptWellScoped self.old globals.old (script_node program.old) (script_node program.new)) }
         ensures refused { OnErr result (IsEmptiedScript program.old program.new) }
         ensures marks { IsExtended globals.old globals.new }
         ensures cause { IfErr result (RefusesNode self.old globals.old (script_node program.old) self.new globals.new) }
     {
+        injection_keeps_a_script_well_scoped();
+        types_are_told();
         let Some(bodies) = self.bodies.take() else {
             return Ok(());
         };
@@ -178,7 +185,8 @@ impl JsPass for InjectHelpers {
         self.inject_in_module(alloc, globals, program)
     }
 
-    /// Brings helpers into a program of the goal Script, from a package by `require`; else as `visit_mut_module`.
+    /// Brings helpers into a program of the goal Script, from a package by `require`; else as `visit_mut_module`. A well-scoped script
+    /// stays so on the same terms; bodies have to be a plain script of its strictness.
     ///
     /// # Errors
     ///
@@ -190,6 +198,7 @@ impl JsPass for InjectHelpers {
         program: &mut Script,
     ) -> Result<(), PassError>
         ensures done { OnOk result (InjectsProgram self.old globals.old (script_node program.old) self.new globals.new (script_node program.new)) }
+        ensures well_scoped { OnOk result (KeepsScriptWellScoped self.old globals.old (script_node program.old) (script_node program.new)) }
         ensures refused { OnErr result (IsEmptiedScript program.old program.new) }
         ensures marks { IsExtended globals.old globals.new }
         ensures cause { IfErr result (RefusesProgram self.old globals.old (script_node program.old) self.new globals.new) }

@@ -8,7 +8,7 @@ use Rattle.swc_tree_scoping.specs.Places.{directive_or, has_use_strict, items_in
 use Rattle.swc_base_tables_injection.specs.Brought.{nowhere, string}
 use Rattle.swc_base_tables_injection.specs.Alone.{IsOfStrictness, alone, is_strict_program, opening}
 
-first_says : (strict : Bool) (ts : List Node) → has_use_strict (opening strict ∷ ts) ≡ strict
+pub first_says : (strict : Bool) (ts : List Node) → has_use_strict (opening strict ∷ ts) ≡ strict
 first_says true ts =
     ap (λ y. directive_or (option_map says (statement_in y)) (has_use_strict ts)) (outs-Tree kind.ExprStmt (nowhere ∷ string (codes "use strict") ∷ []))
     ∙ ap (λ y. directive_or (option_map says (literal_in y)) (has_use_strict ts)) (outs-Tree kind.Str (nowhere ∷ Text (codes "use strict") ∷ Absent ∷ []))

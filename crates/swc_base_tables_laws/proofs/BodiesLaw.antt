@@ -1,9 +1,10 @@
--- A module with the bodies of helpers in it, resolved, is as well-scoped as it was.
+-- A program with the bodies of helpers in it, resolved, is as well-scoped as it was.
 use Rattle.std.proofs.Common.{◌≡◌, ◌≢◌, ◌||◌, ◌⊎◌, ℕ, Bool, true, false, inl, inr, ⊎_elim, IsTrue, Option, Some, None, List, [], ◌∷◌, ◌++◌, Contains, drop, take, refl, sym, ap, ◌∙◌, subst}
 use Rattle.std.specs.List.{prefix_len}
 use Rattle.std.proofs.lemmas.List.{take-append-drop}
 use Rattle.swc_tree_marks.specs.declared.ident.Ident.{Ident}
 use Rattle.swc_tree_marks.specs.Globals.{Table, numbers}
+use Rattle.swc_tree_node.specs.declared.kind.Kind.{Kind}
 use Rattle.swc_tree_node.specs.declared.kind.Kind.TheVariants as kind
 use Rattle.swc_tree_node.specs.declared.kind.Class.TheVariants as class
 use Rattle.swc_tree_node.specs.declared.slot.Content.TheVariants as content
@@ -12,56 +13,54 @@ use Rattle.swc_tree_node.specs.declared.slot.Slot.TheVariants as slot
 use Rattle.swc_tree_node.specs.declared.node.Node.{Node, Absent}
 use Rattle.swc_tree_node.specs.Fits.{Fits}
 use Rattle.swc_tree_scoping.specs.declared.places.Standing.{Standing}
-use Rattle.swc_tree_scoping.specs.Places.{Path, program_place}
+use Rattle.swc_tree_scoping.specs.Places.{Path, has_use_strict, program_place}
 use Rattle.swc_tree_scoping.specs.Scopes.{IsScope, is_binding, is_name, is_reference, rounds}
 use Rattle.swc_tree_scoping.specs.Declares.{Declares, DeclaresFor, Means}
 use Rattle.swc_tree_scoping.specs.Readings.{by_ids, id_name}
 use Rattle.swc_tree_scoping.specs.Resolved.{Resolved, mark_in}
 use Rattle.swc_tree_scoping.specs.WellScoped.{IsClean, IsDeclared, IsFree, NoEarlyErrorOfNames, Stands, WellScoped}
-use Rattle.swc_tree_renaming.specs.Apart.{IsPlainIfScript, NameAt}
+use Rattle.swc_tree_renaming.specs.Apart.{IsPlainIfScript, NameAt, is_goal}
 use Rattle.swc_tree_renaming.proofs.Core.{head_in, taker_declares}
 use Rattle.swc_tree_renaming.proofs.Global.{fits_module, plain_if_module}
 use Rattle.swc_tree_renaming.proofs.Whole.{from_ids}
+use Rattle.swc_base_resolver_laws.proofs.ExportLists.{lists_are_items}
 use Rattle.swc_base_resolver_laws.proofs.Declared.{bound_forth, declares_bound}
 use Rattle.swc_base_resolver_laws.proofs.FreeIds.{free_context}
 use Rattle.swc_base_resolver_laws.proofs.Lists.{found, row_of}
 use Rattle.swc_base_resolver_laws.proofs.Names.{Resolving, binding_context, contexts, marks, name_apart, name_is, name_of, no_sloppy, reference_context, round_scope, stands_back, taker_is, takers_scope, text_at}
 use Rattle.swc_base_resolver_laws.proofs.Whole.{clean_programs_become_well_scoped}
-use Rattle.swc_tree_spaces.specs.NoTypes.{ListsAreItems}
+use Rattle.swc_tree_spaces.specs.NoTypes.{ListsAreItems, NoNamespaces, NoTypes}
 use Rattle.swc_tree_spaces_laws.proofs.Agree.{resolved_alike}
-use Rattle.swc_base_tables_injection.specs.Alone.{alone, opening}
+use Rattle.swc_base_tables_injection.specs.Alone.{IsInjected, ResolvedAlone, all_bodies, alone, is_strict_program, opening}
 use Rattle.swc_base_tables_injection.specs.Bodies.{is_string, put_in}
 use Rattle.swc_base_tables_injection.specs.Brought.{nowhere}
-use Rattle.swc_base_tables_laws.specs.Laws.{BodiesKeepWellScoped, IsInjectable, KnowsContexts, bodies_alone}
+use Rattle.swc_base_tables_laws.specs.Laws.{BodiesKeepScriptWellScoped, BodiesKeepWellScoped, IsInjectableAs, KnowsContexts, bodies_alone, bodies_in_script}
 use Rattle.swc_base_tables_laws.proofs.Imported.{absent_plain, nowhere_plain, opening_plain}
 use Rattle.swc_base_tables_laws.proofs.ImportsLaw.{not_both, only_or}
 use Rattle.swc_base_tables_laws.proofs.Injected.{injected, scoped_of}
-use Rattle.swc_base_tables_laws.proofs.Inside.{binding_at, stands_of}
+use Rattle.swc_base_tables_laws.proofs.Declarers.{binding_at, stands_of}
 use Rattle.swc_base_tables_laws.proofs.Joined.{BoundApart, Offered, bound_is_name, reference_is_name}
-use Rattle.swc_base_tables_laws.proofs.Modules.{HasNoNames, module_of}
-use Rattle.swc_base_tables_laws.proofs.Parts.{parts_of, put_in_is}
+use Rattle.swc_base_tables_laws.proofs.Joining.{joined}
+use Rattle.swc_base_tables_laws.proofs.Parts.{Parts, parts_of, put_in_is, script_parts, split_is, strict_is}
+use Rattle.swc_base_tables_laws.proofs.Programs.{HasNoNames, code_of, is_goal_kind, program_of}
+use Rattle.swc_base_tables_laws.proofs.Resolved.{as_strict}
+use Rattle.swc_base_tables_laws.proofs.Strictly.{code_alone, code_stays}
 
 -- a name is bound or referred to
 either : (b c : Bool) → IsTrue (b || c) → IsTrue b ⊎ IsTrue c
 either true c h = inl refl
 either false c h = inr h
 
-module _ (helper global : ℕ) (old new : Table) (W : Node) (statements : List Node) (fitting : Fits W (slot.One (content.Node class.Module))) (lists : ListsAreItems W) (clean : IsClean W) (fair : NoEarlyErrorOfNames W)
-    (known : Contains (numbers old) global) (resolved : Resolved global helper old new W (alone kind.Module true statements)) where
+module _ (k : Kind) (kinds : IsTrue (is_goal_kind k)) (goal : Slot) (program : IsTrue (is_goal goal)) (strict : Bool) (helper global : ℕ) (old new : Table) (W : Node) (statements : List Node) (fitting : Fits W goal) (plain : IsPlainIfScript W) (lists : ListsAreItems W)
+    (clean : IsClean W) (fair : NoEarlyErrorOfNames W) (known : Contains (numbers old) global) (resolved : Resolved global helper old new W (alone k strict statements)) where
   abbrev V : Node
-  V = alone kind.Module true statements
-
-  abbrev module_place : Slot
-  module_place = slot.One (content.Node class.Module)
-
-  plain : IsPlainIfScript W
-  plain = plain_if_module W (fits_module W fitting)
+  V = alone k strict statements
 
   abbrev G : Resolving W V
-  G = record { unresolved = global; top = helper; old = old; new = new; goal = module_place; program = refl; fitting = fitting; plain = plain; clean = clean; fair = fair; known = known; resolved = resolved }
+  G = record { unresolved = global; top = helper; old = old; new = new; goal = goal; program = program; fitting = fitting; plain = plain; clean = clean; fair = fair; known = known; resolved = resolved }
 
   well_scoped_alone : WellScoped V
-  well_scoped_alone = clean_programs_become_well_scoped module_place W V global helper old new refl fitting plain lists clean fair known resolved
+  well_scoped_alone = clean_programs_become_well_scoped goal W V global helper old new program fitting plain lists clean fair known resolved
 
   abbrev HasContextThere : Path → Type 0
   HasContextThere q = (contexts W V G q ≡ global ∷ []) ⊎ ((s : Path) × IsScope W s × (contexts W V G q ≡ marks W V G s ∷ []))
@@ -86,9 +85,10 @@ module _ (helper global : ℕ) (old new : Table) (W : Node) (statements : List N
       referred : IsTrue (is_reference r) → HasContextThere q
       referred g = let (m, means, e) = reference_context W V G q r text before g in meant m means e
 
-  module _ (a z : Node) (na : HasNoNames a) (nz : HasNoNames z) (front back : List Node) (knows : KnowsContexts old (module_of a (front ++ back) z)) (h : IsInjectable helper global (Declares W []) (module_of a (front ++ back) z)) where
+  module _ (a z : Node) (na : HasNoNames a) (nz : HasNoNames z) (front back : List Node) (code : code_of k (front ++ back) ≡ code_of k (front ++ (statements ++ back))) (code_too : code_of k (opening strict ∷ statements) ≡ code_of k (front ++ (statements ++ back)))
+      (knows : KnowsContexts old (program_of k a (front ++ back) z)) (h : IsInjectableAs goal helper global (Declares W []) (program_of k a (front ++ back) z)) where
     abbrev T : Node
-    T = module_of a (front ++ back) z
+    T = program_of k a (front ++ back) z
 
     -- no name of the module has the mark of a scope of the bodies, but for the program's
     of_program : (p : Path) (i : Ident) (s : Path) → NameAt T p i → IsScope W s → i.ctxt ≡ marks W V G s ∷ [] → s ≡ []
@@ -146,17 +146,39 @@ module _ (helper global : ℕ) (old new : Table) (W : Node) (statements : List N
         (h.undeclared f.path i (f.place, f.kind, f.stands, reference_is_name f.place.standing f.refers) other).0 f.undeclared)
         (only_or helper i.ctxt)
 
-    pub in_parts : WellScoped (module_of a (front ++ (statements ++ back)) z)
+    pub in_parts : WellScoped (program_of k a (front ++ (statements ++ back)) z)
     in_parts =
-        injected a z nowhere Absent (opening true) na nz nowhere_plain absent_plain opening_plain front statements back (scoped_of T h.well_scoped) (scoped_of V well_scoped_alone)
-        h.well_scoped.no_eval_or_arguments well_scoped_alone.no_eval_or_arguments apart offered global frees (λ i f. free_context W V G i f)
+        injected T V (program_of k a (front ++ (statements ++ back)) z) (joined k kinds a z nowhere Absent (opening strict) na nz nowhere_plain absent_plain (opening_plain strict) front statements back code code_too)
+        (scoped_of T h.well_scoped) (scoped_of V well_scoped_alone) h.well_scoped.no_eval_or_arguments well_scoped_alone.no_eval_or_arguments apart offered global frees (λ i f. free_context W V G i f)
+
+module _ (k : Kind) (kinds : IsTrue (is_goal_kind k)) (goal : Slot) (program : IsTrue (is_goal goal)) (strict : Bool) (helper global : ℕ) (old new : Table) (bodies : List (List Node)) (t answer : Node) (parts : Parts k t) (same : strict ≡ code_of k parts.body) where
+  abbrev W : Node
+  W = alone k strict (all_bodies bodies)
+
+  put_bodies : NoTypes W → Fits W goal → IsPlainIfScript W → ListsAreItems W → IsClean W → NoEarlyErrorOfNames W → (has_use_strict (all_bodies bodies) ≡ true → strict ≡ true) → Contains (numbers old) global
+      → KnowsContexts old t → IsInjectableAs goal helper global (Declares W []) t → IsInjected (ResolvedAlone helper global old new k strict) bodies t answer → WellScoped answer
+  put_bodies untyped fitting plain lists clean fair strictly known knows h done =
+      let n = prefix_len is_string parts.body in
+      let ss = done.statements in
+      let resolved = (resolved_alike global helper old new W (alone k strict ss) untyped).1 done.became in
+      let is = split_is k t parts in
+      let code = code_stays k parts.body ss (λ e. sym same ∙ strictly (sym (as_strict k strict resolved.contexts (all_bodies bodies) ss resolved.only_contexts) ∙ e)) in
+      let code_too = ap (λ b. code_of k (opening b ∷ ss)) same ∙ code_alone k parts.body ss ∙ ap (code_of k) (sym (take-append-drop n parts.body)) ∙ code in
+      subst WellScoped (sym (done.put_there ∙ ap (put_in ss) parts.is ∙ put_in_is k kinds parts.span parts.last parts.body ss))
+      (in_parts k kinds goal program strict helper global old new W ss fitting plain lists clean fair known resolved parts.span parts.last parts.span_plain parts.last_plain (take n parts.body) (drop n parts.body) code code_too
+      (subst (KnowsContexts old) is knows) (subst (IsInjectableAs goal helper global (Declares W [])) is h))
 
 pub bodies_keep_well_scoped : BodiesKeepWellScoped
 bodies_keep_well_scoped helper global old new bodies t answer are known knows h done =
-    let parts = parts_of t h.fitting in
-    let n = prefix_len is_string parts.body in
-    let is : t ≡ module_of parts.span (take n parts.body ++ drop n parts.body) parts.last = parts.is ∙ ap (λ l. module_of parts.span l parts.last) (sym (take-append-drop n parts.body)) in
-    subst WellScoped (sym (done.put_there ∙ ap (put_in done.statements) parts.is ∙ put_in_is parts.span parts.last parts.body done.statements))
-    (in_parts helper global old new (bodies_alone bodies) done.statements are.fitting are.lists are.clean are.fair known
-    ((resolved_alike global helper old new (bodies_alone bodies) (alone kind.Module true done.statements) are.no_types).1 done.became) parts.span parts.last parts.span_plain parts.last_plain (take n parts.body) (drop n parts.body)
-    (subst (KnowsContexts old) is knows) (subst (IsInjectable helper global (Declares (bodies_alone bodies) [])) is h))
+    put_bodies kind.Module refl (slot.One (content.Node class.Module)) refl true helper global old new bodies t answer (parts_of t h.fitting) refl are.no_types are.fitting (plain_if_module (bodies_alone bodies) (fits_module (bodies_alone bodies) are.fitting))
+    are.lists are.clean are.fair (λ e. refl) known knows h done
+
+no_namespaces : (t : Node) → NoTypes t → NoNamespaces t
+no_namespaces t n p w ts e = let z : true ≡ false = n p w kind.TsModuleDecl ts e in absurd (cc)
+
+pub bodies_keep_script_well_scoped : BodiesKeepScriptWellScoped
+bodies_keep_script_well_scoped helper global old new bodies t answer are known knows h done =
+    let W = bodies_in_script (is_strict_program t) bodies in
+    let parts = script_parts t h.fitting in
+    put_bodies kind.Script refl (slot.One (content.Node class.Script)) refl (is_strict_program t) helper global old new bodies t answer parts (strict_is kind.Script refl t parts) are.no_types are.fitting (λ script. are.plain)
+    (lists_are_items (slot.One (content.Node class.Script)) W refl are.fitting (no_namespaces W are.no_types)) are.clean are.fair are.strictness known knows h done

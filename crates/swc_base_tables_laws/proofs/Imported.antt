@@ -1,5 +1,5 @@
 -- The one name that an import of a helper binds, and what it is round.
-use Rattle.std.proofs.Common.{◌≡◌, ℕ, zero, suc, true, false, IsTrue, Option, Some, List, [], ◌∷◌, ◌++◌, map, refl, sym, ap, ◌∙◌, subst}
+use Rattle.std.proofs.Common.{◌≡◌, ℕ, zero, suc, Bool, true, false, IsTrue, Option, Some, List, [], ◌∷◌, ◌++◌, map, refl, sym, ap, ◌∙◌, subst}
 use Rattle.std.specs.List.{slice_get}
 use Rattle.std.specs.Prelude.{codes}
 use Rattle.swc_tree_marks.specs.declared.ident.Ident.{Ident}
@@ -14,8 +14,8 @@ use Rattle.swc_tree_scoping.specs.Places.{Path, place_at, place_in}
 use Rattle.swc_tree_scoping.specs.Scopes.{Round, is_name, rounds}
 use Rattle.swc_base_tables_injection.specs.Brought.{exported_name, helper_name, import_of, local_name, made, nowhere, source_of, specifier_of, string}
 use Rattle.swc_base_tables_injection.specs.Alone.{opening}
-use Rattle.swc_base_tables_laws.proofs.Inside.{some_same}
-use Rattle.swc_base_tables_laws.proofs.Modules.{HasNoNames}
+use Rattle.swc_base_tables_laws.proofs.Declarers.{some_same}
+use Rattle.swc_base_tables_laws.proofs.Programs.{HasNoNames}
 use Rattle.swc_base_tables_laws.proofs.Readings.{no_names, no_names_leaf}
 use Rattle.swc_base_tables_laws.proofs.Steps.{below_identifier, list_rounds, list_step, not_list, not_there, not_tree, the_identifier, tree_rounds, tree_step}
 
@@ -32,10 +32,10 @@ absent_plain = no_names_leaf Absent Node-F.Absent outs-Absent refl refl
 text_plain : (x : List ℕ) → HasNoNames (Text x)
 text_plain x = no_names_leaf (Text x) (Node-F.Text x) (outs-Text x) refl refl
 
-moved_plain : (t c : Node) → HasNoNames t → ◌≡◌ {A = Option Node} (Some t) (Some c) → HasNoNames c
+pub moved_plain : (t c : Node) → HasNoNames t → ◌≡◌ {A = Option Node} (Some t) (Some c) → HasNoNames c
 moved_plain t c h e = subst HasNoNames (some_same t c e) h
 
-string_plain : (x : List ℕ) → HasNoNames (string x)
+pub string_plain : (x : List ℕ) → HasNoNames (string x)
 string_plain x = no_names (string x) (Node-F.Tree kind.Str ts) (outs-Tree kind.Str ts) refl below
   where
     ts : List Node
@@ -47,8 +47,16 @@ string_plain x = no_names (string x) (Node-F.Tree kind.Str ts) (outs-Tree kind.S
     below (suc (suc zero)) c e = moved_plain Absent c absent_plain e
     below (suc (suc (suc i))) c e = absurd (cc)
 
-pub opening_plain : HasNoNames (opening true)
-opening_plain = no_names (opening true) (Node-F.Tree kind.ExprStmt ts) (outs-Tree kind.ExprStmt ts) refl below
+pub opening_plain : (strict : Bool) → HasNoNames (opening strict)
+opening_plain false = no_names (opening false) (Node-F.Tree kind.EmptyStmt ts) (outs-Tree kind.EmptyStmt ts) refl below
+  where
+    ts : List Node
+    ts = nowhere ∷ []
+
+    below : (i : ℕ) (c : Node) → slice_get ts i ≡ Some c → HasNoNames c
+    below zero c e = moved_plain nowhere c nowhere_plain e
+    below (suc i) c e = absurd (cc)
+opening_plain true = no_names (opening true) (Node-F.Tree kind.ExprStmt ts) (outs-Tree kind.ExprStmt ts) refl below
   where
     ts : List Node
     ts = nowhere ∷ string (codes "use strict") ∷ []

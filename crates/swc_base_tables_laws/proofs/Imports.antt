@@ -20,10 +20,10 @@ use Rattle.swc_tree_renaming.proofs.Whole.{id_name_apart, stands_by_id}
 use Rattle.swc_base_tables_injection.specs.Alone.{alone, opening}
 use Rattle.swc_base_tables_injection.specs.Brought.{import_of, local_name, nowhere}
 use Rattle.swc_base_tables_laws.specs.Laws.{EachOnce}
-use Rattle.swc_base_tables_laws.proofs.Inside.{some_same}
+use Rattle.swc_base_tables_laws.proofs.Declarers.{some_same}
 use Rattle.swc_base_tables_laws.proofs.Imported.{absent_plain, helper_ident, helper_path, import_rounds, name_of_import, name_there, nowhere_plain, opening_plain}
 use Rattle.swc_base_tables_laws.proofs.Joined.{NamesScoped, bound_is_name, reference_is_name}
-use Rattle.swc_base_tables_laws.proofs.Modules.{NameIn, item_place, layer_is, name_in, of_item, place_of_item, rounds_of_item}
+use Rattle.swc_base_tables_laws.proofs.Programs.{NameIn, item_place, layer_is, name_in, of_item, place_of_item, rounds_of_item}
 use Rattle.swc_base_tables_laws.proofs.Readings.{changed_before}
 
 pub mapped_at : {A B : Type 0} (g : A → B) (xs : List A) (j : ℕ) (c : B) → slice_get (map g xs) j ≡ Some c → (x : A) × (slice_get xs j ≡ Some x) × (g x ≡ c)
@@ -74,13 +74,13 @@ module _ (helper : ℕ) (names : List (List ℕ)) where
   named : (f : Ident → Ident) (p : Path) (r : Standing) (x : List ℕ) → Stands (with_identifiers f V) p r x → IsTrue (is_name r) → HelperAt f p r x
   named f p r x s h =
       let (l, i, e, is) = changed_before f (place_at program_place V p) s.place s.kind s.identifier (sym (place_at_same f p program_place V) ∙ s.stands) in
-      from l i is (name_in nowhere Absent (opening true ∷ L) nowhere_plain absent_plain p s.place l i e)
+      from l i is (name_in kind.Module refl nowhere Absent (opening true ∷ L) nowhere_plain absent_plain p s.place l i e)
     where
-      from : (l : Kind) (i : Ident) → s.identifier ≡ f i → NameIn (opening true ∷ L) p s.place l i → HelperAt f p r x
-      from l i is (zero, q, c, path, there_is, there) = absurd (opening_plain q item_place s.place l i (ap (λ c. place_at item_place c q) (some_same (opening true) c there_is) ∙ there))
+      from : (l : Kind) (i : Ident) → s.identifier ≡ f i → NameIn true (opening true ∷ L) p s.place l i → HelperAt f p r x
+      from l i is (zero, q, c, path, there_is, there) = absurd (opening_plain true q (item_place true) s.place l i (ap (λ c. place_at (item_place true) c q) (some_same (opening true) c there_is) ∙ there))
       from l i is (suc j, q, c, path, there_is, there) =
           let (n, an, same) = mapped_at (import_of helper) names j c there_is in
-          let (below, st, ident) = name_of_import helper n q item_place s.place l i (ap (λ c. place_at item_place c q) same ∙ there) (subst (λ r. IsTrue (is_name r)) (sym s.stands_so) h) in
+          let (below, st, ident) = name_of_import helper n q (item_place true) s.place l i (ap (λ c. place_at (item_place true) c q) same ∙ there) (subst (λ r. IsTrue (is_name r)) (sym s.stands_so) h) in
           (j, n, an, path ∙ ap (λ q. 1 ∷ suc j ∷ q) below, sym s.stands_so ∙ st, sym s.named ∙ ap (λ (i : Ident). i.sym) (is ∙ ap f ident))
 
   abbrev ids : Ident → Ident
@@ -95,13 +95,13 @@ module _ (helper : ℕ) (names : List (List ℕ)) where
   -- and stands there
   pub helper_stands : (j : ℕ) (n : List ℕ) → slice_get names j ≡ Some n → Stands (by_ids V) (path_of j) standing.Import (id_name (helper_ident helper n))
   helper_stands j n an =
-      let (w, there, st) = name_there helper n item_place in
+      let (w, there, st) = name_there helper n (item_place true) in
       record {
         place = w;
         kind = kind.Ident;
         identifier = ids (helper_ident helper n);
         stands = stands_by_id V (path_of j) w kind.Ident (helper_ident helper n)
-            (place_of_item nowhere Absent (opening true ∷ L) (suc j) (import_of helper n) (helper_path helper n) (at_mapped (import_of helper) names j n an) ∙ there);
+            (place_of_item kind.Module refl nowhere Absent (opening true ∷ L) (suc j) (import_of helper n) (helper_path helper n) (at_mapped (import_of helper) names j n an) ∙ there);
         stands_so = st;
         named = refl;
       }
@@ -109,9 +109,9 @@ module _ (helper : ℕ) (names : List (List ℕ)) where
   taken : (j : ℕ) (n : List ℕ) → slice_get names j ≡ Some n → taker standing.Import (by_ids V) (path_of j) ≡ Some []
   taken j n an =
       ap (first_that (λ s. is_taken standing.Import (scope_at program_place (by_ids V) s.0)))
-      (rounds_same ids (path_of j) program_place V ∙ rounds_of_item nowhere Absent (opening true ∷ L) (suc j) (import_of helper n) (helper_path helper n) (at_mapped (import_of helper) names j n an)
-      ∙ ap (of_item (suc j)) (import_rounds helper n item_place))
-      ∙ ap (λ o. cond (is_taken standing.Import o) (Some []) None) (scope_at_same ids program_place V [] ∙ ap (opened_in program_place) (layer_is nowhere Absent (opening true ∷ L)))
+      (rounds_same ids (path_of j) program_place V ∙ rounds_of_item kind.Module refl nowhere Absent (opening true ∷ L) (suc j) (import_of helper n) (helper_path helper n) (at_mapped (import_of helper) names j n an)
+      ∙ ap (of_item (suc j)) (import_rounds helper n (item_place true)))
+      ∙ ap (λ o. cond (is_taken standing.Import o) (Some []) None) (scope_at_same ids program_place V [] ∙ ap (opened_in program_place) (layer_is kind.Module nowhere Absent (opening true ∷ L)))
 
   pub declared_by : (p : Path) (r : Standing) (x : List ℕ) → Binds (by_ids V) p r x → DeclaredBy (by_ids V) p r x []
   declared_by p r x b =

@@ -2,8 +2,8 @@
 use Rattle.std.proofs.Common.{◌≡◌, ◌≢◌, ◌⊎◌, ◌==◌, ℕ, Bool, true, false, inl, inr, ⊎_elim, IsTrue, List, [], ◌∷◌, ◌++◌, Contains, drop, map, take, refl, sym, ap, ◌∙◌, subst}
 use Rattle.std.specs.List.{prefix_len}
 use Rattle.std.proofs.lemmas.Bool.{eqb-false, eqb-true}
-use Rattle.std.proofs.lemmas.List.{take-append-drop}
 use Rattle.swc_tree_marks.specs.declared.ident.Ident.{Ident}
+use Rattle.swc_tree_node.specs.declared.kind.Kind.TheVariants as kind
 use Rattle.swc_tree_node.specs.declared.node.Node.{Node, Absent}
 use Rattle.swc_tree_scoping.specs.declared.places.Standing.{Standing}
 use Rattle.swc_tree_scoping.specs.declared.places.Standing.TheVariants as standing
@@ -19,8 +19,9 @@ use Rattle.swc_base_tables_laws.proofs.Imported.{absent_plain, helper_ident, now
 use Rattle.swc_base_tables_laws.proofs.Imports.{V, contained_at, helper_stands, imports_scoped, is_helpers, no_eval, none_free, path_of, program_declares}
 use Rattle.swc_base_tables_laws.proofs.Injected.{injected, scoped_of}
 use Rattle.swc_base_tables_laws.proofs.Joined.{BoundApart, Offered, bound_is_name, reference_is_name}
-use Rattle.swc_base_tables_laws.proofs.Modules.{HasNoNames, module_of}
-use Rattle.swc_base_tables_laws.proofs.Parts.{parts_of, put_in_is}
+use Rattle.swc_base_tables_laws.proofs.Joining.{joined}
+use Rattle.swc_base_tables_laws.proofs.Parts.{parts_of, put_in_is, split_is}
+use Rattle.swc_base_tables_laws.proofs.Programs.{HasNoNames, program_of}
 
 impossible : {A : Type 0} → false ≡ true → A
 impossible h = absurd (cc)
@@ -44,9 +45,9 @@ only_or mark (m ∷ []) = at (m == mark) refl
 only_or mark (m ∷ n ∷ c) = inr (λ e. absurd (cc))
 
 module _ (helper global : ℕ) (names : List (List ℕ)) (once : EachOnce names) (a z : Node) (na : HasNoNames a) (nz : HasNoNames z) (front back : List Node)
-    (h : IsInjectable helper global (Contains (map local_name names)) (module_of a (front ++ back) z)) where
+    (h : IsInjectable helper global (Contains (map local_name names)) (program_of kind.Module a (front ++ back) z)) where
   abbrev T : Node
-  T = module_of a (front ++ back) z
+  T = program_of kind.Module a (front ++ back) z
 
   apart : BoundApart (by_ids T) (by_ids (V helper names))
   apart p q r s x b st nm =
@@ -70,15 +71,16 @@ module _ (helper global : ℕ) (names : List (List ℕ)) (once : EachOnce names)
       (h.undeclared f.path i (f.place, f.kind, f.stands, reference_is_name f.place.standing f.refers) other).0 f.undeclared)
       (only_or helper i.ctxt)
 
-  in_parts : WellScoped (module_of a (front ++ (map (import_of helper) names ++ back)) z)
+  in_parts : WellScoped (program_of kind.Module a (front ++ (map (import_of helper) names ++ back)) z)
   in_parts =
-      injected a z nowhere Absent (opening true) na nz nowhere_plain absent_plain opening_plain front (map (import_of helper) names) back (scoped_of T h.well_scoped) (imports_scoped helper names once)
+      injected T (V helper names) (program_of kind.Module a (front ++ (map (import_of helper) names ++ back)) z)
+      (joined kind.Module refl a z nowhere Absent (opening true) na nz nowhere_plain absent_plain (opening_plain true) front (map (import_of helper) names) back refl refl) (scoped_of T h.well_scoped) (imports_scoped helper names once)
       h.well_scoped.no_eval_or_arguments (no_eval helper names) apart offered global frees (λ i f. none_free helper names i f)
 
 pub imports_keep_well_scoped : ImportsKeepWellScoped
 imports_keep_well_scoped helper global names t once h =
     let parts = parts_of t h.fitting in
     let n = prefix_len is_string parts.body in
-    let is : t ≡ module_of parts.span (take n parts.body ++ drop n parts.body) parts.last = parts.is ∙ ap (λ l. module_of parts.span l parts.last) (sym (take-append-drop n parts.body)) in
-    subst WellScoped (sym (ap (put_in (map (import_of helper) names)) parts.is ∙ put_in_is parts.span parts.last parts.body (map (import_of helper) names)))
-    (in_parts helper global names once parts.span parts.last parts.span_plain parts.last_plain (take n parts.body) (drop n parts.body) (subst (IsInjectable helper global (Contains (map local_name names))) is h))
+    subst WellScoped (sym (ap (put_in (map (import_of helper) names)) parts.is ∙ put_in_is kind.Module refl parts.span parts.last parts.body (map (import_of helper) names)))
+    (in_parts helper global names once parts.span parts.last parts.span_plain parts.last_plain (take n parts.body) (drop n parts.body)
+    (subst (IsInjectable helper global (Contains (map local_name names))) (split_is kind.Module t parts) h))

@@ -1,18 +1,15 @@
--- A module with the statements of another in it is well-scoped, where both are scoped, what each binds is its own, and all that
--- is free has the global mark alone.
-use Rattle.std.proofs.Common.{◌≡◌, ◌⊎◌, ℕ, inl, inr, ⊎_elim, Some, List, [], ◌∷◌, ◌++◌, map, sym, ap, ◌∙◌, subst}
+-- A program that two others make up is well-scoped, where both are scoped, what each binds is its own, and all that is free has the
+-- global mark alone.
+use Rattle.std.proofs.Common.{◌≡◌, ◌⊎◌, ℕ, inl, inr, ⊎_elim, List, [], ◌∷◌, sym, ap, ◌∙◌}
 use Rattle.std.specs.Prelude.{codes}
 use Rattle.swc_tree_marks.specs.declared.ident.Ident.{Ident}
-use Rattle.swc_tree_node.specs.declared.node.Node.{Node, Identifier}
-use Rattle.swc_tree_scoping.specs.Places.{Path, place_at, program_place}
-use Rattle.swc_tree_scoping.specs.Readings.{by_ids, by_texts, id_name, with_identifiers}
-use Rattle.swc_tree_scoping.specs.WellScoped.{IsClean, IsDeclared, IsFree, NoEvalOrArguments, Stands, WellScoped}
+use Rattle.swc_tree_node.specs.declared.node.Node.{Node}
+use Rattle.swc_tree_scoping.specs.Readings.{by_ids, by_texts, id_name}
+use Rattle.swc_tree_scoping.specs.WellScoped.{IsClean, IsDeclared, IsFree, NoEvalOrArguments, WellScoped}
 use Rattle.swc_tree_renaming.proofs.Whole.{from_ids}
 use Rattle.swc_base_tables_laws.proofs.Inside.{stands_forth}
-use Rattle.swc_base_tables_laws.proofs.Joined.{BoundApart, Joined, NamesScoped, Offered, names_scoped, settled_in, split_at}
-use Rattle.swc_base_tables_laws.proofs.Joining.{joined}
-use Rattle.swc_base_tables_laws.proofs.Modules.{HasNoNames, module_of}
-use Rattle.swc_base_tables_laws.proofs.Readings.{changed_module, changed_three, changed_two, no_names_too}
+use Rattle.swc_base_tables_laws.proofs.Joined.{BoundApart, BoundIn, IsFrom, Joined, NamesScoped, Offered, bound_at, names_scoped, still_refers}
+use Rattle.swc_base_tables_laws.proofs.Lifted.{joined_changed}
 
 pub clean_ids : (t : Node) → IsClean (by_ids t)
 clean_ids t p w k i h = let (l, j, e, is) = from_ids t p w k i h in ap (λ (i : Ident). i.ctxt) is
@@ -28,45 +25,23 @@ scoped_of t w = record {
 -- what is declared in a whole is declared in one of the two, and the other way
 declared_in : (t v u : Node) → Joined t v u → (x : List ℕ) → IsDeclared u x → IsDeclared t x ⊎ IsDeclared v x
 declared_in t v u j x (p, r, b) = ⊎_elim
-    (λ (a : (q : Path) × (p ≡ j.f q) × Stands t q r x). inl (a.0, r, record { at = a.2; binds = b.binds }))
-    (λ (a : (q : Path) × (p ≡ j.g q) × Stands v q r x). inr (a.0, r, record { at = a.2; binds = b.binds }))
-    (split_at t v u j.f j.g j.covered p r x b.at)
+    (λ (a : BoundIn t j.f p r x). inl (a.0, r, record { at = a.2; binds = b.binds }))
+    (λ (a : BoundIn v j.g p r x). inr (a.0, r, record { at = a.2; binds = b.binds }))
+    (bound_at t v u j.f j.g j.covered p r x b)
 
 -- and what is declared in one of them is declared in the whole
 first_declared : (t v u : Node) → Joined t v u → IsClean t → IsClean u → (x : List ℕ) → IsDeclared t x → IsDeclared u x
-first_declared t v u j ct cu x (p, r, b) = (j.f p, r, record { at = stands_forth t u j.f j.Here j.first ct cu (settled_in t j.first_module) p r x b.at; binds = b.binds })
+first_declared t v u j ct cu x (p, r, b) = (j.f p, r, record { at = stands_forth t u j.f j.Here j.first ct cu p r x b.binds b.at; binds = b.binds })
 
 second_declared : (t v u : Node) → Joined t v u → IsClean v → IsClean u → (x : List ℕ) → IsDeclared v x → IsDeclared u x
-second_declared t v u j cv cu x (p, r, b) = (j.g p, r, record { at = stands_forth v u j.g j.There j.second cv cu (settled_in v j.second_module) p r x b.at; binds = b.binds })
+second_declared t v u j cv cu x (p, r, b) = (j.g p, r, record { at = stands_forth v u j.g j.There j.second cv cu p r x b.binds b.at; binds = b.binds })
 
-module _ (a z b y o : Node) (na : HasNoNames a) (nz : HasNoNames z) (nb : HasNoNames b) (ny : HasNoNames y) (no : HasNoNames o) (front more back : List Node) where
-  abbrev T : Node
-  T = module_of a (front ++ back) z
-
-  abbrev V : Node
-  V = module_of b (o ∷ more) y
-
-  abbrev U : Node
-  U = module_of a (front ++ (more ++ back)) z
-
-  joined_raw : Joined T V U
-  joined_raw = joined a z b y o na nz nb ny no front more back
-
-  joined_changed : (f : Ident → Ident) → Joined (with_identifiers f T) (with_identifiers f V) (with_identifiers f U)
-  joined_changed f =
-      subst (λ t. Joined t (with_identifiers f V) (with_identifiers f U)) (sym (changed_two f a z front back))
-      (subst (λ v. Joined (module_of (F a) (map F front ++ map F back) (F z)) v (with_identifiers f U)) (sym (changed_module f b y (o ∷ more)))
-      (subst (λ u. Joined (module_of (F a) (map F front ++ map F back) (F z)) (module_of (F b) (F o ∷ map F more) (F y)) u) (sym (changed_three f a z front more back))
-      (joined (F a) (F z) (F b) (F y) (F o) (no_names_too f a na) (no_names_too f z nz) (no_names_too f b nb) (no_names_too f y ny) (no_names_too f o no) (map F front) (map F more) (map F back))))
-    where
-      F : Node → Node
-      F = with_identifiers f
-
+module _ (T V U : Node) (j : Joined T V U) where
   joined_ids : Joined (by_ids T) (by_ids V) (by_ids U)
-  joined_ids = joined_changed (λ i. record i { sym = id_name i; ctxt = [] })
+  joined_ids = joined_changed (λ i. record i { sym = id_name i; ctxt = [] }) T V U j
 
   joined_texts : Joined (by_texts T) (by_texts V) (by_texts U)
-  joined_texts = joined_changed (λ i. record i { ctxt = [] })
+  joined_texts = joined_changed (λ i. record i { ctxt = [] }) T V U j
 
   no_eval : NoEvalOrArguments T → NoEvalOrArguments V → NoEvalOrArguments U
   no_eval t v = (
@@ -76,11 +51,9 @@ module _ (a z b y o : Node) (na : HasNoNames a) (nz : HasNoNames z) (nb : HasNoN
 
   free_of : (i : Ident) → IsFree U i → (IsFree T i × ¬ IsDeclared (by_ids V) (id_name i)) ⊎ IsFree V i
   free_of i h = ⊎_elim
-      (λ (m : (q : Path) × (h.path ≡ joined_raw.f q) × (place_at program_place T q ≡ Some (h.place, Identifier h.kind i))).
-      inl (record { path = m.0; place = h.place; kind = h.kind; stands = m.2; refers = h.refers; undeclared = not_first }, not_second))
-      (λ (m : (q : Path) × (h.path ≡ joined_raw.g q) × (place_at program_place V q ≡ Some (h.place, Identifier h.kind i))).
-      inr (record { path = m.0; place = h.place; kind = h.kind; stands = m.2; refers = h.refers; undeclared = not_second }))
-      (joined_raw.covered h.path h.place h.kind i h.stands)
+      (λ (m : IsFrom T j.f h.path h.place h.kind i). inl (record { path = m.0; place = m.1; kind = h.kind; stands = m.3; refers = still_refers m.1 h.place m.4 h.refers; undeclared = not_first }, not_second))
+      (λ (m : IsFrom V j.g h.path h.place h.kind i). inr (record { path = m.0; place = m.1; kind = h.kind; stands = m.3; refers = still_refers m.1 h.place m.4 h.refers; undeclared = not_second }))
+      (j.covered h.path h.place h.kind i h.stands)
     where
       not_first : ¬ IsDeclared (by_ids T) (id_name i)
       not_first d = h.undeclared (first_declared (by_ids T) (by_ids V) (by_ids U) joined_ids (clean_ids T) (clean_ids U) (id_name i) d)

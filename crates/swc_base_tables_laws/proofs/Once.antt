@@ -6,7 +6,7 @@ use Rattle.swc_tree_node.proofs.Fit.{both}
 use Rattle.swc_base_tables_helpers.specs.Table.{name_of, numbers_from, table}
 use Rattle.swc_base_tables_program.specs.Given.{is_in, names_in}
 use Rattle.swc_base_tables_laws.specs.Laws.{EachOnce}
-use Rattle.swc_base_tables_laws.proofs.Inside.{some_same}
+use Rattle.swc_base_tables_laws.proofs.Declarers.{some_same}
 
 impossible : {A : Type 0} → false ≡ true → A
 impossible h = absurd (cc)

@@ -1,28 +1,24 @@
--- A module with each identifier changed, statement by statement; and nodes in which none stands.
-use Rattle.std.proofs.Common.{◌≡◌, ℕ, Bool, true, false, Option, Some, None, List, [], ◌∷◌, ◌++◌, map, refl, sym, ap, ◌∙◌}
+-- A tree with each identifier changed: what stands in it stood there before; and nodes in which no name stands.
+use Rattle.std.proofs.Common.{◌≡◌, ℕ, Bool, true, false, IsTrue, Option, Some, None, List, [], ◌∷◌, map, refl, sym, ap, ◌∙◌, subst}
 use Rattle.std.specs.List.{slice_get}
 use Rattle.std.specs.Option.{option_map}
 use Rattle.swc_tree_marks.specs.declared.ident.Ident.{Ident}
 use Rattle.swc_tree_node.specs.declared.kind.Kind.{Kind}
 use Rattle.swc_tree_node.specs.declared.kind.Kind.TheVariants as kind
-use Rattle.swc_tree_node.specs.declared.node.Node.{Node, List as Many, Identifier, Tree, out-Node, roll-Node, roll-out-Node}
+use Rattle.swc_tree_node.specs.declared.node.Node.{Node, List as Many, Identifier, Tree, out-Node}
 use Rattle.swc_tree_node.specs.declared.node.Node.TheOpen.{Node-F}
 use Rattle.swc_tree_node.specs.declared.node.Node.TheVariants.{outs-Identifier, outs-List, outs-Tree}
 use Rattle.swc_tree_scoping.specs.declared.places.Place.{Place}
-use Rattle.swc_tree_scoping.specs.Places.{children_in, child, place_at, place_below}
+use Rattle.swc_tree_scoping.specs.Places.{Path, children_in, child, place_at, place_below}
 use Rattle.swc_tree_scoping.specs.Readings.{with_identifiers}
-use Rattle.swc_tree_scoping.proofs.Remarked.{identifier_is}
+use Rattle.swc_tree_scoping.specs.WellScoped.{is_module}
+use Rattle.swc_tree_scoping.proofs.Remarked.{identifier_is, tree_is}
 use Rattle.swc_tree_scoping.proofs.Under.{no_place_under, place_under}
 use Rattle.swc_tree_renaming.proofs.Blank.{layer, out_is, place_at_same}
-use Rattle.swc_base_tables_laws.proofs.Inside.{some_same}
-use Rattle.swc_base_tables_laws.proofs.Modules.{HasNoNames, module_of}
-
-one_layer : (t u : Node) → out-Node t ≡ out-Node u → t ≡ u
-one_layer t u e = sym (roll-out-Node t) ∙ ap roll-Node e ∙ roll-out-Node u
-
-map_append : {A B : Type 0} (g : A → B) (xs ys : List A) → map g (xs ++ ys) ≡ map g xs ++ map g ys
-map_append g [] ys = refl
-map_append g (x ∷ xs) ys = ap (λ l. g x ∷ l) (map_append g xs ys)
+use Rattle.swc_tree_renaming.proofs.Whole.{ProgramLayer, module_layer}
+use Rattle.swc_base_resolver_laws.proofs.Same.{one_layer}
+use Rattle.swc_base_tables_laws.proofs.Declarers.{some_same}
+use Rattle.swc_base_tables_laws.proofs.Programs.{HasNoNames, program_of}
 
 module _ (f : Ident → Ident) where
   abbrev F : Node → Node
@@ -34,14 +30,8 @@ module _ (f : Ident → Ident) where
   changed_list : (ts : List Node) → F (Many ts) ≡ Many (map F ts)
   changed_list ts = one_layer (F (Many ts)) (Many (map F ts)) (out_is f (Many ts) ∙ ap (layer f) (outs-List ts) ∙ sym (outs-List (map F ts)))
 
-  pub changed_module : (a z : Node) (body : List Node) → F (module_of a body z) ≡ module_of (F a) (map F body) (F z)
-  changed_module a z body = changed_tree kind.Module (a ∷ Many body ∷ z ∷ []) ∙ ap (λ l. Tree kind.Module (F a ∷ l ∷ F z ∷ [])) (changed_list body)
-
-  pub changed_two : (a z : Node) (front back : List Node) → F (module_of a (front ++ back) z) ≡ module_of (F a) (map F front ++ map F back) (F z)
-  changed_two a z front back = changed_module a z (front ++ back) ∙ ap (λ l. module_of (F a) l (F z)) (map_append F front back)
-
-  pub changed_three : (a z : Node) (front more back : List Node) → F (module_of a (front ++ (more ++ back)) z) ≡ module_of (F a) (map F front ++ (map F more ++ map F back)) (F z)
-  changed_three a z front more back = changed_two a z front (more ++ back) ∙ ap (λ l. module_of (F a) (map F front ++ l) (F z)) (map_append F more back)
+  pub changed_program : (k : Kind) (a z : Node) (body : List Node) → F (program_of k a body z) ≡ program_of k (F a) (map F body) (F z)
+  changed_program k a z body = changed_tree k (a ∷ Many body ∷ z ∷ []) ∙ ap (λ l. Tree k (F a ∷ l ∷ F z ∷ [])) (changed_list body)
 
   -- an identifier of the changed node was one
   identifier_before : (n : Node) (y : Node-F Node) (k : Kind) (i : Ident) → out-Node n ≡ y → F n ≡ Identifier k i → (l : Kind) × (j : Ident) × (n ≡ Identifier l j) × (i ≡ f j)
@@ -65,10 +55,47 @@ module _ (f : Ident → Ident) where
       let (l, j, same, is) = identifier_before n (out-Node n) k i refl (ap (λ (q : Place × Node). q.1) both) in
       (l, j, ap (λ n. Some (w, n)) same ∙ ap (λ w. Some (w, Identifier l j)) (ap (λ (q : Place × Node). q.0) both), is)
 
-  pub no_names_too : (c : Node) → HasNoNames c → HasNoNames (F c)
-  no_names_too c none p w v k i e =
-      let (l, j, there, is) = changed_before (place_at w c p) v k i (sym (place_at_same f p w c) ∙ e) in
-      none p w v l j there
+  -- and a tree of it one of its kind
+  tree_before : (n : Node) (y : Node-F Node) (k : Kind) (ts : List Node) → out-Node n ≡ y → F n ≡ Tree k ts → (us : List Node) × (n ≡ Tree k us)
+  tree_before n (Node-F.Tree l us) k ts o e =
+      let z : layer f (Node-F.Tree l us) ≡ Node-F.Tree k ts = sym (out_is f n ∙ ap (layer f) o) ∙ ap out-Node e ∙ outs-Tree k ts in
+      let same : l ≡ k = cc in
+      (us, tree_is n l us o ∙ ap (λ k. Tree k us) same)
+  tree_before n (Node-F.List us) k ts o e = let z : layer f (Node-F.List us) ≡ Node-F.Tree k ts = sym (out_is f n ∙ ap (layer f) o) ∙ ap out-Node e ∙ outs-Tree k ts in absurd (cc)
+  tree_before n (Node-F.Identifier l j) k ts o e = let z : layer f (Node-F.Identifier l j) ≡ Node-F.Tree k ts = sym (out_is f n ∙ ap (layer f) o) ∙ ap out-Node e ∙ outs-Tree k ts in absurd (cc)
+  tree_before n Node-F.Absent k ts o e = let z : layer f Node-F.Absent ≡ Node-F.Tree k ts = sym (out_is f n ∙ ap (layer f) o) ∙ ap out-Node e ∙ outs-Tree k ts in absurd (cc)
+  tree_before n (Node-F.Flag x) k ts o e = let z : layer f (Node-F.Flag x) ≡ Node-F.Tree k ts = sym (out_is f n ∙ ap (layer f) o) ∙ ap out-Node e ∙ outs-Tree k ts in absurd (cc)
+  tree_before n (Node-F.Word x) k ts o e = let z : layer f (Node-F.Word x) ≡ Node-F.Tree k ts = sym (out_is f n ∙ ap (layer f) o) ∙ ap out-Node e ∙ outs-Tree k ts in absurd (cc)
+  tree_before n (Node-F.Text x) k ts o e = let z : layer f (Node-F.Text x) ≡ Node-F.Tree k ts = sym (out_is f n ∙ ap (layer f) o) ∙ ap out-Node e ∙ outs-Tree k ts in absurd (cc)
+  tree_before n (Node-F.Span x) k ts o e = let z : layer f (Node-F.Span x) ≡ Node-F.Tree k ts = sym (out_is f n ∙ ap (layer f) o) ∙ ap out-Node e ∙ outs-Tree k ts in absurd (cc)
+
+  mapped_before : (o : Option (Place × Node)) (v : Place) (k : Kind) (ts : List Node) → option_map {U = Place × Node} (λ (q : Place × Node). (q.0, F q.1)) o ≡ Some (v, Tree k ts) → (us : List Node) × (o ≡ Some (v, Tree k us))
+  mapped_before None v k ts e = absurd (cc)
+  mapped_before (Some (w, n)) v k ts e =
+      let both = some_same (w, F n) (v, Tree k ts) e in
+      let (us, same) = tree_before n (out-Node n) k ts refl (ap (λ (q : Place × Node). q.1) both) in
+      (us, ap (λ n. Some (w, n)) same ∙ ap (λ w. Some (w, Tree k us)) (ap (λ (q : Place × Node). q.0) both))
+
+  pub tree_stood : (w v : Place) (t : Node) (p : Path) (k : Kind) (ts : List Node) → place_at w (F t) p ≡ Some (v, Tree k ts) → (us : List Node) × (place_at w t p ≡ Some (v, Tree k us))
+  tree_stood w v t p k ts e = mapped_before (place_at w t p) v k ts (sym (place_at_same f p w t) ∙ e)
+
+  pub tree_stands : (w v : Place) (t : Node) (p : Path) (k : Kind) (us : List Node) → place_at w t p ≡ Some (v, Tree k us) → place_at w (F t) p ≡ Some (v, Tree k (map F us))
+  tree_stands w v t p k us e = place_at_same f p w t ∙ ap (option_map {U = Place × Node} (λ (q : Place × Node). (q.0, F q.1))) e ∙ ap (λ c. Some (v, c)) (changed_tree k us)
+
+  -- a program is one of its goal
+  pub layer_too : (t : Node) → ProgramLayer t → ProgramLayer (F t)
+  layer_too t (k, ts, o, h) = (k, map F ts, out_is f t ∙ ap (layer f) o, h)
+
+  pub was_module : (t : Node) → IsTrue (is_module (F t)) → IsTrue (is_module t)
+  was_module t h =
+      let (ts, o) = module_layer (F t) h in
+      let (us, same) = tree_before t (out-Node t) kind.Module ts refl (tree_is (F t) kind.Module ts o) in
+      subst (λ t. IsTrue (is_module t)) (sym same) (rw (outs-Tree kind.Module us) refl)
+
+  pub is_module_too : (t : Node) → IsTrue (is_module t) → IsTrue (is_module (F t))
+  is_module_too t h =
+      let (us, o) = module_layer t h in
+      subst (λ t. IsTrue (is_module t)) (sym (ap F (tree_is t kind.Module us o) ∙ changed_tree kind.Module us)) (rw (outs-Tree kind.Module (map F us)) refl)
 
 -- a node that is no identifier and in whose children none stands
 abbrev pub is_no_identifier : Node-F Node → Bool

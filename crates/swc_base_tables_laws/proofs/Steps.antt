@@ -9,7 +9,7 @@ use Rattle.swc_tree_node.specs.declared.node.Node.TheVariants.{outs-Identifier, 
 use Rattle.swc_tree_scoping.specs.declared.places.Place.{Place}
 use Rattle.swc_tree_scoping.specs.Places.{Path, children_in, given, opened_in, place_at, place_in}
 use Rattle.swc_tree_scoping.specs.Scopes.{Round, rounds, seen_as, view_in}
-use Rattle.swc_base_tables_laws.proofs.Inside.{some_same}
+use Rattle.swc_base_tables_laws.proofs.Declarers.{some_same}
 
 abbrev pub place_step : Place → Node-F Node → ℕ → Path → Option (Place × Node)
 place_step w y n q = given (slice_get (children_in y) n) None (λ c. place_at (place_in w y n) c q)
