@@ -1,0 +1,10 @@
+pub mod Aligned
+pub mod FirstWord
+pub mod Forms
+pub mod Judged
+pub mod Remarked
+pub mod SideBySide
+pub mod Steps
+pub mod Tables
+pub mod Told
+pub mod Words

@@ -1,0 +1,5 @@
+pub mod Side
+pub mod Verdict
+pub mod Pairs
+pub mod Partners
+pub mod Judged

@@ -1,0 +1,148 @@
+//! Whether two programs are one but for names, and if not, why.
+ghost use Rattle.std.specs.Prelude.{◌≡◌, ◌||◌, ◌↔◌, true, false, Some, IsTrue, IfOk, IfErr, IsErrOf};
+ghost use Rattle.swc_tree_marks.specs.declared.error.PassError.TheVariants as error;
+ghost use Rattle.swc_tree_scoping.specs.declared.places.Scope.TheVariants as scope;
+ghost use Rattle.swc_tree_scoping.specs.Places.{opened, program_place};
+ghost use Rattle.swc_tree_spaces.specs.Spaces.{has_types as stand_in};
+ghost use Rattle.swc_tree_grammar.specs.Normal.{normal_form as form};
+ghost use Rattle.swc_base_rename_laws.specs.NewNames.{outline};
+ghost use Rattle.swc_base_alpha.specs.Judged.{Concludes, IsOrdinary, IsRefused};
+ghost use Rattle.swc_base_alpha.specs.Verdict.{HasPaths, IsCleanProgram, IsJudgeRefusal, IsRead, IsUncaught, Tells};
+
+use crate::differs::{Rules, sites_differ};
+use crate::outline::same_outline;
+use crate::own::resolved;
+use crate::shown::difference;
+use crate::verdict::{Verdict, Why};
+use std::alloc::{AllocError, Global};
+use swc_base_normal_form::normal_form;
+use swc_base_normal_form_laws::{
+    normal_form_adds_no_types, normal_form_is_clean, normal_form_is_program,
+};
+use swc_base_rename_units::has_eval;
+use swc_base_scope_checks::catches_variable;
+use swc_tree_has_types::has_types;
+use swc_tree_marks::PassError;
+use swc_tree_node::Node;
+use swc_tree_spaces_laws::types_are_told;
+use swc_tree_walk::sites;
+
+// Whether a `var` meets a catch parameter of its name in one of two programs.
+fn are_caught(alloc: Global, first: &Node, second: &Node) -> Result<bool, AllocError>
+    ensures { opened program_place first.now ≡ Some scope.Program → opened program_place second.now ≡ Some scope.Program → IfOk result (λ caught. (caught ≡ false) ↔ IsUncaught first.now second.now) }
+{
+    if catches_variable(alloc, first)? {
+        return Ok(true);
+    }
+    catches_variable(alloc, second)
+}
+
+// The first word that two normal forms of one outline call for, if any.
+fn names_differ(
+    alloc: Global,
+    rules: Rules,
+    first: Node,
+    second: Node,
+) -> Result<Option<Why>, PassError>
+    requires { outline first ≡ outline second }
+    ensures decides { IsOrdinary first → IsOrdinary second → (rules.caught ≡ false) ↔ IsUncaught first second → IfOk result (Concludes rules.keep_top (IsTrue rules.reads) first second) }
+    ensures refusal { IfErr result (IsRefused first second) }
+{
+    let first = resolved(alloc, first)?;
+    let second = resolved(alloc, second)?;
+    let ones = sites(alloc, &first)?;
+    let others = sites(alloc, &second)?;
+    let why = sites_differ(alloc, rules, ones.as_slice(), others.as_slice())?;
+    Ok(why)
+}
+
+// The first word that two normal forms call for, if any.
+fn forms_differ(
+    alloc: Global,
+    keep_top: bool,
+    reads: bool,
+    first: Node,
+    second: Node,
+) -> Result<Option<Why>, PassError>
+    ensures decides { IsOrdinary first → IsOrdinary second → IfOk result (Concludes keep_top (IsTrue reads) first second) }
+    ensures refusal { IfErr result (IsRefused first second) }
+{
+    if !same_outline(&first, &second) {
+        return Ok(Some(Why::Shape));
+    }
+    let caught = are_caught(alloc, &first, &second)?;
+    let rules = Rules {
+        keep_top,
+        reads,
+        caught,
+    };
+    names_differ(alloc, rules, first, second)
+}
+
+fn have_types(before: &Node, after: &Node) -> bool
+    ensures { result ≡ (stand_in before.now || stand_in after.now) }
+{
+    has_types(before) || has_types(after)
+}
+
+fn are_read(before: &Node, after: &Node) -> bool
+    ensures { IsTrue result ↔ IsRead before.now after.now }
+{
+    has_eval(before) || has_eval(after)
+}
+
+// The first word that two programs without types call for, if any.
+fn first_word(
+    alloc: Global,
+    keep_top: bool,
+    before: &Node,
+    after: &Node,
+) -> Result<Option<Why>, PassError>
+    ensures decides { (stand_in before.now || stand_in after.now) ≡ false → IsCleanProgram before.now → IsCleanProgram after.now → IfOk result (Concludes keep_top (IsRead before.now after.now) (form before.now) (form after.now)) }
+    ensures refusal { IfErr result (IsRefused (form before.now) (form after.now)) }
+{
+    normal_form_is_clean();
+    normal_form_adds_no_types();
+    normal_form_is_program();
+    types_are_told();
+    let reads = are_read(before, after);
+    let first = before.clone()?;
+    let first = normal_form(alloc, first)?;
+    let second = after.clone()?;
+    let second = normal_form(alloc, second)?;
+    forms_differ(alloc, keep_top, reads, first, second)
+}
+
+/// Whether two programs are the same but for the choice of the names that they bind, and if not, why.
+///
+/// With `keep_top` names of the program's own scope keep their texts besides, as other scripts of a page see them. Where a direct
+/// `eval` or a `with` may read names in one of both, or a `var` meets a catch parameter of its name, no name may have another text.
+/// Of several causes the first is told, in the order of `Why`; what names stand for is no cause where a variable is caught.
+///
+/// Both are copied, and their normal forms resolved with marks of the judge's own. It costs time in step with the size of the programs
+/// but for the logarithm of how many ids they have.
+///
+/// # Errors
+///
+/// `TypesLeft` exactly where types stand in one of both. Else `NoMemory`, and `MarksSpent` where a normal form has more scopes than there
+/// are marks for.
+pub fn judge(
+    alloc: Global,
+    keep_top: bool,
+    before: &Node,
+    after: &Node,
+) -> Result<Verdict, PassError>
+    ensures verdict { IsCleanProgram before.now → IsCleanProgram after.now → IfOk result (Tells keep_top before.now after.now) }
+    ensures paths { IfOk result (HasPaths before.now after.now) }
+    ensures types { (stand_in before.now || stand_in after.now) ≡ true → IsErrOf result error.TypesLeft }
+    ensures refusal { IfErr result (IsJudgeRefusal before.now after.now) }
+{
+    if have_types(before, after) {
+        return Err(PassError::TypesLeft);
+    }
+    let found = first_word(alloc, keep_top, before, after)?;
+    match found {
+        None => Ok(Verdict::Same),
+        Some(why) => Ok(Verdict::Differs(difference(alloc, why, before, after)?)),
+    }
+}

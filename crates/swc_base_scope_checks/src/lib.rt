@@ -1,0 +1,13 @@
+//! What is asked of the names of a program, decided: whether a `var` meets a catch parameter of its name, and whether there is an
+//! early error of names.
+//!
+//! `walk` looks at each identifier in its place, with the scopes that are open there; `barrier` says what a variable may not pass on
+//! its way out.
+#![tactic(auto)]
+
+mod barrier;
+mod caught;
+mod walk;
+
+pub use caught::catches_variable;
+pub use walk::{Question, has_identifier};

@@ -1,0 +1,4 @@
+pub mod Judged
+pub mod Elements
+pub mod Strings
+pub mod Fields
