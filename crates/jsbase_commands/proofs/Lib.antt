@@ -1,3 +1,5 @@
 pub mod Beginnings
 pub mod Programs
 mod Refused
+mod OneOrTwo
+mod CleanPrograms

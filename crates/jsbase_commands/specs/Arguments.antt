@@ -11,6 +11,7 @@ command_word command.Hygiene = codes "hygiene"
 command_word command.Unparen = codes "unparen"
 command_word command.Fix = codes "fix"
 command_word command.Chain = codes "chain"
+command_word command.Judge = codes "judge"
 
 abbrev pub kind_word : Kind → List ℕ
 kind_word kind.Module = codes "module"

@@ -27,6 +27,7 @@ use Rattle.jsbase_commands.specs.declared.arguments.Kind.{Kind}
 use Rattle.jsbase_commands.specs.declared.arguments.Kind.TheVariants as kind
 use Rattle.jsbase_commands.specs.declared.fault.Fault.{Fault}
 use Rattle.jsbase_commands.specs.declared.fault.Fault.TheVariants.{Usage, Refused, NotATree}
+use Rattle.jsbase_commands.specs.Judge.{IsToldOf, IsUntoldOf}
 
 -- what a program of the kind is in the tree
 abbrev pub class_of : Kind → Class
@@ -90,13 +91,19 @@ pub record IsChained (envelope : Envelope) (output : List ℕ) : Type 0 where
   pub well_formed : IsTable table
   pub written : output ≡ envelope_text table envelope.top (answer_to renamed) envelope.unresolved
 
--- what the command is to make of an envelope
+-- the command is about one program, and not about two versions of one
+abbrev pub takes_one : Command → Bool
+takes_one command.Judge = false
+takes_one _ = true
+
+-- what the command is to make of an envelope of one program
 abbrev pub Does : Command → Envelope → List ℕ → Type 0
 Does command.Resolve envelope output = IsResolved envelope output
 Does command.Hygiene envelope output = IsMadeHygienic envelope output
 Does command.Unparen envelope output = IsUnparened envelope output
 Does command.Fix envelope output = IsFixed envelope output
 Does command.Chain envelope output = IsChained envelope output
+Does command.Judge envelope output = ⊥
 
 -- resolving the tree takes more marks than there are
 abbrev pub TakesTooManyMarks : Envelope → Type 0
@@ -126,6 +133,7 @@ IsCauseOf command.Chain envelope refusal.CounterSpent = IsSpentOnceResolved enve
 IsCauseOf command.Chain envelope refusal.NotAssignable = IsUnassignableOnceRenamed envelope
 IsCauseOf command.Chain envelope refusal.NoMemory = ⊥
 IsCauseOf command.Chain envelope refusal.TypesLeft = ⊥
+IsCauseOf command.Judge envelope _ = ⊥
 
 -- memory was refused, or a pass of the command for its own cause
 abbrev pub IsCausedFor : Command → Envelope → PassError → Type 0
@@ -153,12 +161,21 @@ IsReadFault (read.Fault path) Usage = ⊥
 IsReadFault (read.Fault path) (Refused error) = error ≡ refusal.NoMemory
 IsReadFault (read.Fault path) (NotATree text) = string_bytes text ≡ path_text path
 
--- the output is what the command makes of the envelope that the input is
+-- the output is what the command makes of the envelope of one program that the input is
+abbrev pub MakesOfOne : Command → Kind → List ℕ → List ℕ → Type 0
+MakesOfOne c k input output = (envelope : Envelope) × (envelope_in_text (class_of k) input ≡ Ok envelope) × Does c envelope output
+
+-- the output is what the command makes of the input; of one that has two versions of a program what is said of them
 abbrev pub Makes : Command → Kind → List ℕ → List ℕ → Type 0
-Makes c k input output = (envelope : Envelope) × (envelope_in_text (class_of k) input ≡ Ok envelope) × Does c envelope output
+Makes command.Judge k input output = IsToldOf (class_of k) input output
+Makes c k input output = MakesOfOne c k input output
 
 -- the fault is the input's first, by its path; else memory was refused, or the command's pass for its own cause
+abbrev pub IsFaultOfOne : Command → Kind → List ℕ → Fault → Type 0
+IsFaultOfOne c k input Usage = ⊥
+IsFaultOfOne c k input (NotATree text) = (path : Path) × (envelope_in_text (class_of k) input ≡ Err path) × (string_bytes text ≡ path_text path)
+IsFaultOfOne c k input (Refused error) = (error ≡ refusal.NoMemory) ⊎ ((envelope : Envelope) × (envelope_in_text (class_of k) input ≡ Ok envelope) × IsRefusalOf c envelope error)
+
 abbrev pub IsRunFault : Command → Kind → List ℕ → Fault → Type 0
-IsRunFault c k input Usage = ⊥
-IsRunFault c k input (NotATree text) = (path : Path) × (envelope_in_text (class_of k) input ≡ Err path) × (string_bytes text ≡ path_text path)
-IsRunFault c k input (Refused error) = (error ≡ refusal.NoMemory) ⊎ ((envelope : Envelope) × (envelope_in_text (class_of k) input ≡ Ok envelope) × IsRefusalOf c envelope error)
+IsRunFault command.Judge k input fault = IsUntoldOf (class_of k) input fault
+IsRunFault c k input fault = IsFaultOfOne c k input fault

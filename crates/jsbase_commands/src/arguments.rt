@@ -20,6 +20,8 @@ pub enum Command {
     Fix,
     /// The program is resolved, then made hygienic, then its parentheses are set anew.
     Chain,
+    /// Two versions of a program are compared: whether one is the other but for the choice of the names that it binds.
+    Judge,
 }
 
 /// The goal symbol of a program (ECMA-262, Script and Module).
@@ -39,6 +41,7 @@ fn command_named(word: &str) -> Option<Command>
         "unparen" => Some(Command::Unparen),
         "fix" => Some(Command::Fix),
         "chain" => Some(Command::Chain),
+        "judge" => Some(Command::Judge),
         _ => None,
     }
 }

@@ -1,13 +1,14 @@
 //! From the bytes of an envelope to the bytes of an envelope.
-ghost use Rattle.std.specs.Prelude.{◌≡◌, ◌≢◌, Some, false, MatchResult, string_bytes};
+ghost use Rattle.std.specs.Prelude.{◌≡◌, ◌≢◌, Some, true, false, MatchResult, string_bytes};
 ghost use Rattle.swc_tree_scoping.specs.declared.places.Scope.TheVariants as scope;
 ghost use Rattle.swc_tree_scoping.specs.Places.{opened, program_place};
 ghost use Rattle.swc_tree_spaces.specs.Spaces.{has_types as has_any_types};
 ghost use Rattle.swc_base_resolver_program.specs.Marked.{MarksOk};
-ghost use Rattle.jsbase_commands.specs.Run.{class_of as class_in, config_by, Makes, Does, IsChained, IsRunFault, IsMadeHygienic, IsResolved, IsFixed, IsUnparened, IsCausedFor, IsRefusedFor, IsReadFault, refuses_types};
+ghost use Rattle.jsbase_commands.specs.Run.{class_of as class_in, config_by, Makes, MakesOfOne, Does, IsChained, IsFaultOfOne, IsRunFault, IsMadeHygienic, IsResolved, IsFixed, IsUnparened, IsCausedFor, IsRefusedFor, IsReadFault, refuses_types, takes_one};
 
 use crate::arguments::{Command, Kind};
 use crate::fault::Fault;
+use crate::judge::run_on_two;
 use jsbase_reader::{Envelope, ReadError, read_bytes};
 use jsbase_writer::write_envelope;
 use std::alloc::Global;
@@ -28,11 +29,33 @@ use swc_tree_node::Class;
 ///
 /// # Errors
 ///
-/// `NotATree` with the path of the first fault where the input is no envelope with a tree of the kind;
+/// `NotATree` with the path of the first fault where the input is no envelope with a tree of the kind, or with two under `Judge`;
 /// `Refused` where declarations of types stand in the tree and the command takes none, as all but `Resolve`; and where the
 /// command's pass is refused, or memory is. Never `Usage`.
 pub fn run(alloc: Global, command: Command, kind: Kind, input: &[u8]) -> Result<Vec<u8>, Fault>
     ensures { MatchResult result (λ output. Makes command kind input.now output.items) (IsRunFault command kind input.now) }
+{
+    if takes_one(command) {
+        return run_on_one(alloc, command, kind, input);
+    }
+    run_on_two(alloc, kind, input)
+}
+
+// Whether the command is about one program.
+fn takes_one(command: Command) -> bool
+    ensures { result ≡ takes_one command }
+{
+    match command {
+        Command::Resolve | Command::Hygiene | Command::Unparen | Command::Fix | Command::Chain =>
+            true,
+        Command::Judge => false,
+    }
+}
+
+// What the program writes on an input that is an envelope of one program.
+fn run_on_one(alloc: Global, command: Command, kind: Kind, input: &[u8]) -> Result<Vec<u8>, Fault>
+    requires { takes_one command ≡ true }
+    ensures { MatchResult result (λ output. MakesOfOne command kind input.now output.items) (IsFaultOfOne command kind input.now) }
 {
     match read_bytes(alloc, class_of(kind), input) {
         Err(error) => Err(read_fault(alloc, error)),
@@ -44,7 +67,7 @@ pub fn run(alloc: Global, command: Command, kind: Kind, input: &[u8]) -> Result<
 }
 
 // The class of a program of the kind.
-fn class_of(kind: Kind) -> Class
+pub(crate) fn class_of(kind: Kind) -> Class
     ensures { result ≡ class_in kind }
 {
     match kind {
@@ -54,7 +77,7 @@ fn class_of(kind: Kind) -> Class
 }
 
 // Why an input was not read.
-fn read_fault(alloc: Global, error: ReadError) -> Fault
+pub(crate) fn read_fault(alloc: Global, error: ReadError) -> Fault
     ensures { IsReadFault error result }
 {
     let ReadError::Fault(path) = error else {
@@ -68,6 +91,7 @@ fn read_fault(alloc: Global, error: ReadError) -> Fault
 
 // The envelope that a command makes of an envelope. Declarations of types are looked for first.
 fn answer(alloc: Global, command: Command, envelope: Envelope) -> Result<String, PassError>
+    requires one { takes_one command ≡ true }
     requires program { opened program_place envelope.tree ≡ Some scope.Program }
     requires marks { MarksOk envelope.globals envelope.unresolved envelope.top }
     ensures { MatchResult result (λ text. Does command envelope (string_bytes text)) (IsRefusedFor command envelope) }
@@ -84,14 +108,14 @@ fn refuses_types(command: Command, envelope: &Envelope) -> bool
 {
     match command {
         Command::Resolve => false,
-        Command::Hygiene | Command::Unparen | Command::Fix | Command::Chain => {
-            has_types(&envelope.tree)
-        }
+        Command::Hygiene | Command::Unparen | Command::Fix | Command::Chain | Command::Judge =>
+            has_types(&envelope.tree),
     }
 }
 
 // What a command makes of an envelope whose types it takes.
 fn make(alloc: Global, command: Command, envelope: Envelope) -> Result<String, PassError>
+    requires one { takes_one command ≡ true }
     requires program { opened program_place envelope.tree ≡ Some scope.Program }
     requires marks { MarksOk envelope.globals envelope.unresolved envelope.top }
     requires types { refuses_types command envelope ≡ false }
@@ -103,6 +127,7 @@ fn make(alloc: Global, command: Command, envelope: Envelope) -> Result<String, P
         Command::Unparen => unparen(alloc, envelope),
         Command::Fix => fix(alloc, envelope),
         Command::Chain => chain(alloc, envelope),
+        Command::Judge => unreachable!(),
     }
 }
 

@@ -4,6 +4,7 @@
 mod arguments;
 mod commands;
 mod fault;
+mod judge;
 mod served;
 
 pub use arguments::{Command, Kind, words};

@@ -23,7 +23,8 @@ use Rattle.swc_base_resolver_program.specs.Marked.{MarksOk}
 use Rattle.swc_base_fixer_program.specs.Answers.{answer_to}
 use Rattle.swc_base_fixer.specs.Promises.{AnswersKeepPromises}
 use Rattle.swc_ecma_transforms_base_laws.specs.Headline.{ChainingKeepsForms, ChainingKeepsSources}
-use Rattle.swc_ecma_transforms_base_settled_laws.specs.Settled.{ChainChangesNothing}
+use Rattle.swc_base_rename_program.specs.Renamed.{IsHygienic}
+use Rattle.swc_ecma_transforms_base_settled_laws.specs.Settled.{ChainChangesNothing, IsAnswer}
 use Rattle.jsbase_form.proofs.Successes.{bound}
 use Rattle.jsbase_reader.specs.declared.envelope.Envelope.{Envelope}
 use Rattle.jsbase_reader.specs.Envelopes.{envelope_in, envelope_in_text, text_in}
@@ -33,9 +34,10 @@ use Rattle.jsbase_commands.specs.declared.arguments.Command.{Command}
 use Rattle.jsbase_commands.specs.declared.arguments.Command.TheVariants as command
 use Rattle.jsbase_commands.specs.declared.arguments.Kind.{Kind}
 use Rattle.jsbase_commands.specs.declared.arguments.Kind.TheVariants as kind
+use Rattle.jsbase_commands.specs.declared.fault.Fault.{Fault}
 use Rattle.jsbase_commands.specs.declared.fault.Fault.TheVariants.{Usage, Refused, NotATree}
-use Rattle.jsbase_commands.specs.Run.{Does, IsRefusalOf, ResolvesTo, class_of, config_of}
-use Rattle.jsbase_engine.specs.Run.{Keeps, SparesTargets}
+use Rattle.jsbase_commands.specs.Run.{Does, IsFaultOfOne, IsRefusalOf, MakesOfOne, ResolvesTo, class_of, config_of}
+use Rattle.jsbase_engine.specs.Run.{AnswersOfOne, IsSparingFault, Keeps, SparesTargets}
 use Rattle.jsbase_engine.specs.Laws.{PromisesAreKept, TargetsAreSpared}
 
 abbrev module_place : Slot
@@ -58,6 +60,13 @@ module _ (told : TypesAreTold) (alike : ResolvedAlike) (envelope : Envelope) (ok
   by_values : (table : Table) (t : Node) → has_types envelope.tree ≡ false → ResolvesTo envelope table t → Resolved envelope.unresolved envelope.top envelope.globals table envelope.tree t
   by_values table t none r = (alike envelope.unresolved envelope.top envelope.globals table envelope.tree t ((told envelope.tree).0 none)).1 r
 
+  -- a program that the chain answered is answered again, of either goal
+  unchanged : ChainChangesNothing → (table : Table) (between renamed : Node) → has_types envelope.tree ≡ false → ResolvesTo envelope table between → IsHygienic table (config_of envelope) between renamed
+      → IsAnswer envelope.tree → envelope.keep_class_names ≡ false → answer_to renamed ≡ envelope.tree
+  unfolding answer_to
+  unchanged changing table between renamed none resolved hygienic answered keeps =
+      changing table (config_of envelope) envelope.tree between renamed envelope.unresolved envelope.top envelope.globals table answered keeps ok.0.1 (by_values table between none resolved) hygienic
+
   kept : ChainingKeepsForms → ChainingKeepsSources → ChainChangesNothing → AnswersKeepPromises → (c : Command) (k : Kind) (output : List ℕ) → Fits envelope.tree (slot.One (content.Node (class_of k)))
       → (done : Does c envelope output) → Keeps c k envelope output done
   unfolding answer_to
@@ -66,9 +75,7 @@ module _ (told : TypesAreTold) (alike : ResolvedAlike) (envelope : Envelope) (ok
         (chaining (config_of envelope) (recorded (pairs done.renamed)) module_place envelope.unresolved envelope.top envelope.globals done.table envelope.tree done.is_renamed.between done.renamed refl fits source
         (plain_if_module envelope.tree (fits_module envelope.tree fits)) ok.0.1
         (by_values done.table done.is_renamed.between done.no_types done.is_renamed.resolved) done.is_renamed.hygienic).0;
-    again = λ answered keeps.
-        changing done.table (config_of envelope) envelope.tree done.is_renamed.between done.renamed envelope.unresolved envelope.top envelope.globals done.table answered keeps ok.0.1
-        (by_values done.table done.is_renamed.between done.no_types done.is_renamed.resolved) done.is_renamed.hygienic;
+    again = unchanged changing done.table done.is_renamed.between done.renamed done.no_types done.is_renamed.resolved done.is_renamed.hygienic;
   }
   kept forms chaining changing fixing command.Chain kind.Script output fits done = record {
     form = λ source.
@@ -78,11 +85,13 @@ module _ (told : TypesAreTold) (alike : ResolvedAlike) (envelope : Envelope) (ok
         (chaining (config_of envelope) (recorded (pairs done.renamed)) script_place envelope.unresolved envelope.top envelope.globals done.table envelope.tree done.is_renamed.between done.renamed refl fits source
         (λ s. plain) ok.0.1
         (by_values done.table done.is_renamed.between done.no_types done.is_renamed.resolved) done.is_renamed.hygienic).0;
+    again = unchanged changing done.table done.is_renamed.between done.renamed done.no_types done.is_renamed.resolved done.is_renamed.hygienic;
   }
   kept forms chaining changing fixing command.Fix k output fits done = fixing envelope.tree (slot.One (content.Node (class_of k))) (takes_pairs k) fits
   kept forms chaining changing fixing command.Resolve k output fits done = tt
   kept forms chaining changing fixing command.Hygiene k output fits done = tt
   kept forms chaining changing fixing command.Unparen k output fits done = tt
+  kept forms chaining changing fixing command.Judge k output fits done = tt
 
   no_target : ChainingKeepsForms → (k : Kind) → Fits envelope.tree (slot.One (content.Node (class_of k))) → (e : PassError) → IsRefusalOf command.Chain envelope e → SparesTargets command.Chain k envelope e
   no_target forms k fits refusal.NotAssignable (none, (table, renamed, is, bare)) source same =
@@ -99,14 +108,33 @@ module _ (told : TypesAreTold) (alike : ResolvedAlike) (envelope : Envelope) (ok
   spared forms command.Resolve k e fits h = tt
   spared forms command.Hygiene k e fits h = tt
   spared forms command.Unparen k e fits h = tt
+  spared forms command.Judge k e fits h = tt
+
+module _ (told : TypesAreTold) (alike : ResolvedAlike) (forms : ChainingKeepsForms) where
+  module _ (chaining : ChainingKeepsSources) (changing : ChainChangesNothing) (fixing : AnswersKeepPromises) where
+    one_kept : (c : Command) (k : Kind) (input output : List ℕ) → MakesOfOne c k input output → AnswersOfOne c k input output
+    one_kept c k input output (envelope, is, done) =
+        (envelope, is, done, kept told alike envelope (envelope_marks (class_of k) input envelope is) forms chaining changing fixing c k output (fits_its_class (class_of k) input envelope is) done)
+
+  one_spared : (c : Command) (k : Kind) (input : List ℕ) (fault : Fault) → IsFaultOfOne c k input fault → IsSparingFault c k input fault
+  one_spared c k input Usage h = h
+  one_spared c k input (NotATree text) h = h
+  one_spared c k input (Refused e) (inl memory) = inl memory
+  one_spared c k input (Refused e) (inr (envelope, is, cause)) =
+      inr (envelope, is, cause, spared told alike envelope (envelope_marks (class_of k) input envelope is) forms c k e (fits_its_class (class_of k) input envelope is) cause)
 
 pub promises_are_kept : TypesAreTold → ResolvedAlike → ChainingKeepsForms → ChainingKeepsSources → ChainChangesNothing → AnswersKeepPromises → PromisesAreKept
-promises_are_kept told alike forms chaining changing fixing c k input output (envelope, is, done) =
-    (envelope, is, done, kept told alike envelope (envelope_marks (class_of k) input envelope is) forms chaining changing fixing c k output (fits_its_class (class_of k) input envelope is) done)
+promises_are_kept told alike forms chaining changing fixing command.Chain k input output h = one_kept told alike forms chaining changing fixing command.Chain k input output h
+promises_are_kept told alike forms chaining changing fixing command.Fix k input output h = one_kept told alike forms chaining changing fixing command.Fix k input output h
+promises_are_kept told alike forms chaining changing fixing command.Resolve k input output h = one_kept told alike forms chaining changing fixing command.Resolve k input output h
+promises_are_kept told alike forms chaining changing fixing command.Hygiene k input output h = one_kept told alike forms chaining changing fixing command.Hygiene k input output h
+promises_are_kept told alike forms chaining changing fixing command.Unparen k input output h = one_kept told alike forms chaining changing fixing command.Unparen k input output h
+promises_are_kept told alike forms chaining changing fixing command.Judge k input output h = h
 
 pub targets_are_spared : TypesAreTold → ResolvedAlike → ChainingKeepsForms → TargetsAreSpared
-targets_are_spared told alike forms c k input Usage h = h
-targets_are_spared told alike forms c k input (NotATree text) h = h
-targets_are_spared told alike forms c k input (Refused e) (inl memory) = inl memory
-targets_are_spared told alike forms c k input (Refused e) (inr (envelope, is, cause)) =
-    inr (envelope, is, cause, spared told alike envelope (envelope_marks (class_of k) input envelope is) forms c k e (fits_its_class (class_of k) input envelope is) cause)
+targets_are_spared told alike forms command.Chain k input fault h = one_spared told alike forms command.Chain k input fault h
+targets_are_spared told alike forms command.Fix k input fault h = one_spared told alike forms command.Fix k input fault h
+targets_are_spared told alike forms command.Resolve k input fault h = one_spared told alike forms command.Resolve k input fault h
+targets_are_spared told alike forms command.Hygiene k input fault h = one_spared told alike forms command.Hygiene k input fault h
+targets_are_spared told alike forms command.Unparen k input fault h = one_spared told alike forms command.Unparen k input fault h
+targets_are_spared told alike forms command.Judge k input fault h = h

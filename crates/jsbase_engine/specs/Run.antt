@@ -19,6 +19,7 @@ use Rattle.jsbase_commands.specs.declared.arguments.Kind.{Kind}
 use Rattle.jsbase_commands.specs.declared.arguments.Kind.TheVariants as kind
 use Rattle.jsbase_commands.specs.declared.fault.Fault.{Fault}
 use Rattle.jsbase_commands.specs.declared.fault.Fault.TheVariants.{Usage, Refused, NotATree}
+use Rattle.jsbase_commands.specs.Judge.{IsToldOf, IsUntoldOf}
 use Rattle.jsbase_commands.specs.Run.{Does, IsRefusalOf, class_of, config_of}
 
 -- what `chain_module` promises of a module that is chained: of a source that its answer keeps it, and of what the chain answered
@@ -28,10 +29,11 @@ pub record KeepsItsModule (envelope : Envelope) (table : Table) (answer : Node) 
   pub again : IsAnswer envelope.tree → envelope.keep_class_names ≡ false → answer ≡ envelope.tree
 
 -- what `chain_script` promises of a script that is chained: of a source that its answer keeps its form, and where the script is plain
--- all that is promised of a source
+-- all that is promised of a source; and of what the chain answered that it is answered again, as of a module
 pub record KeepsItsScript (envelope : Envelope) (table : Table) (answer : Node) : Type 0 where
   pub form : IsSource (config_of envelope) envelope.tree → KeepsItsForm envelope.tree answer
   pub promises : IsSource (config_of envelope) envelope.tree → IsPlainScript envelope.tree → KeepsItsSource envelope.unresolved envelope.top envelope.globals table envelope.tree answer
+  pub again : IsAnswer envelope.tree → envelope.keep_class_names ≡ false → answer ≡ envelope.tree
 
 -- what is promised of it beside: of a program that is chained what `chain_module` or `chain_script` promises, of a program whose pairs
 -- are set what the fixer promises
@@ -46,12 +48,21 @@ abbrev pub SparesTargets : Command → Kind → Envelope → PassError → Type 
 SparesTargets command.Chain k envelope error = IsSource (config_of envelope) envelope.tree → error ≢ refusal.NotAssignable
 SparesTargets _ _ envelope error = Unit {0}
 
--- the output is what the command makes of the envelope that the input is, with what is promised of it
+-- the output is what the command makes of the envelope of one program that the input is, with what is promised of it
+abbrev pub AnswersOfOne : Command → Kind → List ℕ → List ℕ → Type 0
+AnswersOfOne c k input output = (envelope : Envelope) × (envelope_in_text (class_of k) input ≡ Ok envelope) × (done : Does c envelope output) × Keeps c k envelope output done
+
+-- the output is what the command makes of the input; of one that has two versions of a program what is said of them
 abbrev pub Answers : Command → Kind → List ℕ → List ℕ → Type 0
-Answers c k input output = (envelope : Envelope) × (envelope_in_text (class_of k) input ≡ Ok envelope) × (done : Does c envelope output) × Keeps c k envelope output done
+Answers command.Judge k input output = IsToldOf (class_of k) input output
+Answers c k input output = AnswersOfOne c k input output
 
 -- the fault is the input's first, by its path; else memory was refused, or the command's pass for its own cause
+abbrev pub IsSparingFault : Command → Kind → List ℕ → Fault → Type 0
+IsSparingFault c k input Usage = ⊥
+IsSparingFault c k input (NotATree text) = (path : Path) × (envelope_in_text (class_of k) input ≡ Err path) × (string_bytes text ≡ path_text path)
+IsSparingFault c k input (Refused error) = (error ≡ refusal.NoMemory) ⊎ ((envelope : Envelope) × (envelope_in_text (class_of k) input ≡ Ok envelope) × IsRefusalOf c envelope error × SparesTargets c k envelope error)
+
 abbrev pub IsFaultOf : Command → Kind → List ℕ → Fault → Type 0
-IsFaultOf c k input Usage = ⊥
-IsFaultOf c k input (NotATree text) = (path : Path) × (envelope_in_text (class_of k) input ≡ Err path) × (string_bytes text ≡ path_text path)
-IsFaultOf c k input (Refused error) = (error ≡ refusal.NoMemory) ⊎ ((envelope : Envelope) × (envelope_in_text (class_of k) input ≡ Ok envelope) × IsRefusalOf c envelope error × SparesTargets c k envelope error)
+IsFaultOf command.Judge k input fault = IsUntoldOf (class_of k) input fault
+IsFaultOf c k input fault = IsSparingFault c k input fault

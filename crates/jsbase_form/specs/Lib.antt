@@ -1,4 +1,5 @@
 pub mod Reads
+pub mod ByNumbers
 pub mod Steps
 pub mod Leaves
 pub mod Trees

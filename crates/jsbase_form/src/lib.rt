@@ -5,6 +5,8 @@
 //! definitions stand in `specs/`, what follows from them in `proofs/`.
 #![tactic(auto)]
 
+mod by_numbers;
 mod path;
 
+pub use by_numbers::path_to;
 pub use path::{FaultPath, Step};

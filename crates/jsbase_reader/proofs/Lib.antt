@@ -6,5 +6,8 @@ pub mod Marks
 pub mod Tables
 pub mod Numbers
 pub mod Texts
+pub mod Documents
 pub mod Sound
+pub mod Clean
 pub mod OneByOne
+pub mod OfTwo

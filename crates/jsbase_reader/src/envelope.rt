@@ -108,7 +108,11 @@ fn mark_in(
 }
 
 // The option that a key holds; where it holds none it is false.
-fn option_in(alloc: Global, object: &Value<'_>, name: &'static str) -> Result<bool, ReadError>
+pub(crate) fn option_in(
+    alloc: Global,
+    object: &Value<'_>,
+    name: &'static str,
+) -> Result<bool, ReadError>
     ensures { Gives result (at (key name.now) (option_at (value_of name.now (members_in (value_view object.now))))) }
 {
     match member(object, name) {
@@ -118,7 +122,7 @@ fn option_in(alloc: Global, object: &Value<'_>, name: &'static str) -> Result<bo
 }
 
 // The mark of names that no scope declares, and that of the outermost scope.
-fn read_marks(
+pub(crate) fn read_marks(
     alloc: Global,
     globals: &Globals,
     object: &Value<'_>,
@@ -231,7 +235,7 @@ pub fn read_envelope(alloc: Global, class: Class, value: &Value<'_>) -> Result<E
 pub(crate) const MAX_DEPTH: usize = 127;
 
 // The JSON value of a text.
-fn parse<'a>(
+pub(crate) fn parse<'a>(
     alloc: Global,
     bytes: &'a [u8],
     scratch: &'a mut Scratch,

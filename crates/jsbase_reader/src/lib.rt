@@ -6,10 +6,13 @@
 
 mod envelope;
 mod error;
+mod gathered;
 mod leaves;
 mod nodes;
 mod streamed;
+mod versions;
 
 pub use envelope::{Envelope, read_bytes, read_envelope};
 pub use error::ReadError;
 pub use nodes::read;
+pub use versions::{Versions, read_versions};

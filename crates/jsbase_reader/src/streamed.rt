@@ -70,16 +70,16 @@ impl From<Invalid> for Stop {
     }
 }
 
-type Member<'a> = (&'a str, Value<'a>);
+pub(crate) type Member<'a> = (&'a str, Value<'a>);
 
 // How deep arrays and objects may nest in a member of the envelope, in one of the program, and in a statement.
-const IN_ENVELOPE: usize = MAX_DEPTH - 1;
+pub(crate) const IN_ENVELOPE: usize = MAX_DEPTH - 1;
 
 const IN_PROGRAM: usize = MAX_DEPTH - 2;
 
 const IN_STATEMENTS: usize = MAX_DEPTH - 3;
 
-fn object_begins(reader: &mut Reader<'_>) -> Result<(), Stop>
+pub(crate) fn object_begins(reader: &mut Reader<'_>) -> Result<(), Stop>
     ensures begins { OnOk result (reader.old ≡ object_begins ∷ reader.new) }
     ensures json { result ≢ Err stop.NoJson }
 {
@@ -100,7 +100,7 @@ fn array_begins(reader: &mut Reader<'_>) -> Result<(), Stop>
 }
 
 // What was read, unless it is at fault: a fault is told by the reading of the whole value.
-fn faultless<T: Drop>(read: Result<T, ReadError>) -> Result<T, Stop>
+pub(crate) fn faultless<T: Drop>(read: Result<T, ReadError>) -> Result<T, Stop>
     ensures read { (r : Read T) → Gives read r → IfOk result (λ t. r ≡ Ok t) }
     ensures json { result ≢ Err stop.NoJson }
 {
@@ -127,7 +127,7 @@ fn next_value<'a>(alloc: Global, reader: &mut Reader<'a>, depth: usize) -> Resul
 }
 
 // A member of an object, behind those that were read before it.
-fn read_value<'a>(
+pub(crate) fn read_value<'a>(
     alloc: Global,
     reader: &mut Reader<'a>,
     depth: usize,
@@ -299,7 +299,7 @@ fn check_kind(alloc: Global, class: Class, before: &Value<'_>) -> Result<(), Sto
 }
 
 // The program of a class whose value is next.
-fn read_program(
+pub(crate) fn read_program(
     alloc: Global,
     globals: &Globals,
     class: Class,
@@ -411,7 +411,7 @@ fn read_document(
 
 // Whether a text ends as an object does, but for blanks. Of one that doesn't, as where it was cut off, the reading of its whole value
 // tells so with no node made.
-fn ends_as_object(text: &str) -> bool {
+pub(crate) fn ends_as_object(text: &str) -> bool {
     let mut from_the_end = text.as_bytes().iter().rev();
     let last = from_the_end.find(|byte| !matches!(**byte, b' ' | b'\t' | b'\n' | b'\r'));
     matches!(last, Some(b'}'))
@@ -419,7 +419,7 @@ fn ends_as_object(text: &str) -> bool {
 
 // Whether an object is seen to end in the last sixteenth of a text and another to begin right behind it, which no JSON has but in a
 // string: then something stands behind the envelope, and the reading of its whole value tells so with no node made.
-fn goes_on(text: &str) -> bool {
+pub(crate) fn goes_on(text: &str) -> bool {
     let mut has_ended = false;
     for byte in &text.as_bytes()[text.len() - text.len() / 16..] {
         match *byte {

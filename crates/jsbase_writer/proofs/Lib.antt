@@ -4,3 +4,4 @@ pub mod Places
 pub mod Rests
 pub mod Back
 pub mod Tokens
+pub mod Verdicts

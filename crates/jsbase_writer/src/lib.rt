@@ -9,6 +9,8 @@ mod members;
 mod nodes;
 mod numbers;
 mod order;
+mod verdict;
 
 pub use envelope::write_envelope;
 pub use nodes::write;
+pub use verdict::{write_difference, write_same};

@@ -1,0 +1,95 @@
+//! What is said of two versions of a program.
+ghost use Rattle.std.specs.Prelude.{◌≡◌, IfOk, MatchResult, string_bytes};
+ghost use Rattle.swc_base_alpha.specs.Verdict.{IsCleanProgram};
+ghost use Rattle.jsbase_commands.specs.Judge.{IsTold, IsToldOf, IsUntoldFor, IsUntoldOf, path_under, verdict_text, why_word};
+ghost use Rattle.jsbase_commands.specs.Run.{class_of as class_in};
+
+use crate::arguments::Kind;
+use crate::commands::{class_of, read_fault};
+use crate::fault::Fault;
+use jsbase_form::{Step, path_to};
+use jsbase_reader::{Versions, read_versions};
+use jsbase_writer::{write_difference, write_same};
+use std::alloc::{AllocError, Global};
+use swc_base_alpha::{Verdict, Why, judge};
+use swc_tree_marks::PassError;
+use swc_tree_node::Node;
+
+/// What the program says of the two versions that an input has, as one line.
+///
+/// # Errors
+///
+/// Those of `run`.
+pub(crate) fn run_on_two(alloc: Global, kind: Kind, input: &[u8]) -> Result<Vec<u8>, Fault>
+    ensures { MatchResult result (λ output. IsToldOf (class_in kind) input.now output.items) (IsUntoldOf (class_in kind) input.now) }
+{
+    match read_versions(alloc, class_of(kind), input) {
+        Err(error) => Err(read_fault(alloc, error)),
+        Ok(versions) => match tell(alloc, &versions) {
+            Ok(text) => Ok(text.into_bytes()),
+            Err(error) => Err(Fault::Refused(error)),
+        },
+    }
+}
+
+// What is said of two versions, as one line.
+fn tell(alloc: Global, versions: &Versions) -> Result<String, PassError>
+    requires before { IsCleanProgram versions.now.before }
+    requires after { IsCleanProgram versions.now.after }
+    ensures { MatchResult result (λ text. IsTold versions.now (string_bytes text)) (IsUntoldFor versions.now) }
+{
+    let verdict = judge(alloc, versions.keep_top, &versions.before, &versions.after)?;
+    let text = line(alloc, versions, &verdict)?;
+    Ok(text)
+}
+
+// The line that tells a verdict.
+fn line(alloc: Global, versions: &Versions, verdict: &Verdict) -> Result<String, AllocError>
+    ensures { IfOk result (λ text. string_bytes text ≡ verdict_text versions.now verdict.now) }
+{
+    let Verdict::Differs(difference) = verdict else {
+        return write_same(alloc);
+    };
+    let after = path_in(alloc, "after", &versions.after, difference.after.as_slice())?;
+    let before = path_in(
+        alloc,
+        "before",
+        &versions.before,
+        difference.before.as_slice(),
+    )?;
+    write_difference(
+        alloc,
+        after.as_str(),
+        before.as_str(),
+        word_of(difference.why),
+    )
+}
+
+// The path of a node in the tree at a key of the input.
+fn path_in(
+    alloc: Global,
+    key: &'static str,
+    tree: &Node,
+    numbers: &[usize],
+) -> Result<String, AllocError>
+    ensures { IfOk result (λ text. string_bytes text ≡ path_under key.now tree.now numbers.now) }
+{
+    let mut path = path_to(alloc, tree, numbers)?;
+    path.push_outer(Step::Key(key))?;
+    path.to_text(alloc)
+}
+
+fn word_of(why: Why) -> &'static str
+    ensures { result.now ≡ why_word why }
+{
+    match why {
+        Why::Shape => "shape",
+        Why::Name => "name",
+        Why::Free => "free",
+        Why::Split => "split",
+        Why::Joined => "joined",
+        Why::Top => "top",
+        Why::Reads => "reads",
+        Why::Caught => "caught",
+    }
+}
