@@ -1,23 +1,9 @@
-//! What the gate asks of trees that no program leads to: copied, opened one level deep, looked at, closed and written. It
-//! goes over the rows of standard input, as `gate_replay` does. It is a program of its own, since the toolchain's own compiler
-//! builds that one and has no room for both in one.
+//! What the gate asks of trees that no program leads to, as rows of one program (`gate_trees_rows`).
 #![tactic(auto)]
 
-mod trees;
-
 use anyhow::Result;
-use gate_rows::{Answers, replay};
-use std::alloc::Global;
-
-/// The answers to the rows of this program.
-struct OfRows;
-
-impl Answers for OfRows {
-    fn answer(alloc: Global, words: &str, input: &str) -> Result<Option<String>> {
-        Ok(trees::answer(alloc, words, input))
-    }
-}
+use gate_trees_rows::serve;
 
 fn main(rt: HostRuntime) -> Result<()> {
-    replay::<OfRows>(&rt)
+    serve(&rt)
 }
