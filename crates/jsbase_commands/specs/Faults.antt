@@ -24,7 +24,7 @@ status_of (Write n) = 4
 status_of NoMemory = 1
 
 abbrev pub cause_of : Fault → List ℕ
-cause_of Usage = codes "usage: jsbase resolve|hygiene|fix|unparen|chain|judge module|script"
+cause_of Usage = codes "usage: jsbase resolve|hygiene|fix|unparen|chain module|script"
 cause_of (Refused e) = codes "refused: " ++ name_of e
 cause_of (NotATree path) = codes "not a tree: " ++ string_bytes path
 

@@ -87,7 +87,7 @@ fn cause_of(fault: &Fault) -> (&str, &str)
 {
     match fault {
         Fault::Usage => (
-            "usage: jsbase resolve|hygiene|fix|unparen|chain|judge module|script",
+            "usage: jsbase resolve|hygiene|fix|unparen|chain module|script",
             "",
         ),
         Fault::Refused(error) => ("refused: ", error.name()),
