@@ -20,6 +20,7 @@ use swc_tree_node::Node;
 /// # Errors
 ///
 /// Those of `run`.
+#[inline(never)] // so that the other commands do not pay for its frame
 pub(crate) fn run_on_two(alloc: Global, kind: Kind, input: &[u8]) -> Result<Vec<u8>, Fault>
     ensures { MatchResult result (λ output. IsToldOf (class_in kind) input.now output.items) (IsUntoldOf (class_in kind) input.now) }
 {

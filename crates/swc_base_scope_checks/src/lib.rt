@@ -1,5 +1,4 @@
-//! What is asked of the names of a program, decided: whether a `var` meets a catch parameter of its name, and whether there is an
-//! early error of names.
+//! What is asked of the names of a program, decided: whether a `var` meets a catch parameter of its name.
 //!
 //! `walk` looks at each identifier in its place, with the scopes that are open there; `barrier` says what a variable may not pass on
 //! its way out.
