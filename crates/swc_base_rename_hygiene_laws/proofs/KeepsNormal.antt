@@ -20,6 +20,7 @@ use Rattle.swc_tree_scoping.specs.BoundNames.{Id, declared_ids}
 use Rattle.swc_tree_scoping.specs.Places.{program_place}
 use Rattle.swc_tree_scoping.specs.Readings.{by_texts}
 use Rattle.swc_tree_renaming.specs.Apart.{is_goal}
+use Rattle.swc_tree_renaming.proofs.Global.{fits_module}
 use Rattle.swc_tree_grammar.specs.Forms.{is_using}
 use Rattle.swc_tree_grammar.specs.Normal.{made, normal_form, same_id, written_out}
 use Rattle.swc_tree_grammar.specs.Same.{declared_names, same_tree}
@@ -42,7 +43,7 @@ use Rattle.swc_base_rename_substitution.specs.Substituted.{substituted}
 use Rattle.swc_base_rename_substitution.specs.Walk.{items_substituted}
 use Rattle.swc_base_rename_substitution.proofs.Equations.{substituted_list}
 use Rattle.swc_base_rename_substitution.proofs.KeptFits.{substituted_fits}
-use Rattle.swc_base_rename_analysis.specs.Named.{Named}
+use Rattle.swc_base_rename_analysis.specs.Named.{Named, Renaming}
 use Rattle.swc_base_rename_analysis.specs.Order.{entry}
 use Rattle.swc_base_rename_analysis.specs.Preserved.{IsPreserved}
 use Rattle.swc_base_rename_analysis.proofs.Level.{each_in_order}
@@ -55,7 +56,9 @@ use Rattle.swc_base_rename_laws.proofs.NormalFormModule.{tree_only}
 use Rattle.swc_base_rename_laws.proofs.NormalFormStays as kept
 use Rattle.swc_base_rename_laws.proofs.NormalFormStays.{before, items_become}
 use Rattle.swc_base_rename_laws.proofs.NormalFormTable.{plain_tree}
-use Rattle.swc_base_rename_hygiene_laws.specs.Laws.{HygieneKeepsNormalForm}
+use Rattle.swc_base_rename_hygiene_laws.specs.Laws.{HygieneKeepsNormalForm, RenamingKeepsNormalForm}
+use Rattle.swc_base_rename_hygiene_laws.specs.Renamers.{KeepsTopApart, TopTextsDiffer}
+use Rattle.swc_base_rename_hygiene_laws.proofs.Hygienic.{none_kept}
 use Rattle.swc_base_rename_hygiene_laws.proofs.StaysWritable.{by_test, plain_names}
 use Rattle.swc_base_rename_hygiene_laws.proofs.Apart.{AtTop, top_texts_differ}
 use Rattle.swc_base_rename_hygiene_laws.proofs.BindableNames.{all_bindable, declared_bindable, strict}
@@ -103,17 +106,14 @@ chosen b l = if b then None else Some (l, [])
 
 -- ---- what an exported declaration declares
 
-module _ (a : Node) (ts : List Node) (c : Node) where
+module _ (r : Renaming) (a : Node) (ts : List Node) (c : Node) where
   abbrev fields : List Node
   fields = a ∷ Many ts ∷ c ∷ []
 
   abbrev whole : Node
   whole = Tree kind.Module fields
 
-  abbrev Preserved : List ℕ → Type 0
-  Preserved = IsPreserved whole hygiene_renaming.preserves
-
-  module _ (new_texts : Id → Option (List ℕ)) (named : Named whole hygiene_renaming Preserved (counting whole hygiene_renaming) new_texts) where
+  module _ (kept_apart : TopTextsDiffer r whole) (new_texts : Id → Option (List ℕ)) (named : Named whole r (IsPreserved whole r.preserves) (counting whole r) new_texts) where
     abbrev m : Changes
     m = new_id_by new_texts
 
@@ -136,7 +136,7 @@ module _ (a : Node) (ts : List Node) (c : Node) where
 
     differ : (x y : Id) → Top x → Top y → x.0 ≡ y.0 → pointwise nat_eq x.1 y.1 ≡ false → ⊥
     differ x y d e same other =
-        top_texts_differ whole top_entry (each_in_order whole) Preserved new_texts named x y d.0 e.0
+        top_texts_differ r whole top_entry (each_in_order whole) new_texts named kept_apart x y d.0 e.0
         (λ one. let never : pointwise nat_eq x.1 y.1 ≡ true = ap (λ (z : Id). pointwise nat_eq x.1 z.1) (sym one) ∙ nat_list_eq_equiv.refl x.1 in cc)
         (keeps x d.1) (keeps y e.1) same
 
@@ -225,27 +225,27 @@ module _ (a : Node) (ts : List Node) (c : Node) where
 pub items_sound : (a : Node) (ts : List Node) (c : Node) → sound (Tree kind.Module (a ∷ Many ts ∷ c ∷ [])) (record { strict = false; assigned = false }) ≡ true → all_sound (map of ts) strict ≡ true
 items_sound a ts c h = sym (sound_list ts strict) ∙ sym (sound_tree kind.Module (a ∷ Many ts ∷ c ∷ []) (record { strict = false; assigned = false })) ∙ h
 
-abbrev Texts : Node → (Id → Option (List ℕ)) → Type 0
-Texts t new_texts = Named t hygiene_renaming (IsPreserved t hygiene_renaming.preserves) (counting t hygiene_renaming) new_texts
+abbrev Texts : Renaming → Node → (Id → Option (List ℕ)) → Type 0
+Texts r t new_texts = Named t r (IsPreserved t r.preserves) (counting t r) new_texts
 
 -- the normal form of the module with its names does not rest on contexts
-abbrev Goal : Node → Type 0
-Goal t = (new_texts : Id → Option (List ℕ)) → Texts t new_texts → Fits t (slot.One (content.Node class.Module)) → IsTrue (is_writable t)
+abbrev Goal : Renaming → Node → Type 0
+Goal r t = TopTextsDiffer r t → (new_texts : Id → Option (List ℕ)) → Texts r t new_texts → Fits t (slot.One (content.Node class.Module)) → IsTrue (is_writable t)
     → normal_form (by_texts (substituted (new_id_by new_texts) false place.Other t)) ≡ by_texts (normal_form (substituted (new_id_by new_texts) false place.Other t))
 
-of_kind : (k : Kind) (ts : List Node) → IsTrue (belongs k class.Module) → FieldsFit (slots_of k) ts → Goal (Tree k ts)
-of_kind kind.Module [] b f = absurd f
-of_kind kind.Module (x ∷ []) b f = absurd f.1
-of_kind kind.Module (x ∷ y ∷ []) b f = absurd f.1.1
-of_kind kind.Module (x ∷ y ∷ z ∷ t ∷ ts) b f = absurd f.1.1.1
-of_kind kind.Module (x ∷ y ∷ z ∷ []) b f =
+of_kind : (r : Renaming) (k : Kind) (ts : List Node) → IsTrue (belongs k class.Module) → FieldsFit (slots_of k) ts → Goal r (Tree k ts)
+of_kind r kind.Module [] b f = absurd f
+of_kind r kind.Module (x ∷ []) b f = absurd f.1
+of_kind r kind.Module (x ∷ y ∷ []) b f = absurd f.1.1
+of_kind r kind.Module (x ∷ y ∷ z ∷ t ∷ ts) b f = absurd f.1.1.1
+of_kind r kind.Module (x ∷ y ∷ z ∷ []) b f =
     let l = listed y (content.Node class.ModuleItem) f.1.0 in
-    subst (λ y. Goal (Tree kind.Module (x ∷ y ∷ z ∷ []))) (sym l.is)
-    (λ new_texts named fits writable. normal_given x l.items z new_texts named fits (items_sound x l.items z writable) l.fit)
-of_kind k ts b f = impossible b
+    subst (λ y. Goal r (Tree kind.Module (x ∷ y ∷ z ∷ []))) (sym l.is)
+    (λ apart new_texts named fits writable. normal_given r x l.items z apart new_texts named fits (items_sound x l.items z writable) l.fit)
+of_kind r k ts b f = impossible b
 
-module_goal : (t : Node) → Fits t (slot.One (content.Node class.Module)) → Goal t
-module_goal t f = let x = tree_only class.Module refl refl t f in subst Goal (sym x.2) (of_kind x.0 x.1 x.4 x.5)
+module_goal : (r : Renaming) (t : Node) → Fits t (slot.One (content.Node class.Module)) → Goal r t
+module_goal r t f = let x = tree_only class.Module refl refl t f in subst (Goal r) (sym x.2) (of_kind r x.0 x.1 x.4 x.5)
 
 -- nor does that of a tree without a module in it
 pub normal_inner : (t : Node) → IsTrue (is_inner t) → normal_form (by_texts t) ≡ by_texts (normal_form t)
@@ -256,31 +256,34 @@ is_program (slot.One (content.Node class.Module)) t g f = inl f
 is_program (slot.One (content.Node class.Script)) t g f = inr f
 is_program _ t g f = impossible g
 
-pub program_goal : (goal : Slot) (t : Node) (new_texts : Id → Option (List ℕ)) → IsTrue (is_goal goal) → Texts t new_texts → Fits t goal → IsTrue (is_writable t)
+pub program_goal : (r : Renaming) (goal : Slot) (t : Node) → KeepsTopApart r t → (new_texts : Id → Option (List ℕ)) → IsTrue (is_goal goal) → Texts r t new_texts → Fits t goal → IsTrue (is_writable t)
     → normal_form (by_texts (substituted (new_id_by new_texts) false place.Other t)) ≡ by_texts (normal_form (substituted (new_id_by new_texts) false place.Other t))
-program_goal (slot.One (content.Node class.Module)) t new_texts g named f writable = module_goal t f new_texts named f writable
-program_goal (slot.One (content.Node class.Script)) t new_texts g named f writable =
+program_goal r (slot.One (content.Node class.Module)) t apart new_texts g named f writable = module_goal r t f (apart (fits_module t f)) new_texts named f writable
+program_goal r (slot.One (content.Node class.Script)) t apart new_texts g named f writable =
     let script = slot.One (content.Node class.Script) in
     normal_inner _ (fits_inner _ script refl (substituted_fits (new_id_by new_texts) false t _ refl script refl f))
-program_goal _ t new_texts g named f writable = impossible g
+program_goal r _ t apart new_texts g named f writable = impossible g
 
 -- the names that change are declared
-declared : (t : Node) (new_texts : Id → Option (List ℕ)) → Texts t new_texts → (i : Ident) → IsTrue (is_some (new_id_by new_texts (id_of i))) → IsTrue (list_any (same_id i) (declared_names t))
-declared t new_texts named i h = by (new_texts (id_of i)) refl
+declared : (r : Renaming) (t : Node) (new_texts : Id → Option (List ℕ)) → Texts r t new_texts → (i : Ident) → IsTrue (is_some (new_id_by new_texts (id_of i))) → IsTrue (list_any (same_id i) (declared_names t))
+declared r t new_texts named i h = by (new_texts (id_of i)) refl
   where
     by : (o : Option (List ℕ)) → new_texts (id_of i) ≡ o → IsTrue (list_any (same_id i) (declared_names t))
     by None e = let never : is_some (new_id_by new_texts (id_of i)) ≡ false = ap (λ o. is_some (new_of (id_of i) o)) e in absurd (cc)
     by (Some text) e = let (a, n) = named.no_other (id_of i) text e in declared_there i t a.1 n.declared.standing n.declared.stands n.declared.binds
 
-pub hygiene_keeps_normal_form : HygieneKeepsNormalForm
-hygiene_keeps_normal_form table config goal before after g plain fits writable (given, renamed, cleared) =
-    let names = plain_names table config before given plain renamed in
+pub renaming_keeps_normal_form : RenamingKeepsNormalForm
+renaming_keeps_normal_form r table config goal before after apart g plain fits writable (given, renamed, cleared) =
+    let names = plain_names r table config before given plain renamed in
     let m = new_id_by names.new_texts in
     let answer = substituted m false place.Other before in
     let same = same_tree (declared_names before) (normal_form before) in
     ap (λ t. same (normal_form t)) cleared
-    ∙ by_test _ before given names (λ t. same (normal_form (by_texts t))) (λ s.
+    ∙ by_test r _ before given names (λ t. same (normal_form (by_texts t))) (λ s.
     ap (λ t. same (normal_form (by_texts t))) s
-    ∙ ap same (program_goal goal before names.new_texts g names.named fits writable)
+    ∙ ap same (program_goal r goal before apart names.new_texts g names.named fits writable)
     ∙ same_blind (declared_names before) (normal_form before) program_place (normal_form answer)
-    ∙ kept.normal_form_stays m (declared_names before) before answer (declared before names.new_texts names.named) (is_program goal before g fits) writable refl)
+    ∙ kept.normal_form_stays m (declared_names before) before answer (declared r before names.new_texts names.named) (is_program goal before g fits) writable refl)
+
+pub hygiene_keeps_normal_form : HygieneKeepsNormalForm
+hygiene_keeps_normal_form table config goal before after = renaming_keeps_normal_form hygiene_renaming table config goal before after (none_kept before)

@@ -1,5 +1,5 @@
-mod Numbered
-mod Changed
+pub mod Hygienic
+pub mod Changed
 mod Declared
 mod Apart
 mod BindableNames

@@ -141,6 +141,11 @@ module _ (a : Node) (ts : List Node) (c : Node) (n : ℕ) (b d : Node) (e : slic
   module_child : child whole 1 ≡ Some (Many ts)
   module_child = ap (λ y. slice_get (children_in y) 1) (outs-Tree kind.Module fields)
 
+  inside : {x : Id} (g : Found list_place (Many ts) x) → rounds program_place whole (1 ∷ g.path) ≡ ([], true) ∷ []
+  inside g = ap (λ o. map (lower 1) (given o [] (λ c. rounds list_place c g.path)) ++ seen_as (opened program_place whole) (view_in (out-Node whole) 1)) module_child
+      ∙ ap (λ l. map (lower 1) l ++ seen_as (opened program_place whole) (view_in (out-Node whole) 1)) g.inside
+      ∙ ap (λ y. seen_as (opened_in program_place y) (view_in y 1)) (outs-Tree kind.Module fields)
+
   at_top : (x : Id) → is_bindable true x.0 ≡ true → Found list_place (Many ts) x → AtTop whole x
   at_top x h f = record {
     path = 1 ∷ f.path;
@@ -152,6 +157,7 @@ module _ (a : Node) (ts : List Node) (c : Node) (n : ℕ) (b d : Node) (e : slic
     alone = ap (λ o. map (lift 1) (given o [] (λ c. scopes_below (is_for_body (out-Node whole) 1) list_place c f.path)) ++ opened_round false program_place (out-Node whole) 1) module_child
         ∙ ap (λ y. map (lift 1) (scopes_below (is_for_body y 1) list_place (Many ts) f.path) ++ opened_round false program_place y 1) (outs-Tree kind.Module fields)
         ∙ ap (λ l. map (lift 1) l ++ (([], Fn) ∷ [])) f.alone;
+    inside = inside f;
   }
 
   pub top_found : (x : Id) → is_bindable true x.0 ≡ true → Found (decl_place a ts c n b d) d x → AtTop whole x
@@ -167,7 +173,5 @@ module _ (a : Node) (ts : List Node) (c : Node) (n : ℕ) (b d : Node) (e : slic
     named = g.named;
     same = g.same;
     binding = g.binding;
-    inside = ap (λ o. map (lower 1) (given o [] (λ c. rounds list_place c g.path)) ++ seen_as (opened program_place whole) (view_in (out-Node whole) 1)) module_child
-        ∙ ap (λ l. map (lower 1) l ++ seen_as (opened program_place whole) (view_in (out-Node whole) 1)) g.inside
-        ∙ ap (λ y. seen_as (opened_in program_place y) (view_in y 1)) (outs-Tree kind.Module fields);
+    inside = inside g;
   }

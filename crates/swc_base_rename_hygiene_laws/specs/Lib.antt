@@ -1,1 +1,2 @@
+pub mod Renamers
 pub mod Laws

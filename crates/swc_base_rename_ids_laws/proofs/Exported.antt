@@ -1,5 +1,5 @@
 -- A clean program that is resolved has its normal form without contexts: what an exported declaration declares has one mark.
-use Rattle.std.proofs.Common.{◌≡◌, ◌≢◌, ℕ, Bool, true, false, ◌&&◌, IsTrue, inl, inr, Some, None, List, [], ◌∷◌, map, nat_eq, refl, sym, ap, ◌∙◌, subst, cond}
+use Rattle.std.proofs.Common.{◌≡◌, ◌≢◌, ℕ, true, false, ◌&&◌, IsTrue, inl, inr, Some, None, List, [], ◌∷◌, map, nat_eq, refl, sym, ap, ◌∙◌, subst}
 use Rattle.std.specs.Prelude.{slice_get}
 use Rattle.std.specs.Cmp.Lexicographic.{pointwise}
 use Rattle.std.proofs.lemmas.Cmp.{nat_list_eq_equiv}
@@ -18,7 +18,7 @@ use Rattle.swc_tree_scoping.specs.declared.places.Standing.{Standing}
 use Rattle.swc_tree_scoping.specs.declared.places.Standing.TheVariants as standing
 use Rattle.swc_tree_scoping.specs.declared.places.Place.{Place}
 use Rattle.swc_tree_scoping.specs.Places.{Path, place_at, program_place}
-use Rattle.swc_tree_scoping.specs.Scopes.{Round, first_that, is_binding, is_taken, rounds, scope_at}
+use Rattle.swc_tree_scoping.specs.Scopes.{Round, is_binding, is_taken, rounds, scope_at}
 use Rattle.swc_tree_scoping.specs.Declares.{First}
 use Rattle.swc_tree_scoping.specs.BoundNames.{Id, declared_ids, name_in}
 use Rattle.swc_tree_scoping.specs.Readings.{by_texts}
@@ -56,16 +56,10 @@ use Rattle.swc_base_rename_hygiene_laws.proofs.ExportsApart.{ApartIfKept, export
 use Rattle.swc_base_rename_hygiene_laws.proofs.Found.{AllOf, Found}
 use Rattle.swc_base_rename_hygiene_laws.proofs.KeepsNormal.{both_true, each_from, fit_at, items_sound, normal_inner, sound_at}
 use Rattle.swc_base_rename_hygiene_laws.proofs.TopDeclared.{TopBinding, decl_found, decl_place, no_own_block, top_binding}
+use Rattle.swc_base_rename_texts_laws.proofs.Kept.{only_taker}
 use Rattle.swc_base_rename_ids_laws.proofs.Programs.{by_goal}
 
 -- ---- where the program is the only scope round a path
-
-only_taker : (f : Round → Bool) (ss : List Round) (s : Path) → ss ≡ ([], true) ∷ [] → first_that f ss ≡ Some s → s ≡ []
-only_taker f ss s e h = at (f ([], true)) (sym (ap (first_that f) e) ∙ h)
-  where
-    at : (b : Bool) → cond b (Some []) None ≡ Some s → s ≡ []
-    at true h = cc
-    at false h = absurd (cc)
 
 only_met : (Q : Round → Type 0) (ss : List Round) (m : Path) → ss ≡ ([], true) ∷ [] → First Q ss (Some m) → m ≡ []
 only_met Q ss m e f = at (subst (λ ss. First Q ss (Some m)) e f)

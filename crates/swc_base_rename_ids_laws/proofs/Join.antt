@@ -1,4 +1,4 @@
--- The laws of what hygiene does put together: ids are kept.
+-- The laws of what a renamer does put together: ids are kept.
 use Rattle.std.proofs.Common.{◌≡◌, ℕ, IsTrue, inl, inr, Option, Some, List, [], refl, sym, ap, ◌∙◌, subst}
 use Rattle.std.specs.Prelude.{if◌then◌else◌}
 use Rattle.swc_tree_marks.specs.Globals.{Table}
@@ -35,18 +35,22 @@ use Rattle.swc_tree_sites_tame.specs.Laws.{WritableModulesAreTame, WritableNorma
 use Rattle.swc_tree_sites_scripts.specs.Laws.{PlainScriptsAreLeft}
 use Rattle.swc_base_fixer_laws.specs.Laws.{TargetsStandBare}
 use Rattle.swc_base_rename_substitution.specs.declared.config.Config.{Config}
-use Rattle.swc_base_rename_program.specs.Renamed.{IsHygienic, hygiene_renaming}
+use Rattle.swc_base_rename_analysis.specs.Named.{Renaming}
+use Rattle.swc_base_rename_program.specs.Renamed.{hygiene_renaming}
 use Rattle.swc_base_rename_laws.specs.NewNames.{outline}
 use Rattle.swc_base_rename_laws.proofs.Outline.{identifiers_alike, rounds_alike, scopes_alike}
-use Rattle.swc_base_rename_scoped_laws.specs.Laws.{NamesAreApart, new_text}
+use Rattle.swc_base_rename_scoped_laws.specs.Laws.{ChainedIsFlat, KeepsApart, NamesAreApart, new_text}
+use Rattle.swc_base_rename_scoped_laws.proofs.Apart.{none_preserved}
 use Rattle.swc_base_rename_scoped_laws.proofs.TextsByName.{text_by, text_of_id}
-use Rattle.swc_base_rename_texts_laws.specs.Laws.{HasHygienicTexts, HygieneGivesNormalFormNewTexts}
+use Rattle.swc_base_rename_texts_laws.specs.Laws.{HasRenamedTexts, RenamingGivesNormalFormNewTexts}
 use Rattle.swc_base_rename_texts_laws.proofs.Cleared.{bare_there}
-use Rattle.swc_base_rename_texts_laws.proofs.Words.{same_word}
-use Rattle.swc_base_rename_hygiene_laws.specs.Laws.{IsFinishable}
-use Rattle.swc_base_rename_ids_laws.specs.Laws.{HygieneKeepsIds, HygieneKeepsMeanings, IsSettledIfScript, IsWrittenAs}
+use Rattle.swc_base_rename_texts_laws.proofs.Kept.{all_named, top_apart}
+use Rattle.swc_base_rename_texts_laws.proofs.Words.{same_word, spared}
+use Rattle.swc_base_rename_hygiene_laws.specs.Laws.{HygieneSparesGlobalValues, IsFinishable}
+use Rattle.swc_base_rename_hygiene_laws.specs.Renamers.{IsRenamedAndCleared, SparesGlobalValues, SparesIfScript}
+use Rattle.swc_base_rename_ids_laws.specs.Laws.{HygieneKeepsIds, HygieneKeepsMeanings, IsSettledIfScript, IsWrittenAs, RenamersKeepIds, RenamersKeepMeanings}
 use Rattle.swc_base_rename_ids_laws.proofs.Exported.{normal_cleared, texts_again}
-use Rattle.swc_base_rename_ids_laws.proofs.Globals.{TakesNone, no_digit, settled_alike, takes_none_too}
+use Rattle.swc_base_rename_ids_laws.proofs.Globals.{TakesNone, settled_alike, takes_none_too}
 use Rattle.swc_base_rename_ids_laws.proofs.Programs.{by_goal, module_place, normal_is_module, normal_is_program, script_of_goal, settled_of_goal}
 use Rattle.swc_base_rename_ids_laws.proofs.Spans.{one_id, one_outline}
 
@@ -68,7 +72,7 @@ one_name w v k l i j o e g = identifier_same k l i j (ap (λ (q : Place × Node)
 
 -- ---- the laws
 
-module _ (apart : NamesAreApart) (texts : HygieneGivesNormalFormNewTexts) (modules : WritableNormalFormIsLeft) (scripts : PlainScriptsAreLeft) (ids_left : IdsAreLeft) where
+module _ (apart : NamesAreApart) (flat : ChainedIsFlat) (texts : RenamingGivesNormalFormNewTexts) (modules : WritableNormalFormIsLeft) (scripts : PlainScriptsAreLeft) (ids_left : IdsAreLeft) where
   left : (goal : Slot) → IsTrue (is_goal goal) → (t : Node) → Fits t goal → Writable t → IsSettledIfScript t → IsLeftOf (normal_form t) t
   left = by_goal (λ goal. (t : Node) → Fits t goal → Writable t → IsSettledIfScript t → IsLeftOf (normal_form t) t) (λ t f w s. modules t f w) (λ t f w s. (scripts t f w (s (fits_script t f))).left)
 
@@ -76,16 +80,16 @@ module _ (apart : NamesAreApart) (texts : HygieneGivesNormalFormNewTexts) (modul
   normal_settled = by_goal (λ goal. (t : Node) → Fits t goal → Writable t → IsSettledIfScript t → HasNoSloppy (normal_form t))
       (λ t f w s. module_settled (normal_form t) (normal_is_module t f)) (λ t f w s. (scripts t f w (s (fits_script t f))).settled.0)
 
-  module _ (table : Table) (config : Config) (goal : Slot) (before middle answer : Node) (is : IsTrue (is_goal goal)) (fits_before : Fits before goal) (first : IsFinishable config before) (plain_script : IsPlainIfScript before) (scoped : WellScoped before)
-      (hygienic : IsHygienic table config before middle) (last : IsWrittenAs goal middle answer) where
+  module _ (renamer : Renaming) (table : Table) (config : Config) (goal : Slot) (before middle answer : Node) (keeps : KeepsApart renamer before) (is : IsTrue (is_goal goal)) (fits_before : Fits before goal) (first : IsFinishable config before) (plain_script : IsPlainIfScript before) (scoped : WellScoped before)
+      (renamed : IsRenamedAndCleared table config renamer before middle) (last : IsWrittenAs goal middle answer) where
     abbrev N : Node
     N = normal_form before
 
     abbrev L : Node
     L = normal_form answer
 
-    given : HasHygienicTexts before middle
-    given = texts table config goal before middle is first.plain fits_before first.writable hygienic
+    given : HasRenamedTexts renamer before middle
+    given = texts renamer table config goal before middle (top_apart before scoped renamer keeps) is first.plain fits_before first.writable renamed
 
     abbrev text : List ℕ → List ℕ
     text = text_by given.new_texts
@@ -140,20 +144,20 @@ module _ (apart : NamesAreApart) (texts : HygieneGivesNormalFormNewTexts) (modul
         (named p w v c l x j h g).0 n ∙ sym (text_of_id given.new_texts x) ∙ ap (λ (i : Ident). text i.sym) (sym is)
 
     no_capture : CapturesNone (by_ids before) text
-    no_capture = captures_none before text scoped plain_before (apart before goal fits_before plain_before scoped first.writable hygiene_renaming given.new_texts text (λ x. refl) given.named (text_of_id given.new_texts))
+    no_capture = captures_none before text scoped plain_before (apart before goal fits_before plain_before scoped first.writable renamer given.new_texts text keeps (all_named flat before goal renamer given.new_texts fits_before scoped given.named) (text_of_id given.new_texts))
 
     pub meanings_kept : LeftMeanTheirIds → MeanTheirIds L N
     meanings_kept law = law before N L text plain_before plain_normal plain_last scoped.each_in_one_scope no_capture (ids_left N before left_before) same_by_ids clean_answer new_texts
 
     -- a new text is that of a global value only where it is the old one
-    takes_none_new : TakesNone N → TakesNone L
-    takes_none_new none p w l j g b global taken =
+    takes_none_new : SparesGlobalValues renamer → TakesNone N → TakesNone L
+    takes_none_new spares none p w l j g b global taken =
         let (k, i, e) = same_shape.back p w l j g in
-        let own : i.sym ≡ j.sym = same_word before _ _ given.new_texts given.named i j.sym (no_digit j.sym global) (sym ((named p w w k l i j e g).0 (binding_names w.standing b))) in
+        let own : i.sym ≡ j.sym = same_word before renamer _ _ given.new_texts given.named i j.sym (spared renamer spares j.sym global) (sym ((named p w w k l i j e g).0 (binding_names w.standing b))) in
         none p w k i e b (subst (λ x. IsTrue (is_global_value x)) (sym own) global) (takers_same N L same_shape w.standing p ∙ taken)
 
     module _ (targets : TargetsStandBare) (tame : WritableModulesAreTame) (written : WrittenOutIsLeft) (stripped_takes : StrippedTakesTheSame) (as_writable : TextsAreAsWritable) (left_keeps : LeftKeepsIds)
-        (u : Node) (unresolved top : ℕ) (old new : List (ℕ × ℕ)) (knows : Knows old unresolved) (r : Resolved unresolved top old new answer u) where
+        (spares : SparesIfScript renamer before) (u : Node) (unresolved top : ℕ) (old new : List (ℕ × ℕ)) (knows : Knows old unresolved) (r : Resolved unresolved top old new answer u) where
       abbrev M : Node
       M = normal_form u
 
@@ -189,7 +193,7 @@ module _ (apart : NamesAreApart) (texts : HygieneGivesNormalFormNewTexts) (modul
 
       -- a script's answer takes no global value, since the script takes none
       none_last : IsTrue (is_script before) → TakesNone L
-      none_last s = takes_none_new (takes_none_too before N (takes before fits_before first.writable settled_before) (λ p w k i h. (plain_script s).no_global_value p w k i s h))
+      none_last s = takes_none_new (spares s) (takes_none_too before N (takes before fits_before first.writable settled_before) (λ p w k i h. (plain_script s).no_global_value p w k i s h))
 
       declares_none : DeclaresNoGlobalValue answer
       declares_none p w k i s =
@@ -204,9 +208,19 @@ module _ (apart : NamesAreApart) (texts : HygieneGivesNormalFormNewTexts) (modul
           last.clean knows r (left goal is u fits_u writable_u settled_u) (takes u fits_u writable_u settled_u) same_resolved kept_texts
           (means_no_global_value answer plain_answer.1 declares_none) (means_no_global_value L plain_last.1 declares_none_last)
 
-  pub hygiene_keeps_meanings : LeftMeanTheirIds → HygieneKeepsMeanings
-  hygiene_keeps_meanings law table config goal before middle answer is fits_before first plain scoped hygienic last = meanings_kept table config goal before middle answer is fits_before first plain scoped hygienic last law
+  pub renamers_keep_meanings : LeftMeanTheirIds → RenamersKeepMeanings
+  renamers_keep_meanings law renamer table config goal before middle answer keeps is fits_before first plain scoped renamed last =
+      meanings_kept renamer table config goal before middle answer keeps is fits_before first plain scoped renamed last law
 
-  pub hygiene_keeps_ids : TargetsStandBare → WritableModulesAreTame → WrittenOutIsLeft → StrippedTakesTheSame → TextsAreAsWritable → LeftKeepsIds → HygieneKeepsIds
-  hygiene_keeps_ids targets tame written stripped_takes as_writable left_keeps table config goal before middle answer u unresolved top old new is fits_before first plain scoped hygienic last knows r =
-      ids_kept table config goal before middle answer is fits_before first plain scoped hygienic last targets tame written stripped_takes as_writable left_keeps u unresolved top old new knows r
+  pub renamers_keep_ids : TargetsStandBare → WritableModulesAreTame → WrittenOutIsLeft → StrippedTakesTheSame → TextsAreAsWritable → LeftKeepsIds → RenamersKeepIds
+  renamers_keep_ids targets tame written stripped_takes as_writable left_keeps renamer table config goal before middle answer u unresolved top old new keeps spares is fits_before first plain scoped renamed last knows r =
+      ids_kept renamer table config goal before middle answer keeps is fits_before first plain scoped renamed last targets tame written stripped_takes as_writable left_keeps spares u unresolved top old new knows r
+
+-- ---- hygiene
+
+pub hygiene_keeps_meanings : RenamersKeepMeanings → HygieneKeepsMeanings
+hygiene_keeps_meanings law table config goal before middle answer = law hygiene_renaming table config goal before middle answer (none_preserved before hygiene_renaming (λ x. refl))
+
+pub hygiene_keeps_ids : RenamersKeepIds → HygieneSparesGlobalValues → HygieneKeepsIds
+hygiene_keeps_ids law spares table config goal before middle answer u unresolved top old new =
+    law hygiene_renaming table config goal before middle answer u unresolved top old new (none_preserved before hygiene_renaming (λ x. refl)) (λ s. spares)

@@ -28,6 +28,7 @@ use Rattle.swc_base_rename_substitution.specs.Names.{Id, if_other_text, same_tex
 use Rattle.swc_base_rename_hygiene_laws.proofs.KeepsNormal.{is_program}
 use Rattle.swc_base_rename_program.specs.Renamed.{hygiene_renaming}
 use Rattle.swc_base_rename_scoped_laws.specs.Laws.{NamesAreApart}
+use Rattle.swc_base_rename_scoped_laws.proofs.Apart.{none_preserved}
 use Rattle.swc_base_rename_scoped_laws.proofs.TextsByName.{text_by, text_of_id}
 use Rattle.swc_base_rename_contexts_laws.specs.Laws.{id_of_label, labelled_changes}
 use Rattle.swc_base_rename_labels_laws.specs.Labels.{KeepsContexts, by_contexts, label, labelled, meant, name_of_label, named_by, unlabelled}
@@ -123,7 +124,7 @@ module _ (left : FixedNamesAreLeft) (fits_table : FixedFitsTable) (bare_targets 
   none : NamesAreApart → CapturesNone (by_ids before) text
   none apart =
       let plain = plain_before goal before ready in
-      captures_none before text ready.scoped plain (apart before goal ready.fits plain ready.scoped ready.writable hygiene_renaming h.new_texts text (λ x. refl) h.named (text_of_id h.new_texts))
+      captures_none before text ready.scoped plain (apart before goal ready.fits plain ready.scoped ready.writable hygiene_renaming h.new_texts text (none_preserved before hygiene_renaming (λ x. refl)) h.named (text_of_id h.new_texts))
 
   has_texts : LabelsTellTexts → HasTexts A text (by_texts labels)
   has_texts tell p w v k l i j e g n =

@@ -36,7 +36,7 @@ use Rattle.swc_base_rename_analysis.proofs.InOrder.{by_earlier}
 use Rattle.swc_base_rename_analysis.proofs.Level.{each_in_order}
 use Rattle.swc_base_rename_analysis_laws.proofs.Rounded.{round_goes_on}
 use Rattle.swc_base_rename_analysis_laws.proofs.Rounds.{taken_is_round}
-use Rattle.swc_base_rename_scoped_laws.specs.Laws.{HasNewTexts, NoBodyDeclares, PreservesNone}
+use Rattle.swc_base_rename_scoped_laws.specs.Laws.{HasNewTexts, KeepsApart, NoBodyDeclares, PreservesNone}
 use Rattle.swc_base_rename_scoped_laws.proofs.Around.{IsSeen, seen, seen_from, surrounds}
 use Rattle.swc_base_rename_scoped_laws.proofs.ByIds.{IsAt, by_id, from_id, from_ids, id_of, one_id, one_name, rounds_by_ids, taker_by_ids, to_id, to_ids}
 use Rattle.swc_base_rename_scoped_laws.proofs.Homes.{declared, home, settled}
@@ -193,19 +193,16 @@ module _ (t : Node) (s : Slot) (fit : Fits t s) (plain : IsPlainProgram t) (scop
   bound_id : (i : Ident) → IsBound t (id_of i) → IsDeclared A (id_name i)
   bound_id i (p, r, h, b) = let (j, a, e) = from_id t p r (id_of i) h in subst (IsDeclared A) (one_name j i e) (declared t p r j a b)
 
-  module _ (r : Renaming) (new_texts : Id → Option (List ℕ)) (text : List ℕ → List ℕ) (keeps_none : PreservesNone r) (named : Named t r (IsPreserved t r.preserves) all_count new_texts) (texts : HasNewTexts new_texts text) (lists : NoBodyExported t) where
-    preserves_not : (x : Id) → IsTrue (r.preserves x) → ⊥
-    preserves_not x h = let z : true ≡ false = sym h ∙ keeps_none x in absurd (cc)
-
-    -- each id that is declared gets a name
-    no_name : (i : Ident) → new_texts (id_of i) ≡ None → (a : Site) → Declares t a.0 a.1 (id_of i) → ⊥
-    no_name i e = by_earlier t (λ a. Declares t a.0 a.1 (id_of i) → ⊥)
+  module _ (r : Renaming) (new_texts : Id → Option (List ℕ)) (text : List ℕ → List ℕ) (keeps : KeepsApart r t) (named : Named t r (IsPreserved t r.preserves) all_count new_texts) (texts : HasNewTexts new_texts text) (lists : NoBodyExported t) where
+    -- each id that is declared gets a name, if it is not preserved
+    no_name : (i : Ident) → ¬ IsTrue (r.preserves (id_of i)) → new_texts (id_of i) ≡ None → (a : Site) → Declares t a.0 a.1 (id_of i) → ⊥
+    no_name i renamed e = by_earlier t (λ a. Declares t a.0 a.1 (id_of i) → ⊥)
         (λ a before d.
         let (j, at, same) = from_id t a.1 d.standing (id_of i) d.stands in
         let n : IsNamedAt t r a (id_of i) = record {
           declared = d;
           first = λ b f less. before b less f;
-          not_preserved = preserves_not (id_of i);
+          not_preserved = renamed;
           not_eval = λ z. (bound_text a.1 d.standing j at d.binds).0 (ap (λ (x : Id). x.0) same ∙ z);
         } in
         let z : None ≡ Some (r.text (id_of i) (named.taken (id_of i))) = sym e ∙ (named.each a (id_of i) n).1 in
@@ -217,12 +214,20 @@ module _ (t : Node) (s : Slot) (fit : Fits t s) (plain : IsPlainProgram t) (scop
     abbrev HasName : Ident → Type 0
     HasName i = (a : Site) × IsNamedAt t r a (id_of i) × (text (id_name i) ≡ taken_text i)
 
-    has_name : (p : Path) (v : Standing) (i : Ident) → IsAt t p v i → IsTrue (is_binding v) → HasName i
+    -- ... or keeps its text
+    abbrev Keeps : Ident → Type 0
+    Keeps i = IsTrue (r.preserves (id_of i)) × (text (id_name i) ≡ i.sym)
+
+    has_name : (p : Path) (v : Standing) (i : Ident) → IsAt t p v i → IsTrue (is_binding v) → HasName i ⊎ Keeps i
     has_name p v i at b = by (new_texts (id_of i)) refl
       where
-        by : (o : Option (List ℕ)) → new_texts (id_of i) ≡ o → HasName i
-        by None e = let (u, d) = declares p v i at b in absurd (no_name i e (u, p) d)
-        by (Some y) e = let (a, n) = named.no_other (id_of i) y e in (a, n, texts i ∙ ap (λ o. unwrap_or o i.sym) (named.each a (id_of i) n).1)
+        unnamed : (c : Bool) → r.preserves (id_of i) ≡ c → new_texts (id_of i) ≡ None → HasName i ⊎ Keeps i
+        unnamed true h e = inr (h, texts i ∙ ap (λ o. unwrap_or o i.sym) e)
+        unnamed false h e = let (u, d) = declares p v i at b in absurd (no_name i (λ k. let z : true ≡ false = sym k ∙ h in absurd (cc)) e (u, p) d)
+
+        by : (o : Option (List ℕ)) → new_texts (id_of i) ≡ o → HasName i ⊎ Keeps i
+        by None e = unnamed (r.preserves (id_of i)) refl e
+        by (Some y) e = let (a, n) = named.no_other (id_of i) y e in inl (a, n, texts i ∙ ap (λ o. unwrap_or o i.sym) (named.each a (id_of i) n).1)
 
     -- an id that occurs where another is declared, or below it, occurs at the scope that declares that one
     occurs : (s u : Path) (x y : List ℕ) (i j : Ident) (a b : Site) → OccursIn A s y → DeclaredIn A u x → IsAtOrAbove A u s → id_name i ≡ x → id_name j ≡ y → IsNamedAt t r a (id_of i) → IsNamedAt t r b (id_of j) → Occurs t a.0 (id_of j)
@@ -254,8 +259,15 @@ module _ (t : Node) (s : Slot) (fit : Fits t s) (plain : IsPlainProgram t) (scop
         by : (i : Ident) × IsAt t dx.path dx.standing i × (id_name i ≡ x) → (j : Ident) × IsAt t dy.path dy.standing j × (id_name j ≡ y) → x ≡ y
         by (i, at_i, name_i) (j, at_j, name_j) = both (has_name dx.path dx.standing i at_i dx.binds.binds) (has_name dy.path dy.standing j at_j dy.binds.binds)
           where
-            both : HasName i → HasName j → x ≡ y
-            both (a, n, ti) (b, m, tj) = compared (site_cmp t a b) refl
+            both : HasName i ⊎ Keeps i → HasName j ⊎ Keeps j → x ≡ y
+            both (inr (k, ti)) (inr (l, tj)) =
+                sym name_i
+                ∙ keeps.declared_apart s u v i j k l (subst (OccursIn A s) (sym name_i) ox) (subst (OccursIn A s) (sym name_j) oy) (subst (DeclaredIn A u) (sym name_i) dx) (subst (DeclaredIn A v) (sym name_j) dy) ux vy
+                (sym ti ∙ ap text name_i ∙ e ∙ ap text (sym name_j) ∙ tj)
+                ∙ name_j
+            both (inl (a, n, ti)) (inr (l, tj)) = absurd ((named.each a (id_of i) n).0.free.not_preserved (id_of j, sym tj ∙ ap text name_j ∙ sym e ∙ ap text (sym name_i) ∙ ti, inr l))
+            both (inr (k, ti)) (inl (b, m, tj)) = absurd ((named.each b (id_of j) m).0.free.not_preserved (id_of i, sym ti ∙ ap text name_i ∙ e ∙ ap text (sym name_j) ∙ tj, inr k))
+            both (inl (a, n, ti)) (inl (b, m, tj)) = compared (site_cmp t a b) refl
               where
                 same_text : taken_text i ≡ taken_text j
                 same_text = sym ti ∙ ap text name_i ∙ e ∙ ap text (sym name_j) ∙ tj
@@ -312,8 +324,16 @@ module _ (t : Node) (s : Slot) (fit : Fits t s) (plain : IsPlainProgram t) (scop
               unbound = λ h. undeclared (bound_id i h);
             }
 
-            has : HasName j → ⊥
-            has (b, m, tj) = (named.each b (id_of j) m).0.free.not_preserved (id_of i, sym (free_kept i free) ∙ ap text name_i ∙ e ∙ ap text (sym name_j) ∙ tj, inl loose)
+            has : HasName j ⊎ Keeps j → ⊥
+            has (inr (l, tj)) = keeps.free_apart s i j l (subst (OccursIn A s) (sym name_i) o) undeclared (subst (DeclaredIn A s) (sym name_j) d) (sym (free_kept i free) ∙ ap text name_i ∙ e ∙ ap text (sym name_j) ∙ tj)
+            has (inl (b, m, tj)) = (named.each b (id_of j) m).0.free.not_preserved (id_of i, sym (free_kept i free) ∙ ap text name_i ∙ e ∙ ap text (sym name_j) ∙ tj, inl loose)
 
     pub names_apart : NamesApart t text
     names_apart = record { declared_apart = declared_apart; free_apart = free_apart; free_kept = free_kept }
+
+-- where none is preserved, the preserved ids are apart
+pub none_preserved : (t : Node) (r : Renaming) → PreservesNone r → KeepsApart r t
+none_preserved t r none = record { declared_apart = λ s u v i j k l. no (i.sym, i.ctxt) k; free_apart = λ s i j l o n d e. no (j.sym, j.ctxt) l }
+  where
+    no : {X : Type 0} (x : Id) → IsTrue (r.preserves x) → X
+    no x h = let z : true ≡ false = sym h ∙ none x in absurd (cc)

@@ -3,3 +3,4 @@ pub mod Cleared
 pub mod NewTexts
 pub mod Spans
 pub mod Words
+pub mod Kept

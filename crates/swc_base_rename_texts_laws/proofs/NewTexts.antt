@@ -1,4 +1,4 @@
--- The normal form of a program that is hygienic has the texts that hygiene gives.
+-- The normal form of a program that a renamer named has the texts that the renamer gives.
 use Rattle.std.proofs.Common.{◌≡◌, ◌⊎◌, ℕ, Bool, true, false, Option, Some, None, List, [], refl, sym, ap, ◌∙◌, subst, inl, inr}
 use Rattle.std.specs.Prelude.{is_some, option_and_then, option_map, unwrap_or, if◌then◌else◌}
 use Rattle.std.proofs.lemmas.Slice.Eq.{bytes_eq-Decides}
@@ -19,13 +19,15 @@ use Rattle.swc_base_rename_substitution.specs.declared.place.Place.TheVariants a
 use Rattle.swc_base_rename_substitution.specs.Identifiers.{Changes, id_of}
 use Rattle.swc_base_rename_substitution.specs.Names.{if_other_text, same_text}
 use Rattle.swc_base_rename_substitution.specs.Substituted.{Substituted, substituted}
-use Rattle.swc_base_rename_program.specs.Renamed.{new_id_by}
+use Rattle.swc_base_rename_analysis.specs.Named.{Renaming}
+use Rattle.swc_base_rename_program.specs.Renamed.{hygiene_renaming, new_id_by}
 use Rattle.swc_base_rename_laws.specs.NewNames.{HasNewNames}
 use Rattle.swc_base_rename_laws.proofs.NormalFormNames.{normal_form_has_new_names}
 use Rattle.swc_base_rename_laws.proofs.Unchanged.{stays}
+use Rattle.swc_base_rename_hygiene_laws.proofs.Hygienic.{none_kept}
 use Rattle.swc_base_rename_hygiene_laws.proofs.KeepsNormal.{is_program, program_goal}
 use Rattle.swc_base_rename_hygiene_laws.proofs.StaysWritable.{Given, plain_names}
-use Rattle.swc_base_rename_texts_laws.specs.Laws.{HasNewTexts, HygieneGivesNormalFormNewTexts}
+use Rattle.swc_base_rename_texts_laws.specs.Laws.{HasNewTexts, HygieneGivesNormalFormNewTexts, RenamingGivesNormalFormNewTexts}
 use Rattle.swc_base_rename_texts_laws.proofs.Cleared.{bare_there, outline_texts}
 use Rattle.swc_base_rename_texts_laws.proofs.Decided.{NoneIn, decided}
 
@@ -65,7 +67,7 @@ some_text : (o : Option (List ℕ)) → is_some o ≡ true → (text : List ℕ)
 some_text None e = absurd (cc)
 some_text (Some text) e = (text, refl)
 
-module _ (before given : Node) (h : Given before given) where
+module _ (r : Renaming) (before given : Node) (h : Given r before given) where
   abbrev m : Changes
   m = new_id_by h.new_texts
 
@@ -120,15 +122,18 @@ new_texts_of new_texts t u n = record {
       (bare x.0, bare_there p program_place w u k x.0 x.1, ap (λ (y : Id). y.0) x.2 ∙ text_is (is_name w.standing) (id_of i) (new_texts (id_of i)), refl);
 }
 
-pub hygiene_gives_normal_form_new_texts : HygieneGivesNormalFormNewTexts
-hygiene_gives_normal_form_new_texts table config goal before after g plain fits writable (given, renamed, cleared) =
-    let names = plain_names table config before given plain renamed in
+pub renaming_gives_normal_form_new_texts : RenamingGivesNormalFormNewTexts
+renaming_gives_normal_form_new_texts r table config goal before after apart g plain fits writable (given, renamed, cleared) =
+    let names = plain_names r table config before given plain renamed in
     let answer = substituted (new_id_by names.new_texts) false place.Other before in
     let same : normal_form after ≡ by_texts (normal_form answer)
-    = ap normal_form cleared ∙ ap (λ t. normal_form (by_texts t)) (substituted_given before given names) ∙ program_goal goal before names.new_texts g names.named fits writable in
+    = ap normal_form cleared ∙ ap (λ t. normal_form (by_texts t)) (substituted_given r before given names) ∙ program_goal r goal before apart names.new_texts g names.named fits writable in
     record {
       new_texts = names.new_texts;
       named = names.named;
       normal = subst (HasNewTexts names.new_texts (normal_form before)) (sym same)
           (new_texts_of names.new_texts (normal_form before) (normal_form answer) (normal_form_has_new_names (new_id_by names.new_texts) before answer (is_program goal before g fits) writable refl));
     }
+
+pub hygiene_gives_normal_form_new_texts : HygieneGivesNormalFormNewTexts
+hygiene_gives_normal_form_new_texts table config goal before after = renaming_gives_normal_form_new_texts hygiene_renaming table config goal before after (none_kept before)

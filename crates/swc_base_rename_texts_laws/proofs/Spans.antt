@@ -7,12 +7,13 @@ use Rattle.swc_tree_grammar.proofs.Induction.{Each, by_children}
 use Rattle.swc_tree_grammar_texts.proofs.Cleared.{bare, each_same, map_after, text_absent, text_flag, text_list, text_name, text_span, text_text, text_tree, text_word}
 use Rattle.swc_base_rename_substitution.specs.declared.place.Place.TheVariants as place
 use Rattle.swc_base_rename_substitution.specs.Substituted.{substituted}
-use Rattle.swc_base_rename_program.specs.Renamed.{new_id_by}
+use Rattle.swc_base_rename_program.specs.Renamed.{hygiene_renaming, new_id_by}
 use Rattle.swc_base_rename_laws.specs.NewNames.{SameButForNames, nameless}
 use Rattle.swc_base_rename_laws.proofs.NormalFormSpans.{nameless_identifier, nameless_list, nameless_tree, normal_form_keeps_spans}
+use Rattle.swc_base_rename_hygiene_laws.proofs.Hygienic.{none_kept}
 use Rattle.swc_base_rename_hygiene_laws.proofs.KeepsNormal.{is_program, program_goal}
 use Rattle.swc_base_rename_hygiene_laws.proofs.StaysWritable.{plain_names}
-use Rattle.swc_base_rename_texts_laws.specs.Laws.{HygieneKeepsSpans}
+use Rattle.swc_base_rename_texts_laws.specs.Laws.{HygieneKeepsSpans, RenamingKeepsSpans}
 use Rattle.swc_base_rename_texts_laws.proofs.NewTexts.{substituted_given}
 
 abbrev Same : Node → Type 0
@@ -27,11 +28,14 @@ nameless_texts t = by_children Same
     (λ ts l. ap nameless (text_list ts) ∙ nameless_list (map by_texts ts) ∙ ap Many (all_same ts l) ∙ sym (nameless_list ts))
     (λ k ts l. ap nameless (text_tree k ts) ∙ nameless_tree k (map by_texts ts) ∙ ap (Tree k) (all_same ts l) ∙ sym (nameless_tree k ts)) t
 
-pub hygiene_keeps_spans : HygieneKeepsSpans
-hygiene_keeps_spans table config goal before after g plain fits writable (given, renamed, cleared) =
-    let names = plain_names table config before given plain renamed in
+pub renaming_keeps_spans : RenamingKeepsSpans
+renaming_keeps_spans r table config goal before after apart g plain fits writable (given, renamed, cleared) =
+    let names = plain_names r table config before given plain renamed in
     let answer = substituted (new_id_by names.new_texts) false place.Other before in
     let same : normal_form after ≡ by_texts (normal_form answer)
-    = ap normal_form cleared ∙ ap (λ t. normal_form (by_texts t)) (substituted_given before given names) ∙ program_goal goal before names.new_texts g names.named fits writable in
+    = ap normal_form cleared ∙ ap (λ t. normal_form (by_texts t)) (substituted_given r before given names) ∙ program_goal r goal before apart names.new_texts g names.named fits writable in
     subst (SameButForNames (normal_form before)) (sym same)
     (normal_form_keeps_spans (new_id_by names.new_texts) before answer (is_program goal before g fits) writable refl ∙ sym (nameless_texts (normal_form answer)))
+
+pub hygiene_keeps_spans : HygieneKeepsSpans
+hygiene_keeps_spans table config goal before after = renaming_keeps_spans hygiene_renaming table config goal before after (none_kept before)

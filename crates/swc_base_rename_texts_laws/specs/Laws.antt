@@ -1,4 +1,4 @@
--- Which texts hygiene gives the names of a normal form.
+-- Which texts a renamer gives the names of a normal form; hygiene is one.
 use Rattle.std.specs.Prelude.{◌≡◌, ℕ, IsTrue, Option, Some, List, [], unwrap_or, if◌then◌else◌}
 use Rattle.swc_tree_marks.specs.declared.ident.Ident.{Ident}
 use Rattle.swc_tree_marks.specs.Globals.{Table}
@@ -16,12 +16,13 @@ use Rattle.swc_tree_grammar.specs.Normal.{normal_form}
 use Rattle.swc_tree_grammar.specs.Writable.{Writable}
 use Rattle.swc_base_rename_substitution.specs.declared.config.Config.{Config}
 use Rattle.swc_base_rename_substitution.specs.Identifiers.{id_of}
-use Rattle.swc_base_rename_analysis.specs.Named.{Named}
+use Rattle.swc_base_rename_analysis.specs.Named.{Named, Renaming}
 use Rattle.swc_base_rename_analysis.specs.Preserved.{IsPreserved}
 use Rattle.swc_base_rename_naming_laws.specs.Rules.{counting}
 use Rattle.swc_base_rename_program.specs.Renamed.{IsHygienic, hygiene_renaming}
 use Rattle.swc_base_rename_laws.specs.NewNames.{SameButForNames, outline}
 use Rattle.swc_base_rename_hygiene_laws.specs.Laws.{IsPlain}
+use Rattle.swc_base_rename_hygiene_laws.specs.Renamers.{IsRenamedAndCleared, KeepsTopApart}
 
 -- the text of an identifier that stands so: where it is bound or referred to the one that the map gives, and else its own
 abbrev pub text_anew : (Id → Option (List ℕ)) → Standing → Ident → List ℕ
@@ -33,11 +34,26 @@ pub record HasNewTexts (new_texts : Id → Option (List ℕ)) (t u : Node) : Typ
   pub texts : (p : Path) (w : Place) (k : Kind) (i : Ident) → place_at program_place t p ≡ Some (w, Identifier k i)
       → (j : Ident) × (place_at program_place u p ≡ Some (w, Identifier k j)) × (j.sym ≡ text_anew new_texts w.standing i) × (j.ctxt ≡ [])
 
--- the map that hygiene names in the first program gives the normal form of the second its texts
-pub record HasHygienicTexts (before after : Node) : Type 0 where
+-- the map that a renamer names in the first program gives the normal form of the second its texts
+pub record HasRenamedTexts (r : Renaming) (before after : Node) : Type 0 where
   pub new_texts : Id → Option (List ℕ)
-  pub named : Named before hygiene_renaming (IsPreserved before hygiene_renaming.preserves) (counting before hygiene_renaming) new_texts
+  pub named : Named before r (IsPreserved before r.preserves) (counting before r) new_texts
   pub normal : HasNewTexts new_texts (normal_form before) (normal_form after)
+
+abbrev pub HasHygienicTexts : Node → Node → Type 0
+HasHygienicTexts before after = HasRenamedTexts hygiene_renaming before after
+
+-- a program that can be written down has the same normal form but for the names that the renamer gives, which have there just
+-- the texts of its map, where the preserved ids that a module binds at its top are apart
+abbrev pub RenamingGivesNormalFormNewTexts : Type 0
+RenamingGivesNormalFormNewTexts = (r : Renaming) (table : Table) (config : Config) (goal : Slot) (before after : Node) → KeepsTopApart r before → IsTrue (is_goal goal) → IsPlain config before → Fits before goal → Writable before
+    → IsRenamedAndCleared table config r before after → HasRenamedTexts r before after
+
+-- ... and nothing else of it changes, spans neither: each identifier stands where it stood, and has another text and no context
+-- at most
+abbrev pub RenamingKeepsSpans : Type 0
+RenamingKeepsSpans = (r : Renaming) (table : Table) (config : Config) (goal : Slot) (before after : Node) → KeepsTopApart r before → IsTrue (is_goal goal) → IsPlain config before → Fits before goal → Writable before
+    → IsRenamedAndCleared table config r before after → SameButForNames (normal_form before) (normal_form after)
 
 -- a program that can be written down has the same normal form but for the names that hygiene gives, which have there just
 -- the texts of its map

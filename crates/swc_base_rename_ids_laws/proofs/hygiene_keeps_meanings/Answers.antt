@@ -3,4 +3,4 @@ use Rattle.swc_base_rename_ids_laws.proofs.Join.{hygiene_keeps_meanings}
 
 -- src/lib.rt
 pub returns : goal.returns
-returns c = hygiene_keeps_meanings c.names_are_apart.ensures c.hygiene_gives_normal_form_new_texts.ensures c.writable_normal_form_is_left.ensures c.plain_scripts_are_left.ensures c.ids_are_left.ensures c.left_mean_their_ids.ensures
+returns c = hygiene_keeps_meanings c.renamers_keep_meanings.ensures

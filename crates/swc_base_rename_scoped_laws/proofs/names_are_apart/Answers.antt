@@ -5,6 +5,6 @@ use Rattle.swc_base_rename_scoped_laws.proofs.Exports.{no_body_exported}
 
 -- src/lib.rt
 pub returns : goal.returns
-returns c = λ t s fit plain scoped writable r new_texts text keeps_none named texts.
-    names_apart t s fit plain scoped (no_body_declares t s fit writable) r new_texts text keeps_none named texts
+returns c = λ t s fit plain scoped writable r new_texts text keeps named texts.
+    names_apart t s fit plain scoped (no_body_declares t s fit writable) r new_texts text keeps named texts
     (no_body_exported t s fit)

@@ -4,5 +4,5 @@ use Rattle.swc_base_rename_scoped_laws.proofs.Exports.{no_body_exported}
 
 -- src/lib.rt
 pub returns : goal.returns
-returns c = λ t s fit plain scoped none r new_texts text keeps_none named texts.
-    names_apart t s fit plain scoped none r new_texts text keeps_none named texts (no_body_exported t s fit)
+returns c = λ t s fit plain scoped none r new_texts text keeps named texts.
+    names_apart t s fit plain scoped none r new_texts text keeps named texts (no_body_exported t s fit)
