@@ -1,4 +1,4 @@
--- What hygiene made of a program is one, but for names, with each source that the program comes from.
+-- What a renamer whose preserved ids keep apart made of a program is one, but for names, with each source that the program comes from.
 use Rattle.std.proofs.Common.{◌≡◌, ℕ, Bool, true, false, IsTrue, inr, Some, List, [], refl, sym, ap, ◌∙◌, subst}
 use Rattle.std.specs.Prelude.{unwrap_or, if◌then◌else◌}
 use Rattle.swc_tree_marks.specs.declared.ident.Ident.{Ident}
@@ -29,21 +29,25 @@ use Rattle.swc_tree_sites_laws.specs.Laws.{IdsAreLeft}
 use Rattle.swc_tree_sites_laws.proofs.LeftIds.{captures, clean_ids, one_scope, plain_clean, settled}
 use Rattle.swc_base_rename_substitution.specs.declared.config.Config.{Config}
 use Rattle.swc_base_rename_substitution.specs.Identifiers.{id_of}
-use Rattle.swc_base_rename_program.specs.Renamed.{IsHygienic, hygiene_renaming}
+use Rattle.swc_base_rename_analysis.specs.Named.{Renaming}
+use Rattle.swc_base_rename_program.specs.Renamed.{hygiene_renaming}
 use Rattle.swc_base_rename_laws.specs.NewNames.{outline}
 use Rattle.swc_base_rename_laws.proofs.Outline.{identifiers_alike, rounds_alike, scopes_alike}
-use Rattle.swc_base_rename_scoped_laws.specs.Laws.{NamesAreApart}
+use Rattle.swc_base_rename_scoped_laws.specs.Laws.{ChainedIsFlat, KeepsApart, NamesAreApart}
+use Rattle.swc_base_rename_scoped_laws.proofs.Apart.{none_preserved}
 use Rattle.swc_base_rename_scoped_laws.proofs.TextsByName.{text_by, text_of_id}
-use Rattle.swc_base_rename_texts_laws.specs.Laws.{HasHygienicTexts, HygieneGivesNormalFormNewTexts, text_anew}
+use Rattle.swc_base_rename_texts_laws.specs.Laws.{HasRenamedTexts, RenamingGivesNormalFormNewTexts, text_anew}
 use Rattle.swc_base_rename_texts_laws.proofs.Cleared.{outline_texts}
-use Rattle.swc_base_rename_texts_laws.proofs.Words.{same_word}
+use Rattle.swc_base_rename_texts_laws.proofs.Words.{same_word, spared}
 use Rattle.swc_base_rename_hygiene_laws.specs.Laws.{IsFinishable}
-use Rattle.swc_base_rename_ids_laws.specs.Laws.{HygieneKeepsMeanings, IsWrittenAs}
-use Rattle.swc_base_rename_ids_laws.proofs.Globals.{TakesNone, no_digit, takes_none_too}
+use Rattle.swc_base_rename_hygiene_laws.specs.Renamers.{IsRenamedAndCleared, SparesGlobalValues, SparesIfScript}
+use Rattle.swc_base_rename_ids_laws.specs.Laws.{IsWrittenAs, RenamersKeepMeanings}
+use Rattle.swc_base_rename_ids_laws.proofs.Globals.{TakesNone, takes_none_too}
+use Rattle.swc_base_rename_texts_laws.proofs.Kept.{all_named, top_apart}
 use Rattle.swc_base_rename_ids_laws.proofs.Programs.{script_of_goal}
 use Rattle.swc_base_rename_ids_laws.proofs.Spans.{one_id, one_outline}
 use Rattle.swc_base_alpha_laws.specs.Alpha.{AlphaEquivalent, OtherTextsStay}
-use Rattle.swc_base_alpha_chained_laws.specs.Laws.{ComesFrom, HygieneKeepsSources, NormalFormsCatchNone, NormalNamesMeanTheirIds}
+use Rattle.swc_base_alpha_chained_laws.specs.Laws.{ComesFrom, HygieneKeepsSources, NormalFormsCatchNone, NormalNamesMeanTheirIds, RenamersKeepSources}
 use Rattle.swc_base_alpha_chained_laws.proofs.Caught.{passes_none}
 use Rattle.swc_base_alpha_chained_laws.proofs.Free.{still_free}
 use Rattle.swc_base_alpha_chained_laws.proofs.Meanings as source_names
@@ -54,9 +58,10 @@ not_true : (b : Bool) → ¬ IsTrue b → b ≡ false
 not_true true n = absurd (n refl)
 not_true false n = refl
 
-module _ (laws : Laws) (apart : NamesAreApart) (hygiene : HygieneGivesNormalFormNewTexts) (ids_left : IdsAreLeft) (meanings : HygieneKeepsMeanings) where
-  module _ (table : Table) (config : Config) (goal : Slot) (source before middle answer : Node) (is : IsTrue (is_goal goal)) (fits_before : Fits before goal) (first : IsFinishable config before) (plain_script : IsPlainIfScript before) (scoped : WellScoped before)
-      (hygienic : IsHygienic table config before middle) (last : IsWrittenAs goal middle answer) (from : ComesFrom source before) where
+module _ (laws : Laws) (apart : NamesAreApart) (flat : ChainedIsFlat) (renaming : RenamingGivesNormalFormNewTexts) (ids_left : IdsAreLeft) (meanings : RenamersKeepMeanings) where
+  module _ (r : Renaming) (table : Table) (config : Config) (goal : Slot) (source before middle answer : Node) (keeps : KeepsApart r before) (spares : SparesIfScript r before) (is : IsTrue (is_goal goal))
+      (fits_before : Fits before goal) (first : IsFinishable config before) (plain_script : IsPlainIfScript before) (scoped : WellScoped before) (renamed : IsRenamedAndCleared table config r before middle)
+      (last : IsWrittenAs goal middle answer) (from : ComesFrom source before) where
     abbrev N : Node
     N = normal_form source
 
@@ -69,8 +74,8 @@ module _ (laws : Laws) (apart : NamesAreApart) (hygiene : HygieneGivesNormalForm
     abbrev origin : Origin source before
     origin = record { goal = goal; is = is; fits_program = fits_before; writable_program = first.writable; plain = plain_script; from = from }
 
-    given : HasHygienicTexts before middle
-    given = hygiene table config goal before middle is first.plain fits_before first.writable hygienic
+    given : HasRenamedTexts r before middle
+    given = renaming r table config goal before middle (top_apart before scoped r keeps) is first.plain fits_before first.writable renamed
 
     abbrev text : List ℕ → List ℕ
     text = text_by given.new_texts
@@ -124,7 +129,7 @@ module _ (laws : Laws) (apart : NamesAreApart) (hygiene : HygieneGivesNormalForm
     -- ---- no new text captures
 
     names_apart : NamesApart before text
-    names_apart = apart before goal fits_before plain_before scoped first.writable hygiene_renaming given.new_texts text (λ x. refl) given.named (text_of_id given.new_texts)
+    names_apart = apart before goal fits_before plain_before scoped first.writable r given.new_texts text keeps (all_named flat before goal r given.new_texts fits_before scoped given.named) (text_of_id given.new_texts)
 
     no_capture : CapturesNone (by_ids before) text
     no_capture = captures_none before text scoped plain_before names_apart
@@ -159,8 +164,9 @@ module _ (laws : Laws) (apart : NamesAreApart) (hygiene : HygieneGivesNormalForm
     declares_none : DeclaresNoGlobalValue L
     declares_none p w l j script g binds global taken =
         let (k, i, e) = same_shape.back p w l j g in
-        let own : i.sym ≡ j.sym = same_word before _ _ given.new_texts given.named i j.sym (no_digit j.sym global) (sym ((named p w w k l i j e g).0 ∙ new_name w i (binding_names w.standing binds))) in
-        none_before (script_of_goal goal is answer before last.fits fits_before (inr script)) p w k i e binds (subst (λ x. IsTrue (is_global_value x)) (sym own) global) (takers_same M L same_shape w.standing p ∙ taken)
+        let script_before = script_of_goal goal is answer before last.fits fits_before (inr script) in
+        let own : i.sym ≡ j.sym = same_word before r _ _ given.new_texts given.named i j.sym (spared r (spares script_before) j.sym global) (sym ((named p w w k l i j e g).0 ∙ new_name w i (binding_names w.standing binds))) in
+        none_before script_before p w k i e binds (subst (λ x. IsTrue (is_global_value x)) (sym own) global) (takers_same M L same_shape w.standing p ∙ taken)
 
     means_none : MeansNoGlobalValue L
     means_none = means_no_global_value L plain_last.1 declares_none
@@ -180,7 +186,7 @@ module _ (laws : Laws) (apart : NamesAreApart) (hygiene : HygieneGivesNormalForm
     answer_reads = record {
       plain = plain_answer;
       same = same_back;
-      means = meanings table config goal before middle answer is fits_before first plain_script scoped hygienic last;
+      means = meanings r table config goal before middle answer keeps is fits_before first plain_script scoped renamed last;
       no_global = means_none;
       uncaught = uncaught_answer;
     }
@@ -206,8 +212,14 @@ module _ (laws : Laws) (apart : NamesAreApart) (hygiene : HygieneGivesNormalForm
     pub kept : AlphaEquivalent source answer
     kept = variants N L M source_reads answer_reads (ap outline (cleared laws source before origin) ∙ outline_texts M ∙ shape) others free_texts
 
-  pub hygiene_keeps_sources : HygieneKeepsSources
-  hygiene_keeps_sources table config goal source before middle answer is fits_before first plain_script scoped hygienic last from = kept table config goal source before middle answer is fits_before first plain_script scoped hygienic last from
+  pub renamers_keep_sources : RenamersKeepSources
+  renamers_keep_sources r table config goal source before middle answer keeps spares is fits_before first plain_script scoped renamed last from =
+      kept r table config goal source before middle answer keeps spares is fits_before first plain_script scoped renamed last from
+
+-- ---- hygiene
+
+pub hygiene_keeps_sources : RenamersKeepSources → SparesGlobalValues hygiene_renaming → HygieneKeepsSources
+hygiene_keeps_sources law spares table config goal source before middle answer = law hygiene_renaming table config goal source before middle answer (none_preserved before hygiene_renaming (λ x. refl)) (λ s. spares)
 
 module _ (laws : Laws) where
   pub normal_forms_catch_none : NormalFormsCatchNone

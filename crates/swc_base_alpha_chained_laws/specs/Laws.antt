@@ -1,4 +1,4 @@
--- What hygiene makes of a program is one, but for names, with each source that the program could be resolved from.
+-- What a renamer whose preserved ids keep apart makes of a program is one, but for names, with each source that the program could be resolved from; hygiene is such a renamer.
 use Rattle.std.specs.Prelude.{ℕ, IsTrue, Contains}
 use Rattle.swc_tree_marks.specs.Globals.{Table, numbers}
 use Rattle.swc_tree_node.specs.declared.slot.Slot.{Slot}
@@ -11,7 +11,10 @@ use Rattle.swc_tree_grammar.specs.Normal.{normal_form}
 use Rattle.swc_tree_grammar.specs.Writable.{Writable}
 use Rattle.swc_base_rename_substitution.specs.declared.config.Config.{Config}
 use Rattle.swc_base_rename_program.specs.Renamed.{IsHygienic}
+use Rattle.swc_base_rename_analysis.specs.Named.{Renaming}
+use Rattle.swc_base_rename_scoped_laws.specs.Laws.{KeepsApart}
 use Rattle.swc_base_rename_hygiene_laws.specs.Laws.{IsFinishable}
+use Rattle.swc_base_rename_hygiene_laws.specs.Renamers.{IsRenamedAndCleared, SparesIfScript}
 use Rattle.swc_base_rename_ids_laws.specs.Laws.{IsWrittenAs}
 use Rattle.swc_base_alpha_laws.specs.Alpha.{AlphaEquivalent}
 
@@ -37,8 +40,13 @@ abbrev pub NormalNamesMeanTheirIds : Type 0
 NormalNamesMeanTheirIds = (goal : Slot) (source program : Node) → IsTrue (is_goal goal) → Fits program goal → Writable program → IsPlainIfScript program → ComesFrom source program
     → MeanTheirIds (normal_form source) (normal_form program)
 
--- Each way to write down what hygiene made of a well-scoped program that can be finished is one, but for names, with each source that
--- the program comes from.
+-- Each way to write down what such a renamer made of a well-scoped program that can be finished is one, but for names, with each source
+-- that the program comes from, if it gives no name of a script the text of a global value.
+abbrev pub RenamersKeepSources : Type 0
+RenamersKeepSources = (r : Renaming) (table : Table) (config : Config) (goal : Slot) (source before middle answer : Node) → KeepsApart r before → SparesIfScript r before → IsTrue (is_goal goal) → Fits before goal → IsFinishable config before
+    → IsPlainIfScript before → WellScoped before → IsRenamedAndCleared table config r before middle → IsWrittenAs goal middle answer → ComesFrom source before → AlphaEquivalent source answer
+
+-- Hygiene is such a renamer.
 abbrev pub HygieneKeepsSources : Type 0
 HygieneKeepsSources = (table : Table) (config : Config) (goal : Slot) (source before middle answer : Node) → IsTrue (is_goal goal) → Fits before goal → IsFinishable config before → IsPlainIfScript before → WellScoped before
     → IsHygienic table config before middle → IsWrittenAs goal middle answer → ComesFrom source before → AlphaEquivalent source answer

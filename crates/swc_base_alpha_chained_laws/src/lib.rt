@@ -4,12 +4,13 @@
 //! caller calls it, and then knows the law.
 #![tactic(auto)]
 
-ghost use Rattle.swc_base_alpha_chained_laws.specs.Laws.{NormalFormsCatchNone, NormalNamesMeanTheirIds, HygieneKeepsSources};
+ghost use Rattle.swc_base_alpha_chained_laws.specs.Laws.{HygieneKeepsSources, NormalFormsCatchNone, NormalNamesMeanTheirIds, RenamersKeepSources};
 
 use swc_base_fixer_laws::targets_stand_bare;
-use swc_base_rename_ids_laws::hygiene_keeps_meanings;
-use swc_base_rename_scoped_laws::names_are_apart;
-use swc_base_rename_texts_laws::hygiene_gives_normal_form_new_texts;
+use swc_base_rename_hygiene_laws::hygiene_spares_global_values;
+use swc_base_rename_ids_laws::renamers_keep_meanings;
+use swc_base_rename_scoped_laws::{chained_is_flat, names_are_apart};
+use swc_base_rename_texts_laws::renaming_gives_normal_form_new_texts;
 use swc_tree_grammar_texts::texts_are_as_writable;
 use swc_tree_sites_laws::{ids_are_left, stripped_takes_the_same};
 use swc_tree_sites_scripts::plain_scripts_are_left;
@@ -42,15 +43,16 @@ pub fn normal_names_mean_their_ids()
     stripped_takes_the_same();
 }
 
-/// Each way to write down what hygiene made of a well-scoped program is one, but for names, with each source that the program comes
-/// from.
-pub fn hygiene_keeps_sources()
-    ensures { HygieneKeepsSources }
+/// Each way to write down what a renamer whose preserved ids keep apart made of a well-scoped program is one, but for names, with each
+/// source that the program comes from.
+pub fn renamers_keep_sources()
+    ensures { RenamersKeepSources }
 {
     names_are_apart();
-    hygiene_gives_normal_form_new_texts();
+    chained_is_flat();
+    renaming_gives_normal_form_new_texts();
     ids_are_left();
-    hygiene_keeps_meanings();
+    renamers_keep_meanings();
     texts_are_as_writable();
     writable_normal_form_is_left();
     plain_scripts_are_left();
@@ -58,4 +60,12 @@ pub fn hygiene_keeps_sources()
     writable_modules_are_tame();
     written_out_is_left();
     stripped_takes_the_same();
+}
+
+/// So of hygiene.
+pub fn hygiene_keeps_sources()
+    ensures { HygieneKeepsSources }
+{
+    renamers_keep_sources();
+    hygiene_spares_global_values();
 }

@@ -1,7 +1,6 @@
--- What hygiene and then the fixer answer declares no name against the rules, and neither `eval` nor `arguments`.
+-- What a lawful renamer and then the fixer answer declares no name against the rules, and neither `eval` nor `arguments`.
 use Rattle.std.proofs.Common.{◌≡◌, ℕ, true, false, IsTrue, Option, Some, List, [], codes, refl, sym, ap, ◌∙◌, subst, map, ⊎_elim, None}
 use Rattle.std.specs.Prelude.{if◌then◌else◌}
-use Rattle.std.specs.List.{list_any}
 use Rattle.std.specs.Option.{option_map}
 use Rattle.swc_tree_marks.specs.Globals.{Table}
 use Rattle.swc_tree_marks.specs.declared.ident.Ident.{Ident}
@@ -31,7 +30,7 @@ use Rattle.swc_tree_grammar.specs.Due.{Places}
 use Rattle.swc_tree_grammar.specs.Fixed.{fixed}
 use Rattle.swc_tree_grammar.specs.Normal.{normal_form}
 use Rattle.swc_tree_grammar.specs.Stripped.{stripped}
-use Rattle.swc_tree_grammar.specs.Writable.{Writable, is_digit}
+use Rattle.swc_tree_grammar.specs.Writable.{Writable}
 use Rattle.swc_tree_grammar.proofs.Kept.{stripped_fits}
 use Rattle.swc_tree_sites.specs.Sites.{Binding, taken_at}
 use Rattle.swc_tree_sites.specs.Smaller.{In, IsPlain}
@@ -50,13 +49,17 @@ use Rattle.swc_base_fixer_laws.proofs.Answer.{answer_fits_table}
 use Rattle.swc_base_fixer_laws.proofs.Fixed.{fixed_fits, targets_stand_bare}
 use Rattle.swc_base_fixer_laws.proofs.NoNamespaces.{writable_has_no_namespaces}
 use Rattle.swc_base_rename_substitution.specs.declared.config.Config.{Config}
-use Rattle.swc_base_rename_program.specs.Renamed.{IsHygienic, hygiene_renaming}
+use Rattle.swc_base_rename_analysis.specs.Named.{Renaming}
+use Rattle.swc_base_rename_program.specs.Renamed.{hygiene_renaming}
 use Rattle.swc_base_rename_laws.proofs.Outline.{identifiers_alike, rounds_alike, scopes_alike}
-use Rattle.swc_base_rename_scoped_laws.specs.Laws.{NamesAreApart, new_text}
-use Rattle.swc_base_rename_hygiene_laws.specs.Laws.{HygieneStaysFitting, HygieneStaysSettled, HygieneStaysWritable, IsFinishable}
+use Rattle.swc_base_rename_scoped_laws.specs.Laws.{ChainedIsFlat, KeepsApart, NamesAreApart, new_text}
+use Rattle.swc_base_rename_scoped_laws.proofs.Apart.{none_preserved}
+use Rattle.swc_base_rename_hygiene_laws.specs.Laws.{HygieneIsLawful, IsFinishable, RenamingStaysFitting, RenamingStaysSettled, RenamingStaysWritable}
+use Rattle.swc_base_rename_hygiene_laws.specs.Renamers.{IsLawful, IsRenamedAndCleared, SparesIfScript}
+use Rattle.swc_base_rename_texts_laws.proofs.Kept.{all_named, top_apart}
 use Rattle.swc_base_rename_scoped_laws.proofs.TextsByName.{text_by, text_of_id}
-use Rattle.swc_base_rename_texts_laws.specs.Laws.{HasHygienicTexts, HygieneGivesNormalFormNewTexts}
-use Rattle.swc_base_rename_errors_laws.specs.Laws.{AnswerDeclaresByTheRules, AnswerHasNoEarlyErrorOfNames, DeclaresByTheRules}
+use Rattle.swc_base_rename_texts_laws.specs.Laws.{HasRenamedTexts, RenamingGivesNormalFormNewTexts}
+use Rattle.swc_base_rename_errors_laws.specs.Laws.{AnswerDeclaresByTheRules, AnswerHasNoEarlyErrorOfNames, DeclaresByTheRules, RenamedAnswerDeclaresByTheRules, RenamedAnswerHasNoEarlyErrorOfNames}
 use Rattle.swc_base_rename_errors_laws.proofs.Listing.{Local, found}
 use Rattle.swc_base_rename_errors_laws.proofs.Programs.{Answered, Formed, IsOf, IsSettledIn, answered, bare, formed, goal_open, module_place, one_goal, plain_of, script_too, settled_before, shaped}
 use Rattle.swc_tree_exports_laws.specs.Exported.{exported_locals}
@@ -68,7 +71,7 @@ use Rattle.swc_tree_scoping.specs.declared.places.Scope.{Scope}
 use Rattle.swc_tree_scoping.specs.Declares.{Bound, Declares}
 use Rattle.swc_tree_scoping.proofs.Remarked.{tree_is}
 use Rattle.swc_tree_sites.proofs.Round.{taken_is}
-use Rattle.swc_base_rename_texts_laws.proofs.Words.{same_word}
+use Rattle.swc_base_rename_texts_laws.proofs.Words.{FromItself, same_word, spared}
 
 abbrev PP : Place
 PP = program_place
@@ -172,23 +175,20 @@ program_declares t plain b h =
     let bound : Bound (by_ids t) [] b.0 (id_name b.1) = record { path = d.path; place = d.place; kind = d.kind; identifier = by_id b.1; stands = there; stands_so = d.stands_so; named = refl; unmarked = refl; taken = sym takers ∙ d.taken } in
     way_declares (by_ids t) plain (id_name b.1) [] true b.0 bound (settled_way b.0 (λ e. plain.settled d.path d.place d.kind (by_id b.1) there (d.stands_so ∙ e)))
 
--- a name of a global value has no digit, as a text with a number has
-abbrev pub NoDigit : Type 0
-NoDigit = (x : List ℕ) → IsTrue (is_global_value x) → list_any is_digit x ≡ false
-
 -- ---- the laws that it rests on
 
 pub record Laws : Type 0 where
   pub apart : NamesAreApart
-  pub texts : HygieneGivesNormalFormNewTexts
-  pub writable : HygieneStaysWritable
-  pub fits : HygieneStaysFitting
-  pub settled : HygieneStaysSettled
+  pub flat : ChainedIsFlat
+  pub texts : RenamingGivesNormalFormNewTexts
+  pub writable : RenamingStaysWritable
+  pub fits : RenamingStaysFitting
+  pub settled : RenamingStaysSettled
   pub left : PlainScriptsAreLeft
   pub whole : FixedScriptsLoseNoName
 
-module _ (laws : Laws) (table : Table) (config : Config) (place : Places) (goal : Slot) (before middle : Node) (is : IsTrue (is_goal goal)) (fits_before : Fits before goal) (first : IsFinishable config before) (plain : IsPlainIfScript before)
-    (scoped : WellScoped before) (hygienic : IsHygienic table config before middle) where
+module _ (laws : Laws) (renamer : Renaming) (table : Table) (config : Config) (place : Places) (goal : Slot) (before middle : Node) (lawful : IsLawful renamer) (keeps : KeepsApart renamer before)
+    (is : IsTrue (is_goal goal)) (fits_before : Fits before goal) (first : IsFinishable config before) (plain : IsPlainIfScript before) (scoped : WellScoped before) (renamed : IsRenamedAndCleared table config renamer before middle) where
   abbrev after : Node
   after = fixed place middle
 
@@ -198,17 +198,17 @@ module _ (laws : Laws) (table : Table) (config : Config) (place : Places) (goal 
   abbrev K : Node
   K = normal_form middle
 
-  given : HasHygienicTexts before middle
-  given = laws.texts table config goal before middle is first.plain fits_before first.writable hygienic
+  given : HasRenamedTexts renamer before middle
+  given = laws.texts renamer table config goal before middle (top_apart before scoped renamer keeps) is first.plain fits_before first.writable renamed
 
   abbrev text : List ℕ → List ℕ
   text = text_by given.new_texts
 
   fits_middle : Fits middle goal
-  fits_middle = laws.fits table config goal before middle is first.plain fits_before hygienic
+  fits_middle = laws.fits renamer table config goal before middle is first.plain fits_before renamed
 
   writable_middle : Writable middle
-  writable_middle = laws.writable table config goal before middle first.plain fits_before first.writable hygienic
+  writable_middle = laws.writable renamer table config goal before middle lawful first.plain fits_before first.writable renamed
 
   fits_after : Fits after goal
   fits_after = answer_fits_table place (stripped middle) goal (stripped_fits middle goal (targets_stand_bare middle goal fits_middle writable_middle) (goal_open goal is) fits_middle)
@@ -225,7 +225,7 @@ module _ (laws : Laws) (table : Table) (config : Config) (place : Places) (goal 
   form_before = formed laws.left goal before is fits_before first.writable (settled_before goal before fits_before plain)
 
   settled_middle : IsSettledIn goal middle
-  settled_middle e = laws.settled table config goal before middle is first.plain fits_before hygienic (settled_before goal before fits_before plain e)
+  settled_middle e = laws.settled renamer table config goal before middle lawful is first.plain fits_before renamed (settled_before goal before fits_before plain e)
 
   form_middle : Formed goal middle
   form_middle = formed laws.left goal middle is fits_middle writable_middle settled_middle
@@ -293,21 +293,21 @@ module _ (laws : Laws) (table : Table) (config : Config) (place : Places) (goal 
     program = (keeps_by by_id before N keeps_before).program;
     one = scoped.each_in_one_scope;
     apart = captures_none before text scoped (plain_of goal before form_before.own)
-        (laws.apart before goal fits_before (plain_of goal before form_before.own) scoped first.writable hygiene_renaming given.new_texts text (λ x. refl) given.named (text_of_id given.new_texts));
+        (laws.apart before goal fits_before (plain_of goal before form_before.own) scoped first.writable renamer given.new_texts text keeps (all_named laws.flat before goal renamer given.new_texts fits_before scoped given.named) (text_of_id given.new_texts));
     shape = same_by_ids;
     texts = new_texts;
     keeps = keeps_texts;
   }
 
-  -- a word without digits is declared in the answer only where the program declares it
-  declared_word : (word : List ℕ) → list_any is_digit word ≡ false → IsDeclared (by_texts after) word → IsDeclared (by_texts before) word
-  declared_word word none d =
+  -- a word that an id gets from itself alone is declared in the answer only where the program declares it
+  declared_word : (word : List ℕ) → FromItself renamer word → IsDeclared (by_texts after) word → IsDeclared (by_texts before) word
+  declared_word word alone d =
       let (p, r, b) = declared_stays F (by_texts after) answers.plain.1 answers.plain.2 (clean_texts K) (clean_texts after) keeps_texts word d in
       let at = b.at in
       let (m, y, there, is) = from_named by_text K p at.place at.kind at.identifier at.stands in
       let (l, i, e) = same_shape.back p at.place m y there in
       let names : IsTrue (is_name at.place.standing) = subst (λ r. IsTrue (is_name r)) (sym at.stands_so) (binding_names r b.binds) in
-      let own : i.sym ≡ word = same_word before _ _ given.new_texts given.named i word none (sym (named p at.place at.place l at.kind i at.identifier e at.stands names) ∙ at.named) in
+      let own : i.sym ≡ word = same_word before renamer _ _ given.new_texts given.named i word alone (sym (named p at.place at.place l at.kind i at.identifier e at.stands names) ∙ at.named) in
       declared_stays (by_texts before) (by_texts N) (plain_of goal (by_texts before) (named_of by_text goal before form_before.own)) (plain_of goal (by_texts N) (named_of by_text goal N form_before.normal))
       (clean_texts before) (clean_texts N) (keeps_by by_text before N keeps_before) word
       (p, r, record { at = record { place = at.place; kind = l; identifier = by_text i; stands = stands_named by_text N p at.place l i e; stands_so = at.stands_so; named = own }; binds = b.binds })
@@ -315,7 +315,7 @@ module _ (laws : Laws) (table : Table) (config : Config) (place : Places) (goal 
   pub by_the_rules : DeclaresByTheRules after
   by_the_rules = record {
     no_redeclaration = answer_redeclares_none (by_ids before) (by_ids N) F (by_texts after) text answers scoped.no_redeclaration;
-    no_eval_or_arguments = ((λ d. scoped.no_eval_or_arguments.0 (declared_word (codes "eval") refl d)), (λ d. scoped.no_eval_or_arguments.1 (declared_word (codes "arguments") refl d)));
+    no_eval_or_arguments = ((λ d. scoped.no_eval_or_arguments.0 (declared_word (codes "eval") lawful.no_eval d)), (λ d. scoped.no_eval_or_arguments.1 (declared_word (codes "arguments") lawful.no_arguments d)));
   }
 
   -- ---- what is asked of a script alone: the answer to a plain script is one
@@ -332,15 +332,15 @@ module _ (laws : Laws) (table : Table) (config : Config) (place : Places) (goal 
       by_goal _ is f settled g = absurd (cc)
 
   -- a name of a global value is nobody's new text: where the answer's program takes it, the script's does
-  no_global_value : NoDigit → DeclaresNoGlobalValue after
-  no_global_value no_digit p w k i s e binds global taken =
+  no_global_value : SparesIfScript renamer before → DeclaresNoGlobalValue after
+  no_global_value spares p w k i s e binds global taken =
       let keeps : KeepsScopes after K = subst (KeepsScopes after) same_form answer.keeps in
       let x : Binding = (w.standing, i) in
       let d = (taken_is [] PP K x).0 (subst (In x) keeps.program ((taken_is [] PP after x).1 (record { path = p; place = w; kind = k; stands = e; stands_so = refl; binds = binds; taken = taken }))) in
       let (l, j, there) = same_shape.back d.path d.place d.kind i d.stands in
       let names : IsTrue (is_name d.place.standing) = subst (λ r. IsTrue (is_name r)) (sym d.stands_so) (binding_names w.standing binds) in
       let word : j.sym ≡ i.sym
-      = same_word before _ _ given.new_texts given.named j i.sym (no_digit i.sym global) (sym (named d.path d.place d.place l d.kind j (by_text i) there (stands_named by_text K d.path d.place d.kind i d.stands) names)) in
+      = same_word before renamer _ _ given.new_texts given.named j i.sym (spared renamer (spares (script_before s)) i.sym global) (sym (named d.path d.place d.place l d.kind j (by_text i) there (stands_named by_text K d.path d.place d.kind i d.stands) names)) in
       let y : Binding = (w.standing, j) in
       let b = (taken_is [] PP before y).0 (subst (In y) form_before.takes ((taken_is [] PP N y).1
       (record { path = d.path; place = d.place; kind = l; stands = there; stands_so = d.stands_so; binds = binds; taken = takers_same N K same_shape w.standing d.path ∙ d.taken }))) in
@@ -362,8 +362,8 @@ module _ (laws : Laws) (table : Table) (config : Config) (place : Places) (goal 
       = record { place = b.place; kind = l; identifier = by_text j; stands = stands_named by_text after q b.place l j there; stands_so = b.stands_so; named = word } in
       fair.1 (script_too goal after (by_texts after) answer.form.own of_after s) i.sym f p q stands_p stands_q (takers_same (by_texts after) (by_ids after) same standing.Parameter p ∙ ta) (takers_same (by_texts after) (by_ids after) same standing.Parameter q ∙ tb)
 
-  pub stays_plain : NoDigit → IsPlainIfScript after
-  stays_plain no_digit s = record { settled = answer.form.own.settled; unlabelled = unlabelled s; no_global_value = no_global_value no_digit; no_parameter_repeated = none_repeated s }
+  pub stays_plain : SparesIfScript renamer before → IsPlainIfScript after
+  stays_plain spares s = record { settled = answer.form.own.settled; unlabelled = unlabelled s; no_global_value = no_global_value spares; no_parameter_repeated = none_repeated s }
 
   -- ---- what export lists name: no script has one
 
@@ -404,8 +404,18 @@ module _ (laws : Laws) (table : Table) (config : Config) (place : Places) (goal 
   pub no_early_error : NoEarlyErrorOfNames after
   no_early_error = record { exports_declared = exports_declared; no_redeclaration = by_the_rules.no_redeclaration; no_eval_or_arguments = by_the_rules.no_eval_or_arguments }
 
-pub answer_declares_by_the_rules : Laws → AnswerDeclaresByTheRules
-answer_declares_by_the_rules laws table config place goal before middle is fits first plain scoped hygienic = by_the_rules laws table config place goal before middle is fits first plain scoped hygienic
+pub renamed_answer_declares_by_the_rules : Laws → RenamedAnswerDeclaresByTheRules
+renamed_answer_declares_by_the_rules laws r table config place goal before middle lawful keeps is fits first plain scoped renamed =
+    by_the_rules laws r table config place goal before middle lawful keeps is fits first plain scoped renamed
 
-pub answer_has_no_early_error_of_names : Laws → AnswerHasNoEarlyErrorOfNames
-answer_has_no_early_error_of_names laws table config place goal before middle is fits first plain scoped hygienic = no_early_error laws table config place goal before middle is fits first plain scoped hygienic
+pub renamed_answer_has_no_early_error_of_names : Laws → RenamedAnswerHasNoEarlyErrorOfNames
+renamed_answer_has_no_early_error_of_names laws r table config place goal before middle lawful keeps is fits first plain scoped renamed =
+    no_early_error laws r table config place goal before middle lawful keeps is fits first plain scoped renamed
+
+-- ---- hygiene
+
+pub answer_declares_by_the_rules : RenamedAnswerDeclaresByTheRules → HygieneIsLawful → AnswerDeclaresByTheRules
+answer_declares_by_the_rules law lawful table config place goal before middle = law hygiene_renaming table config place goal before middle lawful (none_preserved before hygiene_renaming (λ x. refl))
+
+pub answer_has_no_early_error_of_names : RenamedAnswerHasNoEarlyErrorOfNames → HygieneIsLawful → AnswerHasNoEarlyErrorOfNames
+answer_has_no_early_error_of_names law lawful table config place goal before middle = law hygiene_renaming table config place goal before middle lawful (none_preserved before hygiene_renaming (λ x. refl))

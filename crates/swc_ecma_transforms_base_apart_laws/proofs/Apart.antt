@@ -26,7 +26,7 @@ use Rattle.swc_base_fixer_texts.specs.Laws.{FixingNeedsNoContexts}
 use Rattle.swc_base_rename_substitution.specs.declared.place.Place.TheVariants as place
 use Rattle.swc_base_rename_substitution.specs.Names.{if_other_text}
 use Rattle.swc_base_rename_substitution.specs.Substituted.{substituted}
-use Rattle.swc_base_rename_program.specs.Renamed.{new_id_by}
+use Rattle.swc_base_rename_program.specs.Renamed.{hygiene_renaming, new_id_by}
 use Rattle.swc_base_rename_hygiene_laws.specs.Laws.{HygieneStaysFitting, HygieneStaysSettled, HygieneStaysWritable}
 use Rattle.swc_base_rename_hygiene_laws.proofs.StaysWritable.{plain_names}
 use Rattle.swc_base_rename_texts_laws.proofs.NewTexts.{substituted_given}
@@ -91,13 +91,13 @@ pub answers_are_apart : HygieneStaysFitting → HygieneStaysWritable → Hygiene
     → AnswersAreApart
 answers_are_apart fitting stays stays_settled fair cleans fixing needless texts old_pairs law answer u unresolved top old new a known resolved =
     let (given, renamed, cleared) = a.hygienic in
-    let names = plain_names a.table a.config a.before given a.finishable.plain renamed in
+    let names = plain_names hygiene_renaming a.table a.config a.before given a.finishable.plain renamed in
     let within : Fits a.middle a.goal = fitting a.table a.config a.goal a.before a.middle a.program a.finishable.plain a.stands a.hygienic in
     let writable : IsTrue (is_writable a.middle) = stays a.table a.config a.goal a.before a.middle a.finishable.plain a.stands a.finishable.writable a.hygienic in
     let settled : IsSettledIfScript a.middle
     = (λ s. let p = a.plain (script_of_goal a.goal a.program a.middle a.before within a.stands (inl s)) in stays_settled a.table a.config a.goal a.before a.middle a.program a.finishable.plain a.stands a.hygienic (p.settled, p.unlabelled)) in
     let v = substituted (labelled_changes names.new_texts) false place.Other (labelled a.before) in
-    let text_of_v : by_texts v ≡ a.middle = needs_no_labels needless names.new_texts a.before ∙ ap by_texts (sym (substituted_given a.before given names)) ∙ sym cleared in
+    let text_of_v : by_texts v ≡ a.middle = needs_no_labels needless names.new_texts a.before ∙ ap by_texts (sym (substituted_given hygiene_renaming a.before given names)) ∙ sym cleared in
     let labels = fixed a.place v in
     let text_of_labels : by_texts labels ≡ answer = sym (fixing a.place v) ∙ ap (fixed a.place) text_of_v ∙ sym a.paired in
     let h : HasNewLabels a.goal a.before labels = record {

@@ -1,3 +1,4 @@
 pub mod Kept
 pub mod Sources
 mod Promised
+mod TopNames

@@ -1,3 +1,4 @@
 pub mod Finished
 pub mod Sources
 pub mod Headline
+pub mod Renamers

@@ -7,7 +7,7 @@ use Rattle.swc_tree_scoping.specs.Readings.{by_texts}
 use Rattle.swc_base_rename_substitution.specs.declared.place.Place.TheVariants as place
 use Rattle.swc_base_rename_substitution.specs.Names.{if_other_text}
 use Rattle.swc_base_rename_laws.proofs.Unchanged.{stays}
-use Rattle.swc_base_rename_program.specs.Renamed.{new_id_by}
+use Rattle.swc_base_rename_program.specs.Renamed.{hygiene_renaming, new_id_by}
 use Rattle.swc_base_rename_hygiene_laws.proofs.StaysWritable.{plain_names}
 use Rattle.swc_base_rename_texts_laws.proofs.NewTexts.{substituted_given}
 use Rattle.swc_base_rename_settled_laws.specs.Laws.{HygieneKeepsApart}
@@ -25,6 +25,6 @@ no_change new_texts keeps x = by (new_texts x) refl
 
 pub hygiene_leaves_apart : HygieneKeepsApart → HygieneLeavesApart
 hygiene_leaves_apart law table config t answer s plain fit scoped apart (given, renamed, cleared) =
-    let names = plain_names table config t given plain renamed in
+    let names = plain_names hygiene_renaming table config t given plain renamed in
     let same = no_change names.new_texts (law t s names.new_texts fit scoped apart names.named) in
-    cleared ∙ ap by_texts (substituted_given t given names ∙ stays (new_id_by names.new_texts) same t place.Other refl)
+    cleared ∙ ap by_texts (substituted_given hygiene_renaming t given names ∙ stays (new_id_by names.new_texts) same t place.Other refl)

@@ -21,7 +21,7 @@ use Rattle.swc_base_rename_substitution.specs.declared.place.Place.TheVariants a
 use Rattle.swc_base_rename_substitution.specs.Names.{if_other_text, same_text}
 use Rattle.swc_base_rename_units.specs.Eval.{HasEval}
 use Rattle.swc_base_rename_units.proofs.Readers.{Decided, reads_decided, some_same}
-use Rattle.swc_base_rename_program.specs.Renamed.{new_id_by}
+use Rattle.swc_base_rename_program.specs.Renamed.{hygiene_renaming, new_id_by}
 use Rattle.swc_base_rename_errors_laws.proofs.Programs.{goal_open}
 use Rattle.swc_base_rename_hygiene_laws.specs.Laws.{HygieneStaysFitting, HygieneStaysWritable}
 use Rattle.swc_base_rename_hygiene_laws.proofs.StaysWritable.{Given, plain_names}
@@ -74,7 +74,7 @@ found_text x y (Some text) e = by (same_text (text, []) x) refl e
     by true h e = absurd (cc)
     by false h e = let same : (text, []) ≡ y = cc in (ap (λ (y : Id). Some y.0) same, ap (λ y. same_text y x) (sym same) ∙ h)
 
-module _ (before given : Node) (names : Given before given) (renaming : NewNamesAddNoReader) where
+module _ (before given : Node) (names : Given hygiene_renaming before given) (renaming : NewNamesAddNoReader) where
   apart : (x y : Id) → new_id_by names.new_texts x ≡ Some y → y.0 ≢ codes "eval"
   apart x y e =
       let (found, other) = found_text x y (names.new_texts x) e in
@@ -103,4 +103,4 @@ answers_read_no_names fitting stays bare renaming contexts stripping blocks pair
     let writable = stays a.table a.config a.goal a.before a.middle a.finishable.plain a.stands a.finishable.writable a.hygienic in
     let inner = blocks_fit (stripped a.middle) a.goal (stripped_fits a.middle a.goal (bare a.middle a.goal within writable) (goal_open a.goal a.program) within) in
     let read = stripping a.middle a.goal within writable (blocks (stripped a.middle) (pairs a.place (with_blocks (stripped a.middle)) a.goal inner (subst HasEval a.paired h))) in
-    a.unread (given_reads a.before given (plain_names a.table a.config a.before given a.finishable.plain renamed) renaming (contexts given (subst HasEval cleared read)))
+    a.unread (given_reads a.before given (plain_names hygiene_renaming a.table a.config a.before given a.finishable.plain renamed) renaming (contexts given (subst HasEval cleared read)))

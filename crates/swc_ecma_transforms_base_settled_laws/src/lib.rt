@@ -12,16 +12,17 @@ use swc_base_fixer_laws::{
 use swc_base_fixer_texts::fixing_needs_no_contexts;
 use swc_base_rename_errors_laws::answer_has_no_early_error_of_names;
 use swc_base_rename_hygiene_laws::{
-    hygiene_stays_fitting, hygiene_stays_settled, hygiene_stays_writable,
+    hygiene_is_lawful, hygiene_spares_global_values, hygiene_stays_fitting, hygiene_stays_writable,
+    renaming_stays_fitting, renaming_stays_settled, renaming_stays_writable,
 };
 use swc_base_rename_readers_laws::{
     blocks_add_no_reader, contexts_add_no_reader, due_pairs_add_no_reader, new_names_add_no_reader,
     stripping_adds_no_reader,
 };
-use swc_base_rename_scoped_laws::names_are_apart;
+use swc_base_rename_scoped_laws::{chained_is_flat, names_are_apart};
 use swc_base_rename_settled_laws::hygiene_keeps_apart;
 use swc_base_rename_source_laws::readers_need_no_contexts;
-use swc_base_rename_texts_laws::hygiene_gives_normal_form_new_texts;
+use swc_base_rename_texts_laws::renaming_gives_normal_form_new_texts;
 use swc_base_resolver_laws::clean_programs_become_well_scoped;
 use swc_tree_sites_scripts::{fixed_scripts_lose_no_name, plain_scripts_are_left};
 
@@ -51,10 +52,13 @@ pub fn answers_are_clean_programs()
     ensures { AnswersAreCleanPrograms }
 {
     names_are_apart();
-    hygiene_gives_normal_form_new_texts();
-    hygiene_stays_writable();
-    hygiene_stays_fitting();
-    hygiene_stays_settled();
+    chained_is_flat();
+    renaming_gives_normal_form_new_texts();
+    renaming_stays_writable();
+    renaming_stays_fitting();
+    renaming_stays_settled();
+    hygiene_is_lawful();
+    hygiene_spares_global_values();
     plain_scripts_are_left();
     fixed_scripts_lose_no_name();
     targets_stand_bare();

@@ -3,4 +3,4 @@ use Rattle.swc_base_alpha_chained_laws.proofs.Kept.{hygiene_keeps_sources}
 
 -- src/lib.rt
 pub returns : goal.returns
-returns c = hygiene_keeps_sources (record { texts = c.texts_are_as_writable.ensures; modules = c.writable_normal_form_is_left.ensures; scripts = c.plain_scripts_are_left.ensures; targets = c.targets_stand_bare.ensures; tame = c.writable_modules_are_tame.ensures; written = c.written_out_is_left.ensures; stripped_takes = c.stripped_takes_the_same.ensures }) c.names_are_apart.ensures c.hygiene_gives_normal_form_new_texts.ensures c.ids_are_left.ensures c.hygiene_keeps_meanings.ensures
+returns c = hygiene_keeps_sources c.renamers_keep_sources.ensures c.hygiene_spares_global_values.ensures

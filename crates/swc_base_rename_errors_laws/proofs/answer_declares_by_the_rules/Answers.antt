@@ -3,12 +3,4 @@ use Rattle.swc_base_rename_errors_laws.proofs.Errors.{answer_declares_by_the_rul
 
 -- src/lib.rt
 pub returns : goal.returns
-returns c = answer_declares_by_the_rules (record {
-  apart = c.names_are_apart.ensures;
-  texts = c.hygiene_gives_normal_form_new_texts.ensures;
-  writable = c.hygiene_stays_writable.ensures;
-  fits = c.hygiene_stays_fitting.ensures;
-  settled = c.hygiene_stays_settled.ensures;
-  left = c.plain_scripts_are_left.ensures;
-  whole = c.fixed_scripts_lose_no_name.ensures;
-})
+returns c = answer_declares_by_the_rules c.renamed_answer_declares_by_the_rules.ensures c.hygiene_is_lawful.ensures

@@ -3,4 +3,4 @@ use Rattle.swc_ecma_transforms_base_laws.proofs.Promised.{keeps_sources}
 
 -- src/lib.rt
 pub returns : goal.returns
-returns c = keeps_sources c.resolved_sources_are_ready.ensures c.finishing_keeps_promises.ensures c.chaining_keeps_forms.ensures
+returns c = keeps_sources c.lawful_renamers_keep_sources.ensures c.hygiene_is_lawful.ensures c.hygiene_spares_global_values.ensures

@@ -3,4 +3,4 @@ use Rattle.swc_ecma_transforms_base_laws.proofs.Promised.{keeps_forms}
 
 -- src/lib.rt
 pub returns : goal.returns
-returns c = keeps_forms c.finishing_keeps_programs.ensures c.finishing_keeps_spans.ensures
+returns c = keeps_forms c.lawful_renamers_keep_forms.ensures c.hygiene_is_lawful.ensures c.hygiene_spares_global_values.ensures

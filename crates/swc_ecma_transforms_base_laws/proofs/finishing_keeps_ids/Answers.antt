@@ -3,4 +3,4 @@ use Rattle.swc_ecma_transforms_base_laws.proofs.Kept.{keeps_ids}
 
 -- src/lib.rt
 pub returns : goal.returns
-returns c = keeps_ids c.hygiene_stays_fitting.ensures c.hygiene_stays_writable.ensures c.hygiene_stays_settled.ensures c.targets_stand_bare.ensures c.fixed_fits.ensures c.fixed_fits_table.ensures c.fixer_stays_clean.ensures c.fixed_scripts_lose_no_name.ensures c.normal_form_stays.ensures c.hygiene_keeps_ids.ensures
+returns c = keeps_ids c.finishing_renamed_keeps_ids.ensures c.hygiene_is_lawful.ensures c.hygiene_spares_global_values.ensures

@@ -3,4 +3,4 @@ use Rattle.swc_ecma_transforms_base_laws.proofs.Kept.{keeps_spans}
 
 -- src/lib.rt
 pub returns : goal.returns
-returns c = keeps_spans c.hygiene_stays_fitting.ensures c.hygiene_keeps_spans.ensures c.normal_form_stays.ensures
+returns c = keeps_spans c.finishing_renamed_keeps_spans.ensures c.hygiene_spares_global_values.ensures

@@ -3,4 +3,4 @@ use Rattle.swc_ecma_transforms_base_laws.proofs.Kept.{meets_no_target}
 
 -- src/lib.rt
 pub returns : goal.returns
-returns c = meets_no_target c.hygiene_stays_fitting.ensures c.hygiene_stays_writable.ensures c.targets_stand_bare.ensures
+returns c = meets_no_target c.finishing_renamed_meets_no_target.ensures c.hygiene_is_lawful.ensures
