@@ -8,6 +8,7 @@ use std::alloc::Global;
 use std::fmt::Write;
 use swc_base_rename::{HygieneRenamer, Renamer};
 use swc_base_rename_naming::{HygieneTexts, Iter, ReverseMap, Taken, free_text};
+use swc_base_rename_shortest::Shortest;
 use swc_tree_items::Text;
 use swc_tree_marks::{Id, Mark, PassError, SyntaxContext};
 
@@ -92,6 +93,41 @@ fn letters(alloc: Global) -> Option<bool> {
     Some(first && last && next && is_spent(alloc, &Letters)?)
 }
 
+// Counters with their short texts: around the ends of letters and of lengths, round `do` and the other words that are withheld, and the last.
+const SHORT_TEXTS: [(usize, &str); 22] = [
+    (0, "a"),
+    (1, "b"),
+    (25, "z"),
+    (26, "A"),
+    (51, "Z"),
+    (52, "$"),
+    (53, "_"),
+    (54, "aa"),
+    (55, "ab"),
+    (117, "a9"),
+    (118, "ba"),
+    (259, "dn"),
+    (260, "dp"),
+    (569, "ie"),
+    (570, "ig"),
+    (571, "ih"),
+    (3_507, "aaa"),
+    (3_508, "aab"),
+    (3_509, "aac"),
+    (1_152_921_504_606_846_976, "ajjjjjjjjj7"),
+    (163_295_746_507_125_000, "instanceoe"),
+    (18_446_744_073_709_551_614, "pjjjjjjjjj5"),
+];
+
+fn short_texts(alloc: Global) -> Option<bool> {
+    for (n, text) in SHORT_TEXTS {
+        if !gives(alloc, &Shortest, n, text)? {
+            return Some(false);
+        }
+    }
+    Some(is_spent(alloc, &Shortest)? && settings::<Shortest>() == (true, false))
+}
+
 // The two settings of a renamer.
 fn settings<R: Renamer>() -> (bool, bool)
     ensures { result ≡ (R.MANGLE, R.RESET_N) }
@@ -142,6 +178,7 @@ pub fn holds(alloc: Global, words: &str) -> Option<bool> {
         "maps are chained" => chains(alloc),
         "hygiene counts" => counts(alloc),
         "letters are given" => letters(alloc),
+        "short texts are given" => short_texts(alloc),
         "numbers are given" => numbers(alloc),
         "the first free text is found" => free(alloc),
         _ => match crate::name_rows::holds(alloc, words) {

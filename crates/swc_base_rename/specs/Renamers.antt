@@ -11,6 +11,8 @@ use Rattle.swc_base_rename_program.specs.Renamed.{IsRenameRefusal, IsRenamedBy}
 use Rattle.swc_base_rename_naming.specs.Counters.{greatest}
 use Rattle.swc_base_rename_tries_laws.specs.Laws.{TellsApart}
 use Rattle.swc_base_rename_units_laws.specs.Bounds.{IsFlat, IsOfCrowding, TakesFew}
+use Rattle.swc_base_rename_substitution.specs.declared.config.Config.{Config}
+use Rattle.swc_base_rename_hygiene_laws.specs.Renamers.{IsRenamedAndCleared}
 use Rattle.swc_base_rename.specs.declared.renaming.RenamePass.{RenamePass}
 
 module _ {X : Type 0} (text : X → Id → ℕ → List ℕ) (preserved : X → Node → Id → Bool) (asked : X → Node → X → Type 0) (mangles resets : Bool) where
@@ -45,3 +47,13 @@ module _ {X : Type 0} (text : X → Id → ℕ → List ℕ) (preserved : X → 
 
   abbrev pub RefusesProgram : RenamePass X → Table → Node → RenamePass X → Table → PassError → Type 0
   RefusesProgram pass old before kept new e = IsDeclined (has_types before) pass old kept new e (RefusesNames pass old before kept new e)
+
+  -- hygiene by a renamer: names are given so, and then each context is empty; the renamer was asked once
+  pub record SettlesNames (config : Config) (table : Table) (was : X) (before : Node) (is : X) (after : Node) : Type 0 where
+    pub named : IsRenamedAndCleared table config (renaming_in was is before) before after
+    pub once : asked was before is
+
+  -- it is refused for want of memory, and where the counters are spent
+  pub record RefusesSettling (config : Config) (table : Table) (was : X) (before : Node) (is : X) (e : PassError) : Type 0 where
+    pub refusal : IsRenameRefusal table config (renaming_in was is before) before e
+    pub once : asked was before is

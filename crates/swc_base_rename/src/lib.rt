@@ -11,6 +11,7 @@ mod hygienic;
 mod lawful;
 mod pass;
 mod renaming;
+mod settling;
 
 pub use hygiene_passes::{hygiene, hygiene_with_config};
 pub use hygiene_renamer::HygieneRenamer;
@@ -18,5 +19,6 @@ pub use hygienic::Hygiene;
 pub use lawful::Renamer;
 pub use pass::{RenameWith, remap, rename, rename_with_config};
 pub use renaming::{RenamePass, renamer};
+pub use settling::{settle_module_with, settle_script_with};
 pub use swc_base_rename_naming::numbered;
 pub use swc_base_rename_substitution::{Config, Names, substitute};

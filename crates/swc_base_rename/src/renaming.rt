@@ -18,8 +18,8 @@ use swc_tree_modules::{Module, Script};
 
 // The texts of a renamer.
 #[derive(Clone, Copy)]
-struct Texts<'a, R> {
-    renamer: &'a R,
+pub(crate) struct Texts<'a, R> {
+    pub(crate) renamer: &'a R,
 }
 
 impl<R: Renamer> NewTexts for Texts<'_, R> {
@@ -33,7 +33,7 @@ impl<R: Renamer> NewTexts for Texts<'_, R> {
 }
 
 // The settings of a renamer.
-fn mode_of<R: Renamer>() -> Mode
+pub(crate) fn mode_of<R: Renamer>() -> Mode
     ensures { result ≡ record { mangles = R.MANGLE; resets = R.RESET_N } }
 {
     Mode {

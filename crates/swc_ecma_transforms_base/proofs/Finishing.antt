@@ -1,14 +1,15 @@
 -- What finishing promises of a program that can be finished, by what its two passes lead to.
-use Rattle.std.proofs.Common.{◌≡◌, ◌≢◌, ◌↔◌, ◌∙◌, Bool, true, false, IsTrue, Result, Ok, Err, OnErr, IfErr, refl, sym, ap, subst, inl, inr}
+use Rattle.std.proofs.Common.{◌≡◌, ◌≢◌, ◌↔◌, ◌∙◌, Bool, true, false, IsTrue, List, ℕ, Result, Ok, Err, OnErr, IfErr, refl, sym, ap, subst, inl, inr}
 use Rattle.swc_tree_marks.specs.declared.error.PassError.{PassError}
 use Rattle.swc_tree_marks.specs.declared.error.PassError.TheVariants as error
 use Rattle.swc_tree_marks.specs.Globals.{Table}
 use Rattle.swc_tree_node.specs.declared.node.Node.{Node}
 use Rattle.swc_tree_node.specs.declared.slot.Slot.{Slot}
 use Rattle.swc_tree_node.specs.Fits.{Fits}
+use Rattle.swc_tree_scoping.specs.BoundNames.{Id}
 use Rattle.swc_tree_scoping.specs.WellScoped.{WellScoped}
 use Rattle.swc_tree_renaming.specs.Apart.{IsPlainIfScript, is_goal}
-use Rattle.swc_tree_renaming.proofs.Global.{fits_module, plain_if_module}
+use Rattle.swc_tree_renaming.proofs.Global.{fits_module, fits_script, no_module_is_script, plain_if_module}
 use Rattle.swc_tree_spaces.specs.Spaces.{has_types}
 use Rattle.swc_tree.specs.Types.{IsDeclined, IsMade}
 use Rattle.swc_tree_grammar.specs.Targets.{all_bare}
@@ -22,12 +23,17 @@ use Rattle.swc_base_rename_units.specs.Eval.{HasEval}
 use Rattle.swc_base_rename_program.specs.Renamed.{IsHygienic, IsRenameRefusal, hygiene_renaming}
 use Rattle.swc_base_rename.specs.declared.hygienic.Hygiene.{Hygiene}
 use Rattle.swc_base_rename.specs.Hygiene.{MakesHygienic, MakesScriptHygienic, RefusesHygiene}
+use Rattle.swc_base_rename.specs.Renamers.{RefusesSettling, SettlesNames, renaming_in}
 use Rattle.swc_ecma_transforms_base_laws.specs.Finished.{FinishingMeetsNoTarget}
 use Rattle.swc_ecma_transforms_base_laws.specs.Headline.{FinishingKeepsForms, FinishingKeepsPromises, IsOfMemoryOrCounters, KeepsItsForm, KeepsItsPromises}
+use Rattle.swc_ecma_transforms_base_laws.specs.Renamers.{LawfulRenamersKeepForms, LawfulRenamersKeepPromises, Suits}
 use Rattle.swc_ecma_transforms_base_settled_laws.specs.Settled.{IsAnswer}
+use Rattle.swc_base_rename_analysis.specs.Named.{Renaming}
 use Rattle.swc_base_rename_hygiene_laws.specs.Laws.{IsFinishable}
+use Rattle.swc_base_rename_hygiene_laws.specs.Renamers.{IsLawful, IsRenamedAndCleared, KeepsTopApart}
 use Rattle.swc_base_rename_ids_laws.proofs.Programs.{by_goal, module_place}
-use Rattle.swc_ecma_transforms_base.specs.Finished.{Finishes, IsFinishRefusal}
+use Rattle.swc_tree_sites_scripts.specs.Laws.{script_place}
+use Rattle.swc_ecma_transforms_base.specs.Finished.{Finishes, FinishesBy, IsFinishRefusal, IsFinishRefusalBy}
 use Rattle.swc_ecma_transforms_base.specs.Lent.{MovesPartly}
 use Rattle.swc_ecma_transforms_base.proofs.WritableTypes.{is_untyped, writable_has_no_types}
 
@@ -74,10 +80,10 @@ pub where_refused : {T P : Type 0} (r : Result T PassError) → P → OnErr r P
 where_refused (Ok t) h = tt
 where_refused (Err e) h = h
 
-module _ (table : Table) (config : Config) (before middle : Node) (none : has_types before ≡ false) (hygienic : IsHygienic table config before middle) where
-  refused : (e : PassError) → IsRefusal e → (e ≡ error.NotAssignable → all_bare middle ≡ false) → IsFinishRefusal table config before e
-  refused error.NoMemory r bare = (none, tt)
-  refused error.NotAssignable r bare = (none, record { between = middle; hygienic = hygienic; unassignable = bare refl })
+module _ (r : Renaming) (table : Table) (config : Config) (before middle : Node) (none : has_types before ≡ false) (renamed : IsRenamedAndCleared table config r before middle) where
+  refused : (e : PassError) → IsRefusal e → (e ≡ error.NotAssignable → all_bare middle ≡ false) → IsFinishRefusalBy r table config before e
+  refused error.NoMemory h bare = (none, tt)
+  refused error.NotAssignable h bare = (none, record { between = middle; renamed = renamed; unassignable = bare refl })
   refused error.CounterSpent (inl q) bare = absurd (cc)
   refused error.CounterSpent (inr q) bare = absurd (cc)
   refused error.MarksSpent (inl q) bare = absurd (cc)
@@ -85,7 +91,7 @@ module _ (table : Table) (config : Config) (before middle : Node) (none : has_ty
   refused error.MarksSpent (inr q) bare = absurd (cc)
   refused error.TypesLeft (inr q) bare = absurd (cc)
 
-  pub refused_by_fixer : {T : Type 0} (r : Result T PassError) → IfErr r IsRefusal → IfErr r (λ e. e ≡ error.NotAssignable → all_bare middle ≡ false) → IfErr r (IsFinishRefusal table config before)
+  pub refused_by_fixer : {T : Type 0} (result : Result T PassError) → IfErr result IsRefusal → IfErr result (λ e. e ≡ error.NotAssignable → all_bare middle ≡ false) → IfErr result (IsFinishRefusalBy r table config before)
   refused_by_fixer (Ok t) h bare = tt
   refused_by_fixer (Err e) h bare = refused e h bare
 
@@ -117,25 +123,45 @@ module _ {C : Type 0} (c d : C) where
 goal_untyped : (goal : Slot) → IsTrue (is_goal goal) → is_untyped goal ≡ true
 goal_untyped = by_goal (λ goal. is_untyped goal ≡ true) refl refl
 
-module _ (table : Table) (config : Config) (goal : Slot) (before : Node) (is : IsTrue (is_goal goal)) (fits : Fits before goal) (finishable : IsFinishable config before) where
-  pub formed : FinishingKeepsForms → (after : Node) → Finishes table config before after → KeepsItsForm before after
-  unfolding answer_to
-  formed law after f = subst (λ t. KeepsItsForm before t) (sym f.paired) (law table config (recorded (pairs f.between)) goal before f.between is fits finishable f.hygienic)
+-- no types stand in a program that can be finished
+pub no_types_left : (config : Config) (goal : Slot) (before : Node) → IsTrue (is_goal goal) → Fits before goal → IsFinishable config before → has_types before ≡ true → ⊥
+no_types_left config goal before is fits finishable some = let none = writable_has_no_types before goal (goal_untyped goal is) fits finishable.writable in absurd (cc (some, none))
 
-  pub promised : FinishingKeepsPromises → (after : Node) → Finishes table config before after → IsPlainIfScript before → KeepsItsPromises before after
+module _ (r : Renaming) (table : Table) (config : Config) (goal : Slot) (before : Node) (is : IsTrue (is_goal goal)) (fits : Fits before goal) (finishable : IsFinishable config before) where
+  pub formed_by : LawfulRenamersKeepForms → IsLawful r → KeepsTopApart r before → (after : Node) → FinishesBy r table config before after → KeepsItsForm before after
   unfolding answer_to
-  promised law after f plain = subst (λ t. KeepsItsPromises before t) (sym f.paired) (law table config (recorded (pairs f.between)) goal before f.between is fits finishable plain f.hygienic)
+  formed_by law lawful top after f = subst (λ t. KeepsItsForm before t) (sym f.paired) (law r table config (recorded (pairs f.between)) goal before f.between lawful top is fits finishable f.renamed)
 
-  no_target : FinishingMeetsNoTarget → (e : PassError) → IsFinishRefusal table config before e → IsOfMemoryOrCounters e
+  pub promised_by : LawfulRenamersKeepPromises → IsLawful r → Suits r before → (after : Node) → FinishesBy r table config before after → IsPlainIfScript before → KeepsItsPromises before after
+  unfolding answer_to
+  promised_by law lawful suits after f plain = subst (λ t. KeepsItsPromises before t) (sym f.paired) (law r table config (recorded (pairs f.between)) goal before f.between lawful suits is fits finishable plain f.renamed)
+
+  -- each parenthesised target takes a value, once the program is renamed
+  abbrev pub TargetsTakeValues : Type 0
+  TargetsTakeValues = (middle : Node) → IsRenamedAndCleared table config r before middle → all_bare middle ≡ true
+
+  no_target : TargetsTakeValues → (e : PassError) → IsFinishRefusalBy r table config before e → IsOfMemoryOrCounters e
   no_target law error.NoMemory h = inl refl
   no_target law error.CounterSpent h = inr refl
   no_target law error.MarksSpent h = absurd h.1
   no_target law error.TypesLeft h = let none = writable_has_no_types before goal (goal_untyped goal is) fits finishable.writable in absurd (cc (h, none))
-  no_target law error.NotAssignable h = let stands = law table config goal before h.1.between is fits finishable h.1.hygienic in let fails = h.1.unassignable in absurd (cc)
+  no_target law error.NotAssignable h = let stands = law h.1.between h.1.renamed in let fails = h.1.unassignable in absurd (cc)
 
-  pub meets_none : {T : Type 0} (r : Result T PassError) → FinishingMeetsNoTarget → IfErr r (IsFinishRefusal table config before) → IfErr r IsOfMemoryOrCounters
-  meets_none (Ok t) law h = tt
-  meets_none (Err e) law h = no_target law e h
+  pub meets_none_by : {T : Type 0} (result : Result T PassError) → TargetsTakeValues → IfErr result (IsFinishRefusalBy r table config before) → IfErr result IsOfMemoryOrCounters
+  meets_none_by (Ok t) law h = tt
+  meets_none_by (Err e) law h = no_target law e h
+
+module _ (table : Table) (config : Config) (goal : Slot) (before : Node) (is : IsTrue (is_goal goal)) (fits : Fits before goal) (finishable : IsFinishable config before) where
+  pub formed : FinishingKeepsForms → (after : Node) → Finishes table config before after → KeepsItsForm before after
+  unfolding answer_to
+  formed law after f = subst (λ t. KeepsItsForm before t) (sym f.paired) (law table config (recorded (pairs f.between)) goal before f.between is fits finishable f.renamed)
+
+  pub promised : FinishingKeepsPromises → (after : Node) → Finishes table config before after → IsPlainIfScript before → KeepsItsPromises before after
+  unfolding answer_to
+  promised law after f plain = subst (λ t. KeepsItsPromises before t) (sym f.paired) (law table config (recorded (pairs f.between)) goal before f.between is fits finishable plain f.renamed)
+
+  pub meets_none : {T : Type 0} (result : Result T PassError) → FinishingMeetsNoTarget → IfErr result (IsFinishRefusal table config before) → IfErr result IsOfMemoryOrCounters
+  meets_none result law h = meets_none_by hygiene_renaming table config goal before is fits finishable result (λ middle renamed. law table config goal before middle is fits finishable renamed) h
 
   pub answered : IsPlainIfScript before → ¬ HasEval before → WellScoped before → (after : Node) → Finishes table config before after → IsAnswer after
   unfolding answer_to
@@ -152,10 +178,45 @@ module _ (table : Table) (config : Config) (goal : Slot) (before : Node) (is : I
     plain = plain;
     unread = unread;
     scoped = scoped;
-    hygienic = f.hygienic;
+    hygienic = f.renamed;
     paired = f.paired;
   }
+
+-- what is asked of a module alone
+pub script_top_apart : (r : Renaming) (t : Node) → Fits t script_place → KeepsTopApart r t
+script_top_apart r t f is = absurd (no_module_is_script t is (fits_script t f))
 
 -- a module is asked nothing more
 pub module_plain : (t : Node) → Fits t module_place → IsPlainIfScript t
 module_plain t f = plain_if_module t (fits_module t f)
+
+-- ---- a renamer of one's own
+
+module _ {X : Type 0} (text : X → Id → ℕ → List ℕ) (preserved : X → Node → Id → Bool) (asked : X → Node → X → Type 0) (mangles resets : Bool) (config : Config) (table : Table) (was is : X) (given before : Node) (same : given ≡ before) where
+  pub settled_as : (middle : Node) → SettlesNames text preserved asked mangles resets config table was given is middle → SettlesNames text preserved asked mangles resets config table was before is middle
+  settled_as middle m = subst (λ t. SettlesNames text preserved asked mangles resets config table was t is middle) same m
+
+  abbrev own : Renaming
+  own = renaming_in text preserved asked mangles resets was is before
+
+  renamer_refuses : has_types before ≡ false → (e : PassError) → IsRenameRefusal table config own before e → IsFinishRefusalBy own table config before e
+  renamer_refuses none error.NoMemory h = (none, tt)
+  renamer_refuses none error.CounterSpent h = (none, h)
+  renamer_refuses none error.NotAssignable h = absurd h
+  renamer_refuses none error.MarksSpent h = absurd h
+  renamer_refuses none error.TypesLeft h = absurd h
+
+  pub refused_by_renamer : has_types before ≡ false → {T : Type 0} (result : Result T PassError) → IfErr result (RefusesSettling text preserved asked mangles resets config table was given is) → IfErr result (IsFinishRefusalBy own table config before)
+  refused_by_renamer none (Ok t) h = tt
+  refused_by_renamer none (Err e) h = renamer_refuses none e (subst (λ t. IsRenameRefusal table config (renaming_in text preserved asked mangles resets was is t) t e) same h.refusal)
+
+  blames : (e : PassError) → IsRenameRefusal table config (renaming_in text preserved asked mangles resets was is given) given e → IsOfMemoryOrCounters e
+  blames error.NoMemory h = inl refl
+  blames error.CounterSpent h = inr refl
+  blames error.NotAssignable h = absurd h
+  blames error.MarksSpent h = absurd h
+  blames error.TypesLeft h = absurd h
+
+  pub renamer_blames_no_target : {T : Type 0} (result : Result T PassError) → IfErr result (RefusesSettling text preserved asked mangles resets config table was given is) → IfErr result IsOfMemoryOrCounters
+  renamer_blames_no_target (Ok t) h = tt
+  renamer_blames_no_target (Err e) h = blames e h.refusal

@@ -1,6 +1,7 @@
 use Rattle.std.proofs.Common.{ap, refl, rules}
 use Rattle.swc_tree_modules.specs.Nodes.{module_node}
 use Rattle.swc_base_rename_ids_laws.proofs.Programs.{module_place}
+use Rattle.swc_base_rename_program.specs.Renamed.{hygiene_renaming}
 use Rattle.swc_ecma_transforms_base.proofs.Chaining.{answered, chained, fresh_first, marked, moved_once, moved_partly, no_target_first, no_target_later, refused_first, refused_later, source_kept, stays}
 use Rattle.swc_ecma_transforms_base.proofs.Finishing.{module_plain, where_refused}
 use Rattle.swc_ecma_transforms_base.proofs.chain.chain_typeless_module.Goals as goal
@@ -11,14 +12,14 @@ returns-in_err-finish_module_with-clause-cause g c =
     let m = marked c.args.unresolved c.args.top c.resolver-resolver.result c.visit_mut_module.new.self c.args.globals.now c.visit_mut_module.new.globals (module_node c.replace-module.result) (module_node c.args.program.now)
     (module_node c.visit_mut_module.new.program) c.resolver-resolver.ensures (ap module_node c.replace-module.ensures.value) c.types_are_told.ensures c.requires.no_types c.in_ok-visit_mut_module.ensures.done.made in
     rw c.finish_module_with.ensures.marks
-    (refused_later c.args.unresolved c.args.top c.args.config c.args.globals.now (module_node c.args.program.now) c.visit_mut_module.new.globals (module_node c.visit_mut_module.new.program) m c.requires.no_types c.from_residual-in_err-finish_module_with.result (search rules))
+    (refused_later (λ t. hygiene_renaming) c.args.unresolved c.args.top c.args.config c.args.globals.now (module_node c.args.program.now) c.visit_mut_module.new.globals (module_node c.visit_mut_module.new.program) m c.requires.no_types c.from_residual-in_err-finish_module_with.result (search rules))
 
 pub returns-clause-done : goal.returns-clause-done
 returns-clause-done g c =
     let m = marked c.args.unresolved c.args.top c.resolver-resolver.result c.visit_mut_module.new.self c.args.globals.now c.visit_mut_module.new.globals (module_node c.replace-module.result) (module_node c.args.program.now)
     (module_node c.visit_mut_module.new.program) c.resolver-resolver.ensures (ap module_node c.replace-module.ensures.value) c.types_are_told.ensures c.requires.no_types c.in_ok-visit_mut_module.ensures.done.made in
     rw c.finish_module_with.ensures.marks
-    (chained c.args.unresolved c.args.top c.args.config c.args.globals.now (module_node c.args.program.now) c.visit_mut_module.new.globals (module_node c.visit_mut_module.new.program) m c.requires.no_types (module_node c.finish_module_with.new.program) c.in_ok-finish_module_with.ensures.done)
+    (chained (λ t. hygiene_renaming) c.args.unresolved c.args.top c.args.config c.args.globals.now (module_node c.args.program.now) c.visit_mut_module.new.globals (module_node c.visit_mut_module.new.program) m c.requires.no_types (module_node c.finish_module_with.new.program) c.in_ok-finish_module_with.ensures.done)
 
 pub returns-in_err-finish_module_with-clause-no_target : goal.returns-in_err-finish_module_with-clause-no_target
 returns-in_err-finish_module_with-clause-no_target g c =
@@ -54,7 +55,7 @@ returns-clause-moved g c =
     let m = marked c.args.unresolved c.args.top c.resolver-resolver.result c.visit_mut_module.new.self c.args.globals.now c.visit_mut_module.new.globals (module_node c.replace-module.result) (module_node c.args.program.now)
     (module_node c.visit_mut_module.new.program) c.resolver-resolver.ensures (ap module_node c.replace-module.ensures.value) c.types_are_told.ensures c.requires.no_types c.in_ok-visit_mut_module.ensures.done.made in
     rw c.finish_module_with.ensures.marks
-    (moved_once c.args.unresolved c.args.top c.args.config c.args.globals.now (module_node c.args.program.now) c.visit_mut_module.new.globals (module_node c.visit_mut_module.new.program) m
+    (moved_once (λ t. hygiene_renaming) c.args.unresolved c.args.top c.args.config c.args.globals.now (module_node c.args.program.now) c.visit_mut_module.new.globals (module_node c.visit_mut_module.new.program) m
     _ (module_node c.finish_module_with.new.program) c.args.comments.now c.finish_module_with.new.comments c.in_ok-finish_module_with.ensures.moved)
 
 pub returns-in_err-finish_module_with-clause-partly : goal.returns-in_err-finish_module_with-clause-partly
@@ -63,20 +64,20 @@ returns-in_err-finish_module_with-clause-partly g c =
     (module_node c.visit_mut_module.new.program) c.resolver-resolver.ensures (ap module_node c.replace-module.ensures.value) c.types_are_told.ensures c.requires.no_types c.in_ok-visit_mut_module.ensures.done.made in
     rw c.finish_module_with.ensures.marks
     (where_refused c.from_residual-in_err-finish_module_with.result
-    (moved_partly c.args.unresolved c.args.top c.args.config c.args.globals.now (module_node c.args.program.now) c.visit_mut_module.new.globals (module_node c.visit_mut_module.new.program) m
+    (moved_partly (λ t. hygiene_renaming) c.args.unresolved c.args.top c.args.config c.args.globals.now (module_node c.args.program.now) c.visit_mut_module.new.globals (module_node c.visit_mut_module.new.program) m
     _ c.args.comments.now c.finish_module_with.new.comments c.in_err-finish_module_with.ensures.partly))
 
 pub returns-in_err-visit_mut_module-clause-cause : goal.returns-in_err-visit_mut_module-clause-cause
 returns-in_err-visit_mut_module-clause-cause g c =
-    refused_first c.args.unresolved c.args.top c.args.config c.resolver-resolver.result c.visit_mut_module.new.self c.args.globals.now c.visit_mut_module.new.globals (module_node c.replace-module.result) (module_node c.args.program.now)
+    refused_first (λ t. hygiene_renaming) c.args.unresolved c.args.top c.args.config c.resolver-resolver.result c.visit_mut_module.new.self c.args.globals.now c.visit_mut_module.new.globals (module_node c.replace-module.result) (module_node c.args.program.now)
     c.resolver-resolver.ensures (ap module_node c.replace-module.ensures.value) c.requires.no_types c.from_residual.result (search rules)
 
 pub returns-in_err-visit_mut_module-clause-marks : goal.returns-in_err-visit_mut_module-clause-marks
 returns-in_err-visit_mut_module-clause-marks g c =
-    fresh_first c.args.unresolved c.args.top c.args.config c.resolver-resolver.result c.visit_mut_module.new.self c.args.globals.now c.visit_mut_module.new.globals (module_node c.replace-module.result) (module_node c.args.program.now)
+    fresh_first (λ t. hygiene_renaming) c.args.unresolved c.args.top c.args.config c.resolver-resolver.result c.visit_mut_module.new.self c.args.globals.now c.visit_mut_module.new.globals (module_node c.replace-module.result) (module_node c.args.program.now)
     c.resolver-resolver.ensures (ap module_node c.replace-module.ensures.value) _ c.in_err-visit_mut_module.ensures.cause
 
 pub returns-in_err-visit_mut_module-clause-no_target : goal.returns-in_err-visit_mut_module-clause-no_target
 returns-in_err-visit_mut_module-clause-no_target g c =
-    λ source ok. no_target_first c.args.unresolved c.args.top c.args.config c.resolver-resolver.result c.visit_mut_module.new.self c.args.globals.now c.visit_mut_module.new.globals (module_node c.replace-module.result) (module_node c.args.program.now)
+    λ source ok. no_target_first (λ t. hygiene_renaming) c.args.unresolved c.args.top c.args.config c.resolver-resolver.result c.visit_mut_module.new.self c.args.globals.now c.visit_mut_module.new.globals (module_node c.replace-module.result) (module_node c.args.program.now)
     c.resolver-resolver.ensures (ap module_node c.replace-module.ensures.value) c.from_residual.result (search rules)

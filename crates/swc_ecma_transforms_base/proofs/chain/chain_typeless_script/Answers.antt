@@ -1,6 +1,7 @@
 use Rattle.std.proofs.Common.{ap, refl, rules}
 use Rattle.swc_tree_modules.specs.Nodes.{script_node}
 use Rattle.swc_tree_sites_scripts.specs.Laws.{script_place}
+use Rattle.swc_base_rename_program.specs.Renamed.{hygiene_renaming}
 use Rattle.swc_ecma_transforms_base.proofs.Chaining.{answered, chained, form_kept, fresh_first, marked, moved_once, moved_partly, no_target_first, no_target_later, refused_first, refused_later, source_kept, stays}
 use Rattle.swc_ecma_transforms_base.proofs.Finishing.{where_refused}
 use Rattle.swc_ecma_transforms_base.proofs.chain.chain_typeless_script.Goals as goal
@@ -11,21 +12,21 @@ returns-in_err-finish_script_with-clause-cause g c =
     let m = marked c.args.unresolved c.args.top c.resolver-resolver.result c.visit_mut_script.new.self c.args.globals.now c.visit_mut_script.new.globals (script_node c.replace-script.result) (script_node c.args.program.now)
     (script_node c.visit_mut_script.new.program) c.resolver-resolver.ensures (ap script_node c.replace-script.ensures.value) c.types_are_told.ensures c.requires.no_types c.in_ok-visit_mut_script.ensures.done.made in
     rw c.finish_script_with.ensures.marks
-    (refused_later c.args.unresolved c.args.top c.args.config c.args.globals.now (script_node c.args.program.now) c.visit_mut_script.new.globals (script_node c.visit_mut_script.new.program) m c.requires.no_types c.from_residual-in_err-finish_script_with.result (search rules))
+    (refused_later (λ t. hygiene_renaming) c.args.unresolved c.args.top c.args.config c.args.globals.now (script_node c.args.program.now) c.visit_mut_script.new.globals (script_node c.visit_mut_script.new.program) m c.requires.no_types c.from_residual-in_err-finish_script_with.result (search rules))
 
 pub returns-clause-done : goal.returns-clause-done
 returns-clause-done g c =
     let m = marked c.args.unresolved c.args.top c.resolver-resolver.result c.visit_mut_script.new.self c.args.globals.now c.visit_mut_script.new.globals (script_node c.replace-script.result) (script_node c.args.program.now)
     (script_node c.visit_mut_script.new.program) c.resolver-resolver.ensures (ap script_node c.replace-script.ensures.value) c.types_are_told.ensures c.requires.no_types c.in_ok-visit_mut_script.ensures.done.made in
     rw c.finish_script_with.ensures.marks
-    (chained c.args.unresolved c.args.top c.args.config c.args.globals.now (script_node c.args.program.now) c.visit_mut_script.new.globals (script_node c.visit_mut_script.new.program) m c.requires.no_types (script_node c.finish_script_with.new.program) c.in_ok-finish_script_with.ensures.done)
+    (chained (λ t. hygiene_renaming) c.args.unresolved c.args.top c.args.config c.args.globals.now (script_node c.args.program.now) c.visit_mut_script.new.globals (script_node c.visit_mut_script.new.program) m c.requires.no_types (script_node c.finish_script_with.new.program) c.in_ok-finish_script_with.ensures.done)
 
 pub returns-clause-moved : goal.returns-clause-moved
 returns-clause-moved g c =
     let m = marked c.args.unresolved c.args.top c.resolver-resolver.result c.visit_mut_script.new.self c.args.globals.now c.visit_mut_script.new.globals (script_node c.replace-script.result) (script_node c.args.program.now)
     (script_node c.visit_mut_script.new.program) c.resolver-resolver.ensures (ap script_node c.replace-script.ensures.value) c.types_are_told.ensures c.requires.no_types c.in_ok-visit_mut_script.ensures.done.made in
     rw c.finish_script_with.ensures.marks
-    (moved_once c.args.unresolved c.args.top c.args.config c.args.globals.now (script_node c.args.program.now) c.visit_mut_script.new.globals (script_node c.visit_mut_script.new.program) m
+    (moved_once (λ t. hygiene_renaming) c.args.unresolved c.args.top c.args.config c.args.globals.now (script_node c.args.program.now) c.visit_mut_script.new.globals (script_node c.visit_mut_script.new.program) m
     _ (script_node c.finish_script_with.new.program) c.args.comments.now c.finish_script_with.new.comments c.in_ok-finish_script_with.ensures.moved)
 
 pub returns-in_err-finish_script_with-clause-partly : goal.returns-in_err-finish_script_with-clause-partly
@@ -34,17 +35,17 @@ returns-in_err-finish_script_with-clause-partly g c =
     (script_node c.visit_mut_script.new.program) c.resolver-resolver.ensures (ap script_node c.replace-script.ensures.value) c.types_are_told.ensures c.requires.no_types c.in_ok-visit_mut_script.ensures.done.made in
     rw c.finish_script_with.ensures.marks
     (where_refused c.from_residual-in_err-finish_script_with.result
-    (moved_partly c.args.unresolved c.args.top c.args.config c.args.globals.now (script_node c.args.program.now) c.visit_mut_script.new.globals (script_node c.visit_mut_script.new.program) m
+    (moved_partly (λ t. hygiene_renaming) c.args.unresolved c.args.top c.args.config c.args.globals.now (script_node c.args.program.now) c.visit_mut_script.new.globals (script_node c.visit_mut_script.new.program) m
     _ c.args.comments.now c.finish_script_with.new.comments c.in_err-finish_script_with.ensures.partly))
 
 pub returns-in_err-visit_mut_script-clause-cause : goal.returns-in_err-visit_mut_script-clause-cause
 returns-in_err-visit_mut_script-clause-cause g c =
-    refused_first c.args.unresolved c.args.top c.args.config c.resolver-resolver.result c.visit_mut_script.new.self c.args.globals.now c.visit_mut_script.new.globals (script_node c.replace-script.result) (script_node c.args.program.now)
+    refused_first (λ t. hygiene_renaming) c.args.unresolved c.args.top c.args.config c.resolver-resolver.result c.visit_mut_script.new.self c.args.globals.now c.visit_mut_script.new.globals (script_node c.replace-script.result) (script_node c.args.program.now)
     c.resolver-resolver.ensures (ap script_node c.replace-script.ensures.value) c.requires.no_types c.from_residual.result (search rules)
 
 pub returns-in_err-visit_mut_script-clause-marks : goal.returns-in_err-visit_mut_script-clause-marks
 returns-in_err-visit_mut_script-clause-marks g c =
-    fresh_first c.args.unresolved c.args.top c.args.config c.resolver-resolver.result c.visit_mut_script.new.self c.args.globals.now c.visit_mut_script.new.globals (script_node c.replace-script.result) (script_node c.args.program.now)
+    fresh_first (λ t. hygiene_renaming) c.args.unresolved c.args.top c.args.config c.resolver-resolver.result c.visit_mut_script.new.self c.args.globals.now c.visit_mut_script.new.globals (script_node c.replace-script.result) (script_node c.args.program.now)
     c.resolver-resolver.ensures (ap script_node c.replace-script.ensures.value) _ c.in_err-visit_mut_script.ensures.cause
 
 pub returns-clause-form : goal.returns-clause-form
@@ -85,5 +86,5 @@ returns-in_err-finish_script_with-clause-no_target g c =
 
 pub returns-in_err-visit_mut_script-clause-no_target : goal.returns-in_err-visit_mut_script-clause-no_target
 returns-in_err-visit_mut_script-clause-no_target g c =
-    λ source ok. no_target_first c.args.unresolved c.args.top c.args.config c.resolver-resolver.result c.visit_mut_script.new.self c.args.globals.now c.visit_mut_script.new.globals (script_node c.replace-script.result) (script_node c.args.program.now)
+    λ source ok. no_target_first (λ t. hygiene_renaming) c.args.unresolved c.args.top c.args.config c.resolver-resolver.result c.visit_mut_script.new.self c.args.globals.now c.visit_mut_script.new.globals (script_node c.replace-script.result) (script_node c.args.program.now)
     c.resolver-resolver.ensures (ap script_node c.replace-script.ensures.value) c.from_residual.result (search rules)
