@@ -1,0 +1,2 @@
+pub mod ShortTexts
+pub mod ShortLaws
