@@ -59,8 +59,10 @@ class Names:
         return {p: found[variable] for p, variable in self.variables.items() if variable != FREE}
 
     def has_caught(self):
-        """a `var` stands in a catch clause whose parameter has its name"""
-        return not scoping.NoCaughtVariable(self.program)
+        """a `var`, or a plain function in a block of sloppy code, stands in a catch clause whose parameter has its name, and no function between"""
+        is_parameter = self.program.defined('is_catch_parameter')
+        return any(not scoping.PassesNone(self.program, is_parameter, name, scoping.rounds(self.program, p))
+                   for standing in ('Variable', 'SloppyFunction') for p, _, name in scoping.Stands(self.program, standing))
 
     def of_program(self):
         """the names that the program's own scope declares, where they are bound and where they are referred to"""

@@ -8,7 +8,6 @@ use Rattle.swc_tree_marks.specs.Globals.{Table, greatest}
 use Rattle.swc_tree_node.specs.declared.node.Node.{Node}
 use Rattle.swc_tree_scoping.specs.Places.{program_place}
 use Rattle.swc_tree_scoping.specs.Resolved.{Resolved}
-use Rattle.swc_tree_scoping.specs.WellScoped.{NoCaughtVariable}
 use Rattle.swc_tree_scoping.specs.Scopes.{scope_count}
 use Rattle.swc_tree_spaces.specs.Spaces.{has_types}
 use Rattle.swc_tree_spaces_laws.specs.Laws.{TypesAreTold}
@@ -19,10 +18,12 @@ use Rattle.swc_tree_walk.specs.Sites.{site_of, sites}
 use Rattle.swc_tree_walk.specs.declared.identifiers.Site.{Site}
 use Rattle.swc_base_rename_laws.specs.NewNames.{outline}
 use Rattle.swc_base_resolver_program.specs.Marked.{IsRefusal, MarksOk, OnlyContexts}
+use Rattle.swc_base_scope_checks.specs.Caught.{NoCaughtName}
+use Rattle.swc_base_alpha.specs.declared.verdict.Cause.{Cause}
 use Rattle.swc_base_alpha.specs.declared.verdict.Why.{Why}
 use Rattle.swc_base_alpha.specs.declared.verdict.Why.TheVariants as why
 use Rattle.swc_base_alpha.specs.Judged.{Concludes, IsOrdinary, IsOwnAnswer, IsRefused, own_table}
-use Rattle.swc_base_alpha.specs.Verdict.{Asks, HasTooManyScopes, IsCleanProgram, IsFirstToFail, IsJudgeRefusal, IsRead, IsSame, IsUncaught, words}
+use Rattle.swc_base_alpha.specs.Verdict.{Asks, HasTooManyScopes, IsCleanProgram, IsJudgeRefusal, IsRead, IsUncaught, TellsWhy, word_in, words}
 use Rattle.swc_base_alpha.proofs.Aligned.{sites_are_aligned}
 use Rattle.swc_base_alpha.proofs.Remarked.{outline_remarked}
 use Rattle.swc_base_alpha.proofs.Words.{not_same, turned}
@@ -49,15 +50,15 @@ own_outline n (Ok u) h = ap outline h.only_contexts ∙ outline_remarked h.conte
 pub one_length : (u v : Node) (ones others : List Site) → outline u ≡ outline v → map site_of ones ≡ sites program_place u → map site_of others ≡ sites program_place v → length ones ≡ length others
 one_length u v ones others shape first second = sym (length-map ones site_of) ∙ ap length first ∙ (sites_are_aligned u v shape).0 ∙ sym (ap length second) ∙ length-map others site_of
 
--- ---- caught variables
+-- ---- caught names
 
 not_true : {A : Type 0} → IsTrue (not true) → A
 not_true h = absurd (cc)
 
-pub first_caught : (t u : Node) (b : Bool) → b ≡ true → IsTrue (not b) ↔ NoCaughtVariable t → (true ≡ false) ↔ IsUncaught t u
+pub first_caught : (t u : Node) (b : Bool) → b ≡ true → IsTrue (not b) ↔ NoCaughtName t → (true ≡ false) ↔ IsUncaught t u
 first_caught t u b e told = ((λ h. absurd (cc)), λ (first, second). not_true (subst (λ b. IsTrue (not b)) e (told.1 first)))
 
-pub second_caught : {E : Type 0} (t u : Node) (b : Bool) (r : Result Bool E) → b ≡ false → IsTrue (not b) ↔ NoCaughtVariable t → IfOk r (λ b. IsTrue (not b) ↔ NoCaughtVariable u) → IfOk r (λ b. (b ≡ false) ↔ IsUncaught t u)
+pub second_caught : {E : Type 0} (t u : Node) (b : Bool) (r : Result Bool E) → b ≡ false → IsTrue (not b) ↔ NoCaughtName t → IfOk r (λ b. IsTrue (not b) ↔ NoCaughtName u) → IfOk r (λ b. (b ≡ false) ↔ IsUncaught t u)
 second_caught t u b (Err e) f told then = tt
 second_caught t u b (Ok true) f told then = ((λ h. absurd (cc)), λ (first, second). not_true (then.1 second))
 second_caught t u b (Ok false) f told then = ((λ h. (told.0 (subst (λ b. IsTrue (not b)) (sym f) refl), then.0 refl)), λ h. refl)
@@ -126,25 +127,30 @@ module _ (keep_top : Bool) (one other : Type 0) (same : one ↔ other) (t s : No
 
 -- what is concluded of the normal forms, in terms of the programs
 pub first_concluded : NormalFormIsClean → NormalFormAddsNoTypes → NormalFormIsProgram → TypesAreTold → (keep_top reads : Bool) (before after first second : Node) → first ≡ normal_form before → second ≡ normal_form after
-    → (has_types before || has_types after) ≡ false → IsCleanProgram before → IsCleanProgram after → IsTrue reads ↔ IsRead before after → (r : Result (Option Why) PassError) → (IsOrdinary first → IsOrdinary second → IfOk r (Concludes keep_top (IsTrue reads) first second))
-    → IfOk r (Concludes keep_top (IsRead before after) (normal_form before) (normal_form after))
+    → (has_types before || has_types after) ≡ false → IsCleanProgram before → IsCleanProgram after → IsTrue reads ↔ IsRead before after → (r : Result (Option Cause) PassError) → (IsOrdinary first → IsOrdinary second → IfOk r (λ cause. Concludes keep_top (IsTrue reads) first second (word_in cause)))
+    → IfOk r (λ cause. Concludes keep_top (IsRead before after) (normal_form before) (normal_form after) (word_in cause))
 first_concluded cleans untyped opens told keep_top reads before after first second e f none here there read (Err x) h = tt
-first_concluded cleans untyped opens told keep_top reads before after first second e f none here there read (Ok o) h =
+first_concluded cleans untyped opens told keep_top reads before after first second e f none here there read (Ok cause) h =
+    let o = word_in cause in
     let (one, other) = none_of_both (has_types before) (has_types after) none in
     subst (λ u. Concludes keep_top (IsRead before after) (normal_form before) u o) f
     (subst (λ t. Concludes keep_top (IsRead before after) t second o) e
     (read_alike keep_top (IsTrue reads) (IsRead before after) read first second o (h (ordinary cleans untyped opens told before first e here one) (ordinary cleans untyped opens told after second f there other))))
 
-pub first_spent : (before after first second : Node) → first ≡ normal_form before → second ≡ normal_form after → (r : Result (Option Why) PassError) → IfErr r (IsRefused first second) → IfErr r (IsRefused (normal_form before) (normal_form after))
+pub first_spent : (before after first second : Node) → first ≡ normal_form before → second ≡ normal_form after → (r : Result (Option Cause) PassError) → IfErr r (IsRefused first second) → IfErr r (IsRefused (normal_form before) (normal_form after))
 first_spent before after first second e f (Ok o) h = tt
 first_spent before after first second e f (Err x) h = subst (λ u. IsRefused (normal_form before) u x) f (subst (λ t. IsRefused t second x) e h)
 
--- the verdict that is given
-pub same_told : (keep_top : Bool) (before after : Node) (o : Option Why) → o ≡ None → Concludes keep_top (IsRead before after) (normal_form before) (normal_form after) o → IsSame keep_top before after
-same_told keep_top before after o is h = subst (Concludes keep_top (IsRead before after) (normal_form before) (normal_form after)) is h
+-- what is found of two programs
+abbrev pub Finds : Bool → Node → Node → Option Why → Type 0
+Finds keep_top t s o = (has_types t || has_types s) ≡ false → IsCleanProgram t → IsCleanProgram s → Concludes keep_top (IsRead t s) (normal_form t) (normal_form s) o
 
-pub differs_told : (keep_top : Bool) (before after : Node) (o : Option Why) (w v : Why) → o ≡ Some w → v ≡ w → Concludes keep_top (IsRead before after) (normal_form before) (normal_form after) o
-    → ¬ IsSame keep_top before after × IsFirstToFail (Asks keep_top (IsRead before after) (normal_form before) (normal_form after)) words v
-differs_told keep_top before after o w v is same h =
-    let first : IsFirstToFail (Asks keep_top (IsRead before after) (normal_form before) (normal_form after)) words w = subst (Concludes keep_top (IsRead before after) (normal_form before) (normal_form after)) is h in
-    (not_same keep_top (IsRead before after) (normal_form before) (normal_form after) w first, subst (IsFirstToFail (Asks keep_top (IsRead before after) (normal_form before) (normal_form after)) words) (sym same) first)
+pub word_told : (keep_top : Bool) (before after : Node) (o : Option Why) → Concludes keep_top (IsRead before after) (normal_form before) (normal_form after) o → TellsWhy keep_top before after o
+word_told keep_top before after None h = h
+word_told keep_top before after (Some w) h = (not_same keep_top (IsRead before after) (normal_form before) (normal_form after) w h, h)
+
+-- and so of those of which they are copies
+pub copies_told : (keep_top : Bool) (before after first second : Node) (o : Option Why) → first ≡ before → second ≡ after → (has_types before || has_types after) ≡ false → Finds keep_top first second o → IsCleanProgram before → IsCleanProgram after → TellsWhy keep_top before after o
+copies_told keep_top before after first second o e f none h here there =
+    let found : Finds keep_top before after o = subst (λ s. Finds keep_top before s o) f (subst (λ t. Finds keep_top t second o) e h) in
+    word_told keep_top before after o (found none here there)

@@ -100,20 +100,20 @@ module _ (t s u v : Node) (rules : Rules) (here : IsOrdinary t) (there : IsOrdin
   forth : (w : Why) → ListAsks rules xs ys w → A w
   forth why.Shape h = shape
   forth why.Name h = (others_told t s u v g z shape).1 h
-  forth why.Free h = λ (a, b). (free_told t s u v g z shape a b).1 (h (known.1 (a, b)))
-  forth why.Split h = λ (a, b). (split_told t s u v g z shape a b).1 (h (known.1 (a, b)))
-  forth why.Joined h = λ (a, b). (split_told s t v u z g (sym shape) b a).1 (h (known.1 (a, b)))
-  forth why.Top h = λ (a, b) keep. (top_told t s u v g z shape a b (program_opens t here) (program_opens s there)).1 (h (known.1 (a, b)) keep)
+  forth why.Free h = λ (a, b). (free_told t s u v g z shape a.0 b.0).1 (h (known.1 (a, b)))
+  forth why.Split h = λ (a, b). (split_told t s u v g z shape a.0 b.0).1 (h (known.1 (a, b)))
+  forth why.Joined h = λ (a, b). (split_told s t v u z g (sym shape) b.0 a.0).1 (h (known.1 (a, b)))
+  forth why.Top h = λ (a, b) keep. (top_told t s u v g z shape a.0 b.0 (program_opens t here) (program_opens s there)).1 (h (known.1 (a, b)) keep)
   forth why.Reads h = λ reads. (names_told t s u v g z shape).1 (h reads)
   forth why.Caught h = λ none. (names_told t s u v g z shape).1 (h (is_caught rules.caught t s known none))
 
   back : (w : Why) → A w → ListAsks rules xs ys w
   back why.Shape h = tt
   back why.Name h = (others_told t s u v g z shape).0 h
-  back why.Free h = λ free. let (a, b) = known.0 free in (free_told t s u v g z shape a b).0 (h (a, b))
-  back why.Split h = λ free. let (a, b) = known.0 free in (split_told t s u v g z shape a b).0 (h (a, b))
-  back why.Joined h = λ free. let (a, b) = known.0 free in (split_told s t v u z g (sym shape) b a).0 (h (a, b))
-  back why.Top h = λ free keep. let (a, b) = known.0 free in (top_told t s u v g z shape a b (program_opens t here) (program_opens s there)).0 (h (a, b) keep)
+  back why.Free h = λ free. let (a, b) = known.0 free in (free_told t s u v g z shape a.0 b.0).0 (h (a, b))
+  back why.Split h = λ free. let (a, b) = known.0 free in (split_told t s u v g z shape a.0 b.0).0 (h (a, b))
+  back why.Joined h = λ free. let (a, b) = known.0 free in (split_told s t v u z g (sym shape) b.0 a.0).0 (h (a, b))
+  back why.Top h = λ free keep. let (a, b) = known.0 free in (top_told t s u v g z shape a.0 b.0 (program_opens t here) (program_opens s there)).0 (h (a, b) keep)
   back why.Reads h = λ reads. (names_told t s u v g z shape).0 (h reads)
   back why.Caught h = λ caught. (names_told t s u v g z shape).0 (h (λ none. not_both rules.caught caught (known.1 none)))
 
@@ -123,7 +123,7 @@ module _ (t s u v : Node) (rules : Rules) (here : IsOrdinary t) (there : IsOrdin
       by : (b : Bool) → rules.caught ≡ b → AreSame rules.keep_top (IsTrue rules.reads) t s
       by false e =
           let (a, b) = known.0 e in
-          record { alpha = variants t s shape a b others (free (a, b)) (split (a, b)) (joined (a, b)); top = λ keep. top (a, b) keep; read = read; caught = caught }
+          record { alpha = variants t s shape a.0 b.0 others (free (a, b)) (split (a, b)) (joined (a, b)); top = λ keep. top (a, b) keep; read = read; caught = caught }
       by true e =
           let none : ¬ IsUncaught t s = λ un. not_both rules.caught e (known.1 un) in
           let names = caught none in

@@ -1,5 +1,5 @@
 -- What a verdict on two programs says: that they are one but for names, or the first condition of that that fails.
-use Rattle.std.specs.Prelude.{◌≡◌, ◌+◌, ◌-◌, ◌<◌, Bool, true, false, ◌||◌, ◌⊎◌, IsTrue, Some, List, [], ◌∷◌, is_some}
+use Rattle.std.specs.Prelude.{◌≡◌, ◌+◌, ◌-◌, ◌<◌, Bool, true, false, ◌||◌, ◌⊎◌, IsTrue, Option, Some, None, List, [], ◌∷◌, is_some, option_map}
 use Rattle.swc_tree_marks.specs.declared.ident.Ident.{Ident}
 use Rattle.swc_tree_marks.specs.declared.error.PassError.{PassError}
 use Rattle.swc_tree_marks.specs.declared.error.PassError.TheVariants as error
@@ -8,14 +8,16 @@ use Rattle.swc_tree_node.specs.declared.slot.Slot.{Slot}
 use Rattle.swc_tree_node.specs.Fits.{Fits}
 use Rattle.swc_tree_scoping.specs.Places.{Path, program_place}
 use Rattle.swc_tree_scoping.specs.Scopes.{scope_count}
-use Rattle.swc_tree_scoping.specs.WellScoped.{IsClean, NoCaughtVariable}
+use Rattle.swc_tree_scoping.specs.WellScoped.{IsClean}
 use Rattle.swc_tree_spaces.specs.Spaces.{has_types}
 use Rattle.swc_tree_renaming.specs.Apart.{NameAt, is_goal}
 use Rattle.swc_tree_walk.specs.Nodes.{node_at}
 use Rattle.swc_tree_grammar.specs.Normal.{normal_form}
 use Rattle.swc_base_rename_laws.specs.NewNames.{outline}
 use Rattle.swc_base_rename_units.specs.Eval.{HasEval}
+use Rattle.swc_base_scope_checks.specs.Caught.{NoCaughtName}
 use Rattle.swc_base_alpha_laws.specs.Alpha.{AlphaVariants, FreeNamesStay, NamesStay, OtherTextsStay, StandForOne, StandsFor}
+use Rattle.swc_base_alpha.specs.declared.verdict.Cause.{Cause}
 use Rattle.swc_base_alpha.specs.declared.verdict.Verdict.{Verdict}
 use Rattle.swc_base_alpha.specs.declared.verdict.Verdict.TheVariants as verdict
 use Rattle.swc_base_alpha.specs.declared.verdict.Why.{Why}
@@ -40,12 +42,12 @@ NoneIsSplit t u = (p q : Path) (i j a b : Ident) (m : NameAt t p i) (n : NameAt 
 abbrev pub IsRead : Node → Node → Type 0
 IsRead before after = HasEval before ⊎ HasEval after
 
--- in neither a `var` declares a catch parameter's name again
+-- in neither a `var`, or a plain function in a block of sloppy code, meets a catch parameter of its name on its way out
 abbrev pub IsUncaught : Node → Node → Type 0
-IsUncaught t u = NoCaughtVariable t × NoCaughtVariable u
+IsUncaught t u = NoCaughtName t × NoCaughtName u
 
 -- Two normal forms are one but for names; if that is wanted, names of the program's own scope keep their texts; and where names may be
--- read as the program runs, or a `var` meets a catch parameter of its name, all do.
+-- read as the program runs, or a `var` or a function meets a catch parameter of its name, all do.
 pub record AreSame (keep_top : Bool) (reading : Type 0) (t u : Node) : Type 0 where
   pub alpha : AlphaVariants t u
   pub top : IsTrue keep_top → TopNamesStay t u
@@ -55,7 +57,7 @@ pub record AreSame (keep_top : Bool) (reading : Type 0) (t u : Node) : Type 0 wh
 abbrev pub IsSame : Bool → Node → Node → Type 0
 IsSame keep_top before after = AreSame keep_top (IsRead before after) (normal_form before) (normal_form after)
 
--- the condition that a word names, of two normal forms; what names stand for is asked where no variable is caught
+-- the condition that a word names, of two normal forms; what names stand for is asked where no name is caught
 abbrev pub Asks : Bool → Type 0 → Node → Node → Why → Type 0
 Asks keep_top reading t u why.Shape = outline t ≡ outline u
 Asks keep_top reading t u why.Name = OtherTextsStay t u
@@ -75,10 +77,18 @@ abbrev pub IsFirstToFail : (Why → Type 0) → List Why → Why → Type 0
 IsFirstToFail asks [] w = ⊥
 IsFirstToFail asks (v ∷ vs) w = (¬ asks v × (w ≡ v)) ⊎ (asks v × IsFirstToFail asks vs w)
 
--- they are the same; or they are not, and the word says why
+-- the word of a cause
+abbrev pub word_in : Option Cause → Option Why
+word_in = option_map (λ c. c.why)
+
+-- there is no word exactly of programs that are the same; else it says why they are not
+abbrev pub TellsWhy : Bool → Node → Node → Option Why → Type 0
+TellsWhy keep_top before after None = IsSame keep_top before after
+TellsWhy keep_top before after (Some w) = ¬ IsSame keep_top before after × IsFirstToFail (Asks keep_top (IsRead before after) (normal_form before) (normal_form after)) words w
+
 abbrev pub Tells : Bool → Node → Node → Verdict → Type 0
-Tells keep_top before after verdict.Same = IsSame keep_top before after
-Tells keep_top before after (verdict.Differs d) = ¬ IsSame keep_top before after × IsFirstToFail (Asks keep_top (IsRead before after) (normal_form before) (normal_form after)) words d.why
+Tells keep_top before after verdict.Same = TellsWhy keep_top before after None
+Tells keep_top before after (verdict.Differs d) = TellsWhy keep_top before after (Some d.why)
 
 abbrev pub IsThere : Node → Path → Type 0
 IsThere t p = IsTrue (is_some (node_at t p))

@@ -19,7 +19,7 @@ pub struct Rules {
     pub keep_top: bool,
     /// Whether a direct `eval` or a `with` stands in one of both.
     pub reads: bool,
-    /// Whether a `var` declares a catch parameter's name again in one of both.
+    /// Whether a `var` or a function meets a catch parameter of its name in one of both.
     pub caught: bool,
 }
 

@@ -7,68 +7,70 @@ ghost use Rattle.swc_tree_spaces.specs.Spaces.{has_types as stand_in};
 ghost use Rattle.swc_tree_grammar.specs.Normal.{normal_form as form};
 ghost use Rattle.swc_base_rename_laws.specs.NewNames.{outline};
 ghost use Rattle.swc_base_alpha.specs.Judged.{Concludes, IsOrdinary, IsRefused};
-ghost use Rattle.swc_base_alpha.specs.Verdict.{HasPaths, IsCleanProgram, IsJudgeRefusal, IsRead, IsUncaught, Tells};
+ghost use Rattle.swc_base_alpha.specs.Verdict.{HasPaths, IsCleanProgram, IsJudgeRefusal, IsRead, IsUncaught, Tells, TellsWhy, word_in};
 
+use crate::cause::{cause_among, cause_of_shape};
 use crate::differs::{Rules, sites_differ};
 use crate::outline::same_outline;
 use crate::own::resolved;
 use crate::shown::difference;
-use crate::verdict::{Verdict, Why};
+use crate::verdict::{Cause, Verdict};
 use std::alloc::{AllocError, Global};
 use swc_base_normal_form::normal_form;
 use swc_base_normal_form_laws::{
     normal_form_adds_no_types, normal_form_is_clean, normal_form_is_program,
 };
 use swc_base_rename_units::has_eval;
-use swc_base_scope_checks::catches_variable;
+use swc_base_scope_checks::catches_name;
 use swc_tree_has_types::has_types;
 use swc_tree_marks::PassError;
 use swc_tree_node::Node;
 use swc_tree_spaces_laws::types_are_told;
 use swc_tree_walk::sites;
 
-// Whether a `var` meets a catch parameter of its name in one of two programs.
+// Whether a `var` or a function meets a catch parameter of its name in one of two programs.
 fn are_caught(alloc: Global, first: &Node, second: &Node) -> Result<bool, AllocError>
     ensures { opened program_place first.now ≡ Some scope.Program → opened program_place second.now ≡ Some scope.Program → IfOk result (λ caught. (caught ≡ false) ↔ IsUncaught first.now second.now) }
 {
-    if catches_variable(alloc, first)? {
+    if catches_name(alloc, first)? {
         return Ok(true);
     }
-    catches_variable(alloc, second)
+    catches_name(alloc, second)
 }
 
-// The first word that two normal forms of one outline call for, if any.
+// Why two normal forms of one outline are not the same, if they are not.
 fn names_differ(
     alloc: Global,
     rules: Rules,
     first: Node,
     second: Node,
-) -> Result<Option<Why>, PassError>
+) -> Result<Option<Cause>, PassError>
     requires { outline first ≡ outline second }
-    ensures decides { IsOrdinary first → IsOrdinary second → (rules.caught ≡ false) ↔ IsUncaught first second → IfOk result (Concludes rules.keep_top (IsTrue rules.reads) first second) }
+    ensures decides { IsOrdinary first → IsOrdinary second → (rules.caught ≡ false) ↔ IsUncaught first second → IfOk result (λ cause. Concludes rules.keep_top (IsTrue rules.reads) first second (word_in cause)) }
     ensures refusal { IfErr result (IsRefused first second) }
 {
     let first = resolved(alloc, first)?;
     let second = resolved(alloc, second)?;
     let ones = sites(alloc, &first)?;
     let others = sites(alloc, &second)?;
-    let why = sites_differ(alloc, rules, ones.as_slice(), others.as_slice())?;
-    Ok(why)
+    let found = sites_differ(alloc, rules, ones.as_slice(), others.as_slice())?;
+    let cause = cause_among(alloc, found, ones.as_slice(), others.as_slice())?;
+    Ok(cause)
 }
 
-// The first word that two normal forms call for, if any.
+// Why two normal forms are not the same, if they are not.
 fn forms_differ(
     alloc: Global,
     keep_top: bool,
     reads: bool,
     first: Node,
     second: Node,
-) -> Result<Option<Why>, PassError>
-    ensures decides { IsOrdinary first → IsOrdinary second → IfOk result (Concludes keep_top (IsTrue reads) first second) }
+) -> Result<Option<Cause>, PassError>
+    ensures decides { IsOrdinary first → IsOrdinary second → IfOk result (λ cause. Concludes keep_top (IsTrue reads) first second (word_in cause)) }
     ensures refusal { IfErr result (IsRefused first second) }
 {
     if !same_outline(&first, &second) {
-        return Ok(Some(Why::Shape));
+        return Ok(Some(cause_of_shape(&first, &second)));
     }
     let caught = are_caught(alloc, &first, &second)?;
     let rules = Rules {
@@ -91,36 +93,61 @@ fn are_read(before: &Node, after: &Node) -> bool
     has_eval(before) || has_eval(after)
 }
 
-// The first word that two programs without types call for, if any.
-fn first_word(
+// Why two programs without types are not the same, if they are not.
+fn first_cause(
     alloc: Global,
     keep_top: bool,
-    before: &Node,
-    after: &Node,
-) -> Result<Option<Why>, PassError>
-    ensures decides { (stand_in before.now || stand_in after.now) ≡ false → IsCleanProgram before.now → IsCleanProgram after.now → IfOk result (Concludes keep_top (IsRead before.now after.now) (form before.now) (form after.now)) }
-    ensures refusal { IfErr result (IsRefused (form before.now) (form after.now)) }
+    before: Node,
+    after: Node,
+) -> Result<Option<Cause>, PassError>
+    ensures decides { (stand_in before || stand_in after) ≡ false → IsCleanProgram before → IsCleanProgram after → IfOk result (λ cause. Concludes keep_top (IsRead before after) (form before) (form after) (word_in cause)) }
+    ensures refusal { IfErr result (IsRefused (form before) (form after)) }
 {
     normal_form_is_clean();
     normal_form_adds_no_types();
     normal_form_is_program();
     types_are_told();
-    let reads = are_read(before, after);
-    let first = before.clone()?;
-    let first = normal_form(alloc, first)?;
-    let second = after.clone()?;
-    let second = normal_form(alloc, second)?;
+    let reads = are_read(&before, &after);
+    let first = normal_form(alloc, before)?;
+    let second = normal_form(alloc, after)?;
     forms_differ(alloc, keep_top, reads, first, second)
 }
 
-/// Whether two programs are the same but for the choice of the names that they bind, and if not, why.
+/// Why two programs are not the same but for the choice of the names that they bind, if they are not: the word of `judge`, and the
+/// spans of what shows it.
+///
+/// Both are given up, so that neither is copied; `difference` tells where it shows to whoever has them still or again. It costs time
+/// in step with the size of the programs but for the logarithm of how many ids they have.
+///
+/// # Errors
+///
+/// Those of `judge`.
+pub fn why_different(
+    alloc: Global,
+    keep_top: bool,
+    before: Node,
+    after: Node,
+) -> Result<Option<Cause>, PassError>
+    ensures why { IsCleanProgram before → IsCleanProgram after → IfOk result (λ cause. TellsWhy keep_top before after (word_in cause)) }
+    ensures types { (stand_in before || stand_in after) ≡ true → IsErrOf result error.TypesLeft }
+    ensures refusal { IfErr result (IsJudgeRefusal before after) }
+{
+    if have_types(&before, &after) {
+        return Err(PassError::TypesLeft);
+    }
+    let cause = first_cause(alloc, keep_top, before, after)?;
+    Ok(cause)
+}
+
+/// Whether two programs are the same but for the choice of the names that they bind, and if not, why and where.
 ///
 /// With `keep_top` names of the program's own scope keep their texts besides, as other scripts of a page see them. Where a direct
-/// `eval` or a `with` may read names in one of both, or a `var` meets a catch parameter of its name, no name may have another text.
-/// Of several causes the first is told, in the order of `Why`; what names stand for is no cause where a variable is caught.
+/// `eval` or a `with` may read names in one of both, or a `var`, or a plain function in a block of sloppy code, meets a catch parameter of
+/// its name, no name may have another text. Of several causes the first is told, in the order of `Why`; what names stand for is no cause
+/// where a name is caught.
 ///
 /// Both are copied, and their normal forms resolved with marks of the judge's own. It costs time in step with the size of the programs
-/// but for the logarithm of how many ids they have.
+/// but for the logarithm of how many ids they have. `why_different` copies nothing where the programs are not needed any more.
 ///
 /// # Errors
 ///
@@ -140,9 +167,11 @@ pub fn judge(
     if have_types(before, after) {
         return Err(PassError::TypesLeft);
     }
-    let found = first_word(alloc, keep_top, before, after)?;
+    let first = before.clone()?;
+    let second = after.clone()?;
+    let found = first_cause(alloc, keep_top, first, second)?;
     match found {
         None => Ok(Verdict::Same),
-        Some(why) => Ok(Verdict::Differs(difference(alloc, why, before, after)?)),
+        Some(cause) => Ok(Verdict::Differs(difference(alloc, cause, before, after)?)),
     }
 }

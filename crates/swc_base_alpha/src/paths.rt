@@ -56,20 +56,6 @@ fn number_nodes(nodes: &Items<Node>, last: &mut u32) -> Result<Items<Node>, Allo
     Ok(copies)
 }
 
-/// The number of a node: that in its own span, or `near` where it has none.
-pub fn number_of(node: &Node, near: u32) -> u32 {
-    let own = match node {
-        Node::Span(span) => span.lo,
-        Node::Identifier(_, ident) => ident.get().span.lo,
-        Node::Tree(_, fields) => match fields.get(0) {
-            Some(Node::Span(span)) => span.lo,
-            _ => NONE,
-        },
-        _ => NONE,
-    };
-    if own == NONE { near } else { own }
-}
-
 // Goes on to the node of a number, counting down what is left of it. Whether it was found; the path leads there then: to the node of
 // which a span is.
 #[cycle(find)]
@@ -98,8 +84,8 @@ fn find_below(nodes: &[Node], left: &mut u32, path: &mut Vec<usize>) -> Result<b
     Ok(false)
 }
 
-// Whether something stands at a path.
-fn stands_at(tree: &Node, path: &[usize]) -> bool
+/// Whether something stands at a path.
+pub fn stands_at(tree: &Node, path: &[usize]) -> bool
     ensures { IsTrue result → IsThere tree.now path.now }
 {
     let mut node = tree;

@@ -1,50 +1,43 @@
 //! Where two trees have other outlines.
-use crate::paths::number_of;
+use crate::spans::{Spans, Unplaced, span_of};
 use swc_tree_node::Node;
 
-/// Numbers of nodes of two trees.
-#[derive(Clone, Copy)]
-pub struct Numbers {
-    pub before: u32,
-    pub after: u32,
-}
-
-/// The numbers of the first nodes at which two trees have other outlines, if they do; of nodes without a number those of the nodes round
+/// The spans of the first nodes at which two trees have other outlines, if they do; of nodes without a span those of the nodes round
 /// them, which are given for the trees themselves.
 #[cycle(shape_apart)]
-pub fn shape_apart(one: &Node, other: &Node, round: Numbers) -> Option<Numbers> {
-    let near = Numbers {
-        before: number_of(one, round.before),
-        after: number_of(other, round.after),
+pub fn shape_apart(one: &Node, other: &Node, round: Spans, unplaced: Unplaced) -> Option<Spans> {
+    let near = Spans {
+        before: span_of(one, round.before, unplaced),
+        after: span_of(other, round.after, unplaced),
     };
     if !are_alike(one, other) {
         return Some(near);
     }
-    shapes_apart(one.children(), other.children(), near)
+    shapes_apart(one.children(), other.children(), near, unplaced)
 }
 
 #[cycle(shape_apart)]
-fn shapes_apart(ones: &[Node], others: &[Node], near: Numbers) -> Option<Numbers> {
+fn shapes_apart(ones: &[Node], others: &[Node], near: Spans, unplaced: Unplaced) -> Option<Spans> {
     for i in 0..ones.len() {
         match others.get(i) {
             Some(other) => {
-                let found = shape_apart(&ones[i], other, near);
+                let found = shape_apart(&ones[i], other, near, unplaced);
                 if found.is_some() {
                     return found;
                 }
             }
             None => {
-                return Some(Numbers {
-                    before: number_of(&ones[i], near.before),
+                return Some(Spans {
+                    before: span_of(&ones[i], near.before, unplaced),
                     after: near.after,
                 });
             }
         }
     }
     match others.get(ones.len()) {
-        Some(other) => Some(Numbers {
+        Some(other) => Some(Spans {
             before: near.before,
-            after: number_of(other, near.after),
+            after: span_of(other, near.after, unplaced),
         }),
         None => None,
     }

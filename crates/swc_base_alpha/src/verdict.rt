@@ -1,4 +1,5 @@
 //! What is said of two programs.
+use swc_tree_marks::Span;
 
 /// Why two programs are not the same but for names. Of several causes the first in this order is told.
 #[derive(Clone, Copy, Debug, PartialEq, Eq)]
@@ -17,8 +18,19 @@ pub enum Why {
     Top,
     /// A direct `eval` or a `with` may read names as the program runs, and a name has another text.
     Reads,
-    /// A `var` declares a catch parameter's name again (ECMA-262, B.3.4), and a name has another text.
+    /// A `var`, or a plain function in a block of sloppy code, meets a catch parameter of its name (ECMA-262, B.3.2, B.3.4), and a name has
+    /// another text.
     Caught,
+}
+
+/// Why two programs are not the same, before it is known where that shows in them.
+#[derive(Clone, Copy, Debug, PartialEq, Eq)]
+pub struct Cause {
+    pub why: Why,
+    /// The span of the node of the first normal form at which it shows: that of no source text where the node has none.
+    pub before: Span,
+    /// The same of the second.
+    pub after: Span,
 }
 
 /// A difference between two programs.

@@ -12,7 +12,7 @@ use Rattle.swc_tree_scoping.specs.declared.places.Scope.TheVariants as scope
 use Rattle.swc_tree_scoping.specs.Places.{Path, opened, program_place}
 use Rattle.swc_tree_scoping.specs.Scopes.{Round, is_taken, rounds, scope_at}
 use Rattle.swc_tree_scoping.specs.Declares.{PassesNone}
-use Rattle.swc_tree_scoping.specs.WellScoped.{NoVariablePasses, Stands}
+use Rattle.swc_tree_scoping.specs.WellScoped.{NoVariablePasses, Stands, is_catch_parameter}
 use Rattle.swc_tree_scoping.proofs.First.{Each, Opens, round_opens}
 use Rattle.swc_tree_scoping.proofs.Remarked.{identifier_is}
 use Rattle.swc_base_resolver_program.specs.declared.names.ScopeNames.{ScopeNames}
@@ -26,7 +26,8 @@ use Rattle.swc_base_resolver_program.proofs.Ways.{and_both, both, is_true, not_t
 use Rattle.swc_base_scope_checks.specs.declared.caught.Kept.{Kept}
 use Rattle.swc_base_scope_checks.specs.Asked.{Passes, PassesHere, Test, in_list}
 use Rattle.swc_base_scope_checks.specs.Barriers.{barred, gets_out}
-use Rattle.swc_base_scope_checks.specs.Kept.{is_kept, is_variable}
+use Rattle.swc_base_scope_checks.specs.Caught.{NoCaughtName, NonePasses, is_asked}
+use Rattle.swc_base_scope_checks.specs.Kept.{is_kept}
 
 -- a test that an identifier passes, which stands at a path
 pub passes_at : (test : Test) (x : Bool) (env : List Open) (w : Place) (k : Kind) (i : Ident) → IsTrue (test w i x env) → PassesHere test x env w (out-Node (Identifier k i))
@@ -45,13 +46,6 @@ found test x env w t h = at (out-Node t) refl h
     at : (y : Node-F Node) → out-Node t ≡ y → PassesHere test x env w y → Found test x env w t
     at (Node-F.Identifier k i) o h = record { kind = k; identifier = i; is = identifier_is t k i o; passes = h }
     at _ o h = absurd h
-
-is_a_variable : (r : Standing) → IsTrue (is_variable r) → r ≡ standing.Variable
-is_a_variable standing.Variable h = refl
-is_a_variable _ h = absurd (cc)
-
-variable_is : (r : Standing) → r ≡ standing.Variable → IsTrue (is_variable r)
-variable_is r e = ap is_variable e
 
 module _ (t : Node) (opens : opened program_place t ≡ Some scope.Program) (tables : List ScopeNames) (binds : Takes tables (Reaches stage.Bind [] 0 program_place t)) where
   -- a name gets out of the scopes exactly if none of them bars it
@@ -77,8 +71,8 @@ module _ (t : Node) (opens : opened program_place t ≡ Some scope.Program) (tab
         (sym (ap (λ n. gets_out (barred kept.barrier) n x (open_round [] 0 program_place t p)) same ∙ ap (gets_out (barred kept.barrier) (ways_in tables) x) (rounds_are p 0 program_place t [])))
         (gets_out_is (barred kept.barrier) x (rounds program_place t p) (round_opens p program_place t))
 
-    keeps : (p : Path) (name : List ℕ) → Stands t p standing.Variable name → ¬ PassesNone (barred kept.barrier) t name (rounds program_place t p) → Passes test false [] 0 program_place t
-    keeps p name s barred_out =
+    keeps : (p : Path) (r : Standing) (name : List ℕ) → IsTrue (is_asked kept.functions r) → Stands t p r name → ¬ PassesNone (barred kept.barrier) t name (rounds program_place t p) → Passes test false [] 0 program_place t
+    keeps p r name asked s barred_out =
         let out : Bool = gets_out (barred kept.barrier) (names_in kept.bound) s.identifier.sym (open_round [] 0 program_place t p) in
         let stays : IsTrue (not out) = true_not out (λ h. barred_out (subst (λ x. PassesNone (barred kept.barrier) t x (rounds program_place t p)) s.named ((out_is p s.identifier.sym).0 h))) in
         record {
@@ -86,20 +80,20 @@ module _ (t : Node) (opens : opened program_place t ≡ Some scope.Program) (tab
           place = s.place;
           node = Identifier s.kind s.identifier;
           stands = s.stands;
-          passes = passes_at test (in_list false t p) (open_round [] 0 program_place t p) s.place s.kind s.identifier (and_both (is_variable s.place.standing) (not out) (variable_is s.place.standing s.stands_so) stays);
+          passes = passes_at test (in_list false t p) (open_round [] 0 program_place t p) s.place s.kind s.identifier (and_both (is_asked kept.functions s.place.standing) (not out) (subst (λ r. IsTrue (is_asked kept.functions r)) (sym s.stands_so) asked) stays);
         }
 
-    lets_out : NoVariablePasses (barred kept.barrier) t → Passes test false [] 0 program_place t → ⊥
+    lets_out : NonePasses (is_asked kept.functions) (barred kept.barrier) t → Passes test false [] 0 program_place t → ⊥
     lets_out none h =
         let f = found test (in_list false t h.path) (open_round [] 0 program_place t h.path) h.place h.node h.passes in
         let out : Bool = gets_out (barred kept.barrier) (names_in kept.bound) f.identifier.sym (open_round [] 0 program_place t h.path) in
-        let p = both (is_variable h.place.standing) (not out) f.passes in
-        not_true out p.1 ((out_is h.path f.identifier.sym).1 (none h.path f.identifier.sym (record {
+        let p = both (is_asked kept.functions h.place.standing) (not out) f.passes in
+        not_true out p.1 ((out_is h.path f.identifier.sym).1 (none h.path h.place.standing f.identifier.sym p.0 (record {
           place = h.place;
           kind = f.kind;
           identifier = f.identifier;
           stands = h.stands ∙ ap (λ u. Some (h.place, u)) f.is;
-          stands_so = is_a_variable h.place.standing p.0;
+          stands_so = refl;
           named = refl;
         })))
 
@@ -108,8 +102,28 @@ module _ (t : Node) (opens : opened program_place t ≡ Some scope.Program) (tab
     decided true p name e g stable = (gets_out_is (barred kept.barrier) name (rounds program_place t p) e).0 g
     decided false p name e g stable = absurd (stable (λ h. let z = (gets_out_is (barred kept.barrier) name (rounds program_place t p) e).1 h in let y : true ≡ false = sym (is_true _ z) ∙ g in absurd (cc)))
 
-    pub none_kept : (result : Bool) → IsTrue result ↔ Passes test false [] 0 program_place t → IsTrue (not result) ↔ NoVariablePasses (barred kept.barrier) t
+    pub none_kept : (result : Bool) → IsTrue result ↔ Passes test false [] 0 program_place t → IsTrue (not result) ↔ NonePasses (is_asked kept.functions) (barred kept.barrier) t
     none_kept result found = (
-      λ h p name s. decided _ p name (round_opens p program_place t) refl (λ out. not_true result h (found.1 (keeps p name s out))),
+      λ h p r name asked s. decided _ p name (round_opens p program_place t) refl (λ out. not_true result h (found.1 (keeps p r name asked s out))),
       λ none. true_not result (λ h. lets_out none (found.0 h)),
     )
+
+-- ---- of variables alone, and of both
+
+asked_of : (functions : Bool) (t : Node) (ways : Standing → Bool) → NoVariablePasses ways t → (IsTrue functions → (p : Path) (name : List ℕ) → Stands t p standing.SloppyFunction name → PassesNone ways t name (rounds program_place t p))
+    → (p : Path) (r : Standing) (name : List ℕ) → IsTrue (is_asked functions r) → Stands t p r name → PassesNone ways t name (rounds program_place t p)
+asked_of functions t ways variables others p standing.Variable name asked s = variables p name s
+asked_of functions t ways variables others p standing.SloppyFunction name asked s = others asked p name s
+asked_of functions t ways variables others p _ name asked s = absurd (cc)
+
+pub variables_alone : (ways : Standing → Bool) (t : Node) (b : Bool) → IsTrue b ↔ NonePasses (is_asked false) ways t → IsTrue b ↔ NoVariablePasses ways t
+variables_alone ways t b is = (
+  λ h p name s. is.0 h p standing.Variable name refl s,
+  λ none. is.1 (asked_of false t ways none (λ h. absurd (cc))),
+)
+
+pub names_of_both : (t : Node) (b : Bool) → IsTrue b ↔ NonePasses (is_asked true) is_catch_parameter t → IsTrue b ↔ NoCaughtName t
+names_of_both t b is = (
+  λ h. (λ p name s. is.0 h p standing.Variable name refl s, λ p name s. is.0 h p standing.SloppyFunction name refl s),
+  λ none. is.1 (asked_of true t is_catch_parameter none.0 (λ h. none.1)),
+)

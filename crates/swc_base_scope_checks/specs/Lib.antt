@@ -1,3 +1,4 @@
 pub mod Asked
 pub mod Barriers
+pub mod Caught
 pub mod Kept

@@ -1,5 +1,6 @@
-use Rattle.std.proofs.Common.{ap, map, sym, ◌∙◌}
+use Rattle.std.proofs.Common.{IsTrue, ap, map, subst, sym, ◌∙◌}
 use Rattle.swc_tree_walk.specs.Sites.{site_of}
+use Rattle.swc_base_alpha.specs.Judged.{Concludes}
 use Rattle.swc_base_alpha.proofs.Judged.{one_length}
 use Rattle.swc_base_alpha.proofs.Words.{concluded}
 use Rattle.swc_base_alpha.proofs.judging.names_differ.Goals as goal
@@ -11,6 +12,7 @@ sites_differ-requires c =
 
 pub returns-clause-decides : goal.returns-clause-decides
 returns-clause-decides c = λ here there known.
-    concluded c.args.first c.args.second c.in_ok-first.first c.in_ok-second.second c.args.rules here there c.requires (c.in_ok-first.ensures.resolved here.no_types here.opens) (c.in_ok-second.ensures.resolved there.no_types there.opens) known
+    subst (Concludes c.args.rules.keep_top (IsTrue c.args.rules.reads) c.args.first c.args.second) (sym c.in_ok-cause.ensures)
+    (concluded c.args.first c.args.second c.in_ok-first.first c.in_ok-second.second c.args.rules here there c.requires (c.in_ok-first.ensures.resolved here.no_types here.opens) (c.in_ok-second.ensures.resolved there.no_types there.opens) known
     (map site_of c.as_slice.result.now) (map site_of c.as_slice-2.result.now) (ap (map site_of) c.as_slice.ensures.value ∙ c.in_ok-ones.ensures.all) (ap (map site_of) c.as_slice-2.ensures.value ∙ c.in_ok-others.ensures.all)
-    c.in_ok-why.why c.in_ok-why.ensures
+    c.in_ok-found.found c.in_ok-found.ensures)
