@@ -1,0 +1,4 @@
+pub mod Claims
+pub mod Errors
+pub mod Asked
+pub mod Labels
