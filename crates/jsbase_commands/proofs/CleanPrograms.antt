@@ -13,7 +13,7 @@ use Rattle.jsbase_commands.specs.declared.arguments.Kind.{Kind}
 use Rattle.jsbase_commands.specs.declared.arguments.Kind.TheVariants as kind
 use Rattle.jsbase_commands.specs.Run.{class_of}
 
-goal_of : (k : Kind) → IsTrue (is_goal (slot.One (content.Node (class_of k))))
+pub goal_of : (k : Kind) → IsTrue (is_goal (slot.One (content.Node (class_of k))))
 goal_of kind.Module = refl
 goal_of kind.Script = refl
 

@@ -3,3 +3,4 @@ pub mod Programs
 mod Refused
 mod OneOrTwo
 mod CleanPrograms
+mod Shown

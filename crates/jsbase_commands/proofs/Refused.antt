@@ -13,6 +13,7 @@ never_types command.Hygiene envelope h = h
 never_types command.Unparen envelope h = h
 never_types command.Fix envelope h = h
 never_types command.Chain envelope h = h
+never_types command.Covers envelope h = h
 never_types command.Judge envelope h = h
 
 for_cause : (c : Command) (envelope : Envelope) → refuses_types c envelope ≡ false → (e : PassError) → IsCauseOf c envelope e → IsRefusalOf c envelope e

@@ -12,6 +12,7 @@ command_word command.Unparen = codes "unparen"
 command_word command.Fix = codes "fix"
 command_word command.Chain = codes "chain"
 command_word command.Judge = codes "judge"
+command_word command.Covers = codes "covers"
 
 abbrev pub kind_word : Kind → List ℕ
 kind_word kind.Module = codes "module"

@@ -6,6 +6,7 @@ use Rattle.swc_tree_node.specs.declared.kind.Class.{Class}
 use Rattle.swc_tree_node.specs.declared.node.Node.{Node}
 use Rattle.swc_tree_spaces.specs.Spaces.{has_types}
 use Rattle.swc_base_alpha.specs.Verdict.{HasPaths, IsJudgeRefusal, Tells}
+use Rattle.swc_base_alpha.specs.declared.verdict.Difference.{Difference}
 use Rattle.swc_base_alpha.specs.declared.verdict.Verdict.{Verdict}
 use Rattle.swc_base_alpha.specs.declared.verdict.Verdict.TheVariants as verdict
 use Rattle.swc_base_alpha.specs.declared.verdict.Why.{Why}
@@ -44,6 +45,15 @@ pub record IsTold (v : Versions) (output : List ℕ) : Type 0 where
   pub tells : Tells v.keep_top v.before v.after said
   pub paths : HasPaths v.before v.after said
   pub written : output ≡ verdict_text v said
+
+-- the output tells a word of the two versions that the input has, each of the class, and where it shows
+pub record IsShown (c : Class) (input : List ℕ) (w : Why) (output : List ℕ) : Type 0 where
+  pub versions : Versions
+  pub read : versions_in_text c input ≡ Ok versions
+  pub difference : Difference
+  pub why : difference.why ≡ w
+  pub paths : HasPaths versions.before versions.after (verdict.Differs difference)
+  pub written : output ≡ verdict_text versions (verdict.Differs difference)
 
 -- memory was refused, or types stand in one of the versions, or marks were spent
 abbrev pub IsUntoldFor : Versions → PassError → Type 0

@@ -1,4 +1,5 @@
 pub mod Arguments
+pub mod Covers
 pub mod Faults
 pub mod Judge
 pub mod Run

@@ -1,17 +1,22 @@
 -- What a command makes of an input.
-use Rattle.std.specs.Prelude.{◌≡◌, Bool, true, false, ℕ, ◌+◌, ◌-◌, ◌<◌, ◌⊎◌, List, Ok, Err, string_bytes}
+use Rattle.std.specs.Prelude.{◌≡◌, Bool, true, false, ℕ, ◌+◌, ◌-◌, ◌<◌, ◌⊎◌, IsTrue, Option, List, Ok, Err, string_bytes}
 use Rattle.swc_tree_marks.specs.Globals.{Table, IsTable, greatest}
 use Rattle.swc_tree_marks.specs.declared.error.PassError.{PassError}
 use Rattle.swc_tree_marks.specs.declared.error.PassError.TheVariants as refusal
 use Rattle.swc_tree_node.specs.declared.kind.Class.{Class}
 use Rattle.swc_tree_node.specs.declared.kind.Class.TheVariants as class
 use Rattle.swc_tree_node.specs.declared.node.Node.{Node}
+use Rattle.swc_tree_node.specs.declared.slot.Slot.{Slot}
+use Rattle.swc_tree_node.specs.Fits.{Fits}
 use Rattle.swc_tree_scoping.specs.Places.{program_place}
 use Rattle.swc_tree_scoping.specs.Scopes.{scope_count}
 use Rattle.swc_tree_spaces.specs.Spaces.{ResolvedBy, has_types}
+use Rattle.swc_tree_renaming.specs.Apart.{is_goal}
 use Rattle.swc_tree_grammar.specs.Blocks.{with_blocks}
 use Rattle.swc_tree_grammar.specs.Stripped.{stripped}
 use Rattle.swc_tree_grammar.specs.Targets.{all_bare}
+use Rattle.swc_base_covers.specs.Covered.{HasPath, Tells}
+use Rattle.swc_base_covers.specs.declared.gap.Gap.{Gap}
 use Rattle.swc_base_fixer_program.specs.Answers.{answer_to}
 use Rattle.swc_base_rename_substitution.specs.declared.config.Config.{Config}
 use Rattle.swc_base_rename_program.specs.Renamed.{IsHygienic, IsRenameRefusal, hygiene_renaming}
@@ -27,6 +32,7 @@ use Rattle.jsbase_commands.specs.declared.arguments.Kind.{Kind}
 use Rattle.jsbase_commands.specs.declared.arguments.Kind.TheVariants as kind
 use Rattle.jsbase_commands.specs.declared.fault.Fault.{Fault}
 use Rattle.jsbase_commands.specs.declared.fault.Fault.TheVariants.{Usage, Refused, NotATree}
+use Rattle.jsbase_commands.specs.Covers.{cover_text}
 use Rattle.jsbase_commands.specs.Judge.{IsToldOf, IsUntoldOf}
 
 -- what a program of the kind is in the tree
@@ -91,6 +97,18 @@ pub record IsChained (envelope : Envelope) (output : List ℕ) : Type 0 where
   pub well_formed : IsTable table
   pub written : output ≡ envelope_text table envelope.top (answer_to renamed) envelope.unresolved
 
+-- a program of its goal
+abbrev pub IsProgram : Node → Type 0
+IsProgram t = (goal : Slot) × IsTrue (is_goal goal) × Fits t goal
+
+-- the output tells whether what is promised of a chain is promised of the tree, by the options of the envelope; or the first that
+-- fails, and where
+pub record IsCoverTold (envelope : Envelope) (output : List ℕ) : Type 0 where
+  pub gap : Option Gap
+  pub tells : Tells (config_of envelope) envelope.tree gap
+  pub path : HasPath envelope.tree gap
+  pub written : output ≡ cover_text envelope.tree gap
+
 -- the command is about one program, and not about two versions of one
 abbrev pub takes_one : Command → Bool
 takes_one command.Judge = false
@@ -103,6 +121,7 @@ Does command.Hygiene envelope output = IsMadeHygienic envelope output
 Does command.Unparen envelope output = IsUnparened envelope output
 Does command.Fix envelope output = IsFixed envelope output
 Does command.Chain envelope output = IsChained envelope output
+Does command.Covers envelope output = IsCoverTold envelope output
 Does command.Judge envelope output = ⊥
 
 -- resolving the tree takes more marks than there are
@@ -133,6 +152,7 @@ IsCauseOf command.Chain envelope refusal.CounterSpent = IsSpentOnceResolved enve
 IsCauseOf command.Chain envelope refusal.NotAssignable = IsUnassignableOnceRenamed envelope
 IsCauseOf command.Chain envelope refusal.NoMemory = ⊥
 IsCauseOf command.Chain envelope refusal.TypesLeft = ⊥
+IsCauseOf command.Covers envelope _ = ⊥
 IsCauseOf command.Judge envelope _ = ⊥
 
 -- memory was refused, or a pass of the command for its own cause
@@ -142,6 +162,7 @@ IsCausedFor c envelope error = (error ≡ refusal.NoMemory) ⊎ IsCauseOf c enve
 -- types stand in the tree, and the command takes none
 abbrev pub refuses_types : Command → Envelope → Bool
 refuses_types command.Resolve envelope = false
+refuses_types command.Covers envelope = false
 refuses_types c envelope = has_types envelope.tree
 
 -- why the command may be refused on an envelope, beside want of memory: for its types; or it takes those, and it is for another

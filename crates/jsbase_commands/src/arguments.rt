@@ -22,6 +22,8 @@ pub enum Command {
     Chain,
     /// Two versions of a program are compared: whether one is the other but for the choice of the names that it binds.
     Judge,
+    /// Whether what is promised of `Chain` is promised of the program.
+    Covers,
 }
 
 /// The goal symbol of a program (ECMA-262, Script and Module).
@@ -42,6 +44,7 @@ fn command_named(word: &str) -> Option<Command>
         "fix" => Some(Command::Fix),
         "chain" => Some(Command::Chain),
         "judge" => Some(Command::Judge),
+        "covers" => Some(Command::Covers),
         _ => None,
     }
 }

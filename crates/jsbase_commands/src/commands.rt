@@ -4,9 +4,10 @@ ghost use Rattle.swc_tree_scoping.specs.declared.places.Scope.TheVariants as sco
 ghost use Rattle.swc_tree_scoping.specs.Places.{opened, program_place};
 ghost use Rattle.swc_tree_spaces.specs.Spaces.{has_types as has_any_types};
 ghost use Rattle.swc_base_resolver_program.specs.Marked.{MarksOk};
-ghost use Rattle.jsbase_commands.specs.Run.{class_of as class_in, config_by, Makes, MakesOfOne, Does, IsChained, IsFaultOfOne, IsRunFault, IsMadeHygienic, IsResolved, IsFixed, IsUnparened, IsCausedFor, IsRefusedFor, IsReadFault, refuses_types, takes_one};
+ghost use Rattle.jsbase_commands.specs.Run.{class_of as class_in, config_by, Makes, MakesOfOne, Does, IsChained, IsFaultOfOne, IsRunFault, IsMadeHygienic, IsResolved, IsFixed, IsUnparened, IsProgram, IsCausedFor, IsRefusedFor, IsReadFault, refuses_types, takes_one};
 
 use crate::arguments::{Command, Kind};
+use crate::covers::cover;
 use crate::fault::Fault;
 use crate::judge::run_on_two;
 use jsbase_reader::{Envelope, ReadError, read_bytes};
@@ -30,7 +31,7 @@ use swc_tree_node::Class;
 /// # Errors
 ///
 /// `NotATree` with the path of the first fault where the input is no envelope with a tree of the kind, or with two under `Judge`;
-/// `Refused` where declarations of types stand in the tree and the command takes none, as all but `Resolve`; and where the
+/// `Refused` where declarations of types stand in the tree and the command takes none, as all but `Resolve` and `Covers`; and where the
 /// command's pass is refused, or memory is. Never `Usage`.
 pub fn run(alloc: Global, command: Command, kind: Kind, input: &[u8]) -> Result<Vec<u8>, Fault>
     ensures { MatchResult result (λ output. Makes command kind input.now output.items) (IsRunFault command kind input.now) }
@@ -46,8 +47,12 @@ fn takes_one(command: Command) -> bool
     ensures { result ≡ takes_one command }
 {
     match command {
-        Command::Resolve | Command::Hygiene | Command::Unparen | Command::Fix | Command::Chain =>
-            true,
+        Command::Resolve
+        | Command::Hygiene
+        | Command::Unparen
+        | Command::Fix
+        | Command::Chain
+        | Command::Covers => true,
         Command::Judge => false,
     }
 }
@@ -92,6 +97,7 @@ pub(crate) fn read_fault(alloc: Global, error: ReadError) -> Fault
 // The envelope that a command makes of an envelope. Declarations of types are looked for first.
 fn answer(alloc: Global, command: Command, envelope: Envelope) -> Result<String, PassError>
     requires one { takes_one command ≡ true }
+    requires fits { IsProgram envelope.tree }
     requires program { opened program_place envelope.tree ≡ Some scope.Program }
     requires marks { MarksOk envelope.globals envelope.unresolved envelope.top }
     ensures { MatchResult result (λ text. Does command envelope (string_bytes text)) (IsRefusedFor command envelope) }
@@ -107,7 +113,7 @@ fn refuses_types(command: Command, envelope: &Envelope) -> bool
     ensures { result ≡ refuses_types command envelope.now }
 {
     match command {
-        Command::Resolve => false,
+        Command::Resolve | Command::Covers => false,
         Command::Hygiene | Command::Unparen | Command::Fix | Command::Chain | Command::Judge =>
             has_types(&envelope.tree),
     }
@@ -116,6 +122,7 @@ fn refuses_types(command: Command, envelope: &Envelope) -> bool
 // What a command makes of an envelope whose types it takes.
 fn make(alloc: Global, command: Command, envelope: Envelope) -> Result<String, PassError>
     requires one { takes_one command ≡ true }
+    requires fits { IsProgram envelope.tree }
     requires program { opened program_place envelope.tree ≡ Some scope.Program }
     requires marks { MarksOk envelope.globals envelope.unresolved envelope.top }
     requires types { refuses_types command envelope ≡ false }
@@ -127,6 +134,7 @@ fn make(alloc: Global, command: Command, envelope: Envelope) -> Result<String, P
         Command::Unparen => unparen(alloc, envelope),
         Command::Fix => fix(alloc, envelope),
         Command::Chain => chain(alloc, envelope),
+        Command::Covers => cover(alloc, &envelope),
         Command::Judge => unreachable!(),
     }
 }
@@ -150,7 +158,7 @@ fn resolve(alloc: Global, envelope: Envelope) -> Result<String, PassError>
 }
 
 // What hygiene goes by.
-fn config(top_level_mark: Mark, keep_class_names: bool, ignore_eval: bool) -> Config
+pub(crate) fn config(top_level_mark: Mark, keep_class_names: bool, ignore_eval: bool) -> Config
     ensures { result ≡ config_by top_level_mark keep_class_names ignore_eval }
 {
     Config {

@@ -1,7 +1,8 @@
 //! What is said of two versions of a program.
-ghost use Rattle.std.specs.Prelude.{◌≡◌, IfOk, MatchResult, string_bytes};
+ghost use Rattle.std.specs.Prelude.{◌≡◌, IfOk, MatchResult, Ok, string_bytes};
 ghost use Rattle.swc_base_alpha.specs.Verdict.{IsCleanProgram};
-ghost use Rattle.jsbase_commands.specs.Judge.{IsTold, IsToldOf, IsUntoldFor, IsUntoldOf, path_under, verdict_text, why_word};
+ghost use Rattle.jsbase_reader.specs.Versions.{versions_in_text};
+ghost use Rattle.jsbase_commands.specs.Judge.{IsShown, IsTold, IsToldOf, IsUntoldFor, IsUntoldOf, path_under, verdict_text, why_word};
 ghost use Rattle.jsbase_commands.specs.Run.{class_of as class_in};
 
 use crate::arguments::Kind;
@@ -11,8 +12,8 @@ use jsbase_form::{Step, path_to};
 use jsbase_reader::{Versions, read_versions};
 use jsbase_writer::{write_difference, write_same};
 use std::alloc::{AllocError, Global};
-use swc_base_alpha::{Verdict, Why, judge};
-use swc_tree_marks::PassError;
+use swc_base_alpha::{Cause, Difference, Verdict, Why, difference, why_different};
+use swc_tree_marks::{NoMemory, PassError};
 use swc_tree_node::Node;
 
 /// What the program says of the two versions that an input has, as one line.
@@ -26,31 +27,54 @@ pub(crate) fn run_on_two(alloc: Global, kind: Kind, input: &[u8]) -> Result<Vec<
 {
     match read_versions(alloc, class_of(kind), input) {
         Err(error) => Err(read_fault(alloc, error)),
-        Ok(versions) => match tell(alloc, &versions) {
+        Ok(versions) => match tell(alloc, kind, input, versions) {
             Ok(text) => Ok(text.into_bytes()),
             Err(error) => Err(Fault::Refused(error)),
         },
     }
 }
 
-// What is said of two versions, as one line.
-fn tell(alloc: Global, versions: &Versions) -> Result<String, PassError>
-    requires before { IsCleanProgram versions.now.before }
-    requires after { IsCleanProgram versions.now.after }
-    ensures { MatchResult result (λ text. IsTold versions.now (string_bytes text)) (IsUntoldFor versions.now) }
+// What is said of the two versions that an input has, as one line. They are given up.
+fn tell(alloc: Global, kind: Kind, input: &[u8], versions: Versions) -> Result<String, PassError>
+    requires read { versions_in_text (class_in kind) input.now ≡ Ok versions }
+    requires before { IsCleanProgram versions.before }
+    requires after { IsCleanProgram versions.after }
+    ensures { MatchResult result (λ text. IsTold versions (string_bytes text)) (IsUntoldFor versions) }
 {
-    let verdict = judge(alloc, versions.keep_top, &versions.before, &versions.after)?;
-    let text = line(alloc, versions, &verdict)?;
+    let Versions {
+        keep_top,
+        before,
+        after,
+    } = versions;
+    match why_different(alloc, keep_top, before, after)? {
+        None => Ok(write_same(alloc)?),
+        Some(cause) => Ok(tell_difference(alloc, kind, input, cause)?),
+    }
+}
+
+// The line that tells of a cause where it shows. The versions are read once more: most inputs have no difference, and those need not
+// pay for two trees to be kept.
+fn tell_difference(
+    alloc: Global,
+    kind: Kind,
+    input: &[u8],
+    cause: Cause,
+) -> Result<String, NoMemory>
+    ensures { IfOk result (λ text. IsShown (class_in kind) input.now cause.why (string_bytes text)) }
+{
+    let Ok(versions) = read_versions(alloc, class_of(kind), input) else {
+        // They were read before, so memory was refused.
+        return Err(NoMemory);
+    };
+    let difference = difference(alloc, cause, &versions.before, &versions.after)?;
+    let text = line(alloc, &versions, &difference)?;
     Ok(text)
 }
 
-// The line that tells a verdict.
-fn line(alloc: Global, versions: &Versions, verdict: &Verdict) -> Result<String, AllocError>
-    ensures { IfOk result (λ text. string_bytes text ≡ verdict_text versions.now verdict.now) }
+// The line that tells a difference.
+fn line(alloc: Global, versions: &Versions, difference: &Difference) -> Result<String, AllocError>
+    ensures { IfOk result (λ text. string_bytes text ≡ verdict_text versions.now (Verdict.Differs difference.now)) }
 {
-    let Verdict::Differs(difference) = verdict else {
-        return write_same(alloc);
-    };
     let after = path_in(alloc, "after", &versions.after, difference.after.as_slice())?;
     let before = path_in(
         alloc,
@@ -67,7 +91,7 @@ fn line(alloc: Global, versions: &Versions, verdict: &Verdict) -> Result<String,
 }
 
 // The path of a node in the tree at a key of the input.
-fn path_in(
+pub(crate) fn path_in(
     alloc: Global,
     key: &'static str,
     tree: &Node,

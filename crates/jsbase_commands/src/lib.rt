@@ -3,6 +3,7 @@
 
 mod arguments;
 mod commands;
+mod covers;
 mod fault;
 mod judge;
 mod served;

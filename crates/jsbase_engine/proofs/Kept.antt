@@ -1,5 +1,5 @@
 -- What is promised of an answer, by the laws of chaining and of the fixer.
-use Rattle.std.proofs.Common.{◌≡◌, false, ℕ, List, Ok, IsTrue, inl, inr, refl}
+use Rattle.std.proofs.Common.{◌≡◌, false, ℕ, List, Ok, IsTrue, inl, inr, refl, subst}
 use Rattle.swc_tree_marks.specs.declared.error.PassError.{PassError}
 use Rattle.swc_tree_marks.specs.declared.error.PassError.TheVariants as refusal
 use Rattle.swc_tree_node.specs.declared.kind.Class.{Class}
@@ -11,7 +11,7 @@ use Rattle.swc_tree_node.specs.declared.node.Node.{Node}
 use Rattle.swc_tree_node.specs.Fits.{Fits}
 use Rattle.swc_tree_marks.specs.Globals.{Table}
 use Rattle.swc_tree_scoping.specs.Resolved.{Resolved}
-use Rattle.swc_tree_renaming.specs.Apart.{is_goal}
+use Rattle.swc_tree_renaming.specs.Apart.{IsPlainIfScript, is_goal}
 use Rattle.swc_tree_renaming.proofs.Global.{fits_module, plain_if_module}
 use Rattle.swc_tree_sites_scripts.specs.Laws.{script_place}
 use Rattle.swc_tree_spaces.specs.Spaces.{has_types}
@@ -22,8 +22,11 @@ use Rattle.swc_tree_grammar.specs.Places.{is_open}
 use Rattle.swc_base_resolver_program.specs.Marked.{MarksOk}
 use Rattle.swc_base_fixer_program.specs.Answers.{answer_to}
 use Rattle.swc_base_fixer.specs.Promises.{AnswersKeepPromises}
+use Rattle.swc_ecma_transforms_base_laws.specs.Sources.{IsSource}
 use Rattle.swc_ecma_transforms_base_laws.specs.Headline.{ChainingKeepsForms, ChainingKeepsSources}
 use Rattle.swc_base_rename_program.specs.Renamed.{IsHygienic}
+use Rattle.swc_base_rename_substitution.specs.declared.config.Config.{Config}
+use Rattle.swc_base_covers.specs.Covered.{IsCovered, Tells}
 use Rattle.swc_ecma_transforms_base_settled_laws.specs.Settled.{ChainChangesNothing, IsAnswer}
 use Rattle.jsbase_form.proofs.Successes.{bound}
 use Rattle.jsbase_reader.specs.declared.envelope.Envelope.{Envelope}
@@ -39,6 +42,10 @@ use Rattle.jsbase_commands.specs.declared.fault.Fault.TheVariants.{Usage, Refuse
 use Rattle.jsbase_commands.specs.Run.{Does, IsFaultOfOne, IsRefusalOf, MakesOfOne, ResolvesTo, class_of, config_of}
 use Rattle.jsbase_engine.specs.Run.{AnswersOfOne, IsSparingFault, Keeps, SparesTargets}
 use Rattle.jsbase_engine.specs.Laws.{PromisesAreKept, TargetsAreSpared}
+
+-- what is covered is a source, and plain if it is a script
+source_of : (config : Config) (t : Node) → IsCovered config t → IsSource config t × IsPlainIfScript t
+source_of config t h = (record { clean = h.clean; fair = h.fair; writable = h.writable; plain = record { renames_classes = h.renames_classes; unread = h.unread } }, h.plain)
 
 abbrev module_place : Slot
 module_place = slot.One (content.Node class.Module)
@@ -92,6 +99,7 @@ module _ (told : TypesAreTold) (alike : ResolvedAlike) (envelope : Envelope) (ok
   kept forms chaining changing fixing command.Hygiene k output fits done = tt
   kept forms chaining changing fixing command.Unparen k output fits done = tt
   kept forms chaining changing fixing command.Judge k output fits done = tt
+  kept forms chaining changing fixing command.Covers k output fits done = λ none. source_of (config_of envelope) envelope.tree (subst (Tells (config_of envelope) envelope.tree) none done.tells)
 
   no_target : ChainingKeepsForms → (k : Kind) → Fits envelope.tree (slot.One (content.Node (class_of k))) → (e : PassError) → IsRefusalOf command.Chain envelope e → SparesTargets command.Chain k envelope e
   no_target forms k fits refusal.NotAssignable (none, (table, renamed, is, bare)) source same =
@@ -109,6 +117,7 @@ module _ (told : TypesAreTold) (alike : ResolvedAlike) (envelope : Envelope) (ok
   spared forms command.Hygiene k e fits h = tt
   spared forms command.Unparen k e fits h = tt
   spared forms command.Judge k e fits h = tt
+  spared forms command.Covers k e fits h = tt
 
 module _ (told : TypesAreTold) (alike : ResolvedAlike) (forms : ChainingKeepsForms) where
   module _ (chaining : ChainingKeepsSources) (changing : ChainChangesNothing) (fixing : AnswersKeepPromises) where
@@ -129,6 +138,7 @@ promises_are_kept told alike forms chaining changing fixing command.Fix k input 
 promises_are_kept told alike forms chaining changing fixing command.Resolve k input output h = one_kept told alike forms chaining changing fixing command.Resolve k input output h
 promises_are_kept told alike forms chaining changing fixing command.Hygiene k input output h = one_kept told alike forms chaining changing fixing command.Hygiene k input output h
 promises_are_kept told alike forms chaining changing fixing command.Unparen k input output h = one_kept told alike forms chaining changing fixing command.Unparen k input output h
+promises_are_kept told alike forms chaining changing fixing command.Covers k input output h = one_kept told alike forms chaining changing fixing command.Covers k input output h
 promises_are_kept told alike forms chaining changing fixing command.Judge k input output h = h
 
 pub targets_are_spared : TypesAreTold → ResolvedAlike → ChainingKeepsForms → TargetsAreSpared
@@ -137,4 +147,5 @@ targets_are_spared told alike forms command.Fix k input fault h = one_spared tol
 targets_are_spared told alike forms command.Resolve k input fault h = one_spared told alike forms command.Resolve k input fault h
 targets_are_spared told alike forms command.Hygiene k input fault h = one_spared told alike forms command.Hygiene k input fault h
 targets_are_spared told alike forms command.Unparen k input fault h = one_spared told alike forms command.Unparen k input fault h
+targets_are_spared told alike forms command.Covers k input fault h = one_spared told alike forms command.Covers k input fault h
 targets_are_spared told alike forms command.Judge k input fault h = h

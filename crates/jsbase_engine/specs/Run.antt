@@ -1,10 +1,11 @@
 -- What the engine answers on an input.
-use Rattle.std.specs.Prelude.{◌≡◌, ◌≢◌, false, ℕ, ◌⊎◌, List, Ok, Err, string_bytes}
+use Rattle.std.specs.Prelude.{◌≡◌, ◌≢◌, false, ℕ, ◌⊎◌, Option, None, List, Ok, Err, string_bytes}
 use Rattle.swc_tree_marks.specs.Globals.{Table}
 use Rattle.swc_tree_marks.specs.declared.error.PassError.{PassError}
 use Rattle.swc_tree_marks.specs.declared.error.PassError.TheVariants as refusal
 use Rattle.swc_tree_node.specs.declared.node.Node.{Node}
-use Rattle.swc_tree_renaming.specs.Apart.{IsPlainScript}
+use Rattle.swc_tree_renaming.specs.Apart.{IsPlainIfScript, IsPlainScript}
+use Rattle.swc_base_covers.specs.declared.gap.Gap.{Gap}
 use Rattle.swc_base_fixer_program.specs.Answers.{answer_to}
 use Rattle.swc_base_fixer.specs.Promises.{Promises}
 use Rattle.swc_ecma_transforms_base_laws.specs.Headline.{KeepsItsForm, KeepsItsSource}
@@ -35,12 +36,17 @@ pub record KeepsItsScript (envelope : Envelope) (table : Table) (answer : Node) 
   pub promises : IsSource (config_of envelope) envelope.tree → IsPlainScript envelope.tree → KeepsItsSource envelope.unresolved envelope.top envelope.globals table envelope.tree answer
   pub again : IsAnswer envelope.tree → envelope.keep_class_names ≡ false → answer ≡ envelope.tree
 
+-- of a program that is told to be covered all that `chain_module` and `chain_script` ask of one
+abbrev pub IsSourceIfCovered : Envelope → Option Gap → Type 0
+IsSourceIfCovered envelope gap = gap ≡ None → IsSource (config_of envelope) envelope.tree × IsPlainIfScript envelope.tree
+
 -- what is promised of it beside: of a program that is chained what `chain_module` or `chain_script` promises, of a program whose pairs
--- are set what the fixer promises
+-- are set what the fixer promises, and of one that is told to be covered that the former hold of it
 abbrev pub Keeps : (c : Command) (k : Kind) (envelope : Envelope) (output : List ℕ) → Does c envelope output → Type 0
 Keeps command.Chain kind.Module envelope output done = KeepsItsModule envelope done.table (answer_to done.renamed)
 Keeps command.Chain kind.Script envelope output done = KeepsItsScript envelope done.table (answer_to done.renamed)
 Keeps command.Fix k envelope output done = Promises envelope.tree (answer_to envelope.tree)
+Keeps command.Covers k envelope output done = IsSourceIfCovered envelope done.gap
 Keeps _ _ envelope output done = Unit {0}
 
 -- of a program that is chained no target is to blame

@@ -5,3 +5,4 @@ pub mod Rests
 pub mod Back
 pub mod Tokens
 pub mod Verdicts
+pub mod Gaps

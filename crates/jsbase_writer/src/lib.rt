@@ -5,6 +5,7 @@
 #![tactic(auto)]
 
 mod envelope;
+mod gap;
 mod members;
 mod nodes;
 mod numbers;
@@ -12,5 +13,6 @@ mod order;
 mod verdict;
 
 pub use envelope::write_envelope;
+pub use gap::{write_covered, write_gap, write_placed_gap};
 pub use nodes::write;
 pub use verdict::{write_difference, write_same};

@@ -7,6 +7,9 @@ use Rattle.jsbase_commands.specs.Judge.{IsTold}
 use Rattle.jsbase_commands.proofs.CleanPrograms.{clean_program}
 use Rattle.jsbase_commands.proofs.judge.run_on_two.Goals as goal
 
+pub tell-requires-clause-read : goal.tell-requires-clause-read
+tell-requires-clause-read c = ap (λ class. versions_in_text class c.args.input.now) (sym c.class_of.ensures) ∙ c.in-Ok.ensures.versions
+
 pub tell-requires-clause-before : goal.tell-requires-clause-before
 tell-requires-clause-before c = clean_program c.args.kind c.in-Ok.versions.before
     (subst (λ class. Fits c.in-Ok.versions.before (slot.One (content.Node class))) c.class_of.ensures c.in-Ok.ensures.before) c.in-Ok.ensures.clean_before
@@ -22,5 +25,5 @@ returns-in-Ok-tell c = (
   subst (IsTold c.in-Ok.versions) (ap (λ v. v.items) (sym c.into_bytes.ensures.value)) c.in-Ok-tell.ensures,
 )
 
-pub returns : goal.returns
-returns c = inr (c.in-Ok.versions, ap (λ class. versions_in_text class c.args.input.now) (sym c.class_of.ensures) ∙ c.in-Ok.ensures.versions, c.in-Err-tell.ensures)
+pub returns-in-Err-tell : goal.returns-in-Err-tell
+returns-in-Err-tell c = inr (c.in-Ok.versions, ap (λ class. versions_in_text class c.args.input.now) (sym c.class_of.ensures) ∙ c.in-Ok.ensures.versions, c.in-Err-tell.ensures)

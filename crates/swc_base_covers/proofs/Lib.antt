@@ -1,0 +1,4 @@
+mod Contexts
+mod Decided
+mod Lists
+mod Steps
