@@ -106,6 +106,11 @@ STANDARD = {
     'option_map_or': (3, '(lambda f, o, d: d if o is None else f(o[0]))({0}, {1}, {2})'),
     'option_or': (2, '(lambda a, b: b if a is None else a)({0}, {1})'),
     'option_and_then': (2, '(lambda f, o: None if o is None else f(o[0]))({0}, {1})'),
+    'to_ascii_lowercase': (1, '(lambda c: c + 32 if 64 < c < 91 else c)({0})'),
+    'digit_value': (1, '(lambda c: int(chr(c), 36) if c < 128 and chr(c).isalnum() else 36)({0})'),
+    'digits_value': (2, '(lambda b, ds: sum(int(chr(c), 36) * b ** i for i, c in enumerate(ds[::-1])))({0}, {1})'),
+    'decimal': (1, 'tuple(str({0}).encode())'),
+    'starts_with': (3, '(lambda xs, ys: xs[:len(ys)] == ys)({1}, {2})'), 'suffix_len': (2, 'prefix_len({0}, {1}[::-1])'),
     'Some': (1, '({0},)'),
 }
 STANDARD_VALUES = {'true': 'True', 'false': 'False', 'None': 'None', 'zero': '0', '[]': '()'}

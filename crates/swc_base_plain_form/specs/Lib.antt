@@ -1,0 +1,2 @@
+pub mod PlainForm
+pub mod Laws
