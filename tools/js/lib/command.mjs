@@ -67,11 +67,11 @@ function answer({ help, options, positionals: [least, most], run }, argv) {
 }
 
 /** Runs a command: { name, help, options, positionals: [least, most], run }, of which `run` answers what to write. */
-export function main(command, argv) {
+export async function main(command, argv) {
   // A reader that goes away, like `head`, is no fault.
   process.stdout.on('error', (error) => process.exit(error.code === 'EPIPE' ? 0 : 1));
   try {
-    process.stdout.write(answer(command, argv));
+    process.stdout.write(await answer(command, argv));
   } catch (error) {
     const problem = problemOf(error);
     if (!problem) {
