@@ -28,6 +28,7 @@ import grammar_laws
 import headline_laws
 import injection_laws
 import kept_laws
+import lawful_laws
 import naming_laws
 import scoping_laws
 import script_laws
@@ -36,7 +37,7 @@ import sites_laws
 import substitution_laws
 import units_laws
 
-MODULES = (alpha_laws, grammar_laws, headline_laws, injection_laws, kept_laws, naming_laws, scoping_laws, script_laws, settled_laws, sites_laws, substitution_laws, units_laws)
+MODULES = (alpha_laws, grammar_laws, headline_laws, injection_laws, kept_laws, lawful_laws, naming_laws, scoping_laws, script_laws, settled_laws, sites_laws, substitution_laws, units_laws)
 # texts that every law tries first, as modules and as scripts
 WRITTEN = [
     '#x, y;', '`${#x}`;', 'export var a#1, a#2;', 'export var { a, b: a };', 'let?.[x];', 'let[x];', '((let[x])) = 1;', '(a?.b).c; a?.b.c;',

@@ -1,5 +1,6 @@
 //! What is answered to a row.
-use crate::{analysed, engine, kinds, programs, serving, units};
+use crate::programs::class_of;
+use crate::{analysed, engine, judged, kinds, programs, serving, units};
 use anyhow::Result;
 use gate_rows::Answers;
 use std::alloc::Global;
@@ -14,6 +15,7 @@ impl Answers for OfRows {
             "kinds" => Ok(kinds::answer(alloc)),
             "unit" => Ok(units::answer(alloc, rest)),
             "analysed" => Ok(Some(analysed::answer(alloc, rest, input)?)),
+            "judged" => Ok(Some(judged::answer(alloc, class_of(rest)?, input)?)),
             "status" => Ok(Some(engine::status(alloc, rest, input)?)),
             "served" => Ok(Some(serving::answer(alloc, rest, input)?)),
             "beginnings" => Ok(Some(engine::beginnings(alloc, input)?)),
@@ -26,9 +28,12 @@ impl Answers for OfRows {
             | "rename"
             | "remap"
             | "letters"
+            | "shortest"
             | "refusing"
             | "numbered"
             | "suffixed"
+            | "finish_with"
+            | "chain_with"
             | "unparen_comments"
             | "fix_comments" => Ok(Some(programs::answer(alloc, words, input)?)),
             _ => engine::written(alloc, words, input),

@@ -8,6 +8,7 @@
 mod analysed;
 mod answers;
 mod engine;
+mod judged;
 mod kinds;
 mod measure;
 mod programs;

@@ -1,7 +1,7 @@
 //! Rows of passes over `Module` and `Script`: the program before, and what is left after.
 //!
 //! The input is an envelope. `rename` and `remap` find the ids that are given anew under its key `names`, and
-//! `unparen_comments` and `fix_comments` how many moves are granted under `room`; `letters`, `refusing`, `numbered` and `suffixed` are renamers. What is wanted is the envelope of what is left, behind the
+//! `unparen_comments` and `fix_comments` how many moves are granted under `room`; `letters`, `shortest`, `refusing`, `numbered` and `suffixed` are renamers, which `finish_with` and `chain_with` may stand before. What is wanted is the envelope of what is left, behind the
 //! moves that were asked for and the name of a refusal. Behind `twice` the same pass is run on the program two times, and
 //! what is left the second time is wanted. Behind `deep` the statements of a script stand in 200 blocks, one in another, as the pass
 //! is run, more than JSON may nest, and are taken out again. `fold` hands the program by value to the pass that does nothing, `items`

@@ -38,8 +38,8 @@ pub struct Given {
 }
 
 impl Program {
-    // The program of a class that a tree is, if programs are of that class.
-    fn open(class: Class, tree: Node) -> Option<Program>
+    /// The program of a class that a tree is, if programs are of that class.
+    pub fn open(class: Class, tree: Node) -> Option<Program>
         requires { Fits tree (One (Of class)) }
     {
         match class {

@@ -1,6 +1,6 @@
 //! Passes by their names.
 use crate::programs::names;
-use crate::programs::renamers::Renaming;
+use crate::programs::renamers::{Renaming, Task};
 use crate::texts::text_each;
 use anyhow::{Result, bail};
 use gate_rows::{Given, Notes, room};
@@ -31,7 +31,7 @@ pub enum Pass {
     FixComments(Notes),
     Rename(HashMap<Id, JsWord>, Config),
     Remap(HashMap<Id, Id>, Config),
-    Renamer(Renaming, Config),
+    Renamer(Task, Renaming, Config),
     Hygiene,
     HygieneWith(Config),
 }
@@ -118,8 +118,9 @@ impl Pass {
             ))),
             "fix_comments" => Some(Pass::FixComments(Notes::new(alloc, room(alloc, input)?))),
             _ => {
+                let (task, word) = Task::of_words(word);
                 let renaming = Renaming::of_words(alloc, word, input)?;
-                Some(Pass::Renamer(renaming, config_of(given)))
+                Some(Pass::Renamer(task, renaming, config_of(given)))
             }
         }
     }
@@ -151,7 +152,9 @@ impl Pass {
             }
             Pass::Rename(texts, _) => visit_each(&mut rename(texts), alloc, programs),
             Pass::Remap(ids, config) => visit_each(&mut remap(ids, *config), alloc, programs),
-            Pass::Renamer(renaming, config) => renaming.visit(*config, alloc, programs),
+            Pass::Renamer(task, renaming, config) => {
+                renaming.visit(*task, *config, alloc, programs)
+            }
             Pass::Hygiene => visit_each(&mut hygiene(), alloc, programs),
             Pass::HygieneWith(config) => {
                 visit_each(&mut hygiene_with_config(*config), alloc, programs)
