@@ -4,7 +4,9 @@
 The pages are those at the top, in docs/, and those of the tools. A path stands at the top, below crates/, docs/ or tools/, in some
 crate, or beside its page; of what is built, below a crate's out/, the crate does. A name is one of Rust or of the definitions, with
 `_` or a capital in it; one that ends or begins with `_` is the beginning or the end of some name. A file of this repository's kinds
-may be named alone. Of all else in backquotes nothing is said."""
+may be named alone. Of all else in backquotes nothing is said.
+
+It also says which crates of crates.txt stand in no room of docs/ARCHITECTURE.md, and which use one that stands in a higher room or behind them in their own."""
 import glob
 import os
 import re
@@ -17,6 +19,9 @@ PLACES = ('', 'crates/', 'crates/*/', 'docs/', 'tools/')
 PATH = re.compile(r'[\w.*-]+/[\w./*-]*')
 FILE = re.compile(r'[\w-]+\.(antt|json|md|py|rt|txt)')
 NAME = re.compile(r'\w+(::\w+)*(\(\))?')
+# What begins a room of docs/ARCHITECTURE.md, before its crates, and crates, of which some have names that begin alike.
+ROOM = re.compile(r'^[a-z](?:[a-z]| (?! ))*  +', re.M)
+CRATES = re.compile(r'(\w+)_\{([^}]*)\}|(\w+)')
 # What stands for any name in a path, and what of a crate is there once it is built.
 ANY = re.compile(r'\b(CRATE|NAME)\b')
 BUILT = re.compile(r'^(crates/[^/]+)/out/.*')
@@ -69,6 +74,28 @@ def missing(term, page, files, words):
     return not all(is_name(name, words) for name in names)
 
 
+def crates_in_order():
+    """The crates of docs/ARCHITECTURE.md, those of lower rooms first."""
+    with open(os.path.join(ROOT, 'docs/ARCHITECTURE.md'), encoding='utf-8') as text:
+        drawn = text.read().split('## Layers')[1].split('```\n')[1]
+    rooms = ROOM.split(drawn)[1:]
+    return [name for room in reversed(rooms) for begun, rests, whole in CRATES.findall(room)
+            for name in ([whole] if whole else [f'{begun}_{rest}' for rest in rests.split()])]
+
+
+def misplaced():
+    """What is wrong with the order of crates."""
+    with open(os.path.join(ROOT, 'crates.txt'), encoding='utf-8') as text:
+        uses = {line.split(':')[0].split()[0]: line.split(':')[1].split() for line in text if ':' in line}
+    place = {crate: number for number, crate in enumerate(crates_in_order())}
+    for crate in uses:
+        if crate not in place:
+            yield f'{crate} stands in no room'
+        for used in uses[crate]:
+            if crate in place and used in uses and place.get(used, -1) >= place[crate]:
+                yield f'{crate} uses {used}, which stands above it'
+
+
 def main():
     files = files_here()
     words = words_of(files)
@@ -80,6 +107,9 @@ def main():
                     if missing(term, page, files, words):
                         failed = True
                         print('%s, line %d: %s is not in the repository' % (page, number, term))
+    for fault in misplaced():
+        failed = True
+        print('docs/ARCHITECTURE.md: %s' % fault)
     sys.exit(failed)
 
 
