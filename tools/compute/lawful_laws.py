@@ -7,13 +7,16 @@ occurs. `lawful_premises.py` leaves out one premise after the other.
 import hashlib
 import itertools
 
+import alpha
+import alpha_laws
 import js
 import scoping
 import script_laws
 import trees
+import units
 from headline_laws import is_as_promised
 from grammar_laws import is_same
-from lawbook import Bad, D, clean_module, fixed, is_module, is_name, is_writable, law, normal_form, well_scoped_module, writable_module
+from lawbook import Bad, D, clean_module, fits_grammar, fixed, is_module, is_name, is_writable, law, normal_form, well_scoped_module, writable_module
 from naming import Analysis, Naming, Renaming, all_count, outer_count, with_number
 from naming_laws import Occurrences, side_by_side, writable_and_well_scoped
 from naming_rows import cleared
@@ -259,3 +262,58 @@ def resolved_top_keeps_apart(t):
         if faults:
             return Bad(repr(faults), 'in', u)
     return True
+
+
+# ------------------------------------------------------------------------------------------------------ mangling
+def has_strays(t):
+    """a script in which a plain function stands in a block of sloppy code, or whose program declares `undefined`, `NaN` or `Infinity`"""
+    return script_laws.is_script(t) and not (script_laws.has_no_sloppy(t) and script_laws.declares_no_global_value(t))
+
+
+def mangled(t, top, keeps_top):
+    """what mangling makes of a resolved program; `keeps_top` preserves the ids that have just the mark of the program"""
+    if has_strays(t):
+        return cleared(t)
+    own = sorted({x for _, _, x in analysed(t).ids if x[1] == (top,)}) if keeps_top else ()
+    return middle_of(t, new_texts_of(t, Renaming(text_short, True, False, own)))
+
+
+def is_mangled_as_promised(t):
+    """whether what a resolver, mangling and the fixer answer is the program but for names, with names of the program's scope kept and not"""
+    for top, keeps_top in itertools.product((2, 1), (False, True)):
+        resolved = scoping.resolved(D.all, t, 1, top)
+        answer = fixed(mangled(resolved, top, keeps_top))
+        if not fits_grammar(answer) or not is_same(t, answer):
+            return Bad('another form:', answer)
+        if not alpha.AlphaEquivalent(t, answer):
+            return Bad('top', str(top), 'kept', str(keeps_top), 'the answer', answer, 'differs in %r' % (alpha.faults(alpha.normal(t), alpha.normal(answer)),))
+        faults = scoping.faults(scoping.NO_EARLY_ERROR, D.all, answer)
+        if faults:
+            return Bad(', '.join(faults), 'in', answer)
+        if keeps_top and names_of_program(t) != names_of_program(answer):
+            return Bad('another name of the program in', answer)
+    return True
+
+
+def names_of_program(t):
+    """the texts that the program's scope declares"""
+    return {name for _, _, name in scoping.Binds(scoping.Program(D.all, normal_form(t))) if scoping.Declares(scoping.Program(D.all, normal_form(t)), (), name)}
+
+
+def may_be_mangled(t):
+    return is_writable(t) and scoping.IsClean(D.all, t) and scoping.NoEarlyErrorOfNames(D.all, t) and not units.HasEval(D.all, t)
+
+
+@law(alpha_laws.clean_tree)
+def mangling_keeps_sources(t):
+    """of a clean module or plain script without early errors of names that can be written down, in which nothing reads names, what a resolver,
+    mangling and the fixer answer is the program but for names, and the names of the program's scope stay if they are to"""
+    return is_mangled_as_promised(t) if may_be_mangled(t) and (is_module(t) or not script_laws.missing(t, script_laws.PLAIN)) else None
+
+
+@law(alpha_laws.clean_tree)
+def mangling_keeps_other_scripts(t):
+    """the same of scripts that are not plain, of which nothing is proved but their form"""
+    if is_module(t) or not may_be_mangled(t) or not script_laws.missing(t, script_laws.PLAIN):
+        return None
+    return is_mangled_as_promised(t)

@@ -8,23 +8,31 @@ import scoping
 
 CRATE = 'swc_tree_renaming'
 # the relations that this was made from, by digests of their texts, as in scoping.py; NamesApart and what it is made of
-# stand in naming_laws.py, SameIds too, and a map that is applied stands for Renamed and HasTexts
+# stand in naming_laws.py, SameIds too, what plain scripts are in script_laws.py, and a map that is applied stands for Renamed
+# and HasTexts
 SOURCES = {
     'Belongs': '4805a2a74827',
     'CapturesNone': '245517d2dce8',
     'DeclaredApart': 'd88ba4b6a053',
     'DeclaredIn': '4d741a1b9eb3',
+    'DeclaresNoGlobalValue': '9fde3723b687',
     'FreeApartFromDeclared': '1be99eab6b5f',
     'HasNoSloppy': '9c8337048182',
     'HasTexts': 'c993629505de',
     'IsAtOrAbove': '166667f9221f',
     'IsFreeName': '2853c9927ab7',
+    'IsPlainIfScript': 'c27b6c8f6227',
+    'IsPlainProgram': '7ac4490642ce',
+    'IsPlainScript': '93cef2dd3d4d',
     'IsRound': 'b506c0787f0d',
+    'IsSettled': '5e6c145710b7',
     'Knows': '5da14fc6b652',
     'MeanOne': 'e5aebbaceca3',
     'MeanTheirIds': '3ee2f4c2e395',
+    'MeansNoGlobalValue': 'cd56fa9d99b6',
     'NameAt': 'fc530ad3ebd2',
     'NamesApart': 'e19571c926c5',
+    'NoParameterRepeated': '8d8c10da047a',
     'OccursIn': '84f301cb0583',
     'Renamed': 'd2c267a90f83',
     'SameId': '3751c63d90f1',

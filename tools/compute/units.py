@@ -11,25 +11,21 @@ from naming import Analysis, Naming, Renaming, all_count, outer_count, preserved
 from trees import kids, paths, put
 
 CRATE = 'swc_base_rename_units'
-# the relations that this was made from, by digests of their texts, as in scoping.py; those of Walk speak of how the code
-# goes over a tree: a law compares a walk
+# the relations that this was made from, by digests of their texts, as in scoping.py; those of Walk, which speak of how the code
+# goes over a tree, are passed over: a law compares a walk
 SOURCES = {
     'AnyHasEval': '395900087d61',
-    'EachBecomes': 'b8f34995aa7d',
     'HasEval': '38740aca9968',
     'HasUnits': '1593f5efde0c',
-    'IsChildNamed': '9e978e83711e',
     'IsOutermost': '80e30823cc24',
     'IsUnit': 'fb957c77434e',
     'LeadsOn': '4e3e7327e2e3',
-    'RefusesChild': 'a43b68cae24c',
-    'RefusesEach': '716ef4c56fad',
     'RefusesUnit': '498175f3ae4c',
 }
 
 
 def check_sources(checkout):
-    return scoping.check_relations(checkout, CRATE, SOURCES, (), 'units.py')
+    return scoping.check_relations(checkout, CRATE, SOURCES, (), 'units.py', ('Walk',))
 
 
 # ---- Eval
