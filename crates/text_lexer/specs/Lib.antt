@@ -1,0 +1,9 @@
+pub mod Marks
+pub mod Tokens
+pub mod Names
+pub mod Numbers
+pub mod Digits
+pub mod Literals
+pub mod Blanks
+pub mod Skips
+pub mod Lexical

@@ -1,0 +1,3 @@
+pub mod Units
+pub mod Values
+pub mod RawBytes
