@@ -60,6 +60,10 @@ impl Renamer for HygieneRenamer {
         Ok(HashSet::new(alloc))
     }
 
+    fn are_alike(&self) -> bool {
+        true
+    }
+
     /// The id's text at counter 0, else the text followed by the counter in decimal.
     ///
     /// # Errors

@@ -14,7 +14,7 @@ use swc_tree_modules::{Module, Script};
 ///
 /// An implementation says what its texts are, and which ids it preserves, and proves the laws.
 pub trait Renamer {
-    ghost use Rattle.std.specs.Prelude.{ℕ, Bool, List, false};
+    ghost use Rattle.std.specs.Prelude.{◌≡◌, ℕ, Bool, true, false, List};
     ghost use Rattle.swc_tree_node.specs.declared.node.Node.{Node};
     ghost use Rattle.swc_base_rename_substitution.specs.Names.{Id};
 
@@ -62,6 +62,14 @@ pub trait Renamer {
     ) -> Result<HashSet<Id>, NoMemory>
         ensures just { IfOk result (HasJust (preserved self.old (script_node program.now))) }
         ensures asked { asked self.old (script_node program.now) self.new };
+
+    /// Whether ids of one text are known to have the same texts, so that what one could not get another need not try; by default
+    /// they are not. Else the ids of a scope that share a text cost the square of how many they are.
+    fn are_alike(&self) -> bool
+        ensures { result ≡ true → (x y : Id) → x.0 ≡ y.0 → (n : ℕ) → text self.now x n ≡ text self.now y n }
+    {
+        false
+    }
 
     /// The text of an id at a counter, which goes one up.
     ///

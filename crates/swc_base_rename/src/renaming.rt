@@ -25,6 +25,10 @@ pub(crate) struct Texts<'a, R> {
 impl<R: Renamer> NewTexts for Texts<'_, R> {
     ghost text = { λ texts x n. R.text texts.renamer.now x n };
 
+    fn are_alike(&self) -> bool {
+        self.renamer.are_alike()
+    }
+
     fn new_text(&self, alloc: Global, id: &Id, n: &mut usize) -> Result<JsWord, PassError> {
         self.renamer.new_name_for(alloc, id, n)
     }
