@@ -40,6 +40,10 @@ impl<const MANGLES: bool, const RESETS: bool> Renamer for Suffixed<MANGLES, RESE
         Ok(HashSet::new(alloc))
     }
 
+    fn are_alike(&self) -> bool {
+        true
+    }
+
     fn new_name_for(&self, alloc: Global, orig: &Id, n: &mut usize) -> Result<JsWord, PassError> {
         HygieneRenamer.new_name_for(alloc, orig, n)
     }

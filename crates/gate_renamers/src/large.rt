@@ -4,7 +4,7 @@ use std::collections::BTreeSet;
 use swc_base_rename_program::hygiene_program;
 use swc_base_rename_substitution::Config;
 use swc_tree_items::{Boxed, Items, Text};
-use swc_tree_marks::{DUMMY_SP, Globals, Ident, Mark, SyntaxContext};
+use swc_tree_marks::{DUMMY_SP, Globals, Id, Ident, Mark, SyntaxContext};
 use swc_tree_node::{Kind, Node, Word};
 
 fn list(alloc: Global, nodes: Vec<Node>) -> Node {
@@ -28,12 +28,22 @@ fn identifier(alloc: Global, kind: Kind, text: String, mark: u32) -> Option<Node
     Some(Node::Identifier(kind, Boxed::new(alloc, ident).ok()?))
 }
 
+/// The id of such a name.
+pub fn id_of(alloc: Global, number: u32, mark: u32) -> Option<Id> {
+    let mut ctxt = SyntaxContext::empty(alloc);
+    ctxt.apply_mark(Mark::from_u32(mark)).ok()?;
+    Some((
+        Text::from_string(format!(in alloc; "a{number}x").ok()?),
+        ctxt,
+    ))
+}
+
 fn name(alloc: Global, kind: Kind, number: u32, mark: u32) -> Option<Node> {
     identifier(alloc, kind, format!(in alloc; "a{number}x").ok()?, mark)
 }
 
-// `var a0x, a1x, ..` of these numbers and marks.
-fn variables(alloc: Global, names: &[(u32, u32)]) -> Option<Node> {
+/// `var a0x, a1x, ..` of these numbers and marks.
+pub fn variables(alloc: Global, names: &[(u32, u32)]) -> Option<Node> {
     let mut declarators = Vec::new(alloc);
     for (number, mark) in names {
         let name = name(alloc, Kind::BindingIdent, *number, *mark)?;
@@ -50,8 +60,8 @@ fn variables(alloc: Global, names: &[(u32, u32)]) -> Option<Node> {
     tree(Kind::VarDecl, alloc, fields)
 }
 
-// A statement that refers to a name.
-fn reference(alloc: Global, number: u32, mark: u32) -> Option<Node> {
+/// A statement that refers to a name.
+pub fn reference(alloc: Global, number: u32, mark: u32) -> Option<Node> {
     let name = name(alloc, Kind::Ident, number, mark)?;
     tree(Kind::ExprStmt, alloc, [Node::Span(DUMMY_SP), name])
 }

@@ -5,6 +5,7 @@ mod analysed;
 mod by_letter;
 mod by_number;
 mod by_text;
+mod by_use_rows;
 mod large;
 mod name_rows;
 mod rows;

@@ -182,7 +182,10 @@ pub fn holds(alloc: Global, words: &str) -> Option<bool> {
         "numbers are given" => numbers(alloc),
         "the first free text is found" => free(alloc),
         _ => match crate::name_rows::holds(alloc, words) {
-            None => crate::large::holds(alloc, words),
+            None => match crate::large::holds(alloc, words) {
+                None => crate::by_use_rows::holds(alloc, words),
+                held => held,
+            },
             held => held,
         },
     }

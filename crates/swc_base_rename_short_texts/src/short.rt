@@ -1,6 +1,6 @@
 //! The short texts, and those of them that ids get.
-ghost use Rattle.std.specs.Prelude.{◌≡◌, ◌<◌, ◌≤◌, [], ◌∷◌, ◌++◌, length, map, string_bytes, IfOk, OnOk};
-ghost use Rattle.swc_base_rename_short_texts.specs.ShortTexts.{character as character_at, past as past_places, place, short_text as text_of, text_at_place, withheld};
+ghost use Rattle.std.specs.Prelude.{◌≡◌, ◌<◌, ◌≤◌, [], ◌∷◌, ◌++◌, length, map, string_bytes, IfOk, IfSome, OnOk};
+ghost use Rattle.swc_base_rename_short_texts.specs.ShortTexts.{character as character_at, past as past_places, place as place_of, short_text as text_of, text_at_place, withheld};
 
 use std::alloc::{AllocError, Global};
 use swc_tree_items::Text;
@@ -119,6 +119,25 @@ fn push_text(text: &mut String, most: usize, place: u128) -> Result<(), AllocErr
     }
     push_text(text, most - 1, (place - 54) / 64)?;
     push_character(text, (place - 54) % 64)
+}
+
+/// The counter whose text is at a place of the list of all texts over `a` to `z`, `A` to `Z`, `$`, `_` and, not first, the digits, if that text
+/// is one that ids get.
+pub fn counter_at(place: u128) -> Option<usize>
+    ensures { IfSome result (λ n. past_places (map place_of withheld) n ≡ place) }
+{
+    let mut left = place;
+    for taken in &WITHHELD {
+        if *taken < place {
+            left = left.saturating_sub(1);
+        }
+    }
+    let n = usize::try_from(left).ok()?;
+    if past(&WITHHELD, n) == place {
+        Some(n)
+    } else {
+        None
+    }
 }
 
 /// The text of a counter: the first are `a` to `z`, `A` to `Z`, `$` and `_`, then come those of two characters, and so on. None is a

@@ -66,6 +66,10 @@ impl Renamer for Shortest {
         Ok(HashSet::new(alloc))
     }
 
+    fn are_alike(&self) -> bool {
+        true
+    }
+
     /// The short text of the counter, whatever the id.
     ///
     /// # Errors

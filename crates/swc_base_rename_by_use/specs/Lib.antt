@@ -1,0 +1,2 @@
+pub mod ByUse
+pub mod ByUseLaws

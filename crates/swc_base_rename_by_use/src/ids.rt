@@ -1,0 +1,95 @@
+//! The ids of a program, by number.
+
+use std::alloc::Global;
+use std::collections::{BTreeMap, HashSet};
+use swc_base_rename_analysis::Name;
+use swc_tree_marks::{Id, Ident, JsWord, NoMemory, SyntaxContext};
+use swc_tree_scoping::{Standing, is_binding};
+
+/// What is known of an id.
+#[derive(Drop)]
+pub struct Known<'a> {
+    pub ident: &'a Ident,
+    /// How often it occurs as a name.
+    pub uses: usize,
+    pub is_bound: bool,
+    /// Whether it stands outside of export lists.
+    pub stands_outside: bool,
+    /// Whether it keeps its text.
+    pub keeps: bool,
+    /// The number of the text that it shares with others.
+    pub slot: Option<usize>,
+}
+
+/// The ids that were met, each with its number. A look-up costs the logarithm of how many there are, whatever they are.
+#[derive(Drop)]
+pub struct Ids<'a> {
+    numbers: BTreeMap<(&'a JsWord, &'a SyntaxContext), usize>,
+    preserved: &'a HashSet<Id>,
+    pub known: Vec<Known<'a>>,
+}
+
+// Whether an id keeps its text.
+fn keeps(ident: &Ident, preserved: &HashSet<Id>) -> Result<bool, NoMemory> {
+    if preserved.is_empty() {
+        return Ok(ident.sym.as_str() == "eval");
+    }
+    let id = ident.to_id()?;
+    Ok(preserved.contains(&id) || ident.sym.as_str() == "eval")
+}
+
+impl<'a> Ids<'a> {
+    /// No ids, where these are preserved.
+    pub fn new(alloc: Global, preserved: &'a HashSet<Id>) -> Ids<'a> {
+        Ids {
+            numbers: BTreeMap::new(alloc),
+            preserved,
+            known: Vec::new(alloc),
+        }
+    }
+
+    // The number of an id, a new one where it was not met before.
+    fn number(&mut self, ident: &'a Ident) -> Result<usize, NoMemory> {
+        let key = (&ident.sym, &ident.ctxt);
+        if let Some(number) = self.numbers.get(&key) {
+            return Ok(*number);
+        }
+        let number = self.known.len();
+        self.numbers.insert(key, number)?;
+        self.known.push(Known {
+            ident,
+            uses: 0,
+            is_bound: false,
+            stands_outside: false,
+            keeps: keeps(ident, self.preserved)?,
+            slot: None,
+        })?;
+        Ok(number)
+    }
+
+    /// A name or a label is met. Answers the number of its id.
+    pub fn meet(&mut self, name: &Name<'a>) -> Result<usize, NoMemory> {
+        let number = self.number(name.ident)?;
+        if let Some(known) = self.known.get_mut(number) {
+            if name.standing != Standing::Label {
+                known.uses = known.uses.saturating_add(1);
+            }
+            known.is_bound = known.is_bound || is_binding(name.standing);
+            known.stands_outside = known.stands_outside || !name.exported;
+        }
+        Ok(number)
+    }
+
+    /// Whether an id has no slot yet and does not keep its text.
+    pub fn is_open(&self, number: usize) -> bool {
+        match self.known.get(number) {
+            Some(known) => known.slot.is_none() && !known.keeps,
+            None => false,
+        }
+    }
+
+    /// The slot of an id, if it has one.
+    pub fn slot(&self, number: usize) -> Option<usize> {
+        self.known.get(number)?.slot
+    }
+}
