@@ -15,7 +15,7 @@ use Rattle.swc_tree_scoping.specs.declared.places.Scope.{Scope}
 use Rattle.swc_tree_scoping.specs.declared.places.View.{View}
 use Rattle.swc_tree_scoping.specs.declared.below.PlacesBelow.{PlacesBelow}
 use Rattle.swc_tree_scoping.specs.Below.{places_of, scope_of_fields, view_of}
-use Rattle.swc_tree_scoping.specs.Places.{Path, child, children_in, given, opened, opened_in, place_at, place_below, program_place}
+use Rattle.swc_tree_scoping.specs.Places.{Path, child, children_in, given, opened, opened_in, place_below, program_place}
 use Rattle.swc_tree_scoping.specs.Folds.{each_in}
 use Rattle.swc_tree_scoping.specs.Scopes.{is_taken, one_if, scope_count, total}
 use Rattle.swc_tree_scoping.proofs.Under.{no_place_under, place_under}
@@ -26,7 +26,7 @@ use Rattle.swc_base_resolver_program.proofs.Gathered.{Known, is_ident, leaf_coun
 use Rattle.swc_base_early_errors.specs.declared.claims.Claim.{Claim}
 use Rattle.swc_base_early_errors.specs.declared.claims.ClaimedNames.{ClaimedNames}
 use Rattle.swc_base_early_errors.specs.declared.claims.Rule.{Rule}
-use Rattle.swc_base_early_errors.specs.Claims.{Claims, ClaimsAt, ClaimsBelow, ClaimsHere, Clashes, GivenClaim, Twice, Walked, claim_in}
+use Rattle.swc_base_early_errors.specs.Claims.{Claims, ClaimsAt, ClaimsBelow, ClaimsHere, GivenClaim, Twice, Walked, claim_in}
 use Rattle.swc_base_early_errors.proofs.Owned.{of_number}
 use Rattle.swc_base_early_errors.proofs.Walked.{Under, more_clashes, two_there, walked_alike, walked_both, walked_none, walked_under}
 

@@ -1,5 +1,5 @@
 -- What is asked clause by clause is what the code decides.
-use Rattle.std.proofs.Common.{◌≡◌, ◌≢◌, ℕ, zero, suc, Bool, true, false, not, ◌&&◌, ◌||◌, IsTrue, ◌⊎◌, ◌↔◌, inl, inr, ⊎_elim, Option, Some, None, List, [], ◌∷◌, refl, sym, ap, ◌∙◌, subst}
+use Rattle.std.proofs.Common.{◌≡◌, ℕ, Bool, true, false, not, ◌&&◌, ◌||◌, IsTrue, ◌⊎◌, ◌↔◌, inl, inr, ⊎_elim, Option, Some, None, List, [], ◌∷◌, refl, sym, ap, ◌∙◌, subst}
 use Rattle.std.specs.Prelude.{codes}
 use Rattle.std.specs.List.{slice_get}
 use Rattle.swc_tree_marks.specs.declared.ident.Ident.{Ident}
@@ -10,12 +10,11 @@ use Rattle.swc_tree_node.specs.declared.node.Node.TheOpen.{Node-F}
 use Rattle.swc_tree_scoping.specs.declared.places.Standing.TheVariants as standing
 use Rattle.swc_tree_scoping.specs.declared.places.Scope.TheVariants as scope
 use Rattle.swc_tree_scoping.specs.declared.places.Place.{Place}
-use Rattle.swc_tree_scoping.specs.Places.{Path, child, children_in, given, has_own_name, is_inside, is_strict, opened, opened_as, opened_in, place_at, place_below, place_in, program_place, view_from}
-use Rattle.swc_tree_scoping.specs.Scopes.{taker}
+use Rattle.swc_tree_scoping.specs.Places.{Path, child, children_in, has_own_name, is_inside, opened, opened_as, opened_in, place_at, place_below, place_in, program_place, view_from}
 use Rattle.swc_tree_scoping.specs.Declares.{is_lexical}
 use Rattle.swc_tree_scoping.specs.Readings.{by_ids, by_texts, id_name}
 use Rattle.swc_tree_scoping.specs.Resolved.{is_script}
-use Rattle.swc_tree_scoping.specs.WellScoped.{ExportsDeclared, IsClean, IsDeclared, NoParameterTwice, NoVariablePasses, NoneTwice, Stands, is_module}
+use Rattle.swc_tree_scoping.specs.WellScoped.{ExportsDeclared, IsClean, IsDeclared, NoParameterTwice, NoVariablePasses, NoneTwice, is_module}
 use Rattle.swc_tree_scoping.proofs.Under.{no_place_under, place_under}
 use Rattle.swc_tree_renaming.specs.Apart.{HasNoSloppy, IsPlainIfScript, NoParameterRepeated, SameScopes, labels_no_function}
 use Rattle.swc_tree_renaming.proofs.Core.{takers_same}

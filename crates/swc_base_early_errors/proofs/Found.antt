@@ -1,7 +1,6 @@
 -- What is looked for is what the definitions say.
-use Rattle.std.proofs.Common.{◌≡◌, ◌≢◌, ℕ, zero, suc, ◌+◌, Bool, true, false, not, ◌&&◌, ◌||◌, ◌==◌, IsTrue, ◌⊎◌, ◌↔◌, inl, inr, ⊎_elim, Option, Some, None, List, [], ◌∷◌, ◌++◌, refl, sym, ap, ◌∙◌, subst, arith}
+use Rattle.std.proofs.Common.{◌≡◌, ℕ, ◌+◌, Bool, true, false, not, ◌&&◌, ◌||◌, IsTrue, ◌⊎◌, ◌↔◌, inl, inr, ⊎_elim, Option, Some, None, List, [], ◌∷◌, ◌++◌, refl, sym, ap, ◌∙◌, subst, arith}
 use Rattle.std.specs.Prelude.{codes}
-use Rattle.std.specs.List.{slice_get}
 use Rattle.std.specs.Option.{option_map}
 use Rattle.std.specs.Str.{bytes_eq}
 use Rattle.std.proofs.lemmas.Bool.Decides.{nat_tests}
@@ -17,23 +16,21 @@ use Rattle.swc_tree_scoping.specs.declared.places.Standing.{Standing}
 use Rattle.swc_tree_scoping.specs.declared.places.Standing.TheVariants as standing
 use Rattle.swc_tree_scoping.specs.declared.places.Scope.TheVariants as scope
 use Rattle.swc_tree_scoping.specs.declared.places.Place.{Place}
-use Rattle.swc_tree_scoping.specs.Places.{Path, child, children_in, field_role, given, opened, place_at, place_below, program_place}
+use Rattle.swc_tree_scoping.specs.Places.{Path, child, field_role, given, opened, place_at, place_below, program_place}
 use Rattle.swc_tree_scoping.specs.Scopes.{is_binding, taker}
 use Rattle.swc_tree_scoping.specs.Declares.{Bound, BoundAs, Declares, is_settled}
-use Rattle.swc_tree_scoping.specs.Readings.{by_texts}
 use Rattle.swc_tree_scoping.specs.Resolved.{is_global_value, is_script}
-use Rattle.swc_tree_scoping.specs.WellScoped.{ExportsDeclared, InExportList, IsClean, IsDeclared, NoEvalOrArguments, Stands}
+use Rattle.swc_tree_scoping.specs.WellScoped.{ExportsDeclared, IsDeclared, Stands}
 use Rattle.swc_tree_scoping.proofs.Remarked.{tree_is}
 use Rattle.swc_tree_scoping.proofs.Under.{no_place_under, place_under}
 use Rattle.swc_tree_renaming.specs.Apart.{DeclaresNoGlobalValue, HasNoSloppy}
 use Rattle.swc_base_resolver_program.specs.declared.names.ScopeNames.{ScopeNames}
 use Rattle.swc_base_resolver_program.specs.declared.collect.Stage.TheVariants as stage
-use Rattle.swc_base_resolver_program.specs.Lookup.{Open, taker_in}
+use Rattle.swc_base_resolver_program.specs.Lookup.{taker_in}
 use Rattle.swc_base_resolver_program.specs.Names.{any_way, ways_in}
 use Rattle.swc_base_resolver_program.specs.Walks.{Reaches, Takes, open_round}
 use Rattle.swc_base_resolver_program.proofs.Declared.{any_is, nr, taker_open}
-use Rattle.swc_base_resolver_program.proofs.Ways.{and_both, both, is_true, not_true, or_cases, or_left, or_right, true_not}
-use Rattle.swc_base_resolver_laws.proofs.Same.{clean_stays}
+use Rattle.swc_base_resolver_program.proofs.Ways.{and_both, both, not_true, or_cases, or_left, or_right, true_not}
 use Rattle.swc_base_scope_checks.specs.Asked.{Passes, Test, in_list, is_export_role, lists}
 use Rattle.swc_base_scope_checks.proofs.Barriers.{found, passes_at}
 use Rattle.swc_base_early_errors.specs.Asked.{is_eval_or_arguments, is_found, is_plain_reference, is_program, is_sloppy}

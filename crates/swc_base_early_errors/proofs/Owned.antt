@@ -1,5 +1,5 @@
 -- The claims of a program are of the scopes that take what is bound.
-use Rattle.std.proofs.Common.{◌≡◌, ◌≢◌, ℕ, zero, suc, ◌+◌, Bool, true, false, ◌&&◌, ◌||◌, ◌==◌, IsTrue, ◌⊎◌, ◌↔◌, inl, inr, ⊎_elim, Option, Some, None, List, [], ◌∷◌, ◌++◌, map, refl, sym, ap, ◌∙◌, subst, arith, cond}
+use Rattle.std.proofs.Common.{◌≡◌, ℕ, ◌+◌, Bool, true, false, ◌&&◌, ◌==◌, IsTrue, ◌⊎◌, ◌↔◌, inl, inr, ⊎_elim, Option, Some, None, List, [], ◌++◌, map, refl, sym, ap, ◌∙◌, subst, arith, cond}
 use Rattle.std.specs.Option.{is_some, option_map}
 use Rattle.std.proofs.lemmas.Bool.Decides.{nat_tests}
 use Rattle.swc_tree_marks.specs.declared.ident.Ident.{Ident}
@@ -12,7 +12,7 @@ use Rattle.swc_tree_scoping.specs.declared.places.Standing.TheVariants as standi
 use Rattle.swc_tree_scoping.specs.declared.places.Scope.{Scope}
 use Rattle.swc_tree_scoping.specs.declared.places.Scope.TheVariants as scope
 use Rattle.swc_tree_scoping.specs.declared.places.Place.{Place}
-use Rattle.swc_tree_scoping.specs.Places.{Path, opened, place_at, program_place}
+use Rattle.swc_tree_scoping.specs.Places.{Path, opened, program_place}
 use Rattle.swc_tree_scoping.specs.Scopes.{is_binding, rounds, taker}
 use Rattle.swc_tree_scoping.specs.WellScoped.{IsLexical, Stands, is_module}
 use Rattle.swc_tree_scoping.specs.Declares.{is_lexical}

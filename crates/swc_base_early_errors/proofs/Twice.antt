@@ -1,20 +1,20 @@
 -- No name is declared twice, and no parameter, exactly if no two claims clash.
-use Rattle.std.proofs.Common.{◌≡◌, ◌≢◌, ℕ, Bool, true, false, not, ◌||◌, IsTrue, ◌⊎◌, ◌↔◌, inl, inr, ⊎_elim, Some, List, [], ◌∷◌, refl, sym, ap, ◌∙◌, subst}
+use Rattle.std.proofs.Common.{◌≡◌, ◌≢◌, ℕ, Bool, true, not, IsTrue, ◌⊎◌, ◌↔◌, inl, inr, ⊎_elim, Some, List, [], ◌∷◌, refl, sym, ap, ◌∙◌, subst}
 use Rattle.swc_tree_node.specs.declared.node.Node.{Node}
 use Rattle.swc_tree_scoping.specs.declared.places.Standing.{Standing}
 use Rattle.swc_tree_scoping.specs.declared.places.Standing.TheVariants as standing
 use Rattle.swc_tree_scoping.specs.declared.places.Scope.TheVariants as scope
 use Rattle.swc_tree_scoping.specs.Places.{Path, opened, program_place}
 use Rattle.swc_tree_scoping.specs.Scopes.{taker}
-use Rattle.swc_tree_scoping.specs.WellScoped.{Binds, IsLexical, NoneTwice, Stands, is_module}
+use Rattle.swc_tree_scoping.specs.WellScoped.{IsLexical, NoneTwice, Stands, is_module}
 use Rattle.swc_tree_renaming.specs.Apart.{HasNoSloppy, NoParameterRepeated}
 use Rattle.swc_tree_renaming.proofs.Core.{declared_taker, taker_declares}
 use Rattle.swc_base_resolver_program.proofs.Declared.{nr, taker_open}
-use Rattle.swc_base_resolver_program.proofs.Ways.{is_true, not_true, or_cases, or_left, true_not}
+use Rattle.swc_base_resolver_program.proofs.Ways.{not_true, or_cases, or_left, true_not}
 use Rattle.swc_base_early_errors.specs.declared.claims.Rule.TheVariants as rule
 use Rattle.swc_base_early_errors.specs.Claims.{ClaimsAt, Twice, is_alone, is_function_parameter}
 use Rattle.swc_base_early_errors.proofs.Noted.{same_or_not}
-use Rattle.swc_base_early_errors.proofs.Owned.{Owned, alone_is, claims_it, owned, same_scope, taken_binds}
+use Rattle.swc_base_early_errors.proofs.Owned.{alone_is, claims_it, owned, same_scope, taken_binds}
 
 one_path : (p q : Path) → (p ≡ q) ⊎ (p ≢ q)
 one_path [] [] = inl refl

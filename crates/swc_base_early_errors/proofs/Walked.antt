@@ -1,9 +1,9 @@
 -- What a walk over claims answers, one part after another.
-use Rattle.std.proofs.Common.{◌≡◌, ◌≢◌, ℕ, ◌+◌, Bool, true, false, ◌||◌, IsTrue, ◌⊎◌, ◌↔◌, inl, inr, ⊎_elim, Option, Some, List, [], ◌∷◌, length, refl, sym, ap, ◌∙◌, subst, arith}
+use Rattle.std.proofs.Common.{◌≡◌, ◌≢◌, ℕ, ◌+◌, Bool, true, false, ◌||◌, IsTrue, ◌⊎◌, ◌↔◌, inl, inr, ⊎_elim, Some, List, [], ◌∷◌, length, refl, sym, ap, ◌∙◌, arith}
 use Rattle.swc_tree_scoping.specs.Places.{Path}
 use Rattle.swc_base_early_errors.specs.declared.claims.Claim.{Claim}
 use Rattle.swc_base_early_errors.specs.declared.claims.ClaimedNames.{ClaimedNames}
-use Rattle.swc_base_early_errors.specs.Claims.{Claims, Clash, Clashes, IsNoted, Meets, Notes, Twice, Walked, note_in}
+use Rattle.swc_base_early_errors.specs.Claims.{Claims, Clash, Clashes, IsNoted, Twice, Walked, note_in}
 
 -- with more claims there are no fewer clashes
 pub more_clashes : (ss : List ClaimedNames) (P Q : Claims) → ((p : Path) (c : Claim) (x : List ℕ) → P p c x → Q p c x) → Clashes ss P → Clashes ss Q

@@ -8,7 +8,7 @@ use Rattle.swc_tree_scoping.specs.declared.places.Standing.TheVariants as standi
 use Rattle.swc_tree_scoping.specs.Scopes.{is_binding}
 use Rattle.swc_tree_scoping.specs.Declares.{is_settled}
 use Rattle.swc_tree_scoping.specs.Resolved.{is_global_value}
-use Rattle.swc_base_resolver_program.specs.Lookup.{Open, names_in, taker_in}
+use Rattle.swc_base_resolver_program.specs.Lookup.{Open, taker_in}
 use Rattle.swc_base_resolver_program.specs.Names.{Bindings, any_way}
 use Rattle.swc_base_early_errors.specs.declared.sought.Sought.{Sought}
 use Rattle.swc_base_early_errors.specs.declared.sought.Sought.TheVariants as sought

@@ -1,7 +1,6 @@
 -- In which scope an identifier claims its name, and names that are claimed against one another.
 use Rattle.std.specs.Prelude.{◌≡◌, ◌≢◌, ℕ, ◌+◌, ◌<◌, Bool, true, false, ◌||◌, ◌&&◌, ◌==◌, ◌⊎◌, ◌↔◌, IsTrue, Option, Some, None, option_map, List, [], ◌∷◌, take, length, slice_get, if◌then◌else◌}
 use Rattle.std.specs.BTreeMap.{get_by_text}
-use Rattle.swc_tree_marks.specs.declared.ident.Ident.{Ident}
 use Rattle.swc_tree_node.specs.declared.node.Node.{Node, out-Node}
 use Rattle.swc_tree_node.specs.declared.node.Node.TheOpen.{Node-F}
 use Rattle.swc_tree_scoping.specs.declared.places.Standing.{Standing}

@@ -1,5 +1,5 @@
 -- Labels, as the code looks at them.
-use Rattle.std.specs.Prelude.{Bool, true, false, Option, Some, None, List, slice_get}
+use Rattle.std.specs.Prelude.{Bool, false, Option, Some, None, List, slice_get}
 use Rattle.swc_tree_node.specs.declared.kind.Kind.{Kind}
 use Rattle.swc_tree_node.specs.declared.kind.Kind.TheVariants as kind
 use Rattle.swc_tree_node.specs.declared.fields.statements.labeled_stmt.TheConstants as labeled_stmt

@@ -1,11 +1,10 @@
 //! Names that are claimed in scopes, and whether one is claimed twice against the rules.
-ghost use Rattle.std.specs.Prelude.{◌≡◌, ◌<◌, ◌+◌, ℕ, List, length, None, Some, IfOk, OnOk, if◌then◌else◌, option_map};
+ghost use Rattle.std.specs.Prelude.{◌≡◌, ◌<◌, ℕ, List, length, None, Some, IfOk, OnOk, if◌then◌else◌};
 ghost use Rattle.std.specs.BTreeMap.{get_by_text};
 ghost use Rattle.std.specs.Str.{bytes_eq};
 ghost use Rattle.swc_tree_scoping.specs.Declares.{is_lexical as names_lexical};
 ghost use Rattle.swc_base_resolver_program.specs.Lookup.{layers};
-ghost use Rattle.swc_base_resolver_program.specs.Walks.{AreBelow};
-ghost use Rattle.swc_base_early_errors.specs.Claims.{ClaimsHere, GivenClaim, IsNoted, Notes, OneClaim, Walked, claim_in, is_alone, is_of, note_in};
+ghost use Rattle.swc_base_early_errors.specs.Claims.{GivenClaim, Notes, OneClaim, Walked, claim_in, is_alone, is_of, note_in};
 
 use std::alloc::{AllocError, Global};
 use std::collections::BTreeMap;

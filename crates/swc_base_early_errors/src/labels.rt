@@ -1,8 +1,8 @@
 //! Labels that name functions.
-ghost use Rattle.std.specs.Prelude.{◌≡◌, not, slice_get};
+ghost use Rattle.std.specs.Prelude.{◌≡◌};
 ghost use Rattle.std.specs.List.{list_all};
 ghost use Rattle.swc_tree_renaming.specs.Apart.{labels_no_function as no_label_names_function};
-ghost use Rattle.swc_base_early_errors.specs.Labels.{is_declaration, names_one};
+ghost use Rattle.swc_base_early_errors.specs.Labels.{names_one};
 
 use swc_tree_node::fields::labeled_stmt;
 use swc_tree_node::{Kind, Node};

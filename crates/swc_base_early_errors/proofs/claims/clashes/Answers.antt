@@ -1,6 +1,6 @@
 use Rattle.std.proofs.Common.{ap, sym, ◌∙◌}
 use Rattle.swc_base_early_errors.specs.Claims.{note_in}
-use Rattle.swc_base_early_errors.proofs.Noted.{given_walked, newly_walked, none_walked, noted_alone, noted_beside}
+use Rattle.swc_base_early_errors.proofs.Noted.{given_walked, noted_alone, noted_beside}
 use Rattle.swc_base_early_errors.proofs.claims.clashes.Goals as goal
 
 pub returns-then-alone : goal.returns-then-alone

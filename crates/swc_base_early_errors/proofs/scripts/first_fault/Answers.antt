@@ -1,4 +1,4 @@
-use Rattle.std.proofs.Common.{◌≡◌, true, false, inl, inr, refl, sym, ap, ◌∙◌}
+use Rattle.std.proofs.Common.{true, false, inl, inr, refl}
 use Rattle.swc_base_early_errors.proofs.Clauses.{fails, holds, repeated_asked, unlabelled, unlabelled_not}
 use Rattle.swc_base_early_errors.proofs.Found.{no_global_is, no_sloppy_is}
 use Rattle.swc_base_early_errors.proofs.scripts.first_fault.Goals as goal

@@ -1,0 +1,3 @@
+mod OwnIds
+mod Found
+pub mod Texts

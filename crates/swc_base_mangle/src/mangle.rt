@@ -1,0 +1,100 @@
+//! Programs with short names.
+ghost use Rattle.std.specs.Prelude.{◌≡◌, ◌&&◌, IfOk, IfErr};
+ghost use Rattle.swc_base_rename_naming.specs.Ids.{HasJust};
+ghost use Rattle.swc_base_rename_program.specs.Renamed.{IsRenameRefusal, IsRenamedBy};
+ghost use Rattle.swc_base_rename_substitution.specs.Room.{FitsAs};
+ghost use Rattle.swc_base_mangle.specs.Mangled.{IsMangleRefusalBy, IsMangled, IsMangledBy, IsNamedBy, mangling};
+ghost use Rattle.swc_base_mangle.specs.Own.{is_own};
+
+use crate::own::own_ids;
+use crate::strays::has_strays;
+use std::alloc::Global;
+use std::collections::HashSet;
+use swc_base_rename_program::{Mode, rename_program};
+use swc_base_rename_short_texts::ShortTexts;
+use swc_base_rename_substitution::{Config, clear_contexts};
+use swc_tree_marks::{Globals, Id, Mark, NoMemory, PassError};
+use swc_tree_node::Node;
+
+// The ids that keep their texts.
+fn preserved_ids(
+    alloc: Global,
+    keeps_top: bool,
+    top: Mark,
+    tree: &Node,
+) -> Result<HashSet<Id>, NoMemory>
+    ensures { IfOk result (HasJust (λ x. keeps_top && is_own top tree.now x)) }
+{
+    if keeps_top {
+        own_ids(alloc, top, tree)
+    } else {
+        Ok(HashSet::new(alloc))
+    }
+}
+
+// A program with short names, whatever it is.
+fn rename_short(
+    alloc: Global,
+    config: &Config,
+    globals: &Globals,
+    keeps_top: bool,
+    tree: Node,
+) -> Result<Node, PassError>
+    ensures renamed { IfOk result (IsRenamedBy globals.now config.now (mangling keeps_top config.now.top_level_mark tree) tree) }
+    ensures refused { IfErr result (IsRenameRefusal globals.now config.now (mangling keeps_top config.now.top_level_mark tree) tree) }
+    ensures fits { IfOk result (FitsAs tree) }
+{
+    let mode = Mode {
+        mangles: true,
+        resets: false,
+    };
+    let preserved = preserved_ids(alloc, keeps_top, config.top_level_mark, &tree)?;
+    let tree = rename_program(alloc, &ShortTexts, mode, &preserved, config, globals, tree)?;
+    Ok(tree)
+}
+
+// A program with short names, unless it has strays.
+fn shorten_program(
+    alloc: Global,
+    config: &Config,
+    globals: &Globals,
+    keeps_top: bool,
+    tree: Node,
+) -> Result<Node, PassError>
+    ensures named { IfOk result (IsNamedBy globals.now config.now (mangling keeps_top config.now.top_level_mark tree) tree) }
+    ensures refused { IfErr result (IsMangleRefusalBy globals.now config.now (mangling keeps_top config.now.top_level_mark tree) tree) }
+    ensures fits { IfOk result (FitsAs tree) }
+{
+    let keeps_all = has_strays(alloc, &tree)?;
+    if keeps_all {
+        return Ok(tree);
+    }
+    let given = rename_short(alloc, config, globals, keeps_top, tree)?;
+    Ok(given)
+}
+
+/// A program whose ids have short texts, `a` to `z` and so on, where texts alone tell names apart, and no context. Each id that a scope
+/// declares gets the first text that nothing there needs; with `keeps_top` ids that have just the top mark keep theirs, which are the names
+/// of the program's scope. Where something reads names those that it may read stay, as `rename_program` has it.
+///
+/// A script that has strays keeps all its names: a plain function in a block of sloppy code, or `undefined`, `NaN` or `Infinity` as a
+/// name of the program.
+///
+/// # Errors
+///
+/// `CounterSpent` where for an id no counter below the greatest `usize` gives a free text, and `NoMemory`. The tree is then dropped.
+pub fn mangle_program(
+    alloc: Global,
+    config: &Config,
+    globals: &Globals,
+    keeps_top: bool,
+    tree: Node,
+) -> Result<Node, PassError>
+    ensures mangled { IfOk result (IsMangled globals.now config.now keeps_top tree) }
+    ensures texts { IfOk result (IsMangledBy globals.now config.now (mangling keeps_top config.now.top_level_mark tree) tree) }
+    ensures refused { IfErr result (IsMangleRefusalBy globals.now config.now (mangling keeps_top config.now.top_level_mark tree) tree) }
+    ensures fits { IfOk result (FitsAs tree) }
+{
+    let given = shorten_program(alloc, config, globals, keeps_top, tree)?;
+    Ok(clear_contexts(alloc, given))
+}
