@@ -1,4 +1,5 @@
 pub mod Aligned
+pub mod CatchTexts
 pub mod FirstWord
 pub mod Forms
 pub mod Judged

@@ -58,7 +58,7 @@ not_same keep_top reading t s w h same = fails (Asks keep_top reading t s) words
 program_opens : (t : Node) → IsOrdinary t → IsScope t []
 program_opens t h = ap (λ (o : Option Scope). is_some o) h.opens
 
-abbrev own_resolver : (t u : Node) → IsOrdinary t → IsOwnAnswer t u → Resolver t u
+abbrev pub own_resolver : (t u : Node) → IsOrdinary t → IsOwnAnswer t u → Resolver t u
 own_resolver t u h (new, resolved) = record {
   unresolved = 1;
   top = 2;

@@ -3,3 +3,4 @@ pub mod Verdict
 pub mod Pairs
 pub mod Partners
 pub mod Judged
+pub mod CatchTexts

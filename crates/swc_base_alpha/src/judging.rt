@@ -1,14 +1,16 @@
 //! Whether two programs are one but for names, and if not, why.
-ghost use Rattle.std.specs.Prelude.{◌≡◌, ◌||◌, ◌↔◌, true, false, Some, IsTrue, IfOk, IfErr, IsErrOf};
+ghost use Rattle.std.specs.Prelude.{◌≡◌, ◌||◌, ◌↔◌, true, false, IsTrue, IfOk, IfErr, IsErrOf, map};
 ghost use Rattle.swc_tree_marks.specs.declared.error.PassError.TheVariants as error;
-ghost use Rattle.swc_tree_scoping.specs.declared.places.Scope.TheVariants as scope;
-ghost use Rattle.swc_tree_scoping.specs.Places.{opened, program_place};
+ghost use Rattle.swc_tree_node.specs.declared.node.Node.{Node as Node'};
+ghost use Rattle.swc_tree_scoping.specs.Places.{program_place};
 ghost use Rattle.swc_tree_spaces.specs.Spaces.{has_types as stand_in};
+ghost use Rattle.swc_tree_walk.specs.Sites.{site_of, sites as sites_in};
 ghost use Rattle.swc_tree_grammar.specs.Normal.{normal_form as form};
 ghost use Rattle.swc_base_rename_laws.specs.NewNames.{outline};
-ghost use Rattle.swc_base_alpha.specs.Judged.{Concludes, IsOrdinary, IsRefused};
+ghost use Rattle.swc_base_alpha.specs.Judged.{Concludes, IsOrdinary, IsOwnAnswer, IsRefused};
 ghost use Rattle.swc_base_alpha.specs.Verdict.{HasPaths, IsCleanProgram, IsJudgeRefusal, IsRead, IsUncaught, Tells, TellsWhy, word_in};
 
+use crate::caught::is_caught;
 use crate::cause::{cause_among, cause_of_shape};
 use crate::differs::{Rules, sites_differ};
 use crate::outline::same_outline;
@@ -21,38 +23,52 @@ use swc_base_normal_form_laws::{
     normal_form_adds_no_types, normal_form_is_clean, normal_form_is_program,
 };
 use swc_base_rename_units::has_eval;
-use swc_base_scope_checks::catches_name;
 use swc_tree_has_types::has_types;
 use swc_tree_marks::PassError;
 use swc_tree_node::Node;
 use swc_tree_spaces_laws::types_are_told;
-use swc_tree_walk::sites;
+use swc_tree_walk::{Site, sites};
 
-// Whether a `var` or a function meets a catch parameter of its name in one of two programs.
-fn are_caught(alloc: Global, first: &Node, second: &Node) -> Result<bool, AllocError>
-    ensures { opened program_place first.now ≡ Some scope.Program → opened program_place second.now ≡ Some scope.Program → IfOk result (λ caught. (caught ≡ false) ↔ IsUncaught first.now second.now) }
+// Whether a `var` or a function meets a catch parameter of its name in one of two programs that were resolved, each with its identifiers.
+fn are_caught<'a>(
+    alloc: Global,
+    first: &Node,
+    ones: &[Site<'a>],
+    second: &Node,
+    others: &[Site<'a>],
+) -> Result<bool, AllocError>
+    requires first { map site_of ones.now ≡ sites_in program_place first.now }
+    requires second { map site_of others.now ≡ sites_in program_place second.now }
+    ensures { (t s : Node') → IsOrdinary t → IsOrdinary s → IsOwnAnswer t first.now → IsOwnAnswer s second.now → IfOk result (λ caught. (caught ≡ false) ↔ IsUncaught t s) }
 {
-    if catches_name(alloc, first)? {
+    if is_caught(alloc, first, ones)? {
         return Ok(true);
     }
-    catches_name(alloc, second)
+    is_caught(alloc, second, others)
 }
 
 // Why two normal forms of one outline are not the same, if they are not.
 fn names_differ(
     alloc: Global,
-    rules: Rules,
+    keep_top: bool,
+    reads: bool,
     first: Node,
     second: Node,
 ) -> Result<Option<Cause>, PassError>
     requires { outline first ≡ outline second }
-    ensures decides { IsOrdinary first → IsOrdinary second → (rules.caught ≡ false) ↔ IsUncaught first second → IfOk result (λ cause. Concludes rules.keep_top (IsTrue rules.reads) first second (word_in cause)) }
+    ensures decides { IsOrdinary first → IsOrdinary second → IfOk result (λ cause. Concludes keep_top (IsTrue reads) first second (word_in cause)) }
     ensures refusal { IfErr result (IsRefused first second) }
 {
     let first = resolved(alloc, first)?;
     let second = resolved(alloc, second)?;
     let ones = sites(alloc, &first)?;
     let others = sites(alloc, &second)?;
+    let caught = are_caught(alloc, &first, ones.as_slice(), &second, others.as_slice())?;
+    let rules = Rules {
+        keep_top,
+        reads,
+        caught,
+    };
     let found = sites_differ(alloc, rules, ones.as_slice(), others.as_slice())?;
     let cause = cause_among(alloc, found, ones.as_slice(), others.as_slice())?;
     Ok(cause)
@@ -72,13 +88,7 @@ fn forms_differ(
     if !same_outline(&first, &second) {
         return Ok(Some(cause_of_shape(&first, &second)));
     }
-    let caught = are_caught(alloc, &first, &second)?;
-    let rules = Rules {
-        keep_top,
-        reads,
-        caught,
-    };
-    names_differ(alloc, rules, first, second)
+    names_differ(alloc, keep_top, reads, first, second)
 }
 
 fn have_types(before: &Node, after: &Node) -> bool

@@ -6,6 +6,7 @@
 //! nothing.
 #![tactic(auto)]
 
+mod caught;
 mod cause;
 mod differs;
 mod judging;

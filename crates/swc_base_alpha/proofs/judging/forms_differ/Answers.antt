@@ -4,6 +4,3 @@ use Rattle.swc_base_alpha.proofs.judging.forms_differ.Goals as goal
 
 pub returns-then-not-same_outline-clause-decides : goal.returns-then-not-same_outline-clause-decides
 returns-then-not-same_outline-clause-decides c = λ here there. inl (refuted c.same_outline.result _ c.same_outline.ensures c.if-not-same_outline.true, c.cause_of_shape.ensures)
-
-pub returns-clause-decides : goal.returns-clause-decides
-returns-clause-decides c = λ here there. c.names_differ.ensures.decides here there (c.in_ok-caught.ensures here.opens there.opens)

@@ -5,14 +5,22 @@ use Rattle.swc_base_alpha.proofs.Judged.{one_length}
 use Rattle.swc_base_alpha.proofs.Words.{concluded}
 use Rattle.swc_base_alpha.proofs.judging.names_differ.Goals as goal
 
+pub are_caught-requires-clause-first : goal.are_caught-requires-clause-first
+are_caught-requires-clause-first c = ap (map site_of) c.as_slice.ensures.value ∙ c.in_ok-ones.ensures.all
+
+pub are_caught-requires-clause-second : goal.are_caught-requires-clause-second
+are_caught-requires-clause-second c = ap (map site_of) c.as_slice-2.ensures.value ∙ c.in_ok-others.ensures.all
+
 pub sites_differ-requires : goal.sites_differ-requires
 sites_differ-requires c =
-    one_length c.in_ok-first.first c.in_ok-second.second c.as_slice.result.now c.as_slice-2.result.now (c.in_ok-first.ensures.outline ∙ c.requires ∙ sym c.in_ok-second.ensures.outline)
-    (ap (map site_of) c.as_slice.ensures.value ∙ c.in_ok-ones.ensures.all) (ap (map site_of) c.as_slice-2.ensures.value ∙ c.in_ok-others.ensures.all)
+    one_length c.in_ok-first.first c.in_ok-second.second c.as_slice-3.result.now c.as_slice-4.result.now (c.in_ok-first.ensures.outline ∙ c.requires ∙ sym c.in_ok-second.ensures.outline)
+    (ap (map site_of) c.as_slice-3.ensures.value ∙ c.in_ok-ones.ensures.all) (ap (map site_of) c.as_slice-4.ensures.value ∙ c.in_ok-others.ensures.all)
 
 pub returns-clause-decides : goal.returns-clause-decides
-returns-clause-decides c = λ here there known.
-    subst (Concludes c.args.rules.keep_top (IsTrue c.args.rules.reads) c.args.first c.args.second) (sym c.in_ok-cause.ensures)
-    (concluded c.args.first c.args.second c.in_ok-first.first c.in_ok-second.second c.args.rules here there c.requires (c.in_ok-first.ensures.resolved here.no_types here.opens) (c.in_ok-second.ensures.resolved there.no_types there.opens) known
-    (map site_of c.as_slice.result.now) (map site_of c.as_slice-2.result.now) (ap (map site_of) c.as_slice.ensures.value ∙ c.in_ok-ones.ensures.all) (ap (map site_of) c.as_slice-2.ensures.value ∙ c.in_ok-others.ensures.all)
+returns-clause-decides c = λ here there.
+    let own = c.in_ok-first.ensures.resolved here.no_types here.opens in
+    let own_too = c.in_ok-second.ensures.resolved there.no_types there.opens in
+    subst (Concludes c.args.keep_top (IsTrue c.args.reads) c.args.first c.args.second) (sym c.in_ok-cause.ensures)
+    (concluded c.args.first c.args.second c.in_ok-first.first c.in_ok-second.second (record { keep_top = c.args.keep_top; reads = c.args.reads; caught = c.in_ok-caught.caught }) here there c.requires own own_too (c.in_ok-caught.ensures c.args.first c.args.second here there own own_too)
+    (map site_of c.as_slice-3.result.now) (map site_of c.as_slice-4.result.now) (ap (map site_of) c.as_slice-3.ensures.value ∙ c.in_ok-ones.ensures.all) (ap (map site_of) c.as_slice-4.ensures.value ∙ c.in_ok-others.ensures.all)
     c.in_ok-found.found c.in_ok-found.ensures)

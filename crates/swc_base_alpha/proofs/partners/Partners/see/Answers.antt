@@ -1,4 +1,4 @@
-use Rattle.std.proofs.Common.{◌≡◌, IsTrue, Some, None, sym, ◌∙◌}
+use Rattle.std.proofs.Common.{IsTrue, Some, None, sym, ◌∙◌}
 use Rattle.swc_tree_scoping.specs.Scopes.{is_name}
 use Rattle.swc_tree_walk.specs.Sites.{site_of}
 use Rattle.swc_base_alpha.specs.Partners.{table_of}
