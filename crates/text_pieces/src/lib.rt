@@ -1,0 +1,18 @@
+//! What a tree is written with: the tokens of its text, in their order.
+#![tactic(auto)]
+
+mod form;
+mod item;
+mod keyword;
+mod layout;
+mod leaf;
+mod piece;
+mod sign;
+mod walk;
+
+pub use item::{Ending, Form, Item};
+pub use keyword::{Keyword, keyword_text};
+pub use layout::{apart_layout_of, layout_of};
+pub use piece::{Gap, Piece};
+pub use sign::sign_of;
+pub use walk::pieces;
