@@ -1,0 +1,378 @@
+//! The nodes that a parser makes.
+use crate::fault::{Expected, TextFault};
+use crate::keywords::keyword_of;
+use crate::parser::Parser;
+use std::str;
+use swc_tree_items::{Boxed, Items, Text};
+use swc_tree_marks::{Ident, Span, SyntaxContext};
+use swc_tree_node::{Kind, Node, Word};
+use text_lexer::Token;
+use text_strings::Reading;
+use text_values::{CookError, Flaw, cook, make_raw};
+
+/// A place in a tree: bytes from 1, since a span of 0 and 0 is that of what stands nowhere.
+pub fn place(at: usize) -> u32 {
+    u32::try_from(at).unwrap_or(u32::MAX).saturating_add(1)
+}
+
+/// The span of what begins behind so many bytes, and ends behind so many.
+pub fn span_of(start: usize, end: usize) -> Span {
+    Span {
+        lo: place(start),
+        hi: place(end),
+    }
+}
+
+fn flawed(error: CookError, at: usize) -> TextFault {
+    match error {
+        CookError::NoMemory => TextFault::NoMemory,
+        CookError::Flawed(Flaw::BadEscape) => TextFault::BadEscape { at },
+        CookError::Flawed(Flaw::HalfSurrogate) => TextFault::HalfSurrogate { at },
+    }
+}
+
+/// Whether a literal's text stands for itself: no escape is in it, and no line end that is read as another.
+fn is_plain(body: &[u8]) -> bool {
+    !body.iter().any(|byte| *byte == b'\\' || *byte == b'\r')
+}
+
+impl<'a> Parser<'a> {
+    /// How many nodes are to be parts of others.
+    pub fn count(&self) -> usize {
+        self.nodes.len()
+    }
+
+    /// The span of what begins at a place, and ends with the last token.
+    pub fn span_from(&self, start: usize) -> Span {
+        span_of(start, self.end())
+    }
+
+    /// Makes a node that is to be a part of another.
+    pub fn push(&mut self, node: Node) -> Result<(), TextFault> {
+        self.nodes.push(node)?;
+        Ok(())
+    }
+
+    /// Makes what stands in a field that holds nothing.
+    pub fn push_absent(&mut self) -> Result<(), TextFault> {
+        self.push(Node::Absent)
+    }
+
+    /// Makes an operator or the keyword of a declaration.
+    pub fn push_word(&mut self, word: Word) -> Result<(), TextFault> {
+        self.push(Node::Word(word))
+    }
+
+    /// Makes a flag.
+    pub fn push_flag(&mut self, flag: bool) -> Result<(), TextFault> {
+        self.push(Node::Flag(flag))
+    }
+
+    /// Makes the span of what begins at a place, and ends with the last token.
+    pub fn push_span(&mut self, start: usize) -> Result<(), TextFault> {
+        let span = self.span_from(start);
+        self.push(Node::Span(span))
+    }
+
+    /// A text of the tree, of bytes that the lexer has read.
+    pub fn text_of(&self, text: &[u8]) -> Result<Text, TextFault> {
+        match str::from_utf8(text) {
+            Ok(text) => Ok(Text::new(self.alloc, text)?),
+            Err(_) => Err(TextFault::Unexpected {
+                at: self.start(),
+                expected: Expected::Token,
+            }),
+        }
+    }
+
+    /// Makes a text.
+    pub fn push_text(&mut self, text: &[u8]) -> Result<(), TextFault> {
+        let text = self.text_of(text)?;
+        self.push(Node::Text(text))
+    }
+
+    /// The value of what is written with escapes, or may be.
+    fn value_of(&self, reading: Reading, body: &[u8]) -> Result<Text, TextFault> {
+        if is_plain(body) {
+            return self.text_of(body);
+        }
+        match cook(self.alloc, reading, body) {
+            Ok(value) => self.text_of(&value),
+            Err(error) => Err(flawed(error, self.start())),
+        }
+    }
+
+    fn push_value(&mut self, body: &[u8]) -> Result<(), TextFault> {
+        let text = self.value_of(Reading::Quoted, body)?;
+        self.push(Node::Text(text))
+    }
+
+    /// Makes an identifier of a kind of the name here, and goes behind it. The name may be bound and referred to.
+    pub fn push_name(&mut self, kind: Kind) -> Result<(), TextFault> {
+        let sym = self.name_here()?;
+        let start = self.start();
+        self.advance()?;
+        self.push_ident(kind, sym, start)
+    }
+
+    fn name_here(&self) -> Result<Text, TextFault> {
+        let sym = self.word_here()?;
+        let keyword = match self.token() {
+            Token::EscapedName(_) => keyword_of(sym.as_str().as_bytes()),
+            _ => self.keyword(),
+        };
+        if self.may_be_name(keyword) {
+            Ok(sym)
+        } else {
+            Err(TextFault::Unexpected {
+                at: self.start(),
+                expected: Expected::Name,
+            })
+        }
+    }
+
+    fn word_here(&self) -> Result<Text, TextFault> {
+        match self.token() {
+            Token::Name(name) => self.text_of(name),
+            Token::EscapedName(raw) => self.value_of(Reading::Quoted, raw),
+            _ => Err(TextFault::Unexpected {
+                at: self.start(),
+                expected: Expected::Name,
+            }),
+        }
+    }
+
+    /// The same of any word.
+    pub fn push_any_name(&mut self) -> Result<(), TextFault> {
+        let sym = self.word_here()?;
+        let start = self.start();
+        self.advance()?;
+        self.push_ident(Kind::Ident, sym, start)
+    }
+
+    fn push_ident(&mut self, kind: Kind, sym: Text, start: usize) -> Result<(), TextFault> {
+        let ident = Ident {
+            span: self.span_from(start),
+            ctxt: SyntaxContext::empty(self.alloc),
+            sym,
+        };
+        let ident = Boxed::new(self.alloc, ident)?;
+        self.push(Node::Identifier(kind, ident))
+    }
+
+    /// Makes a key of the word here, and goes behind it.
+    pub fn push_key_name(&mut self) -> Result<(), TextFault> {
+        let (start, before) = (self.start(), self.count());
+        let Ok(sym) = self.word_here() else {
+            return self.unexpected(Expected::Key);
+        };
+        self.push(Node::Text(sym))?;
+        self.advance()?;
+        self.build(Kind::IdentName, start, before)
+    }
+
+    /// Makes a private name of what is written behind `#` here, and goes behind it.
+    pub fn push_private_name(&mut self, raw: &[u8]) -> Result<(), TextFault> {
+        let (start, before) = (self.start(), self.count());
+        self.push_value(raw)?;
+        self.advance()?;
+        self.build(Kind::PrivateName, start, before)
+    }
+
+    /// Makes a node of a kind of the token here, and goes behind it. It holds a text, if one is given.
+    pub fn push_leaf(&mut self, kind: Kind, text: Option<&[u8]>) -> Result<(), TextFault> {
+        let (start, before) = (self.start(), self.count());
+        if let Some(text) = text {
+            self.push_text(text)?;
+        }
+        self.advance()?;
+        self.build(kind, start, before)
+    }
+
+    /// Makes a boolean literal of the word here, and goes behind it.
+    pub fn push_bool(&mut self, value: bool) -> Result<(), TextFault> {
+        let (start, before) = (self.start(), self.count());
+        self.push_flag(value)?;
+        self.advance()?;
+        self.build(Kind::Bool, start, before)
+    }
+
+    /// Makes a string of the one here, and goes behind it.
+    pub fn push_string(&mut self) -> Result<(), TextFault> {
+        let (start, before) = (self.start(), self.count());
+        let Token::Str(body) = self.token() else {
+            return self.unexpected(Expected::Text);
+        };
+        self.push_value(body)?;
+        self.push_text(self.written())?;
+        self.advance()?;
+        self.build(Kind::Str, start, before)
+    }
+
+    /// Makes a text of the value of the string here, and goes behind it.
+    pub fn push_string_value(&mut self) -> Result<(), TextFault> {
+        let Token::Str(body) = self.token() else {
+            return self.unexpected(Expected::Text);
+        };
+        self.push_value(body)?;
+        self.advance()
+    }
+
+    /// Makes a text of the word here, and goes behind it.
+    pub fn push_key_text(&mut self) -> Result<(), TextFault> {
+        let Ok(text) = self.word_here() else {
+            return self.unexpected(Expected::Key);
+        };
+        self.push(Node::Text(text))?;
+        self.advance()
+    }
+
+    /// Makes a regular expression of the one here, and goes behind it.
+    pub fn push_regex(&mut self) -> Result<(), TextFault> {
+        let (start, before) = (self.start(), self.count());
+        let Token::Regex(pattern, flags) = self.token() else {
+            return self.unexpected(Expected::Expression);
+        };
+        self.push_text(pattern)?;
+        self.push_text(flags)?;
+        self.advance()?;
+        self.build(Kind::Regex, start, before)
+    }
+
+    fn cooked(&self, body: &[u8], is_tagged: bool) -> Result<Node, TextFault> {
+        match self.value_of(Reading::Template, body) {
+            Ok(value) => Ok(Node::Text(value)),
+            Err(TextFault::BadEscape { .. }) if is_tagged => Ok(Node::Absent),
+            Err(fault) => Err(fault),
+        }
+    }
+
+    fn raw(&self, body: &[u8]) -> Result<Node, TextFault> {
+        if is_plain(body) {
+            return Ok(Node::Text(self.text_of(body)?));
+        }
+        let raw = make_raw(self.alloc, body)?;
+        Ok(Node::Text(self.text_of(&raw)?))
+    }
+
+    /// Makes a text of a template, which begins so many bytes in; a template with a tag may have bad escapes.
+    pub fn keep_template_text(
+        &mut self,
+        body: &[u8],
+        is_tail: bool,
+        is_tagged: bool,
+    ) -> Result<(), TextFault> {
+        let start = self.start().saturating_add(1);
+        let cooked = self.cooked(body, is_tagged)?;
+        let raw = self.raw(body)?;
+        let span = span_of(start, start.saturating_add(body.len()));
+        let before = self.count();
+        self.push(Node::Span(span))?;
+        self.push_flag(is_tail)?;
+        self.push(cooked)?;
+        self.push(raw)?;
+        self.close(Kind::TplElement, before)?;
+        match self.nodes.pop() {
+            Some(text) => {
+                self.texts.push(text)?;
+                Ok(())
+            }
+            None => Ok(()),
+        }
+    }
+
+    /// Puts a node before those behind so many.
+    pub fn insert(&mut self, before: usize, node: Node) -> Result<(), TextFault> {
+        if before > self.nodes.len() {
+            return self.unexpected(Expected::Token);
+        }
+        self.nodes.insert(before, node)?;
+        Ok(())
+    }
+
+    /// Makes a node of a kind that begins at a place, whose other fields are the nodes behind so many.
+    pub fn build(&mut self, kind: Kind, start: usize, before: usize) -> Result<(), TextFault> {
+        let span = self.span_from(start);
+        self.insert(before, Node::Span(span))?;
+        self.close(kind, before)
+    }
+
+    /// The same with a word or a flag between the span and the other fields.
+    pub fn build_with(
+        &mut self,
+        kind: Kind,
+        second: Node,
+        start: usize,
+        before: usize,
+    ) -> Result<(), TextFault> {
+        self.insert(before, second)?;
+        self.build(kind, start, before)
+    }
+
+    /// Makes a node of a kind, whose fields are the nodes behind so many.
+    pub fn close(&mut self, kind: Kind, before: usize) -> Result<(), TextFault> {
+        let fields = self.take_from(before)?;
+        self.push(Node::Tree(kind, fields))
+    }
+
+    /// Makes a list of the nodes behind so many.
+    pub fn list(&mut self, before: usize) -> Result<(), TextFault> {
+        let items = self.take_from(before)?;
+        self.push(Node::List(items))
+    }
+
+    fn take_from(&mut self, before: usize) -> Result<Items<Node>, TextFault> {
+        if before > self.nodes.len() {
+            return Err(TextFault::Unexpected {
+                at: self.start(),
+                expected: Expected::Token,
+            });
+        }
+        Ok(Items::from_vec(self.nodes.split_off(before)?))
+    }
+
+    /// Makes a list of the templates' texts behind so many.
+    pub fn list_texts(&mut self, before: usize) -> Result<(), TextFault> {
+        if before > self.texts.len() {
+            return self.unexpected(Expected::Token);
+        }
+        let texts = self.texts.split_off(before)?;
+        self.push(Node::List(Items::from_vec(texts)))
+    }
+
+    /// Turns round the last two nodes.
+    pub fn swap(&mut self) -> Result<(), TextFault> {
+        let (Some(last), Some(other)) = (self.nodes.pop(), self.nodes.pop()) else {
+            return self.unexpected(Expected::Token);
+        };
+        self.push(last)?;
+        self.push(other)
+    }
+
+    /// Whether the last node is of a kind.
+    pub fn is_last(&self, kind: Kind) -> bool {
+        match self.nodes.last() {
+            Some(Node::Tree(other, _)) => *other == kind,
+            Some(Node::Identifier(other, _)) => *other == kind,
+            _ => false,
+        }
+    }
+
+    /// Whether the node behind so many is of a kind.
+    pub fn is_at(&self, before: usize, kind: Kind) -> bool {
+        match self.nodes.get(before) {
+            Some(Node::Tree(other, _)) => *other == kind,
+            _ => false,
+        }
+    }
+
+    /// Whether the last node is a list.
+    pub fn is_last_list(&self) -> bool {
+        matches!(self.nodes.last(), Some(Node::List(_)))
+    }
+
+    /// Whether the last node stands for nothing.
+    pub fn is_last_absent(&self) -> bool {
+        matches!(self.nodes.last(), Some(Node::Absent))
+    }
+}

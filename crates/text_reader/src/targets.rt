@@ -1,0 +1,271 @@
+//! What a parser makes anew of what it has read.
+use crate::building::span_of;
+use crate::fault::{Expected, TextFault};
+use crate::keywords::Keyword;
+use crate::parser::Parser;
+use swc_tree_node::{Kind, Node, Word};
+use text_lexer::Mark;
+use text_patterns::{PatternError, Reading, is_simple_target, parameters_of, pattern_of};
+
+/// What a statement is as a directive (ECMA-262, 11.2.1).
+#[derive(Clone, Copy, PartialEq, Eq)]
+enum Directive {
+    None,
+    Other,
+    UseStrict,
+    /// It has the value of `"use strict"`, and is written otherwise.
+    Escaped,
+}
+
+const USE_STRICT: &str = "use strict";
+
+fn directive_of(statement: Option<&Node>) -> Directive {
+    let Some(Node::Tree(Kind::ExprStmt, fields)) = statement else {
+        return Directive::None;
+    };
+    match fields.get(1) {
+        Some(Node::Tree(Kind::Str, fields)) => directive_in(fields.as_slice()),
+        _ => Directive::None,
+    }
+}
+
+fn directive_in(string: &[Node]) -> Directive {
+    match string {
+        [_, Node::Text(value), Node::Text(raw)] => {
+            if value.as_str() != USE_STRICT {
+                Directive::Other
+            } else if raw.as_str().len() == USE_STRICT.len() + 2 {
+                Directive::UseStrict
+            } else {
+                Directive::Escaped
+            }
+        }
+        _ => Directive::None,
+    }
+}
+
+fn is_spread(argument: &Node) -> bool {
+    match argument {
+        Node::Tree(_, fields) => !matches!(fields.get(0), Some(Node::Absent)),
+        _ => true,
+    }
+}
+
+fn is_each_variable(variable: &Node, may_have_value: bool) -> bool {
+    match variable {
+        Node::Tree(_, fields) => match fields.as_slice() {
+            [_, _, Node::Absent] => true,
+            [_, Node::Identifier(_, _), _] => may_have_value,
+            _ => false,
+        },
+        _ => false,
+    }
+}
+
+fn is_var(word: Option<&Node>) -> bool {
+    matches!(word, Some(Node::Word(Word::Var)))
+}
+
+impl<'a> Parser<'a> {
+    /// Notes that a name here has a default, which only a pattern may have.
+    pub fn begin_cover(&mut self) -> Result<(), TextFault> {
+        self.covers = self.covers.saturating_add(1);
+        self.cover_at = self.start();
+        let reading = self.reading(true);
+        self.last_as_pattern(reading, u32::MAX)
+    }
+
+    /// Sees to it that all names with defaults are in patterns, but for those that were open before.
+    pub fn end_covers(&self, before: usize) -> Result<(), TextFault> {
+        if self.covers > before {
+            Err(TextFault::Unexpected {
+                at: self.cover_at,
+                expected: Expected::Mark(Mark::Comma),
+            })
+        } else {
+            Ok(())
+        }
+    }
+
+    fn reading(&self, binds: bool) -> Reading {
+        Reading {
+            alloc: self.alloc,
+            binds,
+        }
+    }
+
+    fn refused(&self, error: PatternError) -> TextFault {
+        match error {
+            PatternError::NoMemory => TextFault::NoMemory,
+            PatternError::NotPattern => TextFault::Unexpected {
+                at: self.start(),
+                expected: Expected::Target,
+            },
+        }
+    }
+
+    fn resolve(
+        &mut self,
+        read: Result<Node, PatternError>,
+        covers: usize,
+    ) -> Result<(), TextFault> {
+        self.covers = self.covers.saturating_sub(covers);
+        match read {
+            Ok(node) => self.push(node),
+            Err(error) => Err(self.refused(error)),
+        }
+    }
+
+    fn last_as_pattern(&mut self, reading: Reading, depth: u32) -> Result<(), TextFault> {
+        let Some(node) = self.nodes.pop() else {
+            return self.unexpected(Expected::Target);
+        };
+        let mut covers = 0;
+        let read = pattern_of(node, reading, depth, &mut covers);
+        self.resolve(read, covers)
+    }
+
+    /// Reads the last node anew as what an operator assigns to; only `=` takes patterns.
+    pub fn last_to_target(&mut self, word: Word, depth: u32) -> Result<(), TextFault> {
+        if word != Word::Assign {
+            self.expect_simple_target(depth)?;
+        }
+        let is_assignment = self.is_last(Kind::AssignExpr);
+        if is_assignment {
+            return self.unexpected(Expected::Target);
+        }
+        self.last_as_pattern(self.reading(false), depth)
+    }
+
+    /// Reads the last node anew as a pattern that binds names.
+    pub fn last_to_binding(&mut self, depth: u32) -> Result<(), TextFault> {
+        self.last_as_pattern(self.reading(true), depth)
+    }
+
+    /// Reads the last node, a list, anew as parameters.
+    pub fn last_to_parameters(&mut self, depth: u32) -> Result<(), TextFault> {
+        let Some(node) = self.nodes.pop() else {
+            return self.unexpected(Expected::Target);
+        };
+        let mut covers = 0;
+        let read = parameters_of(node, self.reading(true), depth, &mut covers);
+        self.resolve(read, covers)
+    }
+
+    /// Reads the last node anew as what a loop assigns to, unless it declares.
+    pub fn last_to_head(&mut self, depth: u32) -> Result<(), TextFault> {
+        if self.is_last(Kind::VarDecl) || self.is_last(Kind::UsingDecl) {
+            Ok(())
+        } else {
+            self.last_to_target(Word::Assign, depth)
+        }
+    }
+
+    /// Whether the last node is what a loop over values or keys may begin with. Only a `var` before `in` has a value
+    /// (ECMA-262, B.3.5).
+    pub fn is_each_head(&self, is_expression_of_let: bool) -> bool {
+        match self.nodes.last() {
+            Some(Node::Tree(Kind::VarDecl | Kind::UsingDecl, fields)) => match fields.get(2) {
+                Some(Node::List(variables)) => match variables.as_slice() {
+                    [variable] => {
+                        let may = self.may_have_value() && is_var(fields.get(1));
+                        is_each_variable(variable, may)
+                    }
+                    _ => false,
+                },
+                _ => false,
+            },
+            _ => !is_expression_of_let,
+        }
+    }
+
+    fn may_have_value(&self) -> bool {
+        !self.context.is_strict && self.is_keyword(Keyword::In)
+    }
+
+    /// Sees to it that what a loop with semicolons begins with may stand there.
+    pub fn end_head(&self, head: usize) -> Result<(), TextFault> {
+        if self.is_last(Kind::UsingDecl) {
+            return Err(TextFault::Unexpected {
+                at: head,
+                expected: Expected::Expression,
+            });
+        }
+        Ok(())
+    }
+
+    /// Sees to it that the last node is a name or a member.
+    pub fn expect_simple_target(&self, depth: u32) -> Result<(), TextFault> {
+        match self.nodes.last() {
+            Some(node) if is_simple_target(node, depth) => Ok(()),
+            _ => self.unexpected(Expected::Target),
+        }
+    }
+
+    /// Makes parentheses of the expressions behind so many, which begin and end at places.
+    pub fn build_paren(
+        &mut self,
+        start: usize,
+        inner: usize,
+        end: usize,
+        before: usize,
+    ) -> Result<(), TextFault> {
+        if self.count() != before.saturating_add(1) {
+            self.list(before)?;
+            self.insert(before, Node::Span(span_of(inner, end)))?;
+            self.close(Kind::SeqExpr, before)?;
+        }
+        self.build(Kind::ParenExpr, start, before)
+    }
+
+    /// Lets go of the node before the last.
+    pub fn drop_before_last(&mut self) -> Result<(), TextFault> {
+        let last = self.nodes.pop();
+        let _ = self.nodes.pop();
+        match last {
+            Some(last) => self.push(last),
+            None => self.unexpected(Expected::Token),
+        }
+    }
+
+    /// Sees to it that `import` has one argument or two, none of them with dots (ECMA-262, 13.3.10).
+    pub fn expect_import_arguments(&self) -> Result<(), TextFault> {
+        let fits = match self.nodes.last() {
+            Some(Node::List(arguments)) => match arguments.as_slice() {
+                [module] => !is_spread(module),
+                [module, options] => !is_spread(module) && !is_spread(options),
+                _ => false,
+            },
+            _ => false,
+        };
+        if fits {
+            Ok(())
+        } else {
+            self.unexpected(Expected::Parameters)
+        }
+    }
+
+    /// Whether the last node, which begins at a place, is a directive; the code behind one may be strict. Where the first
+    /// stands that has the value of `"use strict"` and is written otherwise is kept.
+    pub fn mind_directive(&mut self, start: usize, escaped: &mut Option<usize>) -> bool {
+        match directive_of(self.nodes.last()) {
+            Directive::None => return false,
+            Directive::Other => (),
+            Directive::UseStrict => self.context.is_strict = true,
+            Directive::Escaped => {
+                if escaped.is_none() {
+                    *escaped = Some(start);
+                }
+            }
+        }
+        true
+    }
+
+    /// Sees to it that code with a directive that is written otherwise than `"use strict"` is strict all the same.
+    pub fn end_directives(&self, escaped: Option<usize>) -> Result<(), TextFault> {
+        match escaped {
+            Some(at) if !self.context.is_strict => Err(TextFault::EscapedDirective { at }),
+            _ => Ok(()),
+        }
+    }
+}
