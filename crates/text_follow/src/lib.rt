@@ -1,0 +1,8 @@
+//! Whether a text is written with the tokens of a tree.
+#![tactic(auto)]
+
+mod ending;
+mod follow;
+mod spell;
+
+pub use follow::follows;

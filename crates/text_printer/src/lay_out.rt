@@ -1,0 +1,248 @@
+//! Pieces written one after another, with the blanks that they need.
+use crate::mark_text::mark_text;
+use std::alloc::{AllocError, Global};
+use text_lexer::{Mark, TemplatePart};
+use text_pieces::{Gap, Piece};
+
+/// How a text is laid out.
+#[derive(Clone, Copy, Debug, PartialEq, Eq)]
+pub enum Layout {
+    /// A statement or member of a class a line, two blanks a level, and in a line no blank that may be left out.
+    Lines,
+    /// No blank that may be left out, and no line end.
+    Compact,
+}
+
+/// What the last token ends with, as far as the next may not follow it at once.
+#[derive(Clone, Copy, PartialEq, Eq)]
+enum Last {
+    /// Nothing has been written.
+    Nothing,
+    /// What goes on with no other token.
+    Closed,
+    /// A part of a name.
+    Name,
+    /// A number that goes on with a dot.
+    Digits,
+    Plus,
+    Minus,
+    Slash,
+    Less,
+}
+
+#[derive(Drop)]
+struct Writer {
+    out: Vec<u8>,
+    layout: Layout,
+    last: Last,
+    depth: usize,
+    /// A line begins before the next token.
+    line: bool,
+    /// Lines are further in, and nothing has been written there.
+    opened: bool,
+}
+
+fn is_name_byte(byte: u8) -> bool {
+    byte.is_ascii_alphanumeric() || byte == b'$' || byte == b'_' || byte == b'\\' || byte >= 128
+}
+
+/// Whether a blank has to stand between what ends thus and a token that begins with the byte.
+fn joins(last: Last, byte: u8) -> bool {
+    match last {
+        Last::Nothing | Last::Closed => false,
+        Last::Name => is_name_byte(byte),
+        Last::Digits => is_name_byte(byte) || byte == b'.',
+        Last::Plus => byte == b'+',
+        Last::Minus => byte == b'-',
+        Last::Slash => byte == b'/',
+        Last::Less => byte == b'!',
+    }
+}
+
+fn last_of_mark(mark: Mark) -> Last {
+    match mark {
+        Mark::Plus | Mark::PlusPlus => Last::Plus,
+        Mark::Minus | Mark::MinusMinus => Last::Minus,
+        Mark::Slash => Last::Slash,
+        Mark::Lt => Last::Less,
+        _ => Last::Closed,
+    }
+}
+
+fn last_of_number(text: &str) -> Last {
+    for byte in text.as_bytes() {
+        if !(byte.is_ascii_digit() || *byte == b'_') {
+            return Last::Name;
+        }
+    }
+    Last::Digits
+}
+
+impl Writer {
+    fn begin_line(&mut self) -> Result<(), AllocError> {
+        if self.last != Last::Nothing {
+            self.out.push(b'\n')?;
+        }
+        for _ in 0..self.depth {
+            self.out.extend_from_slice(b"  ")?;
+        }
+        self.last = Last::Closed;
+        Ok(())
+    }
+
+    /// What goes before a token that begins with the byte.
+    fn begin(&mut self, byte: u8) -> Result<(), AllocError> {
+        if self.line && self.layout == Layout::Lines {
+            self.begin_line()?;
+        } else if joins(self.last, byte) {
+            self.out.push(b' ')?;
+        }
+        self.line = false;
+        self.opened = false;
+        Ok(())
+    }
+
+    fn token(&mut self, text: &str, last: Last) -> Result<(), AllocError> {
+        let bytes = text.as_bytes();
+        self.begin(if bytes.is_empty() { b' ' } else { bytes[0] })?;
+        self.out.extend_from_slice(bytes)?;
+        self.last = last;
+        Ok(())
+    }
+
+    fn mark(&mut self, mark: Mark) -> Result<(), AllocError> {
+        self.token(mark_text(mark), last_of_mark(mark))
+    }
+
+    fn private(&mut self, text: &str) -> Result<(), AllocError> {
+        self.token("#", Last::Closed)?;
+        self.out.extend_from_slice(text.as_bytes())?;
+        self.last = Last::Name;
+        Ok(())
+    }
+
+    fn quoted(&mut self, value: &str) -> Result<(), AllocError> {
+        self.token("\"", Last::Closed)?;
+        for byte in value.as_bytes() {
+            match *byte {
+                b'"' => self.out.extend_from_slice(b"\\\"")?,
+                b'\\' => self.out.extend_from_slice(b"\\\\")?,
+                b'\n' => self.out.extend_from_slice(b"\\n")?,
+                b'\r' => self.out.extend_from_slice(b"\\r")?,
+                other => self.out.push(other)?,
+            }
+        }
+        self.out.push(b'"')?;
+        Ok(())
+    }
+
+    fn template(&mut self, part: TemplatePart, raw: &str) -> Result<(), AllocError> {
+        match part {
+            TemplatePart::Whole | TemplatePart::Head => self.token("`", Last::Closed)?,
+            TemplatePart::Middle | TemplatePart::Tail => self.token("}", Last::Closed)?,
+        }
+        self.out.extend_from_slice(raw.as_bytes())?;
+        match part {
+            TemplatePart::Whole | TemplatePart::Tail => self.out.push(b'`')?,
+            TemplatePart::Head | TemplatePart::Middle => self.out.extend_from_slice(b"${")?,
+        }
+        Ok(())
+    }
+
+    fn regex(&mut self, pattern: &str, flags: &str) -> Result<(), AllocError> {
+        self.token("/", Last::Name)?;
+        self.out.extend_from_slice(pattern.as_bytes())?;
+        self.out.push(b'/')?;
+        self.out.extend_from_slice(flags.as_bytes())?;
+        Ok(())
+    }
+
+    fn hashbang(&mut self, text: &str) -> Result<(), AllocError> {
+        self.token("#!", Last::Closed)?;
+        self.out.extend_from_slice(text.as_bytes())?;
+        self.out.push(b'\n')?;
+        self.last = Last::Nothing;
+        Ok(())
+    }
+
+    fn parameter(&mut self, name: &str) -> Result<(), AllocError> {
+        self.mark(Mark::LeftParen)?;
+        self.token(name, Last::Name)?;
+        self.mark(Mark::RightParen)
+    }
+
+    fn attribute(&mut self, key: &str, value: &str) -> Result<(), AllocError> {
+        self.quoted(key)?;
+        self.mark(Mark::Colon)?;
+        self.quoted(value)
+    }
+
+    fn gap(&mut self, gap: Gap) {
+        match gap {
+            Gap::Line => self.line = true,
+            Gap::In => {
+                self.depth = self.depth.saturating_add(1);
+                self.opened = true;
+            }
+            Gap::Out => {
+                self.depth = self.depth.saturating_sub(1);
+                self.line = !self.opened;
+                self.opened = false;
+            }
+        }
+    }
+
+    fn piece(&mut self, piece: Piece<'_>) -> Result<(), AllocError> {
+        match piece {
+            Piece::Word(text) | Piece::Name(text) | Piece::BigInt(text) => self.token(
+                text,
+                Last::Name,
+            ),
+            Piece::Private(text) => self.private(text),
+            Piece::Mark(mark) => self.mark(mark),
+            Piece::Number(text) => self.token(text, last_of_number(text)),
+            Piece::Quoted(_, Some(raw)) => self.token(raw, Last::Closed),
+            Piece::Quoted(value, None) => self.quoted(value),
+            Piece::Template(part, _, raw) => self.template(part, raw),
+            Piece::Regex(pattern, flags) => self.regex(pattern, flags),
+            Piece::Hashbang(text) => self.hashbang(text),
+            Piece::Attribute(key, value) => self.attribute(key, value),
+            Piece::Parameter(name) => self.parameter(name),
+            Piece::End => self.mark(Mark::Semicolon),
+            Piece::Gap(gap) => {
+                self.gap(gap);
+                Ok(())
+            }
+            Piece::MayComma
+            | Piece::MayFrom
+            | Piece::MayBraces
+            | Piece::Here
+            | Piece::Closes(_)
+            | Piece::Never => Ok(()),
+        }
+    }
+}
+
+/// The pieces, laid out.
+pub(crate) fn lay_out(
+    alloc: Global,
+    layout: Layout,
+    pieces: &[Piece<'_>],
+) -> Result<Vec<u8>, AllocError> {
+    let mut writer = Writer {
+        out: Vec::new(alloc),
+        layout,
+        last: Last::Nothing,
+        depth: 0,
+        line: false,
+        opened: false,
+    };
+    for piece in pieces {
+        writer.piece(*piece)?;
+    }
+    if writer.layout == Layout::Lines && writer.last != Last::Nothing {
+        writer.out.push(b'\n')?;
+    }
+    let Writer { out, .. } = writer;
+    Ok(out)
+}

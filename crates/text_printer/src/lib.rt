@@ -1,0 +1,9 @@
+//! Texts of trees.
+#![tactic(auto)]
+
+mod lay_out;
+mod mark_text;
+mod print;
+
+pub use lay_out::Layout;
+pub use print::{PrintFault, print_text};
