@@ -1,10 +1,15 @@
 #!/usr/bin/env python3
-"""check_pages.py: says which paths and names that pages put in backquotes are not in the repository; status 1 if there are any.
+"""check_pages.py [--words]: says which paths and names that pages name are not in the repository, and which pages are too long; status 1 if
+there are any. With --words it prints how many words each page has, and how many it may have.
 
 The pages are those at the top, in docs/, and those of the tools. A path stands at the top, below crates/, docs/ or tools/, in some
 crate, or beside its page; of what is built, below a crate's out/, the crate does. A name is one of Rust or of the definitions, with
 `_` or a capital in it; one that ends or begins with `_` is the beginning or the end of some name. A file of this repository's kinds
-may be named alone. Of all else in backquotes nothing is said.
+may be named alone. Of all else in backquotes nothing is said, but of commands, there and in indented lines: what they name below bench/,
+docs/ and tools/ has to be there.
+
+Words are counted as `wc -w` counts them. Each page but docs/JSON.md, which is printed, has a limit, and all have one together. No cell of a
+table is wider than 300 columns: what is longer is a list.
 
 It also says which crates of crates.txt stand in no room of docs/ARCHITECTURE.md, and which use one that stands in a higher room or behind them in their own."""
 import glob
@@ -19,6 +24,18 @@ PLACES = ('', 'crates/', 'crates/*/', 'docs/', 'tools/')
 PATH = re.compile(r'[\w.*-]+/[\w./*-]*')
 FILE = re.compile(r'[\w-]+\.(antt|json|md|py|rt|txt)')
 NAME = re.compile(r'\w+(::\w+)*(\(\))?')
+# What begins a command, and what it may name.
+COMMAND = re.compile(r'(python3|node|cd|rt|[\w.]+/[\w./-]+) +\S')
+NAMED = re.compile(r'(?:\.\./)*((?:bench|docs|tools)/[\w./-]*\w)')
+# How many words a page may have, and all together. docs/JSON.md is printed from tools/tree.txt.
+LIMITS = {
+    'README.md': 899, 'CONTRIBUTING.md': 1000, 'CHANGELOG.md': 1000,
+    'docs/ARCHITECTURE.md': 2900, 'docs/DECISIONS.md': 2600, 'docs/DEFINITIONS.md': 4900, 'docs/DIFFERENCES.md': 1400, 'docs/EXAMPLES.md': 1200,
+    'docs/LINT.md': 650, 'docs/MEASUREMENTS.md': 1700, 'docs/PERF.md': 950, 'docs/RENAMERS.md': 1000, 'docs/SURFACE.md': 3200, 'docs/VERIFICATION.md': 2800,
+    'tools/compute/README.md': 850, 'tools/js/README.md': 650}
+PRINTED = {'docs/JSON.md'}
+ALL = 24000
+WIDEST = 300
 # What begins a room of docs/ARCHITECTURE.md, before its crates, and crates, of which some have names that begin alike.
 ROOM = re.compile(r'^[a-z](?:[a-z]| (?! ))*  +', re.M)
 CRATES = re.compile(r'(\w+)_\{([^}]*)\}|(\w+)')
@@ -74,6 +91,50 @@ def missing(term, page, files, words):
     return not all(is_name(name, words) for name in names)
 
 
+def commands_in(line):
+    """The commands in a line of a page: one that is indented, or in backquotes."""
+    if line.startswith('    '):
+        yield line.strip()
+    for term in re.findall('`([^`]+)`', line):
+        if COMMAND.match(term):
+            yield term
+
+
+def lost_in(line):
+    """What commands in a line of a page name below folders of the repository, and is not there."""
+    for command in commands_in(line):
+        for word in re.split(r'[\s<>;|&]+', command):
+            path = NAMED.fullmatch(word)
+            if path and not glob.glob(os.path.join(ROOT, ANY.sub('*', path.group(1)))):
+                yield word
+
+
+def too_wide(line):
+    """Whether a line of a table has a cell that is a list."""
+    return line.startswith('|') and any(len(cell.strip()) > WIDEST for cell in re.split(r'(?<!\\)\|', line))
+
+
+def counts(pages):
+    """How many words each page has that is written by hand."""
+    found = {}
+    for page in pages:
+        if page not in PRINTED:
+            with open(os.path.join(ROOT, page), encoding='utf-8') as text:
+                found[page] = len(text.read().split())
+    return found
+
+
+def too_long(found):
+    """Which pages have more words than they may have."""
+    for page, words in found.items():
+        if page not in LIMITS:
+            yield f'{page}: has no limit of words in tools/check_pages.py'
+        elif words > LIMITS[page]:
+            yield f'{page}: {words} words, where {LIMITS[page]} are allowed'
+    if sum(found.values()) > ALL:
+        yield f'the pages have {sum(found.values())} words together, where {ALL} are allowed'
+
+
 def crates_in_order():
     """The crates of docs/ARCHITECTURE.md, those of lower rooms first."""
     with open(os.path.join(ROOT, 'docs/ARCHITECTURE.md'), encoding='utf-8') as text:
@@ -96,21 +157,34 @@ def misplaced():
                 yield f'{crate} uses {used}, which stands above it'
 
 
+def faults_of(page, files, words):
+    """What is wrong with a page, line by line."""
+    with open(os.path.join(ROOT, page), encoding='utf-8') as text:
+        for number, line in enumerate(text, 1):
+            for term in re.findall('`([^`]+)`', line):
+                if missing(term, page, files, words):
+                    yield f'{page}, line {number}: {term} is not in the repository'
+            for path in lost_in(line):
+                yield f'{page}, line {number}: {path} is not in the repository'
+            if page not in PRINTED and too_wide(line):
+                yield f'{page}, line {number}: a cell of the table is wider than {WIDEST} columns'
+
+
 def main():
     files = files_here()
     words = words_of(files)
-    failed = False
-    for page in filter(PAGES.fullmatch, files):
-        with open(os.path.join(ROOT, page), encoding='utf-8') as text:
-            for number, line in enumerate(text, 1):
-                for term in re.findall('`([^`]+)`', line):
-                    if missing(term, page, files, words):
-                        failed = True
-                        print('%s, line %d: %s is not in the repository' % (page, number, term))
-    for fault in misplaced():
-        failed = True
-        print('docs/ARCHITECTURE.md: %s' % fault)
-    sys.exit(failed)
+    pages = list(filter(PAGES.fullmatch, files))
+    found = counts(pages)
+    if '--words' in sys.argv[1:]:
+        for page, number in found.items():
+            print(f'{number:6} of {LIMITS.get(page, 0):5}  {page}')
+        print(f'{sum(found.values()):6} of {ALL:5}')
+    faults = [fault for page in pages for fault in faults_of(page, files, words)]
+    faults += too_long(found)
+    faults += [f'docs/ARCHITECTURE.md: {fault}' for fault in misplaced()]
+    for fault in faults:
+        print(fault)
+    sys.exit(bool(faults))
 
 
 if __name__ == '__main__':

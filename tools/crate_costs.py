@@ -1,15 +1,21 @@
 #!/usr/bin/env python3
 """crate_costs.py [--jobs N] [CRATE..]: what each crate costs the gate, as a table in Markdown, the dearest first.
+crate_costs.py --log LOG: what each check of a gate's log loaded, and from which libraries.
 
 It proves each crate of crates.txt, or those named and the ones that they use, by `rt ci NAME`, those below first and N at a time (4), and
 takes the processor time of each such run as a whole: the crate's proofs and its must-fail edits, and some seconds for a look at
 what is kept of the crates below. A crate that an earlier run on this machine has passed costs no more than that look, so the table
 tells what crates cost from nothing on a machine where nothing is kept, or after a change below all of them. What passed is kept for the gate.
 
-The programs that no run keeps are left out; `time .ci/run` tells what a run costs in which nothing changed."""
+The programs that no run keeps are left out; `time .ci/run` tells what a run costs in which nothing changed.
+
+With --log nothing is proved. A check loads the statements of all libraries that its types stand on, so many modules by the log; a crate
+with edits is checked once more for them, and each edit loads as much again. So a crate's modules count twice and once for each edit."""
 import argparse
+import collections
 import glob
 import os
+import re
 import subprocess
 import sys
 
@@ -70,11 +76,45 @@ def prove_all(uses, wanted, jobs):
         yield crate, usage.ru_utime + usage.ru_stime, status == 0
 
 
+def loaded(log):
+    """yields each crate that a gate's log says is proved, with its functions and with the modules that its check loaded from each library"""
+    modules, functions = {}, 0
+    with open(log, encoding='utf-8') as lines:
+        for line in lines:
+            if found := re.match(r'statements (\w+): modules loaded=(\d+)', line):
+                modules[found[1]] = int(found[2])
+            elif found := re.match(r'logic=proved functions=(\d+)', line):
+                functions = int(found[1])
+            elif found := re.match(r'rt: (\w+) proved$', line):
+                yield found[1], functions, modules
+                modules, functions = {}, 0
+
+
+def print_loads(log):
+    """prints what each check loaded, those first that load most with their edits, and which libraries that is"""
+    rows, libraries = [], collections.Counter()
+    for crate, functions, modules in loaded(log):
+        edits = edits_of(crate)
+        times = 2 + edits if edits else 1
+        rows.append((times * sum(modules.values()), crate, functions, sum(modules.values()), edits))
+        for library, count in modules.items():
+            libraries[library] += times * count
+    print('| crate | functions | modules of a check | edits | modules in all |\n|---|---|---|---|---|')
+    for in_all, crate, functions, modules, edits in sorted(rows, reverse=True):
+        print(f'| `{crate}` | {functions} | {modules:,} | {edits} | {in_all:,} |')
+    total = sum(row[0] for row in rows)
+    print(f'\n{total:,} modules in {len(rows)} crates: ' + ', '.join(f'{name} {100 * count / total:.0f} %' for name, count in libraries.most_common(12)))
+
+
 def main():
     parser = argparse.ArgumentParser(description=__doc__.split('\n')[0])
     parser.add_argument('--jobs', type=int, default=4)
+    parser.add_argument('--log')
     parser.add_argument('crates', nargs='*')
     given = parser.parse_args()
+    if given.log:
+        print_loads(given.log)
+        return
     uses = crates()
     wanted = below(uses, given.crates or set(uses)) - NEVER_KEPT
     rows, failed = [], False

@@ -134,7 +134,7 @@ const TREE2JS = {
 
 const HELP = {
   '--help': () => {
-    for (const command of ['js2tree', 'tree2js', 'jsbase', 'covers']) {
+    for (const command of ['js2tree', 'tree2js', 'jsbase', 'covers', 'rows']) {
       const stdout = new RegExp(`^usage: ${command} (.|\n)*Exit status: (.|\n)*\n$`);
       expect(run(command, ['--help']), 0, { stdout });
     }
@@ -151,6 +151,24 @@ const COVERS = {
   },
   'refuses wrong usage': () => {
     expect(run('covers', []), 2, { stderr: 'covers: usage: covers [--module | --script] PATH..\n' });
+  },
+};
+
+const ROWS = {
+  'shows the trees of rows as JavaScript with marks, and what else there is': () => {
+    const of = (...names) => JSON.stringify({ marks: [[1, 0]], top: 1, tree: script(...names) });
+    const input = lines('resolve script', of(ident('a')), of(ident('a', 1)), 'name two', 'b', `moved, ${of()}`);
+    const first = ['1: resolve script', '  given marks [[1,0]], top 1', '    tree: a;', '  wanted marks [[1,0]], top 1', '    tree: a#1;'];
+    const second = ['4: name two', '  given b', '  wanted moved, marks [[1,0]], top 1', '    tree: (empty)'];
+    expect(run('rows', ['--file', '-'], input), 0, { stdout: lines(...first, ...second) });
+    expect(run('rows', ['--file', '-', 'script', 'resolve'], input), 0, { stdout: lines(...first) });
+    expect(run('rows', ['--file', '-', '4'], input), 0, { stdout: lines(...second) });
+  },
+  'leaves what is no tree of JavaScript as it is, and all of it with --spans': () => {
+    const wrong = JSON.stringify({ tree: { type: 'Else' } });
+    const input = lines('fix script', wrong, JSON.stringify({ tree: script(ident('a')) }));
+    expect(run('rows', ['--file', '-'], input), 0, { stdout: lines('1: fix script', `  given ${wrong}`, '  wanted ', '    tree: a;') });
+    expect(run('rows', ['--file', '-', '--spans'], input), 0, { stdout: /"span":\[0,0\]/ });
   },
 };
 
@@ -218,6 +236,7 @@ export const COMMANDS = [
   ...named('js2tree', JS2TREE),
   ...named('tree2js', TREE2JS),
   ...named('covers', COVERS),
+  ...named('rows', ROWS),
   ...named('all commands', HELP),
   ...named('jsbase', WITHOUT_PROGRAM),
 ];
