@@ -18,7 +18,7 @@ use Rattle.swc_tree_grammar.specs.Targets.{all_bare}
 use Rattle.swc_base_rename_analysis.specs.Named.{Renaming}
 use Rattle.swc_base_rename_hygiene_laws.specs.Renamers.{IsLawful, IsRenamedAndCleared, KeepsTopApart, SparesGlobalValues}
 use Rattle.swc_base_rename_by_use.specs.ByUse.{moved, own}
-use Rattle.swc_base_rename_by_use.specs.ByUseLaws.{below}
+use Rattle.swc_base_rename_by_use.specs.ByUseLaws.{below as fits-by_use}
 use Rattle.swc_base_rename_by_use.specs.declared.by_use.TextsByUse.{TextsByUse}
 use Rattle.swc_base_rename_program.specs.Renamed.{IsRead, IsRenamedBy}
 use Rattle.swc_base_rename_short_texts.specs.ShortLaws.{identifier-short, none_is_withheld}
@@ -63,7 +63,7 @@ module _ (texts : TextsByUse) (keeps_top : Bool) (top : ℕ) (t : Node) where
   by_use = mangling texts keeps_top top t
 
   short_by_use : (x : Id) (n : ℕ) → n < 2 ^ 64 → IsShort (by_use.text x n)
-  short_by_use x n fits = (moved (own texts x) n, below texts x n fits, refl)
+  short_by_use x n fits = (moved (own texts x) n, fits-by_use texts x n fits, refl)
 
   by_use_lawful : IsLawful by_use
   by_use_lawful = is_lawful by_use short_by_use
