@@ -36,8 +36,8 @@ pub record KeepsItsScript (envelope : Envelope) (table : Table) (answer : Node) 
   pub promises : IsSource (config_of envelope) envelope.tree → IsPlainScript envelope.tree → KeepsItsSource envelope.unresolved envelope.top envelope.globals table envelope.tree answer
   pub again : IsAnswer envelope.tree → envelope.keep_class_names ≡ false → answer ≡ envelope.tree
 
--- what `mangle_module` and `mangle_script` promise of a program that is mangled: of a source that its answer keeps its form, and where it is a
--- module or a plain script all that is promised of a source
+-- what is promised of a program that is mangled: of a source that its answer keeps its form, and where it is a module or a plain script
+-- all that is promised of a source
 pub record IsKeptShort (envelope : Envelope) (table : Table) (answer : Node) : Type 0 where
   pub form : IsSource (config_of envelope) envelope.tree → KeepsItsForm envelope.tree answer
   pub promises : IsSource (config_of envelope) envelope.tree → IsPlainIfScript envelope.tree → KeepsItsSource envelope.unresolved envelope.top envelope.globals table envelope.tree answer
@@ -46,9 +46,8 @@ pub record IsKeptShort (envelope : Envelope) (table : Table) (answer : Node) : T
 abbrev pub IsSourceIfCovered : Envelope → Option Gap → Type 0
 IsSourceIfCovered envelope gap = gap ≡ None → IsSource (config_of envelope) envelope.tree × IsPlainIfScript envelope.tree
 
--- what is promised of it beside: of a program that is chained what `chain_module` or `chain_script` promises, of one that is mangled what
--- `mangle_module` and `mangle_script` do, of a program whose pairs are set what the fixer promises, and of one that is told to be
--- covered that the former hold of it
+-- what is promised of it beside: of a program that is chained what `chain_module` or `chain_script` promises, of one that is mangled that
+-- it is kept, of a program whose pairs are set what the fixer promises, and of one that is told to be covered that the former hold of it
 abbrev pub Keeps : (c : Command) (k : Kind) (envelope : Envelope) (output : List ℕ) → Does c envelope output → Type 0
 Keeps command.Chain kind.Module envelope output done = KeepsItsModule envelope done.table (answer_to done.renamed)
 Keeps command.Chain kind.Script envelope output done = KeepsItsScript envelope done.table (answer_to done.renamed)
