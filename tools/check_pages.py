@@ -36,8 +36,8 @@ LIMITS = {
 PRINTED = {'docs/JSON.md'}
 ALL = 24000
 WIDEST = 300
-# What begins a room of docs/ARCHITECTURE.md, before its crates, and crates, of which some have names that begin alike.
-ROOM = re.compile(r'^[a-z](?:[a-z]| (?! ))*  +', re.M)
+# What begins a room of docs/ARCHITECTURE.md, in 14 columns before its crates, and crates, of which some have names that begin alike.
+ROOM = re.compile(r'^[a-z].{13}', re.M)
 CRATES = re.compile(r'(\w+)_\{([^}]*)\}|(\w+)')
 # What stands for any name in a path, and what of a crate is there once it is built.
 ANY = re.compile(r'\b(CRATE|NAME)\b')
