@@ -41,7 +41,7 @@ def in_each_setting(renamer):
 
 # The works of `gate_replay`, and the arguments of their rows; then those of `gate_tables`.
 REPLAYED = {
-    'jsbase': of_each('resolve', 'hygiene', 'unparen', 'fix', 'chain', 'judge', 'covers'),
+    'jsbase': of_each('resolve', 'hygiene', 'unparen', 'fix', 'chain', 'mangle', 'judge', 'covers'),
     'pass': of_each(
         *('resolve', 'hygiene', 'hygiene_with_config', 'unparen', 'unparen_comments', 'fix', 'fix_comments'),
         *('rename', 'remap', 'letters', 'shortest', *in_each_setting('numbered'), *in_each_setting('suffixed')),

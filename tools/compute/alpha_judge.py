@@ -1,12 +1,14 @@
 """A judge of renamings, by variables and not by ids: whether a program is another one but for the choice of the names that it binds,
 and if not why.
 
-    verdict(before, after, keep_top=False)      None where it is; else a word
+    verdict(before, after, keep_top=False, spelling=True)       None where it is; else a word; of plain forms (`plain.py`) where
+                                                                no spelling counts
 
 It looks at both normal forms side by side: parts, then the texts of labels, imported and exported names, then the names, each with
 the variable that it stands for by the relations of `scoping.py`. No resolver is asked, and no list of identifiers made.
 """
 import js
+import plain
 import scoping
 import units
 from lawbook import D, kids, normal_form
@@ -89,8 +91,10 @@ def differences(before, after, n, m, keep_top):
     yield 'caught', other_name and caught
 
 
-def verdict(before, after, keep_top=False):
+def verdict(before, after, keep_top=False, spelling=True):
     """None where the second program is the first but for names, else the first word that holds"""
+    if not spelling:
+        before, after = plain.plain(before), plain.plain(after)
     t, u = normal_form(before), normal_form(after)
     if not same_shape(t, u):
         return 'shape'

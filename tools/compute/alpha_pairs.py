@@ -1,5 +1,6 @@
-"""alpha_pairs.py CHECKOUT [--pairs N] [--seed S] [--biggest B] [--program FILE]: pairs of programs, about half of them spoilt, and what the judge
-of `alpha_judge.py` says of them.
+"""alpha_pairs.py CHECKOUT [--pairs N] [--seed S] [--biggest B] [--respelled] [--program FILE]: pairs of programs, about half of them spoilt, and what
+the judge of `alpha_judge.py` says of them. With --respelled about half of the second programs have other spellings of their literals, and of most
+pairs no spelling counts.
 
 Without a program it writes rows of three lines: the words of a command, an envelope of two trees, and a word. With one (`crates/jsbase/out/jsbase`)
 it runs that on each and compares the words; the line that it prints last says how many there were of each word.
@@ -14,6 +15,7 @@ import alpha_judge
 import alpha_laws
 import js
 import lawbook
+import plain
 import random_trees
 from js_nodes import FIELDS, Node, node_of
 
@@ -25,11 +27,13 @@ def json_of(content):
     return [json_of(item) for item in content] if isinstance(content, (list, tuple)) else content
 
 
-def envelope(before, after, keep_top=False):
+def envelope(before, after, keep_top=False, spelling=None):
     """an envelope of two trees, as one line"""
     members = {'marks': [[1, 0], [2, 0]], 'unresolved': 1, 'top': 2, 'before': json_of(node_of(before)), 'after': json_of(node_of(after))}
     if keep_top:
         members['keepTop'] = True
+    if spelling is not None:
+        members['spelling'] = spelling
     return json.dumps(members, separators=(',', ':'))
 
 
@@ -56,8 +60,12 @@ def pairs(options):
         if other is None or not lawbook.fits_place(other[1]):
             continue
         made += 1
-        keep_top = choices.random() < 0.15
-        yield other[0], t, other[1], keep_top
+        keep_top, way, after, spelling = choices.random() < 0.15, *other, None
+        if options.respelled:
+            spelling = choices.choice([False, False, False, True, None])
+            if choices.random() < 0.5:
+                way, after = way + ', respelled', plain.respelled(after, choices)
+        yield way, t, after, keep_top, spelling
 
 
 def told(options, words, line):
@@ -75,12 +83,14 @@ def main():
     parser.add_argument('--pairs', type=int, default=300)
     parser.add_argument('--seed', type=int, default=1)
     parser.add_argument('--biggest', type=int, default=40)
+    parser.add_argument('--respelled', action='store_true')
     parser.add_argument('--program')
     options = parser.parse_args()
     lawbook.load(options.checkout)
     counts, differ = {}, 0
-    for way, before, after, keep_top in pairs(options):
-        words, line, wanted = ['judge', before[1].lower()], envelope(before, after, keep_top), alpha_judge.verdict(before, after, keep_top)
+    for way, before, after, keep_top, spelling in pairs(options):
+        words, line = ['judge', before[1].lower()], envelope(before, after, keep_top, spelling)
+        wanted = alpha_judge.verdict(before, after, keep_top, spelling is not False)
         counts[way, wanted or 'same'] = counts.get((way, wanted or 'same'), 0) + 1
         if not options.program:
             print('\n'.join([' '.join(words), line, wanted or 'same']))

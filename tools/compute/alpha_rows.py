@@ -1,4 +1,5 @@
-"""alpha_rows.py CHECKOUT: worked rows of two programs and what is said of them: by the relation, field by field, and by the judge.
+"""alpha_rows.py CHECKOUT: worked rows of two programs and what is said of them: by the relation, field by field, and by the judge; and rows of
+programs whose literals are spelled otherwise, and what the judge says where no spelling counts.
 
 Each row is worked out by hand; where one field alone fails, the field is needed.
 """
@@ -65,6 +66,36 @@ ROWS = [
     (M, 'let a; try {} catch (e) { var e = 2; }', 'let b; try {} catch (e) { var e = 2; }', [], 'caught'),
     (M, 'try {} catch (e) { e; }', 'try {} catch (x) { x; }', [], None),
 ]
+# two programs and the judge's word where no spelling of literals counts; where it does the word is `shape`
+SPELLED = [
+    (M, 'f(16);', 'f(0x10);', None),
+    (M, 'f(0b11, 0o17, 0XfF);', 'f(3, 15, 255);', None),
+    (M, 'f(1000);', 'f(1e3);', None),
+    (M, 'f(1_000);', 'f(1000.0);', None),
+    (M, 'f(.5);', 'f(0.50);', None),
+    (S, 'f(010);', 'f(8);', None),
+    (M, 'f(0x10n);', 'f(16n);', None),
+    (M, 'f(16n);', 'f(16);', 'shape'),
+    (M, 'f(16);', 'f(17);', 'shape'),
+    (M, 'f(9007199254740993);', 'f(9007199254740992);', 'shape'),
+    (M, 'f(\'a\');', 'f("a");', None),
+    (M, 'f("a");', 'f("\\x61");', None),
+    (M, 'f("a");', 'f("b");', 'shape'),
+    (M, '({ 0x10: 1 });', '({ 16: 1 });', None),
+    (M, '({ 16: 1 });', '({ "16": 1 });', 'shape'),
+    (M, 'import a from \'m\'; a;', 'import b from "m"; b;', None),
+    # directives stay as they are: in a program, in a function, in no other block
+    (S, '\'use strict\'; a;', '"use strict"; a;', 'shape'),
+    (S, 'function f() { \'a\'; }', 'function f() { "a"; }', 'shape'),
+    (S, '{ \'a\'; }', '{ "a"; }', None),
+    (S, 'a; \'use strict\';', 'a; "use strict";', None),
+    # and so do templates
+    (M, '`a`;', '`\\x61`;', 'shape'),
+    # a name besides
+    (M, 'let a; a(16);', 'let b; b(0x10);', None),
+    (M, 'let a, b; a(16, b);', 'let a, b; a(0x10, a);', 'split'),
+    (M, 'var a, b; a(\'b\', b);', 'var a, a; a("b", a);', 'joined'),
+]
 
 
 def words(before, after, wanted):
@@ -84,13 +115,21 @@ def faults():
             yield '%s -- %s\n    the judge says %s, wanted %s' % (one, other, word, wanted)
 
 
+def spelled_faults():
+    for read, one, other, wanted in SPELLED:
+        before, after = read(one), read(other)
+        found = alpha_judge.verdict(before, after), alpha_judge.verdict(before, after, spelling=False)
+        if found != ('shape', wanted):
+            yield '%s -- %s\n    the judge says %s, and %s where no spelling counts; wanted %s' % (one, other, *found, wanted)
+
+
 def main():
     if len(sys.argv) != 2:
         print(__doc__)
         return 2
     load(sys.argv[1])
-    found = list(faults())
-    print('\n'.join(found + ['%d rows, %d come out otherwise' % (len(ROWS), len(found))]))
+    found = list(faults()) + list(spelled_faults())
+    print('\n'.join(found + ['%d rows, %d come out otherwise' % (len(ROWS) + len(SPELLED), len(found))]))
     return 1 if found else 0
 
 

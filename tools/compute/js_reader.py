@@ -5,8 +5,8 @@ from js_nodes import Node, literal, made, span_of
 
 TOKEN = re.compile(r'''
  (?P<space>(?:\s|//[^\n]*|/\*.*?\*/)+)
-|(?P<bigint>\d+n)
-|(?P<number>0[xX][0-9a-fA-F]+|\d+\.?\d*(?:[eE][+-]?\d+)?|\.\d+)
+|(?P<bigint>(?:0[xX][0-9a-fA-F_]+|0[oO][0-7_]+|0[bB][01_]+|\d[\d_]*)n)
+|(?P<number>0[xX][0-9a-fA-F_]+|0[oO][0-7_]+|0[bB][01_]+|\d[\d_]*\.?[\d_]*(?:[eE][+-]?\d[\d_]*)?|\.\d[\d_]*(?:[eE][+-]?\d[\d_]*)?)
 |(?P<string>"(?:[^"\\\n]|\\.)*"|'(?:[^'\\\n]|\\.)*')
 |(?P<private>(?<![A-Za-z0-9_$])\#[A-Za-z_$][A-Za-z0-9_$]*)
 |(?P<word>[A-Za-z_$\u0080-\u00aa\u00ac-\u00ba\u00bc-\U0010ffff][A-Za-z0-9_$\u0080-\u00aa\u00ac-\u00ba\u00bc-\U0010ffff]*(?:\#\d+(?:\.\d+)*)?)

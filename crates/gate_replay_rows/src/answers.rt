@@ -1,6 +1,6 @@
 //! What is answered to a row.
 use crate::programs::class_of;
-use crate::{analysed, engine, judged, kinds, programs, serving, units};
+use crate::{analysed, engine, judged, kinds, plain, programs, serving, units};
 use anyhow::Result;
 use gate_rows::Answers;
 use std::alloc::Global;
@@ -16,6 +16,7 @@ impl Answers for OfRows {
             "unit" => Ok(units::answer(alloc, rest)),
             "analysed" => Ok(Some(analysed::answer(alloc, rest, input)?)),
             "judged" => Ok(Some(judged::answer(alloc, class_of(rest)?, input)?)),
+            "plain" => Ok(Some(plain::answer(alloc, class_of(rest)?, input)?)),
             "status" => Ok(Some(engine::status(alloc, rest, input)?)),
             "served" => Ok(Some(serving::answer(alloc, rest, input)?)),
             "beginnings" => Ok(Some(engine::beginnings(alloc, input)?)),

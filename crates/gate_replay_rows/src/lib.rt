@@ -11,6 +11,7 @@ mod engine;
 mod judged;
 mod kinds;
 mod measure;
+mod plain;
 mod programs;
 mod refuse;
 mod serving;

@@ -96,12 +96,13 @@ fn nested(alloc: Global, goal: &str, lists: u32) -> Option<String> {
     Some(text)
 }
 
-const COMMANDS: [Command; 5] = [
+const COMMANDS: [Command; 6] = [
     Command::Resolve,
     Command::Hygiene,
     Command::Unparen,
     Command::Fix,
     Command::Chain,
+    Command::Mangle,
 ];
 
 // Whether each command takes text of 127 levels, and finds that one of 128 is no tree.

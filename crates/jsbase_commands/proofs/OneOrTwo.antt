@@ -13,6 +13,7 @@ made command.Hygiene k input output one h = h
 made command.Unparen k input output one h = h
 made command.Fix k input output one h = h
 made command.Chain k input output one h = h
+made command.Mangle k input output one h = h
 made command.Covers k input output one h = h
 made command.Judge k input output one h = absurd (cc)
 
@@ -22,6 +23,7 @@ refused command.Hygiene k input one fault h = h
 refused command.Unparen k input one fault h = h
 refused command.Fix k input one fault h = h
 refused command.Chain k input one fault h = h
+refused command.Mangle k input one fault h = h
 refused command.Covers k input one fault h = h
 refused command.Judge k input one fault h = absurd (cc)
 
@@ -32,6 +34,7 @@ told command.Hygiene k input output two h = absurd (cc)
 told command.Unparen k input output two h = absurd (cc)
 told command.Fix k input output two h = absurd (cc)
 told command.Chain k input output two h = absurd (cc)
+told command.Mangle k input output two h = absurd (cc)
 told command.Covers k input output two h = absurd (cc)
 
 pub untold : (c : Command) (k : Kind) (input : List ℕ) → takes_one c ≡ false → (fault : Fault) → IsUntoldOf (class_of k) input fault → IsRunFault c k input fault
@@ -41,4 +44,5 @@ untold command.Hygiene k input two fault h = absurd (cc)
 untold command.Unparen k input two fault h = absurd (cc)
 untold command.Fix k input two fault h = absurd (cc)
 untold command.Chain k input two fault h = absurd (cc)
+untold command.Mangle k input two fault h = absurd (cc)
 untold command.Covers k input two fault h = absurd (cc)

@@ -13,6 +13,7 @@ never_types command.Hygiene envelope h = h
 never_types command.Unparen envelope h = h
 never_types command.Fix envelope h = h
 never_types command.Chain envelope h = h
+never_types command.Mangle envelope h = h
 never_types command.Covers envelope h = h
 never_types command.Judge envelope h = h
 

@@ -11,6 +11,7 @@ command_word command.Hygiene = codes "hygiene"
 command_word command.Unparen = codes "unparen"
 command_word command.Fix = codes "fix"
 command_word command.Chain = codes "chain"
+command_word command.Mangle = codes "mangle"
 command_word command.Judge = codes "judge"
 command_word command.Covers = codes "covers"
 

@@ -1,5 +1,5 @@
 -- What is said of the two versions of a program that an input has.
-use Rattle.std.specs.Prelude.{◌≡◌, ◌||◌, false, ℕ, ◌⊎◌, List, ◌∷◌, codes, Ok, Err, string_bytes}
+use Rattle.std.specs.Prelude.{◌≡◌, ◌||◌, Bool, true, false, ℕ, ◌⊎◌, List, ◌∷◌, codes, Ok, Err, string_bytes}
 use Rattle.swc_tree_marks.specs.declared.error.PassError.{PassError}
 use Rattle.swc_tree_marks.specs.declared.error.PassError.TheVariants as refusal
 use Rattle.swc_tree_node.specs.declared.kind.Class.{Class}
@@ -11,6 +11,7 @@ use Rattle.swc_base_alpha.specs.declared.verdict.Verdict.{Verdict}
 use Rattle.swc_base_alpha.specs.declared.verdict.Verdict.TheVariants as verdict
 use Rattle.swc_base_alpha.specs.declared.verdict.Why.{Why}
 use Rattle.swc_base_alpha.specs.declared.verdict.Why.TheVariants as why
+use Rattle.swc_base_plain_form.specs.PlainForm.{plain_form}
 use Rattle.jsbase_form.specs.ByNumbers.{parts_to}
 use Rattle.jsbase_form.specs.Reads.{Path, key, path_text}
 use Rattle.jsbase_reader.specs.Versions.{versions_in_text}
@@ -38,11 +39,17 @@ abbrev pub verdict_text : Versions → Verdict → List ℕ
 verdict_text v verdict.Same = same_text
 verdict_text v (verdict.Differs d) = difference_text (path_under (codes "after") v.after d.after.items) (path_under (codes "before") v.before d.before.items) (why_word d.why)
 
--- the output tells what holds of two versions in which no types stand: that they are one but for names, or why not and where
+-- a version as it is compared: its plain form, unless spellings count
+abbrev pub as_compared : Bool → Node → Node
+as_compared true t = t
+as_compared false t = plain_form t
+
+-- The output tells what holds of two versions, as they are compared, in which no types stand: that they are one but for names, or why
+-- not; and where, in the versions themselves.
 pub record IsTold (v : Versions) (output : List ℕ) : Type 0 where
-  pub no_types : (has_types v.before || has_types v.after) ≡ false
+  pub no_types : (has_types (as_compared v.spelling v.before) || has_types (as_compared v.spelling v.after)) ≡ false
   pub said : Verdict
-  pub tells : Tells v.keep_top v.before v.after said
+  pub tells : Tells v.keep_top (as_compared v.spelling v.before) (as_compared v.spelling v.after) said
   pub paths : HasPaths v.before v.after said
   pub written : output ≡ verdict_text v said
 
@@ -55,9 +62,9 @@ pub record IsShown (c : Class) (input : List ℕ) (w : Why) (output : List ℕ) 
   pub paths : HasPaths versions.before versions.after (verdict.Differs difference)
   pub written : output ≡ verdict_text versions (verdict.Differs difference)
 
--- memory was refused, or types stand in one of the versions, or marks were spent
+-- memory was refused, or types stand in one of the versions as they are compared, or marks were spent
 abbrev pub IsUntoldFor : Versions → PassError → Type 0
-IsUntoldFor v error = (error ≡ refusal.NoMemory) ⊎ IsJudgeRefusal v.before v.after error
+IsUntoldFor v error = (error ≡ refusal.NoMemory) ⊎ IsJudgeRefusal (as_compared v.spelling v.before) (as_compared v.spelling v.after) error
 
 -- the output tells what is said of the two versions that the input has, each of the class
 abbrev pub IsToldOf : Class → List ℕ → List ℕ → Type 0

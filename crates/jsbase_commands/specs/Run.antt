@@ -1,5 +1,5 @@
 -- What a command makes of an input.
-use Rattle.std.specs.Prelude.{◌≡◌, Bool, true, false, ℕ, ◌+◌, ◌-◌, ◌<◌, ◌⊎◌, IsTrue, Option, List, Ok, Err, string_bytes}
+use Rattle.std.specs.Prelude.{◌≡◌, Bool, true, false, ℕ, ◌+◌, ◌-◌, ◌<◌, ◌⊎◌, IsTrue, Option, Some, None, List, Ok, Err, string_bytes}
 use Rattle.swc_tree_marks.specs.Globals.{Table, IsTable, greatest}
 use Rattle.swc_tree_marks.specs.declared.error.PassError.{PassError}
 use Rattle.swc_tree_marks.specs.declared.error.PassError.TheVariants as refusal
@@ -9,6 +9,7 @@ use Rattle.swc_tree_node.specs.declared.node.Node.{Node}
 use Rattle.swc_tree_node.specs.declared.slot.Slot.{Slot}
 use Rattle.swc_tree_node.specs.Fits.{Fits}
 use Rattle.swc_tree_scoping.specs.Places.{program_place}
+use Rattle.swc_tree_scoping.specs.Resolved.{is_script}
 use Rattle.swc_tree_scoping.specs.Scopes.{scope_count}
 use Rattle.swc_tree_spaces.specs.Spaces.{ResolvedBy, has_types}
 use Rattle.swc_tree_renaming.specs.Apart.{is_goal}
@@ -18,6 +19,7 @@ use Rattle.swc_tree_grammar.specs.Targets.{all_bare}
 use Rattle.swc_base_covers.specs.Covered.{HasPath, Tells}
 use Rattle.swc_base_covers.specs.declared.gap.Gap.{Gap}
 use Rattle.swc_base_fixer_program.specs.Answers.{answer_to}
+use Rattle.swc_base_mangle.specs.Mangled.{IsMangleRefusal, IsMangled}
 use Rattle.swc_base_rename_substitution.specs.declared.config.Config.{Config}
 use Rattle.swc_base_rename_program.specs.Renamed.{IsHygienic, IsRenameRefusal, hygiene_renaming}
 use Rattle.jsbase_form.specs.Reads.{Path, path_text}
@@ -97,6 +99,31 @@ pub record IsChained (envelope : Envelope) (output : List ℕ) : Type 0 where
   pub well_formed : IsTable table
   pub written : output ≡ envelope_text table envelope.top (answer_to renamed) envelope.unresolved
 
+-- whether names of the program's scope are to stay: as it is said, and else in scripts
+abbrev pub keeps_top_by : Option Bool → Node → Bool
+keeps_top_by (Some keeps) t = keeps
+keeps_top_by None t = is_script t
+
+abbrev pub keeps_top_of : Envelope → Bool
+keeps_top_of envelope = keeps_top_by envelope.keep_top envelope.tree
+
+-- the tree of an envelope, resolved, and then with short names and its contexts empty
+pub record IsMangledWith (envelope : Envelope) (table : Table) (mangled : Node) : Type 0 where
+  pub between : Node
+  pub resolved : ResolvesTo envelope table between
+  pub short : IsMangled table (config_of envelope) (keeps_top_of envelope) between mangled
+
+-- the output is the envelope of the tree that the three passes lead to, one after the other: resolved, mangled, fixed; no
+-- types stood in the tree
+pub record IsMadeShort (envelope : Envelope) (output : List ℕ) : Type 0 where
+  pub no_types : has_types envelope.tree ≡ false
+  pub table : Table
+  pub mangled : Node
+  pub is_mangled : IsMangledWith envelope table mangled
+  pub assignable : all_bare mangled ≡ true
+  pub well_formed : IsTable table
+  pub written : output ≡ envelope_text table envelope.top (answer_to mangled) envelope.unresolved
+
 -- a program of its goal
 abbrev pub IsProgram : Node → Type 0
 IsProgram t = (goal : Slot) × IsTrue (is_goal goal) × Fits t goal
@@ -121,6 +148,7 @@ Does command.Hygiene envelope output = IsMadeHygienic envelope output
 Does command.Unparen envelope output = IsUnparened envelope output
 Does command.Fix envelope output = IsFixed envelope output
 Does command.Chain envelope output = IsChained envelope output
+Does command.Mangle envelope output = IsMadeShort envelope output
 Does command.Covers envelope output = IsCoverTold envelope output
 Does command.Judge envelope output = ⊥
 
@@ -137,6 +165,15 @@ IsSpentOnceResolved envelope = (table : Table) × (resolved : Node) × ResolvesT
 abbrev pub IsUnassignableOnceRenamed : Envelope → Type 0
 IsUnassignableOnceRenamed envelope = (table : Table) × (renamed : Node) × IsRenamedWith envelope table renamed × (all_bare renamed ≡ false)
 
+-- mangling is refused for its counters, once the tree is resolved
+abbrev pub IsSpentOnMangling : Envelope → Type 0
+IsSpentOnMangling envelope = (table : Table) × (resolved : Node) × ResolvesTo envelope table resolved
+    × IsMangleRefusal table (config_of envelope) (keeps_top_of envelope) resolved refusal.CounterSpent
+
+-- a parenthesised target takes no value, once the tree has short names
+abbrev pub IsUnassignableOnceMangled : Envelope → Type 0
+IsUnassignableOnceMangled envelope = (table : Table) × (mangled : Node) × IsMangledWith envelope table mangled × (all_bare mangled ≡ false)
+
 -- why the passes of the command may be refused on an envelope in which no types stand, beside want of memory
 abbrev pub IsCauseOf : Command → Envelope → PassError → Type 0
 IsCauseOf command.Resolve envelope refusal.MarksSpent = TakesTooManyMarks envelope
@@ -152,6 +189,11 @@ IsCauseOf command.Chain envelope refusal.CounterSpent = IsSpentOnceResolved enve
 IsCauseOf command.Chain envelope refusal.NotAssignable = IsUnassignableOnceRenamed envelope
 IsCauseOf command.Chain envelope refusal.NoMemory = ⊥
 IsCauseOf command.Chain envelope refusal.TypesLeft = ⊥
+IsCauseOf command.Mangle envelope refusal.MarksSpent = TakesTooManyMarks envelope
+IsCauseOf command.Mangle envelope refusal.CounterSpent = IsSpentOnMangling envelope
+IsCauseOf command.Mangle envelope refusal.NotAssignable = IsUnassignableOnceMangled envelope
+IsCauseOf command.Mangle envelope refusal.NoMemory = ⊥
+IsCauseOf command.Mangle envelope refusal.TypesLeft = ⊥
 IsCauseOf command.Covers envelope _ = ⊥
 IsCauseOf command.Judge envelope _ = ⊥
 

@@ -20,6 +20,8 @@ pub enum Command {
     Fix,
     /// The program is resolved, then made hygienic, then its parentheses are set anew.
     Chain,
+    /// The program is resolved, then its names are made short, then its parentheses are set anew.
+    Mangle,
     /// Two versions of a program are compared: whether one is the other but for the choice of the names that it binds.
     Judge,
     /// Whether what is promised of `Chain` is promised of the program.
@@ -43,6 +45,7 @@ fn command_named(word: &str) -> Option<Command>
         "unparen" => Some(Command::Unparen),
         "fix" => Some(Command::Fix),
         "chain" => Some(Command::Chain),
+        "mangle" => Some(Command::Mangle),
         "judge" => Some(Command::Judge),
         "covers" => Some(Command::Covers),
         _ => None,

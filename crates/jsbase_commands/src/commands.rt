@@ -10,6 +10,7 @@ use crate::arguments::{Command, Kind};
 use crate::covers::cover;
 use crate::fault::Fault;
 use crate::judge::run_on_two;
+use crate::mangle::mangle;
 use jsbase_reader::{Envelope, ReadError, read_bytes};
 use jsbase_writer::write_envelope;
 use std::alloc::Global;
@@ -52,6 +53,7 @@ fn takes_one(command: Command) -> bool
         | Command::Unparen
         | Command::Fix
         | Command::Chain
+        | Command::Mangle
         | Command::Covers => true,
         Command::Judge => false,
     }
@@ -114,8 +116,12 @@ fn refuses_types(command: Command, envelope: &Envelope) -> bool
 {
     match command {
         Command::Resolve | Command::Covers => false,
-        Command::Hygiene | Command::Unparen | Command::Fix | Command::Chain | Command::Judge =>
-            has_types(&envelope.tree),
+        Command::Hygiene
+        | Command::Unparen
+        | Command::Fix
+        | Command::Chain
+        | Command::Mangle
+        | Command::Judge => has_types(&envelope.tree),
     }
 }
 
@@ -134,6 +140,7 @@ fn make(alloc: Global, command: Command, envelope: Envelope) -> Result<String, P
         Command::Unparen => unparen(alloc, envelope),
         Command::Fix => fix(alloc, envelope),
         Command::Chain => chain(alloc, envelope),
+        Command::Mangle => mangle(alloc, envelope),
         Command::Covers => cover(alloc, &envelope),
         Command::Judge => unreachable!(),
     }
@@ -181,6 +188,7 @@ fn hygiene(alloc: Global, envelope: Envelope) -> Result<String, PassError>
         keep_class_names,
         ignore_eval,
         tree,
+        ..
     } = envelope;
     let config = config(top, keep_class_names, ignore_eval);
     let renamed = hygiene_program(alloc, &config, &globals, tree)?;
@@ -236,6 +244,7 @@ fn chain(alloc: Global, envelope: Envelope) -> Result<String, PassError>
         keep_class_names,
         ignore_eval,
         tree,
+        ..
     } = envelope;
     let config = config(top, keep_class_names, ignore_eval);
     let marked = resolve_program(alloc, &mut globals, unresolved, top, tree)?;

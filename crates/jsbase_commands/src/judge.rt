@@ -1,8 +1,9 @@
 //! What is said of two versions of a program.
 ghost use Rattle.std.specs.Prelude.{◌≡◌, IfOk, MatchResult, Ok, string_bytes};
-ghost use Rattle.swc_base_alpha.specs.Verdict.{IsCleanProgram};
+ghost use Rattle.swc_base_alpha.specs.Verdict.{IsCleanProgram, IsThere};
+ghost use Rattle.swc_base_plain_form.specs.PlainForm.{plain_form as is_plain_form};
 ghost use Rattle.jsbase_reader.specs.Versions.{versions_in_text};
-ghost use Rattle.jsbase_commands.specs.Judge.{IsShown, IsTold, IsToldOf, IsUntoldFor, IsUntoldOf, path_under, verdict_text, why_word};
+ghost use Rattle.jsbase_commands.specs.Judge.{IsShown, IsTold, IsToldOf, IsUntoldFor, IsUntoldOf, as_compared, path_under, verdict_text, why_word};
 ghost use Rattle.jsbase_commands.specs.Run.{class_of as class_in};
 
 use crate::arguments::Kind;
@@ -13,6 +14,7 @@ use jsbase_reader::{Versions, read_versions};
 use jsbase_writer::{write_difference, write_same};
 use std::alloc::{AllocError, Global};
 use swc_base_alpha::{Cause, Difference, Verdict, Why, difference, why_different};
+use swc_base_plain_form::plain_form;
 use swc_tree_marks::{NoMemory, PassError};
 use swc_tree_node::Node;
 
@@ -34,6 +36,16 @@ pub(crate) fn run_on_two(alloc: Global, kind: Kind, input: &[u8]) -> Result<Vec<
     }
 }
 
+// A version as it is compared: its plain form, unless spellings count. It has the places and the spans of the version.
+fn compared(alloc: Global, spelling: bool, version: Node) -> Result<Node, NoMemory>
+    ensures { IfOk result (λ t. t ≡ as_compared spelling version) }
+{
+    if spelling {
+        return Ok(version);
+    }
+    plain_form(alloc, version)
+}
+
 // What is said of the two versions that an input has, as one line. They are given up.
 fn tell(alloc: Global, kind: Kind, input: &[u8], versions: Versions) -> Result<String, PassError>
     requires read { versions_in_text (class_in kind) input.now ≡ Ok versions }
@@ -43,13 +55,54 @@ fn tell(alloc: Global, kind: Kind, input: &[u8], versions: Versions) -> Result<S
 {
     let Versions {
         keep_top,
+        spelling,
         before,
         after,
     } = versions;
+    let before = compared(alloc, spelling, before)?;
+    let after = compared(alloc, spelling, after)?;
     match why_different(alloc, keep_top, before, after)? {
         None => Ok(write_same(alloc)?),
         Some(cause) => Ok(tell_difference(alloc, kind, input, cause)?),
     }
+}
+
+// The plain form of a version, which stays.
+fn plain_copy(alloc: Global, version: &Node) -> Result<Node, NoMemory>
+    ensures { IfOk result (λ t. t ≡ is_plain_form version.now) }
+{
+    let copy = version.clone()?;
+    let plain = plain_form(alloc, copy)?;
+    Ok(plain)
+}
+
+// Where a cause shows in two versions of which plain forms are compared: these have the places of the versions.
+fn shown_plain(
+    alloc: Global,
+    cause: Cause,
+    before: &Node,
+    after: &Node,
+) -> Result<Difference, NoMemory>
+    ensures why { IfOk result (λ d. d.why ≡ cause.why) }
+    ensures before { IfOk result (λ d. IsThere before.now d.before.items) }
+    ensures after { IfOk result (λ d. IsThere after.now d.after.items) }
+{
+    let first = plain_copy(alloc, before)?;
+    let second = plain_copy(alloc, after)?;
+    let found = difference(alloc, cause, &first, &second)?;
+    Ok(found)
+}
+
+// Where a cause shows in two versions.
+fn shown(alloc: Global, cause: Cause, versions: &Versions) -> Result<Difference, NoMemory>
+    ensures why { IfOk result (λ d. d.why ≡ cause.why) }
+    ensures before { IfOk result (λ d. IsThere versions.now.before d.before.items) }
+    ensures after { IfOk result (λ d. IsThere versions.now.after d.after.items) }
+{
+    if versions.spelling {
+        return difference(alloc, cause, &versions.before, &versions.after);
+    }
+    shown_plain(alloc, cause, &versions.before, &versions.after)
 }
 
 // The line that tells of a cause where it shows. The versions are read once more: most inputs have no difference, and those need not
@@ -66,7 +119,7 @@ fn tell_difference(
         // They were read before, so memory was refused.
         return Err(NoMemory);
     };
-    let difference = difference(alloc, cause, &versions.before, &versions.after)?;
+    let difference = shown(alloc, cause, &versions)?;
     let text = line(alloc, &versions, &difference)?;
     Ok(text)
 }

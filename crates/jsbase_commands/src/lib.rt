@@ -6,6 +6,7 @@ mod commands;
 mod covers;
 mod fault;
 mod judge;
+mod mangle;
 mod served;
 
 pub use arguments::{Command, Kind, words};

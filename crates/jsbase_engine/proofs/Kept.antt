@@ -27,6 +27,7 @@ use Rattle.swc_ecma_transforms_base_laws.specs.Headline.{ChainingKeepsForms, Cha
 use Rattle.swc_base_rename_program.specs.Renamed.{IsHygienic}
 use Rattle.swc_base_rename_substitution.specs.declared.config.Config.{Config}
 use Rattle.swc_base_covers.specs.Covered.{IsCovered, Tells}
+use Rattle.swc_base_mangle_laws.specs.Laws.{MangledSourcesAreKept, MangledSourcesKeepForms}
 use Rattle.swc_ecma_transforms_base_settled_laws.specs.Settled.{ChainChangesNothing, IsAnswer}
 use Rattle.jsbase_form.proofs.Successes.{bound}
 use Rattle.jsbase_reader.specs.declared.envelope.Envelope.{Envelope}
@@ -39,7 +40,7 @@ use Rattle.jsbase_commands.specs.declared.arguments.Kind.{Kind}
 use Rattle.jsbase_commands.specs.declared.arguments.Kind.TheVariants as kind
 use Rattle.jsbase_commands.specs.declared.fault.Fault.{Fault}
 use Rattle.jsbase_commands.specs.declared.fault.Fault.TheVariants.{Usage, Refused, NotATree}
-use Rattle.jsbase_commands.specs.Run.{Does, IsFaultOfOne, IsRefusalOf, MakesOfOne, ResolvesTo, class_of, config_of}
+use Rattle.jsbase_commands.specs.Run.{Does, IsFaultOfOne, IsRefusalOf, MakesOfOne, ResolvesTo, class_of, config_of, keeps_top_of}
 use Rattle.jsbase_engine.specs.Run.{AnswersOfOne, IsSparingFault, Keeps, SparesTargets}
 use Rattle.jsbase_engine.specs.Laws.{PromisesAreKept, TargetsAreSpared}
 
@@ -74,17 +75,30 @@ module _ (told : TypesAreTold) (alike : ResolvedAlike) (envelope : Envelope) (ok
   unchanged changing table between renamed none resolved hygienic answered keeps =
       changing table (config_of envelope) envelope.tree between renamed envelope.unresolved envelope.top envelope.globals table answered keeps ok.0.1 (by_values table between none resolved) hygienic
 
-  kept : ChainingKeepsForms → ChainingKeepsSources → ChainChangesNothing → AnswersKeepPromises → (c : Command) (k : Kind) (output : List ℕ) → Fits envelope.tree (slot.One (content.Node (class_of k)))
+  -- a program that is mangled keeps its form, and what is promised of a source
+  short : MangledSourcesKeepForms → MangledSourcesAreKept → (k : Kind) (output : List ℕ) → Fits envelope.tree (slot.One (content.Node (class_of k))) → (done : Does command.Mangle envelope output)
+      → Keeps command.Mangle k envelope output done
+  unfolding answer_to
+  short forms sources k output fits done = record {
+    form = λ source.
+        (forms (config_of envelope) (keeps_top_of envelope) (recorded (pairs done.mangled)) (slot.One (content.Node (class_of k))) envelope.unresolved envelope.top envelope.globals done.table envelope.tree done.is_mangled.between done.mangled (is_program k) fits source
+        (by_values done.table done.is_mangled.between done.no_types done.is_mangled.resolved) done.is_mangled.short).0;
+    promises = λ source plain.
+        sources (config_of envelope) (keeps_top_of envelope) (recorded (pairs done.mangled)) (slot.One (content.Node (class_of k))) envelope.unresolved envelope.globals done.table envelope.tree done.is_mangled.between done.mangled (is_program k) fits source plain ok.0.1
+        (by_values done.table done.is_mangled.between done.no_types done.is_mangled.resolved) done.is_mangled.short;
+  }
+
+  kept : ChainingKeepsForms → ChainingKeepsSources → ChainChangesNothing → MangledSourcesKeepForms → MangledSourcesAreKept → AnswersKeepPromises → (c : Command) (k : Kind) (output : List ℕ) → Fits envelope.tree (slot.One (content.Node (class_of k)))
       → (done : Does c envelope output) → Keeps c k envelope output done
   unfolding answer_to
-  kept forms chaining changing fixing command.Chain kind.Module output fits done = record {
+  kept forms chaining changing short_forms short_sources fixing command.Chain kind.Module output fits done = record {
     promises = λ source.
         (chaining (config_of envelope) (recorded (pairs done.renamed)) module_place envelope.unresolved envelope.top envelope.globals done.table envelope.tree done.is_renamed.between done.renamed refl fits source
         (plain_if_module envelope.tree (fits_module envelope.tree fits)) ok.0.1
         (by_values done.table done.is_renamed.between done.no_types done.is_renamed.resolved) done.is_renamed.hygienic).0;
     again = unchanged changing done.table done.is_renamed.between done.renamed done.no_types done.is_renamed.resolved done.is_renamed.hygienic;
   }
-  kept forms chaining changing fixing command.Chain kind.Script output fits done = record {
+  kept forms chaining changing short_forms short_sources fixing command.Chain kind.Script output fits done = record {
     form = λ source.
         (forms (config_of envelope) (recorded (pairs done.renamed)) script_place envelope.unresolved envelope.top envelope.globals done.table envelope.tree done.is_renamed.between done.renamed refl fits source
         (by_values done.table done.is_renamed.between done.no_types done.is_renamed.resolved) done.is_renamed.hygienic).0;
@@ -94,12 +108,13 @@ module _ (told : TypesAreTold) (alike : ResolvedAlike) (envelope : Envelope) (ok
         (by_values done.table done.is_renamed.between done.no_types done.is_renamed.resolved) done.is_renamed.hygienic).0;
     again = unchanged changing done.table done.is_renamed.between done.renamed done.no_types done.is_renamed.resolved done.is_renamed.hygienic;
   }
-  kept forms chaining changing fixing command.Fix k output fits done = fixing envelope.tree (slot.One (content.Node (class_of k))) (takes_pairs k) fits
-  kept forms chaining changing fixing command.Resolve k output fits done = tt
-  kept forms chaining changing fixing command.Hygiene k output fits done = tt
-  kept forms chaining changing fixing command.Unparen k output fits done = tt
-  kept forms chaining changing fixing command.Judge k output fits done = tt
-  kept forms chaining changing fixing command.Covers k output fits done = λ none. source_of (config_of envelope) envelope.tree (subst (Tells (config_of envelope) envelope.tree) none done.tells)
+  kept forms chaining changing short_forms short_sources fixing command.Fix k output fits done = fixing envelope.tree (slot.One (content.Node (class_of k))) (takes_pairs k) fits
+  kept forms chaining changing short_forms short_sources fixing command.Mangle k output fits done = short short_forms short_sources k output fits done
+  kept forms chaining changing short_forms short_sources fixing command.Resolve k output fits done = tt
+  kept forms chaining changing short_forms short_sources fixing command.Hygiene k output fits done = tt
+  kept forms chaining changing short_forms short_sources fixing command.Unparen k output fits done = tt
+  kept forms chaining changing short_forms short_sources fixing command.Judge k output fits done = tt
+  kept forms chaining changing short_forms short_sources fixing command.Covers k output fits done = λ none. source_of (config_of envelope) envelope.tree (subst (Tells (config_of envelope) envelope.tree) none done.tells)
 
   no_target : ChainingKeepsForms → (k : Kind) → Fits envelope.tree (slot.One (content.Node (class_of k))) → (e : PassError) → IsRefusalOf command.Chain envelope e → SparesTargets command.Chain k envelope e
   no_target forms k fits refusal.NotAssignable (none, (table, renamed, is, bare)) source same =
@@ -110,42 +125,54 @@ module _ (told : TypesAreTold) (alike : ResolvedAlike) (envelope : Envelope) (ok
   no_target forms k fits refusal.NoMemory h source same = absurd (cc same)
   no_target forms k fits refusal.TypesLeft h source same = absurd (cc same)
 
-  spared : ChainingKeepsForms → (c : Command) (k : Kind) (e : PassError) → Fits envelope.tree (slot.One (content.Node (class_of k))) → IsRefusalOf c envelope e → SparesTargets c k envelope e
-  spared forms command.Chain k e fits h = no_target forms k fits e h
-  spared forms command.Fix k e fits h = tt
-  spared forms command.Resolve k e fits h = tt
-  spared forms command.Hygiene k e fits h = tt
-  spared forms command.Unparen k e fits h = tt
-  spared forms command.Judge k e fits h = tt
-  spared forms command.Covers k e fits h = tt
+  no_target_short : MangledSourcesKeepForms → (k : Kind) → Fits envelope.tree (slot.One (content.Node (class_of k))) → (e : PassError) → IsRefusalOf command.Mangle envelope e → SparesTargets command.Mangle k envelope e
+  no_target_short forms k fits refusal.NotAssignable (none, (table, mangled, is, bare)) source same =
+      let stands = (forms (config_of envelope) (keeps_top_of envelope) (recorded (pairs mangled)) (slot.One (content.Node (class_of k))) envelope.unresolved envelope.top envelope.globals table envelope.tree is.between mangled (is_program k) fits source (by_values table is.between none is.resolved) is.short).1 in
+      absurd (cc)
+  no_target_short forms k fits refusal.MarksSpent h source same = absurd (cc same)
+  no_target_short forms k fits refusal.CounterSpent h source same = absurd (cc same)
+  no_target_short forms k fits refusal.NoMemory h source same = absurd (cc same)
+  no_target_short forms k fits refusal.TypesLeft h source same = absurd (cc same)
 
-module _ (told : TypesAreTold) (alike : ResolvedAlike) (forms : ChainingKeepsForms) where
-  module _ (chaining : ChainingKeepsSources) (changing : ChainChangesNothing) (fixing : AnswersKeepPromises) where
+  spared : ChainingKeepsForms → MangledSourcesKeepForms → (c : Command) (k : Kind) (e : PassError) → Fits envelope.tree (slot.One (content.Node (class_of k))) → IsRefusalOf c envelope e → SparesTargets c k envelope e
+  spared forms short_forms command.Chain k e fits h = no_target forms k fits e h
+  spared forms short_forms command.Mangle k e fits h = no_target_short short_forms k fits e h
+  spared forms short_forms command.Fix k e fits h = tt
+  spared forms short_forms command.Resolve k e fits h = tt
+  spared forms short_forms command.Hygiene k e fits h = tt
+  spared forms short_forms command.Unparen k e fits h = tt
+  spared forms short_forms command.Judge k e fits h = tt
+  spared forms short_forms command.Covers k e fits h = tt
+
+module _ (told : TypesAreTold) (alike : ResolvedAlike) (forms : ChainingKeepsForms) (short_forms : MangledSourcesKeepForms) where
+  module _ (chaining : ChainingKeepsSources) (changing : ChainChangesNothing) (short_sources : MangledSourcesAreKept) (fixing : AnswersKeepPromises) where
     one_kept : (c : Command) (k : Kind) (input output : List ℕ) → MakesOfOne c k input output → AnswersOfOne c k input output
     one_kept c k input output (envelope, is, done) =
-        (envelope, is, done, kept told alike envelope (envelope_marks (class_of k) input envelope is) forms chaining changing fixing c k output (fits_its_class (class_of k) input envelope is) done)
+        (envelope, is, done, kept told alike envelope (envelope_marks (class_of k) input envelope is) forms chaining changing short_forms short_sources fixing c k output (fits_its_class (class_of k) input envelope is) done)
 
   one_spared : (c : Command) (k : Kind) (input : List ℕ) (fault : Fault) → IsFaultOfOne c k input fault → IsSparingFault c k input fault
   one_spared c k input Usage h = h
   one_spared c k input (NotATree text) h = h
   one_spared c k input (Refused e) (inl memory) = inl memory
   one_spared c k input (Refused e) (inr (envelope, is, cause)) =
-      inr (envelope, is, cause, spared told alike envelope (envelope_marks (class_of k) input envelope is) forms c k e (fits_its_class (class_of k) input envelope is) cause)
+      inr (envelope, is, cause, spared told alike envelope (envelope_marks (class_of k) input envelope is) forms short_forms c k e (fits_its_class (class_of k) input envelope is) cause)
 
-pub promises_are_kept : TypesAreTold → ResolvedAlike → ChainingKeepsForms → ChainingKeepsSources → ChainChangesNothing → AnswersKeepPromises → PromisesAreKept
-promises_are_kept told alike forms chaining changing fixing command.Chain k input output h = one_kept told alike forms chaining changing fixing command.Chain k input output h
-promises_are_kept told alike forms chaining changing fixing command.Fix k input output h = one_kept told alike forms chaining changing fixing command.Fix k input output h
-promises_are_kept told alike forms chaining changing fixing command.Resolve k input output h = one_kept told alike forms chaining changing fixing command.Resolve k input output h
-promises_are_kept told alike forms chaining changing fixing command.Hygiene k input output h = one_kept told alike forms chaining changing fixing command.Hygiene k input output h
-promises_are_kept told alike forms chaining changing fixing command.Unparen k input output h = one_kept told alike forms chaining changing fixing command.Unparen k input output h
-promises_are_kept told alike forms chaining changing fixing command.Covers k input output h = one_kept told alike forms chaining changing fixing command.Covers k input output h
-promises_are_kept told alike forms chaining changing fixing command.Judge k input output h = h
+pub promises_are_kept : TypesAreTold → ResolvedAlike → ChainingKeepsForms → ChainingKeepsSources → ChainChangesNothing → MangledSourcesKeepForms → MangledSourcesAreKept → AnswersKeepPromises → PromisesAreKept
+promises_are_kept told alike forms chaining changing short_forms short_sources fixing command.Chain k input output h = one_kept told alike forms short_forms chaining changing short_sources fixing command.Chain k input output h
+promises_are_kept told alike forms chaining changing short_forms short_sources fixing command.Mangle k input output h = one_kept told alike forms short_forms chaining changing short_sources fixing command.Mangle k input output h
+promises_are_kept told alike forms chaining changing short_forms short_sources fixing command.Fix k input output h = one_kept told alike forms short_forms chaining changing short_sources fixing command.Fix k input output h
+promises_are_kept told alike forms chaining changing short_forms short_sources fixing command.Resolve k input output h = one_kept told alike forms short_forms chaining changing short_sources fixing command.Resolve k input output h
+promises_are_kept told alike forms chaining changing short_forms short_sources fixing command.Hygiene k input output h = one_kept told alike forms short_forms chaining changing short_sources fixing command.Hygiene k input output h
+promises_are_kept told alike forms chaining changing short_forms short_sources fixing command.Unparen k input output h = one_kept told alike forms short_forms chaining changing short_sources fixing command.Unparen k input output h
+promises_are_kept told alike forms chaining changing short_forms short_sources fixing command.Covers k input output h = one_kept told alike forms short_forms chaining changing short_sources fixing command.Covers k input output h
+promises_are_kept told alike forms chaining changing short_forms short_sources fixing command.Judge k input output h = h
 
-pub targets_are_spared : TypesAreTold → ResolvedAlike → ChainingKeepsForms → TargetsAreSpared
-targets_are_spared told alike forms command.Chain k input fault h = one_spared told alike forms command.Chain k input fault h
-targets_are_spared told alike forms command.Fix k input fault h = one_spared told alike forms command.Fix k input fault h
-targets_are_spared told alike forms command.Resolve k input fault h = one_spared told alike forms command.Resolve k input fault h
-targets_are_spared told alike forms command.Hygiene k input fault h = one_spared told alike forms command.Hygiene k input fault h
-targets_are_spared told alike forms command.Unparen k input fault h = one_spared told alike forms command.Unparen k input fault h
-targets_are_spared told alike forms command.Covers k input fault h = one_spared told alike forms command.Covers k input fault h
-targets_are_spared told alike forms command.Judge k input fault h = h
+pub targets_are_spared : TypesAreTold → ResolvedAlike → ChainingKeepsForms → MangledSourcesKeepForms → TargetsAreSpared
+targets_are_spared told alike forms short_forms command.Chain k input fault h = one_spared told alike forms short_forms command.Chain k input fault h
+targets_are_spared told alike forms short_forms command.Mangle k input fault h = one_spared told alike forms short_forms command.Mangle k input fault h
+targets_are_spared told alike forms short_forms command.Fix k input fault h = one_spared told alike forms short_forms command.Fix k input fault h
+targets_are_spared told alike forms short_forms command.Resolve k input fault h = one_spared told alike forms short_forms command.Resolve k input fault h
+targets_are_spared told alike forms short_forms command.Hygiene k input fault h = one_spared told alike forms short_forms command.Hygiene k input fault h
+targets_are_spared told alike forms short_forms command.Unparen k input fault h = one_spared told alike forms short_forms command.Unparen k input fault h
+targets_are_spared told alike forms short_forms command.Covers k input fault h = one_spared told alike forms short_forms command.Covers k input fault h
+targets_are_spared told alike forms short_forms command.Judge k input fault h = h

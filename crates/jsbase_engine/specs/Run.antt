@@ -36,22 +36,30 @@ pub record KeepsItsScript (envelope : Envelope) (table : Table) (answer : Node) 
   pub promises : IsSource (config_of envelope) envelope.tree → IsPlainScript envelope.tree → KeepsItsSource envelope.unresolved envelope.top envelope.globals table envelope.tree answer
   pub again : IsAnswer envelope.tree → envelope.keep_class_names ≡ false → answer ≡ envelope.tree
 
+-- what is promised of a program that is mangled: of a source that its answer keeps its form, and where it is a module or a plain script
+-- all that is promised of a source
+pub record IsKeptShort (envelope : Envelope) (table : Table) (answer : Node) : Type 0 where
+  pub form : IsSource (config_of envelope) envelope.tree → KeepsItsForm envelope.tree answer
+  pub promises : IsSource (config_of envelope) envelope.tree → IsPlainIfScript envelope.tree → KeepsItsSource envelope.unresolved envelope.top envelope.globals table envelope.tree answer
+
 -- of a program that is told to be covered all that `chain_module` and `chain_script` ask of one
 abbrev pub IsSourceIfCovered : Envelope → Option Gap → Type 0
 IsSourceIfCovered envelope gap = gap ≡ None → IsSource (config_of envelope) envelope.tree × IsPlainIfScript envelope.tree
 
--- what is promised of it beside: of a program that is chained what `chain_module` or `chain_script` promises, of a program whose pairs
--- are set what the fixer promises, and of one that is told to be covered that the former hold of it
+-- what is promised of it beside: of a program that is chained what `chain_module` or `chain_script` promises, of one that is mangled that
+-- it is kept, of a program whose pairs are set what the fixer promises, and of one that is told to be covered that the former hold of it
 abbrev pub Keeps : (c : Command) (k : Kind) (envelope : Envelope) (output : List ℕ) → Does c envelope output → Type 0
 Keeps command.Chain kind.Module envelope output done = KeepsItsModule envelope done.table (answer_to done.renamed)
 Keeps command.Chain kind.Script envelope output done = KeepsItsScript envelope done.table (answer_to done.renamed)
+Keeps command.Mangle k envelope output done = IsKeptShort envelope done.table (answer_to done.mangled)
 Keeps command.Fix k envelope output done = Promises envelope.tree (answer_to envelope.tree)
 Keeps command.Covers k envelope output done = IsSourceIfCovered envelope done.gap
 Keeps _ _ envelope output done = Unit {0}
 
--- of a program that is chained no target is to blame
+-- of a program that is chained or mangled no target is to blame
 abbrev pub SparesTargets : Command → Kind → Envelope → PassError → Type 0
 SparesTargets command.Chain k envelope error = IsSource (config_of envelope) envelope.tree → error ≢ refusal.NotAssignable
+SparesTargets command.Mangle k envelope error = IsSource (config_of envelope) envelope.tree → error ≢ refusal.NotAssignable
 SparesTargets _ _ envelope error = Unit {0}
 
 -- the output is what the command makes of the envelope of one program that the input is, with what is promised of it

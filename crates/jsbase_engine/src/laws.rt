@@ -4,6 +4,7 @@
 ghost use Rattle.jsbase_engine.specs.Laws.{PromisesAreKept, TargetsAreSpared};
 
 use swc_base_fixer::answers_keep_promises;
+use swc_base_mangle_laws::{mangled_sources_are_kept, mangled_sources_keep_forms};
 use swc_ecma_transforms_base_apart_laws::a_chain_changes_nothing;
 use swc_ecma_transforms_base_laws::{chaining_keeps_forms, chaining_keeps_sources};
 use swc_tree_spaces_laws::{resolved_alike_without_types, types_are_told};
@@ -17,6 +18,8 @@ pub fn promises_are_kept()
     chaining_keeps_forms();
     chaining_keeps_sources();
     a_chain_changes_nothing();
+    mangled_sources_keep_forms();
+    mangled_sources_are_kept();
     answers_keep_promises();
 }
 
@@ -27,4 +30,5 @@ pub fn targets_are_spared()
     types_are_told();
     resolved_alike_without_types();
     chaining_keeps_forms();
+    mangled_sources_keep_forms();
 }

@@ -54,7 +54,7 @@ members_marks class ms e h =
     let marks = bound (marks_in table.0 ms) _ e table.2 in
     let options = bound (options_in ms) _ e marks.2 in
     let tree = bound (at (key (codes "tree")) (seen table.0 (value_of (codes "tree") ms) (slot.One (content.Node class)))) _ e options.2 in
-    let same = ok_same (record { globals = table.0; unresolved = marks.0.0; top = marks.0.1; keep_class_names = options.0.0; ignore_eval = options.0.1; tree = tree.0 }) e tree.2 in
+    let same = ok_same (record { globals = table.0; unresolved = marks.0.0; top = marks.0.1; keep_class_names = options.0.0; ignore_eval = options.0.1; keep_top = options.0.2; tree = tree.0 }) e tree.2 in
     subst HasMarks same (marks_ok table.0 ms marks.0 marks.1)
 
 pub envelope_marks : (class : Class) (bytes : List ℕ) (e : Envelope) → envelope_in_text class bytes ≡ Ok e → MarksOk e.globals e.unresolved e.top

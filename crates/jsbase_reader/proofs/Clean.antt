@@ -20,10 +20,10 @@ pub versions_sound : (class : Class) (bytes : List ℕ) (v : Versions) → versi
 versions_sound class bytes v h =
     let d = bound (text_in bytes) (versions_in class) v h in
     let ms = bound (found (as_object d.0)) (versions_of class) v d.2 in
-    let keep_top = bound (asked_in ms.0) _ v ms.2 in
-    let before = bound (tree_in no_marks class (codes "before") ms.0) _ v keep_top.2 in
+    let asked = bound (asked_in ms.0) _ v ms.2 in
+    let before = bound (tree_in no_marks class (codes "before") ms.0) _ v asked.2 in
     let after = bound (tree_in no_marks class (codes "after") ms.0) _ v before.2 in
-    let same = ok_same (record { keep_top = keep_top.0; before = before.0; after = after.0 }) v after.2 in
+    let same = ok_same (record { keep_top = asked.0.0; spelling = asked.0.1; before = before.0; after = after.0 }) v after.2 in
     let first = seen_sound no_marks (value_of (codes "before") ms.0) (slot.One (content.Node class)) before.0 (at_ok (key (codes "before")) _ before.0 before.1) in
     let second = seen_sound no_marks (value_of (codes "after") ms.0) (slot.One (content.Node class)) after.0 (at_ok (key (codes "after")) _ after.0 after.1) in
     subst (AreSound class) same (record { before = first; after = second })

@@ -125,12 +125,13 @@ asked_by_others ms os others =
     let unresolved = same_value (codes "unresolved") ms os (others (codes "unresolved") refl refl) in
     let top = same_value (codes "top") ms os (others (codes "top") refl refl) in
     let keeps = same_value (codes "keepTop") ms os (others (codes "keepTop") refl refl) in
-    simp (marks, unresolved, top, keeps)
+    let spells = same_value (codes "spelling") ms os (others (codes "spelling") refl refl) in
+    simp (marks, unresolved, top, keeps, spells)
 
-pub versions_are : (class : Class) (ms os : Members) (g : Gathered) (keep_top : Bool) (before after : Node) → AreOf no_marks class ms g → os ≡ members_view g.others.items → g.before ≡ Some before → g.after ≡ Some after
-    → asked_in os ≡ Ok keep_top → versions_of class ms ≡ Ok (record { keep_top = keep_top; before = before; after = after })
-versions_are class ms os g keep_top before after h rest is_before is_after asked =
-    let asks : asked_in ms ≡ Ok keep_top = asked_by_others ms os (λ k e f. h.others k e f ∙ ap (get_member k) (sym rest)) ∙ asked in
+pub versions_are : (class : Class) (ms os : Members) (g : Gathered) (keep_top spelling : Bool) (before after : Node) → AreOf no_marks class ms g → os ≡ members_view g.others.items → g.before ≡ Some before → g.after ≡ Some after
+    → asked_in os ≡ Ok (keep_top, spelling) → versions_of class ms ≡ Ok (record { keep_top = keep_top; spelling = spelling; before = before; after = after })
+versions_are class ms os g keep_top spelling before after h rest is_before is_after asked =
+    let asks : asked_in ms ≡ Ok (keep_top, spelling) = asked_by_others ms os (λ k e f. h.others k e f ∙ ap (get_member k) (sym rest)) ∙ asked in
     let first : tree_in no_marks class (codes "before") ms ≡ Ok before = tree_there no_marks class (codes "before") ms before (rw is_before at h.before) in
     let second : tree_in no_marks class (codes "after") ms ≡ Ok after = tree_there no_marks class (codes "after") ms after (rw is_after at h.after) in
     rw (asks, first, second) refl

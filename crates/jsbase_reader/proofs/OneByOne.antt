@@ -343,8 +343,9 @@ envelope_made c ms os g d tree other marks here is_tree =
     let second = same_value (codes "top") ms os (other (codes "top") refl) in
     let third = same_value (codes "keepClassNames") ms os (other (codes "keepClassNames") refl) in
     let fourth = same_value (codes "ignoreEval") ms os (other (codes "ignoreEval") refl) in
+    let fifth = same_value (codes "keepTop") ms os (other (codes "keepTop") refl) in
     let treed : at (key_part (codes "tree")) (seen g (value_of (codes "tree") ms) (slot.One (content.Node c))) ≡ Ok tree = ap (λ o. at (key_part (codes "tree")) (seen g (unwrap_or o null) (slot.One (content.Node c)))) here ∙ ap (at (key_part (codes "tree"))) is_tree in
-    rw marks_are (simp (first, second, third, fourth, treed))
+    rw marks_are (simp (first, second, third, fourth, fifth, treed))
 
 -- the tokens of a text
 pub tokens_streamed : (c : Class) (text : List ℕ) (ts : List Token) (read : Read Envelope) → ts ≡ tokens text → envelope_in_tokens c ts ≡ read → envelope_in_document c text ≡ read

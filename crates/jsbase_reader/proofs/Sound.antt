@@ -25,7 +25,7 @@ members_sound class ms e h =
     let marks = bound (marks_in table.0 ms) _ e table.2 in
     let options = bound (options_in ms) _ e marks.2 in
     let tree = bound (at (key (codes "tree")) (seen table.0 (value_of (codes "tree") ms) (slot.One (content.Node class)))) _ e options.2 in
-    let same = ok_same (record { globals = table.0; unresolved = marks.0.0; top = marks.0.1; keep_class_names = options.0.0; ignore_eval = options.0.1; tree = tree.0 }) e tree.2 in
+    let same = ok_same (record { globals = table.0; unresolved = marks.0.0; top = marks.0.1; keep_class_names = options.0.0; ignore_eval = options.0.1; keep_top = options.0.2; tree = tree.0 }) e tree.2 in
     subst (IsSound class) same (seen_sound table.0 (value_of (codes "tree") ms) (slot.One (content.Node class)) tree.0 (at_ok (key (codes "tree")) _ tree.0 tree.1))
 
 envelope_sound : (class : Class) (d : Json) (e : Envelope) → envelope_in class d ≡ Ok e → IsSound class e

@@ -9,7 +9,7 @@ ghost use Rattle.jsbase_form.specs.Known.{MarksKnown};
 ghost use Rattle.swc_tree_node.specs.Fits.{Fits};
 ghost use Rattle.jsbase_reader.specs.Answers.{Gives, GivesView};
 ghost use Rattle.jsbase_reader.specs.Parts.{members_in};
-ghost use Rattle.jsbase_reader.specs.Envelopes.{option_at, marks_in, options_in, envelope_around, envelope_of, envelope_in, text_in, envelope_in_text};
+ghost use Rattle.jsbase_reader.specs.Envelopes.{option_at, said_at, marks_in, options_in, envelope_around, envelope_of, envelope_in, text_in, envelope_in_text};
 
 use crate::error::{ReadError, fault, under};
 use crate::leaves::{items_of, read_flag, read_mark, read_pair};
@@ -32,6 +32,8 @@ pub struct Envelope {
     pub top: Mark,
     pub keep_class_names: bool,
     pub ignore_eval: bool,
+    /// Whether names that the program's own scope declares are to keep their texts, where that is said.
+    pub keep_top: Option<bool>,
     pub tree: Node,
 }
 
@@ -80,6 +82,17 @@ fn read_option(alloc: Global, value: &Value<'_>) -> Result<bool, ReadError>
     }
 }
 
+// A flag, if there is one.
+fn read_said(alloc: Global, value: &Value<'_>) -> Result<Option<bool>, ReadError>
+    ensures { Gives result (said_at (value_view value.now)) }
+{
+    if value.is_null() {
+        return Ok(None);
+    }
+    let flag = read_flag(alloc, value)?;
+    Ok(Some(flag))
+}
+
 // The table of marks of an envelope.
 #[tactic(auto, unfolding(jsbase_form::specs::Tables::table_at, jsbase_form::specs::Tables::pairs_at))]
 pub(crate) fn table_in(alloc: Global, object: &Value<'_>) -> Result<Globals, ReadError>
@@ -121,6 +134,16 @@ pub(crate) fn option_in(
     }
 }
 
+// The option that a key holds, if it holds one.
+fn said_in(alloc: Global, object: &Value<'_>, name: &'static str) -> Result<Option<bool>, ReadError>
+    ensures { Gives result (at (key name.now) (said_at (value_of name.now (members_in (value_view object.now))))) }
+{
+    match member(object, name) {
+        Some(value) => under(Step::Key(name), read_said(alloc, value)),
+        None => Ok(None),
+    }
+}
+
 // The mark of names that no scope declares, and that of the outermost scope.
 pub(crate) fn read_marks(
     alloc: Global,
@@ -134,13 +157,17 @@ pub(crate) fn read_marks(
     Ok((unresolved, top))
 }
 
-// Whether classes keep their names, and whether `eval` is ignored.
-pub(crate) fn read_options(alloc: Global, object: &Value<'_>) -> Result<(bool, bool), ReadError>
+// Whether classes keep their names, whether `eval` is ignored, and whether names of the program's own scope are to stay, if it is said.
+pub(crate) fn read_options(
+    alloc: Global,
+    object: &Value<'_>,
+) -> Result<(bool, bool, Option<bool>), ReadError>
     ensures { Gives result (options_in (members_in (value_view object.now))) }
 {
     let keep_class_names = option_in(alloc, object, "keepClassNames")?;
     let ignore_eval = option_in(alloc, object, "ignoreEval")?;
-    Ok((keep_class_names, ignore_eval))
+    let keep_top = said_in(alloc, object, "keepTop")?;
+    Ok((keep_class_names, ignore_eval, keep_top))
 }
 
 // The tree of an envelope.
@@ -170,7 +197,7 @@ pub(crate) fn read_members(
 {
     let globals = table_in(alloc, object)?;
     let (unresolved, top) = read_marks(alloc, &globals, object)?;
-    let (keep_class_names, ignore_eval) = read_options(alloc, object)?;
+    let (keep_class_names, ignore_eval, keep_top) = read_options(alloc, object)?;
     let tree = read_tree(alloc, &globals, class, object)?;
     Ok(Envelope {
         globals,
@@ -178,6 +205,7 @@ pub(crate) fn read_members(
         top,
         keep_class_names,
         ignore_eval,
+        keep_top,
         tree,
     })
 }
@@ -192,13 +220,14 @@ pub(crate) fn read_around(
     ensures { Gives result (envelope_around globals (members_in (value_view others.now)) tree) }
 {
     let (unresolved, top) = read_marks(alloc, &globals, others)?;
-    let (keep_class_names, ignore_eval) = read_options(alloc, others)?;
+    let (keep_class_names, ignore_eval, keep_top) = read_options(alloc, others)?;
     Ok(Envelope {
         globals,
         unresolved,
         top,
         keep_class_names,
         ignore_eval,
+        keep_top,
         tree,
     })
 }
@@ -217,7 +246,7 @@ fn read_object(alloc: Global, class: Class, value: &Value<'_>) -> Result<Envelop
 /// The envelope that a JSON value is, whose tree is of a class.
 ///
 /// Its members are read in this order: `marks`, `unresolved`, `top`, `keepClassNames`, `ignoreEval`,
-/// `tree`. Others are let go.
+/// `keepTop`, `tree`. Others are let go.
 ///
 /// # Errors
 ///

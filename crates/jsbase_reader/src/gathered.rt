@@ -145,11 +145,12 @@ fn read_whole(alloc: Global, class: Class, reader: &mut Reader<'_>) -> Result<Ve
         after,
     } = gathered;
     let others = Value::Object(others);
-    let keep_top = faultless(read_asked(alloc, &others))?;
+    let (keep_top, spelling) = faultless(read_asked(alloc, &others))?;
     let before = there(before)?;
     let after = there(after)?;
     Ok(Versions {
         keep_top,
+        spelling,
         before,
         after,
     })

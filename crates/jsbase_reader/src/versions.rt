@@ -1,15 +1,18 @@
 //! Reading two versions of a program, of which something is asked.
-ghost use Rattle.std.specs.Prelude.{IfOk};
+ghost use Rattle.std.specs.Prelude.{IfOk, codes};
 ghost use Rattle.json.specs.Value.{value_view};
 ghost use Rattle.jsbase_form.specs.Known.{MarksKnown};
+ghost use Rattle.jsbase_form.specs.Reads.{at, key};
+ghost use Rattle.jsbase_form.specs.Trees.{value_of};
 ghost use Rattle.swc_tree_node.specs.Fits.{Fits};
 ghost use Rattle.jsbase_reader.specs.Answers.{Gives};
 ghost use Rattle.jsbase_reader.specs.Parts.{members_in};
-ghost use Rattle.jsbase_reader.specs.Versions.{asked_in, no_marks, tree_in, versions_of, versions_in, versions_in_text};
+ghost use Rattle.jsbase_reader.specs.Versions.{asked_in, no_marks, spelling_at, tree_in, versions_of, versions_in, versions_in_text};
 
 use crate::envelope::{option_in, parse, read_marks, table_in};
 use crate::error::{ReadError, fault, under};
 use crate::gathered::read_streamed;
+use crate::leaves::read_flag;
 use crate::nodes::{member, read};
 use jsbase_form::Step;
 use json::{Scratch, Value};
@@ -22,17 +25,43 @@ use swc_tree_node::{Class, Content, Node, Slot};
 pub struct Versions {
     /// Whether names that the program's own scope declares are to keep their texts.
     pub keep_top: bool,
+    /// Whether literals of one value that are spelled otherwise are to differ.
+    pub spelling: bool,
     pub before: Node,
     pub after: Node,
 }
 
-// What is asked of the two versions. The marks are read before, and let go.
-pub(crate) fn read_asked(alloc: Global, object: &Value<'_>) -> Result<bool, ReadError>
+// A flag, or true where there is none.
+fn read_spelling(alloc: Global, value: &Value<'_>) -> Result<bool, ReadError>
+    ensures { Gives result (spelling_at (value_view value.now)) }
+{
+    if value.is_null() {
+        Ok(true)
+    } else {
+        read_flag(alloc, value)
+    }
+}
+
+// Whether spellings count.
+fn spelling_in(alloc: Global, object: &Value<'_>) -> Result<bool, ReadError>
+    ensures { Gives result (at (key (codes "spelling")) (spelling_at (value_of (codes "spelling") (members_in (value_view object.now))))) }
+{
+    match member(object, "spelling") {
+        Some(value) => under(Step::Key("spelling"), read_spelling(alloc, value)),
+        None => Ok(true),
+    }
+}
+
+// What is asked of the two versions: whether names of the program's own scope keep their texts, and whether spellings count. The marks
+// are read before, and let go.
+pub(crate) fn read_asked(alloc: Global, object: &Value<'_>) -> Result<(bool, bool), ReadError>
     ensures { Gives result (asked_in (members_in (value_view object.now))) }
 {
     let globals = table_in(alloc, object)?;
     let _marks = read_marks(alloc, &globals, object)?;
-    option_in(alloc, object, "keepTop")
+    let keep_top = option_in(alloc, object, "keepTop")?;
+    let spelling = spelling_in(alloc, object)?;
+    Ok((keep_top, spelling))
 }
 
 // The tree that a key holds.
@@ -56,12 +85,13 @@ fn read_tree(
 fn read_members(alloc: Global, class: Class, object: &Value<'_>) -> Result<Versions, ReadError>
     ensures { Gives result (versions_of class (members_in (value_view object.now))) }
 {
-    let keep_top = read_asked(alloc, object)?;
+    let (keep_top, spelling) = read_asked(alloc, object)?;
     let no_marks = Globals::new(alloc);
     let before = read_tree(alloc, &no_marks, class, object, "before")?;
     let after = read_tree(alloc, &no_marks, class, object, "after")?;
     Ok(Versions {
         keep_top,
+        spelling,
         before,
         after,
     })
@@ -96,8 +126,8 @@ fn read_text(alloc: Global, class: Class, bytes: &[u8]) -> Result<Versions, Read
 
 /// The two versions of a program that a text has, each a tree of a class in which no identifier has a context.
 ///
-/// Its members are read in this order: `marks`, `unresolved`, `top`, `keepTop`, `before`, `after`; others are let go. A mark in a context
-/// is a fault, whatever the table has.
+/// Its members are read in this order: `marks`, `unresolved`, `top`, `keepTop`, `spelling`, `before`, `after`; others are let go. A mark in a
+/// context is a fault, whatever the table has.
 ///
 /// # Errors
 ///

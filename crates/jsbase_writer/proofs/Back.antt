@@ -1,5 +1,5 @@
 -- Envelopes that are read back as they were written.
-use Rattle.std.proofs.Common.{◌≡◌, ◌≤◌, ◌^◌, ℕ, suc, List, [], ◌∷◌, ◌++◌, true, false, IsTrue, map, nat_lt, Some, Ok, refl, sym, ap, ◌∙◌, subst}
+use Rattle.std.proofs.Common.{◌≡◌, ◌≤◌, ◌^◌, ℕ, suc, List, [], ◌∷◌, ◌++◌, true, false, IsTrue, map, nat_lt, Some, None, Ok, refl, sym, ap, ◌∙◌, subst}
 use Rattle.std.specs.Str.{IsUtf8}
 use Rattle.json.specs.Json.{Json}
 use Rattle.json.specs.Tree.{depth}
@@ -46,7 +46,7 @@ table_back table well short = ap (λ r. r >>= checked [] 0) (pairs_back table 0 
 
 envelope_back : (table : Table) (top : ℕ) (tree : Node) (unresolved : ℕ) (wanted : Class) → table_at (table_json table) ≡ Ok table → IsTrue (marks_short (top ∷ unresolved ∷ []))
     → IsTrue (is_marked table top) → IsTrue (is_marked table unresolved) → seen table (json tree) (slot.One (content.Node wanted)) ≡ Ok tree
-    → envelope_in wanted (envelope_json table top tree unresolved) ≡ Ok (record { globals = table; unresolved = unresolved; top = top; keep_class_names = false; ignore_eval = false; tree = tree })
+    → envelope_in wanted (envelope_json table top tree unresolved) ≡ Ok (record { globals = table; unresolved = unresolved; top = top; keep_class_names = false; ignore_eval = false; keep_top = None; tree = tree })
 unfolding envelope_of
 envelope_back table top tree unresolved wanted rows short top_known unresolved_known read_tree =
     let both = split (nat_lt top (2 ^ 32)) (marks_short (unresolved ∷ [])) short in

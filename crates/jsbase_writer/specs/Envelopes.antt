@@ -1,5 +1,5 @@
 -- The JSON of a tree with its table of marks.
-use Rattle.std.specs.Prelude.{◌≡◌, ◌≤◌, ℕ, List, [], ◌∷◌, ◌++◌, map, codes, Bool, false, IsTrue, Ok}
+use Rattle.std.specs.Prelude.{◌≡◌, ◌≤◌, ℕ, List, [], ◌∷◌, ◌++◌, map, codes, Bool, false, IsTrue, None, Ok}
 use Rattle.std.specs.List.{list_all}
 use Rattle.json.specs.Json.{Json, array, object, no_members, member}
 use Rattle.json.specs.Print.{print}
@@ -42,9 +42,9 @@ text_of d = print (json_tokens d)
 abbrev pub envelope_text : Table → ℕ → Node → ℕ → List ℕ
 envelope_text table top tree unresolved = text_of (envelope_json table top tree unresolved) ++ 10 ∷ []
 
--- The text reads as the envelope, with every option false, whatever class its tree fits. The marks have to be known, and
+-- The text reads as the envelope, with every option false or not said, whatever class its tree fits. The marks have to be known, and
 -- arrays and objects to nest no deeper than a reader goes.
 abbrev pub ReadsBack : List ℕ → Table → ℕ → Node → ℕ → Type 0
 ReadsBack text table top tree unresolved = (class : Class) → Fits tree (slot.One (content.Node class)) → MarksKnown table tree → IsTrue (is_marked table top) → IsTrue (is_marked table unresolved)
     → depth (envelope_json table top tree unresolved) ≤ max_depth
-    → envelope_in_text class text ≡ Ok (record { globals = table; unresolved = unresolved; top = top; keep_class_names = false; ignore_eval = false; tree = tree })
+    → envelope_in_text class text ≡ Ok (record { globals = table; unresolved = unresolved; top = top; keep_class_names = false; ignore_eval = false; keep_top = None; tree = tree })

@@ -13,7 +13,8 @@ const HELP = `usage: jsbase COMMAND [--marks] [--module | --script] [--program P
 
 Parses FILE, runs the program \`jsbase COMMAND module|script\` on its tree, and writes the
 answer as JavaScript on standard output. COMMAND is one of the program's: resolve, hygiene,
-unparen, fix or chain, which is resolve, hygiene and fix. Names of a parsed text have no contexts, so for hygiene the program is
+unparen, fix, chain, which is resolve, hygiene and fix, or mangle, which
+gives short names. Names of a parsed text have no contexts, so for hygiene the program is
 first run as \`jsbase resolve\`, and hygiene is given what that answers.
 
   --marks              names with their contexts: a#2, or a#2.3 where there are two marks

@@ -16,7 +16,7 @@ returns-clause-read c =
     record {
       whole = object read.members;
       read = object_ended 126 c.args.reader.now c.object_begins.new.reader c.gather.new.reader read.members c.in_ok-object_begins.ensures.begins read.read;
-      are = versions_are c.args.class read.members _ g c.in_ok-keep_top.keep_top c.in_ok-before.before c.in_ok-after.after are (members_are g.others) c.in_ok-before.ensures.is c.in_ok-after.ensures.is asked;
+      are = versions_are c.args.class read.members _ g c.in_ok-keep_top.keep_top c.in_ok-keep_top.spelling c.in_ok-before.before c.in_ok-after.after are (members_are g.others) c.in_ok-before.ensures.is c.in_ok-after.ensures.is asked;
     }
 
 pub returns-in_err-gathered-clause-json : goal.returns-in_err-gathered-clause-json
