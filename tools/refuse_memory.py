@@ -6,7 +6,7 @@ asked.
 
 WORK is `jsbase`, which is run from bytes to bytes, or `pass`, which runs a pass, with comments and renamers too: `gate_replay
 refuse` does both. Or it is a work of `gate_tables refuse`: `make` helpers, `name` them, `insert` a body, `inject` helpers, or
-`finish`, which is also for the chain. FILE, else the `stdin` of that program's crate, has rows of three lines: arguments, an
+`finish`, which is also for the chain and short names. FILE, else the `stdin` of that program's crate, has rows of three lines: arguments, an
 input, and what comes of it with ample memory. The cases are the rows whose arguments begin with COMMAND, for `pass` those that
 begin with `pass COMMAND` too, and there none without a tree. A pass `rename` gives every name a new text, so of it these alone.
 
@@ -52,7 +52,7 @@ TABLES = {
     'name': ('helper names',),
     'insert': of_each('helper written out in a'),
     'inject': of_each('helper of a package in a', 'helper written out in a'),
-    'finish': of_each('finish', 'chain', 'commented finish', 'commented chain'),
+    'finish': of_each('finish', 'chain', 'mangle', 'commented finish', 'commented chain'),
 }
 WORKS = {**REPLAYED, **TABLES}
 

@@ -78,11 +78,17 @@ def text_numbered(x, n):
     return js.codes('v%d' % n)
 
 
-TEXTS = {'hygiene': with_number, 'short': text_short, 'short from': text_short_from, 'of others': text_of_others, 'own second': text_own_second, 'numbered': text_numbered}
+def text_by_use(x, n):
+    """a short text of the id's own under the first counter, and then the other short texts in order: those of mangling, by a choice that means nothing"""
+    own = digest(x)[3] % 8
+    return short(own if n == 0 else n - 1 if n <= own else n)
+
+
+TEXTS = {'hygiene': with_number, 'short': text_short, 'short from': text_short_from, 'of others': text_of_others, 'own second': text_own_second, 'numbered': text_numbered, 'by use': text_by_use}
 
 
 def lawful(preserves=()):
-    """24 renamers: six kinds of texts, with all settings of the two flags"""
+    """28 renamers: seven kinds of texts, with all settings of the two flags"""
     for (name, text), mangles, resets in itertools.product(TEXTS.items(), (False, True), (False, True)):
         yield '%s mangles=%d resets=%d' % (name, mangles, resets), Renaming(text, mangles, resets, preserves)
 
@@ -125,7 +131,10 @@ def texts_fault(t, u, new_texts):
 def named_fault(t, r):
     """what a renamer makes of a tree can be written down, has its normal form but for bound names, the texts of its map, and no other span"""
     new_texts = new_texts_of(t, r)
-    middle = middle_of(t, new_texts)
+    return fault_of_middle(t, new_texts, middle_of(t, new_texts))
+
+
+def fault_of_middle(t, new_texts, middle):
     if not is_writable(middle):
         return Bad('not writable:', middle)
     if not is_same(t, middle):
@@ -145,14 +154,16 @@ SETTLED = script_laws.PLAIN[:2]
 
 def whole_fault(t, r):
     """... and then the fixer answers the record of promises"""
-    fault = named_fault(t, r)
+    new_texts = new_texts_of(t, r)
+    middle = middle_of(t, new_texts)
+    fault = fault_of_middle(t, new_texts, middle)
     if fault:
         return fault
-    answer = fixed(middle_of(t, new_texts_of(t, r)))
+    answer = fixed(middle)
     if is_module(t):
         promised = is_as_promised(t, answer)
         return None if promised is True else promised
-    found = {name: bad for name, bad in script_laws.clauses(t, answer).items() if name != 'again'}
+    found = script_laws.once_clauses(t, answer)
     return script_laws.told(found) if found else None
 
 
@@ -214,7 +225,7 @@ def keeps_apart(t, keeps):
 # ---------------------------------------------------------------------------------------------------------- laws
 @law(writable_module)
 def renamers_keep_normal_forms(t):
-    """what any of 24 lawful renamers makes of a writable module, well-scoped or not, can be written down, has the same normal form, spans too,
+    """what any of 28 lawful renamers makes of a writable module, well-scoped or not, can be written down, has the same normal form, spans too,
     but for the names that it binds, and there the texts of the renamer's map; preserved ids differ at the module's top"""
     if not is_module(t) or not is_writable(t):
         return None
@@ -224,7 +235,7 @@ def renamers_keep_normal_forms(t):
 
 @law(well_scoped_module)
 def renamers_keep_promises(t):
-    """on well-scoped writable modules the fixer answers to what any of 24 lawful renamers made, which preserves none, what is promised"""
+    """on well-scoped writable modules the fixer answers to what any of 28 lawful renamers made, which preserves none, what is promised"""
     return first_fault(t, chosen(t, 3), whole_fault) if writable_and_well_scoped(t) else None
 
 
@@ -275,7 +286,7 @@ def mangled(t, top, keeps_top):
     if has_strays(t):
         return cleared(t)
     own = sorted({x for _, _, x in analysed(t).ids if x[1] == (top,)}) if keeps_top else ()
-    return middle_of(t, new_texts_of(t, Renaming(text_short, True, False, own)))
+    return middle_of(t, new_texts_of(t, Renaming(text_by_use, False, True, own)))
 
 
 def is_mangled_as_promised(t):

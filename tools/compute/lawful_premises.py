@@ -1,5 +1,5 @@
 """lawful_premises.py CHECKOUT SEED SECONDS: what is promised of each lawful renamer, with one premise left out at a time, on random trees; of
-each the smallest tree found on which the promise fails. It ends with status 1 where a premise was not found to be needed.
+each the smallest tree found on which the promise fails. SECONDS are of a processor. It ends with status 1 where a premise was not found to be needed.
 
     python3 tools/compute/lawful_premises.py . 7 600
 """
@@ -93,10 +93,10 @@ def smallest(case, t):
 
 def tried(case, seed, seconds):
     """(trees that met the other premises, those that fail, the smallest of these)"""
-    random, end = random_trees.Random(seed), time.time() + seconds
+    random, end = random_trees.Random(seed), time.process_time() + seconds
     met = failed = 0
     best = None
-    while time.time() < end:
+    while time.process_time() < end:
         t = case[1][1](random, 2 + random.below(24))
         fault = fault_in(case, t)
         met += fault is not None

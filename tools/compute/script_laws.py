@@ -186,8 +186,8 @@ def chained_again(answer, top, keeps=False):
     return set_anew(hygienic(scoping.resolved(D.all, answer, 1, top), keeps))
 
 
-def clauses(t, answer):
-    """the clauses of `KeepsItsPromises` that do not hold, with what is wrong"""
+def once_clauses(t, answer):
+    """the clauses of `KeepsItsPromises` that do not hold, with what is wrong, but for what a second chain makes of the answer"""
     found = {}
     if not fits_grammar(answer):
         found['derived'] = Bad('does not fit:', answer)
@@ -203,6 +203,12 @@ def clauses(t, answer):
     faults = scoping.faults(scoping.NO_EARLY_ERROR, D.all, answer)
     if faults:
         found['no_early_error'] = Bad(', '.join(faults), 'in', answer)
+    return found
+
+
+def clauses(t, answer):
+    """the same, and whether a second chain changes the answer"""
+    found = once_clauses(t, answer)
     again = chained_again(answer, 2)
     if again != answer:
         found['again'] = Bad('chained again:', again, 'once:', answer)

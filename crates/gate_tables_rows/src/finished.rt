@@ -1,10 +1,12 @@
 //! Rows of the calls that run passes one after another, and of hygiene by value. A row is an envelope, and what is left of it; where
-//! comments are lent, behind the moves that they were asked for, and `room` in the envelope says how many they grant.
+//! comments are lent, behind the moves that they were asked for, and `room` in the envelope says how many they grant. Of scripts that are
+//! mangled the names of the program stay.
 use gate_rows::{Given, Notes, Program, Settings, room};
 use std::alloc::Global;
 use swc_ecma_transforms_base::hygiene::{Config, hygiene_with_config};
 use swc_ecma_transforms_base::resolver::marks_ok;
 use swc_ecma_transforms_base::{chain_module, chain_script, finish_module, finish_script};
+use swc_ecma_transforms_base_mangle::{mangle_module, mangle_script};
 use swc_tree::PassError;
 use swc_tree_node::Class;
 
@@ -13,6 +15,7 @@ use swc_tree_node::Class;
 pub enum Task {
     Finish,
     Chain,
+    Mangle,
 }
 
 // The class of programs that a word names.
@@ -29,6 +32,7 @@ pub fn task_of(words: &str) -> Option<(Task, Class)> {
     match words.split_once(' ')? {
         ("finish", class) => Some((Task::Finish, class_of(class)?)),
         ("chain", class) => Some((Task::Chain, class_of(class)?)),
+        ("mangle", class) => Some((Task::Mangle, class_of(class)?)),
         _ => None,
     }
 }
@@ -43,33 +47,68 @@ fn config_of(settings: Settings) -> Config {
     }
 }
 
-/// Finishes a program, or runs the chain on it where its marks are known, with comments that are lent, if there are any.
-pub fn run(
+// Finishes a program.
+fn finish(alloc: Global, comments: Option<&mut Notes>, given: &mut Given) -> Result<(), PassError> {
+    let config = config_of(given.settings);
+    let globals = &mut given.globals;
+    match &mut given.program {
+        Program::Module(module) => finish_module(alloc, globals, config, comments, module),
+        Program::Script(script) => finish_script(alloc, globals, config, comments, script),
+    }
+}
+
+// Runs the chain on a program whose marks are known.
+fn chain(
     alloc: Global,
-    task: Task,
     comments: Option<&mut Notes>,
     given: &mut Given,
 ) -> Option<Result<(), PassError>> {
     let config = config_of(given.settings);
     let (unresolved, top) = (given.settings.unresolved, given.settings.top);
     let globals = &mut given.globals;
-    if matches!(task, Task::Chain) && !marks_ok(globals, unresolved, top) {
+    if !marks_ok(globals, unresolved, top) {
         return None;
     }
-    Some(match (task, &mut given.program) {
-        (Task::Finish, Program::Module(module)) => {
-            finish_module(alloc, globals, config, comments, module)
-        }
-        (Task::Finish, Program::Script(script)) => {
-            finish_script(alloc, globals, config, comments, script)
-        }
-        (Task::Chain, Program::Module(module)) => {
+    Some(match &mut given.program {
+        Program::Module(module) => {
             chain_module(alloc, globals, unresolved, top, config, comments, module)
         }
-        (Task::Chain, Program::Script(script)) => {
+        Program::Script(script) => {
             chain_script(alloc, globals, unresolved, top, config, comments, script)
         }
     })
+}
+
+// Gives a program whose marks are known short names.
+fn mangle(alloc: Global, given: &mut Given) -> Option<Result<(), PassError>> {
+    let config = config_of(given.settings);
+    let unresolved = given.settings.unresolved;
+    let globals = &mut given.globals;
+    if !marks_ok(globals, unresolved, config.top_level_mark) {
+        return None;
+    }
+    Some(match &mut given.program {
+        Program::Module(module) => {
+            mangle_module(alloc, globals, unresolved, &config, false, module)
+        }
+        Program::Script(script) => {
+            mangle_script(alloc, globals, unresolved, &config, true, script)
+        }
+    })
+}
+
+/// Does the task to a program, with comments that are lent, if there are any and the task takes them.
+pub fn run(
+    alloc: Global,
+    task: Task,
+    comments: Option<&mut Notes>,
+    given: &mut Given,
+) -> Option<Result<(), PassError>> {
+    match task {
+        Task::Finish => Some(finish(alloc, comments, given)),
+        Task::Chain => chain(alloc, comments, given),
+        Task::Mangle => mangle(alloc, given),
+    }
 }
 
 // What hygiene by value makes of the program of a row.

@@ -263,7 +263,7 @@ impl Work for Finished {
     // The resolver alone makes marks.
     fn is_kept(&mut self, _alloc: Global) -> Option<bool> {
         let has_its_marks = match self.task {
-            Task::Chain => true,
+            Task::Chain | Task::Mangle => true,
             Task::Finish => self.given.has_no_new_mark(),
         };
         Some(self.given.is_emptied() && has_its_marks)

@@ -1,17 +1,17 @@
 //! Programs with short names.
-ghost use Rattle.std.specs.Prelude.{◌≡◌, ◌&&◌, IfOk, IfErr};
+ghost use Rattle.std.specs.Prelude.{◌≡◌, ◌&&◌, ◌⊎◌, IfOk, IfErr};
+ghost use Rattle.swc_tree_marks.specs.declared.error.PassError.TheVariants as error;
 ghost use Rattle.swc_base_rename_naming.specs.Ids.{HasJust};
-ghost use Rattle.swc_base_rename_program.specs.Renamed.{IsRenameRefusal, IsRenamedBy};
 ghost use Rattle.swc_base_rename_substitution.specs.Room.{FitsAs};
-ghost use Rattle.swc_base_mangle.specs.Mangled.{IsMangleRefusalBy, IsMangled, IsMangledBy, IsNamedBy, mangling};
+ghost use Rattle.swc_base_mangle.specs.Mangled.{IsByUseRefusal, IsMangleRefusal, IsMangled, IsRenamedByUse, IsShortened};
 ghost use Rattle.swc_base_mangle.specs.Own.{is_own};
 
 use crate::own::own_ids;
 use crate::strays::has_strays;
 use std::alloc::Global;
 use std::collections::HashSet;
+use swc_base_rename_by_use::texts_of_program;
 use swc_base_rename_program::{Mode, rename_program};
-use swc_base_rename_short_texts::ShortTexts;
 use swc_base_rename_substitution::{Config, clear_contexts};
 use swc_tree_marks::{Globals, Id, Mark, NoMemory, PassError};
 use swc_tree_node::Node;
@@ -40,16 +40,17 @@ fn rename_short(
     keeps_top: bool,
     tree: Node,
 ) -> Result<Node, PassError>
-    ensures renamed { IfOk result (IsRenamedBy globals.now config.now (mangling keeps_top config.now.top_level_mark tree) tree) }
-    ensures refused { IfErr result (IsRenameRefusal globals.now config.now (mangling keeps_top config.now.top_level_mark tree) tree) }
+    ensures renamed { IfOk result (IsRenamedByUse globals.now config.now keeps_top tree) }
+    ensures refused { IfErr result (λ e. (e ≡ error.NoMemory) ⊎ IsByUseRefusal globals.now config.now keeps_top tree e) }
     ensures fits { IfOk result (FitsAs tree) }
 {
     let mode = Mode {
-        mangles: true,
-        resets: false,
+        mangles: false,
+        resets: true,
     };
     let preserved = preserved_ids(alloc, keeps_top, config.top_level_mark, &tree)?;
-    let tree = rename_program(alloc, &ShortTexts, mode, &preserved, config, globals, tree)?;
+    let texts = texts_of_program(alloc, &preserved, &tree)?;
+    let tree = rename_program(alloc, &texts, mode, &preserved, config, globals, tree)?;
     Ok(tree)
 }
 
@@ -61,8 +62,8 @@ fn shorten_program(
     keeps_top: bool,
     tree: Node,
 ) -> Result<Node, PassError>
-    ensures named { IfOk result (IsNamedBy globals.now config.now (mangling keeps_top config.now.top_level_mark tree) tree) }
-    ensures refused { IfErr result (IsMangleRefusalBy globals.now config.now (mangling keeps_top config.now.top_level_mark tree) tree) }
+    ensures named { IfOk result (IsShortened globals.now config.now keeps_top tree) }
+    ensures refused { IfErr result (IsMangleRefusal globals.now config.now keeps_top tree) }
     ensures fits { IfOk result (FitsAs tree) }
 {
     let keeps_all = has_strays(alloc, &tree)?;
@@ -73,9 +74,10 @@ fn shorten_program(
     Ok(given)
 }
 
-/// A program whose ids have short texts, `a` to `z` and so on, where texts alone tell names apart, and no context. Each id that a scope
-/// declares gets the first text that nothing there needs; with `keeps_top` ids that have just the top mark keep theirs, which are the names
-/// of the program's scope. Where something reads names those that it may read stay, as `rename_program` has it.
+/// A program whose ids have short texts, `a` to `z` and so on, where texts alone tell names apart, and no context. The ids that are used
+/// most get the shortest that they can share (`texts_of_program`), and where such a text isn't free the first that is; with `keeps_top` ids
+/// that have just the top mark keep theirs, which are the names of the program's scope. Where something reads names those that it may read
+/// stay, as `rename_program` has it.
 ///
 /// A script that has strays keeps all its names: a plain function in a block of sloppy code, or `undefined`, `NaN` or `Infinity` as a
 /// name of the program.
@@ -91,8 +93,7 @@ pub fn mangle_program(
     tree: Node,
 ) -> Result<Node, PassError>
     ensures mangled { IfOk result (IsMangled globals.now config.now keeps_top tree) }
-    ensures texts { IfOk result (IsMangledBy globals.now config.now (mangling keeps_top config.now.top_level_mark tree) tree) }
-    ensures refused { IfErr result (IsMangleRefusalBy globals.now config.now (mangling keeps_top config.now.top_level_mark tree) tree) }
+    ensures refused { IfErr result (IsMangleRefusal globals.now config.now keeps_top tree) }
     ensures fits { IfOk result (FitsAs tree) }
 {
     let given = shorten_program(alloc, config, globals, keeps_top, tree)?;

@@ -17,16 +17,23 @@ use Rattle.swc_tree_grammar.specs.Writable.{is_identifier_text}
 use Rattle.swc_tree_grammar.specs.Targets.{all_bare}
 use Rattle.swc_base_rename_analysis.specs.Named.{Renaming}
 use Rattle.swc_base_rename_hygiene_laws.specs.Renamers.{IsLawful, IsRenamedAndCleared, KeepsTopApart, SparesGlobalValues}
+use Rattle.swc_base_rename_by_use.specs.ByUse.{moved, own}
+use Rattle.swc_base_rename_by_use.specs.ByUseLaws.{below as fits-by_use}
+use Rattle.swc_base_rename_by_use.specs.declared.by_use.TextsByUse.{TextsByUse}
 use Rattle.swc_base_rename_program.specs.Renamed.{IsRead, IsRenamedBy}
 use Rattle.swc_base_rename_short_texts.specs.ShortLaws.{identifier-short, none_is_withheld}
 use Rattle.swc_base_rename_short_texts.specs.ShortTexts.{short_text}
 use Rattle.swc_base_rename_substitution.specs.declared.config.Config.{Config}
-use Rattle.swc_base_mangle.specs.Mangled.{HasStrays, IsMangling, IsShort}
+use Rattle.swc_base_mangle.specs.Mangled.{HasStrays, IsRenamedByUse, mangling}
 use Rattle.swc_base_mangle.specs.Own.{is_own, stands_in}
 use Rattle.swc_ecma_transforms_base_laws.specs.Headline.{KeepsItsForm, KeepsItsSource}
 use Rattle.swc_ecma_transforms_base_laws.specs.Renamers.{LawfulRenamersKeepFormsOfSources, LawfulRenamersKeepSources, PreservesTopNames, RenamersThatPreserveTopNamesSuit}
 use Rattle.swc_ecma_transforms_base_laws.specs.Sources.{ResolvedSourcesAreReady, ResolvedSourcesHaveTheirForm}
 use Rattle.swc_base_mangle_laws.specs.Laws.{MangledSourcesAreKept, MangledSourcesKeepForms}
+
+-- one of the short texts
+abbrev IsShort : List ℕ → Type 0
+IsShort text = (n : ℕ) × (n < 2 ^ 64) × (text ≡ short_text n)
 
 module _ (r : Renaming) (short : (x : Id) (n : ℕ) → n < 2 ^ 64 → IsShort (r.text x n)) where
   -- a text that is withheld is none of them
@@ -51,14 +58,26 @@ module _ (r : Renaming) (short : (x : Id) (n : ℕ) → n < 2 ^ 64 → IsShort (
       (or_cases (bytes_eq text (codes "NaN")) (bytes_eq text (codes "Infinity")) rest))
       (or_cases (bytes_eq text (codes "undefined")) (bytes_eq text (codes "NaN") || bytes_eq text (codes "Infinity")) h)
 
-module _ (keeps_top : Bool) (top : ℕ) (t : Node) (r : Renaming) (is : IsMangling keeps_top top t r) where
-  top_names_alone : PreservesTopNames top r
+module _ (texts : TextsByUse) (keeps_top : Bool) (top : ℕ) (t : Node) where
+  abbrev by_use : Renaming
+  by_use = mangling texts keeps_top top t
+
+  short_by_use : (x : Id) (n : ℕ) → n < 2 ^ 64 → IsShort (by_use.text x n)
+  short_by_use x n fits = (moved (own texts x) n, fits-by_use texts x n fits, refl)
+
+  by_use_lawful : IsLawful by_use
+  by_use_lawful = is_lawful by_use short_by_use
+
+  by_use_spares : SparesGlobalValues by_use
+  by_use_spares = spares by_use short_by_use
+
+  top_names_alone : PreservesTopNames top by_use
   top_names_alone x h =
-      let own = (and_parts keeps_top (is_own top t x) (sym (is.preserved x) ∙ h)).1 in
-      (bytes_eq-Decides x.1 (top ∷ [])).0 (and_parts (bytes_eq x.1 (top ∷ [])) (stands_in x t) own).0
+      let stands = (and_parts keeps_top (is_own top t x) h).1 in
+      (bytes_eq-Decides x.1 (top ∷ [])).0 (and_parts (bytes_eq x.1 (top ∷ [])) (stands_in x t) stands).0
 
   -- two such names of one text are one id
-  top_apart : (u : Node) → KeepsTopApart r u
+  top_apart : (u : Node) → KeepsTopApart by_use u
   top_apart u m x y bx by px py same = λ j. (same j, (top_names_alone x px ∙ sym (top_names_alone y py)) j)
 
 -- ---- strays
@@ -82,30 +101,30 @@ stays table config t unread = record {
 -- ---- the laws
 
 pub keeps_forms : ResolvedSourcesHaveTheirForm → LawfulRenamersKeepFormsOfSources → MangledSourcesKeepForms
-keeps_forms resolves forms config keeps_top place goal unresolved top old new source resolved middle is f s marks h = ⊎_elim stray shortened h.mangled.1
+keeps_forms resolves forms config keeps_top place goal unresolved top old new source resolved middle is f s marks h = ⊎_elim stray shortened h.shortened
   where
-    stray : HasStrays resolved × (h.mangled.0 ≡ resolved) → KeepsItsForm source (fixed place middle) × (all_bare middle ≡ true)
+    stray : HasStrays resolved × (h.given ≡ resolved) → KeepsItsForm source (fixed place middle) × (all_bare middle ≡ true)
     stray (strays, same) =
         let unread = (resolves config goal source resolved unresolved top old new is f s marks).finishable.plain.unread in
-        let made : IsRenamedAndCleared new config keeps_all resolved middle = (h.mangled.0, subst (IsRenamedBy new config keeps_all resolved) (sym same) (stays new config resolved unread), h.mangled.2) in
+        let made : IsRenamedAndCleared new config keeps_all resolved middle = (h.given, subst (IsRenamedBy new config keeps_all resolved) (sym same) (stays new config resolved unread), h.cleared) in
         let whole = forms keeps_all config place goal unresolved top old new source resolved middle all_lawful is f s marks made in
         (whole.0 (λ m. absurd (no_module_is_script resolved m strays.0)), whole.1)
 
-    shortened : ¬ HasStrays resolved × IsRenamedBy new config h.renaming resolved h.mangled.0 → KeepsItsForm source (fixed place middle) × (all_bare middle ≡ true)
-    shortened (none, renamed) =
-        let whole = forms h.renaming config place goal unresolved top old new source resolved middle (is_lawful h.renaming h.is_mangling.short) is f s marks (h.mangled.0, renamed, h.mangled.2) in
-        (whole.0 (top_apart keeps_top config.top_level_mark resolved h.renaming h.is_mangling resolved), whole.1)
+    shortened : ¬ HasStrays resolved × IsRenamedByUse new config keeps_top resolved h.given → KeepsItsForm source (fixed place middle) × (all_bare middle ≡ true)
+    shortened (none, texts, renamed) =
+        let own_top = config.top_level_mark in
+        let whole = forms (by_use texts keeps_top own_top resolved) config place goal unresolved top old new source resolved middle (by_use_lawful texts keeps_top own_top resolved) is f s marks (h.given, renamed, h.cleared) in
+        (whole.0 (top_apart texts keeps_top own_top resolved resolved), whole.1)
 
 pub keeps_sources : ResolvedSourcesAreReady → LawfulRenamersKeepSources → RenamersThatPreserveTopNamesSuit → MangledSourcesAreKept
-keeps_sources resolves sources suit config keeps_top place goal unresolved old new source resolved middle is f s plain known marks h = ⊎_elim (λ x. absurd (plainly x.0)) (λ x. shortened x.1) h.mangled.1
+keeps_sources resolves sources suit config keeps_top place goal unresolved old new source resolved middle is f s plain known marks h = ⊎_elim (λ x. absurd (plainly x.0)) (λ x. shortened x.1) h.shortened
   where
     plainly : HasStrays resolved → ⊥
     plainly (script, none) = let p = (resolves config goal source resolved unresolved config.top_level_mark old new is f s plain known marks).plain script in none (p.settled, p.no_global_value)
 
-    shortened : IsRenamedBy new config h.renaming resolved h.mangled.0 → KeepsItsSource unresolved config.top_level_mark old new source (fixed place middle)
-    shortened renamed =
+    shortened : IsRenamedByUse new config keeps_top resolved h.given → KeepsItsSource unresolved config.top_level_mark old new source (fixed place middle)
+    shortened (texts, renamed) =
         let top = config.top_level_mark in
-        let r = h.renaming in
-        let short = h.is_mangling.short in
-        let suits = suit r config goal source resolved unresolved top old new (top_names_alone keeps_top top resolved r h.is_mangling) (λ _. spares r short) is f s plain known marks in
-        (sources r config place goal unresolved top old new source resolved middle (is_lawful r short) suits is f s plain known marks (h.mangled.0, renamed, h.mangled.2)).0
+        let r = by_use texts keeps_top top resolved in
+        let suits = suit r config goal source resolved unresolved top old new (top_names_alone texts keeps_top top resolved) (λ _. by_use_spares texts keeps_top top resolved) is f s plain known marks in
+        (sources r config place goal unresolved top old new source resolved middle (by_use_lawful texts keeps_top top resolved) suits is f s plain known marks (h.given, renamed, h.cleared)).0

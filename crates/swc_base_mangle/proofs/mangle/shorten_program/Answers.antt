@@ -1,4 +1,4 @@
-use Rattle.std.proofs.Common.{◌≡◌, true, false, inl, inr, refl, sym, ◌∙◌}
+use Rattle.std.proofs.Common.{◌≡◌, true, false, inl, inr, ⊎_elim, refl, sym, ◌∙◌}
 use Rattle.std.proofs.lemmas.Result.{err_from_is_err_and}
 use Rattle.swc_base_mangle.proofs.mangle.shorten_program.Goals as goal
 
@@ -11,4 +11,4 @@ returns-clause-named c = inr (λ strays. (let z = sym (c.in_ok-keeps_all.ensures
 pub returns-in_err-given-clause-refused : goal.returns-in_err-given-clause-refused
 returns-in_err-given-clause-refused c =
     let refused = err_from_is_err_and c.from_residual-in_err-given.result c.from_residual-in_err-given.ensures.1 in
-    rw (refused.1, refused.2) (inr (λ strays. (let z = sym (c.in_ok-keeps_all.ensures.1 strays) ∙ c.if-keeps_all.false in absurd (cc)), c.in_err-given.ensures.refused))
+    rw (refused.1, refused.2) (⊎_elim inl (λ why. inr (λ strays. (let z = sym (c.in_ok-keeps_all.ensures.1 strays) ∙ c.if-keeps_all.false in absurd (cc)), why)) c.in_err-given.ensures.refused)

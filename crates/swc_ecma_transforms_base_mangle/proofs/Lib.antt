@@ -1,0 +1,2 @@
+mod Causes
+mod Made
