@@ -28,11 +28,11 @@ spent_for : (envelope : Envelope) (table : Table) (resolved : Node) → Resolves
 spent_for envelope table resolved is refusal.NoMemory h = inl refl
 spent_for envelope table resolved is refusal.CounterSpent h = inr (table, resolved, is, h)
 spent_for envelope table resolved is refusal.MarksSpent (inl same) = absurd (cc)
-spent_for envelope table resolved is refusal.MarksSpent (inr (none, texts, h)) = absurd h
+spent_for envelope table resolved is refusal.MarksSpent (inr (none, (texts, h))) = absurd h
 spent_for envelope table resolved is refusal.NotAssignable (inl same) = absurd (cc)
-spent_for envelope table resolved is refusal.NotAssignable (inr (none, texts, h)) = absurd h
+spent_for envelope table resolved is refusal.NotAssignable (inr (none, (texts, h))) = absurd h
 spent_for envelope table resolved is refusal.TypesLeft (inl same) = absurd (cc)
-spent_for envelope table resolved is refusal.TypesLeft (inr (none, texts, h)) = absurd h
+spent_for envelope table resolved is refusal.TypesLeft (inr (none, (texts, h))) = absurd h
 
 pub returns-in_err-mangled : goal.returns-in_err-mangled
 returns-in_err-mangled c =
