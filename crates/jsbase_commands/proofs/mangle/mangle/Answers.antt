@@ -8,8 +8,7 @@ use Rattle.swc_tree_grammar.specs.Targets.{all_bare}
 use Rattle.jsbase_reader.specs.declared.envelope.Envelope.{Envelope}
 use Rattle.jsbase_writer.specs.Envelopes.{envelope_text}
 use Rattle.swc_base_rename_substitution.specs.declared.config.Config.{Config}
-use Rattle.swc_base_mangle.specs.Mangled.{IsMangleRefusalBy, IsMangled, mangling}
-use Rattle.swc_base_mangle.proofs.Texts.{is_mangling}
+use Rattle.swc_base_mangle.specs.Mangled.{IsMangleRefusal, IsMangled}
 use Rattle.jsbase_commands.specs.declared.arguments.Command.TheVariants as command
 use Rattle.jsbase_commands.specs.Run.{IsCauseOf, IsCausedFor, IsMangledWith, ResolvesTo, config_of, keeps_top_of}
 use Rattle.jsbase_commands.proofs.mangle.mangle.Goals as goal
@@ -25,15 +24,15 @@ refused_for envelope table mangled e is bare = ⊎_elim (λ (why : e ≡ refusal
 
 -- mangling is refused for its counters, or for want of memory
 spent_for : (envelope : Envelope) (table : Table) (resolved : Node) → ResolvesTo envelope table resolved → (e : PassError)
-    → IsMangleRefusalBy table (config_of envelope) (mangling (keeps_top_of envelope) envelope.top resolved) resolved e → IsCausedFor command.Mangle envelope e
+    → IsMangleRefusal table (config_of envelope) (keeps_top_of envelope) resolved e → IsCausedFor command.Mangle envelope e
 spent_for envelope table resolved is refusal.NoMemory h = inl refl
-spent_for envelope table resolved is refusal.CounterSpent h = inr (table, resolved, is, mangling (keeps_top_of envelope) envelope.top resolved, is_mangling (keeps_top_of envelope) envelope.top resolved, h)
+spent_for envelope table resolved is refusal.CounterSpent h = inr (table, resolved, is, h)
 spent_for envelope table resolved is refusal.MarksSpent (inl same) = absurd (cc)
-spent_for envelope table resolved is refusal.MarksSpent (inr (none, h)) = absurd h
+spent_for envelope table resolved is refusal.MarksSpent (inr (none, (texts, h))) = absurd h
 spent_for envelope table resolved is refusal.NotAssignable (inl same) = absurd (cc)
-spent_for envelope table resolved is refusal.NotAssignable (inr (none, h)) = absurd h
+spent_for envelope table resolved is refusal.NotAssignable (inr (none, (texts, h))) = absurd h
 spent_for envelope table resolved is refusal.TypesLeft (inl same) = absurd (cc)
-spent_for envelope table resolved is refusal.TypesLeft (inr (none, h)) = absurd h
+spent_for envelope table resolved is refusal.TypesLeft (inr (none, (texts, h))) = absurd h
 
 pub returns-in_err-mangled : goal.returns-in_err-mangled
 returns-in_err-mangled c =
@@ -42,8 +41,8 @@ returns-in_err-mangled c =
     let e = c.in_err-mangled.field-0.0 in
     let resolved = c.in_ok-marked.ensures.resolved c.requires.program c.requires.marks in
     let refused = err_from_is_err_and c.from_residual-in_err-mangled.result c.from_residual-in_err-mangled.ensures.1 in
-    let by_config = subst (λ config. IsMangleRefusalBy table config (mangling c.keeps_top-keeps.result config.top_level_mark marked) marked e) c.config-config.ensures c.in_err-mangled.ensures.refused in
-    rw (refused.1, refused.2) (spent_for c.args.envelope table marked resolved e (subst (λ keeps. IsMangleRefusalBy table (config_of c.args.envelope) (mangling keeps c.args.envelope.top marked) marked e) c.keeps_top-keeps.ensures by_config))
+    let by_config = subst (λ config. IsMangleRefusal table config c.keeps_top-keeps.result marked e) c.config-config.ensures c.in_err-mangled.ensures.refused in
+    rw (refused.1, refused.2) (spent_for c.args.envelope table marked resolved e (subst (λ keeps. IsMangleRefusal table (config_of c.args.envelope) keeps marked e) c.keeps_top-keeps.ensures by_config))
 
 pub returns-in_err-fixed : goal.returns-in_err-fixed
 returns-in_err-fixed c =
