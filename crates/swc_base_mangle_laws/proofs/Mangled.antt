@@ -111,7 +111,7 @@ keeps_forms resolves forms config keeps_top place goal unresolved top old new so
         (whole.0 (λ m. absurd (no_module_is_script resolved m strays.0)), whole.1)
 
     shortened : ¬ HasStrays resolved × IsRenamedByUse new config keeps_top resolved h.given → KeepsItsForm source (fixed place middle) × (all_bare middle ≡ true)
-    shortened (none, texts, renamed) =
+    shortened (none, (texts, renamed)) =
         let own_top = config.top_level_mark in
         let whole = forms (by_use texts keeps_top own_top resolved) config place goal unresolved top old new source resolved middle (by_use_lawful texts keeps_top own_top resolved) is f s marks (h.given, renamed, h.cleared) in
         (whole.0 (top_apart texts keeps_top own_top resolved resolved), whole.1)

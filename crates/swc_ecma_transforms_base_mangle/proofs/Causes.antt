@@ -38,18 +38,18 @@ module _ (unresolved : ℕ) (config : Config) (keeps_top : Bool) (old : Table) (
   pub mangling_refused : (resolved : Node) (e : PassError) → Resolved unresolved config.top_level_mark old new before resolved → IsMangleRefusal new config keeps_top resolved e
       → IsRefusal unresolved config keeps_top old before new e
   mangling_refused resolved error.NoMemory is h = (none, tt)
-  mangling_refused resolved error.CounterSpent is h = (none, (resolved, (is, h)))
+  mangling_refused resolved error.CounterSpent is h = (none, (resolved, is, h))
   mangling_refused resolved error.MarksSpent is (inl same) = absurd (cc)
-  mangling_refused resolved error.MarksSpent is (inr (no_strays, texts, h)) = absurd h
+  mangling_refused resolved error.MarksSpent is (inr (no_strays, (texts, h))) = absurd h
   mangling_refused resolved error.NotAssignable is (inl same) = absurd (cc)
-  mangling_refused resolved error.NotAssignable is (inr (no_strays, texts, h)) = absurd h
+  mangling_refused resolved error.NotAssignable is (inr (no_strays, (texts, h))) = absurd h
   mangling_refused resolved error.TypesLeft is (inl same) = absurd (cc)
-  mangling_refused resolved error.TypesLeft is (inr (no_strays, texts, h)) = absurd h
+  mangling_refused resolved error.TypesLeft is (inr (no_strays, (texts, h))) = absurd h
 
   -- the fixer is refused for a target, or for want of memory
   pub fixing_refused : (between : Node) (e : PassError) → OnceMangled unresolved config keeps_top old before new between → (e ≡ error.NotAssignable → all_bare between ≡ false)
       → (e ≡ error.NotAssignable) ⊎ (e ≡ error.NoMemory) → IsRefusal unresolved config keeps_top old before new e
-  fixing_refused between e is bare (inl why) = subst (IsRefusal unresolved config keeps_top old before new) (sym why) (none, (between, (is, bare why)))
+  fixing_refused between e is bare (inl why) = subst (IsRefusal unresolved config keeps_top old before new) (sym why) (none, (between, is, bare why))
   fixing_refused between e is bare (inr why) = subst (IsRefusal unresolved config keeps_top old before new) (sym why) (none, tt)
 
 -- the place of a program takes what is written out, and pairs

@@ -20,7 +20,7 @@ use Rattle.swc_ecma_transforms_base_mangle.specs.Mangled.{GainsMarks, IsMadeShor
 
 -- a table that stays gains none
 pub none_gained : (top : ℕ) (table : Table) (before : Node) → GainsMarks top table before table
-none_gained top table before = (0, (omega arith, refl))
+none_gained top table before = (0, omega arith, refl)
 
 -- the node that was worked on is that of the program
 module _ (unresolved : ℕ) (config : Config) (keeps_top : Bool) (old new : Table) (node before : Node) (same : node ≡ before) where
@@ -50,7 +50,7 @@ module _ (unresolved : ℕ) (config : Config) (keeps_top : Bool) (old new : Tabl
 
   -- no target is to blame
   pub spared : MangledSourcesKeepForms → IsSource config before → (e : PassError) → IsRefusal unresolved config keeps_top old before new e → e ≢ error.NotAssignable
-  spared forms source error.NotAssignable (none, (between, (once, bare))) same = let stands = takes_values forms source between once in absurd (cc)
+  spared forms source error.NotAssignable (none, (between, once, bare)) same = let stands = takes_values forms source between once in absurd (cc)
   spared forms source error.NoMemory h same = absurd (cc same)
   spared forms source error.MarksSpent h same = absurd (cc same)
   spared forms source error.CounterSpent h same = absurd (cc same)

@@ -1,4 +1,5 @@
-use Rattle.std.proofs.Common.{◌≡◌, Bool, true, false, Ok, Err, ap, refl, subst, sym}
+use Rattle.std.proofs.Common.{◌≡◌, Bool, true, false, None, Ok, Err, ap, refl, subst, sym}
+use Rattle.std.proofs.lemmas.Result.{err_from_is_err_and}
 use Rattle.swc_base_alpha.specs.declared.verdict.Verdict.TheVariants as verdict
 use Rattle.swc_base_alpha.specs.Verdict.{IsCleanProgram, TellsWhy, word_in}
 use Rattle.jsbase_commands.specs.Judge.{as_compared}
@@ -23,7 +24,7 @@ returns-in_ok-write_same-in-None c =
     record {
       no_types = none_compared v before after c.in_ok-before.ensures c.in_ok-after.ensures (false_unless _ (λ types. never _ _ (c.in_ok-why_different.ensures.types types)));
       said = verdict.Same;
-      tells = told_compared v before after c.in_ok-before.ensures c.in_ok-after.ensures _ (subst (TellsWhy v.keep_top before after) (ap word_in c.in-None.is) (c.in_ok-why_different.ensures.why first second));
+      tells = told_compared v before after c.in_ok-before.ensures c.in_ok-after.ensures None (subst (TellsWhy v.keep_top before after) (ap word_in c.in-None.is) (c.in_ok-why_different.ensures.why first second));
       paths = tt;
       written = c.in_ok-write_same-in-None.ensures;
     }
@@ -40,4 +41,6 @@ returns-in_ok-tell_difference-in-Some c =
     c.in-Some.is (told_compared v before after c.in_ok-before.ensures c.in_ok-after.ensures _ (c.in_ok-why_different.ensures.why first second)) c.in_ok-tell_difference-in-Some.ensures
 
 pub returns-in_err-why_different : goal.returns-in_err-why_different
-returns-in_err-why_different c = untold_compared c.args.versions c.in_ok-before.before c.in_ok-after.after c.in_ok-before.ensures c.in_ok-after.ensures _ c.in_err-why_different.ensures.refusal
+returns-in_err-why_different c =
+    let refused = err_from_is_err_and c.from_residual-in_err-why_different.result c.from_residual-in_err-why_different.ensures.1 in
+    rw (refused.1, refused.2) (untold_compared c.args.versions c.in_ok-before.before c.in_ok-after.after c.in_ok-before.ensures c.in_ok-after.ensures c.in_err-why_different.field-0.0 c.in_err-why_different.ensures.refusal)
