@@ -33,6 +33,22 @@ same_gap line.In line.In = true
 same_gap line.Out line.Out = true
 same_gap _ _ = false
 
+abbrev pub same_literal : Piece → Piece → Bool
+same_literal (quoted a raw) (quoted b other) = same_text a b && same_raw raw other
+same_literal (template p a raw) (template q b other) = same_part p q && same_text raw other
+same_literal (regex a flags) (regex b others) = same_text a b && same_text flags others
+same_literal (attribute a value) (attribute b other) = same_text a b && same_text value other
+same_literal _ _ = false
+
+abbrev pub same_token : Piece → Piece → Bool
+same_token (word a) (word b) = same_text a b
+same_token (private_name a) (private_name b) = same_text a b
+same_token (punctuator m) (punctuator n) = same_mark m n
+same_token (number a) (number b) = same_text a b
+same_token (big_integer a) (big_integer b) = same_text a b
+same_token (hashbang a) (hashbang b) = same_text a b
+same_token p q = same_literal p q
+
 -- Two pieces are the same but for what they name, and for how what is written ends.
 abbrev pub alike : Piece → Piece → Bool
 alike (name a) (name b) = true
@@ -45,17 +61,7 @@ alike here here = true
 alike ends ends = true
 alike never never = true
 alike (gap g) (gap h) = same_gap g h
-alike (word a) (word b) = same_text a b
-alike (private_name a) (private_name b) = same_text a b
-alike (punctuator m) (punctuator n) = same_mark m n
-alike (number a) (number b) = same_text a b
-alike (big_integer a) (big_integer b) = same_text a b
-alike (hashbang a) (hashbang b) = same_text a b
-alike (quoted a raw) (quoted b other) = same_text a b && same_raw raw other
-alike (template p a raw) (template q b other) = same_part p q && same_text raw other
-alike (regex a flags) (regex b others) = same_text a b && same_text flags others
-alike (attribute a value) (attribute b other) = same_text a b && same_text value other
-alike _ _ = false
+alike p q = same_token p q
 
 abbrev pub other_text : List ℕ → List ℕ → Option (List ℕ)
 other_text a b = if same_text a b then None else Some b

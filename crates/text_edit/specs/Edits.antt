@@ -81,3 +81,15 @@ abbrev pub IsEdited : Comments → List Piece → List Piece → List ℕ → Li
 IsEdited c ps qs text out =
     ((pointwise is_same ps qs ≡ true) × (out ≡ text))
     ⊎ IsEditedBySteps c ps qs text out
+
+-- The text with new names in the place of the old, where the pieces differ in nothing else: all other bytes stay.
+abbrev pub RenamedFrom : Comments → Bool → Ending → List Piece → List Piece → List ℕ → List ℕ → Type 0
+RenamedFrom c fresh e [] [] text out = out ≡ text
+RenamedFrom c fresh e (p ∷ ps) (q ∷ qs) text out =
+    (rest : List ℕ) × (more : List ℕ) × Takes c true fresh e p text rest × (out ≡ stands c fresh (new_name p q) text rest ++ more)
+    × RenamedFrom c (fresh_behind fresh p) (ending_behind e p) ps qs rest more
+RenamedFrom c fresh e _ _ text out = ⊥
+
+abbrev pub IsRenamed : Comments → List Piece → List Piece → List ℕ → List ℕ → Type 0
+IsRenamed c ps qs text out =
+    ((pointwise is_same ps qs ≡ true) × (out ≡ text)) ⊎ RenamedFrom c true ending.Closed ps qs text out

@@ -112,7 +112,20 @@ fn is_same_token(one: Piece<'_>, other: Piece<'_>) -> bool
             Piece::Hashbang(other) => same_text(one, other),
             _ => false,
         },
-        _ => is_same_literal(one, other),
+        Piece::Name(_)
+        | Piece::Quoted(_, _)
+        | Piece::Template(_, _, _)
+        | Piece::Regex(_, _)
+        | Piece::Attribute(_, _)
+        | Piece::MayComma
+        | Piece::MayFrom
+        | Piece::MayBraces
+        | Piece::Parameter(_)
+        | Piece::Here
+        | Piece::Closes(_)
+        | Piece::End
+        | Piece::Gap(_)
+        | Piece::Never => is_same_literal(one, other),
     }
 }
 

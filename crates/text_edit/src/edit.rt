@@ -1,6 +1,8 @@
 //! A text edited.
 ghost use Rattle.std.specs.Prelude.{◌≡◌, true, map, IfOk, IsTrue};
-ghost use Rattle.text_edit.specs.Edits.{IsEdited};
+ghost use Rattle.std.specs.Cmp.Lexicographic.{pointwise};
+ghost use Rattle.text_edit.specs.Alike.{alike};
+ghost use Rattle.text_edit.specs.Edits.{IsEdited, IsRenamed};
 ghost use Rattle.text_follow.specs.Follows.{Follows};
 ghost use Rattle.text_pieces.specs.Pieces.{pieces as pieces_of};
 ghost use Rattle.text_pieces.specs.Tokens.{piece_view};
@@ -41,12 +43,14 @@ fn edit_pieces(
 }
 
 /// The text of a tree, edited to be that of another tree. What stands between two pieces that both have stays as it is: blanks
-/// and comments too. What is written is held against the tree before it is given.
+/// and comments too; where the trees differ in names alone, so do the texts. What is written is held against the tree before
+/// it is given.
 ///
 /// # Errors
 ///
 /// `OtherText` where the text is not that of the tree before, `NotTheText` where the answer were not that of the tree
 /// after, `NoMemory` where memory is refused.
+#[tactic(auto, using(crate::proofs::Names::renamed))]
 pub fn edit_text(
     alloc: Global,
     comments: Comments,
@@ -56,6 +60,7 @@ pub fn edit_text(
 ) -> Result<Vec<u8>, EditFault>
     ensures follows { IfOk result (λ out. Follows comments true (pieces_of after.now) out.items) }
     ensures same { pieces_of before.now ≡ pieces_of after.now → IfOk result (λ out. out.items ≡ text.now) }
+    ensures names { pointwise alike (pieces_of before.now) (pieces_of after.now) ≡ true → IfOk result (λ out. IsRenamed comments (pieces_of before.now) (pieces_of after.now) text.now out.items) }
     ensures edited { IfOk result (λ out. IsEdited comments (pieces_of before.now) (pieces_of after.now) text.now out.items) }
 {
     let old = pieces(alloc, before)?;
