@@ -1,35 +1,91 @@
 -- One step of an edit after another.
-use Rattle.std.proofs.Common.{◌≡◌, ℕ, true, List, [], ◌∷◌, ◌++◌, refl, append_assoc}
+use Rattle.std.proofs.Common.{◌≡◌, ℕ, true, false, List, [], ◌∷◌, ◌++◌, map, take, drop, length, refl, sym, ap, subst, ◌∙◌, append_assoc}
+use Rattle.std.proofs.lemmas.List.{take-append-drop}
 use Rattle.text_lexer.specs.declared.blank.Comments.{Comments}
-use Rattle.text_pieces.specs.Tokens.{Piece}
+use Rattle.text_pieces.specs.declared.item.Ending.TheVariants as ending
+use Rattle.text_pieces.specs.Tokens.{Piece, piece_view}
+use Rattle.text_follow.specs.Endings.{ending_behind}
+use Rattle.text_follow.specs.Follows.{Takes, fresh_behind}
 use Rattle.text_edit.specs.declared.align.Step.{Step}
 use Rattle.text_edit.specs.declared.align.Step.TheVariants as step
-use Rattle.text_edit.specs.declared.walk.Place.{Place}
-use Rattle.text_edit.specs.Edits.{Allowed, EditedFrom, IsEditedBySteps}
-use Rattle.text_edit.specs.Moves.{Keeps, Puts, TakesAway}
+use Rattle.text_edit.specs.declared.walk.Editing.{Editing}
+use Rattle.text_edit.specs.Alike.{new_name}
+use Rattle.text_edit.specs.Edits.{Allowed, EditedFrom, IsEditedBySteps, Stays, stands, still_changed}
+use Rattle.text_edit.specs.Moves.{Advances, Extends, Leads}
 
--- whatever is left from a place on, behind what is made the whole is edited
-abbrev pub Leads : Comments → List Piece → List Piece → List ℕ → Place → List Piece → List Piece → List ℕ → Type 0
-Leads c bs cs text place os ns made =
-    (ss : List Step) (more : List ℕ) → EditedFrom c place.fresh place.ending place.changed ss os ns place.rest.now more → IsEditedBySteps c bs cs text (made ++ more)
+extended : (made out : List ℕ) → Extends made out → out ≡ made ++ drop (length made) out
+extended made out h = sym (take-append-drop (length made) out) ∙ ap (λ l. l ++ drop (length made) out) h
 
-pub both_more : (c : Comments) (bs cs : List Piece) (text : List ℕ) (place next : Place) (p q : Piece) (ps qs os ns : List Piece) (made out : List ℕ)
-    → Leads c bs cs text place os ns made → os ≡ p ∷ ps → ns ≡ q ∷ qs → Allowed step.Both os ns → Keeps c place p q made next out → Leads c bs cs text next ps qs out
-both_more c bs cs text place next p q ps qs os ns made out before old_is new_is allowed (new, takes, stays, out_is, fresh_is, ending_is, changed_is) ss more h =
+joined : (c : Comments) (bs cs : List Piece) (text made out new more : List ℕ) → out ≡ made ++ new → IsEditedBySteps c bs cs text (made ++ new ++ more) → IsEditedBySteps c bs cs text (out ++ more)
+joined c bs cs text made out new more is h =
+    subst (λ l. IsEditedBySteps c bs cs text l) (sym (ap (λ l. l ++ more) is ∙ append_assoc made new more)) h
+
+pub both_advances : (c : Comments) (s t : Editing) (p q : Piece) (ps qs : List Piece)
+    → map piece_view s.olds.now ≡ p ∷ ps → map piece_view s.news.now ≡ q ∷ qs → map piece_view t.olds.now ≡ ps → map piece_view t.news.now ≡ qs
+    → Allowed step.Both (map piece_view s.olds.now) (map piece_view s.news.now)
+    → Takes c true s.place.fresh s.place.ending p s.place.rest.now t.place.rest.now
+    → Extends s.out.items t.out.items
+    → Stays s.place.changed (stands c s.place.fresh (new_name p q) s.place.rest.now t.place.rest.now) (drop (length s.out.items) t.out.items)
+    → t.place.fresh ≡ fresh_behind s.place.fresh p → t.place.ending ≡ ending_behind s.place.ending p
+    → t.place.changed ≡ still_changed s.place.changed s.place.rest.now t.place.rest.now
+    → Advances c s t
+unfolding Advances Leads
+both_advances c s t p q ps qs old_is new_is olds_are news_are allowed takes extends stays fresh_is ending_is changed_is bs cs text before ss more h =
+    let new : List ℕ = drop (length s.out.items) t.out.items in
     let there : Allowed step.Both (p ∷ ps) (q ∷ qs) = rw (old_is, new_is) at allowed in
-    let behind = rw (fresh_is, ending_is, changed_is) at h in
-    rw (out_is, append_assoc) (before (step.Both ∷ ss) (new ++ more) (rw (old_is, new_is) (there, next.rest.now, new, more, takes, stays, refl, behind)))
+    let behind = rw (fresh_is, ending_is, changed_is, olds_are, news_are) at h in
+    let edited : EditedFrom c s.place.fresh s.place.ending s.place.changed (step.Both ∷ ss) (map piece_view s.olds.now) (map piece_view s.news.now) s.place.rest.now (new ++ more)
+    = rw (old_is, new_is) (there, t.place.rest.now, new, more, takes, stays, refl, behind) in
+    joined c bs cs text s.out.items t.out.items new more (extended s.out.items t.out.items extends) (before (step.Both ∷ ss) (new ++ more) edited)
 
-pub insert_more : (c : Comments) (bs cs : List Piece) (text : List ℕ) (place next : Place) (q : Piece) (qs os ns : List Piece) (made out : List ℕ)
-    → Leads c bs cs text place os ns made → ns ≡ q ∷ qs → Allowed step.Insert os ns → Puts place made next out → Leads c bs cs text next os qs out
-insert_more c bs cs text place next q qs os ns made out before new_is allowed (new, out_is, rest_is, fresh_is, ending_is, changed_is) ss more h =
-    let there : Allowed step.Insert os (q ∷ qs) = rw new_is at allowed in
-    let behind = rw (fresh_is, ending_is, changed_is, rest_is) at h in
-    rw (out_is, append_assoc) (before (step.Insert ∷ ss) (new ++ more) (rw new_is (there, new, more, refl, behind)))
+pub insert_advances : (c : Comments) (s t : Editing) (q : Piece) (qs : List Piece)
+    → map piece_view s.news.now ≡ q ∷ qs → map piece_view t.olds.now ≡ map piece_view s.olds.now → map piece_view t.news.now ≡ qs
+    → Allowed step.Insert (map piece_view s.olds.now) (map piece_view s.news.now)
+    → t.place.rest.now ≡ s.place.rest.now → Extends s.out.items t.out.items
+    → t.place.fresh ≡ s.place.fresh → t.place.ending ≡ s.place.ending → t.place.changed ≡ true
+    → Advances c s t
+unfolding Advances Leads
+insert_advances c s t q qs new_is olds_are news_are allowed rest_is extends fresh_is ending_is changed_is bs cs text before ss more h =
+    let new : List ℕ = drop (length s.out.items) t.out.items in
+    let there : Allowed step.Insert (map piece_view s.olds.now) (q ∷ qs) = rw new_is at allowed in
+    let behind = rw (fresh_is, ending_is, changed_is, olds_are, news_are, rest_is) at h in
+    let edited : EditedFrom c s.place.fresh s.place.ending s.place.changed (step.Insert ∷ ss) (map piece_view s.olds.now) (map piece_view s.news.now) s.place.rest.now (new ++ more)
+    = rw new_is (there, new, more, refl, behind) in
+    joined c bs cs text s.out.items t.out.items new more (extended s.out.items t.out.items extends) (before (step.Insert ∷ ss) (new ++ more) edited)
 
-pub remove_more : (c : Comments) (bs cs : List Piece) (text : List ℕ) (place next : Place) (p : Piece) (ps os ns : List Piece) (made out : List ℕ)
-    → Leads c bs cs text place os ns made → os ≡ p ∷ ps → Allowed step.Remove os ns → TakesAway c place p made next out → Leads c bs cs text next ps ns out
-remove_more c bs cs text place next p ps os ns made out before old_is allowed (new, takes, out_is, fresh_is, ending_is, changed_is) ss more h =
-    let there : Allowed step.Remove (p ∷ ps) ns = rw old_is at allowed in
-    let behind = rw (fresh_is, ending_is, changed_is) at h in
-    rw (out_is, append_assoc) (before (step.Remove ∷ ss) (new ++ more) (rw old_is (there, next.rest.now, new, more, takes, refl, behind)))
+pub remove_advances : (c : Comments) (s t : Editing) (p : Piece) (ps : List Piece)
+    → map piece_view s.olds.now ≡ p ∷ ps → map piece_view t.olds.now ≡ ps → map piece_view t.news.now ≡ map piece_view s.news.now
+    → Allowed step.Remove (map piece_view s.olds.now) (map piece_view s.news.now)
+    → Takes c true s.place.fresh s.place.ending p s.place.rest.now t.place.rest.now
+    → Extends s.out.items t.out.items
+    → t.place.fresh ≡ fresh_behind s.place.fresh p → t.place.ending ≡ ending_behind s.place.ending p → t.place.changed ≡ true
+    → Advances c s t
+unfolding Advances Leads
+remove_advances c s t p ps old_is olds_are news_are allowed takes extends fresh_is ending_is changed_is bs cs text before ss more h =
+    let new : List ℕ = drop (length s.out.items) t.out.items in
+    let there : Allowed step.Remove (p ∷ ps) (map piece_view s.news.now) = rw old_is at allowed in
+    let behind = rw (fresh_is, ending_is, changed_is, olds_are, news_are) at h in
+    let edited : EditedFrom c s.place.fresh s.place.ending s.place.changed (step.Remove ∷ ss) (map piece_view s.olds.now) (map piece_view s.news.now) s.place.rest.now (new ++ more)
+    = rw old_is (there, t.place.rest.now, new, more, takes, refl, behind) in
+    joined c bs cs text s.out.items t.out.items new more (extended s.out.items t.out.items extends) (before (step.Remove ∷ ss) (new ++ more) edited)
+
+-- an edit that begins leads to itself
+pub start_leads : (c : Comments) (ps qs : List Piece) (text : List ℕ) (s : Editing) → s.out.items ≡ [] → map piece_view s.olds.now ≡ ps → map piece_view s.news.now ≡ qs
+    → s.place.rest.now ≡ text → s.place.fresh ≡ true → s.place.ending ≡ ending.Closed → s.place.changed ≡ false → Leads c ps qs text s
+unfolding Leads
+start_leads c ps qs text s empty old_is new_is rest_is fresh_is ending_is changed_is ss more h =
+    let edited = rw (fresh_is, ending_is, changed_is, old_is, new_is, rest_is) at h in
+    subst (λ l. IsEditedBySteps c ps qs text (l ++ more)) (sym empty) (ss, edited)
+
+pub led : (c : Comments) (ps qs : List Piece) (text : List ℕ) (s t : Editing) → Advances c s t → Leads c ps qs text s → Leads c ps qs text t
+unfolding Advances
+led c ps qs text s t advances leads = advances ps qs text leads
+
+-- what is left behind the last piece stays
+pub done_edited : (c : Comments) (ps qs : List Piece) (text out : List ℕ) (s : Editing) → Leads c ps qs text s → map piece_view s.olds.now ≡ [] → map piece_view s.news.now ≡ []
+    → out ≡ s.out.items ++ s.place.rest.now → IsEditedBySteps c ps qs text out
+unfolding Leads
+done_edited c ps qs text out s leads old_is new_is is =
+    let last : EditedFrom c s.place.fresh s.place.ending s.place.changed [] (map piece_view s.olds.now) (map piece_view s.news.now) s.place.rest.now s.place.rest.now
+    = rw (old_is, new_is) refl in
+    subst (λ l. IsEditedBySteps c ps qs text l) (sym is) (leads [] s.place.rest.now last)

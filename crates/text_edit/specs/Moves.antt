@@ -1,29 +1,22 @@
--- One step of an edit: from a place of the old text and what is made so far to the next.
-use Rattle.std.specs.Prelude.{◌≡◌, ℕ, true, List, ◌++◌}
+-- One step of an edit, from a state to the next.
+use Rattle.std.specs.Prelude.{◌≡◌, ℕ, true, List, ◌++◌, map, take, length}
 use Rattle.text_lexer.specs.declared.blank.Comments.{Comments}
-use Rattle.text_pieces.specs.Tokens.{Piece}
-use Rattle.text_follow.specs.Endings.{ending_behind}
-use Rattle.text_follow.specs.Follows.{Takes, fresh_behind}
-use Rattle.text_edit.specs.declared.walk.Place.{Place}
-use Rattle.text_edit.specs.Alike.{new_name}
-use Rattle.text_edit.specs.Edits.{Stays, stands, still_changed}
+use Rattle.text_pieces.specs.Tokens.{Piece, piece_view}
+use Rattle.text_edit.specs.declared.align.Step.{Step}
+use Rattle.text_edit.specs.declared.walk.Editing.{Editing}
+use Rattle.text_edit.specs.Edits.{EditedFrom, IsEditedBySteps}
 
--- an old piece stays, maybe with another name
-abbrev pub Keeps : Comments → Place → Piece → Piece → List ℕ → Place → List ℕ → Type 0
-Keeps c place p q made next out =
-    (new : List ℕ) × Takes c true place.fresh place.ending p place.rest.now next.rest.now
-    × Stays place.changed (stands c place.fresh (new_name p q) place.rest.now next.rest.now) new × (out ≡ made ++ new)
-    × (next.fresh ≡ fresh_behind place.fresh p) × (next.ending ≡ ending_behind place.ending p)
-    × (next.changed ≡ still_changed place.changed place.rest.now next.rest.now)
+-- something is put behind a text
+abbrev pub Extends : List ℕ → List ℕ → Type 0
+Extends made out = take (length made) out ≡ made
 
--- a new piece is put there
-abbrev pub Puts : Place → List ℕ → Place → List ℕ → Type 0
-Puts place made next out =
-    (new : List ℕ) × (out ≡ made ++ new) × (next.rest.now ≡ place.rest.now) × (next.fresh ≡ place.fresh) × (next.ending ≡ place.ending)
-    × (next.changed ≡ true)
+-- with an edit of what is left, the whole is edited
+unfoldable pub Leads : Comments → List Piece → List Piece → List ℕ → Editing → Type 0
+Leads c ps qs text s =
+    (ss : List Step) (more : List ℕ)
+    → EditedFrom c s.place.fresh s.place.ending s.place.changed ss (map piece_view s.olds.now) (map piece_view s.news.now) s.place.rest.now more
+    → IsEditedBySteps c ps qs text (s.out.items ++ more)
 
--- an old piece is taken away
-abbrev pub TakesAway : Comments → Place → Piece → List ℕ → Place → List ℕ → Type 0
-TakesAway c place p made next out =
-    (new : List ℕ) × Takes c true place.fresh place.ending p place.rest.now next.rest.now × (out ≡ made ++ new)
-    × (next.fresh ≡ fresh_behind place.fresh p) × (next.ending ≡ ending_behind place.ending p) × (next.changed ≡ true)
+-- a step is made that leads where the state before led
+unfoldable pub Advances : Comments → Editing → Editing → Type 0
+Advances c s t = (ps qs : List Piece) (text : List ℕ) → Leads c ps qs text s → Leads c ps qs text t

@@ -1,11 +1,13 @@
 //! A text edited step by step.
-ghost use Rattle.std.specs.Prelude.{◌≡◌, ◌++◌, [], true, false, map, IfOk, OnOk};
+ghost use Rattle.std.specs.Prelude.{◌≡◌, ◌++◌, ◌||◌, true, map, drop, length, IfOk, IfSome, OnOk};
 ghost use Rattle.std.specs.Option.{option_copied};
 ghost use Rattle.text_edit.specs.Edits as spec;
-ghost use Rattle.text_edit.specs.Edits.{IsEditedBySteps};
-ghost use Rattle.text_edit.specs.Moves.{Keeps, Puts, TakesAway};
+ghost use Rattle.text_edit.specs.Edits.{Allowed, IsEditedBySteps, Stays};
+ghost use Rattle.text_edit.specs.Moves.{Advances, Extends};
+ghost use Rattle.text_edit.specs.declared.align.Step.TheVariants.{Both, Insert, Remove};
+ghost use Rattle.text_follow.specs.Endings.{ending_behind as spec_ending_behind};
+ghost use Rattle.text_follow.specs.Follows.{Takes, fresh_behind as spec_fresh_behind};
 ghost use Rattle.text_lexer.specs.Names.{up_to as front_of};
-ghost use Rattle.text_pieces.specs.declared.item.Ending.TheVariants as ending;
 ghost use Rattle.text_pieces.specs.Tokens.{piece_view};
 
 use crate::align::{Step, change_at, due_behind, step_at};
@@ -80,13 +82,6 @@ fn stand(
     Ok(())
 }
 
-/// What is made of a text, so far.
-#[derive(Drop)]
-pub(crate) struct Made {
-    pub(crate) out: Vec<u8>,
-    pub(crate) edge: Edge,
-}
-
 /// Where an old text is read on.
 #[derive(Clone, Copy)]
 pub(crate) struct Place<'t> {
@@ -98,32 +93,22 @@ pub(crate) struct Place<'t> {
     pub(crate) ending: Ending,
     /// The last step was a change, behind which no token stands yet.
     pub(crate) changed: bool,
+    pub(crate) edge: Edge,
 }
 
-impl Made {
-    fn new(alloc: Global) -> Made
-        ensures { result.out.items ≡ [] }
-    {
-        Made {
-            out: Vec::new(alloc),
-            edge: Edge::settled(),
-        }
-    }
-}
-
-impl<'t> Place<'t> {
-    fn start(text: &'t [u8]) -> Place<'t>
-        ensures rest { result.rest.now ≡ text.now }
-        ensures fresh { result.fresh ≡ true }
-        ensures ending { result.ending ≡ ending.Closed }
-        ensures changed { result.changed ≡ false }
-    {
-        Place {
-            rest: text,
-            fresh: true,
-            ending: Ending::Closed,
-            changed: false,
-        }
+/// The same place with another edge.
+fn with_edge<'t>(place: Place<'t>, edge: Edge) -> Place<'t>
+    ensures rest { result.rest.now ≡ place.entry.rest.now }
+    ensures fresh { result.fresh ≡ place.entry.fresh }
+    ensures ending { result.ending ≡ place.entry.ending }
+    ensures changed { result.changed ≡ place.entry.changed }
+{
+    Place {
+        rest: place.rest,
+        fresh: place.fresh,
+        ending: place.ending,
+        changed: place.changed,
+        edge,
     }
 }
 
@@ -132,139 +117,211 @@ fn blanks_at<'t>(comments: Comments, place: Place<'t>) -> &'t [u8] {
     up_to(place.rest, behind_blanks(comments, place.fresh, place.rest))
 }
 
-/// An old piece that stays, maybe with another name.
-fn keep_piece<'t>(
-    alloc: Global,
+/// The place behind an old piece, if it stands there.
+fn behind_piece<'t>(
     comments: Comments,
     place: Place<'t>,
-    old: Piece<'_>,
-    new: Piece<'_>,
-    made: &mut Made,
-) -> Result<Place<'t>, EditFault>
-    ensures { IfOk result (λ next. Keeps comments place.entry (piece_view old.entry) (piece_view new.entry) made.old.out.items next made.new.out.items) }
+    piece: Piece<'_>,
+    changes: bool,
+) -> Option<Place<'t>>
+    ensures takes { IfSome result (λ next. Takes comments true place.entry.fresh place.entry.ending (piece_view piece.entry) place.entry.rest.now next.rest.now) }
+    ensures fresh { IfSome result (λ next. next.fresh ≡ spec_fresh_behind place.entry.fresh (piece_view piece.entry)) }
+    ensures ending { IfSome result (λ next. next.ending ≡ spec_ending_behind place.entry.ending (piece_view piece.entry)) }
+    ensures changed { IfSome result (λ next. next.changed ≡ (changes || spec.still_changed place.entry.changed place.entry.rest.now next.rest.now)) }
 {
-    let Some(rest) = take(comments, true, place.fresh, place.ending, place.rest, old) else {
-        return Err(EditFault::OtherText);
-    };
-    let name = new_name(old, new);
-    if place.changed {
-        let mut stands = Vec::new(alloc);
-        stand(comments, place.fresh, name, place.rest, rest, &mut stands)?;
-        let blanks = blanks_at(comments, place);
-        let token = keep(alloc, made.edge, &made.out, blanks, &stands)?;
-        made.out.extend_from_slice(&token)?;
-    } else {
-        stand(comments, place.fresh, name, place.rest, rest, &mut made.out)?;
-    }
-    made.edge = made.edge.behind(old, rest.len() == place.rest.len());
-    Ok(Place {
+    let rest = take(comments, true, place.fresh, place.ending, place.rest, piece)?;
+    Some(Place {
         rest,
-        fresh: fresh_behind(place.fresh, old),
-        ending: ending_behind(place.ending, old),
-        changed: place.changed && rest.len() == place.rest.len(),
+        fresh: fresh_behind(place.fresh, piece),
+        ending: ending_behind(place.ending, piece),
+        changed: changes || place.changed && rest.len() == place.rest.len(),
+        edge: place.edge,
     })
 }
 
-/// A new piece.
-fn put_piece<'t>(
+/// A text that is being edited.
+#[derive(Drop)]
+pub(crate) struct Editing<'p, 'a, 't> {
+    /// The old pieces that are left.
+    pub(crate) olds: &'p [Piece<'a>],
+    /// The new ones.
+    pub(crate) news: &'p [Piece<'a>],
+    pub(crate) place: Place<'t>,
+    /// What has been written.
+    pub(crate) out: Vec<u8>,
+}
+
+/// Puts an old piece behind a text, as it stands up to `rest`; right behind a change with blanks by need.
+fn write_piece(
     alloc: Global,
     comments: Comments,
-    place: Place<'t>,
-    new: Piece<'_>,
-    made: &mut Made,
-) -> Result<Place<'t>, EditFault>
-    ensures { IfOk result (λ next. Puts place.entry made.old.out.items next made.new.out.items) }
+    place: Place<'_>,
+    rest: &[u8],
+    name: Option<&str>,
+    out: &mut Vec<u8>,
+) -> Result<(), AllocError>
+    ensures extends { OnOk result (Extends out.old.items out.new.items) }
+    ensures stays { OnOk result (Stays place.entry.changed (spec.stands comments place.entry.fresh (option_copied name.entry) place.entry.rest.now rest.now) (drop (length out.old.items) out.new.items)) }
 {
-    let blanks = blanks_at(comments, place);
-    let (edge, token) = put(alloc, made.edge, &made.out, blanks, new)?;
-    made.out.extend_from_slice(&token)?;
-    made.edge = edge;
-    Ok(Place {
+    if !place.changed {
+        return stand(comments, place.fresh, name, place.rest, rest, out);
+    }
+    let mut stands = Vec::new(alloc);
+    stand(comments, place.fresh, name, place.rest, rest, &mut stands)?;
+    let new = keep(alloc, place.edge, out, blanks_at(comments, place), &stands)?;
+    out.extend_from_slice(&new)?;
+    Ok(())
+}
+
+/// An old piece stays, maybe with another name.
+#[tactic(auto, using(crate::proofs::Steps::both_advances))]
+fn keep_piece(
+    alloc: Global,
+    comments: Comments,
+    editing: &mut Editing<'_, '_, '_>,
+) -> Result<(), EditFault>
+    requires { Allowed Both (map piece_view editing.old.olds.now) (map piece_view editing.old.news.now) }
+    ensures { OnOk result (Advances comments editing.old editing.new) }
+{
+    let Some((old, olds)) = split_first(editing.olds) else {
+        return Err(EditFault::NotTheText);
+    };
+    let Some((new, news)) = split_first(editing.news) else {
+        return Err(EditFault::NotTheText);
+    };
+    let place = editing.place;
+    let Some(next) = behind_piece(comments, place, old, false) else {
+        return Err(EditFault::OtherText);
+    };
+    write_piece(
+        alloc,
+        comments,
+        place,
+        next.rest,
+        new_name(old, new),
+        &mut editing.out,
+    )?;
+    let edge = place.edge.behind(old, next.rest.len() == place.rest.len());
+    editing.place = with_edge(next, edge);
+    editing.olds = olds;
+    editing.news = news;
+    Ok(())
+}
+
+/// A new piece is put there.
+#[tactic(auto, using(crate::proofs::Steps::insert_advances))]
+fn put_piece(
+    alloc: Global,
+    comments: Comments,
+    editing: &mut Editing<'_, '_, '_>,
+) -> Result<(), EditFault>
+    requires { Allowed Insert (map piece_view editing.old.olds.now) (map piece_view editing.old.news.now) }
+    ensures { OnOk result (Advances comments editing.old editing.new) }
+{
+    let Some((piece, news)) = split_first(editing.news) else {
+        return Err(EditFault::NotTheText);
+    };
+    let place = editing.place;
+    let (edge, new) = put(
+        alloc,
+        place.edge,
+        &editing.out,
+        blanks_at(comments, place),
+        piece,
+    )?;
+    editing.out.extend_from_slice(&new)?;
+    editing.place = Place {
         rest: place.rest,
         fresh: place.fresh,
         ending: place.ending,
         changed: true,
-    })
+        edge,
+    };
+    editing.news = news;
+    Ok(())
 }
 
-/// An old piece that is taken away.
-fn remove_piece<'t>(
-    comments: Comments,
-    place: Place<'t>,
-    old: Piece<'_>,
-    made: &mut Made,
-) -> Result<Place<'t>, EditFault>
-    ensures { IfOk result (λ next. TakesAway comments place.entry (piece_view old.entry) made.old.out.items next made.new.out.items) }
+/// An old piece is taken away.
+#[tactic(auto, using(crate::proofs::Steps::remove_advances))]
+fn remove_piece(comments: Comments, editing: &mut Editing<'_, '_, '_>) -> Result<(), EditFault>
+    requires { Allowed Remove (map piece_view editing.old.olds.now) (map piece_view editing.old.news.now) }
+    ensures { OnOk result (Advances comments editing.old editing.new) }
 {
-    let Some(rest) = take(comments, true, place.fresh, place.ending, place.rest, old) else {
+    let Some((piece, olds)) = split_first(editing.olds) else {
+        return Err(EditFault::NotTheText);
+    };
+    let place = editing.place;
+    let Some(next) = behind_piece(comments, place, piece, true) else {
         return Err(EditFault::OtherText);
     };
-    let stood = up_to(place.rest, rest);
-    let left = left_of(made.edge, blanks_at(comments, place), stood);
-    made.out.extend_from_slice(left)?;
-    made.edge = made.edge.behind_removed(stood);
-    Ok(Place {
-        rest,
-        fresh: fresh_behind(place.fresh, old),
-        ending: ending_behind(place.ending, old),
-        changed: true,
-    })
+    let stood = up_to(place.rest, next.rest);
+    let left = left_of(place.edge, blanks_at(comments, place), stood);
+    editing.out.extend_from_slice(left)?;
+    editing.place = with_edge(next, place.edge.behind_removed(stood));
+    editing.olds = olds;
+    Ok(())
+}
+
+/// Makes a step.
+fn advance(
+    alloc: Global,
+    comments: Comments,
+    step: Step,
+    editing: &mut Editing<'_, '_, '_>,
+) -> Result<(), EditFault>
+    requires { Allowed step (map piece_view editing.old.olds.now) (map piece_view editing.old.news.now) }
+    ensures { OnOk result (Advances comments editing.old editing.new) }
+{
+    match step {
+        Step::Both => keep_piece(alloc, comments, editing),
+        Step::Insert => put_piece(alloc, comments, editing),
+        Step::Remove => remove_piece(comments, editing),
+    }
 }
 
 /// The text with what changes from the old pieces to the new.
-#[tactic(auto, using(crate::proofs::Steps::both_more, crate::proofs::Steps::insert_more, crate::proofs::Steps::remove_more))]
-pub(crate) fn apply(
+#[tactic(auto, using(crate::proofs::Steps::start_leads, crate::proofs::Steps::led, crate::proofs::Steps::done_edited))]
+pub(crate) fn apply<'a>(
     alloc: Global,
     comments: Comments,
     text: &[u8],
-    before: &[Piece<'_>],
-    after: &[Piece<'_>],
+    before: &[Piece<'a>],
+    after: &[Piece<'a>],
 ) -> Result<Vec<u8>, EditFault>
     ensures { IfOk result (λ out. IsEditedBySteps comments (map piece_view before.now) (map piece_view after.now) text.now out.items) }
 {
-    let mut made = Made::new(alloc);
-    let mut place = Place::start(text);
-    let (mut olds, mut news) = (before, after);
+    let mut editing = Editing {
+        olds: before,
+        news: after,
+        place: Place {
+            rest: text,
+            fresh: true,
+            ending: Ending::Closed,
+            changed: false,
+            edge: Edge::settled(),
+        },
+        out: Vec::new(alloc),
+    };
     let mut due = Change::none();
     'pieces: for turn in 0..before.len().saturating_add(after.len()) {
+        let (olds, news) = (editing.olds, editing.news);
         if olds.is_empty() && news.is_empty() {
             break;
         }
         due = change_at(due, olds, news);
         let step = step_at(due, olds, news);
         due = due_behind(due, step);
-        match step {
-            Step::Both => {
-                let Some((one, rest)) = split_first(olds) else {
-                    return Err(EditFault::NotTheText);
-                };
-                let Some((other, others)) = split_first(news) else {
-                    return Err(EditFault::NotTheText);
-                };
-                place = keep_piece(alloc, comments, place, one, other, &mut made)?;
-                olds = rest;
-                news = others;
-            }
-            Step::Insert => {
-                let Some((other, others)) = split_first(news) else {
-                    return Err(EditFault::NotTheText);
-                };
-                place = put_piece(alloc, comments, place, other, &mut made)?;
-                news = others;
-            }
-            Step::Remove => {
-                let Some((one, rest)) = split_first(olds) else {
-                    return Err(EditFault::NotTheText);
-                };
-                place = remove_piece(comments, place, one, &mut made)?;
-                olds = rest;
-            }
-        }
+        advance(alloc, comments, step, &mut editing)?;
     }
+    let Editing {
+        olds,
+        news,
+        place,
+        mut out,
+    } = editing;
     if !olds.is_empty() || !news.is_empty() {
         return Err(EditFault::NotTheText);
     }
-    made.out.extend_from_slice(place.rest)?;
-    let Made { out, .. } = made;
+    out.extend_from_slice(place.rest)?;
     Ok(out)
 }
