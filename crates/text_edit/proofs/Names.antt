@@ -37,7 +37,7 @@ renamed_from c fresh e [] [] [] text out h edited = edited
 renamed_from c fresh e [] (p ∷ ps) qs text out h edited = absurd edited
 renamed_from c fresh e [] [] (q ∷ qs) text out h edited = absurd edited
 renamed_from c fresh e (step.Both ∷ ss) (p ∷ ps) (q ∷ qs) text out h (allowed, rest, new, more, takes, stays, is, behind) =
-    (rest, more, takes, is ∙ ap (λ l. l ++ more) stays, renamed_from c (fresh_behind fresh p) (ending_behind e p) ss ps qs rest more (second_of (alike p q) (pointwise alike ps qs) h) behind)
+    (rest, more, takes, is ∙ ap (λ l. l ++ more) (stays refl), renamed_from c (fresh_behind fresh p) (ending_behind e p) ss ps qs rest more (second_of (alike p q) (pointwise alike ps qs) h) behind)
 renamed_from c fresh e (step.Both ∷ ss) [] qs text out h edited = absurd edited
 renamed_from c fresh e (step.Both ∷ ss) (p ∷ ps) [] text out h edited = absurd edited
 renamed_from c fresh e (step.Insert ∷ ss) ps (q ∷ qs) text out h edited = absurd (none ps (q ∷ qs) h edited.0.0)

@@ -85,7 +85,7 @@ named_self (gap g) = refl
 named_self never = refl
 
 one_self : (p : Piece) → is_same p p ≡ true
-one_self p = rw (alike_self p, named_self p) refl
+one_self p = rw (named_self p, alike_self p) refl
 
 pub same_self : (ps : List Piece) → pointwise is_same ps ps ≡ true
 same_self [] = refl

@@ -74,7 +74,7 @@ new_name _ _ = None
 
 -- the pieces are the same
 abbrev pub is_same : Piece → Piece → Bool
-is_same p q = alike p q && is_none (new_name p q)
+is_same p q = is_none (new_name p q) && alike p q
 
 -- Two lists begin with n pieces that are alike, or with fewer and end.
 abbrev pub begin_alike : ℕ → List Piece → List Piece → Bool

@@ -52,8 +52,7 @@ stands c fresh (Some a) text rest = up_to text (from_name c fresh text) ++ a ++ 
 
 -- Right behind a change the blanks are open; else a piece stays as it stands.
 abbrev pub Stays : Bool → List ℕ → List ℕ → Type 0
-Stays true old new = Unit {0}
-Stays false old new = new ≡ old
+Stays changed old new = changed ≡ false → new ≡ old
 
 abbrev pub still_changed : Bool → List ℕ → List ℕ → Bool
 still_changed changed text rest = changed && length rest == length text

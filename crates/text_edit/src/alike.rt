@@ -28,7 +28,10 @@ fn same_raw(one: Option<&str>, other: Option<&str>) -> bool
             Some(other) => same_text(one, other),
             None => false,
         },
-        None => other.is_none(),
+        None => match other {
+            Some(_) => false,
+            None => true,
+        },
     }
 }
 
@@ -174,7 +177,10 @@ pub(crate) fn new_name<'a>(old: Piece<'_>, new: Piece<'a>) -> Option<&'a str>
 fn is_same(one: Piece<'_>, other: Piece<'_>) -> bool
     ensures { result ≡ spec.is_same (piece_view one.entry) (piece_view other.entry) }
 {
-    is_alike(one, other) && new_name(one, other).is_none()
+    match new_name(one, other) {
+        Some(_) => false,
+        None => is_alike(one, other),
+    }
 }
 
 /// Whether two lists of pieces are the same.
