@@ -1,5 +1,5 @@
 -- One step of an edit, from a state to the next.
-use Rattle.std.specs.Prelude.{◌≡◌, ℕ, true, List, ◌++◌, map, take, length}
+use Rattle.std.specs.Prelude.{◌≡◌, ℕ, List, ◌++◌, map, take, length}
 use Rattle.text_lexer.specs.declared.blank.Comments.{Comments}
 use Rattle.text_pieces.specs.Tokens.{Piece, piece_view}
 use Rattle.text_edit.specs.declared.align.Step.{Step}

@@ -8,7 +8,7 @@ use text_printer::{Layout, text_of_pieces};
 #[derive(Clone, Copy)]
 pub(crate) struct Edge {
     /// A semicolon has been left to the reader, and nothing stands behind it.
-    pub(crate) open: bool,
+    pub(crate) semicolon: bool,
     /// What is put next begins a line.
     pub(crate) line: bool,
     /// The blanks before the next old token are written.
@@ -23,7 +23,7 @@ impl Edge {
     /// Nothing has changed.
     pub(crate) fn settled() -> Edge {
         Edge {
-            open: false,
+            semicolon: false,
             line: false,
             written: false,
             dropped: false,
@@ -37,7 +37,7 @@ impl Edge {
             return Edge::settled();
         }
         Edge {
-            open: self.open || matches!(piece, Piece::End),
+            semicolon: self.semicolon || matches!(piece, Piece::End),
             ..self
         }
     }
@@ -136,7 +136,7 @@ pub(crate) fn put(
         return Ok((edge.behind_gap(piece), token));
     }
     let mut new = Vec::new(alloc);
-    if edge.open {
+    if edge.semicolon {
         new.push(b';')?;
     }
     let leads = matches!(piece, Piece::Mark(Mark::LeftParen)) && !edge.line && !edge.written;
@@ -152,7 +152,7 @@ pub(crate) fn put(
     }
     new.extend_from_slice(&token)?;
     let behind = Edge {
-        open: false,
+        semicolon: false,
         line: false,
         written: edge.written || leads,
         dropped: edge.dropped,
@@ -174,7 +174,7 @@ pub(crate) fn keep(
         return Ok(new);
     }
     let token = &stands[blanks.len()..];
-    if edge.open && !(has_byte(blanks, b'\n') && is_name_byte(first_byte(token))) {
+    if edge.semicolon && !(has_byte(blanks, b'\n') && is_name_byte(first_byte(token))) {
         new.push(b';')?;
     }
     if !(edge.written || edge.dropped && !has_comment(blanks)) {

@@ -168,7 +168,8 @@ fn write_piece(
     }
     let mut stands = Vec::new(alloc);
     stand(comments, place.fresh, name, place.rest, rest, &mut stands)?;
-    let new = keep(alloc, place.edge, out, blanks_at(comments, place), &stands)?;
+    let blanks = blanks_at(comments, place);
+    let new = keep(alloc, place.edge, out.as_slice(), blanks, &stands)?;
     out.extend_from_slice(&new)?;
     Ok(())
 }
@@ -304,7 +305,8 @@ pub(crate) fn apply<'a>(
     };
     let mut due = Change::none();
     'pieces: for turn in 0..before.len().saturating_add(after.len()) {
-        let (olds, news) = (editing.olds, editing.news);
+        let olds = editing.olds;
+        let news = editing.news;
         if olds.is_empty() && news.is_empty() {
             break;
         }
