@@ -1,5 +1,5 @@
 -- Lists of pieces held against each other.
-use Rattle.std.proofs.Common.{◌≡◌, ◌≢◌, ℕ, zero, suc, ◌<◌, ◌+◌, ◌-◌, Bool, true, false, ◌&&◌, List, [], ◌∷◌, length, map, drop, get_or, Option, Some, None, refl, sym, ap, ◌∙◌, absurd, arith, nat_eq}
+use Rattle.std.proofs.Common.{◌≡◌, ◌≢◌, ℕ, zero, suc, ◌<◌, ◌+◌, ◌-◌, Bool, true, false, ◌&&◌, List, [], ◌∷◌, length, map, drop, get_or, Option, Some, None, refl, sym, ap, subst, ◌∙◌, absurd, arith, nat_eq}
 use Rattle.std.proofs.lemmas.List.{drop_more, drop_all, length-map}
 use Rattle.std.specs.Cmp.Lexicographic.{pointwise, unequal}
 use Rattle.std.specs.Cmp.Lexicographic.{other_text as texts_differ}
@@ -90,6 +90,9 @@ one_self p = rw (named_self p, alike_self p) refl
 pub same_self : (ps : List Piece) → pointwise is_same ps ps ≡ true
 same_self [] = refl
 same_self (p ∷ ps) = rw (one_self p, same_self ps) refl
+
+pub differ : (ps qs : List Piece) → pointwise is_same ps qs ≡ false → ps ≢ qs
+differ ps qs h e = let so : pointwise is_same ps qs ≡ true = subst (λ l. pointwise is_same ps l ≡ true) e (same_self ps) in cc
 
 pub same_more : (ps qs : List code.Piece) (i : ℕ) (d e : code.Piece) → i < length ps → i < length qs
     → pointwise is_same (map piece_view (drop i ps)) (map piece_view (drop i qs))

@@ -23,7 +23,7 @@ fn is_text_of(comments: Comments, text: &[u8], pieces: &[Piece<'_>]) -> bool
 }
 
 /// The text with what changes from the old pieces to the new.
-#[tactic(auto, using(crate::proofs::Pieces::same_self))]
+#[tactic(auto, using(crate::proofs::Pieces::differ))]
 fn edit_pieces(
     alloc: Global,
     comments: Comments,
