@@ -1,9 +1,9 @@
 -- Lists of pieces held against each other.
-use Rattle.std.proofs.Common.{◌≡◌, ◌≢◌, ℕ, zero, suc, ◌<◌, ◌+◌, ◌-◌, Bool, true, false, ◌&&◌, List, [], ◌∷◌, length, map, drop, get_or, Option, Some, None, refl, sym, ap, subst, ◌∙◌, absurd, arith, nat_eq}
+use Rattle.std.proofs.Common.{◌≡◌, ◌≢◌, ℕ, zero, suc, ◌<◌, ◌+◌, ◌-◌, Bool, true, false, ◌&&◌, List, [], ◌∷◌, length, map, drop, get_or, Option, Some, None, refl, sym, ap, subst, ◌∙◌, arith, nat_eq}
 use Rattle.std.proofs.lemmas.List.{drop_more, drop_all, length-map}
 use Rattle.std.specs.Cmp.Lexicographic.{pointwise, unequal}
 use Rattle.std.specs.Cmp.Lexicographic.{other_text as texts_differ}
-use Rattle.text_lexer.specs.declared.mark.Mark.{Mark}
+use Rattle.text_lexer.specs.Marks.{spelling}
 use Rattle.text_lexer.specs.declared.token.TemplatePart.{TemplatePart}
 use Rattle.text_lexer.specs.declared.token.TemplatePart.TheVariants as part
 use Rattle.text_pieces.specs.declared.piece.Gap.{Gap}
@@ -41,7 +41,7 @@ alike_self : (p : Piece) → alike p p ≡ true
 alike_self (word a) = text_self a
 alike_self (name a) = refl
 alike_self (private_name a) = text_self a
-alike_self (punctuator m) = text_self _
+alike_self (punctuator m) = text_self (spelling m)
 alike_self (number a) = text_self a
 alike_self (big_integer a) = text_self a
 alike_self (quoted a raw) = both_true _ _ (text_self a) (raw_self raw)
@@ -116,7 +116,8 @@ first_and_rest (p ∷ ps) d some = refl
 -- one piece more at the front
 pub begin_more : (n : ℕ) (p q : Piece) (ps qs : List Piece) → 0 < n → begin_alike n (p ∷ ps) (q ∷ qs) ≡ alike p q && begin_alike (n - 1) ps qs
 begin_more zero p q ps qs some = absurd (omega arith)
-begin_more (suc n) p q ps qs some = refl
+begin_more (suc n) p q ps qs some =
+    let e : suc n - 1 ≡ n = omega arith in ap (λ k. alike p q && begin_alike k ps qs) (sym e)
 
 pub begin_ended : (n : ℕ) → begin_alike n [] [] ≡ true
 begin_ended zero = refl

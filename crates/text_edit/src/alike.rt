@@ -220,7 +220,10 @@ pub(crate) fn begin_alike(count: usize, before: &[Piece<'_>], after: &[Piece<'_>
         return true;
     }
     match split_first(before) {
-        None => after.is_empty(),
+        None => match split_first(after) {
+            None => true,
+            Some(_) => false,
+        },
         Some((one, rest)) => match split_first(after) {
             None => false,
             Some((other, others)) => {

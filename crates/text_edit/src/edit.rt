@@ -24,12 +24,12 @@ fn is_text_of(comments: Comments, text: &[u8], pieces: &[Piece<'_>]) -> bool
 
 /// The text with what changes from the old pieces to the new.
 #[tactic(auto, using(crate::proofs::Pieces::differ))]
-fn edit_pieces(
+fn edit_pieces<'p, 'a>(
     alloc: Global,
     comments: Comments,
     text: &[u8],
-    before: &[Piece<'_>],
-    after: &[Piece<'_>],
+    before: &'p [Piece<'a>],
+    after: &'p [Piece<'a>],
 ) -> Result<Vec<u8>, EditFault>
     ensures same { map piece_view before.now ≡ map piece_view after.now → IfOk result (λ out. out.items ≡ text.now) }
     ensures edited { IfOk result (λ out. IsEdited comments (map piece_view before.now) (map piece_view after.now) text.now out.items) }
@@ -51,12 +51,12 @@ fn edit_pieces(
 /// `OtherText` where the text is not that of the tree before, `NotTheText` where the answer were not that of the tree
 /// after, `NoMemory` where memory is refused.
 #[tactic(auto, using(crate::proofs::Names::renamed))]
-pub fn edit_text(
+pub fn edit_text<'a>(
     alloc: Global,
     comments: Comments,
     text: &[u8],
-    before: &Node,
-    after: &Node,
+    before: &'a Node,
+    after: &'a Node,
 ) -> Result<Vec<u8>, EditFault>
     ensures follows { IfOk result (λ out. Follows comments true (pieces_of after.now) out.items) }
     ensures same { pieces_of before.now ≡ pieces_of after.now → IfOk result (λ out. out.items ≡ text.now) }

@@ -139,16 +139,14 @@ fn behind_piece<'t>(
     })
 }
 
-/// A text that is being edited.
-#[derive(Drop)]
-pub(crate) struct Editing<'p, 'a, 't> {
+/// What is left of the pieces, and of the old text.
+#[derive(Clone, Copy)]
+pub(crate) struct Cursor<'p, 'a, 't> {
     /// The old pieces that are left.
     pub(crate) olds: &'p [Piece<'a>],
     /// The new ones.
     pub(crate) news: &'p [Piece<'a>],
     pub(crate) place: Place<'t>,
-    /// What has been written.
-    pub(crate) out: Vec<u8>,
 }
 
 /// Puts an old piece behind a text, as it stands up to `rest`; right behind a change with blanks by need.
@@ -176,122 +174,123 @@ fn write_piece(
 
 /// An old piece stays, maybe with another name.
 #[tactic(auto, using(crate::proofs::Steps::both_advances))]
-fn keep_piece(
+fn keep_piece<'p, 'a, 't>(
     alloc: Global,
     comments: Comments,
-    editing: &mut Editing<'_, '_, '_>,
-) -> Result<(), EditFault>
-    requires { Allowed Both (map piece_view editing.old.olds.now) (map piece_view editing.old.news.now) }
-    ensures { OnOk result (Advances comments editing.old editing.new) }
+    cursor: Cursor<'p, 'a, 't>,
+    out: &mut Vec<u8>,
+) -> Result<Cursor<'p, 'a, 't>, EditFault>
+    requires { Allowed Both (map piece_view cursor.entry.olds.now) (map piece_view cursor.entry.news.now) }
+    ensures { IfOk result (λ next. Advances comments cursor.entry out.old.items next out.new.items) }
 {
-    let Some((old, olds)) = split_first(editing.olds) else {
+    let Some((old, olds)) = split_first(cursor.olds) else {
         return Err(EditFault::NotTheText);
     };
-    let Some((new, news)) = split_first(editing.news) else {
+    let Some((new, news)) = split_first(cursor.news) else {
         return Err(EditFault::NotTheText);
     };
-    let place = editing.place;
+    let place = cursor.place;
     let Some(next) = behind_piece(comments, place, old, false) else {
         return Err(EditFault::OtherText);
     };
-    write_piece(
-        alloc,
-        comments,
-        place,
-        next.rest,
-        new_name(old, new),
-        &mut editing.out,
-    )?;
+    write_piece(alloc, comments, place, next.rest, new_name(old, new), out)?;
     let edge = place.edge.behind(old, next.rest.len() == place.rest.len());
-    editing.place = with_edge(next, edge);
-    editing.olds = olds;
-    editing.news = news;
-    Ok(())
+    Ok(Cursor {
+        olds,
+        news,
+        place: with_edge(next, edge),
+    })
 }
 
 /// A new piece is put there.
 #[tactic(auto, using(crate::proofs::Steps::insert_advances))]
-fn put_piece(
+fn put_piece<'p, 'a, 't>(
     alloc: Global,
     comments: Comments,
-    editing: &mut Editing<'_, '_, '_>,
-) -> Result<(), EditFault>
-    requires { Allowed Insert (map piece_view editing.old.olds.now) (map piece_view editing.old.news.now) }
-    ensures { OnOk result (Advances comments editing.old editing.new) }
+    cursor: Cursor<'p, 'a, 't>,
+    out: &mut Vec<u8>,
+) -> Result<Cursor<'p, 'a, 't>, EditFault>
+    requires { Allowed Insert (map piece_view cursor.entry.olds.now) (map piece_view cursor.entry.news.now) }
+    ensures { IfOk result (λ next. Advances comments cursor.entry out.old.items next out.new.items) }
 {
-    let Some((piece, news)) = split_first(editing.news) else {
+    let Some((piece, news)) = split_first(cursor.news) else {
         return Err(EditFault::NotTheText);
     };
-    let place = editing.place;
-    let (edge, new) = put(
-        alloc,
-        place.edge,
-        &editing.out,
-        blanks_at(comments, place),
-        piece,
-    )?;
-    editing.out.extend_from_slice(&new)?;
-    editing.place = Place {
-        rest: place.rest,
-        fresh: place.fresh,
-        ending: place.ending,
-        changed: true,
-        edge,
-    };
-    editing.news = news;
-    Ok(())
+    let place = cursor.place;
+    let blanks = blanks_at(comments, place);
+    let (edge, new) = put(alloc, place.edge, out.as_slice(), blanks, piece)?;
+    out.extend_from_slice(&new)?;
+    Ok(Cursor {
+        olds: cursor.olds,
+        news,
+        place: Place {
+            rest: place.rest,
+            fresh: place.fresh,
+            ending: place.ending,
+            changed: true,
+            edge,
+        },
+    })
 }
 
 /// An old piece is taken away.
 #[tactic(auto, using(crate::proofs::Steps::remove_advances))]
-fn remove_piece(comments: Comments, editing: &mut Editing<'_, '_, '_>) -> Result<(), EditFault>
-    requires { Allowed Remove (map piece_view editing.old.olds.now) (map piece_view editing.old.news.now) }
-    ensures { OnOk result (Advances comments editing.old editing.new) }
+fn remove_piece<'p, 'a, 't>(
+    comments: Comments,
+    cursor: Cursor<'p, 'a, 't>,
+    out: &mut Vec<u8>,
+) -> Result<Cursor<'p, 'a, 't>, EditFault>
+    requires { Allowed Remove (map piece_view cursor.entry.olds.now) (map piece_view cursor.entry.news.now) }
+    ensures { IfOk result (λ next. Advances comments cursor.entry out.old.items next out.new.items) }
 {
-    let Some((piece, olds)) = split_first(editing.olds) else {
+    let Some((piece, olds)) = split_first(cursor.olds) else {
         return Err(EditFault::NotTheText);
     };
-    let place = editing.place;
+    let place = cursor.place;
     let Some(next) = behind_piece(comments, place, piece, true) else {
         return Err(EditFault::OtherText);
     };
     let stood = up_to(place.rest, next.rest);
     let left = left_of(place.edge, blanks_at(comments, place), stood);
-    editing.out.extend_from_slice(left)?;
-    editing.place = with_edge(next, place.edge.behind_removed(stood));
-    editing.olds = olds;
-    Ok(())
+    out.extend_from_slice(left)?;
+    Ok(Cursor {
+        olds,
+        news: cursor.news,
+        place: with_edge(next, place.edge.behind_removed(stood)),
+    })
 }
 
 /// Makes a step.
-fn advance(
+fn advance<'p, 'a, 't>(
     alloc: Global,
     comments: Comments,
     step: Step,
-    editing: &mut Editing<'_, '_, '_>,
-) -> Result<(), EditFault>
-    requires { Allowed step (map piece_view editing.old.olds.now) (map piece_view editing.old.news.now) }
-    ensures { OnOk result (Advances comments editing.old editing.new) }
+    cursor: Cursor<'p, 'a, 't>,
+    out: &mut Vec<u8>,
+) -> Result<Cursor<'p, 'a, 't>, EditFault>
+    requires { Allowed step (map piece_view cursor.entry.olds.now) (map piece_view cursor.entry.news.now) }
+    ensures { IfOk result (λ next. Advances comments cursor.entry out.old.items next out.new.items) }
 {
     match step {
-        Step::Both => keep_piece(alloc, comments, editing),
-        Step::Insert => put_piece(alloc, comments, editing),
-        Step::Remove => remove_piece(comments, editing),
+        Step::Both => keep_piece(alloc, comments, cursor, out),
+        Step::Insert => put_piece(alloc, comments, cursor, out),
+        Step::Remove => remove_piece(comments, cursor, out),
     }
 }
 
 /// The text with what changes from the old pieces to the new.
 #[tactic(auto, using(crate::proofs::Steps::start_leads, crate::proofs::Steps::led, crate::proofs::Steps::done_edited))]
-pub(crate) fn apply<'a>(
+pub(crate) fn apply<'p, 'a>(
     alloc: Global,
     comments: Comments,
     text: &[u8],
-    before: &[Piece<'a>],
-    after: &[Piece<'a>],
+    before: &'p [Piece<'a>],
+    after: &'p [Piece<'a>],
 ) -> Result<Vec<u8>, EditFault>
     ensures { IfOk result (λ out. IsEditedBySteps comments (map piece_view before.now) (map piece_view after.now) text.now out.items) }
 {
-    let mut editing = Editing {
+    let mut out = Vec::new(alloc);
+    let mut cursor = Cursor {
         olds: before,
         news: after,
         place: Place {
@@ -301,29 +300,20 @@ pub(crate) fn apply<'a>(
             changed: false,
             edge: Edge::settled(),
         },
-        out: Vec::new(alloc),
     };
     let mut due = Change::none();
     'pieces: for turn in 0..before.len().saturating_add(after.len()) {
-        let olds = editing.olds;
-        let news = editing.news;
-        if olds.is_empty() && news.is_empty() {
+        if cursor.olds.is_empty() && cursor.news.is_empty() {
             break;
         }
-        due = change_at(due, olds, news);
-        let step = step_at(due, olds, news);
+        due = change_at(due, cursor.olds, cursor.news);
+        let step = step_at(due, cursor.olds, cursor.news);
         due = due_behind(due, step);
-        advance(alloc, comments, step, &mut editing)?;
+        cursor = advance(alloc, comments, step, cursor, &mut out)?;
     }
-    let Editing {
-        olds,
-        news,
-        place,
-        mut out,
-    } = editing;
-    if !olds.is_empty() || !news.is_empty() {
+    if !cursor.olds.is_empty() || !cursor.news.is_empty() {
         return Err(EditFault::NotTheText);
     }
-    out.extend_from_slice(place.rest)?;
+    out.extend_from_slice(cursor.place.rest)?;
     Ok(out)
 }
