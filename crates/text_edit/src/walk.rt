@@ -180,7 +180,7 @@ fn keep_piece<'p, 'a, 't>(
     cursor: Cursor<'p, 'a, 't>,
     out: &mut Vec<u8>,
 ) -> Result<Cursor<'p, 'a, 't>, EditFault>
-    requires { Allowed Both (map piece_view cursor.entry.olds.now) (map piece_view cursor.entry.news.now) }
+    requires { Allowed Both (map piece_view cursor.olds.now) (map piece_view cursor.news.now) }
     ensures { IfOk result (λ next. Advances comments cursor.entry out.old.items next out.new.items) }
 {
     let Some((old, olds)) = split_first(cursor.olds) else {
@@ -210,7 +210,7 @@ fn put_piece<'p, 'a, 't>(
     cursor: Cursor<'p, 'a, 't>,
     out: &mut Vec<u8>,
 ) -> Result<Cursor<'p, 'a, 't>, EditFault>
-    requires { Allowed Insert (map piece_view cursor.entry.olds.now) (map piece_view cursor.entry.news.now) }
+    requires { Allowed Insert (map piece_view cursor.olds.now) (map piece_view cursor.news.now) }
     ensures { IfOk result (λ next. Advances comments cursor.entry out.old.items next out.new.items) }
 {
     let Some((piece, news)) = split_first(cursor.news) else {
@@ -240,7 +240,7 @@ fn remove_piece<'p, 'a, 't>(
     cursor: Cursor<'p, 'a, 't>,
     out: &mut Vec<u8>,
 ) -> Result<Cursor<'p, 'a, 't>, EditFault>
-    requires { Allowed Remove (map piece_view cursor.entry.olds.now) (map piece_view cursor.entry.news.now) }
+    requires { Allowed Remove (map piece_view cursor.olds.now) (map piece_view cursor.news.now) }
     ensures { IfOk result (λ next. Advances comments cursor.entry out.old.items next out.new.items) }
 {
     let Some((piece, olds)) = split_first(cursor.olds) else {
@@ -268,7 +268,7 @@ fn advance<'p, 'a, 't>(
     cursor: Cursor<'p, 'a, 't>,
     out: &mut Vec<u8>,
 ) -> Result<Cursor<'p, 'a, 't>, EditFault>
-    requires { Allowed step (map piece_view cursor.entry.olds.now) (map piece_view cursor.entry.news.now) }
+    requires { Allowed step (map piece_view cursor.olds.now) (map piece_view cursor.news.now) }
     ensures { IfOk result (λ next. Advances comments cursor.entry out.old.items next out.new.items) }
 {
     match step {
