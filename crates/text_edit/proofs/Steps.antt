@@ -1,7 +1,8 @@
 -- One step of an edit after another.
-use Rattle.std.proofs.Common.{◌≡◌, ℕ, true, false, List, [], ◌∷◌, ◌++◌, map, take, drop, length, refl, sym, ap, subst, ◌∙◌, append_assoc}
+use Rattle.std.proofs.Common.{◌≡◌, ℕ, Bool, true, false, Option, List, [], ◌∷◌, ◌++◌, map, take, drop, length, refl, sym, ap, subst, ◌∙◌, append_assoc}
 use Rattle.std.proofs.lemmas.List.{take-append-drop}
 use Rattle.text_lexer.specs.declared.blank.Comments.{Comments}
+use Rattle.text_pieces.specs.declared.item.Ending.{Ending}
 use Rattle.text_pieces.specs.declared.item.Ending.TheVariants as ending
 use Rattle.text_pieces.specs.Tokens.{Piece, piece_view}
 use Rattle.text_follow.specs.Endings.{ending_behind}
@@ -68,6 +69,38 @@ remove_advances c s t made out p ps old_is olds_are news_are allowed takes exten
     let edited : EditedFrom c s.place.fresh s.place.ending s.place.changed (step.Remove ∷ ss) (map piece_view s.olds.now) (map piece_view s.news.now) s.place.rest.now (new ++ more)
     = rw old_is (there, t.place.rest.now, new, more, takes, refl, behind) in
     joined c bs cs text made out new more (extended made out extends) (before (step.Remove ∷ ss) (new ++ more) edited)
+
+-- the same of what the calls of a step tell
+pub kept : (c : Comments) (s t : Cursor) (made out : List ℕ) (p q : Piece) (ps qs : List Piece) (rest : List ℕ) (name : Option (List ℕ)) (fresh : Bool) (e : Ending) (changed : Bool)
+    → map piece_view s.olds.now ≡ p ∷ ps → map piece_view s.news.now ≡ q ∷ qs → map piece_view t.olds.now ≡ ps → map piece_view t.news.now ≡ qs
+    → t.place.rest.now ≡ rest → t.place.fresh ≡ fresh → t.place.ending ≡ e → t.place.changed ≡ changed → name ≡ new_name p q
+    → Allowed step.Both (map piece_view s.olds.now) (map piece_view s.news.now)
+    → Takes c true s.place.fresh s.place.ending p s.place.rest.now rest
+    → Extends made out
+    → Stays s.place.changed (stands c s.place.fresh name s.place.rest.now rest) (drop (length made) out)
+    → fresh ≡ fresh_behind s.place.fresh p → e ≡ ending_behind s.place.ending p → changed ≡ still_changed s.place.changed s.place.rest.now rest
+    → Advances c s made t out
+kept c s t made out p q ps qs rest name fresh e changed old_is new_is olds_are news_are rest_is fresh_is ending_is changed_is name_is allowed takes extends stays fresh_by ending_by changed_by =
+    both_advances c s t made out p q ps qs old_is new_is olds_are news_are allowed
+    (subst (λ r. Takes c true s.place.fresh s.place.ending p s.place.rest.now r) (sym rest_is) takes)
+    extends
+    (subst (λ r. Stays s.place.changed (stands c s.place.fresh (new_name p q) s.place.rest.now r) (drop (length made) out)) (sym rest_is)
+    (subst (λ n. Stays s.place.changed (stands c s.place.fresh n s.place.rest.now rest) (drop (length made) out)) name_is stays))
+    (fresh_is ∙ fresh_by) (ending_is ∙ ending_by)
+    (changed_is ∙ changed_by ∙ ap (λ r. still_changed s.place.changed s.place.rest.now r) (sym rest_is))
+
+pub removed : (c : Comments) (s t : Cursor) (made out : List ℕ) (p : Piece) (ps : List Piece) (rest : List ℕ) (fresh : Bool) (e : Ending) (changed : Bool)
+    → map piece_view s.olds.now ≡ p ∷ ps → map piece_view t.olds.now ≡ ps → map piece_view t.news.now ≡ map piece_view s.news.now
+    → t.place.rest.now ≡ rest → t.place.fresh ≡ fresh → t.place.ending ≡ e → t.place.changed ≡ changed
+    → Allowed step.Remove (map piece_view s.olds.now) (map piece_view s.news.now)
+    → Takes c true s.place.fresh s.place.ending p s.place.rest.now rest
+    → Extends made out
+    → fresh ≡ fresh_behind s.place.fresh p → e ≡ ending_behind s.place.ending p → changed ≡ true
+    → Advances c s made t out
+removed c s t made out p ps rest fresh e changed old_is olds_are news_are rest_is fresh_is ending_is changed_is allowed takes extends fresh_by ending_by changed_by =
+    remove_advances c s t made out p ps old_is olds_are news_are allowed
+    (subst (λ r. Takes c true s.place.fresh s.place.ending p s.place.rest.now r) (sym rest_is) takes)
+    extends (fresh_is ∙ fresh_by) (ending_is ∙ ending_by) (changed_is ∙ changed_by)
 
 -- an edit that begins leads to itself
 pub start_leads : (c : Comments) (ps qs : List Piece) (text : List ℕ) (s : Cursor) (made : List ℕ) → made ≡ [] → map piece_view s.olds.now ≡ ps → map piece_view s.news.now ≡ qs

@@ -172,8 +172,15 @@ fn write_piece(
     Ok(())
 }
 
+/// Puts a text behind another.
+fn append(out: &mut Vec<u8>, text: &[u8]) -> Result<(), AllocError>
+    ensures { OnOk result (Extends out.old.items out.new.items) }
+{
+    out.extend_from_slice(text)?;
+    Ok(())
+}
+
 /// An old piece stays, maybe with another name.
-#[tactic(auto, using(crate::proofs::Steps::both_advances))]
 fn keep_piece<'p, 'a, 't>(
     alloc: Global,
     comments: Comments,
@@ -203,7 +210,6 @@ fn keep_piece<'p, 'a, 't>(
 }
 
 /// A new piece is put there.
-#[tactic(auto, using(crate::proofs::Steps::insert_advances))]
 fn put_piece<'p, 'a, 't>(
     alloc: Global,
     comments: Comments,
@@ -219,7 +225,7 @@ fn put_piece<'p, 'a, 't>(
     let place = cursor.place;
     let blanks = blanks_at(comments, place);
     let (edge, new) = put(alloc, place.edge, out.as_slice(), blanks, piece)?;
-    out.extend_from_slice(&new)?;
+    append(out, &new)?;
     Ok(Cursor {
         olds: cursor.olds,
         news,
@@ -234,7 +240,6 @@ fn put_piece<'p, 'a, 't>(
 }
 
 /// An old piece is taken away.
-#[tactic(auto, using(crate::proofs::Steps::remove_advances))]
 fn remove_piece<'p, 'a, 't>(
     comments: Comments,
     cursor: Cursor<'p, 'a, 't>,
@@ -252,7 +257,7 @@ fn remove_piece<'p, 'a, 't>(
     };
     let stood = up_to(place.rest, next.rest);
     let left = left_of(place.edge, blanks_at(comments, place), stood);
-    out.extend_from_slice(left)?;
+    append(out, left)?;
     Ok(Cursor {
         olds,
         news: cursor.news,
