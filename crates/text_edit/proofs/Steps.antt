@@ -114,6 +114,10 @@ pub led : (c : Comments) (ps qs : List Piece) (text : List ℕ) (s t : Cursor) (
 unfolding Advances
 led c ps qs text s t made out advances leads = advances ps qs text leads
 
+pub stays_put : (c : Comments) (s : Cursor) (made : List ℕ) → Advances c s made s made
+unfolding Advances
+stays_put c s made ps qs text leads = leads
+
 -- what is left behind the last piece stays
 pub done_edited : (c : Comments) (ps qs : List Piece) (text out : List ℕ) (s : Cursor) (made : List ℕ) → Leads c ps qs text s made → map piece_view s.olds.now ≡ [] → map piece_view s.news.now ≡ []
     → out ≡ made ++ s.place.rest.now → IsEditedBySteps c ps qs text out

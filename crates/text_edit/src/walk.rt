@@ -1,5 +1,5 @@
 //! A text edited step by step.
-ghost use Rattle.std.specs.Prelude.{◌≡◌, ◌++◌, ◌||◌, true, map, drop, length, IfOk, IfSome, OnOk};
+ghost use Rattle.std.specs.Prelude.{◌≡◌, [], ◌++◌, ◌||◌, true, map, drop, length, IfOk, IfSome, OnOk};
 ghost use Rattle.std.specs.Option.{option_copied};
 ghost use Rattle.text_edit.specs.Edits as spec;
 ghost use Rattle.text_edit.specs.Edits.{Allowed, IsEditedBySteps, Stays};
@@ -283,8 +283,42 @@ fn advance<'p, 'a, 't>(
     }
 }
 
+/// Makes the next step, if there is one, and tells what of a change is due behind it.
+#[tactic(auto, using(crate::proofs::Steps::stays_put))]
+fn go_on<'p, 'a, 't>(
+    alloc: Global,
+    comments: Comments,
+    due: Change,
+    cursor: Cursor<'p, 'a, 't>,
+    out: &mut Vec<u8>,
+) -> Result<(Change, Cursor<'p, 'a, 't>), EditFault>
+    ensures { IfOk result (λ next. Advances comments cursor.entry out.old.items next.1 out.new.items) }
+{
+    if cursor.olds.is_empty() && cursor.news.is_empty() {
+        return Ok((due, cursor));
+    }
+    let change = change_at(due, cursor.olds, cursor.news);
+    let step = step_at(change, cursor.olds, cursor.news);
+    let next = advance(alloc, comments, step, cursor, out)?;
+    Ok((due_behind(change, step), next))
+}
+
+/// Puts what is left of the old text behind the others, if no piece is left.
+#[tactic(auto, using(crate::proofs::Pieces::no_pieces))]
+fn finish(cursor: Cursor<'_, '_, '_>, out: &mut Vec<u8>) -> Result<(), EditFault>
+    ensures olds { OnOk result (map piece_view cursor.entry.olds.now ≡ []) }
+    ensures news { OnOk result (map piece_view cursor.entry.news.now ≡ []) }
+    ensures rest { OnOk result (out.new.items ≡ out.old.items ++ cursor.entry.place.rest.now) }
+{
+    if !cursor.olds.is_empty() || !cursor.news.is_empty() {
+        return Err(EditFault::NotTheText);
+    }
+    out.extend_from_slice(cursor.place.rest)?;
+    Ok(())
+}
+
 /// The text with what changes from the old pieces to the new.
-#[tactic(auto, using(crate::proofs::Steps::start_leads, crate::proofs::Steps::led, crate::proofs::Steps::done_edited))]
+#[tactic(auto, using(crate::proofs::Steps::start_leads))]
 pub(crate) fn apply<'p, 'a>(
     alloc: Global,
     comments: Comments,
@@ -308,17 +342,10 @@ pub(crate) fn apply<'p, 'a>(
     };
     let mut due = Change::none();
     'pieces: for turn in 0..before.len().saturating_add(after.len()) {
-        if cursor.olds.is_empty() && cursor.news.is_empty() {
-            break;
-        }
-        due = change_at(due, cursor.olds, cursor.news);
-        let step = step_at(due, cursor.olds, cursor.news);
-        due = due_behind(due, step);
-        cursor = advance(alloc, comments, step, cursor, &mut out)?;
+        let (left, next) = go_on(alloc, comments, due, cursor, &mut out)?;
+        due = left;
+        cursor = next;
     }
-    if !cursor.olds.is_empty() || !cursor.news.is_empty() {
-        return Err(EditFault::NotTheText);
-    }
-    out.extend_from_slice(cursor.place.rest)?;
+    finish(cursor, &mut out)?;
     Ok(out)
 }
