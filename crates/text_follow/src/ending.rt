@@ -115,7 +115,7 @@ pub(crate) fn is_loop(ending: Ending) -> bool
 }
 
 /// How what is written ends behind a piece.
-pub(crate) fn ending_behind(ending: Ending, piece: Piece<'_>) -> Ending
+pub fn ending_behind(ending: Ending, piece: Piece<'_>) -> Ending
     ensures { result ≡ spec.ending_behind ending (piece_view piece.entry) }
 {
     match piece {

@@ -277,8 +277,9 @@ fn take_here(
     }
 }
 
-// What is left behind a piece, if the text begins with it, where what stands before ends thus.
-fn take<'a>(
+/// What is left behind a piece, if the text begins with it, where what stands before ends thus (`ending`), or nothing does
+/// (`fresh`).
+pub fn take<'a>(
     comments: Comments,
     soft: bool,
     fresh: bool,
@@ -311,7 +312,8 @@ fn take<'a>(
     }
 }
 
-fn fresh_behind(fresh: bool, piece: Piece<'_>) -> bool
+/// Whether still nothing stands before what is left behind a piece.
+pub fn fresh_behind(fresh: bool, piece: Piece<'_>) -> bool
     ensures { result ≡ fresh_behind fresh (piece_view piece.entry) }
 {
     match piece {

@@ -5,4 +5,5 @@ mod ending;
 mod follow;
 mod spell;
 
-pub use follow::follows;
+pub use ending::ending_behind;
+pub use follow::{follows, fresh_behind, take};

@@ -223,8 +223,8 @@ impl Writer {
     }
 }
 
-/// The pieces, laid out.
-pub(crate) fn lay_out(
+/// The pieces, laid out. Nothing is promised of the text: whoever wants that it has the pieces holds it against them.
+pub fn text_of_pieces(
     alloc: Global,
     layout: Layout,
     pieces: &[Piece<'_>],

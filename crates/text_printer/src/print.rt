@@ -4,7 +4,7 @@ ghost use Rattle.text_follow.specs.Follows.{Follows};
 ghost use Rattle.text_pieces.specs.Pieces.{pieces as pieces_of};
 ghost use Rattle.text_pieces.specs.Tokens.{piece_view};
 
-use crate::lay_out::{Layout, lay_out};
+use crate::lay_out::{Layout, text_of_pieces};
 use std::alloc::{AllocError, Global};
 use swc_tree_node::Node;
 use text_follow::follows;
@@ -45,7 +45,7 @@ pub fn print_text(
     ensures { IfOk result (λ out. Follows comments false (pieces_of tree.now) out.items) }
 {
     let found = pieces(alloc, tree)?;
-    let out = lay_out(alloc, layout, &found)?;
+    let out = text_of_pieces(alloc, layout, &found)?;
     if follows_strictly(comments, &out, &found) {
         Ok(out)
     } else {

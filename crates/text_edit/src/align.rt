@@ -1,0 +1,71 @@
+//! What stands next in two lists of pieces.
+ghost use Rattle.std.specs.Prelude.{◌<◌, ◌+◌, length, map};
+ghost use Rattle.text_edit.specs.Edits.{Allowed};
+ghost use Rattle.text_pieces.specs.Tokens.{piece_view};
+
+use crate::alike::{begin_alike, is_alike};
+use crate::guess::{Change, find_change, lists_exports};
+use text_pieces::Piece;
+
+/// What stands next in two lists of pieces.
+#[derive(Clone, Copy, PartialEq, Eq)]
+pub(crate) enum Step {
+    /// A piece that both have, but for its name.
+    Both,
+    /// One that the new list alone has.
+    Insert,
+    /// One that the old list alone has.
+    Remove,
+}
+
+/// The change that two lists begin with, if one is not under way.
+pub(crate) fn change_at(due: Change, before: &[Piece<'_>], after: &[Piece<'_>]) -> Change {
+    if due.removed > 0 || due.inserted > 0 {
+        return due;
+    }
+    let parts = before.is_empty() || after.is_empty() || !is_alike(before[0], after[0]);
+    if parts || lists_exports(before, after) {
+        find_change(before, after)
+    } else {
+        due
+    }
+}
+
+/// The next step where a change is due. Something is put in or taken away only where the next three pieces are not alike.
+#[tactic(auto, using(crate::proofs::Pieces::parts_from_none, crate::proofs::Pieces::parts_from_some, crate::proofs::Pieces::begin_one, crate::proofs::Pieces::parted, std::proofs::lemmas::Grind::common_steps))]
+pub(crate) fn step_at(due: Change, before: &[Piece<'_>], after: &[Piece<'_>]) -> Step
+    requires { 0 < length before.now + length after.now }
+    ensures { Allowed result (map piece_view before.now) (map piece_view after.now) }
+{
+    if before.is_empty() {
+        return Step::Insert;
+    }
+    if after.is_empty() {
+        return Step::Remove;
+    }
+    if begin_alike(3, before, after) {
+        return Step::Both;
+    }
+    if due.removed > 0 {
+        Step::Remove
+    } else if due.inserted > 0 || !begin_alike(1, before, after) {
+        Step::Insert
+    } else {
+        Step::Both
+    }
+}
+
+/// What is left of a change behind a step.
+pub(crate) fn due_behind(due: Change, step: Step) -> Change {
+    match step {
+        Step::Both => Change::none(),
+        Step::Insert => Change {
+            removed: due.removed,
+            inserted: due.inserted.saturating_sub(1),
+        },
+        Step::Remove => Change {
+            removed: due.removed.saturating_sub(1),
+            inserted: due.inserted,
+        },
+    }
+}

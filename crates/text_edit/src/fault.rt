@@ -1,0 +1,18 @@
+//! Why a text is not edited.
+use std::alloc::AllocError;
+
+/// Why a text is not edited.
+#[derive(Clone, Copy, Debug, PartialEq, Eq)]
+pub enum EditFault {
+    NoMemory,
+    /// The text is not that of the tree before the change.
+    OtherText,
+    /// What was written is not the text of the tree after it. That is our fault, or the tree has no text; it may be printed anew.
+    NotTheText,
+}
+
+impl From<AllocError> for EditFault {
+    fn from(_: AllocError) -> EditFault {
+        EditFault::NoMemory
+    }
+}

@@ -1,0 +1,13 @@
+//! Texts edited as their trees change: what two trees have in common stays in the text as it is, with its layout and comments.
+#![tactic(auto)]
+
+mod align;
+mod alike;
+mod edge;
+mod edit;
+mod fault;
+mod guess;
+mod walk;
+
+pub use edit::edit_text;
+pub use fault::EditFault;
