@@ -6,7 +6,8 @@ asked.
 
 WORK is `jsbase`, which is run from bytes to bytes, or `pass`, which runs a pass, with comments and renamers too: `gate_replay
 refuse` does both. Or it is a work of `gate_tables refuse`: `make` helpers, `name` them, `insert` a body, `inject` helpers, or
-`finish`, which is also for the chain and short names. FILE, else the `stdin` of that program's crate, has rows of three lines: arguments, an
+`finish`, which is also for the chain and short names. Or it is a work of `gate_text refuse`: `read` a JavaScript text, or `print` its
+tree; these have rows in tools/memory_rows alone. FILE, else the `stdin` of that program's crate, has rows of three lines: arguments, an
 input, and what comes of it with ample memory. The cases are the rows whose arguments begin with COMMAND, for `pass` those that
 begin with `pass COMMAND` too, and there none without a tree. A pass `rename` gives every name a new text, so of it these alone.
 
@@ -39,7 +40,7 @@ def in_each_setting(renamer):
     return tuple(renamer + mangles + resets for mangles in ('', ' mangles') for resets in ('', ' resets'))
 
 
-# The works of `gate_replay`, and the arguments of their rows; then those of `gate_tables`.
+# The works of `gate_replay`, and the arguments of their rows; then those of `gate_tables` and of `gate_text`.
 REPLAYED = {
     'jsbase': of_each('resolve', 'hygiene', 'unparen', 'fix', 'chain', 'mangle', 'judge', 'covers'),
     'pass': of_each(
@@ -54,7 +55,11 @@ TABLES = {
     'inject': of_each('helper of a package in a', 'helper written out in a'),
     'finish': of_each('finish', 'chain', 'mangle', 'commented finish', 'commented chain'),
 }
-WORKS = {**REPLAYED, **TABLES}
+TEXTS = {
+    'read': of_each('read'),
+    'print': of_each('print', 'compact'),
+}
+WORKS = {**REPLAYED, **TABLES, **TEXTS}
 
 
 class Case(NamedTuple):
@@ -69,6 +74,8 @@ class Case(NamedTuple):
 
 def crate_of(work):
     """The crate of the program that does a work."""
+    if work in TEXTS:
+        return 'gate_text'
     return 'gate_tables' if work in TABLES else 'gate_replay'
 
 
@@ -82,7 +89,7 @@ def command_of(work, words):
 def wanted_of(work, ample):
     """What the program is to compare. Of a pass that is refused only the name of the refusal is, since what it leaves is
     looked at in each case."""
-    return ample.split(', {')[0] if work not in TABLES and ample.startswith('refused: ') else ample
+    return ample.split(', {')[0] if work in REPLAYED and ample.startswith('refused: ') else ample
 
 
 def rows_of(file):
@@ -115,7 +122,7 @@ def compiled(folder):
 def answers(library, number, case, asked):
     """What the program of a case says to each thing that it is asked of it, where the request of a number is refused."""
     crate = crate_of(case.work)
-    words = [case.words] if case.work in TABLES else case.words.split(' ')
+    words = case.words.split(' ') if case.work in REPLAYED else [case.words]
     line = [os.path.join(ROOT, 'crates', crate, 'out', crate), 'refuse', case.work, *words]
     said = []
     for word in asked:
@@ -198,7 +205,8 @@ def main():
     if sys.argv[1:] == ['--gate']:
         sys.exit(gate())
     work, command = sys.argv[1:3]
-    file = sys.argv[3] if len(sys.argv) > 3 else os.path.join(ROOT, 'crates', crate_of(work), 'stdin')
+    rows = os.path.join(ROWS, work) if work in TEXTS else os.path.join(ROOT, 'crates', crate_of(work), 'stdin')
+    file = sys.argv[3] if len(sys.argv) > 3 else rows
     cases = cases_of(work, command, file)
     if not cases:
         sys.exit('no row of %s begins with %s' % (file, command))

@@ -7,3 +7,4 @@ mod spell;
 
 pub use ending::ending_behind;
 pub use follow::{follows, fresh_behind, take};
+pub use spell::goal_of;

@@ -11,7 +11,7 @@ use text_strings::Reading;
 use text_values::{cooks_to, has_good_escapes, raw_is};
 
 /// The lexical goal of the place where a piece stands.
-pub(crate) fn goal_of(piece: Piece<'_>) -> Goal
+pub fn goal_of(piece: Piece<'_>) -> Goal
     ensures { result ≡ goal_of (piece_view piece.entry) }
 {
     match piece {

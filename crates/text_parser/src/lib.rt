@@ -1,7 +1,7 @@
 //! JavaScript read into trees.
 //!
-//! Nothing is promised of the answer but that there is one: what was read is held against the text by a check
-//! of its own (crate text_follow), so that a wrong answer here is a refusal there.
+//! Nothing is promised of the answer but that there is one. `read_text` of crate text_source holds what was read against the
+//! text, so that a wrong answer here is a refusal there; who calls `parse` alone has no promise.
 #![tactic(auto)]
 
 mod expressions;

@@ -173,6 +173,18 @@ pub(crate) fn parse_computed(
     p.build(Kind::ComputedPropName, start, before)
 }
 
+/// Makes the span of the dots that stand here, if some do, and goes behind them: whether they do.
+fn push_dots(p: &mut Parser<'_>) -> Result<bool, TextFault> {
+    let start = p.start();
+    let has_dots = p.take(Mark::Dots)?;
+    if has_dots {
+        p.push_span(start)?;
+    } else {
+        p.push_absent()?;
+    }
+    Ok(has_dots)
+}
+
 /// The arguments of a call or the elements of an array, up to the punctuator that closes them, and behind it. An
 /// array may lack some.
 #[cycle(parse)]
@@ -191,14 +203,13 @@ pub(crate) fn parse_elements(p: &mut Parser<'_>, depth: u32, close: Mark) -> Res
             p.advance()?;
             continue;
         }
-        let (start, element) = (p.start(), p.count());
-        if p.take(Mark::Dots)? {
-            p.push_span(start)?;
-        } else {
-            p.push_absent()?;
-        }
+        let element = p.count();
+        let has_dots = push_dots(p)?;
         parse_assignment(p, depth - 1)?;
         p.close(Kind::ExprOrSpread, element)?;
+        if has_dots {
+            p.mind_last_comma(close)?;
+        }
         if !p.take(Mark::Comma)? {
             break;
         }

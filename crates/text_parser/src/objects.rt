@@ -81,7 +81,8 @@ fn parse_property(p: &mut Parser<'_>, depth: u32) -> Result<(), TextFault> {
     if p.take(Mark::Dots)? {
         p.push_span(start)?;
         parse_assignment(p, depth - 1)?;
-        return p.close(Kind::SpreadElement, before);
+        p.close(Kind::SpreadElement, before)?;
+        return p.mind_last_comma(Mark::RightBrace);
     }
     if is_shorthand(p) {
         p.push_name(Kind::Ident)?;

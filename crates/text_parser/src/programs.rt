@@ -7,14 +7,14 @@ use swc_tree_node::{Kind, Node};
 use text_reader::{Expected, Parser, TextFault, span_of};
 
 /// What a text is read as (ECMA-262, 16.1 and 16.2).
-#[derive(Clone, Copy, PartialEq, Eq)]
+#[derive(Clone, Copy, Debug, PartialEq, Eq)]
 pub enum Goal {
     Module,
     Script,
 }
 
-/// The program that a text is. `depth` says how many productions may be open at once: parentheses in one
-/// another take ten each.
+/// The program that a text is. `depth` says how many productions may be open at once, where parentheses in one another take
+/// ten each, and how high the tree may be: how many nodes may stand one in another.
 ///
 /// # Errors
 ///
@@ -23,7 +23,7 @@ pub fn parse(alloc: Global, goal: Goal, depth: u32, text: &[u8]) -> Result<Node,
     if u32::try_from(text.len()).unwrap_or(u32::MAX) >= u32::MAX - 1 {
         return Err(TextFault::TooLong);
     }
-    let mut parser = Parser::new(alloc, text, goal == Goal::Module);
+    let mut parser = Parser::new(alloc, text, goal == Goal::Module, depth);
     parse_program(&mut parser, goal, depth)?;
     match parser.nodes.pop() {
         Some(program) => Ok(program),

@@ -9,6 +9,8 @@ use swc_tree_node::{Kind, Node, Word};
 pub enum PatternError {
     NoMemory,
     NotPattern,
+    /// A comma stands behind what takes the rest: which of those that were told.
+    CommaBehindRest(usize),
 }
 
 impl From<AllocError> for PatternError {
@@ -25,10 +27,12 @@ impl<T: Drop> From<AllocFailed<T>> for PatternError {
 
 /// What a pattern is for.
 #[derive(Clone, Copy)]
-pub struct Reading {
+pub struct Reading<'a> {
     pub alloc: Global,
     /// Whether names are bound; else what may be assigned to stands for a name.
     pub binds: bool,
+    /// Where elements end, in spans, before which dots stand and behind which a comma stands that closes their list; in order.
+    pub commas: &'a [u32],
 }
 
 /// What is assigned to, and is no pattern: a name or a member, in parentheses or not.
@@ -56,7 +60,7 @@ pub fn is_simple_target(node: &Node, depth: u32) -> bool {
 /// Where it is no such pattern, and where memory is refused.
 pub fn pattern_of(
     node: Node,
-    reading: Reading,
+    reading: Reading<'_>,
     depth: u32,
     covers: &mut usize,
 ) -> Result<Node, PatternError> {
@@ -70,7 +74,7 @@ pub fn pattern_of(
 /// As of `pattern_of`.
 pub fn parameters_of(
     node: Node,
-    reading: Reading,
+    reading: Reading<'_>,
     depth: u32,
     covers: &mut usize,
 ) -> Result<Node, PatternError> {
@@ -95,7 +99,7 @@ fn covers_in(fields: &Items<Node>) -> usize {
 #[cycle(pattern)]
 fn as_pattern(
     node: Node,
-    reading: Reading,
+    reading: Reading<'_>,
     depth: u32,
     covers: &mut usize,
 ) -> Result<Node, PatternError> {
@@ -132,7 +136,7 @@ fn as_pattern(
 fn as_many(
     kind: Kind,
     mut fields: Items<Node>,
-    reading: Reading,
+    reading: Reading<'_>,
     depth: u32,
     covers: &mut usize,
 ) -> Result<Node, PatternError> {
@@ -155,7 +159,7 @@ fn is_rest(node: &Node) -> bool {
 fn as_list(
     list: Node,
     is_object: bool,
-    reading: Reading,
+    reading: Reading<'_>,
     depth: u32,
     covers: &mut usize,
 ) -> Result<Node, PatternError> {
@@ -185,7 +189,7 @@ fn as_list(
 #[cycle(pattern)]
 fn as_default(
     mut fields: Items<Node>,
-    reading: Reading,
+    reading: Reading<'_>,
     depth: u32,
     covers: &mut usize,
 ) -> Result<Node, PatternError> {
@@ -214,7 +218,7 @@ fn as_default(
 fn as_last(
     kind: Kind,
     mut fields: Items<Node>,
-    reading: Reading,
+    reading: Reading<'_>,
     depth: u32,
     covers: &mut usize,
 ) -> Result<Node, PatternError> {
@@ -241,8 +245,13 @@ fn end_of(node: &Node) -> u32 {
     }
 }
 
-/// What stands for an element: itself, or a pattern that takes the rest where dots stand before it.
-fn with_dots(mut fields: Items<Node>, element: Node) -> Result<Node, PatternError> {
+/// What stands for an element: itself, or a pattern that takes the rest where dots stand before it. No comma stands behind
+/// such a pattern.
+fn with_dots(
+    mut fields: Items<Node>,
+    element: Node,
+    reading: Reading<'_>,
+) -> Result<Node, PatternError> {
     match fields.pop() {
         Some(Node::Absent) => Ok(element),
         Some(Node::Span(dots)) => {
@@ -250,6 +259,9 @@ fn with_dots(mut fields: Items<Node>, element: Node) -> Result<Node, PatternErro
                 lo: dots.lo,
                 hi: end_of(&element),
             };
+            if let Ok(comma) = reading.commas.binary_search(&span.hi) {
+                return Err(PatternError::CommaBehindRest(comma));
+            }
             fields.push(Node::Span(span))?;
             fields.push(element)?;
             Ok(Node::Tree(Kind::RestPat, fields))
@@ -268,7 +280,7 @@ fn is_rest_with_default(fields: &Items<Node>) -> bool {
 #[cycle(pattern)]
 fn as_element(
     node: Node,
-    reading: Reading,
+    reading: Reading<'_>,
     depth: u32,
     covers: &mut usize,
 ) -> Result<Node, PatternError> {
@@ -289,7 +301,7 @@ fn as_element(
             match fields.pop() {
                 Some(element) if !has_default => {
                     let element = as_pattern(element, reading, depth - 1, covers)?;
-                    with_dots(fields, element)
+                    with_dots(fields, element, reading)
                 }
                 _ => Err(PatternError::NotPattern),
             }
@@ -311,7 +323,7 @@ fn shorthand(alloc: Global, ident: Boxed<Ident>) -> Result<Node, PatternError> {
 #[cycle(pattern)]
 fn as_property(
     node: Node,
-    reading: Reading,
+    reading: Reading<'_>,
     depth: u32,
     covers: &mut usize,
 ) -> Result<Node, PatternError> {
@@ -327,7 +339,7 @@ fn as_property(
         Node::Tree(Kind::SpreadElement, mut fields) => match fields.pop() {
             Some(rest) if is_simple_target(&rest, depth) => {
                 let rest = as_pattern(rest, reading, depth - 1, covers)?;
-                with_dots(fields, rest)
+                with_dots(fields, rest, reading)
             }
             _ => Err(PatternError::NotPattern),
         },

@@ -36,6 +36,19 @@ fn is_plain(body: &[u8]) -> bool {
     !body.iter().any(|byte| *byte == b'\\' || *byte == b'\r')
 }
 
+/// How high the texts of a template are, as a list.
+const TEXTS: u32 = 3;
+
+fn tallest(heights: &[u32]) -> u32 {
+    let mut tallest = 0;
+    for height in heights {
+        if tallest < *height {
+            tallest = *height;
+        }
+    }
+    tallest
+}
+
 impl<'a> Parser<'a> {
     /// How many nodes are to be parts of others.
     pub fn count(&self) -> usize {
@@ -47,10 +60,28 @@ impl<'a> Parser<'a> {
         span_of(start, self.end())
     }
 
-    /// Makes a node that is to be a part of another.
-    pub fn push(&mut self, node: Node) -> Result<(), TextFault> {
+    /// Makes a leaf that is to be a part of a node.
+    pub fn push(&mut self, leaf: Node) -> Result<(), TextFault> {
+        self.push_high(leaf, 1)
+    }
+
+    /// Makes a node so high that is to be a part of another.
+    pub(crate) fn push_high(&mut self, node: Node, height: u32) -> Result<(), TextFault> {
+        if height > self.height {
+            return Err(self.too_deep());
+        }
         self.nodes.push(node)?;
+        self.heights.push(height)?;
         Ok(())
+    }
+
+    /// The last node with its height, taken off.
+    pub(crate) fn pop_high(&mut self) -> Option<(Node, u32)> {
+        let height = self.heights.pop().unwrap_or(1);
+        match self.nodes.pop() {
+            Some(node) => Some((node, height)),
+            None => None,
+        }
     }
 
     /// Makes what stands in a field that holds nothing.
@@ -272,8 +303,8 @@ impl<'a> Parser<'a> {
         self.push(cooked)?;
         self.push(raw)?;
         self.close(Kind::TplElement, before)?;
-        match self.nodes.pop() {
-            Some(text) => {
+        match self.pop_high() {
+            Some((text, _)) => {
                 self.texts.push(text)?;
                 Ok(())
             }
@@ -287,6 +318,9 @@ impl<'a> Parser<'a> {
             return self.unexpected(Expected::Token);
         }
         self.nodes.insert(before, node)?;
+        if before <= self.heights.len() {
+            self.heights.insert(before, 1)?;
+        }
         Ok(())
     }
 
@@ -311,14 +345,25 @@ impl<'a> Parser<'a> {
 
     /// Makes a node of a kind, whose fields are the nodes behind so many.
     pub fn close(&mut self, kind: Kind, before: usize) -> Result<(), TextFault> {
+        let height = self.height_from(before);
         let fields = self.take_from(before)?;
-        self.push(Node::Tree(kind, fields))
+        self.push_high(Node::Tree(kind, fields), height)
     }
 
     /// Makes a list of the nodes behind so many.
     pub fn list(&mut self, before: usize) -> Result<(), TextFault> {
+        let height = self.height_from(before);
         let items = self.take_from(before)?;
-        self.push(Node::List(items))
+        self.push_high(Node::List(items), height)
+    }
+
+    /// How high a node is, whose parts are the nodes behind so many.
+    fn height_from(&self, before: usize) -> u32 {
+        let parts = match self.heights.as_slice().split_at_checked(before) {
+            Some((_, parts)) => parts,
+            None => &[],
+        };
+        tallest(parts).saturating_add(1)
     }
 
     fn take_from(&mut self, before: usize) -> Result<Items<Node>, TextFault> {
@@ -328,6 +373,7 @@ impl<'a> Parser<'a> {
                 expected: Expected::Token,
             });
         }
+        self.heights.truncate(before);
         Ok(Items::from_vec(self.nodes.split_off(before)?))
     }
 
@@ -337,16 +383,16 @@ impl<'a> Parser<'a> {
             return self.unexpected(Expected::Token);
         }
         let texts = self.texts.split_off(before)?;
-        self.push(Node::List(Items::from_vec(texts)))
+        self.push_high(Node::List(Items::from_vec(texts)), TEXTS)
     }
 
     /// Turns round the last two nodes.
     pub fn swap(&mut self) -> Result<(), TextFault> {
-        let (Some(last), Some(other)) = (self.nodes.pop(), self.nodes.pop()) else {
+        let (Some(last), Some(other)) = (self.pop_high(), self.pop_high()) else {
             return self.unexpected(Expected::Token);
         };
-        self.push(last)?;
-        self.push(other)
+        self.push_high(last.0, last.1)?;
+        self.push_high(other.0, other.1)
     }
 
     /// Whether the last node is of a kind.

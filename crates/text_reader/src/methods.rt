@@ -92,23 +92,26 @@ impl<'a> Parser<'a> {
         if kind == Word::Method {
             return self.close(Kind::MethodProp, before);
         }
-        let Some((parameters, body)) = self.pop_function() else {
+        let Some((parameters, body, height)) = self.pop_function() else {
             return self.unexpected(Expected::Parameters);
         };
         if kind == Word::Getter {
-            self.push(body)?;
+            self.push_high(body, height)?;
             return self.build(Kind::GetterProp, start, before);
         }
         let Some(parameter) = only_pattern(parameters) else {
             return self.unexpected(Expected::Parameters);
         };
-        self.push(parameter)?;
-        self.push(body)?;
+        self.push_high(parameter, height)?;
+        self.push_high(body, height)?;
         self.build(Kind::SetterProp, start, before)
     }
 
-    fn pop_function(&mut self) -> Option<(Node, Node)> {
-        parts_of(self.nodes.pop()?)
+    // The parameters and the body of the last node, a function, and its height.
+    fn pop_function(&mut self) -> Option<(Node, Node, u32)> {
+        let (function, height) = self.pop_high()?;
+        let (parameters, body) = parts_of(function)?;
+        Some((parameters, body, height))
     }
 
     /// Makes a method, an accessor or the constructor of a class of the last two nodes, a key and a function.
@@ -121,11 +124,11 @@ impl<'a> Parser<'a> {
     ) -> Result<(), TextFault> {
         let is_constructor = !is_static && is_constructor_key(self.nodes.get(before));
         if is_constructor && modifiers.is_plain() {
-            let Some((parameters, body)) = self.pop_function() else {
+            let Some((parameters, body, height)) = self.pop_function() else {
                 return self.unexpected(Expected::Parameters);
             };
-            self.push(parameters)?;
-            self.push(body)?;
+            self.push_high(parameters, height)?;
+            self.push_high(body, height)?;
             return self.build(Kind::Constructor, start, before);
         }
         if is_constructor || !suits(modifiers.kind, self.nodes.last()) {

@@ -24,6 +24,16 @@ pub struct Next<'a> {
     rest: &'a [u8],
 }
 
+/// A comma that closes a list, behind an element before which dots stand. A literal may have one, and a pattern may not
+/// (ECMA-262, 13.15.5, 14.3.3 and 15.1).
+#[derive(Clone, Copy)]
+pub(crate) struct LastComma {
+    /// How many bytes are before it.
+    pub(crate) at: usize,
+    /// What stands behind it.
+    pub(crate) close: Mark,
+}
+
 /// A place in a text, with the token there, and the nodes that are to be parts of others.
 #[derive(Drop)]
 pub struct Parser<'a> {
@@ -49,8 +59,15 @@ pub struct Parser<'a> {
     /// Where the last of them has its default.
     pub cover_at: usize,
     pub nodes: Vec<Node>,
+    /// How high each of these is: how many nodes stand one in another, at most.
+    pub(crate) heights: Vec<u32>,
+    /// How high a node may be.
+    pub(crate) height: u32,
     /// The texts of the templates that are being read.
     pub texts: Vec<Node>,
+    /// The last commas behind elements with dots, and in spans where these elements end.
+    pub(crate) last_commas: Vec<LastComma>,
+    pub(crate) comma_ends: Vec<u32>,
 }
 
 fn keyword_in(token: Token<'_>) -> Option<Keyword> {
@@ -90,8 +107,8 @@ pub fn begins_key(token: Token<'_>) -> bool {
 }
 
 impl<'a> Parser<'a> {
-    /// A parser before a text.
-    pub fn new(alloc: Global, text: &'a [u8], is_module: bool) -> Parser<'a> {
+    /// A parser before a text. No node that it makes is higher than `height`.
+    pub fn new(alloc: Global, text: &'a [u8], is_module: bool, height: u32) -> Parser<'a> {
         Parser {
             alloc,
             comments: if is_module {
@@ -117,7 +134,11 @@ impl<'a> Parser<'a> {
             covers: 0,
             cover_at: 0,
             nodes: Vec::new(alloc),
+            heights: Vec::new(alloc),
+            height,
             texts: Vec::new(alloc),
+            last_commas: Vec::new(alloc),
+            comma_ends: Vec::new(alloc),
         }
     }
 

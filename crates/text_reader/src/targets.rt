@@ -1,8 +1,8 @@
 //! What a parser makes anew of what it has read.
-use crate::building::span_of;
+use crate::building::{place, span_of};
 use crate::fault::{Expected, TextFault};
 use crate::keywords::Keyword;
-use crate::parser::Parser;
+use crate::parser::{LastComma, Parser, is_mark};
 use swc_tree_node::{Kind, Node, Word};
 use text_lexer::Mark;
 use text_patterns::{PatternError, Reading, is_simple_target, parameters_of, pattern_of};
@@ -71,8 +71,7 @@ impl<'a> Parser<'a> {
     pub fn begin_cover(&mut self) -> Result<(), TextFault> {
         self.covers = self.covers.saturating_add(1);
         self.cover_at = self.start();
-        let reading = self.reading(true);
-        self.last_as_pattern(reading, u32::MAX)
+        self.last_as_pattern(true, u32::MAX)
     }
 
     /// Sees to it that all names with defaults are in patterns, but for those that were open before.
@@ -87,42 +86,57 @@ impl<'a> Parser<'a> {
         }
     }
 
-    fn reading(&self, binds: bool) -> Reading {
+    fn reading(&self, binds: bool) -> Reading<'_> {
         Reading {
             alloc: self.alloc,
             binds,
+            commas: self.comma_ends.as_slice(),
         }
     }
 
     fn refused(&self, error: PatternError) -> TextFault {
-        match error {
-            PatternError::NoMemory => TextFault::NoMemory,
-            PatternError::NotPattern => TextFault::Unexpected {
-                at: self.start(),
-                expected: Expected::Target,
+        let (at, expected) = match error {
+            PatternError::NoMemory => return TextFault::NoMemory,
+            PatternError::NotPattern => (self.start(), Expected::Target),
+            PatternError::CommaBehindRest(comma) => match self.last_commas.get(comma) {
+                Some(comma) => (comma.at, Expected::Mark(comma.close)),
+                None => (self.start(), Expected::Target),
             },
-        }
+        };
+        TextFault::Unexpected { at, expected }
     }
 
+    /// Keeps in mind that a comma stands here which closes a list, if one does, behind an element with dots.
+    pub fn mind_last_comma(&mut self, close: Mark) -> Result<(), TextFault> {
+        if self.is_mark(Mark::Comma) && is_mark(self.peek().token, close) {
+            let (at, end) = (self.start(), place(self.end()));
+            self.last_commas.push(LastComma { at, close })?;
+            self.comma_ends.push(end)?;
+        }
+        Ok(())
+    }
+
+    // A pattern is one higher than the expression, where a name stands for a property and what it is bound to.
     fn resolve(
         &mut self,
         read: Result<Node, PatternError>,
+        height: u32,
         covers: usize,
     ) -> Result<(), TextFault> {
         self.covers = self.covers.saturating_sub(covers);
         match read {
-            Ok(node) => self.push(node),
+            Ok(node) => self.push_high(node, height.saturating_add(1)),
             Err(error) => Err(self.refused(error)),
         }
     }
 
-    fn last_as_pattern(&mut self, reading: Reading, depth: u32) -> Result<(), TextFault> {
-        let Some(node) = self.nodes.pop() else {
+    fn last_as_pattern(&mut self, binds: bool, depth: u32) -> Result<(), TextFault> {
+        let Some((node, height)) = self.pop_high() else {
             return self.unexpected(Expected::Target);
         };
         let mut covers = 0;
-        let read = pattern_of(node, reading, depth, &mut covers);
-        self.resolve(read, covers)
+        let read = pattern_of(node, self.reading(binds), depth, &mut covers);
+        self.resolve(read, height, covers)
     }
 
     /// Reads the last node anew as what an operator assigns to; only `=` takes patterns.
@@ -134,22 +148,22 @@ impl<'a> Parser<'a> {
         if is_assignment {
             return self.unexpected(Expected::Target);
         }
-        self.last_as_pattern(self.reading(false), depth)
+        self.last_as_pattern(false, depth)
     }
 
     /// Reads the last node anew as a pattern that binds names.
     pub fn last_to_binding(&mut self, depth: u32) -> Result<(), TextFault> {
-        self.last_as_pattern(self.reading(true), depth)
+        self.last_as_pattern(true, depth)
     }
 
     /// Reads the last node, a list, anew as parameters.
     pub fn last_to_parameters(&mut self, depth: u32) -> Result<(), TextFault> {
-        let Some(node) = self.nodes.pop() else {
+        let Some((node, height)) = self.pop_high() else {
             return self.unexpected(Expected::Target);
         };
         let mut covers = 0;
         let read = parameters_of(node, self.reading(true), depth, &mut covers);
-        self.resolve(read, covers)
+        self.resolve(read, height, covers)
     }
 
     /// Reads the last node anew as what a loop assigns to, unless it declares.
@@ -220,10 +234,10 @@ impl<'a> Parser<'a> {
 
     /// Lets go of the node before the last.
     pub fn drop_before_last(&mut self) -> Result<(), TextFault> {
-        let last = self.nodes.pop();
-        let _ = self.nodes.pop();
+        let last = self.pop_high();
+        let _ = self.pop_high();
         match last {
-            Some(last) => self.push(last),
+            Some((last, height)) => self.push_high(last, height),
             None => self.unexpected(Expected::Token),
         }
     }

@@ -11,9 +11,9 @@ import { envelopeOf, treeIn, treeOf } from './tree.mjs';
 
 const HELP = `usage: mangle_files [--program PATH] [--all | --kept] PATH..
 
-Each file, and each .js, .mjs and .cjs file below a folder, as a tree through \`jsbase mangle\`, printed, and read back. Source and
-answer go to \`jsbase judge\`; then both are analysed by eslint-scope (Debian: node-eslint-scope) and walked in step, as
-chain_scopes does. A row of a Markdown table for each path; standard error says of each other file why.
+Each file, and each .js, .mjs and .cjs file below a folder, as a tree through \`jsbase mangle\`. Source and answer go to \`jsbase
+judge\`. Then both are printed, read back, analysed by eslint-scope (Debian: node-eslint-scope) and walked in step, as chain_scopes
+does. A row of a Markdown table for each path; standard error says of each other file why.
 
   --program PATH   as for jsbase
   --all            names of the program's own scope are made short too, in scripts too
@@ -46,17 +46,14 @@ function tried({ way, keepTop }, file) {
     const kind = tree.type.toLowerCase();
     how = 'refused';
     const envelope = keepTop === null ? envelopeOf(tree) : { ...envelopeOf(tree), keepTop };
-    const answer = print(treeIn(pass(way, 'mangle', kind, JSON.stringify(envelope))), {});
+    const trees = [tree, treeIn(pass(way, 'mangle', kind, JSON.stringify(envelope)))];
     how = 'judged other';
-    const found = judged(way.program, kind, keepTop ?? kind === 'script', [
-      { text, tree },
-      { text: answer, tree: treeOf(answer, kind, 'answer') },
-    ]);
+    const found = judged(way.program, kind, keepTop ?? kind === 'script', trees.map((each) => ({ text, tree: each })));
     if (found.how !== 'same') {
       return outcome(how, `${found.how}: ${found.why}`);
     }
     how = 'other scopes';
-    const [source, result] = [text, answer].map((each) => parseAs(each, kind, { preserveParens: false, ranges: true }));
+    const [source, result] = trees.map((each) => parseAs(print(each, {}), kind, { preserveParens: false, ranges: true }));
     const { identifiers, renamed } = compare(kind, source, result);
     const marks = [(failing.includes(HOISTED) || failing.includes(GLOBAL)) && 'with strays', failing.length > 0 && 'not covered'];
     return { how: 'same', why: '', marks: marks.filter((mark) => mark), identifiers, renamed };

@@ -87,7 +87,7 @@ function extended(acorn) {
       const done = super.finishNode(node, type);
       if (done.computed) {
         const key = done.key ?? done.property;
-        done.brackets = { start: lastUpTo(this.openBrackets, key.start), end: done.closed ?? done.end };
+        done.brackets = { start: lastUpTo(this.openBrackets, key.start - 1), end: done.closed ?? done.end };
       }
       return done;
     }

@@ -23,6 +23,41 @@ function inner(result, source) {
   return isBlock ? result.body[0] : result;
 }
 
+/** The identifiers that a declaration or a pattern binds, in the order of the source. */
+function boundBy(node) {
+  switch (node?.type) {
+    case 'Identifier':
+      return [node];
+    case 'VariableDeclaration':
+      return node.declarations.flatMap(({ id }) => boundBy(id));
+    case 'FunctionDeclaration':
+    case 'ClassDeclaration':
+      return [node.id];
+    case 'ObjectPattern':
+      return node.properties.flatMap((property) => boundBy(property.type === 'RestElement' ? property : property.value));
+    case 'ArrayPattern':
+      return node.elements.flatMap(boundBy);
+    case 'AssignmentPattern':
+      return boundBy(node.left);
+    case 'RestElement':
+      return boundBy(node.argument);
+    default:
+      return [];
+  }
+}
+
+/** An item of a program; an exported declaration as the declaration and a list of what it exports, as a renaming has to write it. */
+function writtenOut(item) {
+  if (item.type !== 'ExportNamedDeclaration' || item.declaration === null) {
+    return [item];
+  }
+  const specifiers = boundBy(item.declaration).map((local) => ({ type: 'ExportSpecifier', local, exported: local }));
+  return [item.declaration, { ...item, declaration: null, specifiers }];
+}
+
+/** A name by which other modules know something, which is an identifier or a string. */
+const nameOf = (node) => node.name ?? node.value;
+
 const isChain = ({ type }) => type === 'LogicalExpression' || type === 'SequenceExpression';
 
 /** Whether it is a free name or `arguments`. */
@@ -64,6 +99,12 @@ class Walk {
   node(source, result) {
     if (source.type === 'Identifier' && result.type === 'Identifier') {
       this.identifier(source, result);
+    } else if (source.type === 'Program' && result.type === 'Program') {
+      this.value(source.body.flatMap(writtenOut), result.body.flatMap(writtenOut), source);
+    } else if (source.type === 'ExportSpecifier' && result.type === 'ExportSpecifier') {
+      this.value([nameOf(source.exported), source.local], [nameOf(result.exported), result.local], source.local);
+    } else if (source.type === 'ImportSpecifier' && result.type === 'ImportSpecifier') {
+      this.value([nameOf(source.imported), source.local], [nameOf(result.imported), result.local], source.local);
     } else if (isChain(source)) {
       this.value(operands(source, source), operands(result, source), source);
     } else {

@@ -1,0 +1,89 @@
+//! From the bytes of a text to a text of its tree.
+ghost use Rattle.std.specs.Prelude.{◌≡◌, IfOk};
+ghost use Rattle.example_edit_text.specs.Answers.{IsAnswer, IsPrinted};
+ghost use Rattle.text_source.specs.Texts as spec;
+ghost use Rattle.text_source.specs.Texts.{IsTextOf};
+
+use std::alloc::Global;
+use swc_tree_node::Node;
+use text_edit::{EditFault, edit_text};
+use text_lexer::Comments;
+use text_printer::{Layout, PrintFault, print_text};
+use text_source::{Goal, TextFault, read_text};
+
+/// How many productions may be open at once, and how many nodes may stand one in another.
+const DEPTH: u32 = 10_000;
+
+/// What is made of a text.
+#[derive(Clone, Copy, Debug)]
+pub enum Task {
+    /// Nothing: it is read.
+    Read,
+    /// Itself, edited to be the text of its own tree.
+    Keep,
+    /// The text of its tree, laid out anew.
+    Print(Layout),
+}
+
+/// Why there is no answer.
+#[derive(Clone, Copy, Debug)]
+pub enum Fault {
+    /// The text is not read.
+    Read(TextFault),
+    /// Its tree is not edited.
+    Edit(EditFault),
+    /// Its tree is not printed.
+    Print(PrintFault),
+}
+
+fn comments_of(goal: Goal) -> Comments
+    ensures { result ≡ spec.comments_of goal }
+{
+    match goal {
+        Goal::Module => Comments::Module,
+        Goal::Script => Comments::Script,
+    }
+}
+
+fn read(alloc: Global, goal: Goal, text: &[u8]) -> Result<Node, Fault>
+    ensures { IfOk result (λ tree. IsTextOf goal tree text.now) }
+{
+    match read_text(alloc, goal, DEPTH, text) {
+        Ok(tree) => Ok(tree),
+        Err(fault) => Err(Fault::Read(fault)),
+    }
+}
+
+fn keep(alloc: Global, goal: Goal, text: &[u8]) -> Result<Vec<u8>, Fault>
+    ensures { IfOk result (λ out. out.items ≡ text.now) }
+{
+    let tree = read(alloc, goal, text)?;
+    match edit_text(alloc, comments_of(goal), text, &tree, &tree) {
+        Ok(out) => Ok(out),
+        Err(fault) => Err(Fault::Edit(fault)),
+    }
+}
+
+fn print(alloc: Global, goal: Goal, layout: Layout, text: &[u8]) -> Result<Vec<u8>, Fault>
+    ensures { IfOk result (λ out. IsPrinted goal text.now out.items) }
+{
+    let tree = read(alloc, goal, text)?;
+    match print_text(alloc, comments_of(goal), layout, &tree) {
+        Ok(out) => Ok(out),
+        Err(fault) => Err(Fault::Print(fault)),
+    }
+}
+
+/// What is made of a text.
+pub fn answer(alloc: Global, goal: Goal, task: Task, text: &[u8]) -> Result<Vec<u8>, Fault>
+    ensures { IfOk result (λ out. IsAnswer goal task text.now out.items) }
+{
+    match task {
+        Task::Read => {
+            let _tree = read(alloc, goal, text)?;
+            Ok(Vec::new(alloc))
+        }
+        Task::Keep => keep(alloc, goal, text),
+        Task::Print(layout) => print(alloc, goal, layout, text),
+    }
+}

@@ -1,0 +1,33 @@
+//! What the gate asks of JavaScript texts: rows of `read_text`, and of `print_text` and `edit_text` above it. With arguments it runs a work that is
+//! refused memory (`refuse`). It is a library below its program, so that what was proved of it is kept.
+//!
+//! Standard input has rows. A row begins with its words; then come the lines of a text, each behind `> `, and those of what is
+//! wanted, each behind `= `. Of two texts a line `> ====` stands between. In a text `⟨0D⟩` is the byte 13. Empty lines, and those that begin with `#`, are for people.
+#![tactic(auto)]
+
+mod edit;
+mod levels;
+mod mutants;
+mod print;
+mod read;
+mod refuse;
+mod rows;
+mod show;
+mod words;
+
+use anyhow::{Result, bail};
+
+/// Does what the program's arguments ask.
+///
+/// # Errors
+///
+/// Where a row differs or an argument names nothing, and what an answer is refused for.
+pub fn serve(rt: &HostRuntime, arguments: &[String]) -> Result<()> {
+    match arguments {
+        [] => rows::replay(rt),
+        [word, work, words] if word.as_str() == "refuse" => {
+            refuse::serve(rt, work.as_str(), words.as_str())
+        }
+        _ => bail!("usage: gate_text [refuse WORK ROW]"),
+    }
+}

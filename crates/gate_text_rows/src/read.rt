@@ -1,0 +1,33 @@
+//! Rows of `read_text`.
+use crate::show::{Spans, shown};
+use crate::words::Asked;
+use anyhow::Result;
+use std::alloc::Global;
+use std::fmt::Write;
+use text_source::{TextFault, locate, read_text};
+
+/// A fault with its place.
+pub(crate) fn told(alloc: Global, text: &[u8], fault: TextFault) -> Result<String> {
+    let located = locate(text, fault);
+    Ok(format!(in alloc; "{located}")?)
+}
+
+/// The tree of a text, or its fault.
+pub(crate) fn read(alloc: Global, asked: Asked, text: &[u8]) -> Result<String> {
+    match read_text(alloc, asked.goal, asked.depth, text) {
+        Ok(tree) => Ok(shown(alloc, Spans::Shown, &tree)?),
+        Err(fault) => told(alloc, text, fault),
+    }
+}
+
+/// How many beginnings of a text are read, and how many refused.
+pub(crate) fn cuts(alloc: Global, asked: Asked, text: &[u8]) -> Result<String> {
+    let mut read = 0usize;
+    for end in 0..text.len() {
+        if read_text(alloc, asked.goal, asked.depth, &text[..end]).is_ok() {
+            read = read.saturating_add(1);
+        }
+    }
+    let refused = text.len().saturating_sub(read);
+    Ok(format!(in alloc; "{read} read, {refused} refused")?)
+}

@@ -1,0 +1,8 @@
+//! The comments of a text, with the tokens that they stand at.
+#![tactic(auto)]
+
+mod comment;
+mod find;
+
+pub use comment::{Comment, CommentsFault};
+pub use find::find_comments;

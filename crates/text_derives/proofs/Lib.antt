@@ -1,0 +1,6 @@
+pub mod Least
+pub mod Begin
+pub mod Fields
+pub mod Judged
+pub mod Rows
+pub mod Law

@@ -1,0 +1,9 @@
+pub mod Least
+pub mod Fields
+pub mod Begin
+pub mod Forms
+pub mod Contexts
+pub mod Demanded
+pub mod Asks
+pub mod Rules
+pub mod Judged

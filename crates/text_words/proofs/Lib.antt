@@ -1,0 +1,4 @@
+pub mod Bytes
+pub mod Begun
+pub mod Regexes
+pub mod Templates

@@ -1,0 +1,4 @@
+use Rattle.text_words.proofs.reserved.is_reserved.Goals as goal
+
+pub returns : goal.returns
+returns c = c.is_one_of.ensures
