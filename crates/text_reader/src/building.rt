@@ -147,7 +147,7 @@ impl<'a> Parser<'a> {
     }
 
     fn name_here(&self) -> Result<Text, TextFault> {
-        let sym = self.word_here()?;
+        let sym = self.word_here(Expected::Name)?;
         let keyword = match self.token() {
             Token::EscapedName(_) => keyword_of(sym.as_str().as_bytes()),
             _ => self.keyword(),
@@ -162,20 +162,21 @@ impl<'a> Parser<'a> {
         }
     }
 
-    fn word_here(&self) -> Result<Text, TextFault> {
+    /// The word here; where there is none, something else was expected.
+    fn word_here(&self, expected: Expected) -> Result<Text, TextFault> {
         match self.token() {
             Token::Name(name) => self.text_of(name),
             Token::EscapedName(raw) => self.value_of(Reading::Quoted, raw),
             _ => Err(TextFault::Unexpected {
                 at: self.start(),
-                expected: Expected::Name,
+                expected,
             }),
         }
     }
 
     /// The same of any word.
     pub fn push_any_name(&mut self) -> Result<(), TextFault> {
-        let sym = self.word_here()?;
+        let sym = self.word_here(Expected::Name)?;
         let start = self.start();
         self.advance()?;
         self.push_ident(Kind::Ident, sym, start)
@@ -194,9 +195,7 @@ impl<'a> Parser<'a> {
     /// Makes a key of the word here, and goes behind it.
     pub fn push_key_name(&mut self) -> Result<(), TextFault> {
         let (start, before) = (self.start(), self.count());
-        let Ok(sym) = self.word_here() else {
-            return self.unexpected(Expected::Key);
-        };
+        let sym = self.word_here(Expected::Key)?;
         self.push(Node::Text(sym))?;
         self.advance()?;
         self.build(Kind::IdentName, start, before)
@@ -251,9 +250,7 @@ impl<'a> Parser<'a> {
 
     /// Makes a text of the word here, and goes behind it.
     pub fn push_key_text(&mut self) -> Result<(), TextFault> {
-        let Ok(text) = self.word_here() else {
-            return self.unexpected(Expected::Key);
-        };
+        let text = self.word_here(Expected::Key)?;
         self.push(Node::Text(text))?;
         self.advance()
     }
