@@ -11,7 +11,9 @@ docs/ and tools/ has to be there.
 Words are counted as `wc -w` counts them. Each page but docs/JSON.md, which is printed, has a limit, and all have one together. No cell of a
 table is wider than 300 columns: what is longer is a list.
 
-It also says which crates of crates.txt stand in no room of docs/ARCHITECTURE.md, and which use one that stands in a higher room or behind them in their own."""
+It also says which crates of crates.txt stand in no room of docs/ARCHITECTURE.md, or have no sentence there (examples in docs/EXAMPLES.md), and which use one that
+stands in a higher room or behind them in their own; which words of docs/DEFINITIONS.md have no formal name beside them; and what CHANGELOG.md names that users
+don't see: crates of laws and of the gate, tools, and names that are not public."""
 import glob
 import os
 import re
@@ -39,6 +41,12 @@ WIDEST = 300
 # What begins a room of docs/ARCHITECTURE.md, in 14 columns before its crates, and crates, of which some have names that begin alike.
 ROOM = re.compile(r'^[a-z].{13}', re.M)
 CRATES = re.compile(r'(\w+)_\{([^}]*)\}|(\w+)')
+# A word that docs/DEFINITIONS.md explains, and what is to stand behind it: its name in `specs/` or in the code.
+WORD = re.compile(r'\*\*([^*]+)\*\*')
+FORMAL = re.compile(r'\s+\(`\w')
+# What users of the crates don't see, and what makes a name public: `pub` before it, a member of a public trait or sum, or a word of the JSON form.
+INNER = re.compile(r'(?:tools|bench|\.ci|crates/gate_\w+|proofs|must-fail)\b.*|(?:gate|bench)_\w+|\w+_(?:laws|rows)')
+PUBLIC = re.compile(r'^.*\bpub\b.*$|^    (?:ghost|fn) \w+|^    [A-Z]\w*[,(]?', re.M)
 # What stands for any name in a path, and what of a crate is there once it is built.
 ANY = re.compile(r'\b(CRATE|NAME)\b')
 BUILT = re.compile(r'^(crates/[^/]+)/out/.*')
@@ -51,6 +59,12 @@ def files_here():
         folders[:] = sorted(set(folders) - {'.git', 'out', '__pycache__', 'node_modules'})
         found += [os.path.relpath(os.path.join(at, name), ROOT) for name in sorted(names)]
     return found
+
+
+def page_text(page):
+    """The text of a page."""
+    with open(os.path.join(ROOT, page), encoding='utf-8') as text:
+        return text.read()
 
 
 def words_of(files):
@@ -119,8 +133,7 @@ def counts(pages):
     found = {}
     for page in pages:
         if page not in PRINTED:
-            with open(os.path.join(ROOT, page), encoding='utf-8') as text:
-                found[page] = len(text.read().split())
+            found[page] = len(page_text(page).split())
     return found
 
 
@@ -137,8 +150,7 @@ def too_long(found):
 
 def crates_in_order():
     """The crates of docs/ARCHITECTURE.md, those of lower rooms first."""
-    with open(os.path.join(ROOT, 'docs/ARCHITECTURE.md'), encoding='utf-8') as text:
-        drawn = text.read().split('## Layers')[1].split('```\n')[1]
+    drawn = page_text('docs/ARCHITECTURE.md').split('## Layers')[1].split('```\n')[1]
     rooms = ROOM.split(drawn)[1:]
     return [name for room in reversed(rooms) for begun, rests, whole in CRATES.findall(room)
             for name in ([whole] if whole else [f'{begun}_{rest}' for rest in rests.split()])]
@@ -155,6 +167,36 @@ def misplaced():
         for used in uses[crate]:
             if crate in place and used in uses and place.get(used, -1) >= place[crate]:
                 yield f'{crate} uses {used}, which stands above it'
+
+
+def untold():
+    """Which crates have no sentence, but only a place in the drawing."""
+    told = page_text('docs/ARCHITECTURE.md').split('```\n', 2)[2] + page_text('docs/EXAMPLES.md')
+    names = {word for line in told.split('\n') for term in re.findall('`([^`]+)`', line) for word in re.findall(r'\w+', term)}
+    return [crate for crate in sorted(crates_in_order()) if crate not in names]
+
+
+def nameless():
+    """Which words of docs/DEFINITIONS.md have no formal name beside them."""
+    text = page_text('docs/DEFINITIONS.md')
+    return [word.group(1) for word in WORD.finditer(text) if not FORMAL.match(text, word.end())]
+
+
+def public_words(files):
+    """The words that users may know: those of public lines of sources and definitions, of crates, and of the JSON form."""
+    words = set(re.findall(r'\w+', page_text('docs/JSON.md'))) | {file.split('/')[1] for file in files if file.startswith('crates/')}
+    for file in files:
+        if re.fullmatch(r'crates/\w+/(src|specs)/.*\.(rt|antt)', file):
+            words.update(word for line in PUBLIC.findall(page_text(file)) for word in re.findall(r'\w+', line))
+    return words
+
+
+def unseen(files):
+    """What CHANGELOG.md names in backquotes that users don't see."""
+    public = public_words(files)
+    for term in re.findall('`([^`]+)`', page_text('CHANGELOG.md')):
+        if INNER.fullmatch(term) or NAME.fullmatch(term) and not set(re.findall(r'\w+', term)) <= public:
+            yield term
 
 
 def faults_of(page, files, words):
@@ -182,6 +224,9 @@ def main():
     faults = [fault for page in pages for fault in faults_of(page, files, words)]
     faults += too_long(found)
     faults += [f'docs/ARCHITECTURE.md: {fault}' for fault in misplaced()]
+    faults += [f'docs/ARCHITECTURE.md: no sentence says what {crate} is' for crate in untold()]
+    faults += [f'docs/DEFINITIONS.md: {word} has no formal name beside it' for word in nameless()]
+    faults += [f'CHANGELOG.md: {term} is nothing that users see' for term in unseen(files)]
     for fault in faults:
         print(fault)
     sys.exit(bool(faults))
