@@ -3,8 +3,10 @@
     python3 antt2py.py CHECKOUT [CRATE ..]         what was translated, and what was not and why
     python3 antt2py.py CHECKOUT [CRATE ..] -o FILE     the Python text too
 
-    defs = antt2py.load(CHECKOUT)
-    defs.swc_tree_grammar.Writable.is_writable(tree)
+    defs = antt2py.load(CHECKOUT); js.setup(defs)
+    t = js.module('for (let a#1 of b) { (a#1, c)(); }')
+    defs.swc_tree_grammar.Writable.is_writable(t)
+    js.text(defs.swc_tree_grammar.Stripped.stripped(t))
 
 A definition is translated if it is an `abbrev` (or `unfoldable`) that gives a value. Relations (`Type`), theorems, and
 what needs them are listed as not translated. A form that is not known here stops the translation with the file and the

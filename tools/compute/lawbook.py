@@ -1,7 +1,22 @@
 """What the laws share: the definitions of a checkout, sources of random trees, and words for trees.
 
-A law takes a tree and answers None where its premise does not hold, True where it holds, and else a `Bad`, which says
-what went wrong. `@law(source)` says which random trees it is tried on.
+A law takes a tree and answers None where its premise does not hold, True where it holds, and else a `Bad`, with words and
+trees that say what went wrong. `@law(source)` says which random trees it is tried on: a source is one of this file, or one
+of yours, which takes a `random_trees.Random` and a size. `@law_of_goals` of settled_laws.py adds a law twice, of modules and
+of scripts.
+
+    @law(writable_tree)
+    def stripped_twice(t):
+        '''stripping a second time changes nothing'''
+        if not is_writable(t):
+            return None
+        once = D.grammar.Stripped.stripped(t)
+        twice = D.grammar.Stripped.stripped(once)
+        return same(once, twice) or Bad('once:', once, 'twice:', twice)
+
+A law must not depend on chance, or its tree cannot be made smaller: take a fixed seed where choices are needed. Where few
+trees meet a premise, write a source that meets it more often. Trees that every law should try are texts in `WRITTEN` of
+laws.py. To see that a law can fail at all, break a definition in a copy of `crates` and run it there.
 """
 import antt2py
 import js
