@@ -54,6 +54,13 @@ def clean_source(random, size):
     return spoilt(random, t) if random.chance(0.2) else t
 
 
+def marked_source(random, size):
+    """the same with contexts on some names"""
+    t = random.program('names', size, random.chance(0.6), marks=0.5)
+    t = texts.with_leaves(random, t)
+    return None if has_types(t) or not is_writable(t) else t
+
+
 def resolved_source(random, size):
     """what a resolver makes of these"""
     t = clean_source(random, size)
