@@ -155,6 +155,10 @@ def words_as_names(t):
         yield ('Identifier', 'Ident', js.REC(span=SPAN[1], ctxt=(), sym=js.codes('yield')))
     if kind(t) == 'Ident' and is_text(t, 'yield'):
         yield tree('YieldExpr', SPAN, ABSENT, ('Flag', False))
+    for text, operator in (('await', 'AwaitExpr'), ('yield', 'YieldExpr')):
+        if kind(t) == operator and kind(t[2][1]) == 'ParenExpr' and t[2][2:] in ((), (('Flag', False),)):
+            name = ('Identifier', 'Ident', js.REC(span=SPAN[1], ctxt=(), sym=js.codes(text)))
+            yield tree('CallExpr', SPAN, name, ('List', (tree('ExprOrSpread', ABSENT, t[2][1][2][1]),)))
     for text, operator in (('await', lambda of: tree('AwaitExpr', SPAN, of)), ('yield', lambda of: tree('YieldExpr', SPAN, of, ('Flag', False)))):
         if kind(t) == 'CallExpr' and is_text(t[2][1], text) and len(t[2][2][1]) == 1 and t[2][2][1][0][2][0] == ABSENT:
             yield operator(tree('ParenExpr', SPAN, t[2][2][1][0][2][1]))

@@ -163,8 +163,15 @@ def other_of_one_text(t, besides):
     return True
 
 
+# programs that random ones seldom are
+SELDOM = ['a || b || c;', 'a ?? b ?? c;', 'for (let [a] = b;;);', 'for (let [a] of b);', 'yield;', 'yield(a);', 'function* f() { yield; }', 'await(a);',
+          'async function f() { await(a); }', '(class { a() {} });', 'a.b;', '(a?.b).c;', 'if (a) if (b); else c;', 'new a.b();']
+
+
 def grouped_source(random, size):
-    """programs with leaves of all spellings, and nests of expressions, with due pairs or as they are"""
+    """programs with leaves of all spellings, and nests of expressions, with due pairs or as they are; some that are written"""
+    if random.chance(0.03):
+        return js.script(random.pick(SELDOM))
     choice = random.below(4)
     if choice == 0:
         t = random.left_ends(size)

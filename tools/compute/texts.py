@@ -217,6 +217,13 @@ class Writing:
             return b'/' + bytes(p[1]) + b'/' + bytes(p[2])
         return {'private_name': b'#', 'hashbang': b'#!'}.get(form, b'') + bytes(p[1])
 
+    def whole(self, t):
+        """the text of a tree"""
+        ps = following.pieces(D.all, t)
+        for i, p in enumerate(ps):
+            self.piece(p, next((q for q in ps[i + 1:] if is_token(q)), None) if p == 'ends' else None)
+        return tuple(self.out)
+
 
 TOKENS = ('word', 'name', 'private_name', 'punctuator', 'number', 'big_integer', 'quoted', 'template', 'regex', 'hashbang', 'attribute', 'parameter')
 
@@ -227,11 +234,7 @@ def is_token(p):
 
 def written(random, t, way):
     """a text with the pieces of a tree"""
-    ps = following.pieces(D.all, t)
-    writing = Writing(random, way, t[1] == 'Script')
-    for i, p in enumerate(ps):
-        writing.piece(p, next((q for q in ps[i + 1:] if is_token(q)), None) if p == 'ends' else None)
-    return tuple(writing.out)
+    return Writing(random, way, t[1] == 'Script').whole(t)
 
 
 def plain(t):
