@@ -9,6 +9,7 @@ import json
 import os
 import re
 import subprocess
+from collections import Counter
 
 import following
 import js
@@ -17,7 +18,6 @@ import lawbook
 import random_trees
 import texts
 import trees
-from collections import Counter
 from lawbook import D
 
 READER = """
@@ -61,6 +61,25 @@ def bare(t):
     return trees.with_kids(t, list(map(bare, trees.kids(t)))) if t[0] in ('List', 'Tree') else t
 
 
+def moved(t):
+    """the tree with each span a byte further"""
+    def further(span):
+        return js.REC(lo=span.lo + 1, hi=span.hi + 1)
+    if t[0] == 'Span':
+        return ('Span', further(t[1]))
+    if t[0] == 'Identifier':
+        return ('Identifier', t[1], js.REC(span=further(t[2].span), ctxt=(), sym=t[2].sym))
+    return trees.with_kids(t, list(map(moved, trees.kids(t)))) if t[0] in ('List', 'Tree') else t
+
+
+def text_is_of(t, text):
+    """its leaves stand where acorn has them, and not a byte further; where all is in ASCII, since acorn counts otherwise"""
+    if max(text, default=0) > 127:
+        return True
+    names = following.HasNode(lambda node: node[0] == 'Identifier', t)
+    return following.LeavesStand(D.all, text, t) and not (names and following.LeavesStand(D.all, text, moved(t)))
+
+
 def shown(t):
     return t[1] if t[0] in ('Tree', 'Identifier') else t[0]
 
@@ -83,6 +102,8 @@ def main():
         else:
             difference = json_trees.first_difference(bare(t), bare(json_trees.tree_in(answer)))
             counts['read otherwise' if difference else 'read so'] += 1
+            if not text_is_of(json_trees.tree_in(answer), text):
+                counts['of which acorn says otherwise where leaves stand'] += 1
             what = difference and '%s as %s' % (shown(difference[1]), shown(difference[2]))
         if what:
             others.setdefault(what, []).append(text)

@@ -1,4 +1,4 @@
-"""Laws of comments and of renamed texts: which comments a text has, and what a text becomes where names are given anew."""
+"""Laws of comments, of renamed texts, and of lines: which comments a text has, and what it becomes where names are given anew."""
 import following
 import js
 import texts
@@ -121,3 +121,29 @@ def renamed_text_is_that_of_the_renamed(t):
     text = texts.written(random, t, texts.LOOSE)
     out = renamed_text(t, u, text)
     return IsTextOf(D.all, u, out) or Bad(show(text), 'becomes', show(out), 'of', u)
+
+
+# ---- text_places
+def place_by_hand(text, count):
+    """the line and the column of what stands behind so many bytes"""
+    line, column = 1, 1
+    for i in range(count):
+        two, three = bytes(text[i:i + 2]), bytes(text[max(0, i - 2):i + 1])
+        if text[i] == 10 or text[i] == 13 and two != b'\r\n' or three in (b'\xe2\x80\xa8', b'\xe2\x80\xa9'):
+            line, column = line + 1, 1
+        elif not 128 <= text[i] <= 191:
+            column += 1
+    return line, column
+
+
+@law(leafy_program)
+def places_are_counted(t):
+    """lines and columns are those of line ends and characters"""
+    if t is None:
+        return None
+    text, places = texts.written(own_random(t), t, texts.LOOSE)[:400], D.all.text_places.Places
+    for count in range(0, len(text) + 1, 7):
+        found = places.line(text, count), places.column(text, count)
+        if found != place_by_hand(text, count):
+            return Bad(show(text[:count]), str(found), 'and not', str(place_by_hand(text, count)))
+    return True

@@ -123,6 +123,12 @@ PASSES = {
 NAMINGS = {'hygiene': with_hygiene, 'hygiene, classes keep names': lambda t: with_hygiene(t, True), 'mangled': mangled}
 
 
+def with_helpers(t):
+    """two helpers brought in from outside; those names that have the mark 2 are theirs"""
+    names = (js.codes('throw'), js.codes('extends'))
+    return D.injection.Injected.brought_into(2, 1, names, t, D.injection.Bodies.program_kind(t))
+
+
 def fault_of(passes, t, holds):
     """the first pass whose answer something does not hold of"""
     for name, made in passes.items():
@@ -148,6 +154,13 @@ def passes_keep_lengths(t):
 def passes_keep_spelling(t):
     """each pass keeps `Spelled` of a tree that fits its place, where new texts are names and no reserved words"""
     return kept(PASSES, t, Spelled)
+
+
+@law(text_source)
+def helpers_keep_what_is_asked(t):
+    """a program that fits its place is as shaped, and as spelled, with helpers brought in from outside"""
+    answers = [kept({'helpers brought in': with_helpers}, t, holds) for holds in (Shaped, Spelled)]
+    return next((answer for answer in answers if isinstance(answer, Bad)), True if True in answers else None)
 
 
 @law(resolved_source)

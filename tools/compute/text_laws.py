@@ -9,7 +9,7 @@ import trees
 from following import IsTextOf, IsWellFormed
 from lawbook import Bad, D, fixed, has_types, is_writable, kind, law, same
 from random_trees import Random
-from text_kept_laws import spoilt
+from text_kept_laws import chain, clean_source, is_source, spoilt
 from text_token_laws import NO_TOKENS
 from texts import leafy_program, leafy_source
 
@@ -194,3 +194,21 @@ def one_tree_of_a_text(t):
 def one_exact_tree_of_a_text(t):
     """a text is that of one well-formed tree for which all of BESIDES hold"""
     return other_of_one_text(t, list(BESIDES.values()))
+
+
+def exact_source(random, size):
+    """sources of a chain with due pairs"""
+    t = clean_source(random, size)
+    return fixed(t) if t and is_writable(t) else t
+
+
+@law(exact_source)
+def chained_answers_are_exact(t):
+    """what a chain answers to a source for which all of BESIDES hold is such, but for how `||`, `&&` and `??` are grouped"""
+    if t is None or not is_source(t) or not all(asks(t) for asks in BESIDES.values()):
+        return None
+    answer, left_out = chain(t), 'grouped to the left'
+    for name, asks in BESIDES.items():
+        if name != left_out and not asks(answer):
+            return Bad(name + ':', answer)
+    return True
