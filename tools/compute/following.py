@@ -14,7 +14,7 @@ SOURCES = {
     'text_follow': {'Follows': 'd864ea92f49a', 'FollowsFrom': '3fa5f2a378d6', 'InParens': 'fde49c9e6b45', 'IsCooked': '2b1e5a733852',
         'IsRaw': '8282b052dca3', 'MayInsert': '912b3b2e3ffc', 'Reads': '2ed50b9397e1', 'ReadsAttribute': '8e7257f40cf1',
         'ReadsThree': '1406b34520ea', 'ReadsTwo': 'd2fd7be6de7c', 'Spells': 'c00bf1728911', 'StandsFor': '3eecba0cb2cf', 'Takes': '0cca22217816'},
-    'text_source': {'IsPlace': '967ffe0168ea', 'IsTextOf': 'b2ba1f051c39', 'Tells': '937587000cd3'},
+    'text_source': {'IsPlace': '967ffe0168ea', 'IsTextOf': 'b2ba1f051c39 c4495303a130', 'Tells': '937587000cd3'},
     'text_grammar': {'Shaped': 'd37384ac3ed7'},
     'text_spelling': {'Spelled': 'f542e98ccbfa'},
     'text_checks': {'IsWellFormed': '778d07726601', 'Lacks': 'c3c984c47bb3'},

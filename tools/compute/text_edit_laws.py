@@ -51,6 +51,11 @@ class Noting(texts.Writing):
         super().token(written, is_alone)
         self.tokens.append((len(self.out) + 1 - len(written), len(self.out) + 1))
 
+    def piece(self, p, next_token):
+        super().piece(p, next_token)
+        if word(p) == 'hashbang':
+            self.tokens.append((1, len(self.out) + 1))
+
     def stands(self, lo, hi):
         """a comment with the end of the token before it and the begin of the next"""
         ends = [end for _, end in self.tokens if end <= lo]

@@ -114,42 +114,13 @@ def grouped_right(node):
         and is_tree(node[2][3], 'BinExpr') and node[2][3][2][1] == node[2][1]
 
 
-def let_in_head(node):
-    """the head of a loop that begins with `let [`, as an expression"""
-    i = {'ForStmt': 1, 'ForInStmt': 1, 'ForOfStmt': 2}.get(node[1]) if node[0] == 'Tree' else None
-    return i is not None and begins_let_bracket(node[2][i])
-
-
-def begins_let_bracket(node):
-    while node is not None:
-        if is_tree(node, 'MemberExpr') and regroup.is_text(node[2][1], 'let') and kind(node[2][2]) == 'ComputedPropName':
-            return True
-        node = regroup.left_of(node)[0]
-    return False
-
-
-def operator_outside(t, operator, name, flag):
-    """the operator outside of functions that have it, or its name in one that has it; `flag` is the function's field"""
-    def walk(node, inside):
-        if is_tree(node, operator) and not inside or node[0] == 'Identifier' and node[2].sym == js.codes(name) and inside:
-            return True
-        if is_tree(node, 'Function'):
-            inside = node[2][flag] == ('Flag', True)
-        elif is_tree(node, 'ArrowExpr'):
-            inside = operator == 'AwaitExpr' and node[2][3] == ('Flag', True)
-        return any(walk(child, inside) for child in trees.kids(node))
-    return walk(t, operator == 'AwaitExpr' and t[1] == 'Module')
-
-
-# what is asked besides of a tree that is well formed, so that its text has no other
+# What is asked besides of a tree that is well formed, so that its text has no other. Writable trees have no name `let`, `yield` or `await`, of which no
+# tree tells whether it is one.
 BESIDES = {
     'writable': is_writable,
     'no chain that is none': lambda t: not has(t, lazy_chain),
     'patterns as patterns': lambda t: not expression_as_pattern(t),
-    'grouped to the left': lambda t: not has(t, grouped_right),
-    'no `let [` in a head': lambda t: not has(t, let_in_head),
-    '`yield` where it is an operator': lambda t: not operator_outside(t, 'YieldExpr', 'yield', 3),
-    '`await` where it is an operator': lambda t: not operator_outside(t, 'AwaitExpr', 'await', 4)}
+    'grouped to the left': lambda t: not has(t, grouped_right)}
 
 
 def other_of_one_text(t, besides):

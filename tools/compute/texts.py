@@ -203,9 +203,11 @@ class Writing:
             self.token(self.string(p[1], None)) if self.random.chance(0.5) or not D.all.text_words.Words.is_name(p[1]) else self.name(p[1])
             self.mark('Colon')
             self.token(self.string(p[2], None))
+        elif form == 'hashbang':                          # nothing stands before it, and a line ends behind it
+            self.out += self.leaf(form, p)
+            self.before, self.in_line = 'other', True
         elif form not in ('closes', 'gap'):
             self.token(self.leaf(form, p))
-            self.in_line = form == 'hashbang'
         self.end = D.all.text_follow.Endings.ending_behind(self.end, p)
 
     def leaf(self, form, p):
