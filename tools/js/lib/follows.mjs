@@ -31,6 +31,7 @@ function goesOn(ending, { label, text }) {
     case 'exports': return text === 'from';
     case 'field': return text === '(';
     case 'accessor': return text !== '*';
+    case 'let': return /^[\p{ID_Start}$_\\{]/u.test(text) || goesOn('open', { label, text });
     case 'any': return true;
     default: return false;
   }

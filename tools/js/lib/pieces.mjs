@@ -131,7 +131,7 @@ class Walk {
     } else if (rest === 'key') {
       this.push(closes(keyEnding(value)));
     } else if (rest === 'let' && value.type === 'Ident' && value.sym === 'let') {
-      this.push(closes('any'));
+      this.push(closes('let'));
     } else if (rest === 'from') {
       this.push(closes(value ? 'closed' : 'from'));
     }
@@ -172,6 +172,8 @@ class Walk {
   dot(key) { if (key.type !== 'ComputedPropName') { this.push(punctuator('.')); } }
 
   head(value) { if (value) { this.node(value, value.type === 'VarDecl' || value.type === 'UsingDecl'); } }
+
+  body(value) { if (value) { this.node(value, value.type === 'ExprStmt'); } }
 
   accessor(kind) { if (kind !== 'method') { this.push(word(kind === 'getter' ? 'get' : 'set')); } }
 
