@@ -74,8 +74,8 @@ fn is_written(goal: Goal, text: &[u8], pieces: &[Piece<'_>]) -> bool
 
 // Whether a text in UTF-8 is that of a tree that fits.
 fn has_tokens(alloc: Global, goal: Goal, tree: &Node, text: &[u8]) -> Result<bool, AllocError>
-    requires { IsUtf8 text.now }
-    requires { Fits tree.now (spec.slot_of goal) }
+    requires utf8 { IsUtf8 text.now }
+    requires fits { Fits tree.now (spec.slot_of goal) }
     ensures { IfOk result (λ yes. IsTrue yes → IsTextOf goal tree.now text.now) }
 {
     let found = pieces(alloc, tree)?;
@@ -172,7 +172,8 @@ fn stand(tree: &Node, text: &[u8]) -> bool
     leaves_stand(tree, text)
 }
 
-// What was read, if it is what the text says.
+// What was read, if it is a program, and what the text says.
+#[tactic(auto, using(crate::proofs::Formed::fits_of))]
 fn held(alloc: Global, goal: Goal, tree: Node, text: &[u8]) -> Result<Node, TextFault>
     requires { IsUtf8 text.now }
     ensures tree { IfOk result (λ read. IsTextOf goal read text.now) }
