@@ -10,7 +10,7 @@ MARKS = {'(': 'LeftParen', ')': 'RightParen', '{': 'LeftBrace', '}': 'RightBrace
          '*': 'Mul'}
 PLAIN = {'here': 'Here', 'in': 'In', 'out': 'Out', 'end': 'End'}
 CALLS = {'if': 'If', 'unless': 'Unless', 'apart': 'Apart', 'string': 'Quoted', 'regex': 'Regex', 'template': 'Template'}
-WHOLE = {'list': 'List', 'others': 'Others', 'specifiers': 'Specifiers', 'head': 'Head'}
+WHOLE = {'list': 'List', 'others': 'Others', 'specifiers': 'Specifiers', 'head': 'Head', 'body': 'Body'}
 FORMS = {'comma': 'Comma', 'others_comma': 'CommaUnlessLone', 'hole': 'Hole', 'name': 'Name', 'number': 'Number', 'big': 'BigInt', 'private': 'Private', 'hashbang': 'Hashbang',
          'lone': 'Lone', 'dot': 'Dot', 'accessor': 'Accessor', 'async': 'Async', 'star': 'Star', 'meta': 'Meta', 'attributes': 'Attributes',
          'bare': 'Bare', 'braces': 'Braces'}

@@ -54,6 +54,13 @@ goes_on_postfix (token.punctuator m) = mark_goes_on_postfix m
 goes_on_postfix (token.name a) = is_operator_name a
 goes_on_postfix _ = false
 
+-- what `let` would declare: a name or a pattern; one in brackets is a member besides
+abbrev pub begins_declared : Token → Bool
+begins_declared (token.name a) = true
+begins_declared (token.escaped_name a) = true
+begins_declared (token.punctuator mark.LeftBrace) = true
+begins_declared _ = false
+
 -- what ends thus goes on with the token, though a line has ended
 abbrev pub goes_on : Ending → Token → Bool
 goes_on ending.Open t = goes_on_open t
@@ -63,6 +70,7 @@ goes_on ending.From t = is_semicolon t || is_word (codes "with") t
 goes_on ending.Exports t = is_semicolon t || is_word (codes "from") t
 goes_on ending.Field t = is_semicolon t || is_left_paren t
 goes_on ending.Accessor t = not (is_star t)
+goes_on ending.Let t = begins_declared t || goes_on_open t
 goes_on ending.Any t = true
 goes_on ending.Loop t = is_semicolon t
 

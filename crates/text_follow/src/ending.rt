@@ -88,6 +88,15 @@ fn goes_on_postfix(token: Token<'_>) -> bool
     }
 }
 
+fn begins_declared(token: Token<'_>) -> bool
+    ensures { result ≡ spec.begins_declared (token_view token.entry) }
+{
+    match token {
+        Token::Name(_) | Token::EscapedName(_) | Token::Mark(Mark::LeftBrace) => true,
+        _ => false,
+    }
+}
+
 /// Whether what ends thus goes on with the token, though a line has ended.
 pub(crate) fn goes_on(ending: Ending, token: Token<'_>) -> bool
     ensures { result ≡ spec.goes_on ending (token_view token.entry) }
@@ -100,6 +109,7 @@ pub(crate) fn goes_on(ending: Ending, token: Token<'_>) -> bool
         Ending::Exports => is_semicolon(token) || is_word("from", token),
         Ending::Field => is_semicolon(token) || is_left_paren(token),
         Ending::Accessor => !is_star(token),
+        Ending::Let => begins_declared(token) || goes_on_open(token),
         Ending::Any => true,
     }
 }

@@ -7,9 +7,10 @@ use crate::statements::parse_steps;
 use crate::steps::{BODY, STATIC_BODY};
 use swc_tree_node::{Kind, Node};
 use text_lexer::{Mark, Token};
-use text_reader::{Keyword, Language, Parser, TextFault, begins_key};
+use text_reader::{Expected, Keyword, Language, Parser, TextFault, begins_key};
 
-/// A function from `function` on, as a declaration or an expression; where it begins is told (15.2).
+/// A function from `function` on, as a declaration or an expression; where it begins is told (15.2). `hangs` says that it stands
+/// behind a label, an `if` or an `else`, where it is no generator (14.13 and B.3.3).
 #[cycle(parse)]
 pub(crate) fn parse_function(
     p: &mut Parser<'_>,
@@ -17,12 +18,16 @@ pub(crate) fn parse_function(
     start: usize,
     is_async: bool,
     kind: Kind,
+    hangs: bool,
 ) -> Result<(), TextFault> {
     if depth == 0 {
         return Err(p.too_deep());
     }
     let before = p.count();
     p.advance()?;
+    if hangs && p.is_mark(Mark::Mul) {
+        return p.unexpected(Expected::Name);
+    }
     let is_generator = p.take(Mark::Mul)?;
     if kind == Kind::FnExpr && p.is_mark(Mark::LeftParen) {
         p.push_absent()?;
@@ -54,6 +59,7 @@ pub(crate) fn parse_function_rest(
     parse_parameters(p, depth - 1)?;
     let body = (p.start(), p.count());
     parse_steps(p, depth - 1, Kind::BlockStmt, BODY, body)?;
+    p.expect_plain_parameters(start)?;
     p.context = context;
     p.push_flag(is_generator)?;
     p.push_flag(is_async)?;
@@ -138,17 +144,35 @@ pub(crate) fn parse_class(p: &mut Parser<'_>, depth: u32, kind: Kind) -> Result<
     }
     p.expect(Mark::LeftBrace)?;
     let members = p.count();
+    let mut has_constructor = false;
     for _ in 0..p.len() {
         if p.is_mark(Mark::RightBrace) {
             break;
         }
+        let member = p.start();
         parse_member(p, depth - 1)?;
+        mind_constructor(p, member, &mut has_constructor)?;
     }
     p.context = context;
     p.expect(Mark::RightBrace)?;
     p.list(members)?;
     p.build(Kind::Class, start, class)?;
     p.close(kind, before)
+}
+
+/// Sees to it that a class has one constructor at most (15.7.1); where the last member begins is told.
+fn mind_constructor(p: &Parser<'_>, at: usize, has_one: &mut bool) -> Result<(), TextFault> {
+    if !p.is_last(Kind::Constructor) {
+        return Ok(());
+    }
+    if *has_one {
+        return Err(TextFault::Unexpected {
+            at,
+            expected: Expected::Key,
+        });
+    }
+    *has_one = true;
+    Ok(())
 }
 
 /// What `static` is at the beginning of a member.

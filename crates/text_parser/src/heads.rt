@@ -89,6 +89,9 @@ pub(crate) fn parse_variables(
     let variables = p.count();
     for _ in 0..p.len() {
         let (name, variable) = (p.start(), p.count());
+        if kind == Kind::UsingDecl && !p.is_name() {
+            return p.unexpected(Expected::Name);
+        }
         parse_binding(p, depth - 1, false)?;
         if p.take(Mark::Assign)? {
             parse_assignment(p, depth - 1)?;
@@ -127,6 +130,7 @@ pub(crate) fn parse_for(p: &mut Parser<'_>, depth: u32) -> Result<(), TextFault>
     parse_head(p, depth - 1, is_await)?;
     p.context = context;
     if p.is_keyword(Keyword::Of) && p.is_each_head(begins_let) {
+        p.end_head_of(head, is_await)?;
         p.last_to_head(depth)?;
         p.insert(begun.1, Node::Flag(is_await))?;
         return parse_steps(p, depth - 1, Kind::ForOfStmt, FOR_OF, begun);
@@ -134,7 +138,7 @@ pub(crate) fn parse_for(p: &mut Parser<'_>, depth: u32) -> Result<(), TextFault>
     if is_await {
         return p.unexpected(Expected::Word("of"));
     }
-    if p.is_keyword(Keyword::In) && p.is_each_head(false) {
+    if p.is_keyword(Keyword::In) && p.is_each_head(false) && !p.is_last(Kind::UsingDecl) {
         p.last_to_head(depth)?;
         return parse_steps(p, depth - 1, Kind::ForInStmt, FOR_IN, begun);
     }

@@ -198,7 +198,7 @@ fn parse_default(p: &mut Parser<'_>, depth: u32, start: usize) -> Result<(), Tex
         p.advance()?;
     }
     if p.is_keyword(Keyword::Function) {
-        parse_function(p, depth, item, is_async, Kind::FnExpr)?;
+        parse_function(p, depth, item, is_async, Kind::FnExpr, false)?;
         return p.build(Kind::ExportDefaultDecl, start, before);
     }
     if p.is_keyword(Keyword::Class) {
@@ -240,10 +240,10 @@ fn parse_export_list(p: &mut Parser<'_>, start: usize) -> Result<(), TextFault> 
         if p.is_mark(Mark::RightBrace) {
             break;
         }
-        if !p.is_name() || !p.may_be_name(p.keyword()) {
-            foreign = Some(p.start());
+        let specifier = p.start();
+        if !parse_export_specifier(p)? {
+            foreign = Some(specifier);
         }
-        parse_export_specifier(p)?;
         if !p.take(Mark::Comma)? {
             break;
         }
@@ -265,13 +265,16 @@ fn parse_export_list(p: &mut Parser<'_>, start: usize) -> Result<(), TextFault> 
     p.build(Kind::NamedExport, start, before)
 }
 
-fn parse_export_specifier(p: &mut Parser<'_>) -> Result<(), TextFault> {
+/// A name that is exported: whether a name of the program may be called so.
+fn parse_export_specifier(p: &mut Parser<'_>) -> Result<bool, TextFault> {
     let (start, before) = (p.start(), p.count());
     push_module_name(p)?;
+    let is_name = p.is_last_name();
     if p.take_keyword(Keyword::As)? {
         push_module_name(p)?;
     } else {
         p.push_absent()?;
     }
-    p.build(Kind::ExportNamedSpecifier, start, before)
+    p.build(Kind::ExportNamedSpecifier, start, before)?;
+    Ok(is_name)
 }

@@ -87,7 +87,7 @@ pub(crate) fn parse_primary(p: &mut Parser<'_>, depth: u32) -> Result<(), TextFa
         Primary::Leaf => push_primary_leaf(p),
         Primary::Name => parse_name(p, depth - 1),
         Primary::Async => parse_async(p, depth - 1),
-        Primary::Function => parse_function(p, depth - 1, start, false, Kind::FnExpr),
+        Primary::Function => parse_function(p, depth - 1, start, false, Kind::FnExpr, false),
         Primary::Class => parse_class(p, depth - 1, Kind::ClassExpr),
         Primary::New => parse_new(p, depth - 1),
         Primary::Paren => parse_paren(p, depth - 1),
@@ -192,7 +192,7 @@ fn parse_async(p: &mut Parser<'_>, depth: u32) -> Result<(), TextFault> {
         AsyncForm::Name => parse_name(p, depth - 1),
         AsyncForm::Function => {
             p.advance()?;
-            parse_function(p, depth - 1, start, true, Kind::FnExpr)
+            parse_function(p, depth - 1, start, true, Kind::FnExpr, false)
         }
         AsyncForm::Arrow => {
             p.advance()?;
@@ -284,6 +284,7 @@ fn parse_arrow(
     if p.is_mark(Mark::LeftBrace) {
         let body = (p.start(), p.count());
         parse_steps(p, depth - 1, Kind::BlockStmt, BODY, body)?;
+        p.expect_plain_parameters(start)?;
     } else {
         p.context.has_in = context.has_in;
         parse_assignment(p, depth - 1)?;

@@ -38,7 +38,7 @@ fn parse_program(p: &mut Parser<'_>, goal: Goal, depth: u32) -> Result<(), TextF
     if goal == Goal::Module {
         parse_items(p, depth)?;
     } else {
-        parse_run(p, depth, Run::Body)?;
+        parse_run(p, depth, Run::Script)?;
     }
     if !p.is_end() {
         return p.unexpected(Expected::End);

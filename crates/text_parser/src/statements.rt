@@ -64,16 +64,24 @@ fn beginning_here(p: &Parser<'_>) -> Beginning {
     }
 }
 
+/// Whether variables may be declared in a place with the word that stands here.
+fn may_declare(p: &Parser<'_>, place: Place) -> bool {
+    match place {
+        Place::Item => true,
+        Place::Bare => !p.is_keyword(Keyword::Using) && !p.is_keyword(Keyword::Await),
+        Place::Branch | Place::Body => p.is_keyword(Keyword::Var),
+    }
+}
+
 /// Whether a statement that begins so may stand in a place (14.1). `let` before a line end and no bracket is a name
 /// where no declaration may stand.
 fn placed(p: &Parser<'_>, place: Place) -> Result<Beginning, TextFault> {
     let beginning = beginning_here(p);
+    let is_listed = place == Place::Item || place == Place::Bare;
     let stands = match beginning {
-        Beginning::Variables => place == Place::Item || p.is_keyword(Keyword::Var),
-        Beginning::Function => {
-            place == Place::Item || place == Place::Branch && !p.context.is_strict
-        }
-        Beginning::AsyncFunction | Beginning::Class => place == Place::Item,
+        Beginning::Variables => may_declare(p, place),
+        Beginning::Function => is_listed || place == Place::Branch && !p.context.is_strict,
+        Beginning::AsyncFunction | Beginning::Class => is_listed,
         _ => true,
     };
     if stands {
@@ -103,10 +111,13 @@ pub(crate) fn parse_statement(
             parse_steps(p, depth - 1, kind, steps_of(kind), (start, before))?;
         }
         Beginning::Variables => parse_variables(p, depth - 1, false)?,
-        Beginning::Function => parse_function(p, depth - 1, start, false, Kind::FnDecl)?,
+        Beginning::Function => {
+            let hangs = place == Place::Branch;
+            parse_function(p, depth - 1, start, false, Kind::FnDecl, hangs)?;
+        }
         Beginning::AsyncFunction => {
             p.advance()?;
-            parse_function(p, depth - 1, start, true, Kind::FnDecl)?;
+            parse_function(p, depth - 1, start, true, Kind::FnDecl, false)?;
         }
         Beginning::Class => parse_class(p, depth - 1, Kind::ClassDecl)?,
         Beginning::For => parse_for(p, depth - 1)?,
@@ -122,6 +133,9 @@ fn parse_expression_statement(p: &mut Parser<'_>, depth: u32) -> Result<(), Text
         return Err(p.too_deep());
     }
     let (start, before) = (p.start(), p.count());
+    if p.is_escaped("let") && is_mark(p.peek().token, Mark::LeftBracket) {
+        return p.unexpected(Expected::Statement);
+    }
     parse_expression(p, depth - 1)?;
     if p.is_mark(Mark::Colon) && p.is_last(Kind::Ident) {
         p.advance()?;
@@ -274,6 +288,25 @@ fn ends_run(p: &Parser<'_>, run: Run) -> bool {
         || run == Run::Case && (p.is_keyword(Keyword::Case) || p.is_keyword(Keyword::Default))
 }
 
+fn place_in(run: Run) -> Place {
+    match run {
+        Run::Script | Run::Case => Place::Bare,
+        Run::Statements | Run::Body | Run::Cases => Place::Item,
+    }
+}
+
+/// Sees to it that a `switch` has one default at most (14.12).
+fn mind_default(p: &Parser<'_>, has_one: &mut bool) -> Result<(), TextFault> {
+    if !p.is_keyword(Keyword::Default) {
+        return Ok(());
+    }
+    if *has_one {
+        return p.unexpected(Expected::Word("case"));
+    }
+    *has_one = true;
+    Ok(())
+}
+
 /// Nodes up to what ends them.
 #[cycle(parse)]
 pub(crate) fn parse_run(p: &mut Parser<'_>, depth: u32, run: Run) -> Result<(), TextFault> {
@@ -281,17 +314,19 @@ pub(crate) fn parse_run(p: &mut Parser<'_>, depth: u32, run: Run) -> Result<(), 
         return Err(p.too_deep());
     }
     let before = p.count();
-    let mut leads = run == Run::Body;
-    let mut escaped = None;
+    let mut leads = run == Run::Body || run == Run::Script;
+    let (mut escaped, mut has_default) = (None, false);
+    let place = place_in(run);
     for _ in 0..p.len() {
         if ends_run(p, run) {
             break;
         }
         if run == Run::Cases {
+            mind_default(p, &mut has_default)?;
             parse_statement_of(p, depth - 1, Kind::SwitchCase)?;
         } else {
             let start = p.start();
-            parse_statement(p, depth - 1, Place::Item)?;
+            parse_statement(p, depth - 1, place)?;
             leads = leads && p.mind_directive(start, &mut escaped);
         }
     }

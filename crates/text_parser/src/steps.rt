@@ -8,6 +8,8 @@ use text_reader::Keyword;
 pub(crate) enum Place {
     /// In a list of statements.
     Item,
+    /// In the list of a case or a script, where `using` declares nothing.
+    Bare,
     /// Behind a label, an `if` or an `else`: no declaration but of a function.
     Branch,
     /// In a loop or a `with`: no declaration.
@@ -18,8 +20,10 @@ pub(crate) enum Place {
 #[derive(Clone, Copy, PartialEq, Eq)]
 pub(crate) enum Run {
     Statements,
-    /// The statements of a function or a program, which directives may lead.
+    /// The statements of a function, which directives may lead.
     Body,
+    /// Those of a script.
+    Script,
     /// The statements of a case.
     Case,
     Cases,

@@ -130,6 +130,6 @@ form_pieces form.Bare t = bare (out-Node t)
 form_pieces form.Braces t = braces (out-Node t)
 form_pieces form.BlockEnding t = when (is_block (out-Node t)) (token.closes ending.Closed)
 form_pieces form.KeyEnding t = token.closes (ending_of_key (out-Node t)) ∷ []
-form_pieces form.LetEnding t = when (is_let (out-Node t)) (token.closes ending.Any)
+form_pieces form.LetEnding t = when (is_let (out-Node t)) (token.closes ending.Let)
 form_pieces form.FromEnding t = token.closes (ending_of_attributes (out-Node t)) ∷ []
 form_pieces f t = text_pieces f t

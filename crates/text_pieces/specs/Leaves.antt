@@ -132,6 +132,17 @@ is_declaration_of None = false
 abbrev pub is_declaration_at : List Node → ℕ → Bool
 is_declaration_at ts n = is_declaration_of (slice_get ts n)
 
+abbrev pub is_expression_statement : Node-F Node → Bool
+is_expression_statement (Node-F.Tree kind.ExprStmt ts) = true
+is_expression_statement _ = false
+
+abbrev pub is_expression_of : Option Node → Bool
+is_expression_of (Some t) = is_expression_statement (out-Node t)
+is_expression_of None = false
+
+abbrev pub is_expression_at : List Node → ℕ → Bool
+is_expression_at ts n = is_expression_of (slice_get ts n)
+
 abbrev pub is_lone_of : Option Node → Bool
 is_lone_of (Some t) = is_some (lone_name (out-Node t))
 is_lone_of None = false

@@ -14,7 +14,7 @@ use Rattle.text_pieces.specs.declared.walk.Many.{Many}
 use Rattle.text_pieces.specs.declared.walk.Many.TheVariants as many
 use Rattle.text_pieces.specs.Forms.{form_pieces, piece_of_word, when, word_piece}
 use Rattle.text_pieces.specs.Layouts.{apart_layout_of, layout_of}
-use Rattle.text_pieces.specs.Leaves.{is_declaration_at, is_lone_at, is_named, is_set_at, items_of, text_at}
+use Rattle.text_pieces.specs.Leaves.{is_declaration_at, is_expression_at, is_lone_at, is_named, is_set_at, items_of, text_at}
 use Rattle.text_pieces.specs.Tokens.{Piece, closes, ends, gap, here, may_comma, name, never, punctuator, quoted, regex, template as template_text}
 
 -- a node with what it is written with, and with that where its parent writes something of it; of a list, the items and
@@ -130,6 +130,7 @@ item_pieces ts es (item.Sign m) = punctuator m ∷ []
 item_pieces ts es (item.Word k) = word_piece k ∷ []
 item_pieces ts es (item.Part n) = pieces_in (slice_get es n)
 item_pieces ts es (item.Head n) = chosen (is_declaration_at ts n) (slice_get es n)
+item_pieces ts es (item.Body n) = chosen (is_expression_at ts n) (slice_get es n)
 item_pieces ts es (item.Apart n m) = chosen (is_set_at ts n) (slice_get es m)
 item_pieces ts es (item.If n m) = if is_set_at ts n then pieces_in (slice_get es m) else []
 item_pieces ts es (item.Unless n m) = if not (is_set_at ts n) then pieces_in (slice_get es m) else []

@@ -276,7 +276,7 @@ pub(crate) fn add_form<'a>(
         Form::Braces => add_braces(node, found),
         Form::BlockEnding => push_if(found, is_block(node), Piece::Closes(Ending::Closed)),
         Form::KeyEnding => push(found, Piece::Closes(ending_of_key(node))),
-        Form::LetEnding => push_if(found, is_identifier_let(node), Piece::Closes(Ending::Any)),
+        Form::LetEnding => push_if(found, is_identifier_let(node), Piece::Closes(Ending::Let)),
         Form::FromEnding => push(found, Piece::Closes(ending_of_attributes(node))),
     }
 }

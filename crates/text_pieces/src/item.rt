@@ -19,7 +19,9 @@ pub enum Ending {
     Field,
     /// As a field that is called `get` or `set`: with all but `*`.
     Accessor,
-    /// With all that may follow, as `let`.
+    /// As `let` in a list of statements: as an expression, or with what it would declare.
+    Let,
+    /// As a field that is called `static`: with all that may follow.
     Any,
     /// As `do ; while (a)`: with nothing, and no line has to end behind it.
     Loop,
@@ -70,7 +72,7 @@ pub enum Form {
     BlockEnding,
     /// What ends at the key of a field.
     KeyEnding,
-    /// What ends at `let` alone.
+    /// What ends at `let` alone, where a declaration may stand.
     LetEnding,
     /// What ends at the attributes of an import, or before them.
     FromEnding,
@@ -85,6 +87,8 @@ pub enum Item {
     Part(usize),
     /// A field as it stands at the head of a `for`.
     Head(usize),
+    /// A statement where no declaration by `let` may stand.
+    Body(usize),
     /// Where the first field is set, the second as its parent has it apart; else as it is written.
     Apart(usize, usize),
     /// The second field where the first is set.

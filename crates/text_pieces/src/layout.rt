@@ -352,7 +352,7 @@ pub fn layout_of(kind: Kind) -> &'static [Item]
             Item::Sign(Mark::LeftParen),
             Item::Part(1),
             Item::Sign(Mark::RightParen),
-            Item::Part(2),
+            Item::Body(2),
         ],
         Kind::ReturnStmt => &[
             Item::Word(Keyword::Return),
@@ -367,15 +367,15 @@ pub fn layout_of(kind: Kind) -> &'static [Item]
             Item::Part(1),
             Item::End,
         ],
-        Kind::LabeledStmt => &[Item::Part(1), Item::Sign(Mark::Colon), Item::Part(2)],
+        Kind::LabeledStmt => &[Item::Part(1), Item::Sign(Mark::Colon), Item::Body(2)],
         Kind::IfStmt => &[
             Item::Word(Keyword::If),
             Item::Sign(Mark::LeftParen),
             Item::Part(1),
             Item::Sign(Mark::RightParen),
-            Item::Part(2),
+            Item::Body(2),
             Item::Of(3, Form::WordIf(Keyword::Else)),
-            Item::Part(3),
+            Item::Body(3),
         ],
         Kind::SwitchStmt => &[
             Item::Word(Keyword::Switch),
@@ -416,11 +416,11 @@ pub fn layout_of(kind: Kind) -> &'static [Item]
             Item::Sign(Mark::LeftParen),
             Item::Part(1),
             Item::Sign(Mark::RightParen),
-            Item::Part(2),
+            Item::Body(2),
         ],
         Kind::DoWhileStmt => &[
             Item::Word(Keyword::Do),
-            Item::Part(1),
+            Item::Body(1),
             Item::Word(Keyword::While),
             Item::Sign(Mark::LeftParen),
             Item::Part(2),
@@ -437,7 +437,7 @@ pub fn layout_of(kind: Kind) -> &'static [Item]
             Item::Sign(Mark::Semicolon),
             Item::Part(3),
             Item::Sign(Mark::RightParen),
-            Item::Part(4),
+            Item::Body(4),
         ],
         Kind::ForInStmt => &[
             Item::Word(Keyword::For),
@@ -446,7 +446,7 @@ pub fn layout_of(kind: Kind) -> &'static [Item]
             Item::Word(Keyword::In),
             Item::Part(2),
             Item::Sign(Mark::RightParen),
-            Item::Part(3),
+            Item::Body(3),
         ],
         Kind::ForOfStmt => &[
             Item::Word(Keyword::For),
@@ -456,7 +456,7 @@ pub fn layout_of(kind: Kind) -> &'static [Item]
             Item::Word(Keyword::Of),
             Item::Part(3),
             Item::Sign(Mark::RightParen),
-            Item::Part(4),
+            Item::Body(4),
         ],
         _ => &[Item::Never],
     }
@@ -490,6 +490,7 @@ pub fn apart_layout_of(kind: Kind) -> &'static [Item]
             Item::Here,
             Item::List(2),
         ],
+        Kind::ExprStmt => &[Item::Part(1), Item::End],
         _ => layout_of(kind),
     }
 }

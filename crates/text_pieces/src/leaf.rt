@@ -219,6 +219,25 @@ pub(crate) fn is_declaration_at(fields: &[Node], n: usize) -> bool
     }
 }
 
+fn is_expression_statement(node: &Node) -> bool
+    ensures { result ≡ spec.is_expression_statement (out-Node node.now) }
+{
+    match node {
+        Node::Tree(kind, _) => matches!(kind, Kind::ExprStmt),
+        _ => false,
+    }
+}
+
+/// Whether a field is an expression as a statement.
+pub(crate) fn is_expression_at(fields: &[Node], n: usize) -> bool
+    ensures { result ≡ spec.is_expression_at fields.now n }
+{
+    match field_at(fields, n) {
+        Some(node) => is_expression_statement(node),
+        None => false,
+    }
+}
+
 /// Whether a field is a list of one plain name.
 pub(crate) fn is_lone_at(fields: &[Node], n: usize) -> bool
     ensures { result ≡ spec.is_lone_at fields.now n }

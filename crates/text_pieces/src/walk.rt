@@ -10,7 +10,8 @@ use crate::item::{Form, Item};
 use crate::keyword::keyword_text;
 use crate::layout::{apart_layout_of, layout_of};
 use crate::leaf::{
-    field_at, is_declaration_at, is_lone_at, is_named, is_set_at, items_of, text_at,
+    field_at, is_declaration_at, is_expression_at, is_lone_at, is_named, is_set_at, items_of,
+    text_at,
 };
 use crate::piece::{Gap, Piece};
 use std::alloc::{AllocError, Global};
@@ -346,6 +347,7 @@ fn add_item<'a>(
         Item::Of(n, form) => add_of(fields, n, form, found),
         Item::List(n) => add_items(fields, n, &[], Many::List, found),
         Item::Head(n) => add_chosen(is_declaration_at(fields, n), fields, n, found),
+        Item::Body(n) => add_chosen(is_expression_at(fields, n), fields, n, found),
         Item::Apart(n, m) => add_chosen(is_set_at(fields, n), fields, m, found),
         Item::If(n, m) => add_part_if(is_set_at(fields, n), fields, m, found),
         Item::Unless(n, m) => add_part_if(!is_set_at(fields, n), fields, m, found),

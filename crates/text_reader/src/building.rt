@@ -8,7 +8,7 @@ use swc_tree_marks::{Ident, Span, SyntaxContext};
 use swc_tree_node::{Kind, Node, Word};
 use text_lexer::Token;
 use text_strings::Reading;
-use text_values::{CookError, Flaw, cook, make_raw};
+use text_values::{CookError, Flaw, cook, cooks_to, make_raw};
 
 /// A place in a tree: bytes from 1, since a span of 0 and 0 is that of what stands nowhere.
 pub fn place(at: usize) -> u32 {
@@ -159,6 +159,14 @@ impl<'a> Parser<'a> {
                 at: self.start(),
                 expected: Expected::Name,
             })
+        }
+    }
+
+    /// Whether a name with escapes stands here that is read so.
+    pub fn is_escaped(&self, name: &str) -> bool {
+        match self.token() {
+            Token::EscapedName(raw) => { cooks_to(Reading::Quoted, raw, name.as_bytes()) }
+            _ => false,
         }
     }
 
@@ -405,6 +413,16 @@ impl<'a> Parser<'a> {
     pub fn is_at(&self, before: usize, kind: Kind) -> bool {
         match self.nodes.get(before) {
             Some(Node::Tree(other, _)) => *other == kind,
+            _ => false,
+        }
+    }
+
+    /// Whether the last node is a name that may be bound and referred to here.
+    pub fn is_last_name(&self) -> bool {
+        match self.nodes.last() {
+            Some(Node::Identifier(_, ident)) => {
+                self.may_be_name(keyword_of(ident.get().sym.as_str().as_bytes()))
+            }
             _ => false,
         }
     }

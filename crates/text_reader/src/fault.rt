@@ -29,7 +29,7 @@ pub enum Expected {
     Semicolon,
     /// What a declaration here has to begin with.
     Initializer,
-    /// As many parameters or arguments as may stand here.
+    /// Other parameters or arguments: as many as may stand here, or plain names before `"use strict"`.
     Parameters,
     /// The end of the text.
     End,
@@ -48,7 +48,7 @@ impl Expected {
             Expected::Target => "something to assign to or to bind",
             Expected::Semicolon => "a semicolon or the end of the line",
             Expected::Initializer => "`=` and a value",
-            Expected::Parameters => "another number of parameters or arguments",
+            Expected::Parameters => "other parameters or arguments",
             Expected::End => "the end of the text",
         }
     }
@@ -130,8 +130,8 @@ pub enum TextFault {
     /// It has too many bytes for the places in a tree, which go up to 2 ^ 32 - 1.
     #[error("too long")]
     TooLong,
-    /// What was read is not what the text says: a fault of the reader, which a check has found. The parser alone
-    /// never answers it.
+    /// What was read is not what the text says, or no program: a fault of the reader, which a check has found. The parser
+    /// alone never answers it.
     #[error("a fault of the reader, not of the text: what was read is not what the text says")]
     NotTheText,
 }

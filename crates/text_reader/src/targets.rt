@@ -44,6 +44,43 @@ fn directive_in(string: &[Node]) -> Directive {
     }
 }
 
+fn last_two(nodes: &[Node]) -> (Option<&Node>, Option<&Node>) {
+    (nodes.get(nodes.len().saturating_sub(2)), nodes.last())
+}
+
+// Whether a body has the directive, among those that lead it.
+fn makes_strict(body: Option<&Node>) -> bool {
+    let Some(Node::Tree(Kind::BlockStmt, fields)) = body else {
+        return false;
+    };
+    let Some(Node::List(statements)) = fields.get(1) else {
+        return false;
+    };
+    for statement in statements.as_slice() {
+        match directive_of(Some(statement)) {
+            Directive::None => return false,
+            Directive::UseStrict => return true,
+            Directive::Other | Directive::Escaped => (),
+        }
+    }
+    false
+}
+
+fn is_plain(parameter: &Node) -> bool {
+    match parameter {
+        Node::Identifier(_, _) => true,
+        Node::Tree(Kind::Param, fields) => matches!(fields.get(1), Some(Node::Identifier(_, _))),
+        _ => false,
+    }
+}
+
+fn are_plain(parameters: Option<&Node>) -> bool {
+    match parameters {
+        Some(Node::List(items)) => items.as_slice().iter().all(|item| is_plain(item)),
+        _ => false,
+    }
+}
+
 fn is_spread(argument: &Node) -> bool {
     match argument {
         Node::Tree(_, fields) => !matches!(fields.get(0), Some(Node::Absent)),
@@ -195,6 +232,35 @@ impl<'a> Parser<'a> {
 
     fn may_have_value(&self) -> bool {
         !self.context.is_strict && self.is_keyword(Keyword::In)
+    }
+
+    /// Sees to it that a loop over values does not begin with the name `async`, which is written with an escape: the tree would
+    /// say `async of`, which no such loop begins with (ECMA-262, 14.7.5).
+    pub fn end_head_of(&self, head: usize, is_await: bool) -> Result<(), TextFault> {
+        match self.nodes.last() {
+            Some(Node::Identifier(_, ident)) if !is_await && ident.get().sym.as_str() == "async" =>
+                {
+                    Err(TextFault::Unexpected {
+                        at: head,
+                        expected: Expected::Target,
+                    })
+                }
+            _ => Ok(()),
+        }
+    }
+
+    /// Sees to it that parameters are plain names where the body behind them, the last node, has the directive (ECMA-262, 15.1.1);
+    /// where the function begins is told.
+    pub fn expect_plain_parameters(&self, at: usize) -> Result<(), TextFault> {
+        let (parameters, body) = last_two(self.nodes.as_slice());
+        if makes_strict(body) && !are_plain(parameters) {
+            Err(TextFault::Unexpected {
+                at,
+                expected: Expected::Parameters,
+            })
+        } else {
+            Ok(())
+        }
     }
 
     /// Sees to it that what a loop with semicolons begins with may stand there.

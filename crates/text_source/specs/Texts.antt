@@ -5,6 +5,7 @@ use Rattle.swc_tree_node.specs.declared.kind.Class.{Class}
 use Rattle.swc_tree_node.specs.declared.kind.Class.TheVariants as class
 use Rattle.swc_tree_node.specs.declared.node.Node.{Node}
 use Rattle.swc_tree_node.specs.declared.slot.Content.TheVariants as content
+use Rattle.swc_tree_node.specs.declared.slot.Slot.{Slot}
 use Rattle.swc_tree_node.specs.declared.slot.Slot.TheVariants as slot
 use Rattle.swc_tree_node.specs.Fits.{Fits}
 use Rattle.text_follow.specs.Follows.{Follows}
@@ -22,6 +23,10 @@ abbrev pub class_of : Goal → Class
 class_of goal.Module = class.Module
 class_of goal.Script = class.Script
 
+-- the place that a program has
+abbrev pub slot_of : Goal → Slot
+slot_of g = slot.One (content.Node (class_of g))
+
 -- the comments that they may have (ECMA-262, 12.4 and B.1.1)
 abbrev pub comments_of : Goal → Comments
 comments_of goal.Module = comments.Module
@@ -31,7 +36,7 @@ comments_of goal.Script = comments.Script
 -- them, and the text is written with just its tokens, but for what no tree tells.
 pub record IsTextOf (g : Goal) (tree : Node) (text : List ℕ) : Type 0 where
   pub utf8 : IsUtf8 text
-  pub fits : Fits tree (slot.One (content.Node (class_of g)))
+  pub fits : Fits tree (slot_of g)
   pub follows : Follows (comments_of g) true (pieces tree) text
 
 -- as many bytes as a text may have, at most: a tree's places go up to 2 ^ 32 - 1, and begin with 1

@@ -4,6 +4,7 @@ ghost use Rattle.std.specs.Str.Lossy.{utf8_valid_len};
 ghost use Rattle.swc_tree_node.specs.declared.slot.Content.TheVariants as content;
 ghost use Rattle.swc_tree_node.specs.declared.slot.Slot.TheVariants as slot;
 ghost use Rattle.swc_tree_node.specs.Fits.{Fits};
+ghost use Rattle.text_checks.specs.Checked.{IsWellFormed};
 ghost use Rattle.text_follow.specs.Follows.{Follows};
 ghost use Rattle.text_pieces.specs.Tokens.{piece_view};
 ghost use Rattle.text_reader.specs.declared.fault.TextFault.TheVariants as fault;
@@ -14,6 +15,7 @@ ghost use Rattle.text_spans.specs.Leaves.{LeavesStand};
 use std::alloc::{AllocError, Global};
 use std::str;
 use swc_tree_node::{Class, Content, Node, Slot};
+use text_checks::check_tree;
 use text_follow::follows;
 use text_lexer::Comments;
 use text_parser::{Goal, TextFault, parse};
@@ -42,10 +44,26 @@ fn comments_of(goal: Goal) -> Comments
     }
 }
 
-fn stands(goal: Goal, tree: &Node) -> bool
-    ensures { IsTrue result → Fits tree.now (slot.One (content.Node (spec.class_of goal))) }
+fn slot_of(goal: Goal) -> Slot
+    ensures { result ≡ spec.slot_of goal }
 {
-    fits(tree, Slot::One(Content::Node(class_of(goal))))
+    Slot::One(Content::Node(class_of(goal)))
+}
+
+fn stands(goal: Goal, tree: &Node) -> bool
+    ensures { IsTrue result → Fits tree.now (spec.slot_of goal) }
+{
+    fits(tree, slot_of(goal))
+}
+
+// Whether a text can have the tree at all: the table, lengths, leaves and the grammar.
+fn is_formed(goal: Goal, tree: &Node) -> bool
+    ensures { IsTrue result → IsWellFormed (spec.slot_of goal) tree.now }
+{
+    match check_tree(slot_of(goal), tree) {
+        Ok(()) => true,
+        Err(_) => false,
+    }
 }
 
 fn is_written(goal: Goal, text: &[u8], pieces: &[Piece<'_>]) -> bool
@@ -54,17 +72,27 @@ fn is_written(goal: Goal, text: &[u8], pieces: &[Piece<'_>]) -> bool
     follows(comments_of(goal), true, text, pieces)
 }
 
+// Whether a text in UTF-8 is that of a tree that fits.
+fn has_tokens(alloc: Global, goal: Goal, tree: &Node, text: &[u8]) -> Result<bool, AllocError>
+    requires utf8 { IsUtf8 text.now }
+    requires fits { Fits tree.now (spec.slot_of goal) }
+    ensures { IfOk result (λ yes. IsTrue yes → IsTextOf goal tree.now text.now) }
+{
+    let found = pieces(alloc, tree)?;
+    if is_written(goal, text, &found) {
+        Ok(true)
+    } else {
+        Ok(false)
+    }
+}
+
 // The same of a text that is in UTF-8.
 fn says(alloc: Global, goal: Goal, tree: &Node, text: &[u8]) -> Result<bool, AllocError>
     requires { IsUtf8 text.now }
     ensures { IfOk result (λ yes. IsTrue yes → IsTextOf goal tree.now text.now) }
 {
-    if !stands(goal, tree) {
-        return Ok(false);
-    }
-    let found = pieces(alloc, tree)?;
-    if is_written(goal, text, &found) {
-        Ok(true)
+    if stands(goal, tree) {
+        has_tokens(alloc, goal, tree, text)
     } else {
         Ok(false)
     }
@@ -144,14 +172,19 @@ fn stand(tree: &Node, text: &[u8]) -> bool
     leaves_stand(tree, text)
 }
 
-// What was read, if it is what the text says.
+// What was read, if it is a program, and what the text says.
+#[tactic(auto, using(crate::proofs::Formed::fits_of))]
 fn held(alloc: Global, goal: Goal, tree: Node, text: &[u8]) -> Result<Node, TextFault>
     requires { IsUtf8 text.now }
     ensures tree { IfOk result (λ read. IsTextOf goal read text.now) }
+    ensures formed { IfOk result (IsWellFormed (spec.slot_of goal)) }
     ensures leaves { IfOk result (LeavesStand text.now) }
     ensures refusal { IfErr result (Tells text.now) }
 {
-    match says(alloc, goal, &tree, text) {
+    if !is_formed(goal, &tree) {
+        return Err(TextFault::NotTheText);
+    }
+    match has_tokens(alloc, goal, &tree, text) {
         Ok(is_said) => {
             if is_said && stand(&tree, text) {
                 Ok(tree)
@@ -166,6 +199,7 @@ fn held(alloc: Global, goal: Goal, tree: Node, text: &[u8]) -> Result<Node, Text
 fn read_utf8(alloc: Global, goal: Goal, depth: u32, text: &[u8]) -> Result<Node, TextFault>
     requires { IsUtf8 text.now }
     ensures tree { IfOk result (λ read. IsTextOf goal read text.now) }
+    ensures formed { IfOk result (IsWellFormed (spec.slot_of goal)) }
     ensures leaves { IfOk result (LeavesStand text.now) }
     ensures refusal { IfErr result (Tells text.now) }
 {
@@ -181,8 +215,8 @@ fn read_utf8(alloc: Global, goal: Goal, depth: u32, text: &[u8]) -> Result<Node,
 /// may stand one in another. A program's stack of 8 MB bears 10,000.
 ///
 /// What is answered is what the text says: its tokens are those of the tree, one after another, and nothing else stands there
-/// but blanks, comments, and what no tree tells. Each name, key, number and string stands where its span says. That the grammar
-/// derives the tree so is not proved yet, nor are the spans of other nodes.
+/// but blanks, comments, and what no tree tells; and the grammar derives the tree as it stands. Each name, key, number and
+/// string stands where its span says. The spans of other nodes are not proved yet.
 ///
 /// # Errors
 ///
@@ -191,6 +225,7 @@ fn read_utf8(alloc: Global, goal: Goal, depth: u32, text: &[u8]) -> Result<Node,
 /// nothing about it, so far as it is proved.
 pub fn read_text(alloc: Global, goal: Goal, depth: u32, text: &[u8]) -> Result<Node, TextFault>
     ensures tree { IfOk result (λ tree. IsTextOf goal tree text.now) }
+    ensures formed { IfOk result (IsWellFormed (spec.slot_of goal)) }
     ensures leaves { IfOk result (LeavesStand text.now) }
     ensures refusal { IfErr result (Tells text.now) }
     ensures too_long { most_bytes < length text.now → result ≡ Err fault.TooLong }

@@ -1,16 +1,20 @@
 //! Leaves of a tree, and the bytes of a text at their spans.
-ghost use Rattle.std.specs.Prelude.{◌≡◌, drop, take};
+ghost use Rattle.std.specs.Prelude.{◌≡◌, Some, codes, drop, length, take};
 ghost use Rattle.std.specs.Option.{option_copied};
+ghost use Rattle.swc_tree_grammar.specs.Forms.{holds as is_held};
 ghost use Rattle.swc_tree_grammar.specs.Levels.{is_absent as is_nothing};
 ghost use Rattle.swc_tree_node.specs.declared.node.Node.TheOpen.{Node-F};
 ghost use Rattle.swc_tree_node.specs.Parts.{span_of, text_of};
 ghost use Rattle.text_spans.specs.Leaves as spec;
 
 use swc_tree_marks::Span;
-use swc_tree_node::fields::{big_int, ident_name, number, private_name, str};
+use swc_tree_node::fields::{
+    big_int, bool as boolean, empty_stmt, ident_name, import, null, number, private_name, regex,
+    str, super_, this_expr, tpl_element,
+};
 use swc_tree_node::{Kind, Node};
 use text_strings::Reading;
-use text_values::cooks_to;
+use text_values::{cooks_to, raw_is};
 
 #[tactic(auto, using(std::proofs::lemmas::List::drop_min))]
 fn behind(text: &[u8], n: usize) -> &[u8]
@@ -93,13 +97,104 @@ fn is_written_there(text: &[u8], span: &Node, written: &Node) -> bool
     }
 }
 
+fn template_stands(text: &[u8], span: Span, raw: &str) -> bool
+    ensures { result ≡ spec.template_stands text.now span raw.now }
+{
+    0 < span.lo && raw_is(bytes_at(text, span), raw.as_bytes())
+}
+
+fn is_template_there(text: &[u8], span: &Node, raw: &Node) -> bool
+    ensures { result ≡ spec.is_there (spec.template_stands text.now) (span_of span.now) (text_of raw.now) }
+{
+    match (span.as_span(), raw.as_text()) {
+        (Some(span), Some(raw)) => template_stands(text, span, raw),
+        _ => false,
+    }
+}
+
+fn begins(part: &str, bytes: &[u8]) -> bool
+    ensures { result ≡ spec.begins part.now bytes.now }
+{
+    front(bytes, part.len()) == part.as_bytes()
+}
+
+fn is_regex(pattern: &str, flags: &str, bytes: &[u8]) -> bool
+    ensures { result ≡ spec.is_regex pattern.now flags.now bytes.now }
+{
+    let inner = behind(bytes, 1);
+    let close = behind(inner, pattern.len());
+    begins("/", bytes)
+        && (begins(pattern, inner) && (begins("/", close) && behind(close, 1) == flags.as_bytes()))
+}
+
+fn is_regex_there(text: &[u8], span: &Node, pattern: &Node, flags: &Node) -> bool
+    ensures { result ≡ spec.regex_stands text.now (span_of span.now) (text_of pattern.now) (text_of flags.now) }
+{
+    match (span.as_span(), pattern.as_text(), flags.as_text()) {
+        (Some(span), Some(pattern), Some(flags)) => {
+            0 < span.lo && is_regex(pattern, flags, bytes_at(text, span))
+        }
+        _ => false,
+    }
+}
+
+fn is_word_there(text: &[u8], word: &str, span: &Node) -> bool
+    ensures { result ≡ spec.word_stands text.now word.now span.now }
+{
+    match span.as_span() {
+        Some(span) => written_stands(text, span, word),
+        None => false,
+    }
+}
+
+fn is_set(node: &Node) -> bool
+    ensures { result ≡ is_held node.now }
+{
+    match node {
+        Node::Flag(flag) => *flag,
+        _ => false,
+    }
+}
+
+fn truth<'a>(value: bool) -> &'a str
+    ensures { result.now ≡ spec.truth value }
+{
+    if value { "true" } else { "false" }
+}
+
+// Whether a tree is one word or sign that stands elsewhere than it says.
+fn is_misplaced_word(text: &[u8], kind: Kind, fields: &[Node]) -> bool
+    ensures { result ≡ spec.is_misplaced_word text.now (Node-F.Tree kind fields.now) }
+{
+    match kind {
+        Kind::ThisExpr if fields.len() == 1 => !is_word_there(
+            text,
+            "this",
+            &fields[this_expr::SPAN],
+        ),
+        Kind::Super if fields.len() == 1 => !is_word_there(text, "super", &fields[super_::SPAN]),
+        Kind::Import if fields.len() == 1 => !is_word_there(text, "import", &fields[import::SPAN]),
+        Kind::Null if fields.len() == 1 => !is_word_there(text, "null", &fields[null::SPAN]),
+        Kind::EmptyStmt if fields.len() == 1 => !is_word_there(
+            text,
+            ";",
+            &fields[empty_stmt::SPAN],
+        ),
+        Kind::Bool if fields.len() == 2 => {
+            let word = truth(is_set(&fields[boolean::VALUE]));
+            !is_word_there(text, word, &fields[boolean::SPAN])
+        }
+        _ => false,
+    }
+}
+
 fn is_absent(node: &Node) -> bool
     ensures { result ≡ is_nothing node.now }
 {
     matches!(node, Node::Absent)
 }
 
-/// Whether a tree is a key, a number or a string that stands elsewhere than it says.
+/// Whether a tree is a leaf that stands elsewhere than it says.
 pub fn is_misplaced(text: &[u8], kind: Kind, fields: &[Node]) -> bool
     ensures { result ≡ spec.is_misplaced text.now (Node-F.Tree kind fields.now) }
 {
@@ -122,6 +217,15 @@ pub fn is_misplaced(text: &[u8], kind: Kind, fields: &[Node]) -> bool
             !is_absent(&fields[str::RAW])
                 && !is_written_there(text, &fields[str::SPAN], &fields[str::RAW])
         }
-        _ => false,
+        Kind::Regex if fields.len() == 3 => !is_regex_there(
+            text,
+            &fields[regex::SPAN],
+            &fields[regex::EXP],
+            &fields[regex::FLAGS],
+        ),
+        Kind::TplElement if fields.len() == 4 => {
+            !is_template_there(text, &fields[tpl_element::SPAN], &fields[tpl_element::RAW])
+        }
+        kind => is_misplaced_word(text, kind, fields),
     }
 }

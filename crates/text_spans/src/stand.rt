@@ -29,7 +29,8 @@ impl Finder for Misplaced<'_> {
     }
 }
 
-/// Whether each name, key, number and string of a tree stands in a text at its span, as it is spelled there.
+/// Whether each leaf of a tree stands in a text at its span, as it is spelled there: names, keys, literals, texts of templates, and
+/// words alone.
 ///
 /// It takes no memory, and looks at each node once; the time is in step with the size of the tree.
 pub fn leaves_stand(tree: &Node, text: &[u8]) -> bool

@@ -1,6 +1,7 @@
 use Rattle.std.proofs.Common.{subst, sym}
 use Rattle.text_parser.specs.declared.programs.Goal.TheVariants as variant
-use Rattle.text_source.specs.Texts.{IsTextOf}
+use Rattle.text_checks.specs.Checked.{IsWellFormed}
+use Rattle.text_source.specs.Texts.{IsTextOf, slot_of}
 use Rattle.text_spans.specs.Leaves.{LeavesStand}
 use Rattle.text_modules.proofs.read.read_module.Goals as goal
 
@@ -9,6 +10,9 @@ from_node-requires c = c.in-Ok.ensures.tree.fits
 
 pub returns-in-Ok-clause-tree : goal.returns-in-Ok-clause-tree
 returns-in-Ok-clause-tree c = subst (λ t. IsTextOf variant.Module t c.args.text.now) (sym c.from_node.ensures) c.in-Ok.ensures.tree
+
+pub returns-in-Ok-clause-formed : goal.returns-in-Ok-clause-formed
+returns-in-Ok-clause-formed c = subst (IsWellFormed (slot_of variant.Module)) (sym c.from_node.ensures) c.in-Ok.ensures.formed
 
 pub returns-in-Ok-clause-leaves : goal.returns-in-Ok-clause-leaves
 returns-in-Ok-clause-leaves c = subst (LeavesStand c.args.text.now) (sym c.from_node.ensures) c.in-Ok.ensures.leaves
