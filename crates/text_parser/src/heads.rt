@@ -25,7 +25,7 @@ fn is_used(next: Next<'_>, in_head: bool) -> bool {
 }
 
 /// Whether what stands behind `let` is what it declares.
-fn is_let(next: Next<'_>) -> bool {
+pub(crate) fn is_let(next: Next<'_>) -> bool {
     match next.token {
         Token::EscapedName(_) => true,
         Token::Name(_) => { !matches!(next.keyword, Some(Keyword::In | Keyword::InstanceOf)) }

@@ -1,7 +1,7 @@
 //! Statements (ECMA-262, 14).
 use crate::expressions::{parse_assignment, parse_expression};
 use crate::functions::{parse_binding, parse_class, parse_function};
-use crate::heads::{declares, parse_for, parse_variables};
+use crate::heads::{declares, is_let, parse_for, parse_variables};
 use crate::steps::{Place, Run, Step, kind_of_word, steps_of};
 use swc_tree_node::Kind;
 use text_lexer::{Mark, Token};
@@ -126,14 +126,15 @@ pub(crate) fn parse_statement(
     p.end_covers(covers)
 }
 
-/// An expression as a statement, or a statement with a label.
+/// An expression as a statement, or a statement with a label. The name `let` that is written with an escape does not stand
+/// before what it would declare, since no tree tells the escape.
 #[cycle(parse)]
 fn parse_expression_statement(p: &mut Parser<'_>, depth: u32) -> Result<(), TextFault> {
     if depth == 0 {
         return Err(p.too_deep());
     }
     let (start, before) = (p.start(), p.count());
-    if p.is_escaped("let") && is_mark(p.peek().token, Mark::LeftBracket) {
+    if p.is_escaped("let") && is_let(p.peek()) {
         return p.unexpected(Expected::Statement);
     }
     parse_expression(p, depth - 1)?;
