@@ -7,7 +7,7 @@ use Rattle.std.proofs.lemmas.Bool.Decides.{nat_tests}
 use Rattle.std.proofs.lemmas.List.Folds.{list_all-append}
 use Rattle.std.proofs.lemmas.Slice.Eq.{bytes_eq-Decides}
 use Rattle.swc_tree_grammar.specs.Writable.{begins_name, is_digit, is_identifier_text, is_letter, reserved}
-use Rattle.swc_base_rename_short_texts.specs.ShortTexts.{character, past, place, place_from, rank, short_text, text_at_place, withheld}
+use Rattle.swc_base_rename_short_texts.specs.ShortTexts.{before, character, past, place, place_from, rank, short_text, text_at_place, withheld}
 
 or_false : (a b : Bool) → a ≡ false → b ≡ false → (a || b) ≡ false
 or_false a b p q = ap (λ x. x || b) p ∙ q
@@ -123,8 +123,44 @@ past-misses from (q ∷ qs) p h =
           ap (λ i. list_any (λ q. q == i) (q ∷ qs)) after.1 ∙ or_false _ _ other (lies_before (q + 1) qs parts.1 p (omega (arith, after.0)))
     ]
 
+before_cases : (q : ℕ) (qs : List ℕ) (p : ℕ) → ((q < p) × (before (q ∷ qs) p ≡ suc (before qs p))) ⊎ ((p ≤ q) × (before (q ∷ qs) p ≡ before qs p))
+before_cases q qs p = grind (arith, nat_tests)
+
+none_before : (from : ℕ) (qs : List ℕ) (p : ℕ) → rise from qs ≡ true → p ≤ from → before qs p ≡ 0
+none_before from [] p h near = refl
+none_before from (q ∷ qs) p h near =
+    let parts = and_parts (nat_le from q) (rise (q + 1) qs) h in
+    let reached : from ≤ q = grind (arith, nat_tests, parts.0) in
+    elim (before_cases q qs p) [
+      | inl far ↦ absurd (omega (arith, near, reached, far.0))
+      | inr close ↦ close.1 ∙ none_before (q + 1) qs p parts.1 (omega (arith, near, reached))
+    ]
+
+-- where a place is past so many, it is told by those before it
+past-before : (from : ℕ) (qs : List ℕ) (n : ℕ) → rise from qs ≡ true → past qs n ≡ n + before qs (past qs n)
+past-before from [] n h = omega arith
+past-before from (q ∷ qs) n h =
+    let parts = and_parts (nat_le from q) (rise (q + 1) qs) h in
+    elim (past_cases q qs n) [
+      | inl further ↦
+          let beyond : n + 1 ≤ past qs (n + 1) = past-rises qs (n + 1) in
+          let told : past qs (n + 1) ≡ (n + 1) + before qs (past qs (n + 1)) = past-before (q + 1) qs (n + 1) parts.1 in
+          let counted : before (q ∷ qs) (past qs (n + 1)) ≡ suc (before qs (past qs (n + 1))) = grind (arith, nat_tests, beyond, further.0) in
+          further.1 ∙ told ∙ omega (arith, counted) ∙ ap (λ i. n + before (q ∷ qs) i) (sym further.1)
+      | inr here ↦
+          let none : before (q ∷ qs) n ≡ 0 = grind (arith, nat_tests, here.0, none_before (q + 1) qs n parts.1) in
+          here.1 ∙ omega (arith, none) ∙ ap (λ i. n + before (q ∷ qs) i) (sym here.1)
+    ]
+
 abbrev places : List ℕ
 places = map place withheld
+
+-- the counter that leads to a place
+pub counter_there : (n p : ℕ) → past (map place withheld) n ≡ p → p - before (map place withheld) p ≡ n
+counter_there n p e =
+    let told : past places n ≡ n + before places (past places n) = past-before 0 places n refl in
+    let at : before places (past places n) ≡ before places p = ap (before places) e in
+    omega (arith, told, at, e)
 
 -- whether a text is one of those that are withheld, by its place
 abbrev is_withheld : List ℕ → Bool

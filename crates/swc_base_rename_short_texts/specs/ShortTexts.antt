@@ -38,6 +38,11 @@ abbrev pub past : List ℕ → ℕ → ℕ
 past [] p = p
 past (q ∷ qs) p = if nat_le q p then past qs (p + 1) else p
 
+-- how many of some places lie before another
+abbrev pub before : List ℕ → ℕ → ℕ
+before [] p = 0
+before (q ∷ qs) p = if nat_lt q p then suc (before qs p) else before qs p
+
 -- the text of a counter: that of its place in the list of all without those that are withheld; no counter below 2^64 leads to one of more than
 -- eleven characters
 abbrev pub short_text : ℕ → List ℕ

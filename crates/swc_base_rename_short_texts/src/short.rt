@@ -1,6 +1,6 @@
 //! The short texts, and those of them that ids get.
-ghost use Rattle.std.specs.Prelude.{◌≡◌, ◌<◌, ◌≤◌, [], ◌∷◌, ◌++◌, length, map, string_bytes, IfOk, IfSome, OnOk};
-ghost use Rattle.swc_base_rename_short_texts.specs.ShortTexts.{character as character_at, past as past_places, place as place_of, short_text as text_of, text_at_place, withheld};
+ghost use Rattle.std.specs.Prelude.{◌≡◌, ◌<◌, ◌≤◌, ◌^◌, ℕ, [], ◌∷◌, ◌++◌, Some, length, map, string_bytes, IfOk, IfSome, OnOk};
+ghost use Rattle.swc_base_rename_short_texts.specs.ShortTexts.{before as places_before, character as character_at, past as past_places, place as place_of, short_text as text_of, text_at_place, withheld};
 
 use std::alloc::{AllocError, Global};
 use swc_tree_items::Text;
@@ -121,17 +121,27 @@ fn push_text(text: &mut String, most: usize, place: u128) -> Result<(), AllocErr
     push_character(text, (place - 54) % 64)
 }
 
-/// The counter whose text is at a place of the list of all texts over `a` to `z`, `A` to `Z`, `$`, `_` and, not first, the digits, if that text
-/// is one that ids get.
-pub fn counter_at(place: u128) -> Option<usize>
-    ensures { IfSome result (λ n. past_places (map place_of withheld) n ≡ place) }
+// How many of some places lie before another.
+fn before(taken: &[u128], place: u128) -> usize
+    ensures { result ≡ places_before taken.now place }
 {
-    let mut left = place;
-    for taken in &WITHHELD {
-        if *taken < place {
-            left = left.saturating_sub(1);
+    let mut count = 0;
+    for other in taken {
+        if *other < place {
+            count += 1;
         }
     }
+    count
+}
+
+/// The counter whose text is at a place of the list of all texts over `a` to `z`, `A` to `Z`, `$`, `_` and, not first, the digits, if that text
+/// is one that ids get: there is no other.
+#[tactic(auto, using(crate::specs::ShortLaws::counter_there))]
+pub fn counter_at(place: u128) -> Option<usize>
+    ensures found { IfSome result (λ n. past_places (map place_of withheld) n ≡ place) }
+    ensures each { (n : ℕ) → n < 2 ^ 64 → past_places (map place_of withheld) n ≡ place → result ≡ Some n }
+{
+    let left = place.saturating_sub(before(&WITHHELD, place) as u128);
     let n = usize::try_from(left).ok()?;
     if past(&WITHHELD, n) == place {
         Some(n)
