@@ -106,9 +106,9 @@ OPTIONAL = {'may_comma': [mark('Comma')], 'may_from': [mark('LeftBrace'), mark('
             'may_braces': [mark('Comma'), mark('LeftBrace'), mark('RightBrace')]}
 
 
-def Takes(D, c, soft, fresh, e, p, text):
-    """the rests of a text behind a piece"""
-    piece = word(p)
+def Takes(D, c, soft, before, p, text):
+    """the rests of a text behind a piece; `before` says whether nothing stands before it, and how what stands there ends"""
+    (fresh, e), piece = before, word(p)
     if piece == 'ends':
         return Reads(D, c, fresh, text, mark('Semicolon')) + ([text] if soft and MayInsert(D, c, fresh, e, text) else [])
     if piece in OPTIONAL:
@@ -130,7 +130,7 @@ def places(D, c, soft, ps, text):
     fresh, e, rests, found = True, 'Closed', [text], []
     for p in ps:
         found.append((fresh, e, rests))
-        behind = {len(rest): rest for before in rests for rest in Takes(D, c, soft, fresh, e, p, before)}
+        behind = {len(rest): rest for before in rests for rest in Takes(D, c, soft, (fresh, e), p, before)}
         rests = list(behind.values())
         if not rests:
             return None

@@ -3,7 +3,6 @@
 `others(t)` gives each with a word for what was changed. Most of them are refused by some definition; which are not is what `text_laws.py` asks.
 """
 import js
-import trees
 from trees import ABSENT, SPAN, put, slots
 
 # the field with which an expression begins, and that with which it ends
@@ -180,7 +179,8 @@ def blocks(t):
     if kind(t) == 'ExprStmt' and kind(t[2][1]) == 'ObjectLit' and not t[2][1][2][1][1]:
         yield tree('BlockStmt', SPAN, ('List', ()))
     if kind(t) == 'Constructor':
-        yield tree('ClassMethod', t[2][0], t[2][1], tree('Function', SPAN, t[2][2], t[2][3], ('Flag', False), ('Flag', False)), ('Word', 'Method'), ('Flag', False))
+        function = tree('Function', SPAN, t[2][2], t[2][3], ('Flag', False), ('Flag', False))
+        yield tree('ClassMethod', t[2][0], t[2][1], function, ('Word', 'Method'), ('Flag', False))
     if kind(t) == 'ClassMethod' and t[2][3:] == (('Word', 'Method'), ('Flag', False)):
         yield tree('Constructor', t[2][0], t[2][1], t[2][2][2][1], t[2][2][2][2])
 

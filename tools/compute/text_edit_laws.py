@@ -16,7 +16,7 @@ def way_through(c, ps, text):
         if i == len(ps):
             left = D.all.text_lexer.Blanks.blank(c, fresh, before)
             return [(None, fresh, before, ())] if left is not None and left[0][1] == () else None
-        for rest in Takes(D.all, c, True, fresh, e, ps[i], before):
+        for rest in Takes(D.all, c, True, (fresh, e), ps[i], before):
             found = walk(i + 1, D.all.text_follow.Follows.fresh_behind(fresh, ps[i]), D.all.text_follow.Endings.ending_behind(e, ps[i]), rest)
             if found is not None:
                 return [(ps[i], fresh, before, rest)] + found

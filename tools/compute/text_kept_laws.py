@@ -80,11 +80,6 @@ def any_source(random, size):
 
 
 # ------------------------------------------------------------------------------------------------- new names
-def may_be_named(text):
-    """a text that may be a name: one token, and no reserved word"""
-    return D.all.text_words.Words.is_name(text) and not D.all.text_words.Words.is_reserved(text)
-
-
 NAMES = [js.codes(name) for name in ('a', 'b', 'x', 'a1', '$', 'é', '__proto__', 'let', 'yield', 'await', 'async', 'eval', 'of', 'undefined')]
 OTHERS = [js.codes(name) for name in ('a b', 'if', '', '1a', 'new', 'a-b', '#a', 'class', '\\u0061')]
 

@@ -6,7 +6,6 @@ Of each it says how many programs met what is left, and of how many the law fail
 import argparse
 import time
 
-import following
 import js
 import lawbook
 import lawful_laws
@@ -39,12 +38,13 @@ def unfitting(random, size):
     """pairs round what is no expression, and programs whose nodes stand anywhere"""
     name = ('Identifier', 'Ident', js.REC(span=SPAN[1], ctxt=(), sym=js.codes('a')))
     constructor = tree('Constructor', ABSENT, ABSENT, ABSENT, ABSENT)
+    broken = tree('TplElement', SPAN, ('Flag', True), pair(('Text', js.codes('a'))), ('Text', js.codes('\\u')))
     rest = tree('RestPat', SPAN, pair(tree('ArrayPat', SPAN, ('List', ()))))
     written = [
         script(tree('AssignExpr', SPAN, ('Word', 'Assign'), tree('ObjectPat', SPAN, ('List', (rest,))), name)),
         script(tree('CallExpr', SPAN, pair(tree('Import', SPAN)), ('List', ()))),
         script(tree('ClassExpr', ABSENT, tree('Class', SPAN, ABSENT, ('List', (constructor, pair(constructor)))))),
-        script(tree('Tpl', SPAN, ('List', ()), ('List', (tree('TplElement', SPAN, ('Flag', True), pair(('Text', js.codes('a'))), ('Text', js.codes('\\u'))),))))]
+        script(tree('Tpl', SPAN, ('List', ()), ('List', (broken,))))]
     return random.pick(written) if random.chance(0.1) else kept.any_source(random, size)
 
 
@@ -92,8 +92,8 @@ LAWS = [('passes keep lengths', kept.text_source, LENGTHS, keeps(Shaped, kept.PA
         ('renamed to reserved words', kept.text_source, SPELLINGS, keeps(Spelled, with_texts(['if', 'new', 'class'])), {None: kept.text_source}),
         ('renamed to blanks by a lawful renamer', kept.resolved_source, SPELLINGS, named_by(BLANK), {None: kept.resolved_source}),
         ('a chain answers what has a text', kept.clean_source, SOURCE, may_be_chained,
-         {'fits its place': unfitting, 'writable': kept.text_source, 'derived as it stands': kept.text_source, 'shaped': kept.text_source, 'spelled': kept.text_source,
-          'clean': kept.marked_source, 'no early error of names': kept.text_source})]
+         {'fits its place': unfitting, 'clean': kept.marked_source,
+          **{name: kept.text_source for name in ('writable', 'derived as it stands', 'shaped', 'spelled', 'no early error of names')}})]
 
 
 def tried(name, source, premises, law, options):
@@ -139,7 +139,8 @@ def main():
     for left_out in EXACT:
         others = {premise: asks for premise, asks in EXACT.items() if premise != left_out}
         if left_out != 'well formed':
-            tried('one tree of a text, without: ' + left_out, text_laws.grouped_source, others, one_tree({k: v for k, v in others.items() if k != 'well formed'}), options)
+            besides = {premise: asks for premise, asks in others.items() if premise != 'well formed'}
+            tried('one tree of a text, without: ' + left_out, text_laws.grouped_source, others, one_tree(besides), options)
 
 
 if __name__ == '__main__':

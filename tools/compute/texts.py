@@ -3,6 +3,8 @@
 `with_leaves(random, t)` gives the leaves of a tree other texts; `written(random, t, way)` writes a tree's pieces. No text that is made here is
 trusted to be the tree's: that is asked of `following.py`.
 """
+from collections import namedtuple
+
 import following
 import js
 import trees
@@ -95,12 +97,8 @@ def leafy_source(random, size):
 
 
 # ------------------------------------------------------------------------------------------------------- writing
-class Way:
-    """how a text is written: where line ends, comments and other blanks stand, and what is left out"""
-    def __init__(self, lines=0, blanks=0, abutting=0, semicolons=1, soft=0, escapes=0):
-        self.lines, self.blanks, self.abutting, self.semicolons, self.soft, self.escapes = lines, blanks, abutting, semicolons, soft, escapes
-
-
+# how a text is written: how often line ends and other blanks stand between tokens, and nothing; semicolons, what else may be left out, and escapes
+Way = namedtuple('Way', 'lines blanks abutting semicolons soft escapes', defaults=(0, 0, 0, 1, 0, 0))
 PLAIN = Way()
 LOOSE = Way(lines=0.3, blanks=0.3, abutting=0.5, semicolons=0.5, soft=0.5, escapes=0.2)
 SPACES = [b' ', b'\t', b'\xc2\xa0', b'\xef\xbb\xbf', b'/**/', b'/* a */', b' /* // */']
