@@ -11,7 +11,9 @@ docs/ and tools/ has to be there.
 Words are counted as `wc -w` counts them. Each page but docs/JSON.md, which is printed, has a limit, and all have one together. No cell of a
 table is wider than 300 columns: what is longer is a list.
 
-It also says which crates of crates.txt stand in no room of docs/ARCHITECTURE.md, and which use one that stands in a higher room or behind them in their own."""
+It also says which crates of crates.txt stand in no room of docs/ARCHITECTURE.md, or have no sentence there (examples in docs/EXAMPLES.md), and which use one that
+stands in a higher room or behind them in their own; which words of docs/DEFINITIONS.md have no formal name beside them; and what CHANGELOG.md names that users
+don't see: crates of laws and of the gate, tools, and names that are not public."""
 import glob
 import os
 import re
@@ -30,15 +32,21 @@ NAMED = re.compile(r'(?:\.\./)*((?:bench|docs|tools)/[\w./-]*\w)')
 # How many words a page may have, and all together. docs/JSON.md is printed from tools/tree.txt.
 LIMITS = {
     'README.md': 899, 'CONTRIBUTING.md': 1000, 'CHANGELOG.md': 950,
-    'docs/ARCHITECTURE.md': 2700, 'docs/DECISIONS.md': 2200, 'docs/DEFINITIONS.md': 4850, 'docs/DIFFERENCES.md': 1300, 'docs/EXAMPLES.md': 1200,
-    'docs/LINT.md': 600, 'docs/MEASUREMENTS.md': 1750, 'docs/PERF.md': 850, 'docs/RENAMERS.md': 1000, 'docs/SURFACE.md': 3200, 'docs/VERIFICATION.md': 2400,
-    'tools/compute/README.md': 800, 'tools/js/README.md': 700}
+    'docs/ARCHITECTURE.md': 2700, 'docs/DECISIONS.md': 2200, 'docs/DEFINITIONS.md': 5100, 'docs/DIFFERENCES.md': 1300, 'docs/EXAMPLES.md': 1200,
+    'docs/LINT.md': 600, 'docs/MEASUREMENTS.md': 1750, 'docs/PERF.md': 850, 'docs/RENAMERS.md': 1000, 'docs/SURFACE.md': 3200, 'docs/VERIFICATION.md': 2600,
+    'tools/compute/README.md': 600, 'tools/js/README.md': 600}
 PRINTED = {'docs/JSON.md'}
 ALL = 24000
 WIDEST = 300
 # What begins a room of docs/ARCHITECTURE.md, in 14 columns before its crates, and crates, of which some have names that begin alike.
 ROOM = re.compile(r'^[a-z].{13}', re.M)
 CRATES = re.compile(r'(\w+)_\{([^}]*)\}|(\w+)')
+# A word that docs/DEFINITIONS.md explains, and what is to stand behind it: its name in `specs/` or in the code.
+WORD = re.compile(r'\*\*([^*]+)\*\*')
+FORMAL = re.compile(r'\s+\(`\w')
+# What users of the crates don't see, and what makes a name public: `pub` before it, a member of a public trait or sum, or a word of the JSON form.
+INNER = re.compile(r'(?:tools|bench|\.ci|crates/gate_\w+|proofs|must-fail)\b.*|(?:gate|bench)_\w+|\w+_(?:laws|rows)')
+PUBLIC = re.compile(r'^.*\bpub\b.*$|^    (?:ghost|fn) \w+|^    [A-Z]\w*[,(]?', re.M)
 # What stands for any name in a path, and what of a crate is there once it is built.
 ANY = re.compile(r'\b(CRATE|NAME)\b')
 BUILT = re.compile(r'^(crates/[^/]+)/out/.*')
@@ -53,14 +61,19 @@ def files_here():
     return found
 
 
+def text_of(file):
+    """The text of a file."""
+    with open(os.path.join(ROOT, file), encoding='utf-8') as text:
+        return text.read()
+
+
 def words_of(files):
     """The words of sources and of the names of files, but of no page."""
     words = set()
     for file in files:
         words.update(re.findall(r'\w+', file))
         if file.startswith(('crates/', 'tools/', 'bench/')) and file.endswith(TEXTS) and not PAGES.fullmatch(file):
-            with open(os.path.join(ROOT, file), encoding='utf-8') as text:
-                words.update(re.findall(r'\w+', text.read()))
+            words.update(re.findall(r'\w+', text_of(file)))
     return words
 
 
@@ -119,8 +132,7 @@ def counts(pages):
     found = {}
     for page in pages:
         if page not in PRINTED:
-            with open(os.path.join(ROOT, page), encoding='utf-8') as text:
-                found[page] = len(text.read().split())
+            found[page] = len(text_of(page).split())
     return found
 
 
@@ -137,8 +149,7 @@ def too_long(found):
 
 def crates_in_order():
     """The crates of docs/ARCHITECTURE.md, those of lower rooms first."""
-    with open(os.path.join(ROOT, 'docs/ARCHITECTURE.md'), encoding='utf-8') as text:
-        drawn = text.read().split('## Layers')[1].split('```\n')[1]
+    drawn = text_of('docs/ARCHITECTURE.md').split('## Layers')[1].split('```\n')[1]
     rooms = ROOM.split(drawn)[1:]
     return [name for room in reversed(rooms) for begun, rests, whole in CRATES.findall(room)
             for name in ([whole] if whole else [f'{begun}_{rest}' for rest in rests.split()])]
@@ -146,8 +157,7 @@ def crates_in_order():
 
 def misplaced():
     """What is wrong with the order of crates."""
-    with open(os.path.join(ROOT, 'crates.txt'), encoding='utf-8') as text:
-        uses = {line.split(':')[0].split()[0]: line.split(':')[1].split() for line in text if ':' in line}
+    uses = {line.split(':')[0].split()[0]: line.split(':')[1].split() for line in text_of('crates.txt').split('\n') if ':' in line}
     place = {crate: number for number, crate in enumerate(crates_in_order())}
     for crate in uses:
         if crate not in place:
@@ -157,17 +167,46 @@ def misplaced():
                 yield f'{crate} uses {used}, which stands above it'
 
 
+def untold():
+    """Which crates have no sentence, but only a place in the drawing."""
+    told = text_of('docs/ARCHITECTURE.md').split('```\n', 2)[2] + text_of('docs/EXAMPLES.md')
+    names = {word for line in told.split('\n') for term in re.findall('`([^`]+)`', line) for word in re.findall(r'\w+', term)}
+    return [crate for crate in sorted(crates_in_order()) if crate not in names]
+
+
+def nameless():
+    """Which words of docs/DEFINITIONS.md have no formal name beside them."""
+    text = text_of('docs/DEFINITIONS.md')
+    return [word.group(1) for word in WORD.finditer(text) if not FORMAL.match(text, word.end())]
+
+
+def public_words(files):
+    """The words that users may know: those of public lines of sources and definitions, of crates, and of the JSON form."""
+    words = set(re.findall(r'\w+', text_of('docs/JSON.md'))) | {file.split('/')[1] for file in files if file.startswith('crates/')}
+    for file in files:
+        if re.fullmatch(r'crates/\w+/(src|specs)/.*\.(rt|antt)', file):
+            words.update(word for line in PUBLIC.findall(text_of(file)) for word in re.findall(r'\w+', line))
+    return words
+
+
+def unseen(files):
+    """What CHANGELOG.md names in backquotes that users don't see."""
+    public = public_words(files)
+    for term in re.findall('`([^`]+)`', text_of('CHANGELOG.md')):
+        if INNER.fullmatch(term) or NAME.fullmatch(term) and not set(re.findall(r'\w+', term)) <= public:
+            yield term
+
+
 def faults_of(page, files, words):
     """What is wrong with a page, line by line."""
-    with open(os.path.join(ROOT, page), encoding='utf-8') as text:
-        for number, line in enumerate(text, 1):
-            for term in re.findall('`([^`]+)`', line):
-                if missing(term, page, files, words):
-                    yield f'{page}, line {number}: {term} is not in the repository'
-            for path in lost_in(line):
-                yield f'{page}, line {number}: {path} is not in the repository'
-            if page not in PRINTED and too_wide(line):
-                yield f'{page}, line {number}: a cell of the table is wider than {WIDEST} columns'
+    for number, line in enumerate(text_of(page).split('\n'), 1):
+        for term in re.findall('`([^`]+)`', line):
+            if missing(term, page, files, words):
+                yield f'{page}, line {number}: {term} is not in the repository'
+        for path in lost_in(line):
+            yield f'{page}, line {number}: {path} is not in the repository'
+        if page not in PRINTED and too_wide(line):
+            yield f'{page}, line {number}: a cell of the table is wider than {WIDEST} columns'
 
 
 def main():
@@ -182,6 +221,9 @@ def main():
     faults = [fault for page in pages for fault in faults_of(page, files, words)]
     faults += too_long(found)
     faults += [f'docs/ARCHITECTURE.md: {fault}' for fault in misplaced()]
+    faults += [f'docs/ARCHITECTURE.md: no sentence says what {crate} is' for crate in untold()]
+    faults += [f'docs/DEFINITIONS.md: {word} has no formal name beside it' for word in nameless()]
+    faults += [f'CHANGELOG.md: {term} is nothing that users see' for term in unseen(files)]
     for fault in faults:
         print(fault)
     sys.exit(bool(faults))

@@ -1,6 +1,7 @@
 #!/usr/bin/env python3
 """try_edits.py [--anew] [--since COMMIT] [CRATE..]: tries the edits that the gate does not try, crates/*/must-fail/*.md.
 try_edits.py --applies | --table [--since COMMIT] [CRATE..]: looks at these and at those that the gate tries, *.edit.
+try_edits.py --print: writes what they guard into docs/VERIFICATION.md.
 
 Each is the text of an edit that the prover must refuse. In a copy of the repository, with the libraries that are
 already proved, `rt must-fail` tries those of the named crates, or of the crates whose folder differs from COMMIT, or of
@@ -13,9 +14,10 @@ over, so that a stale library costs time and no verdict. With --anew none is, an
 With --applies nothing is proved. It looks whether each text that an edit replaces stands just once in its file, so that
 none goes stale unseen, and at the line `clause: FUNCTION [NAME]` that each edit begins with, and has no second time: what
 it guards. The crate's src has that function, below its type or trait where one stands before `::`, or a constant, and some
-function of that name, in any crate, a clause `ensures NAME`.
+function of that name, in any crate, a clause `ensures NAME`. Where no crate is named, it also looks whether the list that --print
+writes is that of these lines.
 
-With --table it prints which clause each edit guards, for pages: those that the gate tries in bold."""
+With --table it prints which clause each edit guards, those that the gate tries in bold."""
 import argparse
 import functools
 import os
@@ -24,12 +26,17 @@ import shutil
 import subprocess
 import sys
 import tempfile
+import textwrap
 
 ROOT = os.path.dirname(os.path.dirname(os.path.abspath(__file__)))
 ANSWER = re.compile(r'^rt: must-fail (\S+)\.edit: (.*)$', re.M)
 # Edits that are tried by hand, and those of the gate.
 HAND, GATE = '.md', '.edit'
 CLAUSE = re.compile(r'clause: ([\w:]+)(?: (\w+))?')
+# The page with the list of what edits guard, and what stands before it and behind.
+PAGE = 'docs/VERIFICATION.md'
+LIST = re.compile(r'(?<=<!-- printed by try_edits.py -->\n\n).*?(?=\n<!-- to here -->)', re.S)
+WIDTH = 160
 # An impl or a trait with all that is in it, and its heading.
 BLOCK = re.compile(r'^(?:pub )?(?:unsafe )?((?:impl|trait)\b[^{]*)\{.*?^\}', re.M | re.S)
 
@@ -116,10 +123,31 @@ def misfits(crate, file):
     return found
 
 
-def are_sound(crates):
+def listed():
+    """What the edits of each crate guard, as the page has it: a line or more a crate, with each function and clause once, those of the gate in bold."""
+    lines = []
+    for crate in (name for name in sorted(os.listdir(os.path.join(ROOT, 'crates'))) if files_of(name, GATE, HAND)):
+        whats = {ending: {':'.join(filter(None, guarded(crate, file) or ())) for file in files_of(crate, ending)} for ending in (GATE, HAND)}
+        terms = [f'**`{what}`**' if what in whats[GATE] else f'`{what}`' for what in sorted(whats[GATE] | whats[HAND])]
+        lines += textwrap.wrap(f'- `{crate}`: ' + ', '.join(terms), WIDTH, subsequent_indent='  ', break_long_words=False, break_on_hyphens=False)
+    return ''.join(line + '\n' for line in lines)
+
+
+def print_list():
+    """Writes the list of what edits guard into its page."""
+    with open(os.path.join(ROOT, PAGE), 'r+', encoding='utf-8') as page:
+        text = LIST.sub(lambda _: listed(), page.read())
+        page.seek(0)
+        page.write(text)
+        page.truncate()
+
+
+def are_sound(crates, is_whole):
     """Says what is wrong with the edits of crates, or how many there are. Whether all is well."""
     edits = [(crate, file) for crate in crates for file in files_of(crate, HAND, GATE)]
     faults = [f'{crate}/{file}: {fault}' for crate, file in edits for fault in strays(crate, file) + misfits(crate, file)]
+    if is_whole and LIST.findall(read(PAGE)) != [listed()]:
+        faults.append(f'{PAGE}: what edits guard is another; tools/try_edits.py --print writes it')
     by_hand = sum(file.endswith(HAND) for _, file in edits)
     all_well = f'edits: each of {len(edits) - by_hand} of the gate and {by_hand} by hand applies, and says what it guards'
     print('\n'.join(faults) or all_well)
@@ -181,9 +209,12 @@ def main():
     what.add_argument('--anew', action='store_true')
     what.add_argument('--applies', action='store_true')
     what.add_argument('--table', action='store_true')
+    what.add_argument('--print', action='store_true', dest='is_printed')
     parser.add_argument('--since', metavar='COMMIT')
     parser.add_argument('crates', nargs='*', metavar='CRATE')
     given = parser.parse_args()
+    if given.is_printed:
+        return print_list()
     endings = (HAND, GATE) if given.applies or given.table else (HAND,)
     known = {name for name in os.listdir(os.path.join(ROOT, 'crates')) if files_of(name, *endings)}
     if set(given.crates) - known:
@@ -193,7 +224,7 @@ def main():
     if given.table:
         return table(wanted)
     if given.applies:
-        return 0 if are_sound(wanted) else 1
+        return 0 if are_sound(wanted, not given.crates and not given.since) else 1
     with tempfile.TemporaryDirectory(prefix='try-edits-') as folder:
         root = os.path.join(folder, 'copy')
         if wanted:

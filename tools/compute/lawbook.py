@@ -1,9 +1,25 @@
 """What the laws share: the definitions of a checkout, sources of random trees, and words for trees.
 
-A law takes a tree and answers None where its premise does not hold, True where it holds, and else a `Bad`, which says
-what went wrong. `@law(source)` says which random trees it is tried on.
+A law takes a tree and answers None where its premise does not hold, True where it holds, and else a `Bad`, with words and
+trees that say what went wrong. `@law(source)` says which random trees it is tried on: a source is one of this file, or one
+of yours, which takes a `random_trees.Random` and a size. `@law_of_goals` of settled_laws.py adds a law twice, of modules and
+of scripts.
+
+    @law(writable_tree)
+    def stripped_twice(t):
+        '''stripping a second time changes nothing'''
+        if not is_writable(t):
+            return None
+        once = D.grammar.Stripped.stripped(t)
+        twice = D.grammar.Stripped.stripped(once)
+        return same(once, twice) or Bad('once:', once, 'twice:', twice)
+
+A law must not depend on chance, or its tree cannot be made smaller: take a fixed seed where choices are needed. Where few
+trees meet a premise, write a source that meets it more often. Trees that every law should try are texts in `WRITTEN` of
+laws.py. To see that a law can fail at all, break a definition in a copy of `crates` and run it there.
 """
 import antt2py
+import following
 import js
 import naming
 import scoping
@@ -13,7 +29,7 @@ import trees
 import units
 from trees import at, paths
 
-CRATES = ['swc_tree_node', 'swc_tree_grammar', 'swc_tree_scoping', 'swc_base_rename_substitution', 'swc_base_rename_analysis', 'swc_base_rename_analysis_laws', 'swc_base_rename_naming', 'swc_base_rename_units', 'swc_tree_ext', 'swc_tree_marks', 'swc_tree_renaming', 'swc_tree_sites', 'swc_tree_sites_written', 'swc_tree_sites_scripts', 'swc_tree_exports_laws', 'swc_base_rename_settled_laws', 'swc_base_tables_injection', 'swc_base_tables_laws', 'swc_tree_walk', 'swc_base_rename_laws', 'swc_base_alpha_laws', 'swc_base_alpha', 'swc_base_plain_numbers', 'swc_base_plain_form']
+CRATES = ['swc_tree_node', 'swc_tree_grammar', 'swc_tree_scoping', 'swc_base_rename_substitution', 'swc_base_rename_analysis', 'swc_base_rename_analysis_laws', 'swc_base_rename_naming', 'swc_base_rename_units', 'swc_tree_ext', 'swc_tree_marks', 'swc_tree_renaming', 'swc_tree_sites', 'swc_tree_sites_written', 'swc_tree_sites_scripts', 'swc_tree_exports_laws', 'swc_base_rename_settled_laws', 'swc_base_tables_injection', 'swc_base_tables_laws', 'swc_tree_walk', 'swc_base_rename_laws', 'swc_base_alpha_laws', 'swc_base_alpha', 'swc_base_plain_numbers', 'swc_base_plain_form', *following.CRATES]
 
 
 class Definitions:
@@ -32,7 +48,7 @@ def load(checkout):
     D.injection = D.all.swc_base_tables_injection
     D.substitution, D.ext, D.marks = D.all.swc_base_rename_substitution, D.all.swc_tree_ext, D.all.swc_tree_marks
     random_trees.setup(D.all)
-    return [name for made in (scoping, naming, units, renaming) for name in made.check_sources(checkout)]
+    return [name for made in (scoping, naming, units, renaming, following) for name in made.check_sources(checkout)]
 
 
 def definition(*paths):

@@ -26,7 +26,7 @@ Files with a direct eval or \`with\` are left out.
 const COLUMNS = ['same scopes', 'other', 'refused', 'left out', 'not parsed', 'identifiers', 'of other text', 'renamed by hygiene'];
 
 /** Whether names may be read as texts there. */
-function isDynamic(tree) {
+export function isDynamic(tree) {
   const stack = [tree];
   while (stack.length > 0) {
     const top = stack.pop();

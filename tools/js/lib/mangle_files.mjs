@@ -1,15 +1,15 @@
 // The command mangle_files: files through `jsbase mangle` and back, judged against their sources and held against eslint-scope.
+import { isDynamic } from './chain_scopes.mjs';
 import { filesBelow, read } from './command.mjs';
 import { pass, programAt } from './jsbase.mjs';
 import { judged } from './judged.mjs';
 import { parseAs } from './parser.mjs';
-import { GLOBAL, HOISTED, READER, uncovered } from './premises.mjs';
 import { print } from './print.mjs';
 import { problemOf } from './problems.mjs';
 import { Difference, compare } from './same_scopes.mjs';
 import { envelopeOf, treeIn, treeOf } from './tree.mjs';
 
-const HELP = `usage: mangle_files [--program PATH] [--all | --kept] PATH..
+const HELP = `usage: mangle_files [--program PATH] [--all | --kept | --covers] PATH..
 
 Each file, and each .js, .mjs and .cjs file below a folder, as a tree through \`jsbase mangle\`. Source and answer go to \`jsbase
 judge\`. Then both are printed, read back, analysed by eslint-scope (Debian: node-eslint-scope) and walked in step, as chain_scopes
@@ -18,50 +18,48 @@ does. A row of a Markdown table for each path; standard error says of each other
   --program PATH   as for jsbase
   --all            names of the program's own scope are made short too, in scripts too
   --kept           they stay, in modules too; left out both, they stay in scripts alone
+  --covers         asks of each file only whether it is covered
   --help           this text
 
+  covered          the promise of \`chain\` covers them, by \`jsbase covers\`, whose word standard error has of each other
   same             judged the source but for names, and of the same scopes
-  with strays      of these, scripts that keep all their names: a plain function in a block of sloppy code, or \`undefined\`, \`NaN\` or
-                   \`Infinity\` as a name of the program
-  not covered      of these, files of which \`chain\` promises less, as \`covers\` finds
   judged other     what the judge says otherwise
   other scopes     judged the same, but not by eslint-scope
   left out         a direct eval or \`with\`, where each name is to be as it was
 `;
 
-const COLUMNS = ['same', 'with strays', 'not covered', 'judged other', 'other scopes', 'refused', 'left out', 'not read', 'identifiers', 'of other text'];
+const COLUMNS = ['covered', 'same', 'judged other', 'other scopes', 'refused', 'left out', 'not read', 'identifiers', 'of other text'];
 
-const outcome = (how, why) => ({ how, why, marks: [], identifiers: 0, renamed: 0 });
+/** How a file ends, why, and why the promise of `chain` does not cover it: '' where it does. */
+const outcome = (how, why, gap) => ({ how, why, gap, identifiers: 0, renamed: 0 });
 
 /** What is said of a file; what a step throws ends it so. */
-function tried({ way, keepTop }, file) {
-  let how = 'not read';
+function tried({ way, keepTop, isAsked }, file) {
+  let [how, gap] = ['not read', 'not read'];
   try {
     const text = read(file);
     const tree = treeOf(text, null, file);
-    const failing = uncovered(tree).map(({ premise }) => premise);
-    if (failing.includes(READER)) {
-      return outcome('left out', '');
-    }
     const kind = tree.type.toLowerCase();
-    how = 'refused';
-    const envelope = keepTop === null ? envelopeOf(tree) : { ...envelopeOf(tree), keepTop };
-    const trees = [tree, treeIn(pass(way, 'mangle', kind, JSON.stringify(envelope)))];
+    const envelope = JSON.stringify(keepTop === null ? envelopeOf(tree) : { ...envelopeOf(tree), keepTop });
+    [how, gap] = ['refused', 'refused'];
+    gap = JSON.parse(pass(way, 'covers', kind, envelope)).gap ?? '';
+    if (isAsked || isDynamic(tree)) {
+      return outcome(isAsked ? 'asked' : 'left out', '', gap);
+    }
+    const trees = [tree, treeIn(pass(way, 'mangle', kind, envelope))];
     how = 'judged other';
     const found = judged(way.program, kind, keepTop ?? kind === 'script', trees.map((each) => ({ text, tree: each })));
     if (found.how !== 'same') {
-      return outcome(how, `${found.how}: ${found.why}`);
+      return outcome(how, `${found.how}: ${found.why}`, gap);
     }
     how = 'other scopes';
     const [source, result] = trees.map((each) => parseAs(print(each, {}), kind, { preserveParens: false, ranges: true }));
-    const { identifiers, renamed } = compare(kind, source, result);
-    const marks = [(failing.includes(HOISTED) || failing.includes(GLOBAL)) && 'with strays', failing.length > 0 && 'not covered'];
-    return { how: 'same', why: '', marks: marks.filter((mark) => mark), identifiers, renamed };
+    return { ...outcome('same', '', gap), ...compare(kind, source, result) };
   } catch (error) {
     if (!(problemOf(error) || error instanceof Difference || error instanceof SyntaxError)) {
       throw error;
     }
-    return outcome(how, error.message.split('\n')[0]);
+    return outcome(how, error.message.split('\n')[0], gap);
   }
 }
 
@@ -69,12 +67,13 @@ function row(options, path) {
   const files = filesBelow(path);
   const counts = { identifiers: 0, 'of other text': 0 };
   for (const file of files) {
-    const { how, why, marks, identifiers, renamed } = tried(options, file);
-    [how, ...marks].forEach((name) => (counts[name] = (counts[name] ?? 0) + 1));
+    const { how, why, gap, identifiers, renamed } = tried(options, file);
+    const names = gap === '' ? [how, 'covered'] : [how];
+    names.forEach((name) => (counts[name] = (counts[name] ?? 0) + 1));
     counts.identifiers += identifiers;
     counts['of other text'] += renamed;
-    if (why) {
-      process.stderr.write(`${file}: ${how}: ${why}\n`);
+    if (why || gap) {
+      process.stderr.write(`${file}: ${how}${why && `: ${why}`}${gap && `; not covered: ${gap}`}\n`);
     }
   }
   return `| ${[path, files.length, ...COLUMNS.map((name) => counts[name] ?? 0)].join(' | ')} |\n`;
@@ -83,11 +82,11 @@ function row(options, path) {
 export const mangleFiles = {
   name: 'mangle_files',
   help: HELP,
-  options: { program: { type: 'string' }, all: { type: 'boolean' }, kept: { type: 'boolean' } },
+  options: { program: { type: 'string' }, all: { type: 'boolean' }, kept: { type: 'boolean' }, covers: { type: 'boolean' } },
   positionals: [1, Infinity],
-  run({ program, all, kept }, paths) {
+  run({ program, all, kept, covers }, paths) {
     const keepTop = all ? false : kept ? true : null;
-    const options = { way: { program: programAt(program), before: [], options: {} }, keepTop };
+    const options = { way: { program: programAt(program), before: [], options: {} }, keepTop, isAsked: covers };
     const head = ['path', 'files', ...COLUMNS];
     const rule = head.map(() => '---').join('|');
     return `| ${head.join(' | ')} |\n|${rule}|\n${paths.map((path) => row(options, path)).join('')}`;

@@ -134,23 +134,16 @@ const TREE2JS = {
 
 const HELP = {
   '--help': () => {
-    for (const command of ['js2tree', 'tree2js', 'jsbase', 'covers', 'rows']) {
+    for (const command of ['js2tree', 'tree2js', 'jsbase', 'rows']) {
       const stdout = new RegExp(`^usage: ${command} (.|\n)*Exit status: (.|\n)*\n$`);
       expect(run(command, ['--help']), 0, { stdout });
     }
     expect(run('tree2js', ['--help']), 0, { stdout: /a#2\.3 the marks 2 and 3/ });
   },
-};
-
-const COVERS = {
-  'tells the premise, where it fails, and how many files are covered': () => {
-    const stdout = lines('-:2:5: the program declares `undefined`, `NaN` or `Infinity`', 'covered: 0 of 0 modules and 0 of 1 scripts; not read: 0', '1 not, script: the program declares `undefined`, `NaN` or `Infinity`');
-    expect(run('covers', ['-'], 'a;\nvar NaN;'), 1, { stdout });
-    expect(run('covers', ['--module', '-'], 'a;\nvar NaN;'), 0, { stdout: 'covered: 1 of 1 modules and 0 of 0 scripts; not read: 0\n' });
-    expect(run('covers', ['-'], 'a b'), 1, { stdout: /^-:1:3: syntax error: .*\ncovered: .*; not read: 1\n$/ });
-  },
-  'refuses wrong usage': () => {
-    expect(run('covers', []), 2, { stderr: 'covers: usage: covers [--module | --script] PATH..\n' });
+  '--help of those that look at many files': () => {
+    for (const command of ['chain_scopes', 'judge_tools', 'mangle_files', 'mangle_sizes']) {
+      expect(run(command, ['--help']), 0, { stdout: new RegExp(`^usage: ${command} `) });
+    }
   },
 };
 
@@ -235,7 +228,6 @@ const named = (command, tests) => Object.entries(tests).map(([name, test]) => [`
 export const COMMANDS = [
   ...named('js2tree', JS2TREE),
   ...named('tree2js', TREE2JS),
-  ...named('covers', COVERS),
   ...named('rows', ROWS),
   ...named('all commands', HELP),
   ...named('jsbase', WITHOUT_PROGRAM),

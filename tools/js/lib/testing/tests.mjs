@@ -1,7 +1,6 @@
 // All tests, and how they are told.
 import { whyNoParser } from '../parser.mjs';
 import { COMMANDS, WITH_JSBASE } from './commands.mjs';
-import { COVERED } from './covered.mjs';
 import { NUMBERS } from './numbers.mjs';
 import { ROUND_TRIPS } from './round_trip.mjs';
 
@@ -28,7 +27,7 @@ function runThese(tests, skipped, why) {
 /** Runs every test, and answers the exit status. */
 export function runAll() {
   const { tests, skipped } = WITH_JSBASE;
-  return runThese([...ROUND_TRIPS, ...COVERED, ...NUMBERS, ...COMMANDS, ...tests], skipped, 'since the program jsbase is not built');
+  return runThese([...ROUND_TRIPS, ...NUMBERS, ...COMMANDS, ...tests], skipped, 'since the program jsbase is not built');
 }
 
 /** Runs the tests that need no program, or says why it runs none, and answers the exit status. */
@@ -41,5 +40,5 @@ export function runInGate() {
   console.log('tools/js/test:');
   const { tests, skipped } = WITH_JSBASE;
   const names = [...tests.map(([name]) => name), ...skipped];
-  return runThese([...ROUND_TRIPS, ...COVERED, ...NUMBERS, ...COMMANDS], names, 'since the gate runs no program by hand');
+  return runThese([...ROUND_TRIPS, ...NUMBERS, ...COMMANDS], names, 'since the gate runs no program by hand');
 }
