@@ -32,9 +32,9 @@ NAMED = re.compile(r'(?:\.\./)*((?:bench|docs|tools)/[\w./-]*\w)')
 # How many words a page may have, and all together. docs/JSON.md is printed from tools/tree.txt.
 LIMITS = {
     'README.md': 899, 'CONTRIBUTING.md': 1000, 'CHANGELOG.md': 950,
-    'docs/ARCHITECTURE.md': 2700, 'docs/DECISIONS.md': 2200, 'docs/DEFINITIONS.md': 5050, 'docs/DIFFERENCES.md': 1300, 'docs/EXAMPLES.md': 1200,
+    'docs/ARCHITECTURE.md': 2700, 'docs/DECISIONS.md': 2200, 'docs/DEFINITIONS.md': 5100, 'docs/DIFFERENCES.md': 1300, 'docs/EXAMPLES.md': 1200,
     'docs/LINT.md': 600, 'docs/MEASUREMENTS.md': 1750, 'docs/PERF.md': 850, 'docs/RENAMERS.md': 1000, 'docs/SURFACE.md': 3200, 'docs/VERIFICATION.md': 2600,
-    'tools/compute/README.md': 500, 'tools/js/README.md': 600}
+    'tools/compute/README.md': 600, 'tools/js/README.md': 600}
 PRINTED = {'docs/JSON.md'}
 ALL = 24000
 WIDEST = 300
@@ -61,9 +61,9 @@ def files_here():
     return found
 
 
-def page_text(page):
-    """The text of a page."""
-    with open(os.path.join(ROOT, page), encoding='utf-8') as text:
+def text_of(file):
+    """The text of a file."""
+    with open(os.path.join(ROOT, file), encoding='utf-8') as text:
         return text.read()
 
 
@@ -73,8 +73,7 @@ def words_of(files):
     for file in files:
         words.update(re.findall(r'\w+', file))
         if file.startswith(('crates/', 'tools/', 'bench/')) and file.endswith(TEXTS) and not PAGES.fullmatch(file):
-            with open(os.path.join(ROOT, file), encoding='utf-8') as text:
-                words.update(re.findall(r'\w+', text.read()))
+            words.update(re.findall(r'\w+', text_of(file)))
     return words
 
 
@@ -133,7 +132,7 @@ def counts(pages):
     found = {}
     for page in pages:
         if page not in PRINTED:
-            found[page] = len(page_text(page).split())
+            found[page] = len(text_of(page).split())
     return found
 
 
@@ -150,7 +149,7 @@ def too_long(found):
 
 def crates_in_order():
     """The crates of docs/ARCHITECTURE.md, those of lower rooms first."""
-    drawn = page_text('docs/ARCHITECTURE.md').split('## Layers')[1].split('```\n')[1]
+    drawn = text_of('docs/ARCHITECTURE.md').split('## Layers')[1].split('```\n')[1]
     rooms = ROOM.split(drawn)[1:]
     return [name for room in reversed(rooms) for begun, rests, whole in CRATES.findall(room)
             for name in ([whole] if whole else [f'{begun}_{rest}' for rest in rests.split()])]
@@ -158,8 +157,7 @@ def crates_in_order():
 
 def misplaced():
     """What is wrong with the order of crates."""
-    with open(os.path.join(ROOT, 'crates.txt'), encoding='utf-8') as text:
-        uses = {line.split(':')[0].split()[0]: line.split(':')[1].split() for line in text if ':' in line}
+    uses = {line.split(':')[0].split()[0]: line.split(':')[1].split() for line in text_of('crates.txt').split('\n') if ':' in line}
     place = {crate: number for number, crate in enumerate(crates_in_order())}
     for crate in uses:
         if crate not in place:
@@ -171,45 +169,44 @@ def misplaced():
 
 def untold():
     """Which crates have no sentence, but only a place in the drawing."""
-    told = page_text('docs/ARCHITECTURE.md').split('```\n', 2)[2] + page_text('docs/EXAMPLES.md')
+    told = text_of('docs/ARCHITECTURE.md').split('```\n', 2)[2] + text_of('docs/EXAMPLES.md')
     names = {word for line in told.split('\n') for term in re.findall('`([^`]+)`', line) for word in re.findall(r'\w+', term)}
     return [crate for crate in sorted(crates_in_order()) if crate not in names]
 
 
 def nameless():
     """Which words of docs/DEFINITIONS.md have no formal name beside them."""
-    text = page_text('docs/DEFINITIONS.md')
+    text = text_of('docs/DEFINITIONS.md')
     return [word.group(1) for word in WORD.finditer(text) if not FORMAL.match(text, word.end())]
 
 
 def public_words(files):
     """The words that users may know: those of public lines of sources and definitions, of crates, and of the JSON form."""
-    words = set(re.findall(r'\w+', page_text('docs/JSON.md'))) | {file.split('/')[1] for file in files if file.startswith('crates/')}
+    words = set(re.findall(r'\w+', text_of('docs/JSON.md'))) | {file.split('/')[1] for file in files if file.startswith('crates/')}
     for file in files:
         if re.fullmatch(r'crates/\w+/(src|specs)/.*\.(rt|antt)', file):
-            words.update(word for line in PUBLIC.findall(page_text(file)) for word in re.findall(r'\w+', line))
+            words.update(word for line in PUBLIC.findall(text_of(file)) for word in re.findall(r'\w+', line))
     return words
 
 
 def unseen(files):
     """What CHANGELOG.md names in backquotes that users don't see."""
     public = public_words(files)
-    for term in re.findall('`([^`]+)`', page_text('CHANGELOG.md')):
+    for term in re.findall('`([^`]+)`', text_of('CHANGELOG.md')):
         if INNER.fullmatch(term) or NAME.fullmatch(term) and not set(re.findall(r'\w+', term)) <= public:
             yield term
 
 
 def faults_of(page, files, words):
     """What is wrong with a page, line by line."""
-    with open(os.path.join(ROOT, page), encoding='utf-8') as text:
-        for number, line in enumerate(text, 1):
-            for term in re.findall('`([^`]+)`', line):
-                if missing(term, page, files, words):
-                    yield f'{page}, line {number}: {term} is not in the repository'
-            for path in lost_in(line):
-                yield f'{page}, line {number}: {path} is not in the repository'
-            if page not in PRINTED and too_wide(line):
-                yield f'{page}, line {number}: a cell of the table is wider than {WIDEST} columns'
+    for number, line in enumerate(text_of(page).split('\n'), 1):
+        for term in re.findall('`([^`]+)`', line):
+            if missing(term, page, files, words):
+                yield f'{page}, line {number}: {term} is not in the repository'
+        for path in lost_in(line):
+            yield f'{page}, line {number}: {path} is not in the repository'
+        if page not in PRINTED and too_wide(line):
+            yield f'{page}, line {number}: a cell of the table is wider than {WIDEST} columns'
 
 
 def main():

@@ -15,6 +15,7 @@ line: nothing is guessed.
 Values in Python:
     List, text       tuple; a text is a tuple of numbers
     Option           None, or (x,)
+    Result           ('Ok', x), or ('Err', fault)
     pair             tuple
     record           Rec, with attributes
     variant          its name as a str, or (name, arguments..) where it has arguments
@@ -28,7 +29,7 @@ import re
 import sys
 
 from antt_reader import FormError, Module, NotTranslated, top_split
-from antt_values import CALLED, STANDARD, STANDARD_TYPES, STANDARD_VALUES, Rec, fold_node
+from antt_values import CALLED, OTHER_LIBRARIES, STANDARD, STANDARD_TYPES, STANDARD_VALUES, Rec, fold_node
 from antt_writer import Writer, flat_name, mangled
 
 __all__ = ['CRATES', 'Rec', 'Translation', 'load']
@@ -75,17 +76,17 @@ class Translation:
         if parts and path not in self.variants:
             crate, module, name = parts.groups()
             text = self.code(crate, module.split('.'))
-            while text and re.search(r'<[^<>=]*>', text):
-                text = re.sub(r'<[^<>=]*>', '', text)
+            while text and re.search(r'<[^<>=;{}]*>', text):
+                text = re.sub(r'<[^<>=;{}]*>', '', text)
             body = text and re.search(r'\benum %s \{(.*?)\n\}' % name, text, re.S)
             self.variants[path] = body and dict(self.variant(item, path) for item in top_split(body.group(1), ',') if item.strip())
         return self.variants.get(path)
 
     def variant(self, text, path):
-        match = re.match(r'(?:#\[.*?\] )*(\w+)(?:\((.*)\))?$', ' '.join(text.split()))
+        match = re.match(r'(?:#\[.*?\] )*(\w+)(?:\((.*)\)| \{(.*)\})?$', ' '.join(text.split()))
         if not match:
             raise FormError('variant `%s` of %s' % (text, path))
-        return match.group(1), len([part for part in top_split(match.group(2) or '', ',') if part.strip()])
+        return match.group(1), len([part for part in top_split(match.group(2) or match.group(3) or '', ',') if part.strip()])
 
     def constant(self, path, name, where):
         """the number that a module of the code gives a name"""
@@ -113,7 +114,7 @@ class Translation:
         if first not in module.imports:
             raise FormError('%s: nothing is known of `%s`' % (where, name))
         path, original = module.imports[first]
-        if path == 'Rattle.std.specs' or path.startswith('Rattle.std.specs.'):
+        if path == 'Rattle.std.specs' or path.startswith('Rattle.std.specs.') or path in OTHER_LIBRARIES:
             return self.standard_meaning(path, name, original, rest)
         if path.endswith('.TheConstants'):
             return ('value', self.constant(path, rest or original, where))

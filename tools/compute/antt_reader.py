@@ -14,7 +14,7 @@ class NotTranslated(Exception):
 
 
 NAME = r"[^\W\d]['\w◌\-⊎]*"
-TOKEN = re.compile(r'(?P<space>\s+)|(?P<text>"(?:[^"\\]|\\.)*")|(?P<name>%s(?:\.(?:%s|\d+))*)|(?P<number>\d+)'
+TOKEN = re.compile(r'(?P<space>\s+)|(?P<text>"(?:[^"\\]|\\.)*")|(?P<name>%s(?:\.(?:%s|\d+))*)|(?P<number>0x[0-9A-Fa-f]+|\d+)'
                    r'|(?P<sign>∷|\+\+|&&|\|\||==|→|\[\]|[^\s\w])' % (NAME, NAME))
 WORDS = {'then', 'else', 'in', 'if', 'let', 'where', 'of', 'case', 'do', 'with'}
 # which operators stand side by side without parentheses, the loosest first; all else is refused
@@ -137,17 +137,20 @@ class Parser:
         if not here:
             return self.grouped(items, level + 1)
         used = {items[i] for i in here}
-        if len(used) > 1 and used != {'∷', '++'} or len(here) > 1 and used & {'==', '<', '-', '%', '^'}:
+        if len(used) > 1 and used not in ({'∷', '++'}, {'+', '-'}, {'*', '%'}) or len(here) > 1 and used & {'==', '<', '^'}:
             self.fail('operators without parentheses (%s)' % ' '.join(sorted(used)))
         if level < 2 and {items[i] for i in range(1, len(items), 2)} & {'∷', '++'}:
             self.fail('a list beside `&&` or `||`')
-        i = here[0]                                       # all group to the right
+        if used & {'-', '%'}:                             # these group to the left
+            i = here[-1]
+            return ('operator', items[i], self.grouped(items[:i], level), self.grouped(items[i + 1:], level + 1))
+        i = here[0]                                       # all others to the right
         return ('operator', items[i], self.grouped(items[:i], level + 1), self.grouped(items[i + 1:], level))
 
     def atom(self):
         kind, value = self.kind(), self.peek()
         if kind == 'number':
-            return ('number', int(self.take()))
+            return ('number', int(self.take(), 0))
         if kind == 'text':
             return ('text', ast.literal_eval(self.take()))
         if value == '[]':
@@ -323,6 +326,11 @@ class Module:
             parser.take()
             self.synonyms[name] = (parameters, parser.whole())
         elif name in self.definitions:
+            text, _, own = re.sub(r'\n +where *\n', '\n@', text).partition('\n@')
+            if own:                                       # they must use no name of the clause: none is known to them
+                indent = len(own) - len(own.lstrip())
+                for number, item in blocks(own, indent, line + text.count('\n') + 2):
+                    self.item(number, ('abbrev ' if re.match(NAME + ' :', item) else '') + item)
             patterns, expression = self.sides(line, text)
             clauses = self.definitions[name].clauses
             if clauses and len(clauses[0][0]) != len(patterns):

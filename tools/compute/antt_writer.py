@@ -177,7 +177,7 @@ class Writer:
 
     def named_pattern(self, name, arguments, subject, conditions, bound, module):
         meaning = self.meaning(name, module) if self.is_known(name, module) else None
-        if meaning is None or meaning[0] in ('definition', 'node') or meaning[0] == 'standard' and name not in ('Some', 'suc'):
+        if meaning is None or meaning[0] in ('definition', 'node') or meaning[0] == 'standard' and name not in ('Some', 'suc', 'Ok', 'Err'):
             if arguments or '.' in name:
                 self.fail('a pattern with `%s`' % name)
             if name in bound:
@@ -185,6 +185,9 @@ class Writer:
             bound[name] = subject
         elif meaning[0] == 'value':
             conditions.append(VALUE_TESTS[meaning[1]] % subject)
+        elif meaning[0] == 'standard' and name in ('Ok', 'Err'):
+            conditions.append('%s[0] == %r' % (subject, name))
+            self.pattern(arguments[0], '%s[1]' % subject, conditions, bound, module)
         elif meaning[0] == 'standard':
             conditions.append('%s is not None' % subject if name == 'Some' else '%s > 0' % subject)
             self.pattern(arguments[0], '%s[0]' % subject if name == 'Some' else '(%s - 1)' % subject, conditions, bound, module)

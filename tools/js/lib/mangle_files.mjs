@@ -9,7 +9,7 @@ import { problemOf } from './problems.mjs';
 import { Difference, compare } from './same_scopes.mjs';
 import { envelopeOf, treeIn, treeOf } from './tree.mjs';
 
-const HELP = `usage: mangle_files [--program PATH] [--all | --kept] PATH..
+const HELP = `usage: mangle_files [--program PATH] [--all | --kept | --covers] PATH..
 
 Each file, and each .js, .mjs and .cjs file below a folder, as a tree through \`jsbase mangle\`. Source and answer go to \`jsbase
 judge\`. Then both are printed, read back, analysed by eslint-scope (Debian: node-eslint-scope) and walked in step, as chain_scopes
@@ -18,6 +18,7 @@ does. A row of a Markdown table for each path; standard error says of each other
   --program PATH   as for jsbase
   --all            names of the program's own scope are made short too, in scripts too
   --kept           they stay, in modules too; left out both, they stay in scripts alone
+  --covers         asks of each file only whether it is covered
   --help           this text
 
   covered          the promise of \`chain\` covers them, by \`jsbase covers\`, whose word standard error has of each other
@@ -33,7 +34,7 @@ const COLUMNS = ['covered', 'same', 'judged other', 'other scopes', 'refused', '
 const outcome = (how, why, gap) => ({ how, why, gap, identifiers: 0, renamed: 0 });
 
 /** What is said of a file; what a step throws ends it so. */
-function tried({ way, keepTop }, file) {
+function tried({ way, keepTop, isAsked }, file) {
   let [how, gap] = ['not read', 'not read'];
   try {
     const text = read(file);
@@ -42,8 +43,8 @@ function tried({ way, keepTop }, file) {
     const envelope = JSON.stringify(keepTop === null ? envelopeOf(tree) : { ...envelopeOf(tree), keepTop });
     [how, gap] = ['refused', 'refused'];
     gap = JSON.parse(pass(way, 'covers', kind, envelope)).gap ?? '';
-    if (isDynamic(tree)) {
-      return outcome('left out', '', gap);
+    if (isAsked || isDynamic(tree)) {
+      return outcome(isAsked ? 'asked' : 'left out', '', gap);
     }
     const trees = [tree, treeIn(pass(way, 'mangle', kind, envelope))];
     how = 'judged other';
@@ -81,11 +82,11 @@ function row(options, path) {
 export const mangleFiles = {
   name: 'mangle_files',
   help: HELP,
-  options: { program: { type: 'string' }, all: { type: 'boolean' }, kept: { type: 'boolean' } },
+  options: { program: { type: 'string' }, all: { type: 'boolean' }, kept: { type: 'boolean' }, covers: { type: 'boolean' } },
   positionals: [1, Infinity],
-  run({ program, all, kept }, paths) {
+  run({ program, all, kept, covers }, paths) {
     const keepTop = all ? false : kept ? true : null;
-    const options = { way: { program: programAt(program), before: [], options: {} }, keepTop };
+    const options = { way: { program: programAt(program), before: [], options: {} }, keepTop, isAsked: covers };
     const head = ['path', 'files', ...COLUMNS];
     const rule = head.map(() => '---').join('|');
     return `| ${head.join(' | ')} |\n|${rule}|\n${paths.map((path) => row(options, path)).join('')}`;

@@ -1,0 +1,176 @@
+"""Laws of token lists: what a pass, and a chain, makes of the tokens of a program.
+
+Names given anew stand where names stood; `{ a }` is written out as `{ a: a1 }`, an import or export with `as`, an exported declaration as the
+declaration and an export list. The fixer takes tokens away (pairs, what a sequence drops), and sets pairs and the braces of blocks.
+"""
+import following
+import scoping
+from lawbook import Bad, D, fixed, has_types, law
+from naming_rows import with_hygiene
+from text_kept_laws import clean_source, is_source, renamed, text_source
+
+NO_TOKENS = ('closes', 'gap', 'here', 'may_comma', 'may_from', 'may_braces')
+COMMA, COLON, OPEN, CLOSE = (('punctuator', name) for name in ('Comma', 'Colon', 'LeftBrace', 'RightBrace'))
+BRACKETS = (('punctuator', 'LeftBracket'), ('punctuator', 'RightBracket'))
+AS, EXPORT = (('word', tuple(word)) for word in (b'as', b'export'))
+PROTO = tuple(b'__proto__')
+
+
+def tokens(t):
+    """the tokens of a tree, with `ends` for a semicolon that may be left out"""
+    return [('name', p[1]) if following.word(p) == 'parameter' else p for p in following.pieces(D.all, t) if following.word(p) not in NO_TOKENS]
+
+
+def is_part(some, whole):
+    """the tokens are some of the others, in their order"""
+    left = iter(whole)
+    return all(token in left for token in some)
+
+
+def adds_only(before, after, first, last):
+    """behind tokens are these with as many more of two, and no others"""
+    count = {token: after.count(token) - before.count(token) for token in set(after)}
+    others = [token for token, number in count.items() if number and token not in (('punctuator', first), ('punctuator', last))]
+    return is_part(before, after) and not others and count.get(('punctuator', first), 0) == count.get(('punctuator', last), 0)
+
+
+# ---- names given anew
+def is_name(token):
+    return following.word(token) == 'name'
+
+
+def written_out(p, qs, j):
+    """how many tokens from a place on stand for one name, beside one"""
+    three = qs[j:j + 3]
+    if len(three) == 3 and is_name(three[2]):
+        if three[:2] == [p, COLON] or three[:2] == [p, AS]:                 # { a: a1 }, import { a as a1 }
+            return 3
+        if is_name(three[0]) and three[1] == AS and three[2] == p:            # export { a1 as a }
+            return 3
+    five = qs[j:j + 5]
+    if p[1] == PROTO and len(five) == 5 and following.word(five[1]) == 'quoted' and five[1][1] == PROTO and is_name(five[4]):
+        return 5 if (five[0], five[2], five[3]) == BRACKETS + (COLON,) else 0
+    return 0
+
+
+def export_list(qs, j):
+    """behind an export list of names that begins at a place; None where none does"""
+    if qs[j:j + 2] != [EXPORT, OPEN]:
+        return None
+    j += 2
+    while j < len(qs) and is_name(qs[j]):
+        j += 3 if qs[j + 1:j + 2] == [AS] and j + 2 < len(qs) and is_name(qs[j + 2]) else 1
+        if qs[j:j + 1] == [COMMA]:
+            j += 1
+    return j + 2 if qs[j:j + 2] == [CLOSE, 'ends'] else None
+
+
+def steps(ps, qs, state):
+    """from so many tokens of both lists, and exported declarations whose lists are still to come, to the next"""
+    i, j, lists = state
+    if i < len(ps) and j < len(qs) and (ps[i] == qs[j] or is_name(ps[i]) and is_name(qs[j])):
+        yield i + 1, j + 1, lists
+    if i < len(ps) and is_name(ps[i]):
+        more = written_out(ps[i], qs, j)
+        if more:
+            yield i + 1, j + more, lists
+    if i < len(ps) and ps[i] == EXPORT:
+        yield i + 1, j, lists + 1
+    behind = export_list(qs, j) if lists else None
+    if behind:
+        yield i, behind, lists - 1
+
+
+def are_named(ps, qs):
+    """the second tokens are the first with names given anew"""
+    seen, left = set(), [(0, 0, 0)]
+    while left:
+        state = left.pop()
+        if state == (len(ps), len(qs), 0):
+            return True
+        if state not in seen:
+            seen.add(state)
+            left.extend(steps(ps, qs, state))
+    return False
+
+
+# ---- laws
+@law(text_source)
+def stripping_takes_tokens_away(t):
+    """the tokens of a stripped tree that fits its place are some of the tree's, in their order"""
+    if has_types(t) or not following.Fits(D.all, t):
+        return None
+    answer = D.grammar.Stripped.stripped(t)
+    return is_part(tokens(answer), tokens(t)) or Bad('others in', answer)
+
+
+@law(text_source)
+def blocks_add_braces(t):
+    """the tree with its blocks has the tokens of the tree, and else as many opening braces as closing ones"""
+    if has_types(t) or not following.Fits(D.all, t):
+        return None
+    answer = D.grammar.Blocks.with_blocks(t)
+    return adds_only(tokens(t), tokens(answer), 'LeftBrace', 'RightBrace') or Bad('others in', answer)
+
+
+@law(text_source)
+def due_pairs_add_parentheses(t):
+    """the tree with its due pairs has the tokens of the tree, and else as many opening parentheses as closing ones"""
+    if has_types(t) or not following.Fits(D.all, t):
+        return None
+    answer = D.grammar.Due.with_due_pairs(lambda span: span, t)
+    return adds_only(tokens(t), tokens(answer), 'LeftParen', 'RightParen') or Bad('others in', answer)
+
+
+@law(text_source)
+def new_names_stand_where_names_stood(t):
+    """a program with names given anew has the program's tokens but for names, what is written out, and exported declarations"""
+    if has_types(t) or not following.Fits(D.all, t):
+        return None
+    answer = renamed(t)
+    return are_named(tokens(t), tokens(answer)) or Bad('others in', answer)
+
+
+def token_fault(t):
+    """of a chain, one pass after the other"""
+    resolved = scoping.resolved(D.all, t, 1, 2)
+    named = with_hygiene(resolved)
+    left = D.grammar.Stripped.stripped(named)
+    answer = fixed(named)
+    if tokens(resolved) != tokens(t):
+        return Bad('resolved, others in', resolved)
+    if not are_named(tokens(t), tokens(named)):
+        return Bad('named, others in', named)
+    if not is_part(tokens(left), tokens(named)):
+        return Bad('stripped, others in', left)
+    rest = list(tokens(answer))
+    if not is_part(tokens(left), rest):
+        return Bad('fixed, some lacking in', answer)
+    before = tokens(left)
+    added = {token for token in set(rest) if rest.count(token) != before.count(token)}
+    allowed = {('punctuator', name) for name in ('LeftParen', 'RightParen', 'LeftBrace', 'RightBrace')}
+    return None if added <= allowed else Bad('fixed, others in', answer)
+
+
+@law(clean_source)
+def chained_tokens(t):
+    """a chain's answer has the tokens of the program but for bound names and what is written out, pairs, blocks, and what a sequence drops"""
+    return (token_fault(t) or True) if is_source(t) else None
+
+
+@law(clean_source)
+def idle_free_tokens(t):
+    """where no sequence drops an item, a chain takes no other tokens away than those of pairs and of empty class members"""
+    if not is_source(t):
+        return None
+    named = with_hygiene(scoping.resolved(D.all, t, 1, 2))
+    answer = D.grammar.Stripped.stripped(named)
+    if trees_with_sequences(named):
+        return None
+    lost = [token for token in set(tokens(named)) if tokens(named).count(token) != tokens(answer).count(token)]
+    allowed = {('punctuator', name) for name in ('LeftParen', 'RightParen', 'Semicolon')}
+    return set(lost) <= allowed or Bad('lost in', answer)
+
+
+def trees_with_sequences(t):
+    return following.HasNode(lambda node: node[0] == 'Tree' and node[1] == 'SeqExpr', t)
