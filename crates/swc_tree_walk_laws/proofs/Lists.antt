@@ -1,5 +1,5 @@
 -- What a list contains that another gives by a test or a map.
-use Rattle.std.proofs.Common.{◌≡◌, Bool, true, false, ◌⊎◌, inl, inr, List, [], ◌∷◌, Contains, map, refl, sym, ap, ◌∙◌, subst, cond}
+use Rattle.std.proofs.Common.{◌≡◌, ℕ, zero, suc, Bool, true, false, ◌⊎◌, inl, inr, List, [], ◌∷◌, Contains, map, refl, ap, subst, arith, cond}
 use Rattle.std.specs.List.{filter}
 use Rattle.swc_tree_renaming.proofs.Core.{cases_in, head_in, none_in, tail_in}
 
@@ -29,17 +29,11 @@ filtered_to f (y ∷ ys) x h e = at (f y) refl (cases_in y x ys h) (λ g. filter
     at false g (inr later) rest = rest later
 
 pub mapped_from : {X Y : Type 0} (f : X → Y) (xs : List X) (y : Y) → Contains (map f xs) y → (x : X) × Contains xs x × (f x ≡ y)
-mapped_from f [] y h = absurd (none_in y h)
-mapped_from {X = X} f (x ∷ xs) y h = by (λ g. mapped_from f xs y g) (cases_in (f x) y (map f xs) h)
-  where
-    by : (Contains (map f xs) y → (z : X) × Contains xs z × (f z ≡ y)) → (f x ≡ y) ⊎ Contains (map f xs) y → (z : X) × Contains (x ∷ xs) z × (f z ≡ y)
-    by rest (inl same) = (x, head_in x xs, same)
-    by rest (inr later) = let (z, among, same) = rest later in (z, tail_in x z xs among, same)
+mapped_from f [] y (n, l, e) = absurd (omega arith)
+mapped_from f (x ∷ xs) y (zero, l, e) = (x, (0, (omega arith), refl), e)
+mapped_from f (x ∷ xs) y (suc n, l, e) = let (z, (m, k, s), g) = mapped_from f xs y (n, (omega arith), e) in (z, (suc m, (omega arith), s), g)
 
 pub mapped_to : {X Y : Type 0} (f : X → Y) (xs : List X) (x : X) → Contains xs x → Contains (map f xs) (f x)
-mapped_to f [] x h = absurd (none_in x h)
-mapped_to f (y ∷ ys) x h = by (λ g. mapped_to f ys x g) (cases_in y x ys h)
-  where
-    by : (Contains ys x → Contains (map f ys) (f x)) → (y ≡ x) ⊎ Contains ys x → Contains (f y ∷ map f ys) (f x)
-    by rest (inl same) = here_in (f y) (f x) (map f ys) (ap f same)
-    by rest (inr later) = tail_in (f y) (f x) (map f ys) (rest later)
+mapped_to f [] x (n, l, e) = absurd (omega arith)
+mapped_to f (y ∷ ys) x (zero, l, e) = (0, (omega arith), ap f e)
+mapped_to f (y ∷ ys) x (suc n, l, e) = let (m, k, s) = mapped_to f ys x (n, (omega arith), e) in (suc m, (omega arith), s)
