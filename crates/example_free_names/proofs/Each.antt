@@ -68,7 +68,7 @@ within_once (y ∷ xs) x h = by (λ g. within_once xs x g) (cases_in y x xs h)
     by rest (inr later) = both_ways (kept y (once xs) x (rest later))
 
 -- the text behind a name, and those of the free ones
-text_at : Site → List ℕ
+abbrev text_at : Site → List ℕ
 text_at s = s.1.sym
 
 free_texts_are : (u : ℕ) (ss : List Site) → free_texts u ss ≡ map text_at (filter (is_free u) ss)
