@@ -1,7 +1,9 @@
 -- What is once in a list, one element after another.
-use Rattle.std.proofs.Common.{◌≡◌, ℕ, zero, suc, ◌+◌, ◌<◌, Bool, true, false, ◌||◌, List, [], ◌∷◌, ◌++◌, take, map, get_or, length, refl, sym, ap, ◌∙◌, cond, add-one, append_assoc, arith}
+use Rattle.std.proofs.Common.{◌≡◌, ℕ, zero, suc, ◌+◌, ◌<◌, Bool, true, false, ◌||◌, List, [], ◌∷◌, ◌++◌, take, map, get_or, length, refl, sym, ap, ◌∙◌, cond, append_assoc, arith}
 use Rattle.std.specs.List.{list_any}
 use Rattle.std.specs.Str.{bytes_eq}
+use Rattle.std.proofs.lemmas.Bool.{cond-false, cond-true, cond_both, or_left}
+use Rattle.std.proofs.lemmas.List.{map_push, take_more}
 use Rattle.std.proofs.lemmas.Slice.Eq.{bytes_eq-Decides}
 use Rattle.swc_tree_marks.specs.declared.ident.Ident.{Ident}
 use Rattle.swc_tree_scoping.specs.declared.places.Standing.{Standing}
@@ -11,29 +13,12 @@ use Rattle.example_free_names.specs.Free.{added, free_texts, is_free, noted, onc
 abbrev Texts : Type 0
 Texts = List (List ℕ)
 
--- by whether a test holds
-by_test : {A : Type 0} (b : Bool) (x y : A) (P : A → Type 0) → (b ≡ true → P x) → (b ≡ false → P y) → P (cond b x y)
-by_test true x y P h g = h refl
-by_test false x y P h g = g refl
-
-then_is : {A : Type 0} (b : Bool) (x y : A) → b ≡ true → cond b x y ≡ x
-then_is true x y h = refl
-then_is false x y h = absurd (cc)
-
-else_is : {A : Type 0} (b : Bool) (x y : A) → b ≡ false → cond b x y ≡ y
-else_is true x y h = absurd (cc)
-else_is false x y h = refl
-
-or_true : (b c : Bool) → b ≡ true → (b || c) ≡ true
-or_true true c h = refl
-or_true false c h = absurd (cc)
-
 or_false : (b c : Bool) → b ≡ false → (b || c) ≡ c
 or_false true c h = absurd (cc)
 or_false false c h = refl
 
 without_same : (x : List ℕ) (l : Texts) → without x (l ++ x ∷ []) ≡ without x l
-without_same x [] = then_is (bytes_eq x x) [] (x ∷ []) ((bytes_eq-Decides x x).1 refl)
+without_same x [] = cond-true (bytes_eq x x) [] (x ∷ []) ((bytes_eq-Decides x x).1 refl)
 without_same x (y ∷ l) = at (bytes_eq x y) (without_same x l)
   where
     at : (b : Bool) → without x (l ++ x ∷ []) ≡ without x l → cond b (without x (l ++ x ∷ [])) (y ∷ without x (l ++ x ∷ [])) ≡ cond b (without x l) (y ∷ without x l)
@@ -41,7 +26,7 @@ without_same x (y ∷ l) = at (bytes_eq x y) (without_same x l)
     at false h = ap (λ l. y ∷ l) h
 
 without_other : (x z : List ℕ) (l : Texts) → bytes_eq x z ≡ false → without x (l ++ z ∷ []) ≡ without x l ++ z ∷ []
-without_other x z [] h = else_is (bytes_eq x z) [] (z ∷ []) h
+without_other x z [] h = cond-false (bytes_eq x z) [] (z ∷ []) h
 without_other x z (y ∷ l) h = at (bytes_eq x y) (without_other x z l h)
   where
     at : (b : Bool) → without x (l ++ z ∷ []) ≡ without x l ++ z ∷ [] → cond b (without x (l ++ z ∷ [])) (y ∷ without x (l ++ z ∷ [])) ≡ cond b (without x l) (y ∷ without x l) ++ z ∷ []
@@ -72,9 +57,9 @@ once_more (x ∷ xs) z = ap (λ l. x ∷ without x l) (once_more xs z) ∙ at (b
     same : bytes_eq x z ≡ true → x ∷ without x (added z (once xs)) ≡ added z (x ∷ without x (once xs))
     same e = let is : x ≡ z = (bytes_eq-Decides x z).0 e in
         ap (λ z. x ∷ without x (added z (once xs))) (sym is)
-        ∙ ap (λ l. x ∷ l) (by_test (list_any (bytes_eq x) (once xs)) (once xs) (once xs ++ x ∷ []) (λ l. without x l ≡ without x (once xs)) (λ g. refl) (λ g. without_same x (once xs)))
-        ∙ sym (then_is (bytes_eq x x || list_any (bytes_eq x) (without x (once xs))) (x ∷ without x (once xs)) ((x ∷ without x (once xs)) ++ x ∷ [])
-        (or_true (bytes_eq x x) (list_any (bytes_eq x) (without x (once xs))) ((bytes_eq-Decides x x).1 refl)))
+        ∙ ap (λ l. x ∷ l) (cond_both (list_any (bytes_eq x) (once xs)) (once xs) (once xs ++ x ∷ []) (λ l. without x l ≡ without x (once xs)) (λ g. refl) (λ g. without_same x (once xs)))
+        ∙ sym (cond-true (bytes_eq x x || list_any (bytes_eq x) (without x (once xs))) (x ∷ without x (once xs)) ((x ∷ without x (once xs)) ++ x ∷ [])
+        (or_left (bytes_eq x x) (list_any (bytes_eq x) (without x (once xs))) ((bytes_eq-Decides x x).1 refl)))
         ∙ ap (λ z. added z (x ∷ without x (once xs))) is
 
     other : bytes_eq x z ≡ false → x ∷ without x (added z (once xs)) ≡ added z (x ∷ without x (once xs))
@@ -114,26 +99,17 @@ free_more u ss s = ap once (free_append u ss s) ∙ at (is_free u s)
     at true = once_more (free_texts u ss) s.1.sym
     at false = refl
 
-take_more : {A : Type 0} (xs : List A) (i : ℕ) (d x : A) → i < length xs → x ≡ get_or xs i d → take (suc i) xs ≡ take i xs ++ x ∷ []
-take_more [] i d x h e = absurd (omega arith)
-take_more (y ∷ xs) zero d x h e = ap (λ x. x ∷ []) (sym e)
-take_more (y ∷ xs) (suc i) d x h e = ap (λ l. y ∷ l) (take_more xs i d x (omega arith) e)
-
-map_append : {A B : Type 0} (f : A → B) (xs : List A) (x : A) → map f (xs ++ x ∷ []) ≡ map f xs ++ f x ∷ []
-map_append f [] x = refl
-map_append f (y ∷ xs) x = ap (λ l. f y ∷ l) (map_append f xs x)
-
 -- one identifier more
 pub one_more : {S : Type 0} (u : ℕ) (f : S → Standing × Ident) (found : List S) (i : ℕ) (d x : S) (names next : Texts) → i < length found → x ≡ get_or found i d
     → names ≡ once (free_texts u (map f (take i found))) → next ≡ noted u names (f x) → next ≡ once (free_texts u (map f (take (i + 1) found)))
 one_more u f found i d x names next h e was is =
     is ∙ ap (λ names. noted u names (f x)) was ∙ sym (free_more u (map f (take i found)) (f x))
-    ∙ ap (λ ss. once (free_texts u ss)) (sym (map_append f (take i found) x) ∙ ap (map f) (sym (take_more found i d x h e)) ∙ ap (λ n. map f (take n found)) (sym (add-one i)))
+    ∙ ap (λ ss. once (free_texts u ss)) (sym (map_push f (take i found) x) ∙ ap (map f) (ap (λ x. take i found ++ x ∷ []) e ∙ sym (take_more found i d h)))
 
 -- a name of a list, and one line more
 pub found_among : {S : Type 0} (p : List ℕ → Bool) (f : S → List ℕ) (names : List S) (i : ℕ) (d x : S) → i < length names → x ≡ get_or names i d → p (f x) ≡ true → list_any p (map f names) ≡ true
 found_among p f [] i d x h e g = absurd (omega arith)
-found_among p f (y ∷ names) zero d x h e g = or_true (p (f y)) (list_any p (map f names)) (ap (λ x. p (f x)) (sym e) ∙ g)
+found_among p f (y ∷ names) zero d x h e g = or_left (p (f y)) (list_any p (map f names)) (ap (λ x. p (f x)) (sym e) ∙ g)
 found_among p f (y ∷ names) (suc i) d x h e g = at (p (f y)) (found_among p f names i d x (omega arith) e g)
   where
     at : (b : Bool) → list_any p (map f names) ≡ true → (b || list_any p (map f names)) ≡ true
@@ -148,5 +124,4 @@ pub line_more : {S : Type 0} (f : S → List ℕ) (names : List S) (i : ℕ) (d 
     → text ≡ lines (map f (take i names)) → some ≡ text ++ f x → next ≡ some ++ 10 ∷ [] → next ≡ lines (map f (take (i + 1) names))
 line_more f names i d x text some next h e was more is =
     is ∙ ap (λ l. l ++ 10 ∷ []) (more ∙ ap (λ l. l ++ f x) was) ∙ append_assoc (lines (map f (take i names))) (f x) (10 ∷ [])
-    ∙ sym (lines_append (map f (take i names)) (f x)) ∙ ap lines (sym (map_append f (take i names) x) ∙ ap (map f) (sym (take_more names i d x h e)))
-    ∙ ap (λ n. lines (map f (take n names))) (sym (add-one i))
+    ∙ sym (lines_append (map f (take i names)) (f x)) ∙ ap lines (sym (map_push f (take i names) x) ∙ ap (map f) (ap (λ x. take i names ++ x ∷ []) e ∙ sym (take_more names i d h)))

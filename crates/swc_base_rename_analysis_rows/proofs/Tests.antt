@@ -1,5 +1,6 @@
 -- Tests that are computed of all identifiers of a drawing, and what they tell of declared ids and of where ids occur.
 use Rattle.std.proofs.Common.{◌≡◌, ℕ, zero, suc, Bool, true, false, not, ◌&&◌, ◌||◌, ◌⊎◌, inl, inr, Option, Some, None, List, [], ◌∷◌, ◌++◌, Contains, refl, sym, ap, ◌∙◌, subst, arith, bytes_eq}
+use Rattle.std.proofs.lemmas.Bool.{and_from, or_right}
 use Rattle.std.specs.List.{list_all, list_any}
 use Rattle.std.specs.Option.{option_map}
 use Rattle.std.specs.Cmp.Lexicographic.{bytes_decides}
@@ -30,14 +31,6 @@ use Rattle.swc_base_rename_analysis_rows.proofs.Seen.{each_id, fits_child, scope
 pub if_so : (a b : Bool) → (not a || b) ≡ true → a ≡ true → b ≡ true
 if_so true b h e = h
 if_so false b h e = absurd (cc)
-
-pub or_second : (a b : Bool) → b ≡ true → (a || b) ≡ true
-or_second true b h = refl
-or_second false b h = h
-
-pub and_both : (a b : Bool) → a ≡ true → b ≡ true → (a && b) ≡ true
-and_both true b e h = h
-and_both false b e h = absurd (cc)
 
 pub itself : (xs : List ℕ) → bytes_eq xs xs ≡ true
 itself xs = (bytes_decides xs xs).1 refl
@@ -181,7 +174,7 @@ own_drawn d s p = owner_test d (before_last p) s p
 
 own_seen : (d : Drawing) (s p : Path) → IsOwnName (draw d) s p → own_drawn d s p ≡ true
 own_seen d s p (q, w, f, e, g, there, uses) =
-    subst (λ o. owner_test d o s p ≡ true) (sym (ap before_last e ∙ all_but_last q fn_decl.IDENT)) (and_both _ _ ((bytes_decides p _).1 e) (and_both _ _ ((bytes_decides s _).1 g) (at (stands_drawn program_place d q) (sym (stands_is q program_place d) ∙ there))))
+    subst (λ o. owner_test d o s p ≡ true) (sym (ap before_last e ∙ all_but_last q fn_decl.IDENT)) (and_from _ _ ((bytes_decides p _).1 e) (and_from _ _ ((bytes_decides s _).1 g) (at (stands_drawn program_place d q) (sym (stands_is q program_place d) ∙ there))))
   where
     at : (o : Option (Place × Drawing)) → option_map as_drawn o ≡ Some (w, f) → stands_own o ≡ true
     at None h = absurd (cc)
@@ -190,20 +183,20 @@ own_seen d s p (q, w, f, e, g, there, uses) =
 pub found : (xs : List Around) (s : Path) (y : Around) → Contains xs y → y.0 ≡ s → list_any (λ u. bytes_eq u.0 s) xs ≡ true
 found [] s y (n, l, e) h = absurd (omega arith)
 found (x ∷ xs) s y (zero, l, e) h = ap (λ b. b || list_any (λ u. bytes_eq u.0 s) xs) ((bytes_decides x.0 s).1 (ap (λ z. z.0) e ∙ h))
-found (x ∷ xs) s y (suc n, l, e) h = or_second _ _ (found xs s y (n, (omega arith), e) h)
+found (x ∷ xs) s y (suc n, l, e) h = or_right _ _ (found xs s y (n, (omega arith), e) h)
 
 abbrev pub occurs_drawn : Drawing → Path → Path → Standing → Bool
 occurs_drawn d s p r = is_name r && (list_any (λ u. bytes_eq u.0 s) (scopes_drawn d p) || own_drawn d s p)
 
 inside_seen : (d : Drawing) (s p : Path) → IsRound (draw d) s p ⊎ IsOwnName (draw d) s p → (list_any (λ u. bytes_eq u.0 s) (scopes_drawn d p) || own_drawn d s p) ≡ true
 inside_seen d s p (inl (k, h)) = ap (λ b. b || own_drawn d s p) (found (scopes_drawn d p) s (s, k) (subst (λ l. Contains l (s, k)) (scopes_are d p) h) refl)
-inside_seen d s p (inr h) = or_second _ _ (own_seen d s p h)
+inside_seen d s p (inr h) = or_right _ _ (own_seen d s p h)
 
 abbrev pub all_occurring_pass : Drawing → Path → (Id → Bool) → Bool
 all_occurring_pass d s f = all_pass d (λ p r x. not (occurs_drawn d s p r) || f x)
 
 pub occurring_passes : (d : Drawing) (s : Path) (f : Id → Bool) → all_occurring_pass d s f ≡ true → (x : Id) → OccursIn (draw d) s x → f x ≡ true
-occurring_passes d s f h x o = if_so (occurs_drawn d s o.path o.standing) _ (passes d (λ p r x. not (occurs_drawn d s p r) || f x) h o.path o.standing x o.stands) (and_both _ _ o.names (inside_seen d s o.path o.inside))
+occurring_passes d s f h x o = if_so (occurs_drawn d s o.path o.standing) _ (passes d (λ p r x. not (occurs_drawn d s p r) || f x) h o.path o.standing x o.stands) (and_from _ _ o.names (inside_seen d s o.path o.inside))
 
 -- ids are told apart by their texts and contexts
 abbrev pub same : Id → Id → Bool
@@ -224,7 +217,7 @@ pub id_is_same : (x y : Id) → same x y ≡ true → x ≡ y
 id_is_same x y h = let (a, b) = both_so (bytes_eq x.0 y.0) (bytes_eq x.1 y.1) h in λ j. (path_is x.0 y.0 a j, path_is x.1 y.1 b j)
 
 pub same_as_itself : (x : Id) → same x x ≡ true
-same_as_itself x = and_both _ _ (itself x.0) (itself x.1)
+same_as_itself x = and_from _ _ (itself x.0) (itself x.1)
 
 -- export lists on the way to a path
 abbrev is_export_local : Role → Bool
@@ -244,7 +237,7 @@ module _ (below : Path) (i : ℕ) (v : Place) (k : Kind) (ts : List Node) (expor
   in_list [] w d h =
       let layer_is : layer d ≡ Node-F.Tree k ts = sym (out_draw d) ∙ ap (λ z. out-Node z.1) (some_is h) ∙ outs-Tree k ts in
       ap (λ y. export_field y i || drawn_or (get (inner d) i) false (λ c. in_list_drawn c below)) layer_is ∙ ap (λ r. is_export_local r || drawn_or (get (inner d) i) false (λ c. in_list_drawn c below)) exports
-  in_list (j ∷ q) w d h = or_second _ _ (at (get (inner d) j) (sym (stands_is (j ∷ q) w d) ∙ h) (λ c. in_list q (place_drawn w d j) c))
+  in_list (j ∷ q) w d h = or_right _ _ (at (get (inner d) j) (sym (stands_is (j ∷ q) w d) ∙ h) (λ c. in_list q (place_drawn w d j) c))
     where
       at : (o : Option Drawing) → option_map as_drawn (drawn_or o None (λ c. stands_drawn (place_drawn w d j) c q)) ≡ Some (v, Tree k ts)
           → ((c : Drawing) → place_at (place_drawn w d j) (draw c) q ≡ Some (v, Tree k ts) → in_list_drawn c (q ++ (i ∷ below)) ≡ true) → drawn_or o false (λ c. in_list_drawn c (q ++ (i ∷ below))) ≡ true
