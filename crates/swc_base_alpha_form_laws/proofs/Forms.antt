@@ -1,6 +1,5 @@
 -- A program that is one with another but for names has its normal form but for bound names.
 use Rattle.std.proofs.Common.{◌≡◌, ◌⊎◌, Bool, true, false, ◌||◌, IsTrue, inl, inr, ⊎_elim, Option, Some, None, [], nat_eq, refl, sym, ap, ◌∙◌}
-use Rattle.std.proofs.lemmas.Bool.{and_from, or_left, or_right}
 use Rattle.std.specs.List.{list_any}
 use Rattle.std.specs.Cmp.Lexicographic.{pointwise}
 use Rattle.std.proofs.lemmas.Cmp.{nat_list_eq_equiv}
@@ -33,7 +32,15 @@ use Rattle.swc_base_alpha_chained_laws.proofs.Variants.{binder, stood}
 use Rattle.swc_base_normal_form_laws.specs.Laws.{NormalFormIsClean}
 use Rattle.swc_base_alpha_form_laws.specs.Laws.{AlphaKeepsForms}
 use Rattle.swc_base_alpha_form_laws.proofs.Declared.{declared_at}
-use Rattle.swc_base_alpha_form_laws.proofs.Same.{MayStand, same_where_each_may}
+use Rattle.swc_base_alpha_form_laws.proofs.Same.{MayStand, and_both, same_where_each_may}
+
+or_left : (a b : Bool) → a ≡ true → (a || b) ≡ true
+or_left true b h = refl
+or_left false b h = absurd (cc)
+
+or_right : (a b : Bool) → b ≡ true → (a || b) ≡ true
+or_right true b h = refl
+or_right false b h = h
 
 false_is : (b : Bool) → b ≡ false → ¬ IsTrue b
 false_is true e h = absurd (cc)
@@ -55,7 +62,7 @@ module _ (laws : Laws) (clean_law : NormalFormIsClean) (goal : Slot) (t u : Node
       (λ y.
       let g = (finds t program_place site).0 y in
       declared_at i g.path program_place g.place t g.kind b.identifier g.stands
-      (and_from _ _ (ap (pointwise nat_eq i.sym) b.named ∙ nat_list_eq_equiv.refl i.sym) (ap (pointwise nat_eq i.ctxt) (b.unmarked ∙ sym none) ∙ nat_list_eq_equiv.refl i.ctxt))
+      (and_both _ _ (ap (pointwise nat_eq i.sym) b.named ∙ nat_list_eq_equiv.refl i.sym) (ap (pointwise nat_eq i.ctxt) (b.unmarked ∙ sym none) ∙ nat_list_eq_equiv.refl i.ctxt))
       (counted_binds g.place.standing b.place.standing g.stands_so binds))
       (λ y. absurd (not_both b.place.standing binds (counted_refers b.place.standing y.refers)))
       ((left laws goal is t f w s).names site ((finds N program_place site).1 (record { path = b.path; place = b.place; kind = b.kind; stands = b.stands; stands_so = refl; names = binding_names b.place.standing binds; env = refl })))
@@ -83,7 +90,7 @@ module _ (laws : Laws) (clean_law : NormalFormIsClean) (goal : Slot) (t u : Node
       let one : a ≡ j = (one_there (normal_form u) p x.0 z x.1 l a j x.2 h).1 in
       ⊎_elim
       (λ free. or_left _ _ (ap (pointwise nat_eq i.sym) (sym ((alpha.free p i a (v, k, e, n) x).1 free ∙ ap (λ (i : Ident). i.sym) one)) ∙ nat_list_eq_equiv.refl i.sym))
-      (λ d. or_right _ _ (and_from _ _ n d))
+      (λ d. or_right _ _ (and_both _ _ n d))
       (free_or_declared p i (v, k, e, n))
 
   each_may : (p : Path) (v z : Place) (k l : Kind) (i j : Ident) → place_at program_place N p ≡ Some (v, Identifier k i) → place_at program_place (normal_form u) p ≡ Some (z, Identifier l j) → MayStand (declared_names t) v.standing i j

@@ -1,6 +1,5 @@
 -- Trees of one outline are the same but for names, where each two identifiers at one path are.
 use Rattle.std.proofs.Common.{◌≡◌, ℕ, zero, suc, Bool, true, false, ◌&&◌, ◌||◌, ◌==◌, IsTrue, Some, List, [], ◌∷◌, map, nat_eq, refl, sym, ap, ◌∙◌, subst}
-use Rattle.std.proofs.lemmas.Bool.{and_from}
 use Rattle.std.specs.Prelude.{slice_get}
 use Rattle.std.specs.List.{list_any}
 use Rattle.std.specs.Cmp.{unsigned_Decides}
@@ -24,6 +23,10 @@ use Rattle.swc_tree_grammar.specs.Normal.{same_id}
 use Rattle.swc_tree_grammar.specs.Same.{each_same, same_flag, same_in, same_step}
 use Rattle.swc_base_rename_laws.specs.NewNames.{outline}
 use Rattle.swc_base_rename_laws.proofs.Outline.{layer, out_is, places_alike}
+
+pub and_both : (a b : Bool) → a ≡ true → b ≡ true → (a && b) ≡ true
+and_both true b h g = g
+and_both false b h g = absurd (cc)
 
 flags_same : (x : Bool) → same_flag x x ≡ true
 flags_same true = refl
@@ -54,7 +57,7 @@ module _ (declared : List Ident) where
   each (t ∷ ts) (u ∷ us) places e h =
       let first : outline t ≡ outline u = cc in
       let rest : map outline ts ≡ map outline us = cc in
-      and_from (same_at (places zero) t u) (each_same (each_in same_at (λ i. places (suc i)) ts) us) (h zero t u refl refl first) (each ts us (λ i. places (suc i)) rest (λ i c d a b. h (suc i) c d a b))
+      and_both (same_at (places zero) t u) (each_same (each_in same_at (λ i. places (suc i)) ts) us) (h zero t u refl refl first) (each ts us (λ i. places (suc i)) rest (λ i c d a b. h (suc i) c d a b))
 
   module _ (t u : Node) (below : (i : ℕ) (c : Node) → child t i ≡ Some c → Same c) (w : Place) (shape : outline t ≡ outline u) (may : EachMay w t u) where
     layers : (y z : Node-F Node) → out-Node t ≡ y → out-Node u ≡ z → layer y ≡ layer z
@@ -97,7 +100,7 @@ module _ (declared : List Ident) where
     name : (k : Kind) (i : Ident) (z : Node-F Node) → out-Node t ≡ Node-F.Identifier k i → out-Node u ≡ z → layer (Node-F.Identifier k i) ≡ layer z → layered w (Node-F.Identifier k i) z ≡ true
     name k i (Node-F.Identifier l j) e f h =
         let one : k ≡ l = cc in
-        and_from _ _ (kinds k l one) (may [] w w k l i j (ap (λ t. Some (w, t)) (identifier_is t k i e)) (ap (λ u. Some (w, u)) (identifier_is u l j f)))
+        and_both _ _ (kinds k l one) (may [] w w k l i j (ap (λ t. Some (w, t)) (identifier_is t k i e)) (ap (λ u. Some (w, u)) (identifier_is u l j f)))
     name k i _ e f h = absurd (cc)
 
     items : (ts : List Node) (z : Node-F Node) → out-Node t ≡ Node-F.List ts → out-Node u ≡ z → layer (Node-F.List ts) ≡ layer z → layered w (Node-F.List ts) z ≡ true
@@ -108,7 +111,7 @@ module _ (declared : List Ident) where
     fields k ts (Node-F.Tree l us) e f h =
         let one : k ≡ l = cc in
         let same : map outline ts ≡ map outline us = cc in
-        and_from _ _ (kinds k l one) (each ts us (place_in w (Node-F.Tree k ts)) same (child_same (Node-F.Tree k ts) (Node-F.Tree l us) e f))
+        and_both _ _ (kinds k l one) (each ts us (place_in w (Node-F.Tree k ts)) same (child_same (Node-F.Tree k ts) (Node-F.Tree l us) e f))
     fields k ts _ e f h = absurd (cc)
 
     both : (y z : Node-F Node) → out-Node t ≡ y → out-Node u ≡ z → layered w y z ≡ true
