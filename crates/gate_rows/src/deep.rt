@@ -2,7 +2,7 @@
 use crate::given::{Given, Program};
 use anyhow::{Result, bail};
 use std::alloc::{AllocError, Global};
-use swc_tree::{BlockStmt, DUMMY_SP, Opened, Stmt, Trees, class};
+use swc_tree::{BlockStmt, DUMMY_SP, Opened, Trees, class};
 use swc_tree_node::Kind;
 
 // How many blocks are put round the statements of a script.
@@ -18,7 +18,7 @@ fn put_in_block(
         stmts,
     };
     let mut around = Trees::new(alloc);
-    around.push(Stmt::Block(block).close(alloc)?)?;
+    around.push(block.close(alloc)?.widen::<class::Stmt>())?;
     Ok(around)
 }
 

@@ -9,10 +9,10 @@ use swc_ecma_transforms_base::rename::{Config, renamer};
 use swc_ecma_transforms_base::resolver::{marks_ok, resolver};
 use swc_ecma_transforms_base::{chain_module, chain_script, finish_module, finish_script};
 use swc_tree::{
-    BlockStmt, DUMMY_SP, Expr, ExprStmt, Globals, Ident, JsPass, Mark, Module, NoComments, Opened,
-    ParenExpr, Script, Stmt, SyntaxContext, Text, Tree, Trees, UnaryExpr, UnaryOp, class,
+    BlockStmt, DUMMY_SP, ExprStmt, Globals, Ident, JsPass, Mark, Module, NoComments, Opened,
+    ParenExpr, Script, SyntaxContext, Text, Tree, Trees, UnaryExpr, UnaryOp, class,
 };
-use swc_tree_node::Node;
+use swc_tree_node::{Kind, Node};
 
 // How many blocks lie in one another, and how many operators, each in a pair.
 const DEPTH: u32 = 200;
@@ -24,7 +24,7 @@ fn expression(alloc: Global) -> Option<Tree<class::Expr>> {
         ctxt: SyntaxContext::empty(alloc),
         sym: Text::new(alloc, "a").ok()?,
     };
-    let mut expr = Expr::Ident(name).close(alloc).ok()?;
+    let mut expr = Tree::<class::Expr>::from_identifier(alloc, Kind::Ident, name).ok()?;
     for _ in 0..DEPTH {
         let pair = ParenExpr {
             span: DUMMY_SP,
@@ -33,9 +33,9 @@ fn expression(alloc: Global) -> Option<Tree<class::Expr>> {
         let operation = UnaryExpr {
             span: DUMMY_SP,
             op: UnaryOp::Bang,
-            arg: Expr::Paren(pair).close(alloc).ok()?,
+            arg: pair.close(alloc).ok()?.widen::<class::Expr>(),
         };
-        expr = Expr::Unary(operation).close(alloc).ok()?;
+        expr = operation.close(alloc).ok()?.widen::<class::Expr>();
     }
     Some(expr)
 }
@@ -46,7 +46,7 @@ fn statement(alloc: Global) -> Option<Tree<class::Stmt>> {
         span: DUMMY_SP,
         expr: expression(alloc)?,
     };
-    let mut stmt = Stmt::Expr(statement).close(alloc).ok()?;
+    let mut stmt = statement.close(alloc).ok()?.widen::<class::Stmt>();
     for _ in 0..DEPTH {
         let mut stmts = Trees::new(alloc);
         stmts.push(stmt).ok()?;
@@ -54,7 +54,7 @@ fn statement(alloc: Global) -> Option<Tree<class::Stmt>> {
             span: DUMMY_SP,
             stmts,
         };
-        stmt = Stmt::Block(block).close(alloc).ok()?;
+        stmt = block.close(alloc).ok()?.widen::<class::Stmt>();
     }
     Some(stmt)
 }

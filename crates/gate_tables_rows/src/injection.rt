@@ -9,8 +9,8 @@ use swc_base_rename::hygiene;
 use swc_base_tables::{
     Helper, HelperBodies, Helpers, InjectHelpers, helper, helper_expr, inject_helpers,
 };
-use swc_tree::{DUMMY_SP, Globals, Mark, Opened, Trees, class};
-use swc_tree_node::Class;
+use swc_tree::{DUMMY_SP, Expr, Globals, Ident, Mark, NoMemory, Opened, Tree, Trees, class};
+use swc_tree_node::{Class, Kind};
 
 /// Helpers with the mark 7, `throw` among them.
 pub fn helpers(alloc: Global, external: bool) -> Option<Helpers> {
@@ -109,14 +109,23 @@ fn injected(
     given.left(alloc, Ok(())).ok()
 }
 
+/// The name of a helper, as the expression has it by which a program calls the helper.
+pub fn name_of(alloc: Global, helpers: &mut Helpers, helper: Helper) -> Result<Ident, NoMemory> {
+    match helper_expr(alloc, helpers, DUMMY_SP, helper)? {
+        Expr::Ident(name) => Ok(name),
+        _ => unreachable!(),
+    }
+}
+
 // The name of `throw` as an expression and as what is called, and whether it is enabled then, on a table with the one mark 1.
 fn names(alloc: Global) -> Option<String> {
     let mut globals = Globals::from_table(alloc, &[(1, 0)]).ok()?;
     let second = Mark::new(&mut globals).ok()?.as_u32();
     let mut helpers = Helpers::new(&mut globals, true).ok()?;
-    let expr = helper_expr(alloc, &mut helpers, DUMMY_SP, throw()?).ok()?;
+    let name = name_of(alloc, &mut helpers, throw()?).ok()?;
     let called = helper(alloc, &mut helpers, DUMMY_SP, throw()?).ok()?;
-    let expr = write(alloc, &expr.into_node(alloc).ok()?).ok()?;
+    let expr = Tree::<class::Expr>::from_identifier(alloc, Kind::Ident, name).ok()?;
+    let expr = write(alloc, expr.node()).ok()?;
     let called = write(alloc, &called.into_node(alloc).ok()?).ok()?;
     let is_enabled = helpers.is_enabled(throw()?);
     let mark = helpers.mark().as_u32();

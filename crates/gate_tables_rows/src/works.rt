@@ -1,14 +1,14 @@
 //! Works that may be refused memory, each with all that it needs.
 use crate::finished::{Task, run, task_of};
 use crate::helpers::{named, names};
-use crate::injection::{body_of, helpers, pass_of, program_of, statements, throw};
+use crate::injection::{body_of, helpers, name_of, pass_of, program_of, statements, throw};
 use gate_rows::{Given, Notes, Work, room};
 use jsbase_writer::write;
 use std::alloc::Global;
 use std::fmt::Write;
-use swc_base_tables::{Helper, HelperBodies, Helpers, InjectHelpers, helper, helper_expr};
-use swc_tree::{DUMMY_SP, Globals, Mark, Opened, PassError, Trees, class};
-use swc_tree_node::{Class, Node};
+use swc_base_tables::{Helper, HelperBodies, Helpers, InjectHelpers, helper};
+use swc_tree::{DUMMY_SP, Globals, Mark, Opened, PassError, Tree, Trees, class};
+use swc_tree_node::{Class, Kind, Node};
 
 /// Helpers that are made on an empty table, and enabled one.
 #[derive(Drop)]
@@ -101,9 +101,10 @@ impl Named {
 
     // Both names.
     fn name(&mut self, alloc: Global) -> Result<(), PassError> {
-        let expr = helper_expr(alloc, &mut self.helpers, DUMMY_SP, self.helper)?;
+        let name = name_of(alloc, &mut self.helpers, self.helper)?;
         self.is_named = true;
-        self.expr = Some(expr.into_node(alloc)?);
+        let expr = Tree::<class::Expr>::from_identifier(alloc, Kind::Ident, name)?;
+        self.expr = Some(expr.into_node());
         let called = helper(alloc, &mut self.others, DUMMY_SP, self.helper)?;
         self.is_called = true;
         self.called = Some(called.into_node(alloc)?);

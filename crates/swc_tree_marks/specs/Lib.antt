@@ -1,3 +1,4 @@
 pub mod Contexts
 pub mod Errors
 pub mod Globals
+pub mod Listed

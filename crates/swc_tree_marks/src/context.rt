@@ -9,7 +9,7 @@ ghost use borrow.Author.Rules.{rules};
 ghost use Rattle.swc_tree_marks.specs.Contexts.{outer_of};
 
 use crate::mark::Mark;
-use smallvec::SmallVec;
+use crate::marks::Marks;
 use std::alloc::{AllocError, Global};
 use std::cmp::Ordering;
 use std::hash::{Hash, Hasher};
@@ -20,15 +20,16 @@ use std::marker::Model;
 /// A context of no mark or one, as nearly all are, takes no memory.
 #[derive(Debug, Drop)]
 pub struct SyntaxContext {
-    marks: SmallVec<Mark, 1>,
+    marks: Marks,
 }
 
 impl Model for SyntaxContext {
     ghost use Rattle.std.specs.Prelude.{List, ℕ};
+    ghost use Rattle.swc_tree_marks.specs.Listed.{listed};
 
     ghost Value = { List ℕ };
 
-    ghost view = { λ c. c.marks.items };
+    ghost view = { λ c. listed c.marks };
 }
 
 impl SyntaxContext {
@@ -37,7 +38,7 @@ impl SyntaxContext {
         ensures { result ≡ [] }
     {
         SyntaxContext {
-            marks: SmallVec::new(alloc),
+            marks: Marks::None(alloc),
         }
     }
 
@@ -73,7 +74,7 @@ impl Clone for SyntaxContext {
 
     fn clone(&self) -> Result<SyntaxContext, AllocError> {
         Ok(SyntaxContext {
-            marks: SmallVec::from_slice(*self.marks.allocator(), self.marks.as_slice())?,
+            marks: self.marks.clone()?,
         })
     }
 }

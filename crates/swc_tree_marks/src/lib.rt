@@ -6,6 +6,7 @@ mod error;
 mod globals;
 mod ident;
 mod mark;
+mod marks;
 mod span;
 
 pub use context::SyntaxContext;
