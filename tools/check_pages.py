@@ -33,7 +33,7 @@ NAMED = re.compile(r'(?:\.\./)*((?:bench|docs|tools)/[\w./-]*\w)')
 LIMITS = {
     'README.md': 899, 'CONTRIBUTING.md': 1000, 'CHANGELOG.md': 950,
     'docs/ARCHITECTURE.md': 2700, 'docs/DECISIONS.md': 2200, 'docs/DEFINITIONS.md': 5100, 'docs/DIFFERENCES.md': 1300, 'docs/EXAMPLES.md': 1200,
-    'docs/LINT.md': 620, 'docs/MEASUREMENTS.md': 1750, 'docs/PERF.md': 850, 'docs/RENAMERS.md': 1000, 'docs/SURFACE.md': 3200, 'docs/VERIFICATION.md': 2600,
+    'docs/LINT.md': 620, 'docs/MEASUREMENTS.md': 1750, 'docs/PERF.md': 850, 'docs/PROGRAM.md': 600, 'docs/RENAMERS.md': 1000, 'docs/SURFACE.md': 3200, 'docs/VERIFICATION.md': 2600,
     'tools/compute/README.md': 600, 'tools/js/README.md': 600}
 PRINTED = {'docs/JSON.md'}
 ALL = 24000

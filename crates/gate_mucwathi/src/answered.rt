@@ -1,0 +1,64 @@
+//! What is answered to a row.
+use crate::row::Row;
+use anyhow::Result;
+use mucwathi_answers::{
+    Answer, Named, answer_judging, answer_names, answer_resolving, answer_rewriting,
+    answer_showing, answer_tree,
+};
+use mucwathi_arguments::{Error, Task, read_words};
+use std::alloc::{AllocError, Global};
+
+fn named<'a>(file: Option<&'a str>, text: &'a str) -> Named<'a> {
+    Named {
+        name: file.unwrap_or("<stdin>"),
+        text: text.as_bytes(),
+    }
+}
+
+fn answer_task(alloc: Global, task: &Task<'_>, row: &Row) -> Result<Answer, AllocError> {
+    let text = row.text.as_str();
+    let other = row.other.as_str();
+    match task {
+        Task::Rewrite(task) => {
+            let file = task.files.get(0).copied();
+            answer_rewriting(alloc, task, "", named(file, text))
+        }
+        Task::Judge(task) => answer_judging(
+            alloc,
+            task,
+            named(Some(task.before), text),
+            named(Some(task.after), other),
+        ),
+        Task::Names(task) => answer_names(alloc, task.goal, named(task.file, text)),
+        Task::Resolve(task) => answer_resolving(alloc, task.goal, named(task.file, text)),
+        Task::Tree(task) => answer_tree(alloc, task.goal, named(task.file, text)),
+        Task::Show(task) => answer_showing(alloc, task.goal, named(task.file, text)),
+    }
+}
+
+// What a command line is refused with, or `--help` and `--version` print.
+fn of_clap(alloc: Global, error: &Error) -> Result<Answer, AllocError> {
+    let said = error.to_string(alloc)?.into_bytes();
+    if error.use_stderr() {
+        return Ok(Answer {
+            out: Vec::new(alloc),
+            map: Vec::new(alloc),
+            told: said,
+            status: 2,
+        });
+    }
+    Ok(Answer {
+        out: said,
+        map: Vec::new(alloc),
+        told: Vec::new(alloc),
+        status: 0,
+    })
+}
+
+/// What is answered to a row.
+pub(crate) fn answer(alloc: Global, row: &Row) -> Result<Answer> {
+    match read_words(alloc, row.words.as_slice()) {
+        Ok(task) => Ok(answer_task(alloc, &task, row)?),
+        Err(error) => Ok(of_clap(alloc, &error)?),
+    }
+}

@@ -1,0 +1,89 @@
+//! The rows of standard input.
+use crate::answered::answer;
+use crate::row::{Row, begins_row};
+use anyhow::{Result, bail};
+use mucwathi_answers::Answer;
+
+// Whether bytes are the lines, the last of which may have no end.
+fn are_lines(bytes: &[u8], lines: &str) -> bool {
+    let lines = lines.as_bytes();
+    match lines.split_last() {
+        Some((_, front)) => bytes == front || bytes == lines,
+        None => bytes.is_empty(),
+    }
+}
+
+fn is_wanted(row: &Row, answer: &Answer) -> bool {
+    let status = row.status.as_str().parse::<u8>().unwrap_or(0);
+    are_lines(answer.out.as_slice(), row.out.as_str())
+        && are_lines(answer.map.as_slice(), row.map.as_str())
+        && are_lines(answer.told.as_slice(), row.told.as_str())
+        && answer.status == status
+}
+
+fn show(rt: &HostRuntime, words: &str, answer: &Answer) -> Result<()> {
+    let out = String::from_utf8_lossy(rt.alloc(), answer.out.as_slice())?;
+    let map = String::from_utf8_lossy(rt.alloc(), answer.map.as_slice())?;
+    let told = String::from_utf8_lossy(rt.alloc(), answer.told.as_slice())?;
+    let status = answer.status;
+    println!(rt; "{words}")?;
+    for line in out.as_str().lines() {
+        println!(rt; "= {line}")?;
+    }
+    for line in map.as_str().lines() {
+        println!(rt; "@ {line}")?;
+    }
+    for line in told.as_str().lines() {
+        println!(rt; "! {line}")?;
+    }
+    println!(rt; "? {status}")?;
+    Ok(())
+}
+
+// Whether a row is answered as it wants. Says what is answered else.
+fn is_answered(rt: &HostRuntime, words: &str, lines: &[String]) -> Result<bool> {
+    let row = Row::of_lines(rt.alloc(), words, lines)?;
+    let answer = answer(rt.alloc(), &row)?;
+    if is_wanted(&row, &answer) {
+        return Ok(true);
+    }
+    show(rt, words, &answer)?;
+    Ok(false)
+}
+
+fn lines(rt: &HostRuntime) -> Result<Vec<String>> {
+    let mut lines = Vec::new(rt.alloc());
+    for line in rt.lines(rt.alloc()) {
+        lines.push(line?)?;
+    }
+    Ok(lines)
+}
+
+/// Goes over the rows of standard input. Says which differ, and how many passed.
+///
+/// # Errors
+///
+/// Where a row differs, and where memory is refused.
+pub(crate) fn replay(rt: &HostRuntime) -> Result<()> {
+    let lines = lines(rt)?;
+    let (mut passed, mut failed) = (0u32, 0u32);
+    let mut rest = lines.as_slice();
+    for _ in 0..lines.len() {
+        let [words, behind @ ..] = rest else {
+            break;
+        };
+        if begins_row(words.as_str()) {
+            if is_answered(rt, words.as_str(), behind)? {
+                passed = passed.saturating_add(1);
+            } else {
+                failed = failed.saturating_add(1);
+            }
+        }
+        rest = behind;
+    }
+    println!(rt; "{passed} passed, {failed} failed")?;
+    if failed > 0 {
+        bail!("{failed} rows differ");
+    }
+    Ok(())
+}

@@ -1,0 +1,233 @@
+//! Tasks done.
+use crate::files::{last_name, read, tell, write_into, write_out, write_whole};
+use mucwathi_answers::{
+    Answer, Named, answer_judging, answer_names, answer_resolving, answer_rewriting,
+    answer_showing, answer_tree,
+};
+use mucwathi_arguments::{Judging, Looking, Rewriting, Target, Task};
+use std::alloc::{AllocError, Global};
+use std::io::{self, IsTerminal};
+
+pub(crate) const USAGE: u8 = 2;
+
+pub(crate) const NOT_READ: u8 = 4;
+
+pub(crate) const REFUSED: u8 = 5;
+
+// What a file is called in what is told.
+fn name_of(file: Option<&str>) -> &str {
+    file.unwrap_or("<stdin>")
+}
+
+fn tell_failure(rt: &HostRuntime, name: &str, what: &str, error: &io::Error) -> u8 {
+    let _ = eprintln!(rt; "{name}: {what}: {error}");
+    NOT_READ
+}
+
+fn tell_no_memory(rt: &HostRuntime, name: &str) -> u8 {
+    let _ = eprintln!(rt; "{name}: refused: no memory");
+    REFUSED
+}
+
+// Tells what is told, and writes what is written to standard output.
+fn give(rt: &HostRuntime, name: &str, answer: Result<Answer, AllocError>) -> u8 {
+    let Ok(answer) = answer else {
+        return tell_no_memory(rt, name);
+    };
+    tell(rt, answer.told.as_slice());
+    match write_out(rt, answer.out.as_slice()) {
+        Ok(()) => answer.status,
+        Err(error) => tell_failure(rt, "standard output", "not written", &error),
+    }
+}
+
+// Where an answer goes that is not told but written.
+fn put(rt: &HostRuntime, target: Target<'_>, file: Option<&str>, out: &[u8]) -> io::Result<()> {
+    let Some(path) = file else {
+        return write_out(rt, out);
+    };
+    match target {
+        Target::Output => write_out(rt, out),
+        Target::Place => write_whole(rt, path, out),
+        Target::Folder(folder) => write_into(rt, folder, path, out),
+    }
+}
+
+fn put_map(rt: &HostRuntime, path: &str, map: &[u8]) -> u8 {
+    match write_whole(rt, path, map) {
+        Ok(()) => 0,
+        Err(error) => tell_failure(rt, path, "not written", &error),
+    }
+}
+
+fn rewrite_one(rt: &HostRuntime, task: &Rewriting<'_>, prefix: &str, file: Option<&str>) -> u8 {
+    let name = name_of(file);
+    let text = match read(rt, file) {
+        Ok(text) => text,
+        Err(error) => return tell_failure(rt, name, "not read", &error),
+    };
+    let of = Named {
+        name,
+        text: text.as_slice(),
+    };
+    let answer = answer_rewriting(rt.alloc(), task, prefix, of);
+    if task.lists || task.explains {
+        return give(rt, name, answer);
+    }
+    let Ok(answer) = answer else {
+        return tell_no_memory(rt, name);
+    };
+    tell(rt, answer.told.as_slice());
+    if answer.status != 0 {
+        return answer.status;
+    }
+    if let Err(error) = put(rt, task.target, file, answer.out.as_slice()) {
+        return tell_failure(rt, name, "not written", &error);
+    }
+    match task.map {
+        Some(path) => put_map(rt, path, answer.map.as_slice()),
+        None => 0,
+    }
+}
+
+// What each line of a list begins with, where there are several files.
+fn prefix_for(alloc: Global, count: usize, file: &str) -> Result<String, AllocError> {
+    if count < 2 {
+        return Ok(String::new(alloc));
+    }
+    format!(in alloc; "{file}:")
+}
+
+// How far it is, where several files are worked on and somebody looks on.
+fn tell_progress(rt: &HostRuntime, done: usize, count: usize, file: &str) {
+    if count > 1 && rt.stderr().is_terminal() {
+        let _ = eprintln!(rt; "{done} of {count}: {file}");
+    }
+}
+
+fn rewrite_each(rt: &HostRuntime, task: &Rewriting<'_>) -> u8 {
+    let mut status = 0;
+    let mut number: usize = 0;
+    for file in task.files.iter() {
+        number = number.saturating_add(1);
+        tell_progress(rt, number, task.files.len(), *file);
+        let done = match prefix_for(rt.alloc(), task.files.len(), *file) {
+            Ok(prefix) => rewrite_one(rt, task, prefix.as_str(), Some(*file)),
+            Err(_) => tell_no_memory(rt, *file),
+        };
+        if status < done {
+            status = done;
+        }
+    }
+    status
+}
+
+fn tell_usage(rt: &HostRuntime, what: &str) -> u8 {
+    let _ = eprintln!(rt; "mucwathi: {what}");
+    USAGE
+}
+
+fn tell_usage_of(rt: &HostRuntime, name: &str, what: &str) -> u8 {
+    let _ = eprintln!(rt; "mucwathi: {name}: {what}");
+    USAGE
+}
+
+// The name that two files share without their folders, if two do.
+fn repeated<'a>(files: &[&'a str]) -> Option<&'a str> {
+    let mut rest = files;
+    for _ in 0..files.len() {
+        let [file, behind @ ..] = rest else {
+            return None;
+        };
+        let name = last_name(*file);
+        if behind.iter().any(|other| last_name(*other) == name) {
+            return Some(name);
+        }
+        rest = behind;
+    }
+    None
+}
+
+fn rewrite(rt: &HostRuntime, task: &Rewriting<'_>) -> u8 {
+    let writes = !task.lists && !task.explains;
+    if task.files.is_empty() {
+        return match task.target {
+            Target::Output => rewrite_one(rt, task, "", None),
+            _ => tell_usage(rt, "--in-place and --out want files"),
+        };
+    }
+    if writes && task.files.len() > 1 && task.target == Target::Output {
+        return tell_usage(rt, "several files want --in-place or --out FOLDER");
+    }
+    if task.map.is_some() && task.files.len() > 1 {
+        return tell_usage(rt, "--source-map wants one file");
+    }
+    if writes
+        && matches!(task.target, Target::Folder(_))
+        && let Some(name) = repeated(task.files.as_slice())
+    {
+        return tell_usage_of(rt, name, "two files would be written to one of this name");
+    }
+    rewrite_each(rt, task)
+}
+
+fn judge(rt: &HostRuntime, task: &Judging<'_>) -> u8 {
+    let before = match read(rt, Some(task.before)) {
+        Ok(text) => text,
+        Err(error) => return tell_failure(rt, task.before, "not read", &error),
+    };
+    let after = match read(rt, Some(task.after)) {
+        Ok(text) => text,
+        Err(error) => return tell_failure(rt, task.after, "not read", &error),
+    };
+    let first = Named {
+        name: task.before,
+        text: before.as_slice(),
+    };
+    let second = Named {
+        name: task.after,
+        text: after.as_slice(),
+    };
+    let answer = answer_judging(rt.alloc(), task, first, second);
+    give(rt, task.after, answer)
+}
+
+// What is told of a file, or of standard input.
+#[derive(Clone, Copy)]
+enum Work {
+    Names,
+    Marks,
+    Tree,
+    Page,
+}
+
+fn look(rt: &HostRuntime, task: &Looking<'_>, work: Work) -> u8 {
+    let name = name_of(task.file);
+    let text = match read(rt, task.file) {
+        Ok(text) => text,
+        Err(error) => return tell_failure(rt, name, "not read", &error),
+    };
+    let of = Named {
+        name,
+        text: text.as_slice(),
+    };
+    let answer = match work {
+        Work::Names => answer_names(rt.alloc(), task.goal, of),
+        Work::Marks => answer_resolving(rt.alloc(), task.goal, of),
+        Work::Tree => answer_tree(rt.alloc(), task.goal, of),
+        Work::Page => answer_showing(rt.alloc(), task.goal, of),
+    };
+    give(rt, name, answer)
+}
+
+/// Does a task, and tells the status to end with.
+pub(crate) fn run(rt: &HostRuntime, task: &Task<'_>) -> u8 {
+    match task {
+        Task::Rewrite(task) => rewrite(rt, task),
+        Task::Judge(task) => judge(rt, task),
+        Task::Names(task) => look(rt, task, Work::Names),
+        Task::Resolve(task) => look(rt, task, Work::Marks),
+        Task::Tree(task) => look(rt, task, Work::Tree),
+        Task::Show(task) => look(rt, task, Work::Page),
+    }
+}

@@ -1,0 +1,50 @@
+-- What is told of two texts.
+use Rattle.std.proofs.Common.{◌≡◌, ◌<◌, ℕ, List, Option, Some, None, arith, Result, Ok, Err, IfOk}
+use Rattle.text_reader.specs.declared.fault.TextFault.{TextFault}
+use Rattle.text_reader.specs.declared.fault.TextFault.TheVariants as text
+use Rattle.mucwathi_arguments.specs.declared.task.Judging.{Judging}
+use Rattle.text_parser.specs.declared.programs.Goal.{Goal}
+use Rattle.mucwathi_commands.specs.Judged.{IsJudged}
+use Rattle.mucwathi_commands.specs.declared.judge.TextDifference.{TextDifference}
+use Rattle.mucwathi_faults.specs.declared.fault.JudgeFault.{JudgeFault}
+use Rattle.mucwathi_faults.specs.declared.fault.JudgeFault.TheVariants as judging
+use Rattle.mucwathi_report.specs.Status.{judge_status, text_status}
+use Rattle.mucwathi_answers.specs.Answers.{IsAsked, IsVerdict, TellsVerdict, rules_for, verdict_status}
+use Rattle.mucwathi_answers.specs.declared.answer.Answer.{Answer}
+
+read_status : (f : TextFault) → 1 < text_status f
+read_status text.NoMemory = omega arith
+read_status text.TooLong = omega arith
+read_status text.NotTheText = omega arith
+read_status (text.NotUtf8 at) = omega arith
+read_status (text.Unexpected at expected) = omega arith
+read_status (text.Unterminated at) = omega arith
+read_status (text.BadEscape at) = omega arith
+read_status (text.BadNumber at) = omega arith
+read_status (text.BadRegex at) = omega arith
+read_status (text.HalfSurrogate at) = omega arith
+read_status (text.EscapedDirective at) = omega arith
+read_status (text.NotRead at language) = omega arith
+read_status (text.TooDeep at) = omega arith
+
+fault_status : (f : JudgeFault) → 1 < judge_status f
+fault_status (judging.Before f) = read_status f
+fault_status (judging.After f) = read_status f
+fault_status (judging.Refused e) = omega arith
+
+pub verdict : {F : Type 0} (task : Judging) (before after : List ℕ) (g h : Goal) → IsAsked task.goal g → IsAsked task.goal h → (r : Result (Option TextDifference) F) → IfOk r (λ said. IsJudged (rules_for task) g before h after said) → IfOk r (IsVerdict task before after)
+verdict task before after g h one other (Ok said) judged = record { first = g; second = h; asked_first = one; asked_second = other; judged = judged }
+verdict task before after g h one other (Err f) judged = tt
+
+module _ {E : Type 0} (task : Judging) (before after : List ℕ) where
+  pub told_verdict : (said : Option TextDifference) (r : Result Answer E) → IfOk r (λ a. a.status ≡ verdict_status said) → IsVerdict task before after said → IfOk r (λ a. TellsVerdict task before after a.status)
+  told_verdict None (Ok a) is verdict = record { same = λ h. verdict; other = λ h. absurd (omega (arith, is, h)) }
+  told_verdict (Some difference) (Ok a) is verdict = record { same = λ h. absurd (omega (arith, is, h)); other = λ h. (difference, verdict) }
+  told_verdict said (Err e) is verdict = tt
+
+  -- a fault has a status of its own
+  pub told_fault : (f : JudgeFault) (r : Result Answer E) → IfOk r (λ a. a.status ≡ judge_status f) → IfOk r (λ a. TellsVerdict task before after a.status)
+  told_fault f (Ok a) is =
+      let above : 1 < judge_status f = fault_status f in
+      record { same = λ h. absurd (omega (arith, is, h, above)); other = λ h. absurd (omega (arith, is, h, above)) }
+  told_fault f (Err e) is = tt

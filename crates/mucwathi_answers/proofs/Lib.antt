@@ -1,0 +1,2 @@
+mod Worked
+mod Judged

@@ -1,0 +1,201 @@
+//! What is said of two texts.
+ghost use Rattle.std.specs.Prelude.{◌≡◌, IfOk};
+ghost use Rattle.mucwathi_report.specs.Status.{judge_status};
+ghost use Rattle.mucwathi_commands.specs.Judged.{IsJudged};
+ghost use Rattle.mucwathi_answers.specs.Answers.{IsVerdict, TellsVerdict, rules_for, verdict_status};
+
+use crate::answer::{Answer, DEPTH};
+use crate::goals::{goal_of, goal_or, reach as reach_of};
+use mucwathi_arguments::Judging;
+use mucwathi_commands::{Goal, JudgeFault, NamedText, Rules, TextDifference, judge_texts};
+use mucwathi_report::{Named, status_of_judging, tell_difference, tell_judge_fault};
+use std::alloc::{AllocError, Global};
+
+// How far two texts were read.
+fn reach(fault: &JudgeFault) -> (bool, usize) {
+    match fault {
+        JudgeFault::Before(fault) => (false, reach_of(fault)),
+        JudgeFault::After(fault) => (true, reach_of(fault)),
+        JudgeFault::Refused(_) => (true, usize::MAX),
+    }
+}
+
+// As what both are read where the name of one file alone tells; none where both are open.
+fn goal_of_one(asked: Option<Goal>, before: &str, after: &str) -> Option<Goal> {
+    match goal_of(asked, before) {
+        Some(goal) => Some(goal),
+        None => goal_of(asked, after),
+    }
+}
+
+// Whether texts that were not read so are to be read as modules.
+fn may_be_modules(fault: &JudgeFault, asked: Option<Goal>, before: &str, after: &str) -> bool {
+    match fault {
+        JudgeFault::Before(fault) | JudgeFault::After(fault) => {
+            goal_of_one(asked, before, after).is_none() && fault.at().is_some()
+        }
+        JudgeFault::Refused(_) => false,
+    }
+}
+
+// By what the texts are judged.
+fn rules_of(task: &Judging<'_>) -> Rules
+    ensures { result ≡ rules_for task.now }
+{
+    Rules {
+        depth: DEPTH,
+        keep_top: task.keep_top,
+        spelling: task.spelling,
+    }
+}
+
+// What is said of two texts, read as the goals have it.
+fn judge_as(
+    alloc: Global,
+    task: &Judging<'_>,
+    before: Named<'_>,
+    after: Named<'_>,
+    first: Goal,
+    second: Goal,
+) -> Result<Option<TextDifference>, JudgeFault>
+    ensures { IfOk result (λ said. IsJudged (rules_for task.now) first before.text.now second after.text.now said) }
+{
+    judge_texts(
+        alloc,
+        &rules_of(task),
+        &NamedText {
+            goal: first,
+            text: before.text,
+        },
+        &NamedText {
+            goal: second,
+            text: after.text,
+        },
+    )
+}
+
+// The same, where goals that are both open are this one.
+fn judge_by(
+    alloc: Global,
+    task: &Judging<'_>,
+    before: Named<'_>,
+    after: Named<'_>,
+    fallback: Goal,
+) -> Result<Option<TextDifference>, JudgeFault>
+    ensures { IfOk result (λ said. IsVerdict task.now before.text.now after.text.now said) }
+{
+    let other = goal_of_one(task.goal, before.name, after.name).unwrap_or(fallback);
+    let first = goal_or(task.goal, before.name, other);
+    let second = goal_or(task.goal, after.name, other);
+    judge_as(alloc, task, before, after, first, second)
+}
+
+// The same as modules, where the texts were not read as scripts; of two faults that which is further behind.
+fn judge_as_modules(
+    alloc: Global,
+    task: &Judging<'_>,
+    before: Named<'_>,
+    after: Named<'_>,
+    fault: JudgeFault,
+) -> Result<Option<TextDifference>, JudgeFault>
+    ensures { IfOk result (λ said. IsVerdict task.now before.text.now after.text.now said) }
+{
+    match judge_by(alloc, task, before, after, Goal::Module) {
+        Ok(said) => Ok(said),
+        Err(other) => Err(if reach(&fault) <= reach(&other) {
+            other
+        } else {
+            fault
+        }),
+    }
+}
+
+// What is said of two texts, where it is open as what they are read: as scripts where both are, and else as modules.
+fn judge(
+    alloc: Global,
+    task: &Judging<'_>,
+    before: Named<'_>,
+    after: Named<'_>,
+) -> Result<Option<TextDifference>, JudgeFault>
+    ensures { IfOk result (λ said. IsVerdict task.now before.text.now after.text.now said) }
+{
+    match judge_by(alloc, task, before, after, Goal::Script) {
+        Ok(said) => Ok(said),
+        Err(fault) => {
+            if may_be_modules(&fault, task.goal, before.name, after.name) {
+                judge_as_modules(alloc, task, before, after, fault)
+            } else {
+                Err(fault)
+            }
+        }
+    }
+}
+
+// That they are not the same, and where.
+fn differing(
+    alloc: Global,
+    before: Named<'_>,
+    after: Named<'_>,
+    difference: &TextDifference,
+) -> Result<Answer, AllocError>
+    ensures { IfOk result (λ a. a.status ≡ 1) }
+{
+    let out = tell_difference(alloc, before, after, difference)?;
+    Ok(Answer {
+        out,
+        map: Vec::new(alloc),
+        told: Vec::new(alloc),
+        status: 1,
+    })
+}
+
+// Why nothing is said.
+fn unjudged(
+    alloc: Global,
+    before: Named<'_>,
+    after: Named<'_>,
+    fault: &JudgeFault,
+) -> Result<Answer, AllocError>
+    ensures { IfOk result (λ a. a.status ≡ judge_status fault.now) }
+{
+    let told = tell_judge_fault(alloc, before, after, fault)?;
+    Ok(Answer::told(alloc, told, status_of_judging(fault)))
+}
+
+// That they are the same.
+fn same(alloc: Global) -> Result<Answer, AllocError>
+    ensures { IfOk result (λ a. a.status ≡ 0) }
+{
+    let out = Vec::from_slice(alloc, b"the same\n")?;
+    Ok(Answer::of(alloc, out))
+}
+
+// What is said.
+fn told(
+    alloc: Global,
+    before: Named<'_>,
+    after: Named<'_>,
+    said: Option<TextDifference>,
+) -> Result<Answer, AllocError>
+    ensures { IfOk result (λ a. a.status ≡ verdict_status said) }
+{
+    match said {
+        None => same(alloc),
+        Some(difference) => differing(alloc, before, after, &difference),
+    }
+}
+
+/// Whether two texts are the same program but for names: status 0 only if they are, 1 only if not.
+pub fn answer_judging(
+    alloc: Global,
+    task: &Judging<'_>,
+    before: Named<'_>,
+    after: Named<'_>,
+) -> Result<Answer, AllocError>
+    ensures { IfOk result (λ a. TellsVerdict task.now before.text.now after.text.now a.status) }
+{
+    match judge(alloc, task, before, after) {
+        Ok(said) => told(alloc, before, after, said),
+        Err(fault) => unjudged(alloc, before, after, &fault),
+    }
+}

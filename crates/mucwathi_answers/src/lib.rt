@@ -1,0 +1,14 @@
+//! What `mucwathi` answers to a task, over texts: what is written, what is told, and the status.
+#![tactic(auto)]
+
+mod answer;
+mod goals;
+mod judging;
+mod looking;
+mod rewriting;
+
+pub use answer::Answer;
+pub use judging::answer_judging;
+pub use looking::{answer_names, answer_resolving, answer_showing, answer_tree};
+pub use mucwathi_report::Named;
+pub use rewriting::answer_rewriting;

@@ -1,0 +1,175 @@
+//! What is made of a text.
+ghost use Rattle.std.specs.Prelude.{◌≡◌, None, IfOk};
+ghost use Rattle.text_parser.specs.declared.programs.Goal.TheVariants as kinds;
+ghost use Rattle.mucwathi_commands.specs.Written.{IsRewritten};
+ghost use Rattle.mucwathi_answers.specs.Answers.{IsAnswered, IsAsked, IsAskedIfAny, IsWorked, keeps_top, order_for as order_of};
+
+use crate::answer::{Answer, DEPTH};
+use crate::goals::{further, goal_of, may_be_module};
+use mucwathi_arguments::Rewriting;
+use mucwathi_commands::{Goal, Order, RunFault, Settings, cover_text, rewrite_text};
+use mucwathi_looks::list_changes;
+use mucwathi_map::source_map;
+use mucwathi_report::{Named, list_renamed, tell_cover};
+use std::alloc::{AllocError, Global};
+
+// Whether names of the program's own scope stay: of a script, where nothing else was asked for.
+fn does_keep_top(asked: Option<bool>, goal: Goal) -> bool
+    ensures { result ≡ keeps_top asked goal }
+{
+    match asked {
+        Some(keep) => keep,
+        None => goal == Goal::Script,
+    }
+}
+
+// What the passes go by, once it is known as what the text is read.
+fn order_for(task: &Rewriting<'_>, goal: Goal) -> Order
+    ensures { result ≡ order_of task.now goal }
+{
+    Order {
+        command: task.command,
+        goal,
+        depth: DEPTH,
+        settings: Settings {
+            keep_top: does_keep_top(task.keep_top, goal),
+            ..task.settings
+        },
+        style: task.style,
+    }
+}
+
+fn list(alloc: Global, order: &Order, prefix: &str, text: &[u8]) -> Result<Answer, RunFault> {
+    let changes = list_changes(alloc, order, text)?;
+    let out = list_renamed(alloc, prefix, text, changes.as_slice())?;
+    Ok(Answer::of(alloc, out))
+}
+
+fn explain(alloc: Global, order: &Order, of: Named<'_>) -> Result<Answer, RunFault> {
+    let gap = cover_text(alloc, order.goal, order.depth, &order.settings, of.text)?;
+    let out = tell_cover(alloc, of, gap)?;
+    Ok(Answer::of(alloc, out))
+}
+
+// The source map of what was written, where one is asked for.
+fn map_for(
+    alloc: Global,
+    task: &Rewriting<'_>,
+    order: &Order,
+    of: Named<'_>,
+    out: &[u8],
+) -> Result<Vec<u8>, RunFault> {
+    if task.map.is_none() {
+        return Ok(Vec::new(alloc));
+    }
+    source_map(alloc, order, of.name, of.text, out)
+}
+
+fn rewrite(
+    alloc: Global,
+    task: &Rewriting<'_>,
+    order: &Order,
+    of: Named<'_>,
+) -> Result<Answer, RunFault>
+    ensures { IfOk result (λ a. IsRewritten order.now of.text.now a.out.items) }
+{
+    let out = rewrite_text(alloc, order, of.text)?;
+    let map = map_for(alloc, task, order, of, out.as_slice())?;
+    Ok(Answer {
+        out,
+        map,
+        told: Vec::new(alloc),
+        status: 0,
+    })
+}
+
+// What is answered where the text is read as the goal has it.
+fn answer_as(
+    alloc: Global,
+    task: &Rewriting<'_>,
+    prefix: &str,
+    of: Named<'_>,
+    goal: Goal,
+) -> Result<Answer, RunFault>
+    requires { IsAsked task.now.goal goal }
+    ensures { IfOk result (λ a. IsWorked task.now of.text.now a) }
+{
+    let order = order_for(task, goal);
+    if task.explains {
+        return explain(alloc, &order, of);
+    }
+    if task.lists {
+        return list(alloc, &order, prefix, of.text);
+    }
+    rewrite(alloc, task, &order, of)
+}
+
+// The same as a module, where the text was not read as a script.
+fn answer_as_module(
+    alloc: Global,
+    task: &Rewriting<'_>,
+    prefix: &str,
+    of: Named<'_>,
+    fault: RunFault,
+) -> Result<Answer, RunFault>
+    requires { IsAsked task.now.goal kinds.Module }
+    ensures { IfOk result (λ a. IsWorked task.now of.text.now a) }
+{
+    match answer_as(alloc, task, prefix, of, Goal::Module) {
+        Ok(answer) => Ok(answer),
+        Err(other) => Err(further(fault, other)),
+    }
+}
+
+// The same where it is open as what it is read: as a script where it is one, and else as a module.
+fn answer_open(
+    alloc: Global,
+    task: &Rewriting<'_>,
+    prefix: &str,
+    of: Named<'_>,
+) -> Result<Answer, RunFault>
+    requires { IsAskedIfAny task.now.goal None }
+    ensures { IfOk result (λ a. IsWorked task.now of.text.now a) }
+{
+    match answer_as(alloc, task, prefix, of, Goal::Script) {
+        Ok(answer) => Ok(answer),
+        Err(fault) => {
+            if may_be_module(&fault) {
+                answer_as_module(alloc, task, prefix, of, fault)
+            } else {
+                Err(fault)
+            }
+        }
+    }
+}
+
+fn answer(
+    alloc: Global,
+    task: &Rewriting<'_>,
+    prefix: &str,
+    of: Named<'_>,
+) -> Result<Answer, RunFault>
+    ensures { IfOk result (λ a. IsWorked task.now of.text.now a) }
+{
+    match goal_of(task.goal, of.name) {
+        Some(goal) => answer_as(alloc, task, prefix, of, goal),
+        None => answer_open(alloc, task, prefix, of),
+    }
+}
+
+/// What is made of a text, or told of it; each line of a list begins with the prefix.
+///
+/// With status 0, and where nothing is told in its place, what is written is what was asked for (`IsRewritten` of `mucwathi_commands`).
+pub fn answer_rewriting(
+    alloc: Global,
+    task: &Rewriting<'_>,
+    prefix: &str,
+    of: Named<'_>,
+) -> Result<Answer, AllocError>
+    ensures { IfOk result (λ a. IsAnswered task.now of.text.now a) }
+{
+    match answer(alloc, task, prefix, of) {
+        Ok(answer) => Ok(answer),
+        Err(fault) => Answer::fault(alloc, of, &fault),
+    }
+}

@@ -1,0 +1,66 @@
+//! What the words of a command line ask for.
+use mucwathi_order::{Command, Goal, Settings, Style};
+
+/// Where the answers to files go.
+#[derive(Clone, Copy, Debug, PartialEq, Eq)]
+pub enum Target<'a> {
+    /// To standard output.
+    Output,
+    /// Each into the place of its file.
+    Place,
+    /// Each into a folder, under the name of its file.
+    Folder(&'a str),
+}
+
+/// What is to be made of texts.
+#[derive(Drop)]
+pub struct Rewriting<'a> {
+    pub command: Command,
+    pub goal: Option<Goal>,
+    pub settings: Settings,
+    /// Whether names of the program's own scope stay: where nothing is said, those of scripts do.
+    pub keep_top: Option<bool>,
+    pub style: Style,
+    /// The names that would be given anew are told, and nothing is written.
+    pub lists: bool,
+    /// Whether the promise covers a text is told, and nothing is written.
+    pub explains: bool,
+    /// Where a source map goes, if one is asked for.
+    pub map: Option<&'a str>,
+    pub target: Target<'a>,
+    /// Files; none for standard input.
+    pub files: Vec<&'a str>,
+}
+
+/// Two files to be compared.
+#[derive(Clone, Copy)]
+pub struct Judging<'a> {
+    pub goal: Option<Goal>,
+    pub keep_top: bool,
+    /// Whether spellings of literals count.
+    pub spelling: bool,
+    pub before: &'a str,
+    pub after: &'a str,
+}
+
+/// A file to be looked into; none for standard input.
+#[derive(Clone, Copy)]
+pub struct Looking<'a> {
+    pub goal: Option<Goal>,
+    pub file: Option<&'a str>,
+}
+
+/// What is asked for.
+#[derive(Drop)]
+pub enum Task<'a> {
+    Rewrite(Rewriting<'a>),
+    Judge(Judging<'a>),
+    /// The free names of a text.
+    Names(Looking<'a>),
+    /// A text with the marks of its names.
+    Resolve(Looking<'a>),
+    /// The tree of a text as JSON, with these marks.
+    Tree(Looking<'a>),
+    /// A text as a page.
+    Show(Looking<'a>),
+}

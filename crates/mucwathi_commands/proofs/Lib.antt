@@ -1,0 +1,4 @@
+mod Contexts
+mod Covered
+mod Judged
+mod Rewritten

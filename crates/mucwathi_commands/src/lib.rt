@@ -1,0 +1,18 @@
+//! JavaScript in, JavaScript out: what the passes make of a text, below all laws.
+//!
+//! `specs/Written.antt` says what: `IsRewritten`.
+#![tactic(auto)]
+
+mod cover;
+mod judge;
+mod places;
+mod rewrite;
+mod write;
+
+pub use cover::{CoverGap, cover_text};
+pub use judge::{NamedText, Rules, TextDifference, judge_texts};
+pub use mucwathi_faults::{JudgeFault, RunFault};
+pub use mucwathi_order::{Command, Goal, Order, Settings, Style};
+pub use rewrite::rewrite_text;
+pub use swc_base_alpha::Why;
+pub use swc_base_covers::Cause;

@@ -1,0 +1,105 @@
+//! From text to text.
+ghost use Rattle.std.specs.Prelude.{◌≡◌, Some, None, MatchResult};
+ghost use Rattle.mucwathi_order.specs.Styles.{layout_of};
+ghost use Rattle.mucwathi_commands.specs.Faults.{IsRunFault};
+ghost use Rattle.mucwathi_commands.specs.Written.{IsReadAs, IsRewritten};
+
+use crate::write::{edit, print};
+use mucwathi_faults::RunFault;
+use mucwathi_order::Order;
+use mucwathi_passes::make;
+use std::alloc::Global;
+use swc_tree_marks::PassError;
+use swc_tree_node::Node;
+use text_printer::Layout;
+use text_source::read_text;
+
+// What a command makes of a program, written anew.
+fn rewrite_anew(
+    alloc: Global,
+    order: &Order,
+    layout: Layout,
+    text: &[u8],
+    source: Node,
+) -> Result<Vec<u8>, RunFault>
+    requires read { IsReadAs order.now.goal source text.now }
+    requires anew { layout_of order.now.style ≡ Some layout }
+    ensures { MatchResult result (λ out. IsRewritten order.now text.now out.items) (IsRunFault order.now text.now) }
+{
+    match make(alloc, order.command, &order.settings, source) {
+        Ok(answer) => print(alloc, order.goal, layout, &answer),
+        Err(error) => Err(RunFault::Refused(error)),
+    }
+}
+
+// The same of a copy of a program, with the layout and the comments of its text.
+fn rewrite_copy(
+    alloc: Global,
+    order: &Order,
+    text: &[u8],
+    source: &Node,
+    copy: Node,
+) -> Result<Vec<u8>, RunFault>
+    requires read { IsReadAs order.now.goal source.now text.now }
+    requires same { copy ≡ source.now }
+    requires kept { layout_of order.now.style ≡ None }
+    ensures { MatchResult result (λ out. IsRewritten order.now text.now out.items) (IsRunFault order.now text.now) }
+{
+    match make(alloc, order.command, &order.settings, copy) {
+        Ok(answer) => edit(alloc, order.goal, text, source, &answer),
+        Err(error) => Err(RunFault::Refused(error)),
+    }
+}
+
+// What a command makes of a program, with the layout and the comments of its text.
+fn rewrite_kept(
+    alloc: Global,
+    order: &Order,
+    text: &[u8],
+    source: &Node,
+) -> Result<Vec<u8>, RunFault>
+    requires read { IsReadAs order.now.goal source.now text.now }
+    requires kept { layout_of order.now.style ≡ None }
+    ensures { MatchResult result (λ out. IsRewritten order.now text.now out.items) (IsRunFault order.now text.now) }
+{
+    match source.clone() {
+        Ok(copy) => rewrite_copy(alloc, order, text, source, copy),
+        Err(_) => Err(RunFault::Refused(PassError::NoMemory)),
+    }
+}
+
+// What a command makes of a program.
+fn rewrite_source(
+    alloc: Global,
+    order: &Order,
+    text: &[u8],
+    source: Node,
+) -> Result<Vec<u8>, RunFault>
+    requires read { IsReadAs order.now.goal source text.now }
+    ensures { MatchResult result (λ out. IsRewritten order.now text.now out.items) (IsRunFault order.now text.now) }
+{
+    match order.style.layout() {
+        Some(layout) => rewrite_anew(alloc, order, layout, text, source),
+        None => rewrite_kept(alloc, order, text, &source),
+    }
+}
+
+/// What a command makes of a text.
+///
+/// What was read is the text of a program that the grammar derives, and what is written is the text of what the command makes of it. What the laws promise of
+/// that says `rewrite_text` of `mucwathi_engine`.
+///
+/// Time and memory grow in step with the text; the recursion is as deep as its tree, `depth` at most.
+///
+/// # Errors
+///
+/// `Text` where the text is not read, with what was expected and where. `Refused` where the command is refused, with its cause, or memory is.
+/// `NotWritten` where the answer has no text, which no text that was read has led to; `NotKept` where its layout can't be kept.
+pub fn rewrite_text(alloc: Global, order: &Order, text: &[u8]) -> Result<Vec<u8>, RunFault>
+    ensures { MatchResult result (λ out. IsRewritten order.now text.now out.items) (IsRunFault order.now text.now) }
+{
+    match read_text(alloc, order.goal, order.depth, text) {
+        Ok(source) => rewrite_source(alloc, order, text, source),
+        Err(fault) => Err(RunFault::of_text(fault)),
+    }
+}

@@ -1,0 +1,54 @@
+-- What the laws say of what was read, made and written.
+use Rattle.std.proofs.Common.{◌≡◌, ℕ, List, Option, Some, None, inl, inr, Result, Ok, Err, MatchResult}
+use Rattle.std.specs.Prelude.{Vec}
+use Rattle.swc_tree_marks.specs.declared.error.PassError.{PassError}
+use Rattle.swc_tree_node.specs.declared.node.Node.{Node}
+use Rattle.swc_tree_node.specs.declared.slot.Content.TheVariants as content
+use Rattle.swc_tree_node.specs.declared.slot.Slot.TheVariants as slot
+use Rattle.swc_tree_renaming.specs.Apart.{IsPlainIfScript}
+use Rattle.swc_base_covers.specs.Covered as covers
+use Rattle.swc_base_rename_substitution.specs.declared.config.Config.{Config}
+use Rattle.swc_ecma_transforms_base_laws.specs.Sources.{IsSource}
+use Rattle.text_parser.specs.declared.programs.Goal.{Goal}
+use Rattle.text_source.specs.Texts.{class_of}
+use Rattle.mucwathi_order.specs.declared.command.Settings.{Settings}
+use Rattle.mucwathi_order.specs.declared.order.Order.{Order}
+use Rattle.mucwathi_passes.specs.Passes.{config_of}
+use Rattle.mucwathi_faults.specs.declared.fault.RunFault.{RunFault}
+use Rattle.mucwathi_faults.specs.declared.fault.RunFault.TheVariants.{NotKept, NotWritten, Refused, Text}
+use Rattle.mucwathi_faults.proofs.Programs.{is_program}
+use Rattle.mucwathi_laws.specs.Promises.{IsCovered, PromisesAreKept, TargetsAreSpared}
+use Rattle.mucwathi_commands.specs.Faults.{IsRunFault}
+use Rattle.mucwathi_commands.specs.Looks.{IsCoverTold, IsUncovered, TellsCause, cause_in}
+use Rattle.mucwathi_commands.specs.Written.{IsRewritten}
+use Rattle.mucwathi_commands.specs.declared.cover.CoverGap.{CoverGap}
+use Rattle.mucwathi_engine.specs.Headline.{IsPromised, IsPromisedFault, IsToldToBePromised}
+
+module _ (keeps : PromisesAreKept) (spares : TargetsAreSpared) (order : Order) (text : List ℕ) where
+  written : (out : List ℕ) → IsRewritten order text out → IsPromised order text out
+  written out h = record {
+    rewritten = h;
+    kept = keeps order.command order.settings (slot.One (content.Node (class_of order.goal))) h.source h.answer (is_program order.goal) h.read.0.fits h.made;
+  }
+
+  refused : (f : RunFault) → IsRunFault order text f → IsPromisedFault order text f
+  refused (Refused e) (inl none) = inl none
+  refused (Refused e) (inr h) = inr (h, spares order.command order.settings (slot.One (content.Node (class_of order.goal))) h.source e (is_program order.goal) h.read.0.fits h.refused)
+  refused (Text f) h = h
+  refused NotWritten h = h
+  refused NotKept h = h
+
+  pub promised : {Z : Type 0} → (r : Result (Vec ℕ Z) RunFault) → MatchResult r (λ out. IsRewritten order text out.items) (IsRunFault order text) → MatchResult r (λ out. IsPromised order text out.items) (IsPromisedFault order text)
+  promised (Ok out) h = written out.items h
+  promised (Err f) h = refused f h
+
+source_of : (config : Config) (t : Node) → covers.IsCovered config t → IsSource config t × IsPlainIfScript t
+source_of config t h = (record { clean = h.clean; fair = h.fair; writable = h.writable; plain = record { renames_classes = h.renames_classes; unread = h.unread } }, h.plain)
+
+covered_so : (s : Settings) (t : Node) (gap : Option CoverGap) → TellsCause (config_of s) t (cause_in gap) → gap ≡ None → IsCovered s t
+covered_so s t None h none = source_of (config_of s) t h
+covered_so s t (Some gap) h none = absurd (cc)
+
+pub told : (g : Goal) (s : Settings) (text : List ℕ) (r : Result (Option CoverGap) RunFault) → MatchResult r (IsCoverTold g s text) (IsUncovered text) → MatchResult r (IsToldToBePromised g s text) (IsUncovered text)
+told g s text (Ok gap) h = record { told = h; promised = covered_so s h.source gap h.tells }
+told g s text (Err f) h = h

@@ -1,0 +1,4 @@
+mod Free
+mod Noted
+mod Texts
+mod Unlooked

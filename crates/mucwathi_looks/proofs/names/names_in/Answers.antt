@@ -1,0 +1,12 @@
+use Rattle.std.proofs.Common.{inr}
+use Rattle.mucwathi_faults.proofs.Programs.{opens}
+use Rattle.mucwathi_looks.proofs.names.names_in.Goals as goal
+
+pub names_of-requires : goal.names_of-requires
+names_of-requires c = opens c.args.goal c.args.source c.requires.fits
+
+pub returns-in-Ok : goal.returns-in-Ok
+returns-in-Ok c = record { source = c.args.source; read = c.requires; names_of = c.in-Ok.ensures }
+
+pub returns-in-Err : goal.returns-in-Err
+returns-in-Err c = inr (c.args.source, c.requires, c.in-Err.ensures)

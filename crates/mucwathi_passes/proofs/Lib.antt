@@ -1,0 +1,3 @@
+pub mod Marks
+mod Refusals
+mod Made

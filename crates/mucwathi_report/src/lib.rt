@@ -1,0 +1,12 @@
+//! What `mucwathi` tells: faults, differences and lists, with lines and columns.
+#![tactic(auto)]
+
+mod cursor;
+mod excerpt;
+mod lists;
+mod reports;
+mod sentences;
+
+pub use lists::{list_names, list_renamed};
+pub use reports::{Named, tell_cover, tell_difference, tell_fault, tell_judge_fault};
+pub use sentences::{status_of, status_of_judging};
