@@ -2,7 +2,7 @@
 use Rattle.std.specs.Prelude.{◌≡◌, Bool, true, false, ℕ, List, Option, Some, None}
 use Rattle.text_parser.specs.declared.programs.Goal.{Goal}
 use Rattle.text_parser.specs.declared.programs.Goal.TheVariants as goal
-use Rattle.mucwathi_order.specs.declared.command.Settings.{Settings}
+use Rattle.mucwathi_settings.specs.declared.command.Settings.{Settings}
 use Rattle.mucwathi_order.specs.declared.order.Order.{Order}
 use Rattle.mucwathi_arguments.specs.declared.task.Judging.{Judging}
 use Rattle.mucwathi_arguments.specs.declared.task.Rewriting.{Rewriting}

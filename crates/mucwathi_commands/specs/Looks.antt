@@ -9,7 +9,7 @@ use Rattle.swc_base_early_errors.specs.Errors.{IsFirst}
 use Rattle.swc_base_rename_substitution.specs.declared.config.Config.{Config}
 use Rattle.text_parser.specs.declared.programs.Goal.{Goal}
 use Rattle.text_source.specs.Texts.{Tells}
-use Rattle.mucwathi_order.specs.declared.command.Settings.{Settings}
+use Rattle.mucwathi_settings.specs.declared.command.Settings.{Settings}
 use Rattle.mucwathi_commands.specs.Written.{IsReadAs}
 use Rattle.mucwathi_commands.specs.declared.cover.CoverGap.{CoverGap}
 use Rattle.mucwathi_faults.specs.declared.fault.RunFault.{RunFault}

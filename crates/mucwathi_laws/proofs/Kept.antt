@@ -19,9 +19,9 @@ use Rattle.swc_base_rename_errors_laws.proofs.Programs.{goal_open}
 use Rattle.swc_base_rename_hygiene_laws.specs.Laws.{HygieneStaysFitting}
 use Rattle.swc_ecma_transforms_base_laws.specs.Headline.{ChainingKeepsForms, ChainingKeepsSources, KeepsItsForm, KeepsItsSource}
 use Rattle.swc_ecma_transforms_base_laws.specs.Sources.{IsSource, ResolvedSourcesHaveTheirForm}
-use Rattle.mucwathi_order.specs.declared.command.Command.{Command}
-use Rattle.mucwathi_order.specs.declared.command.Command.TheVariants as command
-use Rattle.mucwathi_order.specs.declared.command.Settings.{Settings}
+use Rattle.mucwathi_settings.specs.declared.command.Command.{Command}
+use Rattle.mucwathi_settings.specs.declared.command.Command.TheVariants as command
+use Rattle.mucwathi_settings.specs.declared.command.Settings.{Settings}
 use Rattle.mucwathi_passes.specs.Passes.{IsApart, IsRefusal, IsRenamedAndPaired, IsShort, Makes, config_of, own_table}
 use Rattle.mucwathi_passes.proofs.Marks.{knows_free}
 use Rattle.mucwathi_laws.specs.Promises.{IsCovered, IsSameProgram, Keeps, PromisesAreKept, SparesTargets, TargetsAreSpared}

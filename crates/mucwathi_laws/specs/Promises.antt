@@ -11,9 +11,9 @@ use Rattle.swc_base_alpha_laws.specs.Alpha.{AlphaEquivalent}
 use Rattle.swc_base_fixer.specs.Promises.{Promises}
 use Rattle.swc_ecma_transforms_base_laws.specs.Headline.{KeepsItsForm, KeepsItsSource}
 use Rattle.swc_ecma_transforms_base_laws.specs.Sources.{IsSource}
-use Rattle.mucwathi_order.specs.declared.command.Command.{Command}
-use Rattle.mucwathi_order.specs.declared.command.Command.TheVariants as command
-use Rattle.mucwathi_order.specs.declared.command.Settings.{Settings}
+use Rattle.mucwathi_settings.specs.declared.command.Command.{Command}
+use Rattle.mucwathi_settings.specs.declared.command.Command.TheVariants as command
+use Rattle.mucwathi_settings.specs.declared.command.Settings.{Settings}
 use Rattle.mucwathi_passes.specs.Passes.{IsRefusal, Makes, config_of, own_table}
 
 -- Something is promised of a program without early errors of names that can be written down, in which nothing reads names and where

@@ -1,9 +1,8 @@
 //! What `mucwathi` is asked for.
 #![tactic(auto)]
 
-mod command;
 mod order;
 
-pub use command::{Command, Settings};
+pub use mucwathi_settings::{Command, Settings};
 pub use order::{Order, Style};
 pub use text_source::Goal;

@@ -2,7 +2,7 @@
 ghost use Rattle.std.specs.Prelude.{◌≡◌};
 ghost use Rattle.mucwathi_order.specs.Styles.{layout_of};
 
-use crate::command::{Command, Settings};
+use mucwathi_settings::{Command, Settings};
 use text_printer::Layout;
 use text_source::Goal;
 

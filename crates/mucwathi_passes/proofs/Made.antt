@@ -11,7 +11,7 @@ use Rattle.swc_base_fixer_program.specs.Answers.{answer_to}
 use Rattle.swc_base_mangle.specs.Mangled.{IsMangled, IsMangleRefusal}
 use Rattle.swc_base_rename_program.specs.Renamed.{IsHygienic, IsRenameRefusal, hygiene_renaming}
 use Rattle.swc_base_resolver_program.specs.Marked.{MarksOk}
-use Rattle.mucwathi_order.specs.declared.command.Settings.{Settings}
+use Rattle.mucwathi_settings.specs.declared.command.Settings.{Settings}
 use Rattle.mucwathi_passes.specs.Passes.{IsApart, IsApartRefusal, IsBared, IsPaired, IsPairRefusal, IsRefusedInTurn, IsRenamedAndPaired, IsResolved, IsShort, IsShortRefusal, config_of, own_table}
 use Rattle.mucwathi_passes.proofs.Marks.{own_marks_ok}
 use Rattle.mucwathi_passes.proofs.Refusals.{apart_refused, chain_refused_then, mangle_refused_then, pair_refused, short_refused, true_unless}

@@ -11,9 +11,9 @@ use Rattle.swc_tree_grammar.specs.Targets.{all_bare}
 use Rattle.swc_base_mangle.specs.Mangled.{IsMangleRefusal}
 use Rattle.swc_base_rename_program.specs.Renamed.{IsRenameRefusal, hygiene_renaming}
 use Rattle.swc_base_resolver_program.specs.Marked.{IsRefusal as IsResolveRefusal}
-use Rattle.mucwathi_order.specs.declared.command.Command.{Command}
-use Rattle.mucwathi_order.specs.declared.command.Command.TheVariants as command
-use Rattle.mucwathi_order.specs.declared.command.Settings.{Settings}
+use Rattle.mucwathi_settings.specs.declared.command.Command.{Command}
+use Rattle.mucwathi_settings.specs.declared.command.Command.TheVariants as command
+use Rattle.mucwathi_settings.specs.declared.command.Settings.{Settings}
 use Rattle.mucwathi_passes.specs.Passes.{IsApart, IsApartRefusal, IsCauseOf, IsPairRefusal, IsRefusal, IsRefusedInTurn, IsResolved, IsShort, IsShortRefusal, TakesTooManyMarks, config_of, own_table}
 
 -- the resolver is refused for want of memory or of marks

@@ -15,9 +15,9 @@ use Rattle.swc_base_fixer_program.specs.Answers.{answer_to}
 use Rattle.swc_base_mangle.specs.Mangled.{IsMangled, IsMangleRefusal}
 use Rattle.swc_base_rename_substitution.specs.declared.config.Config.{Config}
 use Rattle.swc_base_rename_program.specs.Renamed.{IsHygienic, IsRenameRefusal, hygiene_renaming}
-use Rattle.mucwathi_order.specs.declared.command.Command.{Command}
-use Rattle.mucwathi_order.specs.declared.command.Command.TheVariants as command
-use Rattle.mucwathi_order.specs.declared.command.Settings.{Settings}
+use Rattle.mucwathi_settings.specs.declared.command.Command.{Command}
+use Rattle.mucwathi_settings.specs.declared.command.Command.TheVariants as command
+use Rattle.mucwathi_settings.specs.declared.command.Settings.{Settings}
 
 -- the table of marks that a text is resolved with: 1 for names that nothing declares, 2 for the program's own scope
 abbrev pub own_table : Table

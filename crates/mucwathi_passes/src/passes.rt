@@ -6,7 +6,7 @@ ghost use Rattle.swc_tree_scoping.specs.Places.{opened, program_place};
 ghost use Rattle.swc_tree_spaces.specs.Spaces.{ResolvedBy, has_types as stand_in};
 ghost use Rattle.mucwathi_passes.specs.Passes.{IsApart, IsApartRefusal, IsBared, IsCauseOf, IsPaired, IsPairRefusal, IsRefusal, IsRefusedInTurn, IsRenamedAndPaired, IsResolved, IsShort, IsShortRefusal, Makes, TakesTooManyMarks, config_of as config_by, own_table};
 
-use mucwathi_order::{Command, Settings};
+use mucwathi_settings::{Command, Settings};
 use std::alloc::Global;
 use swc_base_fixer_program::fix_parens;
 use swc_base_fixer_unparen::remove_parens;
