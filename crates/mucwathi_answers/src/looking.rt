@@ -2,7 +2,8 @@
 use crate::answer::{Answer, DEPTH};
 use crate::goals::{further, goal_of, may_be_module};
 use mucwathi_commands::{Goal, RunFault};
-use mucwathi_looks::{free_names, mark_text, tree_of_text};
+use mucwathi_looks::{free_names, tree_of_text};
+use mucwathi_marked::mark_text;
 use mucwathi_report::{Named, list_names};
 use mucwathi_show::show_text;
 use std::alloc::{AllocError, Global};

@@ -1,5 +1,0 @@
-use Rattle.mucwathi_faults.proofs.Programs.{opens}
-use Rattle.mucwathi_looks.proofs.marked.mark_source.Goals as goal
-
-pub mark-requires : goal.mark-requires
-mark-requires c = opens c.args.goal c.args.source c.requires.fits

@@ -1,0 +1,12 @@
+//! Texts with marks behind their names, as in `a#2.3`: written, read, and what the commands make of them.
+#![tactic(auto)]
+
+mod contexts;
+mod given;
+mod resolved;
+mod signs;
+mod write;
+
+pub use given::{Marked, give_marked, give_text};
+pub use resolved::{mark_text, resolve_marked};
+pub use write::{print_given, rewrite_marked};
