@@ -46,12 +46,7 @@ fn refused(made: Result<Vec<u8>, PassError>) -> Result<Vec<u8>, RunFault> {
 }
 
 // The envelope of what is made of a text, read as the goal has it.
-fn envelope_of(
-    alloc: Global,
-    task: &Giving,
-    text: &[u8],
-    goal: Goal,
-) -> Result<Vec<u8>, RunFault> {
+fn envelope_of(alloc: Global, task: &Giving, text: &[u8], goal: Goal) -> Result<Vec<u8>, RunFault> {
     if task.form.source == Source::Marked {
         let marked = give_marked(alloc, goal, DEPTH, text)?;
         return refused(envelope(alloc, task, marked.program));
@@ -142,11 +137,7 @@ fn answer_of(
     }
 }
 
-fn answer_tree_given(
-    alloc: Global,
-    task: &Giving,
-    of: Named<'_>,
-) -> Result<Answer, AllocError> {
+fn answer_tree_given(alloc: Global, task: &Giving, of: Named<'_>) -> Result<Answer, AllocError> {
     match read_tree(alloc, of.text) {
         Ok(program) => answer_of(alloc, of, work_on_tree(alloc, task, program)),
         Err(TreeFault::NotATree(path)) => {

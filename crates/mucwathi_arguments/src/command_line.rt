@@ -40,8 +40,9 @@ fn with_style<'a>(alloc: Global, parser: Parser<'a>) -> Result<Parser<'a>, Alloc
     let print = flag(alloc, "print", "Write the answer anew, a statement a line")
         .conflicts_with("compact")?
         .conflicts_with("json")?;
-    let compact = flag(alloc, "compact", "Write the answer anew, in one line")
-        .conflicts_with("json")?;
+    let compact = flag(alloc, "compact", "Write the answer anew, in one line").conflicts_with(
+        "json",
+    )?;
     parser.arg(print)?.arg(compact)
 }
 

@@ -29,12 +29,7 @@ fn comments_of(goal: Goal) -> Comments
 /// # Errors
 ///
 /// `NotWritten` where it has no text; `Refused` where memory is.
-pub fn print(
-    alloc: Global,
-    goal: Goal,
-    layout: Layout,
-    answer: &Node,
-) -> Result<Vec<u8>, RunFault>
+pub fn print(alloc: Global, goal: Goal, layout: Layout, answer: &Node) -> Result<Vec<u8>, RunFault>
     ensures written { IfOk result (λ out. Follows (texts.comments_of goal) false (pieces_of answer.now) out.items) }
     ensures fault { IfErr result IsWriteFault }
 {

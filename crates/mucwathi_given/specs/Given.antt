@@ -1,9 +1,11 @@
 -- Programs that are given with marks.
-use Rattle.std.specs.Prelude.{◌≡◌, ◌⊎◌, Bool, false, ℕ, List, Option, Some, None, Result, Ok, Err}
-use Rattle.swc_tree_marks.specs.Globals.{Table}
+use Rattle.std.specs.Prelude.{◌≡◌, ◌⊎◌, Bool, false, ℕ, List, Option, Some, None, Ok}
 use Rattle.swc_tree_node.specs.declared.node.Node.{Node}
+use Rattle.swc_tree_scoping.specs.declared.places.Scope.TheVariants as scope
+use Rattle.swc_tree_scoping.specs.Places.{opened, program_place}
 use Rattle.swc_tree_scoping.specs.Resolved.{is_script}
-use Rattle.swc_tree_spaces.specs.Spaces.{ResolvedBy, has_types}
+use Rattle.swc_base_resolver_program.specs.Marked.{MarksOk}
+use Rattle.swc_tree_spaces.specs.Spaces.{ResolvedBy}
 use Rattle.swc_base_mangle.specs.Mangled.{IsMangled}
 use Rattle.swc_base_rename_substitution.specs.declared.config.Config.{Config}
 use Rattle.swc_base_rename_program.specs.Renamed.{IsHygienic}
@@ -33,6 +35,11 @@ abbrev pub keeps_top_by : Option Bool → Node → Bool
 keeps_top_by (Some keeps) t = keeps
 keeps_top_by None t = is_script t
 
+-- it is of a program, and its two marks are of its table, as of each that is read
+pub record IsReady (e : Envelope) : Type 0 where
+  pub program : opened program_place e.tree ≡ Some scope.Program
+  pub marks : MarksOk e.globals e.unresolved e.top
+
 -- the same envelope but for its program and its table of marks
 pub record IsAround (given made : Envelope) : Type 0 where
   pub unresolved : made.unresolved ≡ given.unresolved
@@ -41,7 +48,42 @@ pub record IsAround (given made : Envelope) : Type 0 where
   pub evals : made.ignore_eval ≡ given.ignore_eval
   pub tops : made.keep_top ≡ given.keep_top
 
--- each name of the program has the mark of its scope, or those that it had
-pub record IsResolved (given made : Envelope) : Type 0 where
+-- each name of the program has the mark of its scope, or the marks that it had
+abbrev pub IsResolved : Envelope → Envelope → Type 0
+IsResolved given made = ResolvedBy given.unresolved given.top given.globals made.globals given.tree made.tree
+
+-- each name has a text that tells it from all others where it stands, and no marks
+abbrev pub IsApart : Envelope → Envelope → Type 0
+IsApart given made = (made.globals ≡ given.globals) × IsHygienic given.globals (config_of given) given.tree made.tree
+
+-- ... or the shortest such text
+abbrev pub IsShort : Envelope → Envelope → Type 0
+IsShort given made = (made.globals ≡ given.globals) × IsMangled given.globals (config_of given) (keeps_top_by given.keep_top given.tree) given.tree made.tree
+
+-- parentheses are set anew, or taken off
+abbrev pub HasPairs : Envelope → Envelope → Type 0
+HasPairs given made = (made.globals ≡ given.globals) × IsPaired given.tree made.tree
+
+abbrev pub IsBare : Envelope → Envelope → Type 0
+IsBare given made = (made.globals ≡ given.globals) × IsBared given.tree made.tree
+
+-- one is done after another
+pub record Then (First Second : Envelope → Envelope → Type 0) (given made : Envelope) : Type 0 where
+  pub between : Envelope
+  pub first : First given between
+  pub around : IsAround given between
+  pub second : Second between made
+
+-- what a command makes of a program; where there is none it is resolved
+abbrev pub Makes : Option Command → Envelope → Envelope → Type 0
+Makes None given made = IsResolved given made
+Makes (Some command.Chain) given made = Then IsResolved (Then IsApart HasPairs) given made
+Makes (Some command.Mangle) given made = Then IsResolved (Then IsShort HasPairs) given made
+Makes (Some command.Hygiene) given made = IsApart given made
+Makes (Some command.Fix) given made = HasPairs given made
+Makes (Some command.Unparen) given made = IsBare given made
+
+-- ... round which nothing else changes
+pub record IsMade (c : Option Command) (given made : Envelope) : Type 0 where
   pub around : IsAround given made
-  pub resolved : ResolvedBy given.unresolved given.top given.globals made.globals given.tree made.tree
+  pub makes : Makes c given made

@@ -1,10 +1,7 @@
 //! Envelopes as JSON.
-ghost use Rattle.std.specs.Prelude.{◌≡◌, Some, IfOk, string_bytes};
-ghost use Rattle.swc_tree_scoping.specs.declared.places.Scope.TheVariants as scope;
-ghost use Rattle.swc_tree_scoping.specs.Places.{opened, program_place};
-ghost use Rattle.swc_base_resolver_program.specs.Marked.{MarksOk};
+ghost use Rattle.std.specs.Prelude.{◌≡◌, IfOk, string_bytes};
 ghost use Rattle.jsbase_writer.specs.Envelopes.{envelope_text};
-ghost use Rattle.mucwathi_given.specs.Given.{IsRead, IsReadAs};
+ghost use Rattle.mucwathi_given.specs.Given.{IsRead, IsReadAs, IsReady};
 
 use jsbase_programs::{Goal, read_program};
 use jsbase_reader::{Envelope, ReadError};
@@ -32,8 +29,7 @@ fn fault_of(alloc: Global, error: ReadError) -> TreeFault {
 
 fn read_as(alloc: Global, goal: Goal, bytes: &[u8]) -> Result<Envelope, TreeFault>
     ensures read { IfOk result (IsReadAs goal bytes.now) }
-    ensures program { IfOk result (λ e. opened program_place e.tree ≡ Some scope.Program) }
-    ensures marks { IfOk result (λ e. MarksOk e.globals e.unresolved e.top) }
+    ensures ready { IfOk result IsReady }
 {
     match read_program(alloc, goal, bytes) {
         Ok(envelope) => Ok(envelope),
@@ -51,8 +47,7 @@ fn further(first: TreeFault, second: TreeFault) -> TreeFault {
 
 fn read_as_script(alloc: Global, bytes: &[u8], fault: TreeFault) -> Result<Envelope, TreeFault>
     ensures read { IfOk result (IsRead bytes.now) }
-    ensures program { IfOk result (λ e. opened program_place e.tree ≡ Some scope.Program) }
-    ensures marks { IfOk result (λ e. MarksOk e.globals e.unresolved e.top) }
+    ensures ready { IfOk result IsReady }
 {
     match read_as(alloc, Goal::Script, bytes) {
         Ok(envelope) => Ok(envelope),
@@ -67,8 +62,7 @@ fn read_as_script(alloc: Global, bytes: &[u8], fault: TreeFault) -> Result<Envel
 /// `NotATree` where it is neither; `NoMemory`.
 pub fn read_tree(alloc: Global, bytes: &[u8]) -> Result<Envelope, TreeFault>
     ensures read { IfOk result (IsRead bytes.now) }
-    ensures program { IfOk result (λ e. opened program_place e.tree ≡ Some scope.Program) }
-    ensures marks { IfOk result (λ e. MarksOk e.globals e.unresolved e.top) }
+    ensures ready { IfOk result IsReady }
 {
     match read_as(alloc, Goal::Module, bytes) {
         Ok(envelope) => Ok(envelope),

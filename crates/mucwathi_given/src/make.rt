@@ -1,11 +1,6 @@
 //! What the commands make of programs that are given with marks.
-ghost use Rattle.std.specs.Prelude.{◌≡◌, Some, true, false, IfOk, IfErr};
-ghost use Rattle.swc_tree_marks.specs.declared.error.PassError.TheVariants as refusal;
-ghost use Rattle.swc_tree_scoping.specs.declared.places.Scope.TheVariants as scope;
-ghost use Rattle.swc_tree_scoping.specs.Places.{opened, program_place};
-ghost use Rattle.swc_tree_spaces.specs.Spaces.{has_types as stand_in};
-ghost use Rattle.swc_base_resolver_program.specs.Marked.{MarksOk};
-ghost use Rattle.mucwathi_given.specs.Given.{IsMade, keeps_top_by, config_of as config_by};
+ghost use Rattle.std.specs.Prelude.{◌≡◌, Some, IfOk};
+ghost use Rattle.mucwathi_given.specs.Given.{HasPairs, IsApart, IsAround, IsBare, IsMade, IsReady, IsResolved, IsShort, Then, keeps_top_by, config_of as config_by};
 
 use jsbase_reader::Envelope;
 use mucwathi_settings::Command;
@@ -43,7 +38,10 @@ fn keeps_top(said: Option<bool>, program: &Node) -> bool
 }
 
 // Each name with the mark of its scope, but for those that have one.
-fn resolve(alloc: Global, given: Envelope) -> Result<Envelope, PassError> {
+fn resolve(alloc: Global, given: Envelope) -> Result<Envelope, PassError>
+    ensures around { IfOk result (IsAround given) }
+    ensures made { IsReady given → IfOk result (IsResolved given) }
+{
     let Envelope {
         mut globals,
         unresolved,
@@ -65,42 +63,76 @@ fn resolve(alloc: Global, given: Envelope) -> Result<Envelope, PassError> {
     })
 }
 
-fn set_apart(alloc: Global, given: Envelope) -> Result<Envelope, PassError> {
+fn set_apart(alloc: Global, given: Envelope) -> Result<Envelope, PassError>
+    ensures around { IfOk result (IsAround given) }
+    ensures made { IfOk result (IsApart given) }
+{
     let config = config_of(&given);
     let tree = hygiene_program(alloc, &config, &given.globals, given.tree)?;
     Ok(Envelope { tree, ..given })
 }
 
-fn shorten(alloc: Global, given: Envelope) -> Result<Envelope, PassError> {
+fn shorten(alloc: Global, given: Envelope) -> Result<Envelope, PassError>
+    ensures around { IfOk result (IsAround given) }
+    ensures made { IfOk result (IsShort given) }
+{
     let config = config_of(&given);
     let keeps = keeps_top(given.keep_top, &given.tree);
     let tree = mangle_program(alloc, &config, &given.globals, keeps, given.tree)?;
     Ok(Envelope { tree, ..given })
 }
 
-fn pair(alloc: Global, given: Envelope) -> Result<Envelope, PassError> {
+fn pair(alloc: Global, given: Envelope) -> Result<Envelope, PassError>
+    ensures around { IfOk result (IsAround given) }
+    ensures made { IfOk result (HasPairs given) }
+{
     let tree = fix_parens(alloc, None::<&mut NoComments>, given.tree)?;
     Ok(Envelope { tree, ..given })
 }
 
-fn bare(alloc: Global, given: Envelope) -> Result<Envelope, PassError> {
+fn bare(alloc: Global, given: Envelope) -> Result<Envelope, PassError>
+    ensures around { IfOk result (IsAround given) }
+    ensures made { IfOk result (IsBare given) }
+{
     let tree = remove_parens(alloc, None::<&mut NoComments>, given.tree)?;
     Ok(Envelope { tree, ..given })
 }
 
-fn chain(alloc: Global, given: Envelope) -> Result<Envelope, PassError> {
-    let resolved = resolve(alloc, given)?;
-    let renamed = set_apart(alloc, resolved)?;
+fn set_apart_and_pair(alloc: Global, given: Envelope) -> Result<Envelope, PassError>
+    ensures around { IfOk result (IsAround given) }
+    ensures made { IfOk result (Then IsApart HasPairs given) }
+{
+    let renamed = set_apart(alloc, given)?;
     pair(alloc, renamed)
 }
 
-fn mangle(alloc: Global, given: Envelope) -> Result<Envelope, PassError> {
-    let resolved = resolve(alloc, given)?;
-    let renamed = shorten(alloc, resolved)?;
+fn shorten_and_pair(alloc: Global, given: Envelope) -> Result<Envelope, PassError>
+    ensures around { IfOk result (IsAround given) }
+    ensures made { IfOk result (Then IsShort HasPairs given) }
+{
+    let renamed = shorten(alloc, given)?;
     pair(alloc, renamed)
 }
 
-fn make(alloc: Global, command: Command, given: Envelope) -> Result<Envelope, PassError> {
+fn chain(alloc: Global, given: Envelope) -> Result<Envelope, PassError>
+    ensures around { IfOk result (IsAround given) }
+    ensures made { IsReady given → IfOk result (Then IsResolved (Then IsApart HasPairs) given) }
+{
+    let resolved = resolve(alloc, given)?;
+    set_apart_and_pair(alloc, resolved)
+}
+
+fn mangle(alloc: Global, given: Envelope) -> Result<Envelope, PassError>
+    ensures around { IfOk result (IsAround given) }
+    ensures made { IsReady given → IfOk result (Then IsResolved (Then IsShort HasPairs) given) }
+{
+    let resolved = resolve(alloc, given)?;
+    shorten_and_pair(alloc, resolved)
+}
+
+fn make(alloc: Global, command: Command, given: Envelope) -> Result<Envelope, PassError>
+    ensures { IsReady given → IfOk result (IsMade (Some command) given) }
+{
     match command {
         Command::Chain => chain(alloc, given),
         Command::Mangle => mangle(alloc, given),
@@ -122,7 +154,9 @@ pub fn make_given(
     alloc: Global,
     command: Option<Command>,
     given: Envelope,
-) -> Result<Envelope, PassError> {
+) -> Result<Envelope, PassError>
+    ensures { IsReady given → IfOk result (IsMade command given) }
+{
     match command {
         None => resolve(alloc, given),
         Some(command) => {

@@ -43,12 +43,7 @@ fn read(alloc: Global, goal: Goal, depth: u32, text: &[u8]) -> Result<Node, RunF
 /// # Errors
 ///
 /// `Text` where the text is not read; `Refused` where memory is.
-pub fn give_text(
-    alloc: Global,
-    goal: Goal,
-    depth: u32,
-    text: &[u8],
-) -> Result<Envelope, RunFault> {
+pub fn give_text(alloc: Global, goal: Goal, depth: u32, text: &[u8]) -> Result<Envelope, RunFault> {
     let tree = read(alloc, goal, depth, text)?;
     let globals = own_globals(alloc)?;
     Ok(envelope_of(globals, tree))
@@ -133,12 +128,7 @@ fn with_marks(alloc: Global, signs: &[Sign], tree: Node) -> Result<Node, AllocEr
 }
 
 // What looks like signs and stands behind names; a text is read first with blanks in their place, so that faults are where they are.
-fn signs_in(
-    alloc: Global,
-    goal: Goal,
-    depth: u32,
-    text: &[u8],
-) -> Result<Vec<Found>, RunFault> {
+fn signs_in(alloc: Global, goal: Goal, depth: u32, text: &[u8]) -> Result<Vec<Found>, RunFault> {
     let found = find_signs(alloc, text)?;
     let blank = blank_signs(alloc, text, found.as_slice())?;
     let tree = read(alloc, goal, depth, blank.as_slice())?;
@@ -160,12 +150,7 @@ fn signs_in(
 /// # Errors
 ///
 /// `Text` where the text is not read; `Refused` where memory is.
-pub fn give_marked(
-    alloc: Global,
-    goal: Goal,
-    depth: u32,
-    text: &[u8],
-) -> Result<Marked, RunFault> {
+pub fn give_marked(alloc: Global, goal: Goal, depth: u32, text: &[u8]) -> Result<Marked, RunFault> {
     let found = signs_in(alloc, goal, depth, text)?;
     let plain = cut_signs(alloc, text, found.as_slice())?;
     let tree = match read_text(alloc, goal, depth, plain.as_slice()) {

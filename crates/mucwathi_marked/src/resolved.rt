@@ -1,4 +1,7 @@
 //! Texts with the marks of their scopes.
+ghost use Rattle.std.specs.Prelude.{IfOk};
+ghost use Rattle.mucwathi_marked.specs.Marked.{HasSigns};
+
 use crate::given::{Marked, give_marked, give_text};
 use crate::signs::signs_at;
 use mucwathi_faults::RunFault;
@@ -9,7 +12,9 @@ use std::alloc::Global;
 use swc_tree_marks::PassError;
 use swc_tree_walk::sites;
 
-fn resolve(alloc: Global, text: &[u8], program: Envelope) -> Result<Vec<u8>, PassError> {
+fn resolve(alloc: Global, text: &[u8], program: Envelope) -> Result<Vec<u8>, PassError>
+    ensures { IfOk result (λ out. HasSigns text.now out.items) }
+{
     let made = make_given(alloc, None, program)?;
     let names = sites(alloc, &made.tree)?;
     let signs = signs_at(alloc, names.as_slice(), names.as_slice())?;
@@ -17,19 +22,23 @@ fn resolve(alloc: Global, text: &[u8], program: Envelope) -> Result<Vec<u8>, Pas
     Ok(out)
 }
 
-fn resolved(alloc: Global, text: &[u8], program: Envelope) -> Result<Vec<u8>, RunFault> {
+fn resolved(alloc: Global, text: &[u8], program: Envelope) -> Result<Vec<u8>, RunFault>
+    ensures { IfOk result (λ out. HasSigns text.now out.items) }
+{
     match resolve(alloc, text, program) {
         Ok(out) => Ok(out),
         Err(error) => Err(RunFault::Refused(error)),
     }
 }
 
-/// A text with the mark of its scope behind each name: `let a#2;`.
+/// A text with the mark of its scope behind each name: `let a#2;`. Without these marks it is the text.
 ///
 /// # Errors
 ///
 /// `Text` where the text is not read; `Refused` where memory is refused, or marks are spent.
-pub fn mark_text(alloc: Global, goal: Goal, depth: u32, text: &[u8]) -> Result<Vec<u8>, RunFault> {
+pub fn mark_text(alloc: Global, goal: Goal, depth: u32, text: &[u8]) -> Result<Vec<u8>, RunFault>
+    ensures { IfOk result (λ out. HasSigns text.now out.items) }
+{
     let program = give_text(alloc, goal, depth, text)?;
     resolved(alloc, text, program)
 }

@@ -194,12 +194,7 @@ fn add_foot(out: &mut Vec<u8>) -> Result<(), AllocError>
 }
 
 /// The page of a text of that name, with the names in it: between its tags, in `pre`, it has the text.
-pub fn page(
-    alloc: Global,
-    name: &str,
-    text: &[u8],
-    uses: &[Use<'_>],
-) -> Result<Vec<u8>, AllocError>
+pub fn page(alloc: Global, name: &str, text: &[u8], uses: &[Use<'_>]) -> Result<Vec<u8>, AllocError>
     ensures { IfOk result (λ page. IsPage text.now page.items) }
 {
     let mut out = Vec::new(alloc);

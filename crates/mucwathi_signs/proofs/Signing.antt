@@ -17,13 +17,13 @@ pub begins_more : (ss : List Sign) (text : List ℕ) (i from to : ℕ) (s : Sign
 begins_more ss text i from to s old new below is within put begins rest h =
     let there : IsSigned (from + length put.before) (drop (i + 1) ss) (drop to text) rest = subst (λ n. IsSigned n (drop (i + 1) ss) (drop to text) rest) put.moved h in
     let placed = λ (low : from ≤ s.at) (high : s.at ≤ from + length (put.before ++ drop to text)).
-        let high : s.at ≤ length text = subst (λ n. s.at ≤ n) (left_length text put.before from to within put.left) high in
-        put.placed low high ∙ put.moved in
+    let high : s.at ≤ length text = subst (λ n. s.at ≤ n) (left_length text put.before from to within put.left) high in
+    put.placed low high ∙ put.moved in
     let one = IsSigned.signed from s (drop (i + 1) ss) put.before (drop to text) rest placed there in
     let cons : drop i ss ≡ s ∷ drop (i + 1) ss = drop-cons ss i s below ∙ ap (λ z. z ∷ drop (suc i) ss) (sym is) ∙ ap (λ n. s ∷ drop n ss) (sym (add-one i)) in
     let whole : IsSigned from (drop i ss) (drop from text) (put.before ++ sign_text s.marks.items ++ rest) =
-        subst (λ l. IsSigned from l (drop from text) (put.before ++ sign_text s.marks.items ++ rest)) (sym cons)
-        (subst (λ t. IsSigned from (s ∷ drop (i + 1) ss) t (put.before ++ sign_text s.marks.items ++ rest)) (sym put.left) one) in
+    subst (λ l. IsSigned from l (drop from text) (put.before ++ sign_text s.marks.items ++ rest)) (sym cons)
+    (subst (λ t. IsSigned from (s ∷ drop (i + 1) ss) t (put.before ++ sign_text s.marks.items ++ rest)) (sym put.left) one) in
     let same : old ++ (put.before ++ sign_text s.marks.items ++ rest) ≡ new ++ rest = rw put.added (simp append_assoc) in
     subst (IsSigned 0 ss text) same (begins (put.before ++ sign_text s.marks.items ++ rest) whole)
 
@@ -41,5 +41,5 @@ more_append (m ∷ ms) b = simp (more_append ms b, append_assoc)
 pub one_more : (ms : List ℕ) (i m : ℕ) (old new text : List ℕ) → i < length ms → m ≡ get_or ms i m → text ≡ 46 ∷ decimal m → new ≡ old ++ more_marks (take i ms) ++ text → new ≡ old ++ more_marks (take (i + 1) ms)
 one_more ms i m old new text below is told h =
     let more : more_marks (take (i + 1) ms) ≡ more_marks (take i ms) ++ (46 ∷ decimal m ++ []) =
-        ap more_marks (take_more ms i m below is) ∙ more_append (take i ms) (get_or ms i m ∷ []) ∙ ap (λ z. more_marks (take i ms) ++ (46 ∷ decimal z ++ [])) (sym is) in
+    ap more_marks (take_more ms i m below is) ∙ more_append (take i ms) (get_or ms i m ∷ []) ∙ ap (λ z. more_marks (take i ms) ++ (46 ∷ decimal z ++ [])) (sym is) in
     rw more (h ∙ rw told (simp append_assoc))

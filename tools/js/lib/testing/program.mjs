@@ -5,6 +5,7 @@ import { chmodSync, lstatSync, mkdirSync, mkdtempSync, readFileSync, readdirSync
 import { tmpdir } from 'node:os';
 import { join } from 'node:path';
 import { mucwathiAt } from '../keep_files.mjs';
+import { segmentsOf } from './mappings.mjs';
 
 const SOURCE = 'let x; function g(p = () => x) { var x; } // b\n';
 const CHAINED = 'let x; function g(p = () => x) { var x1; } // b\n';
@@ -96,6 +97,18 @@ const FILES = {
     expect(run(folder, ['chain', '--source-map', 'a.map', 'a.js']), 0, { stdout: CHAINED });
     const { version, sources, names } = JSON.parse(text('a.map'));
     assert.deepEqual({ version, sources, names }, { version: 3, sources: ['a.js'], names: ['x'] });
+  }),
+  'a source map leads from each name to what it was': inFolder((folder, text) => {
+    const source = 'var long = 1;\nfunction f(one, { two }) {\n  return "\u{1f600}" + one + two + long\n}\n';
+    writeFileSync(join(folder, 'c.js'), source);
+    expect(run(folder, ['mangle', '--compact', '--mangle-top', '--source-map', 'c.map', '--out', '.', 'c.js']), 0, {});
+    const found = segmentsOf(JSON.parse(text('c.map'))).filter(({ name }) => name !== null);
+    const [written, read] = [text('c.js'), source].map((each) => each.split('\n'));
+    assert.deepEqual(new Set(found.map(({ name }) => name)), new Set(['long', 'one', 'two', 'f']));
+    for (const { written: to, read: from, name } of found) {
+      assert.ok(read[from.line].startsWith(name, from.column), `${name} at ${from.line}:${from.column}`);
+      assert.match(written[to.line].slice(to.column), /^[a-z]\b/);
+    }
   }),
   'envelopes there and back': inFolder((folder) => {
     const given = run(folder, ['resolve', '--json', 'a.js']);
