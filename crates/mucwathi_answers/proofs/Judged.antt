@@ -1,15 +1,16 @@
 -- What is told of two texts.
-use Rattle.std.proofs.Common.{◌≡◌, ◌<◌, ℕ, List, Option, Some, None, arith, Result, Ok, Err, IfOk}
+use Rattle.std.proofs.Common.{◌≡◌, ◌<◌, ◌⊎◌, ℕ, Option, Some, None, inl, inr, sym, subst, arith, Result, Ok, Err, IfOk, MatchResult}
 use Rattle.text_reader.specs.declared.fault.TextFault.{TextFault}
 use Rattle.text_reader.specs.declared.fault.TextFault.TheVariants as text
 use Rattle.mucwathi_arguments.specs.declared.task.Judging.{Judging}
 use Rattle.text_parser.specs.declared.programs.Goal.{Goal}
-use Rattle.mucwathi_commands.specs.Judged.{IsJudged}
+use Rattle.mucwathi_commands.specs.Judged.{IsJudgeFault, IsJudged}
 use Rattle.mucwathi_commands.specs.declared.judge.TextDifference.{TextDifference}
 use Rattle.mucwathi_faults.specs.declared.fault.JudgeFault.{JudgeFault}
 use Rattle.mucwathi_faults.specs.declared.fault.JudgeFault.TheVariants as judging
+use Rattle.mucwathi_report.specs.declared.reports.Named.{Named}
 use Rattle.mucwathi_report.specs.Status.{judge_status, text_status}
-use Rattle.mucwathi_answers.specs.Answers.{IsAsked, IsVerdict, TellsVerdict, rules_for, verdict_status}
+use Rattle.mucwathi_answers.specs.Answers.{IsAskedOfTwo, IsVerdict, IsVerdictFault, TellsVerdict, rules_for, verdict_status}
 use Rattle.mucwathi_answers.specs.declared.answer.Answer.{Answer}
 
 read_status : (f : TextFault) → 1 < text_status f
@@ -32,19 +33,27 @@ fault_status (judging.Before f) = read_status f
 fault_status (judging.After f) = read_status f
 fault_status (judging.Refused e) = omega arith
 
-pub verdict : {F : Type 0} (task : Judging) (before after : List ℕ) (g h : Goal) → IsAsked task.goal g → IsAsked task.goal h → (r : Result (Option TextDifference) F) → IfOk r (λ said. IsJudged (rules_for task) g before h after said) → IfOk r (IsVerdict task before after)
+-- what is said of two texts, as what they are read
+pub verdict : (task : Judging) (before after : Named) (g h : Goal) → IsAskedOfTwo task.goal before after g → IsAskedOfTwo task.goal after before h → (r : Result (Option TextDifference) JudgeFault)
+    → MatchResult r (IsJudged (rules_for task) g before.text.now h after.text.now) (IsJudgeFault task.spelling g before.text.now h after.text.now) → MatchResult r (IsVerdict task before after) (IsVerdictFault task before after)
 verdict task before after g h one other (Ok said) judged = record { first = g; second = h; asked_first = one; asked_second = other; judged = judged }
-verdict task before after g h one other (Err f) judged = tt
+verdict task before after g h one other (Err f) told = record { first = g; second = h; asked_first = one; asked_second = other; told = told }
 
-module _ {E : Type 0} (task : Judging) (before after : List ℕ) where
+-- one of two faults is told
+pub told_either : (task : Judging) (before after : Named) (f g r : JudgeFault) → (r ≡ f) ⊎ (r ≡ g) → IsVerdictFault task before after f → IsVerdictFault task before after g
+    → IsVerdictFault task before after r
+told_either task before after f g r (inl is) one other = subst (IsVerdictFault task before after) (sym is) one
+told_either task before after f g r (inr is) one other = subst (IsVerdictFault task before after) (sym is) other
+
+module _ {E : Type 0} (task : Judging) (before after : Named) where
   pub told_verdict : (said : Option TextDifference) (r : Result Answer E) → IfOk r (λ a. a.status ≡ verdict_status said) → IsVerdict task before after said → IfOk r (λ a. TellsVerdict task before after a.status)
-  told_verdict None (Ok a) is verdict = record { same = λ h. verdict; other = λ h. absurd (omega (arith, is, h)) }
-  told_verdict (Some difference) (Ok a) is verdict = record { same = λ h. absurd (omega (arith, is, h)); other = λ h. (difference, verdict) }
+  told_verdict None (Ok a) is verdict = record { same = λ h. verdict; other = λ h. absurd (omega (arith, is, h)); fault = λ h. absurd (omega (arith, is, h)) }
+  told_verdict (Some difference) (Ok a) is verdict = record { same = λ h. absurd (omega (arith, is, h)); other = λ h. (difference, verdict); fault = λ h. absurd (omega (arith, is, h)) }
   told_verdict said (Err e) is verdict = tt
 
   -- a fault has a status of its own
-  pub told_fault : (f : JudgeFault) (r : Result Answer E) → IfOk r (λ a. a.status ≡ judge_status f) → IfOk r (λ a. TellsVerdict task before after a.status)
-  told_fault f (Ok a) is =
+  pub told_fault : (f : JudgeFault) (r : Result Answer E) → IfOk r (λ a. a.status ≡ judge_status f) → IsVerdictFault task before after f → IfOk r (λ a. TellsVerdict task before after a.status)
+  told_fault f (Ok a) is told =
       let above : 1 < judge_status f = fault_status f in
-      record { same = λ h. absurd (omega (arith, is, h, above)); other = λ h. absurd (omega (arith, is, h, above)) }
-  told_fault f (Err e) is = tt
+      record { same = λ h. absurd (omega (arith, is, h, above)); other = λ h. absurd (omega (arith, is, h, above)); fault = λ h. (f, told, is) }
+  told_fault f (Err e) is told = tt

@@ -1,2 +1,4 @@
 mod Worked
 mod Judged
+mod Looked
+mod Endings

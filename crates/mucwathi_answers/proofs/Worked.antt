@@ -1,39 +1,78 @@
 -- What is made of a text, as whatever it is read.
-use Rattle.std.proofs.Common.{◌≡◌, true, ℕ, List, Option, Some, None, sym, ◌∙◌, subst, Result, Ok, Err, IfOk}
+use Rattle.std.proofs.Common.{◌≡◌, ◌⊎◌, true, ℕ, List, Option, Some, None, inl, inr, refl, sym, ◌∙◌, subst, Result, Ok, Err, IfOk, MatchResult}
+use Rattle.std.specs.Option.{option_or}
+use Rattle.std.specs.Prelude.{unwrap_or}
 use Rattle.text_parser.specs.declared.programs.Goal.{Goal}
 use Rattle.text_reader.specs.declared.fault.TextFault.{TextFault}
 use Rattle.text_reader.specs.declared.fault.TextFault.TheVariants as text
 use Rattle.mucwathi_arguments.specs.declared.task.Rewriting.{Rewriting}
+use Rattle.mucwathi_commands.specs.Faults.{IsRunFault}
+use Rattle.mucwathi_commands.specs.Looks.{IsUncovered}
 use Rattle.mucwathi_commands.specs.Written.{IsRewritten}
 use Rattle.mucwathi_faults.specs.declared.fault.RunFault.{RunFault}
 use Rattle.mucwathi_faults.specs.declared.fault.RunFault.TheVariants as running
 use Rattle.mucwathi_order.specs.declared.order.Order.{Order}
+use Rattle.mucwathi_report.specs.declared.reports.Named.{Named}
 use Rattle.mucwathi_report.specs.Status.{run_status, text_status}
-use Rattle.mucwathi_answers.specs.Answers.{IsAnswered, IsAsked, IsAskedIfAny, IsWorked, order_for}
+use Rattle.mucwathi_answers.specs.Answers.{IsAnswered, IsAsked, IsAskedOfTwo, IsFaultTold, IsGoalOf, IsMemoryFault, IsTold, IsWell, IsWorked, goal_asked, order_for}
 use Rattle.mucwathi_answers.specs.declared.answer.Answer.{Answer}
 
-pub asked_so : (given : Option Goal) (g : Goal) → IsAskedIfAny given (Some g) → IsAsked given g
-asked_so (Some a) g h = cc
-asked_so None g h = tt
+-- ---- goals
+
+pub goal_so : (o : Option Goal) (g : Goal) → o ≡ Some g → IsGoalOf o g
+goal_so (Some a) g is = cc
+goal_so None g is = tt
 
 -- where a goal is open, each may be taken
-pub asked_any : (given : Option Goal) (g : Goal) → IsAskedIfAny given None → IsAsked given g
-asked_any (Some a) g h = absurd (cc)
-asked_any None g h = tt
+pub goal_any : (o : Option Goal) (g : Goal) → o ≡ None → IsGoalOf o g
+goal_any (Some a) g is = absurd (cc)
+goal_any None g is = tt
 
-module _ {E : Type 0} (task : Rewriting) (text : List ℕ) where
+pub goal_or : (o : Option Goal) (g : Goal) → IsGoalOf o (unwrap_or o g)
+goal_or (Some a) g = refl
+goal_or None g = tt
+
+pub asked_of_two : (given : Option Goal) (of other : Named) (own others : Option Goal) (g : Goal) → own ≡ goal_asked given of → others ≡ goal_asked given other → IsGoalOf (option_or own others) g → IsAskedOfTwo given of other g
+asked_of_two given of other own others g is also h = subst (λ others. IsGoalOf (option_or (goal_asked given of) others) g) also (subst (λ own. IsGoalOf (option_or own others) g) is h)
+
+-- ---- answers
+
+-- want of memory tells of each text
+pub memory_told : (order : Order) (text : List ℕ) (f : RunFault) → IsMemoryFault f → IsRunFault order text f
+memory_told order text f is = subst (IsRunFault order text) (sym is) (inl refl)
+
+-- why it is not told whether the promise covers a text
+pub uncovered_told : (order : Order) (text : List ℕ) (f : RunFault) → IsUncovered text f → IsRunFault order text f
+uncovered_told order text (running.Text f) h = h
+uncovered_told order text (running.Refused e) h = inl h
+uncovered_told order text running.NotWritten h = absurd h
+uncovered_told order text running.NotKept h = absurd h
+
+module _ (task : Rewriting) (of : Named) where
   -- what is told in the place of an answer is none
-  pub explained : (r : Result Answer E) → task.explains ≡ true → IfOk r (IsWorked task text)
-  explained (Ok a) told lists explains = absurd (cc)
-  explained (Err e) told = tt
+  pub explained : (g : Goal) (r : Result Answer RunFault) (order : Order) → order ≡ order_for task g → IsAsked task.goal of g → task.explains ≡ true → MatchResult r IsWell (IsRunFault order of.text.now) → MatchResult r (IsWorked task of) (IsTold task of)
+  explained g (Ok a) order is asked tells well = record { well = well; made = λ lists explains. absurd (cc) }
+  explained g (Err f) order is asked tells fault = λ lists map. record { goal = g; asked = asked; told = subst (λ order. IsRunFault order of.text.now f) is fault }
 
-  pub listed : (r : Result Answer E) → task.lists ≡ true → IfOk r (IsWorked task text)
-  listed (Ok a) told lists explains = absurd (cc)
-  listed (Err e) told = tt
+  pub listed : (r : Result Answer RunFault) → task.lists ≡ true → IfOk r IsWell → MatchResult r (IsWorked task of) (IsTold task of)
+  listed (Ok a) lists well = record { well = well; made = λ none explains. absurd (cc) }
+  listed (Err f) lists well = λ none map. absurd (cc)
 
-  pub worked : (g : Goal) (r : Result Answer E) (order : Order) → order ≡ order_for task g → IsAsked task.goal g → IfOk r (λ a. IsRewritten order text a.out.items) → IfOk r (IsWorked task text)
-  worked g (Ok a) order is asked h lists explains = record { goal = g; asked = asked; rewritten = subst (λ order. IsRewritten order text a.out.items) is h }
-  worked g (Err e) order is asked h = tt
+  pub worked : (g : Goal) (r : Result Answer RunFault) (order : Order) → order ≡ order_for task g → IsAsked task.goal of g
+      → MatchResult r (λ a. IsWell a × IsRewritten order of.text.now a.out.items) (λ f. task.map ≡ None → IsRunFault order of.text.now f) → MatchResult r (IsWorked task of) (IsTold task of)
+  worked g (Ok a) order is asked h = record {
+    well = h.0;
+    made = λ lists explains. record { goal = g; asked = asked; rewritten = subst (λ order. IsRewritten order of.text.now a.out.items) is h.1 };
+  }
+  worked g (Err f) order is asked h = λ lists map. record { goal = g; asked = asked; told = subst (λ order. IsRunFault order of.text.now f) is (h map) }
+
+  -- one of two faults is told
+  pub told_either : (f g r : RunFault) → (r ≡ f) ⊎ (r ≡ g) → IsTold task of f → IsTold task of g → IsTold task of r
+  told_either f g r (inl is) one other = subst (IsTold task of) (sym is) one
+  told_either f g r (inr is) one other = subst (IsTold task of) (sym is) other
+
+  pub well_answered : (a : Answer) → IsWorked task of a → IsAnswered task of a
+  well_answered a h = record { well = λ well. h; fault = λ other. absurd (other h.well) }
 
 read_status : (f : TextFault) → text_status f ≡ 0 → ⊥
 read_status text.NoMemory h = absurd (cc)
@@ -50,13 +89,13 @@ read_status (text.EscapedDirective at) h = absurd (cc)
 read_status (text.NotRead at language) h = absurd (cc)
 read_status (text.TooDeep at) h = absurd (cc)
 
-fault_status : (f : RunFault) → run_status f ≡ 0 → ⊥
+pub fault_status : (f : RunFault) → run_status f ≡ 0 → ⊥
 fault_status (running.Text f) h = read_status f h
 fault_status (running.Refused e) h = absurd (cc)
 fault_status running.NotWritten h = absurd (cc)
 fault_status running.NotKept h = absurd (cc)
 
 -- no fault has status 0
-pub fault_answered : {E : Type 0} (task : Rewriting) (text : List ℕ) (f : RunFault) (r : Result Answer E) → IfOk r (λ a. a.status ≡ run_status f) → IfOk r (IsAnswered task text)
-fault_answered task text f (Ok a) is well = absurd (fault_status f (sym is ∙ well))
-fault_answered task text f (Err e) is = tt
+pub fault_answered : {E : Type 0} (task : Rewriting) (of : Named) (f : RunFault) (r : Result Answer E) → IsTold task of f → IfOk r (IsFaultTold f) → IfOk r (IsAnswered task of)
+fault_answered task of f (Ok a) told is = record { well = λ well. absurd (fault_status f (sym is.status ∙ well)); fault = λ other. (f, told, is) }
+fault_answered task of f (Err e) told is = tt

@@ -1,5 +1,8 @@
 -- What is answered to a task over texts.
-use Rattle.std.specs.Prelude.{◌≡◌, Bool, true, false, ℕ, List, Option, Some, None}
+use Rattle.std.specs.Prelude.{◌≡◌, ◌<◌, Bool, true, false, ℕ, nat_eq, codes, List, [], Option, Some, None}
+use Rattle.std.specs.List.{ends_with}
+use Rattle.std.specs.Option.{option_or}
+use Rattle.swc_tree_marks.specs.declared.error.PassError.TheVariants as refusal
 use Rattle.text_parser.specs.declared.programs.Goal.{Goal}
 use Rattle.text_parser.specs.declared.programs.Goal.TheVariants as goal
 use Rattle.mucwathi_settings.specs.declared.command.Settings.{Settings}
@@ -7,20 +10,42 @@ use Rattle.mucwathi_order.specs.declared.order.Order.{Order}
 use Rattle.mucwathi_arguments.specs.declared.task.Judging.{Judging}
 use Rattle.mucwathi_arguments.specs.declared.task.Rewriting.{Rewriting}
 use Rattle.mucwathi_commands.specs.Written.{IsRewritten}
-use Rattle.mucwathi_commands.specs.Judged.{IsJudged}
+use Rattle.mucwathi_commands.specs.Faults.{IsRunFault}
+use Rattle.mucwathi_commands.specs.Judged.{IsJudgeFault, IsJudged}
 use Rattle.mucwathi_commands.specs.declared.judge.Rules.{Rules}
 use Rattle.mucwathi_commands.specs.declared.judge.TextDifference.{TextDifference}
+use Rattle.mucwathi_faults.specs.declared.fault.JudgeFault.{JudgeFault}
+use Rattle.mucwathi_faults.specs.declared.fault.RunFault.{RunFault}
+use Rattle.mucwathi_faults.specs.declared.fault.RunFault.TheVariants.{Refused}
+use Rattle.mucwathi_looks.specs.Looks.{IsUnlooked}
+use Rattle.mucwathi_looks.specs.Trees.{HasTree}
+use Rattle.mucwathi_report.specs.declared.reports.Named.{Named}
+use Rattle.mucwathi_report.specs.Status.{judge_status, run_status}
 use Rattle.mucwathi_answers.specs.declared.answer.Answer.{Answer}
+use Rattle.mucwathi_answers.specs.declared.looking.Work.{Work}
+use Rattle.mucwathi_answers.specs.declared.looking.Work.TheVariants as work
 
--- a goal is what was asked for, if one was
-abbrev pub IsAsked : Option Goal → Goal → Type 0
-IsAsked (Some asked) g = g ≡ asked
-IsAsked None g = Unit {0}
+-- as what a text is read, if the name of its file tells
+abbrev pub goal_by : (is_module is_script : Bool) → Option Goal
+goal_by true is_script = Some goal.Module
+goal_by false true = Some goal.Script
+goal_by false false = None
 
--- ... or it is still open, if none was
-abbrev pub IsAskedIfAny : Option Goal → Option Goal → Type 0
-IsAskedIfAny (Some asked) found = found ≡ Some asked
-IsAskedIfAny None found = Unit {0}
+abbrev pub goal_named : List ℕ → Option Goal
+goal_named name = goal_by (ends_with nat_eq name (codes ".mjs")) (ends_with nat_eq name (codes ".cjs"))
+
+-- ... or what was asked, if that was
+abbrev pub goal_asked : Option Goal → Named → Option Goal
+goal_asked (Some asked) of = Some asked
+goal_asked None of = goal_named of.name.now
+
+-- a text is read as what it is to be read; where that is open, as either
+abbrev pub IsGoalOf : Option Goal → Goal → Type 0
+IsGoalOf (Some asked) g = g ≡ asked
+IsGoalOf None g = Unit {0}
+
+abbrev pub IsAsked : Option Goal → Named → Goal → Type 0
+IsAsked given of g = IsGoalOf (goal_asked given of) g
 
 -- names of the program's own scope stay where that was asked for, and where nothing was, those of a script
 abbrev pub keeps_top : Option Bool → Goal → Bool
@@ -35,37 +60,96 @@ settings_for s keep = record { keep_class_names = s.keep_class_names; ignore_eva
 abbrev pub order_for : Rewriting → Goal → Order
 order_for task g = record { command = task.command; goal = g; depth = 10000; settings = settings_for task.settings (keeps_top task.keep_top g); style = task.style }
 
+-- nothing is written, and the status is that of a fault
+pub record IsFaultTold (f : RunFault) (a : Answer) : Type 0 where
+  pub status : a.status ≡ run_status f
+  pub out : a.out.items ≡ []
+
+abbrev pub IsWell : Answer → Type 0
+IsWell a = a.status ≡ 0
+
+-- memory was refused
+abbrev pub IsMemoryFault : RunFault → Type 0
+IsMemoryFault f = f ≡ Refused refusal.NoMemory
+
 -- what is written for a text is what was asked for
-pub record IsMade (task : Rewriting) (text out : List ℕ) : Type 0 where
+pub record IsMade (task : Rewriting) (of : Named) (out : List ℕ) : Type 0 where
   pub goal : Goal
-  pub asked : IsAsked task.goal goal
-  pub rewritten : IsRewritten (order_for task goal) text out
+  pub asked : IsAsked task.goal of goal
+  pub rewritten : IsRewritten (order_for task goal) of.text.now out
 
--- so it is where nothing is told in its place
-abbrev pub IsWorked : Rewriting → List ℕ → Answer → Type 0
-IsWorked task text a = task.lists ≡ false → task.explains ≡ false → IsMade task text a.out.items
+-- all is well, and so it is where nothing is told in its place
+pub record IsWorked (task : Rewriting) (of : Named) (a : Answer) : Type 0 where
+  pub well : IsWell a
+  pub made : task.lists ≡ false → task.explains ≡ false → IsMade task of a.out.items
 
--- status 0 is only given so
-abbrev pub IsAnswered : Rewriting → List ℕ → Answer → Type 0
-IsAnswered task text a = a.status ≡ 0 → IsWorked task text a
+-- a fault tells of the text, as what it is read, where neither a list nor a map is asked for
+pub record IsFaultOf (task : Rewriting) (of : Named) (f : RunFault) : Type 0 where
+  pub goal : Goal
+  pub asked : IsAsked task.goal of goal
+  pub told : IsRunFault (order_for task goal) of.text.now f
+
+abbrev pub IsTold : Rewriting → Named → RunFault → Type 0
+IsTold task of f = task.lists ≡ false → task.map ≡ None → IsFaultOf task of f
+
+-- status 0 is only given where all is well; with another nothing is written, and it is that of a fault
+pub record IsAnswered (task : Rewriting) (of : Named) (a : Answer) : Type 0 where
+  pub well : IsWell a → IsWorked task of a
+  pub fault : ¬ IsWell a → (f : RunFault) × IsTold task of f × IsFaultTold f a
+
+-- what is shown of a text, as what it is read: its tree; that of the other works is tested
+abbrev pub Shows : Work → Goal → List ℕ → List ℕ → Type 0
+Shows work.Tree goal text out = HasTree goal text out
+Shows _ goal text out = Unit {0}
+
+-- ... and why nothing is
+abbrev pub IsUnshown : Work → Goal → List ℕ → RunFault → Type 0
+IsUnshown work.Tree goal text f = IsUnlooked goal text f
+IsUnshown work.Names goal text f = IsUnlooked goal text f
+IsUnshown _ goal text f = Unit {0}
+
+-- so it is of a text, as what it is read
+abbrev pub IsShown : Work → Option Goal → Named → List ℕ → Type 0
+IsShown w given of out = (goal : Goal) × IsAsked given of goal × Shows w goal of.text.now out
+
+abbrev pub IsShowFault : Work → Option Goal → Named → RunFault → Type 0
+IsShowFault w given of f = (goal : Goal) × IsAsked given of goal × IsUnshown w goal of.text.now f
+
+-- status 0 is only given where that is written which was asked for; with another nothing is written, and it is that of a fault
+pub record IsLooked (w : Work) (given : Option Goal) (of : Named) (a : Answer) : Type 0 where
+  pub well : IsWell a → IsShown w given of a.out.items
+  pub fault : ¬ IsWell a → (f : RunFault) × IsShowFault w given of f × IsFaultTold f a
 
 -- by what they are judged
 abbrev pub rules_for : Judging → Rules
 rules_for task = record { depth = 10000; keep_top = task.keep_top; spelling = task.spelling }
 
+-- one of two texts is read as what it is to be read, or else as the other is to be
+abbrev pub IsAskedOfTwo : Option Goal → Named → Named → Goal → Type 0
+IsAskedOfTwo given of other g = IsGoalOf (option_or (goal_asked given of) (goal_asked given other)) g
+
 -- two texts are judged, as what they are read
-pub record IsVerdict (task : Judging) (before after : List ℕ) (said : Option TextDifference) : Type 0 where
+pub record IsVerdict (task : Judging) (before after : Named) (said : Option TextDifference) : Type 0 where
   pub first : Goal
   pub second : Goal
-  pub asked_first : IsAsked task.goal first
-  pub asked_second : IsAsked task.goal second
-  pub judged : IsJudged (rules_for task) first before second after said
+  pub asked_first : IsAskedOfTwo task.goal before after first
+  pub asked_second : IsAskedOfTwo task.goal after before second
+  pub judged : IsJudged (rules_for task) first before.text.now second after.text.now said
+
+-- why nothing is said of them, as what they are read
+pub record IsVerdictFault (task : Judging) (before after : Named) (f : JudgeFault) : Type 0 where
+  pub first : Goal
+  pub second : Goal
+  pub asked_first : IsAskedOfTwo task.goal before after first
+  pub asked_second : IsAskedOfTwo task.goal after before second
+  pub told : IsJudgeFault task.spelling first before.text.now second after.text.now f
 
 abbrev pub verdict_status : Option TextDifference → ℕ
 verdict_status None = 0
 verdict_status (Some difference) = 1
 
--- status 0 says that they are the same program but for names, and 1 that they are not
-pub record TellsVerdict (task : Judging) (before after : List ℕ) (status : ℕ) : Type 0 where
+-- status 0 says that they are the same program but for names, 1 that they are not, and another is that of a fault
+pub record TellsVerdict (task : Judging) (before after : Named) (status : ℕ) : Type 0 where
   pub same : status ≡ 0 → IsVerdict task before after None
   pub other : status ≡ 1 → (difference : TextDifference) × IsVerdict task before after (Some difference)
+  pub fault : 1 < status → (f : JudgeFault) × IsVerdictFault task before after f × (status ≡ judge_status f)

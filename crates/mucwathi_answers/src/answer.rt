@@ -1,6 +1,6 @@
 //! Answers.
-ghost use Rattle.std.specs.Prelude.{◌≡◌, IfOk};
-ghost use Rattle.mucwathi_report.specs.Status.{run_status};
+ghost use Rattle.std.specs.Prelude.{◌≡◌, [], IfOk};
+ghost use Rattle.mucwathi_answers.specs.Answers.{IsFaultTold};
 
 use mucwathi_commands::RunFault;
 use mucwathi_report::{Named, status_of, tell_fault};
@@ -35,6 +35,7 @@ impl Answer {
 
     // Nothing is written.
     pub(crate) fn told(alloc: Global, told: Vec<u8>, status: u8) -> Answer
+        ensures out { result.out.items ≡ [] }
         ensures told { result.told ≡ told }
         ensures status { result.status ≡ status }
     {
@@ -51,7 +52,7 @@ impl Answer {
         of: Named<'_>,
         fault: &RunFault,
     ) -> Result<Answer, AllocError>
-        ensures { IfOk result (λ a. a.status ≡ run_status fault.now) }
+        ensures { IfOk result (IsFaultTold fault.now) }
     {
         let told = tell_fault(alloc, of, fault)?;
         Ok(Answer::told(alloc, told, status_of(fault)))

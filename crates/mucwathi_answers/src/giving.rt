@@ -1,6 +1,6 @@
 //! What is made of a program that is given, or answered, otherwise than as a text.
 use crate::answer::{Answer, DEPTH};
-use crate::goals::{further, goal_of, may_be_module};
+use crate::goals::{further, goal_asked, may_be_module};
 use mucwathi_arguments::{Giving, Source};
 use mucwathi_commands::{Goal, Order, RunFault, Settings, Style};
 use mucwathi_given::{Envelope, TreeFault, make_given, read_tree, write_tree};
@@ -83,7 +83,7 @@ fn work_as(alloc: Global, task: &Giving, text: &[u8], goal: Goal) -> Result<Vec<
 
 // The same where it may be open as what the text is read.
 fn work_on(alloc: Global, task: &Giving, of: Named<'_>) -> Result<Vec<u8>, RunFault> {
-    if let Some(goal) = goal_of(task.goal, of.name) {
+    if let Some(goal) = goal_asked(task.goal, of) {
         return work_as(alloc, task, of.text, goal);
     }
     match work_as(alloc, task, of.text, Goal::Script) {

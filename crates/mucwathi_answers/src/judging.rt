@@ -1,11 +1,11 @@
 //! What is said of two texts.
-ghost use Rattle.std.specs.Prelude.{◌≡◌, IfOk};
+ghost use Rattle.std.specs.Prelude.{◌≡◌, ◌⊎◌, IfOk, MatchResult};
 ghost use Rattle.mucwathi_report.specs.Status.{judge_status};
-ghost use Rattle.mucwathi_commands.specs.Judged.{IsJudged};
-ghost use Rattle.mucwathi_answers.specs.Answers.{IsVerdict, TellsVerdict, rules_for, verdict_status};
+ghost use Rattle.mucwathi_commands.specs.Judged.{IsJudgeFault, IsJudged};
+ghost use Rattle.mucwathi_answers.specs.Answers.{IsVerdict, IsVerdictFault, TellsVerdict, rules_for, verdict_status};
 
 use crate::answer::{Answer, DEPTH};
-use crate::goals::{goal_of, goal_or, reach as reach_of};
+use crate::goals::{goal_asked, goal_of_two, reach as reach_of};
 use mucwathi_arguments::Judging;
 use mucwathi_commands::{Goal, JudgeFault, NamedText, Rules, TextDifference, judge_texts};
 use mucwathi_report::{Named, status_of_judging, tell_difference, tell_judge_fault};
@@ -20,19 +20,28 @@ fn reach(fault: &JudgeFault) -> (bool, usize) {
     }
 }
 
-// As what both are read where the name of one file alone tells; none where both are open.
-fn goal_of_one(asked: Option<Goal>, before: &str, after: &str) -> Option<Goal> {
-    match goal_of(asked, before) {
-        Some(goal) => Some(goal),
-        None => goal_of(asked, after),
+// The fault to tell of two: that which is further behind.
+fn further(first: JudgeFault, second: JudgeFault) -> JudgeFault
+    ensures { (result ≡ first) ⊎ (result ≡ second) }
+{
+    if reach(&first) <= reach(&second) {
+        second
+    } else {
+        first
     }
 }
 
 // Whether texts that were not read so are to be read as modules.
-fn may_be_modules(fault: &JudgeFault, asked: Option<Goal>, before: &str, after: &str) -> bool {
+fn may_be_modules(
+    fault: &JudgeFault,
+    asked: Option<Goal>,
+    before: Named<'_>,
+    after: Named<'_>,
+) -> bool {
     match fault {
         JudgeFault::Before(fault) | JudgeFault::After(fault) => {
-            goal_of_one(asked, before, after).is_none() && fault.at().is_some()
+            let given = goal_asked(asked, before).or(goal_asked(asked, after));
+            given.is_none() && fault.at().is_some()
         }
         JudgeFault::Refused(_) => false,
     }
@@ -58,7 +67,7 @@ fn judge_as(
     first: Goal,
     second: Goal,
 ) -> Result<Option<TextDifference>, JudgeFault>
-    ensures { IfOk result (λ said. IsJudged (rules_for task.now) first before.text.now second after.text.now said) }
+    ensures { MatchResult result (IsJudged (rules_for task.now) first before.entry.text.now second after.entry.text.now) (IsJudgeFault task.now.spelling first before.entry.text.now second after.entry.text.now) }
 {
     judge_texts(
         alloc,
@@ -82,11 +91,12 @@ fn judge_by(
     after: Named<'_>,
     fallback: Goal,
 ) -> Result<Option<TextDifference>, JudgeFault>
-    ensures { IfOk result (λ said. IsVerdict task.now before.text.now after.text.now said) }
+    ensures { MatchResult result (IsVerdict task.now before.entry after.entry) (IsVerdictFault task.now before.entry after.entry) }
 {
-    let other = goal_of_one(task.goal, before.name, after.name).unwrap_or(fallback);
-    let first = goal_or(task.goal, before.name, other);
-    let second = goal_or(task.goal, after.name, other);
+    let one = goal_asked(task.goal, before);
+    let other = goal_asked(task.goal, after);
+    let first = goal_of_two(one, other, fallback);
+    let second = goal_of_two(other, one, fallback);
     judge_as(alloc, task, before, after, first, second)
 }
 
@@ -98,15 +108,12 @@ fn judge_as_modules(
     after: Named<'_>,
     fault: JudgeFault,
 ) -> Result<Option<TextDifference>, JudgeFault>
-    ensures { IfOk result (λ said. IsVerdict task.now before.text.now after.text.now said) }
+    requires { IsVerdictFault task.now before after fault }
+    ensures { MatchResult result (IsVerdict task.now before.entry after.entry) (IsVerdictFault task.now before.entry after.entry) }
 {
     match judge_by(alloc, task, before, after, Goal::Module) {
         Ok(said) => Ok(said),
-        Err(other) => Err(if reach(&fault) <= reach(&other) {
-            other
-        } else {
-            fault
-        }),
+        Err(other) => Err(further(fault, other)),
     }
 }
 
@@ -117,12 +124,12 @@ fn judge(
     before: Named<'_>,
     after: Named<'_>,
 ) -> Result<Option<TextDifference>, JudgeFault>
-    ensures { IfOk result (λ said. IsVerdict task.now before.text.now after.text.now said) }
+    ensures { MatchResult result (IsVerdict task.now before.entry after.entry) (IsVerdictFault task.now before.entry after.entry) }
 {
     match judge_by(alloc, task, before, after, Goal::Script) {
         Ok(said) => Ok(said),
         Err(fault) => {
-            if may_be_modules(&fault, task.goal, before.name, after.name) {
+            if may_be_modules(&fault, task.goal, before, after) {
                 judge_as_modules(alloc, task, before, after, fault)
             } else {
                 Err(fault)
@@ -185,14 +192,14 @@ fn told(
     }
 }
 
-/// Whether two texts are the same program but for names: status 0 only if they are, 1 only if not.
+/// Whether two texts are the same program but for names: status 0 only if they are, 1 only if not, and another only by a fault.
 pub fn answer_judging(
     alloc: Global,
     task: &Judging<'_>,
     before: Named<'_>,
     after: Named<'_>,
 ) -> Result<Answer, AllocError>
-    ensures { IfOk result (λ a. TellsVerdict task.now before.text.now after.text.now a.status) }
+    ensures { IfOk result (λ a. TellsVerdict task.now before.entry after.entry a.status) }
 {
     match judge(alloc, task, before, after) {
         Ok(said) => told(alloc, before, after, said),

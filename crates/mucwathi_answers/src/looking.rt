@@ -1,12 +1,19 @@
 //! What is told of a text.
+ghost use Rattle.std.specs.Prelude.{◌≡◌, None, IfOk, IfErr, MatchResult};
+ghost use Rattle.text_parser.specs.declared.programs.Goal.TheVariants as kinds;
+ghost use Rattle.mucwathi_looks.specs.Looks.{IsUnlooked};
+ghost use Rattle.mucwathi_looks.specs.Trees.{HasTree};
+ghost use Rattle.mucwathi_answers.specs.declared.looking.Work.TheVariants as works;
+ghost use Rattle.mucwathi_answers.specs.Answers.{IsAsked, IsLooked, IsMemoryFault, IsShowFault, IsShown, IsUnshown, Shows, goal_asked as is_asked};
+
 use crate::answer::{Answer, DEPTH};
-use crate::goals::{further, goal_of, may_be_module};
+use crate::goals::{further, goal_asked, may_be_module};
 use mucwathi_commands::{Goal, RunFault};
-use mucwathi_looks::{free_names, tree_of_text};
-use mucwathi_marked::mark_text;
+use mucwathi_looks::{FreeName, free_names, mark_text, tree_of_text};
 use mucwathi_report::{Named, list_names};
 use mucwathi_show::show_text;
 use std::alloc::{AllocError, Global};
+use swc_tree_marks::PassError;
 
 #[derive(Clone, Copy)]
 enum Work {
@@ -16,18 +23,81 @@ enum Work {
     Page,
 }
 
-fn work_as(alloc: Global, work: Work, of: Named<'_>, goal: Goal) -> Result<Vec<u8>, RunFault> {
+fn tree(alloc: Global, of: Named<'_>, goal: Goal) -> Result<Vec<u8>, RunFault>
+    ensures { MatchResult result (λ out. HasTree goal of.entry.text.now out.items) (IsUnlooked goal of.entry.text.now) }
+{
+    match tree_of_text(alloc, goal, DEPTH, of.text) {
+        Ok(json) => Ok(json.into_bytes()),
+        Err(fault) => Err(fault),
+    }
+}
+
+fn list(alloc: Global, of: Named<'_>, names: &[FreeName]) -> Result<Vec<u8>, RunFault>
+    ensures { IfErr result IsMemoryFault }
+{
+    match list_names(alloc, of.text, names) {
+        Ok(out) => Ok(out),
+        Err(_) => Err(RunFault::Refused(PassError::NoMemory)),
+    }
+}
+
+fn names(alloc: Global, of: Named<'_>, goal: Goal) -> Result<Vec<u8>, RunFault>
+    ensures { IfErr result (IsUnlooked goal of.entry.text.now) }
+{
+    match free_names(alloc, goal, DEPTH, of.text) {
+        Ok(names) => list(alloc, of, names.as_slice()),
+        Err(fault) => Err(fault),
+    }
+}
+
+// What is told of a text that is read as the goal has it.
+fn work_as(alloc: Global, work: Work, of: Named<'_>, goal: Goal) -> Result<Vec<u8>, RunFault>
+    ensures { MatchResult result (λ out. Shows work goal of.entry.text.now out.items) (IsUnshown work goal of.entry.text.now) }
+{
     match work {
         Work::Marks => mark_text(alloc, goal, DEPTH, of.text),
-        Work::Tree => {
-            let json = tree_of_text(alloc, goal, DEPTH, of.text)?;
-            Ok(json.into_bytes())
-        }
+        Work::Tree => tree(alloc, of, goal),
         Work::Page => show_text(alloc, goal, DEPTH, of.name, of.text),
-        Work::Names => {
-            let names = free_names(alloc, goal, DEPTH, of.text)?;
-            let out = list_names(alloc, of.text, names.as_slice())?;
-            Ok(out)
+        Work::Names => names(alloc, of, goal),
+    }
+}
+
+// The same as a module, where the text was not read as a script.
+fn work_as_module(
+    alloc: Global,
+    work: Work,
+    goal: Option<Goal>,
+    of: Named<'_>,
+    fault: RunFault,
+) -> Result<Vec<u8>, RunFault>
+    requires asked { IsAsked goal of kinds.Module }
+    requires told { IsShowFault work goal of fault }
+    ensures { MatchResult result (λ out. IsShown work goal of.entry out.items) (IsShowFault work goal of.entry) }
+{
+    match work_as(alloc, work, of, Goal::Module) {
+        Ok(out) => Ok(out),
+        Err(other) => Err(further(fault, other)),
+    }
+}
+
+// The same where it is open as what it is read: as a script where it is one, and else as a module.
+fn work_open(
+    alloc: Global,
+    work: Work,
+    goal: Option<Goal>,
+    of: Named<'_>,
+) -> Result<Vec<u8>, RunFault>
+    requires { is_asked goal of ≡ None }
+    ensures { MatchResult result (λ out. IsShown work goal of.entry out.items) (IsShowFault work goal of.entry) }
+{
+    match work_as(alloc, work, of, Goal::Script) {
+        Ok(out) => Ok(out),
+        Err(fault) => {
+            if may_be_module(&fault) {
+                work_as_module(alloc, work, goal, of, fault)
+            } else {
+                Err(fault)
+            }
         }
     }
 }
@@ -37,17 +107,12 @@ fn work_on(
     work: Work,
     goal: Option<Goal>,
     of: Named<'_>,
-) -> Result<Vec<u8>, RunFault> {
-    if let Some(goal) = goal_of(goal, of.name) {
-        return work_as(alloc, work, of, goal);
-    }
-    match work_as(alloc, work, of, Goal::Script) {
-        Ok(out) => Ok(out),
-        Err(fault) if !may_be_module(&fault) => Err(fault),
-        Err(fault) => match work_as(alloc, work, of, Goal::Module) {
-            Ok(out) => Ok(out),
-            Err(other) => Err(further(fault, other)),
-        },
+) -> Result<Vec<u8>, RunFault>
+    ensures { MatchResult result (λ out. IsShown work goal of.entry out.items) (IsShowFault work goal of.entry) }
+{
+    match goal_asked(goal, of) {
+        Some(asked) => work_as(alloc, work, of, asked),
+        None => work_open(alloc, work, goal, of),
     }
 }
 
@@ -56,7 +121,9 @@ fn answer(
     work: Work,
     goal: Option<Goal>,
     of: Named<'_>,
-) -> Result<Answer, AllocError> {
+) -> Result<Answer, AllocError>
+    ensures { IfOk result (IsLooked work goal of.entry) }
+{
     match work_on(alloc, work, goal, of) {
         Ok(out) => Ok(Answer::of(alloc, out)),
         Err(fault) => Answer::fault(alloc, of, &fault),
@@ -64,11 +131,9 @@ fn answer(
 }
 
 /// The free names of a text.
-pub fn answer_names(
-    alloc: Global,
-    goal: Option<Goal>,
-    of: Named<'_>,
-) -> Result<Answer, AllocError> {
+pub fn answer_names(alloc: Global, goal: Option<Goal>, of: Named<'_>) -> Result<Answer, AllocError>
+    ensures { IfOk result (IsLooked works.Names goal of.entry) }
+{
     answer(alloc, Work::Names, goal, of)
 }
 
@@ -77,12 +142,16 @@ pub fn answer_resolving(
     alloc: Global,
     goal: Option<Goal>,
     of: Named<'_>,
-) -> Result<Answer, AllocError> {
+) -> Result<Answer, AllocError>
+    ensures { IfOk result (IsLooked works.Marks goal of.entry) }
+{
     answer(alloc, Work::Marks, goal, of)
 }
 
 /// The tree of a text as JSON.
-pub fn answer_tree(alloc: Global, goal: Option<Goal>, of: Named<'_>) -> Result<Answer, AllocError> {
+pub fn answer_tree(alloc: Global, goal: Option<Goal>, of: Named<'_>) -> Result<Answer, AllocError>
+    ensures { IfOk result (IsLooked works.Tree goal of.entry) }
+{
     answer(alloc, Work::Tree, goal, of)
 }
 
@@ -91,6 +160,8 @@ pub fn answer_showing(
     alloc: Global,
     goal: Option<Goal>,
     of: Named<'_>,
-) -> Result<Answer, AllocError> {
+) -> Result<Answer, AllocError>
+    ensures { IfOk result (IsLooked works.Page goal of.entry) }
+{
     answer(alloc, Work::Page, goal, of)
 }

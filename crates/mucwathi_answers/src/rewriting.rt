@@ -1,17 +1,19 @@
 //! What is made of a text.
-ghost use Rattle.std.specs.Prelude.{◌≡◌, None, IfOk};
+ghost use Rattle.std.specs.Prelude.{◌≡◌, None, IsOk, IfOk, MatchResult};
 ghost use Rattle.text_parser.specs.declared.programs.Goal.TheVariants as kinds;
+ghost use Rattle.mucwathi_commands.specs.Faults.{IsRunFault};
 ghost use Rattle.mucwathi_commands.specs.Written.{IsRewritten};
-ghost use Rattle.mucwathi_answers.specs.Answers.{IsAnswered, IsAsked, IsAskedIfAny, IsWorked, keeps_top, order_for as order_of};
+ghost use Rattle.mucwathi_answers.specs.Answers.{IsAnswered, IsAsked, IsMemoryFault, IsTold, IsWell, IsWorked, goal_asked as is_asked, keeps_top, order_for as order_of};
 
 use crate::answer::{Answer, DEPTH};
-use crate::goals::{further, goal_of, may_be_module};
+use crate::goals::{further, goal_asked, may_be_module};
 use mucwathi_arguments::Rewriting;
-use mucwathi_commands::{Goal, Order, RunFault, Settings, cover_text, rewrite_text};
+use mucwathi_commands::{CoverGap, Goal, Order, RunFault, Settings, cover_text, rewrite_text};
 use mucwathi_looks::list_changes;
 use mucwathi_map::source_map;
 use mucwathi_report::{Named, list_renamed, tell_cover};
 use std::alloc::{AllocError, Global};
+use swc_tree_marks::PassError;
 
 // Whether names of the program's own scope stay: of a script, where nothing else was asked for.
 fn does_keep_top(asked: Option<bool>, goal: Goal) -> bool
@@ -39,16 +41,31 @@ fn order_for(task: &Rewriting<'_>, goal: Goal) -> Order
     }
 }
 
-fn list(alloc: Global, order: &Order, prefix: &str, text: &[u8]) -> Result<Answer, RunFault> {
+fn list(alloc: Global, order: &Order, prefix: &str, text: &[u8]) -> Result<Answer, RunFault>
+    ensures { IfOk result IsWell }
+{
     let changes = list_changes(alloc, order, text)?;
     let out = list_renamed(alloc, prefix, text, changes.as_slice())?;
     Ok(Answer::of(alloc, out))
 }
 
-fn explain(alloc: Global, order: &Order, of: Named<'_>) -> Result<Answer, RunFault> {
-    let gap = cover_text(alloc, order.goal, order.depth, &order.settings, of.text)?;
-    let out = tell_cover(alloc, of, gap)?;
-    Ok(Answer::of(alloc, out))
+// Whether the promise covers a text, as told.
+fn explain(alloc: Global, order: &Order, of: Named<'_>) -> Result<Answer, RunFault>
+    ensures { MatchResult result IsWell (IsRunFault order.now of.entry.text.now) }
+{
+    match cover_text(alloc, order.goal, order.depth, &order.settings, of.text) {
+        Ok(gap) => explain_gap(alloc, of, gap),
+        Err(fault) => Err(fault),
+    }
+}
+
+fn explain_gap(alloc: Global, of: Named<'_>, gap: Option<CoverGap>) -> Result<Answer, RunFault>
+    ensures { MatchResult result IsWell IsMemoryFault }
+{
+    match tell_cover(alloc, of, gap) {
+        Ok(out) => Ok(Answer::of(alloc, out)),
+        Err(_) => Err(RunFault::Refused(PassError::NoMemory)),
+    }
 }
 
 // The source map of what was written, where one is asked for.
@@ -58,11 +75,35 @@ fn map_for(
     order: &Order,
     of: Named<'_>,
     out: &[u8],
-) -> Result<Vec<u8>, RunFault> {
-    if task.map.is_none() {
-        return Ok(Vec::new(alloc));
+) -> Result<Vec<u8>, RunFault>
+    ensures { task.now.map ≡ None → IsOk result }
+{
+    match task.map {
+        None => Ok(Vec::new(alloc)),
+        Some(_) => source_map(alloc, order, of.name, of.text, out),
     }
-    source_map(alloc, order, of.name, of.text, out)
+}
+
+// What was written, and its map.
+fn with_map(
+    alloc: Global,
+    task: &Rewriting<'_>,
+    order: &Order,
+    of: Named<'_>,
+    out: Vec<u8>,
+) -> Result<Answer, RunFault>
+    requires { IsRewritten order.now of.text.now out.items }
+    ensures { MatchResult result (λ a. IsWell a × IsRewritten order.now of.entry.text.now a.out.items) (λ _. task.now.map ≡ None → ⊥) }
+{
+    match map_for(alloc, task, order, of, out.as_slice()) {
+        Ok(map) => Ok(Answer {
+            out,
+            map,
+            told: Vec::new(alloc),
+            status: 0,
+        }),
+        Err(fault) => Err(fault),
+    }
 }
 
 fn rewrite(
@@ -71,16 +112,12 @@ fn rewrite(
     order: &Order,
     of: Named<'_>,
 ) -> Result<Answer, RunFault>
-    ensures { IfOk result (λ a. IsRewritten order.now of.text.now a.out.items) }
+    ensures { MatchResult result (λ a. IsWell a × IsRewritten order.now of.entry.text.now a.out.items) (λ f. task.now.map ≡ None → IsRunFault order.now of.entry.text.now f) }
 {
-    let out = rewrite_text(alloc, order, of.text)?;
-    let map = map_for(alloc, task, order, of, out.as_slice())?;
-    Ok(Answer {
-        out,
-        map,
-        told: Vec::new(alloc),
-        status: 0,
-    })
+    match rewrite_text(alloc, order, of.text) {
+        Ok(out) => with_map(alloc, task, order, of, out),
+        Err(fault) => Err(fault),
+    }
 }
 
 // What is answered where the text is read as the goal has it.
@@ -91,8 +128,8 @@ fn answer_as(
     of: Named<'_>,
     goal: Goal,
 ) -> Result<Answer, RunFault>
-    requires { IsAsked task.now.goal goal }
-    ensures { IfOk result (λ a. IsWorked task.now of.text.now a) }
+    requires { IsAsked task.now.goal of goal }
+    ensures { MatchResult result (IsWorked task.now of.entry) (IsTold task.now of.entry) }
 {
     let order = order_for(task, goal);
     if task.explains {
@@ -112,8 +149,9 @@ fn answer_as_module(
     of: Named<'_>,
     fault: RunFault,
 ) -> Result<Answer, RunFault>
-    requires { IsAsked task.now.goal kinds.Module }
-    ensures { IfOk result (λ a. IsWorked task.now of.text.now a) }
+    requires asked { IsAsked task.now.goal of kinds.Module }
+    requires told { IsTold task.now of fault }
+    ensures { MatchResult result (IsWorked task.now of.entry) (IsTold task.now of.entry) }
 {
     match answer_as(alloc, task, prefix, of, Goal::Module) {
         Ok(answer) => Ok(answer),
@@ -128,8 +166,8 @@ fn answer_open(
     prefix: &str,
     of: Named<'_>,
 ) -> Result<Answer, RunFault>
-    requires { IsAskedIfAny task.now.goal None }
-    ensures { IfOk result (λ a. IsWorked task.now of.text.now a) }
+    requires { is_asked task.now.goal of ≡ None }
+    ensures { MatchResult result (IsWorked task.now of.entry) (IsTold task.now of.entry) }
 {
     match answer_as(alloc, task, prefix, of, Goal::Script) {
         Ok(answer) => Ok(answer),
@@ -149,9 +187,9 @@ fn answer(
     prefix: &str,
     of: Named<'_>,
 ) -> Result<Answer, RunFault>
-    ensures { IfOk result (λ a. IsWorked task.now of.text.now a) }
+    ensures { MatchResult result (IsWorked task.now of.entry) (IsTold task.now of.entry) }
 {
-    match goal_of(task.goal, of.name) {
+    match goal_asked(task.goal, of) {
         Some(goal) => answer_as(alloc, task, prefix, of, goal),
         None => answer_open(alloc, task, prefix, of),
     }
@@ -159,14 +197,15 @@ fn answer(
 
 /// What is made of a text, or told of it; each line of a list begins with the prefix.
 ///
-/// With status 0, and where nothing is told in its place, what is written is what was asked for (`IsRewritten` of `mucwathi_commands`).
+/// With status 0, and where nothing is told in its place, what is written is what was asked for (`IsRewritten` of `mucwathi_commands`). With
+/// another nothing is written, and the status is that of a fault, which tells of the text unless a list or a map is asked for.
 pub fn answer_rewriting(
     alloc: Global,
     task: &Rewriting<'_>,
     prefix: &str,
     of: Named<'_>,
 ) -> Result<Answer, AllocError>
-    ensures { IfOk result (λ a. IsAnswered task.now of.text.now a) }
+    ensures { IfOk result (IsAnswered task.now of.entry) }
 {
     match answer(alloc, task, prefix, of) {
         Ok(answer) => Ok(answer),

@@ -1,11 +1,15 @@
-//! What is told of a text: its free names, its tree, and the names that a command gives anew.
+//! What is told of a text: its free names, the marks of its names, its tree, and the names that a command gives anew.
 #![tactic(auto)]
 
 mod changes;
+mod marked;
 mod names;
 mod places;
+mod signs;
 mod trees;
 
 pub use changes::{Change, list_changes};
+pub use marked::mark_text;
 pub use names::{FreeName, free_names};
+pub use signs::{any_is_marked, signs_at};
 pub use trees::tree_of_text;

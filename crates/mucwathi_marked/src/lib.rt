@@ -4,9 +4,8 @@
 mod contexts;
 mod given;
 mod resolved;
-mod signs;
 mod write;
 
 pub use given::{Marked, give_marked, give_text};
-pub use resolved::{mark_text, resolve_marked};
+pub use resolved::resolve_marked;
 pub use write::{print_given, rewrite_marked};

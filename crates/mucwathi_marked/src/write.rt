@@ -1,9 +1,9 @@
 //! Programs written as texts, with the marks of their names.
 use crate::given::{Marked, give_marked};
-use crate::signs::{any_is_marked, signs_at};
 use mucwathi_commands::{edit, print};
 use mucwathi_faults::RunFault;
 use mucwathi_given::{Envelope, make_given};
+use mucwathi_looks::{any_is_marked, signs_at};
 use mucwathi_order::{Goal, Order, Settings};
 use mucwathi_signs::put_signs;
 use std::alloc::Global;

@@ -30,7 +30,7 @@ fn add(
 }
 
 /// The signs of names, where others of the same number stand, in the order of the text.
-pub(crate) fn signs_at(
+pub fn signs_at(
     alloc: Global,
     names: &[Site<'_>],
     places: &[Site<'_>],
@@ -44,6 +44,6 @@ pub(crate) fn signs_at(
 }
 
 /// Whether some name has a mark.
-pub(crate) fn any_is_marked(names: &[Site<'_>]) -> bool {
+pub fn any_is_marked(names: &[Site<'_>]) -> bool {
     names.iter().any(|name| !name.ident.ctxt.marks().is_empty())
 }
