@@ -159,10 +159,18 @@ fn of_length(len: usize) -> &'static [Entry] {
     }
 }
 
+/// Whether a name may be a word, by how they begin.
+fn begins_alike(name: &[u8], word: &[u8]) -> bool {
+    match (name, word) {
+        ([one, ..], [other, ..]) => *one == *other,
+        _ => false,
+    }
+}
+
 /// The word that a name is, if the grammar knows it.
 pub fn keyword_of(name: &[u8]) -> Option<Keyword> {
     for (word, keyword) in of_length(name.len()) {
-        if name == word.as_bytes() {
+        if begins_alike(name, word.as_bytes()) && name == word.as_bytes() {
             return Some(*keyword);
         }
     }
