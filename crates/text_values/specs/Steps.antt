@@ -1,5 +1,5 @@
 -- What the first unit of a literal adds to a value.
-use Rattle.std.specs.Prelude.{ℕ, Bool, not, ◌||◌, ◌==◌, nat_eq, if◌then◌else◌, List, length, drop, Option, Some, None}
+use Rattle.std.specs.Prelude.{ℕ, Bool, not, ◌&&◌, ◌==◌, nat_eq, if◌then◌else◌, List, length, drop, Option, Some, None}
 use Rattle.std.specs.List.{list_any, starts_with}
 use Rattle.text_strings.specs.declared.escape.Reading.{Reading}
 use Rattle.text_strings.specs.declared.escape.Unit.{Unit}
@@ -29,4 +29,4 @@ past_unit reading half text value = bytes_taken value (next_bytes reading half t
 
 -- no byte is read as another: neither a backslash nor a carriage return is among them
 abbrev pub is_plain : List ℕ → Bool
-is_plain text = not (list_any (λ c. c == 92 || c == 13) text)
+is_plain text = not (list_any (λ c. c == 92) text) && not (list_any (λ c. c == 13) text)

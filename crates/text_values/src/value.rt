@@ -135,7 +135,7 @@ fn is_done(half: u32, left: &[u8]) -> bool
 fn is_plain(text: &[u8]) -> bool
     ensures { result ≡ steps.is_plain text.now }
 {
-    !text.iter().any(|byte| *byte == b'\\' || *byte == b'\r')
+    !text.contains(&b'\\') && !text.contains(&b'\r')
 }
 
 /// Whether a literal's text stands for these bytes, a unit at a time.
