@@ -1,5 +1,5 @@
 use Rattle.std.proofs.Common.{◌≡◌, ◌∙◌, get_or}
-use Rattle.text_words.proofs.Reserved.{among, none}
+use Rattle.text_words.proofs.Letters.{among, none}
 use Rattle.text_words.proofs.reserved.is_reserved.Goals as goal
 
 pub returns-in-98 : goal.returns-in-98
