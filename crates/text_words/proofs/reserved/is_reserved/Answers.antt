@@ -1,4 +1,5 @@
-use Rattle.std.proofs.Common.{◌≡◌, ◌∙◌, get_or}
+use Rattle.std.proofs.Common.{◌≡◌, ◌≢◌, ◌∙◌, get_or, arith, rules}
+use Rattle.std.proofs.lemmas.Bool.Decides.{nat_tests}
 use Rattle.text_words.proofs.Letters.{among, none}
 use Rattle.text_words.proofs.reserved.is_reserved.Goals as goal
 
@@ -65,4 +66,17 @@ returns-in-119 c =
 pub returns-in_default : goal.returns-in_default
 returns-in_default c =
     let is : get_or c.args.text.now 0 0 ≡ c.first.result = cc in
-    none c.first.result c.args.text.now is c.in_default.not-98 c.in_default.not-99 c.in_default.not-100 c.in_default.not-101 c.in_default.not-102 c.in_default.not-105 c.in_default.not-110 c.in_default.not-114 c.in_default.not-115 c.in_default.not-116 c.in_default.not-118 c.in_default.not-119
+    let own = c.in_default.in_default-own in
+    let not_b : c.first.result ≢ 98 = first_of (omega arith, search rules, grind (arith, nat_tests)) in
+    let not_c : c.first.result ≢ 99 = first_of (omega arith, search rules, grind (arith, nat_tests)) in
+    let not_d : c.first.result ≢ 100 = first_of (omega arith, search rules, grind (arith, nat_tests)) in
+    let not_e : c.first.result ≢ 101 = first_of (omega arith, search rules, grind (arith, nat_tests)) in
+    let not_f : c.first.result ≢ 102 = first_of (omega arith, search rules, grind (arith, nat_tests)) in
+    let not_i : c.first.result ≢ 105 = first_of (omega arith, search rules, grind (arith, nat_tests)) in
+    let not_n : c.first.result ≢ 110 = first_of (omega arith, search rules, grind (arith, nat_tests)) in
+    let not_r : c.first.result ≢ 114 = first_of (omega arith, search rules, grind (arith, nat_tests)) in
+    let not_s : c.first.result ≢ 115 = first_of (omega arith, search rules, grind (arith, nat_tests)) in
+    let not_t : c.first.result ≢ 116 = first_of (omega arith, search rules, grind (arith, nat_tests)) in
+    let not_v : c.first.result ≢ 118 = first_of (omega arith, search rules, grind (arith, nat_tests)) in
+    let not_w : c.first.result ≢ 119 = first_of (omega arith, search rules, grind (arith, nat_tests)) in
+    none c.first.result c.args.text.now is not_b not_c not_d not_e not_f not_i not_n not_r not_s not_t not_v not_w
