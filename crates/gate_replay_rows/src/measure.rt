@@ -6,18 +6,15 @@ use crate::texts::text_each;
 use anyhow::{Result, bail};
 use jsbase_reader::read_bytes;
 use jsbase_writer::write_envelope;
-use json::{Scratch, Value, to_vec};
+use serde_json::Value;
 use std::alloc::Global;
 use std::io::{Read, Write};
 use swc_base_rename_substitution::{Config, Names, substitute};
 use swc_tree_node::{Class, Node};
 
-fn json(alloc: Global, input: &[u8]) -> Result<Vec<u8>> {
-    let mut scratch = Scratch::new(alloc);
-    match Value::from_slice(alloc, input, &mut scratch) {
-        Ok(value) => Ok(to_vec(alloc, &value)?),
-        Err(_) => bail!("standard input is no JSON, or memory was refused"),
-    }
+fn json(alloc: Global, input: &[u8]) -> Result<String> {
+    let value = Value::from_slice(alloc, input)?;
+    Ok(value.to_string(alloc)?)
 }
 
 fn renamed(alloc: Global, word: &str, tree: Node) -> Result<Node> {
@@ -31,13 +28,13 @@ fn renamed(alloc: Global, word: &str, tree: Node) -> Result<Node> {
     Ok(substitute(alloc, &Names::Texts(&texts), &Config::default(), tree)?)
 }
 
-fn tree(alloc: Global, word: &str, input: &[u8]) -> Result<Vec<u8>> {
+fn tree(alloc: Global, word: &str, input: &[u8]) -> Result<String> {
     let Ok(envelope) = read_bytes(alloc, Class::Script, input) else {
         bail!("standard input is no envelope of a script, or memory was refused");
     };
     let tree = renamed(alloc, word, envelope.tree)?;
     let (top, unresolved) = (envelope.top, envelope.unresolved);
-    Ok(write_envelope(alloc, &envelope.globals, top, &tree, unresolved)?.into_bytes())
+    Ok(write_envelope(alloc, &envelope.globals, top, &tree, unresolved)?)
 }
 
 /// Does what a word asks with standard input.
@@ -52,6 +49,6 @@ pub fn serve(rt: &HostRuntime, word: &str) -> Result<()> {
             "usage: gate_replay [json|write|name|rename|refuse jsbase|pass WORD module|script]"
         ),
     };
-    rt.stdout().write_all(text.as_slice())?;
+    rt.stdout().write_all(text.as_bytes())?;
     Ok(())
 }

@@ -1,7 +1,7 @@
 //! Comments that only note what is asked of them.
 ghost use Rattle.std.specs.Prelude.{◌≡◌, ◌∷◌, ◌++◌, [], OnOk, OnErr};
 
-use json::{Scratch, Value};
+use serde_json::Value;
 use std::alloc::{AllocError, Global};
 use std::fmt::Write;
 use swc_tree::{BytePos, Comments, Items, Move, NoMemory};
@@ -15,8 +15,7 @@ pub struct Notes {
 
 /// The room that a row gives.
 pub fn room(alloc: Global, input: &str) -> Option<usize> {
-    let mut scratch = Scratch::new(alloc);
-    let value = Value::parse(alloc, input, &mut scratch).ok()?;
+    let value = Value::from_str(alloc, input).ok()?;
     usize::try_from(value.get("room")?.as_u64()?).ok()
 }
 

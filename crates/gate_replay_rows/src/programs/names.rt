@@ -1,25 +1,17 @@
 //! The names of a row: a list under the key `names`, of each a text, the marks of its context and its new text, and for
 //! `remap` the marks of that.
-use json::{Scratch, Value};
+use serde_json::Value;
 use std::alloc::Global;
 use std::collections::HashMap;
 use swc_tree_items::Text;
 use swc_tree_marks::{Id, JsWord, Mark, SyntaxContext};
 
-// The items of an array.
-fn items_of<'v, 'a>(value: &'v Value<'a>) -> Option<&'v [Value<'a>]> {
-    match value {
-        Value::Array(items) => Some(items.as_slice()),
-        _ => None,
-    }
-}
-
-fn text(alloc: Global, name: &Value<'_>, at: usize) -> Option<JsWord> {
-    let text = name.at(at)?.as_str()?;
+fn text(alloc: Global, name: &Value, at: usize) -> Option<JsWord> {
+    let text = name.get(at)?.as_str()?;
     Text::new(alloc, text).ok()
 }
 
-fn add_marks(ctxt: &mut SyntaxContext, marks: &[Value<'_>]) -> Option<()> {
+fn add_marks(ctxt: &mut SyntaxContext, marks: &[Value]) -> Option<()> {
     for mark in marks {
         let number = u32::try_from(mark.as_u64()?).ok()?;
         ctxt.apply_mark(Mark::from_u32(number)).ok()?;
@@ -28,8 +20,8 @@ fn add_marks(ctxt: &mut SyntaxContext, marks: &[Value<'_>]) -> Option<()> {
 }
 
 // The text at a place of a name, with the marks after it.
-fn id(alloc: Global, name: &Value<'_>, at: usize) -> Option<Id> {
-    let marks = items_of(name.at(at.checked_add(1)?)?)?;
+fn id(alloc: Global, name: &Value, at: usize) -> Option<Id> {
+    let marks = name.get(at.checked_add(1)?)?.as_array()?;
     let mut ctxt = SyntaxContext::empty(alloc);
     add_marks(&mut ctxt, marks)?;
     Some((text(alloc, name, at)?, ctxt))
@@ -40,38 +32,35 @@ fn put<T: Drop>(map: &mut HashMap<Id, T>, id: Id, new: T) -> Option<()> {
     Some(())
 }
 
-fn put_text(alloc: Global, texts: &mut HashMap<Id, JsWord>, name: &Value<'_>) -> Option<()> {
+fn put_text(alloc: Global, texts: &mut HashMap<Id, JsWord>, name: &Value) -> Option<()> {
     let new = text(alloc, name, 2)?;
     put(texts, id(alloc, name, 0)?, new)
 }
 
-fn put_id(alloc: Global, ids: &mut HashMap<Id, Id>, name: &Value<'_>) -> Option<()> {
+fn put_id(alloc: Global, ids: &mut HashMap<Id, Id>, name: &Value) -> Option<()> {
     let new = id(alloc, name, 2)?;
     put(ids, id(alloc, name, 0)?, new)
 }
 
 fn put_texts(alloc: Global, input: &str, texts: &mut HashMap<Id, JsWord>) -> Option<()> {
-    let mut scratch = Scratch::new(alloc);
-    let value = Value::parse(alloc, input, &mut scratch).ok()?;
-    for name in items_of(value.get("names")?)? {
+    let value = Value::from_str(alloc, input).ok()?;
+    for name in value.get("names")?.as_array()? {
         put_text(alloc, texts, name)?;
     }
     Some(())
 }
 
 fn put_ids(alloc: Global, input: &str, ids: &mut HashMap<Id, Id>) -> Option<()> {
-    let mut scratch = Scratch::new(alloc);
-    let value = Value::parse(alloc, input, &mut scratch).ok()?;
-    for name in items_of(value.get("names")?)? {
+    let value = Value::from_str(alloc, input).ok()?;
+    for name in value.get("names")?.as_array()? {
         put_id(alloc, ids, name)?;
     }
     Some(())
 }
 
 fn add_preserved(alloc: Global, input: &str, ids: &mut Vec<Id>) -> Option<()> {
-    let mut scratch = Scratch::new(alloc);
-    let value = Value::parse(alloc, input, &mut scratch).ok()?;
-    for name in items_of(value.get("preserved")?)? {
+    let value = Value::from_str(alloc, input).ok()?;
+    for name in value.get("preserved")?.as_array()? {
         ids.push(id(alloc, name, 0)?).ok()?;
     }
     Some(())
