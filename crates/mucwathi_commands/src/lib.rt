@@ -16,3 +16,4 @@ pub use mucwathi_order::{Command, Goal, Order, Settings, Style};
 pub use rewrite::rewrite_text;
 pub use swc_base_alpha::Why;
 pub use swc_base_covers::Cause;
+pub use write::{edit, print};

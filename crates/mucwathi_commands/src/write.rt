@@ -24,13 +24,12 @@ fn comments_of(goal: Goal) -> Comments
     }
 }
 
-// The text of an answer, anew.
-pub(crate) fn print(
-    alloc: Global,
-    goal: Goal,
-    layout: Layout,
-    answer: &Node,
-) -> Result<Vec<u8>, RunFault>
+/// The text of an answer, anew.
+///
+/// # Errors
+///
+/// `NotWritten` where it has no text; `Refused` where memory is.
+pub fn print(alloc: Global, goal: Goal, layout: Layout, answer: &Node) -> Result<Vec<u8>, RunFault>
     ensures written { IfOk result (λ out. Follows (texts.comments_of goal) false (pieces_of answer.now) out.items) }
     ensures fault { IfErr result IsWriteFault }
 {
@@ -41,8 +40,12 @@ pub(crate) fn print(
     }
 }
 
-// The text of an answer, with the layout and the comments of its source's.
-pub(crate) fn edit(
+/// The text of an answer, with the layout and the comments of its source's.
+///
+/// # Errors
+///
+/// `NotKept` where these can't be kept; `Refused` where memory is.
+pub fn edit(
     alloc: Global,
     goal: Goal,
     text: &[u8],
