@@ -1,6 +1,6 @@
 //! The page.
-ghost use Rattle.std.specs.Prelude.{◌≡◌, ◌≤◌, ◌-◌, false, [], ◌∷◌, ◌++◌, codes, drop, take, length, IfOk, OnOk};
-ghost use Rattle.mucwathi_page.specs.Shown.{Adds, AddsBefore, AddsBehind, IsPage, has_end as ends_tag};
+ghost use Rattle.std.specs.Prelude.{◌≡◌, ◌≤◌, [], ◌∷◌, length, IfOk, OnOk};
+ghost use Rattle.mucwathi_page.specs.Shown.{Adds, AddsBehind, EndsOpen, GoesOn, IsPage, has_end as ends_tag};
 
 use std::alloc::{AllocError, Global};
 
@@ -134,6 +134,15 @@ fn add_named(
     add_tag(out, b"/b")
 }
 
+// The nearest place to one between two others.
+fn near(at: usize, low: usize, high: usize) -> usize
+    requires { low ≤ high }
+    ensures low { low ≤ result }
+    ensures high { result ≤ high }
+{
+    at.min(high).max(low)
+}
+
 // Adds what is before a name, from a place on, and the name; tells the place behind.
 fn add_name(
     alloc: Global,
@@ -143,10 +152,10 @@ fn add_name(
     out: &mut Vec<u8>,
 ) -> Result<usize, AllocError>
     requires { from ≤ length text.now }
-    ensures { IfOk result (λ to. (from ≤ to) × (to ≤ length text.now) × Adds out.old.items out.new.items (take (to - from) (drop from text.now))) }
+    ensures { IfOk result (GoesOn text.now from out.old.items out.new.items) }
 {
-    let begin = each.from.min(text.len()).max(from);
-    let end = each.to.min(text.len()).max(begin);
+    let begin = near(each.from, from, text.len());
+    let end = near(each.to, begin, text.len());
     add_text(out, &text[from..begin])?;
     add_named(alloc, &text[begin..end], each, out)?;
     Ok(end)
@@ -169,7 +178,7 @@ fn add_names(
 
 // Adds what is before the text.
 fn add_head(out: &mut Vec<u8>, name: &str) -> Result<(), AllocError>
-    ensures { OnOk result (AddsBefore out.old.items out.new.items) }
+    ensures { OnOk result (EndsOpen out.new.items) }
 {
     out.extend_from_slice(b"<!DOCTYPE html>\n<html lang=en><meta charset=utf-8><title>")?;
     add_text(out, name.as_bytes())?;

@@ -1,6 +1,6 @@
 -- One sign more.
-use Rattle.std.proofs.Common.{◌≡◌, ℕ, ◌+◌, ◌<◌, ◌≤◌, List, [], ◌∷◌, ◌++◌, length, drop, take, get_or, arith, refl, sym, ap, ◌∙◌, subst, decimal, add-one, length-append, length-drop}
-use Rattle.std.proofs.lemmas.List.{append_assoc, take_more}
+use Rattle.std.proofs.Common.{◌≡◌, ℕ, suc, ◌+◌, ◌-◌, ◌<◌, ◌≤◌, List, [], ◌∷◌, ◌++◌, length, drop, take, get_or, arith, refl, sym, ap, ◌∙◌, subst, decimal, add-one, length-append, length-drop, length-take}
+use Rattle.std.proofs.lemmas.List.{append-nil, append_assoc, drop-drop, take-append-drop, take_more}
 use Rattle.std.proofs.Math.ListN.{drop_of_length-le}
 use Rattle.std.proofs.Math.Seq.{drop-cons}
 use Rattle.mucwathi_signs.specs.declared.sign.Sign.{Sign}
@@ -36,10 +36,34 @@ begins_none ss text rest h = h
 
 more_append : (a b : List ℕ) → more_marks (a ++ b) ≡ more_marks a ++ more_marks b
 more_append [] b = refl
-more_append (m ∷ ms) b = simp (more_append ms b, append_assoc)
+more_append (m ∷ ms) b = ap (λ (l : List ℕ). (46 ∷ decimal m) ++ l) (more_append ms b) ∙ sym (append_assoc (46 ∷ decimal m) (more_marks ms) (more_marks b))
 
-pub one_more : (ms : List ℕ) (i m : ℕ) (old new text : List ℕ) → i < length ms → m ≡ get_or ms i m → text ≡ 46 ∷ decimal m → new ≡ old ++ more_marks (take i ms) ++ text → new ≡ old ++ more_marks (take (i + 1) ms)
-one_more ms i m old new text below is told h =
-    let more : more_marks (take (i + 1) ms) ≡ more_marks (take i ms) ++ (46 ∷ decimal m ++ []) =
-    ap more_marks (take_more ms i m below is) ∙ more_append (take i ms) (get_or ms i m ∷ []) ∙ ap (λ z. more_marks (take i ms) ++ (46 ∷ decimal z ++ [])) (sym is) in
-    rw more (h ∙ rw told (simp append_assoc))
+pub one_more : (ms : List ℕ) (i : ℕ) (old mid new text : List ℕ) → i < length ms → text ≡ 46 ∷ decimal (get_or ms i 0) → mid ≡ old ++ more_marks (take i ms) → new ≡ mid ++ text → new ≡ old ++ more_marks (take (i + 1) ms)
+one_more ms i old mid new text below told h k =
+    let mark : List ℕ = 46 ∷ decimal (get_or ms i 0) in
+    let more : more_marks (take (i + 1) ms) ≡ more_marks (take i ms) ++ mark =
+        ap more_marks (take_more ms i 0 below) ∙ more_append (take i ms) (get_or ms i 0 ∷ []) ∙ ap (λ (z : List ℕ). more_marks (take i ms) ++ z) (append-nil mark) in
+    k ∙ ap (λ (l : List ℕ). l ++ text) h ∙ ap (λ (t : List ℕ). old ++ more_marks (take i ms) ++ t) told ∙ append_assoc old (more_marks (take i ms)) mark ∙ ap (λ (l : List ℕ). old ++ l) (sym more)
+
+sign_split : (ms : List ℕ) → 1 ≤ length ms → sign_text ms ≡ (35 ∷ decimal (get_or ms 0 0)) ++ more_marks (drop 1 ms)
+sign_split [] h = absurd (omega arith)
+sign_split (m ∷ ms) h = refl
+
+pub sign_added : (ms old mid new text : List ℕ) → 1 ≤ length ms → text ≡ 35 ∷ decimal (get_or ms 0 0) → mid ≡ old ++ text → new ≡ mid ++ more_marks (drop 1 ms) → new ≡ old ++ sign_text ms
+sign_added ms old mid new text some told h k =
+    let mark : List ℕ = 35 ∷ decimal (get_or ms 0 0) in
+    k ∙ ap (λ (l : List ℕ). l ++ more_marks (drop 1 ms)) (h ∙ ap (λ (t : List ℕ). old ++ t) told) ∙ append_assoc old mark (more_marks (drop 1 ms)) ∙ ap (λ (l : List ℕ). old ++ l) (sym (sign_split ms some))
+
+dropped : (t : List ℕ) (a b : ℕ) → a ≤ b → drop (b - a) (drop a t) ≡ drop b t
+dropped t a b h = drop-drop (b - a) a t ∙ ap (λ n. drop n t) (omega arith)
+
+pub sign_put : (text : List ℕ) (from to : ℕ) (s : Sign) (old mid new marks : List ℕ) → from ≤ to → to ≤ length text → (from ≤ s.at → s.at ≤ length text → to ≡ s.at) → marks ≡ s.marks.items → mid ≡ old ++ take (to - from) (drop from text)
+    → new ≡ mid ++ sign_text marks → IsPut text from s old new to
+sign_put text from to s old mid new marks low high same are h k = record {
+  before = take (to - from) (drop from text);
+  left = sym (take-append-drop (to - from) (drop from text)) ∙ ap (λ (l : List ℕ). take (to - from) (drop from text) ++ l) (dropped text from to low);
+  moved = rw (length-take, length-drop) (omega arith);
+  within = high;
+  placed = λ a b. sym (same a b);
+  added = k ∙ ap (λ (l : List ℕ). l ++ sign_text marks) h ∙ ap (λ (ms : List ℕ). old ++ take (to - from) (drop from text) ++ sign_text ms) are;
+}

@@ -31,6 +31,16 @@ fn add_sign(alloc: Global, marks: &[u32], out: &mut Vec<u8>) -> Result<(), Alloc
     add_more(alloc, more, out)
 }
 
+// The nearest place to one between two others.
+fn near(at: usize, low: usize, high: usize) -> usize
+    requires { low ≤ high }
+    ensures low { low ≤ result }
+    ensures high { result ≤ high }
+    ensures same { low ≤ at → at ≤ high → result ≡ at }
+{
+    at.min(high).max(low)
+}
+
 // Adds what is before a sign, from a place on, and the sign; tells the place behind.
 fn put_sign(
     alloc: Global,
@@ -42,7 +52,7 @@ fn put_sign(
     requires { from ≤ length text.now }
     ensures { IfOk result (IsPut text.now from sign.now out.old.items out.new.items) }
 {
-    let to = sign.at.min(text.len()).max(from);
+    let to = near(sign.at, from, text.len());
     out.extend_from_slice(&text[from..to])?;
     add_sign(alloc, sign.marks.as_slice(), out)?;
     Ok(to)
