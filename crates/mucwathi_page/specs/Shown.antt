@@ -1,6 +1,6 @@
 -- Texts shown as HTML.
 use Rattle.std.specs.List.{list_any}
-use Rattle.std.specs.Prelude.{◌≡◌, ◌≢◌, ℕ, Bool, false, ◌==◌, List, [], ◌∷◌, ◌++◌, codes}
+use Rattle.std.specs.Prelude.{◌≡◌, ◌≢◌, ℕ, ◌≤◌, Bool, false, ◌==◌, List, [], ◌∷◌, ◌++◌, codes, length, take}
 
 -- whether a tag ends among bytes
 abbrev pub has_end : List ℕ → Bool
@@ -22,10 +22,16 @@ pub record Adds (old new text : List ℕ) : Type 0 where
   pub whole : new ≡ old ++ html
   pub shown : Shows html text
 
--- what ends with a tag was added, and what begins with its end
-abbrev pub AddsBefore : List ℕ → List ℕ → Type 0
-AddsBefore old new = (before : List ℕ) × (new ≡ old ++ before ++ codes "<pre>" ++ 10 ∷ [])
+-- where the text was shown up to a place, it is up to another
+pub record GoesOn (text : List ℕ) (from : ℕ) (old new : List ℕ) (to : ℕ) : Type 0 where
+  pub within : to ≤ length text
+  pub shown : (first : List ℕ) → Adds first old (take from text) → Adds first new (take to text)
 
+-- the tag is the last, before the text begins
+abbrev pub EndsOpen : List ℕ → Type 0
+EndsOpen head = (before : List ℕ) × (head ≡ before ++ codes "<pre>" ++ 10 ∷ [])
+
+-- what begins with its end was added
 abbrev pub AddsBehind : List ℕ → List ℕ → Type 0
 AddsBehind old new = (after : List ℕ) × (new ≡ old ++ codes "</pre>" ++ after)
 

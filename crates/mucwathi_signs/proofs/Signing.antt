@@ -42,7 +42,7 @@ pub one_more : (ms : List ℕ) (i : ℕ) (old mid new text : List ℕ) → i < l
 one_more ms i old mid new text below told h k =
     let mark : List ℕ = 46 ∷ decimal (get_or ms i 0) in
     let more : more_marks (take (i + 1) ms) ≡ more_marks (take i ms) ++ mark =
-        ap more_marks (take_more ms i 0 below) ∙ more_append (take i ms) (get_or ms i 0 ∷ []) ∙ ap (λ (z : List ℕ). more_marks (take i ms) ++ z) (append-nil mark) in
+    ap more_marks (take_more ms i 0 below) ∙ more_append (take i ms) (get_or ms i 0 ∷ []) ∙ ap (λ (z : List ℕ). more_marks (take i ms) ++ z) (append-nil mark) in
     k ∙ ap (λ (l : List ℕ). l ++ text) h ∙ ap (λ (t : List ℕ). old ++ more_marks (take i ms) ++ t) told ∙ append_assoc old (more_marks (take i ms)) mark ∙ ap (λ (l : List ℕ). old ++ l) (sym more)
 
 sign_split : (ms : List ℕ) → 1 ≤ length ms → sign_text ms ≡ (35 ∷ decimal (get_or ms 0 0)) ++ more_marks (drop 1 ms)
