@@ -1,6 +1,6 @@
 -- HTML that shows one text after another.
 use Rattle.std.proofs.Common.{◌≡◌, ◌≢◌, ℕ, ◌+◌, ◌-◌, ◌<◌, ◌≤◌, false, List, [], ◌∷◌, ◌++◌, codes, length, drop, take, get_or, arith, sym, ap, ◌∙◌, subst}
-use Rattle.std.proofs.lemmas.List.{append-nil, append_assoc, take-append-drop, take_all, take_more}
+use Rattle.std.proofs.lemmas.List.{append-nil, append_assoc, take-append-drop, take_all, take_more, take_rest}
 use Rattle.std.proofs.Math.Seq.{take-add}
 use Rattle.mucwathi_page.specs.Shown.{Adds, AddsBehind, EndsOpen, IsPage, Shows, has_end}
 
@@ -64,8 +64,8 @@ adds_to text a b first old new low h k =
     let reach : a + (b - a) ≡ b = omega arith in
     subst (Adds first new) (sym (take-add a (b - a) text) ∙ ap (λ n. take n text) reach) (adds_both first old new (take a text) (take (b - a) (drop a text)) h k)
 
-pub adds_rest : (text : List ℕ) (a : ℕ) (first old new : List ℕ) → Adds first old (take a text) → Adds old new (drop a text) → Adds first new text
-adds_rest text a first old new h k = subst (Adds first new) (take-append-drop a text) (adds_both first old new (take a text) (drop a text) h k)
+pub adds_rest : (text : List ℕ) (a : ℕ) (first old new : List ℕ) → Adds first old (take a text) → Adds old new (take (length text - a) (drop a text)) → Adds first new text
+adds_rest text a first old new h k = subst (Adds first new) (take-append-drop a text) (adds_both first old new (take a text) (drop a text) h (subst (Adds old new) (take_rest text a) k))
 
 pub ends_open : (old new : List ℕ) → new ≡ old ++ (codes "</style>" ++ (codes "<pre>" ++ 10 ∷ [])) → EndsOpen new
 ends_open old new h =

@@ -1,6 +1,6 @@
 -- One sign more.
 use Rattle.std.proofs.Common.{◌≡◌, ℕ, suc, ◌+◌, ◌-◌, ◌<◌, ◌≤◌, List, [], ◌∷◌, ◌++◌, length, drop, take, get_or, arith, refl, sym, ap, ◌∙◌, subst, decimal, add-one, length-append, length-drop, length-take}
-use Rattle.std.proofs.lemmas.List.{append-nil, append_assoc, drop-drop, take-append-drop, take_more}
+use Rattle.std.proofs.lemmas.List.{append-nil, append_assoc, drop-drop, take-append-drop, take_more, take_rest}
 use Rattle.std.proofs.Math.ListN.{drop_of_length-le}
 use Rattle.std.proofs.Math.Seq.{drop-cons}
 use Rattle.mucwathi_signs.specs.declared.sign.Sign.{Sign}
@@ -49,10 +49,10 @@ sign_split : (ms : List ℕ) → 1 ≤ length ms → sign_text ms ≡ (35 ∷ de
 sign_split [] h = absurd (omega arith)
 sign_split (m ∷ ms) h = refl
 
-pub sign_added : (ms old mid new text : List ℕ) → 1 ≤ length ms → text ≡ 35 ∷ decimal (get_or ms 0 0) → mid ≡ old ++ text → new ≡ mid ++ more_marks (drop 1 ms) → new ≡ old ++ sign_text ms
+pub sign_added : (ms old mid new text : List ℕ) → 1 ≤ length ms → text ≡ 35 ∷ decimal (get_or ms 0 0) → mid ≡ old ++ text → new ≡ mid ++ more_marks (take (length ms - 1) (drop 1 ms)) → new ≡ old ++ sign_text ms
 sign_added ms old mid new text some told h k =
     let mark : List ℕ = 35 ∷ decimal (get_or ms 0 0) in
-    k ∙ ap (λ (l : List ℕ). l ++ more_marks (drop 1 ms)) (h ∙ ap (λ (t : List ℕ). old ++ t) told) ∙ append_assoc old mark (more_marks (drop 1 ms)) ∙ ap (λ (l : List ℕ). old ++ l) (sym (sign_split ms some))
+    k ∙ ap (λ (l : List ℕ). mid ++ more_marks l) (take_rest ms 1) ∙ ap (λ (l : List ℕ). l ++ more_marks (drop 1 ms)) (h ∙ ap (λ (t : List ℕ). old ++ t) told) ∙ append_assoc old mark (more_marks (drop 1 ms)) ∙ ap (λ (l : List ℕ). old ++ l) (sym (sign_split ms some))
 
 dropped : (t : List ℕ) (a b : ℕ) → a ≤ b → drop (b - a) (drop a t) ≡ drop b t
 dropped t a b h = drop-drop (b - a) a t ∙ ap (λ n. drop n t) (omega arith)
