@@ -47,6 +47,9 @@ FORMAL = re.compile(r'\s+\(`\w')
 # What users of the crates don't see, and what makes a name public: `pub` before it, a member of a public trait or sum, or a word of the JSON form.
 INNER = re.compile(r'(?:tools|bench|\.ci|crates/gate_\w+|proofs|must-fail)\b.*|(?:gate|bench)_\w+|\w+_(?:laws|rows)')
 PUBLIC = re.compile(r'^.*\bpub\b.*$|^    (?:ghost|fn) \w+|^    [A-Z]\w*[,(]?', re.M)
+# What `mucwathi --version` tells, a version of CHANGELOG.md, and the kit.
+VERSION = re.compile(r'VERSION: &str = "([\d.]+) \((.*)\)"')
+NEWEST = re.compile(r'^## ([\d.]+)', re.M)
 # What stands for any name in a path, and what of a crate is there once it is built.
 ANY = re.compile(r'\b(CRATE|NAME)\b')
 BUILT = re.compile(r'^(crates/[^/]+)/out/.*')
@@ -197,6 +200,16 @@ def unseen(files):
             yield term
 
 
+def other_version():
+    """What is wrong with the version that the program tells."""
+    version, kit = VERSION.search(text_of('crates/mucwathi_arguments/src/version.rt')).groups()
+    newest = NEWEST.search(text_of('CHANGELOG.md')).group(1)
+    if version != newest:
+        yield f'CHANGELOG.md: {newest} is its newest version, where mucwathi tells {version}'
+    if kit not in ' '.join(text_of('README.md').split()):
+        yield f'README.md: mucwathi tells another kit, {kit}'
+
+
 def faults_of(page, files, words):
     """What is wrong with a page, line by line."""
     for number, line in enumerate(text_of(page).split('\n'), 1):
@@ -224,6 +237,7 @@ def main():
     faults += [f'docs/ARCHITECTURE.md: no sentence says what {crate} is' for crate in untold()]
     faults += [f'docs/DEFINITIONS.md: {word} has no formal name beside it' for word in nameless()]
     faults += [f'CHANGELOG.md: {term} is nothing that users see' for term in unseen(files)]
+    faults += other_version()
     for fault in faults:
         print(fault)
     sys.exit(bool(faults))

@@ -2,7 +2,7 @@
 use crate::row::Row;
 use anyhow::Result;
 use mucwathi_answers::{
-    Answer, Named, answer_judging, answer_names, answer_resolving, answer_rewriting,
+    Answer, Named, answer_given, answer_judging, answer_names, answer_resolving, answer_rewriting,
     answer_showing, answer_tree,
 };
 use mucwathi_arguments::{Error, Task, read_words};
@@ -21,6 +21,9 @@ fn answer_task(alloc: Global, task: &Task<'_>, row: &Row) -> Result<Answer, Allo
     match task {
         Task::Rewrite(task) => {
             let file = task.files.get(0).copied();
+            if !task.form.is_plain() {
+                return answer_given(alloc, &task.giving(), named(file, text));
+            }
             answer_rewriting(alloc, task, "", named(file, text))
         }
         Task::Judge(task) => answer_judging(
@@ -32,6 +35,7 @@ fn answer_task(alloc: Global, task: &Task<'_>, row: &Row) -> Result<Answer, Allo
         Task::Names(task) => answer_names(alloc, task.goal, named(task.file, text)),
         Task::Resolve(task) => answer_resolving(alloc, task.goal, named(task.file, text)),
         Task::Tree(task) => answer_tree(alloc, task.goal, named(task.file, text)),
+        Task::ResolveGiven(task, giving) => answer_given(alloc, giving, named(task.file, text)),
         Task::Show(task) => answer_showing(alloc, task.goal, named(task.file, text)),
     }
 }

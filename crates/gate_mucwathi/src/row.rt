@@ -31,6 +31,23 @@ fn add(line: &str, text: &mut String) -> Result<(), AllocError> {
     text.push_str("\n")
 }
 
+fn add_times(word: &str, count: u32, text: &mut String) -> Result<(), AllocError> {
+    for _ in 0..count {
+        text.push_str(word)?;
+    }
+    Ok(())
+}
+
+// Adds a line that says how often a word stands before the middle, and another behind it: `3 ( x ) ;` is `(((x)));`.
+fn add_nested(line: &str, text: &mut String) -> Result<(), AllocError> {
+    let mut words = line.split_whitespace();
+    let count = words.next().unwrap_or("").parse::<u32>().unwrap_or(0);
+    add_times(words.next().unwrap_or(""), count, text)?;
+    text.push_str(words.next().unwrap_or(""))?;
+    add_times(words.next().unwrap_or(""), count, text)?;
+    add(words.next().unwrap_or(""), text)
+}
+
 impl Row {
     fn of_words(alloc: Global, line: &str) -> Result<Row, AllocError> {
         Ok(Row {
@@ -53,6 +70,17 @@ impl Row {
         }
         if let Some(text) = line.strip_prefix("= ") {
             return add(text, &mut self.out);
+        }
+        self.add_nested_line(line)
+    }
+
+    // The same of a line of many levels, of a source map, of what is told, or of a status.
+    fn add_nested_line(&mut self, line: &str) -> Result<(), AllocError> {
+        if let Some(text) = line.strip_prefix("^ ") {
+            return add_nested(text, &mut self.text);
+        }
+        if let Some(text) = line.strip_prefix("v ") {
+            return add_nested(text, &mut self.out);
         }
         if let Some(text) = line.strip_prefix("@ ") {
             return add(text, &mut self.map);

@@ -1,10 +1,10 @@
 //! Tasks done.
 use crate::files::{last_name, read, tell, write_into, write_out, write_whole};
 use mucwathi_answers::{
-    Answer, Named, answer_judging, answer_names, answer_resolving, answer_rewriting,
+    Answer, Named, answer_given, answer_judging, answer_names, answer_resolving, answer_rewriting,
     answer_showing, answer_tree,
 };
-use mucwathi_arguments::{Judging, Looking, Rewriting, Target, Task};
+use mucwathi_arguments::{Giving, Judging, Looking, Rewriting, Target, Task};
 use std::alloc::{AllocError, Global};
 use std::io::{self, IsTerminal};
 
@@ -70,7 +70,11 @@ fn rewrite_one(rt: &HostRuntime, task: &Rewriting<'_>, prefix: &str, file: Optio
         name,
         text: text.as_slice(),
     };
-    let answer = answer_rewriting(rt.alloc(), task, prefix, of);
+    let answer = if task.form.is_plain() {
+        answer_rewriting(rt.alloc(), task, prefix, of)
+    } else {
+        answer_given(rt.alloc(), &task.giving(), of)
+    };
     if task.lists || task.explains {
         return give(rt, name, answer);
     }
@@ -198,6 +202,7 @@ enum Work {
     Names,
     Marks,
     Tree,
+    Given(Giving),
     Page,
 }
 
@@ -215,6 +220,7 @@ fn look(rt: &HostRuntime, task: &Looking<'_>, work: Work) -> u8 {
         Work::Names => answer_names(rt.alloc(), task.goal, of),
         Work::Marks => answer_resolving(rt.alloc(), task.goal, of),
         Work::Tree => answer_tree(rt.alloc(), task.goal, of),
+        Work::Given(giving) => answer_given(rt.alloc(), &giving, of),
         Work::Page => answer_showing(rt.alloc(), task.goal, of),
     };
     give(rt, name, answer)
@@ -228,6 +234,7 @@ pub(crate) fn run(rt: &HostRuntime, task: &Task<'_>) -> u8 {
         Task::Names(task) => look(rt, task, Work::Names),
         Task::Resolve(task) => look(rt, task, Work::Marks),
         Task::Tree(task) => look(rt, task, Work::Tree),
+        Task::ResolveGiven(task, giving) => look(rt, task, Work::Given(*giving)),
         Task::Show(task) => look(rt, task, Work::Page),
     }
 }

@@ -2,12 +2,14 @@
 #![tactic(auto)]
 
 mod answer;
+mod giving;
 mod goals;
 mod judging;
 mod looking;
 mod rewriting;
 
 pub use answer::Answer;
+pub use giving::answer_given;
 pub use judging::answer_judging;
 pub use looking::{answer_names, answer_resolving, answer_showing, answer_tree};
 pub use mucwathi_report::Named;

@@ -1,12 +1,10 @@
 //! Words read by `clap`.
-use crate::task::{Judging, Looking, Rewriting, Target, Task};
+use crate::task::{Form, Giving, Judging, Looking, Rewriting, Source, Target, Task};
+use crate::version::VERSION;
 use clap::error::ErrorKind;
 use clap::{Arg, ArgAction, ArgMatches, Command as Parser, Error};
 use mucwathi_order::{Command, Goal, Settings, Style};
 use std::alloc::{AllocError, Global};
-
-// The version, and the kit that the crates are proved with.
-const VERSION: &str = "0.1.0 (rattle-kit-13f, logic dac8208d650f15bf)";
 
 fn flag<'a>(alloc: Global, name: &'a str, help: &'a str) -> Arg<'a> {
     Arg::new(alloc, name)
@@ -39,10 +37,12 @@ fn file<'a>(alloc: Global, name: &'a str, shown: &'a str, help: &'a str) -> Arg<
 
 // The options of how an answer is written.
 fn with_style<'a>(alloc: Global, parser: Parser<'a>) -> Result<Parser<'a>, AllocError> {
-    let print = flag(alloc, "print", "Write the answer anew, a statement a line").conflicts_with(
-        "compact",
+    let print = flag(alloc, "print", "Write the answer anew, a statement a line")
+        .conflicts_with("compact")?
+        .conflicts_with("json")?;
+    let compact = flag(alloc, "compact", "Write the answer anew, in one line").conflicts_with(
+        "json",
     )?;
-    let compact = flag(alloc, "compact", "Write the answer anew, in one line");
     parser.arg(print)?.arg(compact)
 }
 
@@ -70,7 +70,36 @@ fn with_target<'a>(alloc: Global, parser: Parser<'a>) -> Result<Parser<'a>, Allo
         .action(ArgAction::Set)
         .help("Write a source map of the answer into a file")
         .conflicts_with("list")?;
-    parser.arg(place)?.arg(out)?.arg(list)?.arg(map)
+    parser
+        .arg(place)?
+        .arg(out)?
+        .arg(apart(list)?)?
+        .arg(apart(map)?)
+}
+
+// The options of as what a program is given, and whether its answer is an envelope.
+fn with_forms<'a>(alloc: Global, parser: Parser<'a>) -> Result<Parser<'a>, AllocError> {
+    let marks = flag(
+        alloc,
+        "marks",
+        "Names have marks behind them: a#2.3; those that are left are written",
+    )
+    .conflicts_with("from-json")?;
+    let from = flag(
+        alloc,
+        "from-json",
+        "Read a tree as JSON, as jsbase writes it",
+    );
+    let json = flag(alloc, "json", "Write the tree as JSON, as jsbase reads it");
+    parser.arg(marks)?.arg(from)?.arg(json)
+}
+
+// What these don't go with: `json` and `from-json` tell nothing of layout and places, `marks` none of places.
+fn apart<'a>(option: Arg<'a>) -> Result<Arg<'a>, AllocError> {
+    option
+        .conflicts_with("marks")?
+        .conflicts_with("from-json")?
+        .conflicts_with("json")
 }
 
 // The options of what gives names anew.
@@ -88,7 +117,7 @@ fn with_settings<'a>(alloc: Global, parser: Parser<'a>) -> Result<Parser<'a>, Al
     )
     .conflicts_with("list")?
     .conflicts_with("source-map")?;
-    parser.arg(classes)?.arg(eval)?.arg(explain)
+    parser.arg(classes)?.arg(eval)?.arg(apart(explain)?)
 }
 
 fn with_top<'a>(alloc: Global, parser: Parser<'a>) -> Result<Parser<'a>, AllocError> {
@@ -116,6 +145,7 @@ fn rewriter<'a>(
     let parser = with_goals(alloc, parser)?;
     let parser = with_style(alloc, parser)?;
     let parser = with_target(alloc, parser)?;
+    let parser = with_forms(alloc, parser)?;
     let files = file(
         alloc,
         "file",
@@ -231,12 +261,31 @@ fn resolve_parser<'a>(alloc: Global) -> Result<Parser<'a>, AllocError> {
         "Each name with the mark of its scope: a#2, a#3",
         "Example: echo 'let a; { let a; a }' | mucwathi resolve",
     )?;
-    let json = flag(alloc, "json", "Write the tree as JSON, as jsbase reads it");
-    parser.arg(json)
+    with_forms(alloc, parser)
+}
+
+// Resolving a program that is not given as a text.
+fn resolving_given(given: &ArgMatches<'_>, form: Form) -> Giving {
+    Giving {
+        command: None,
+        goal: goal_of(given),
+        settings: Settings {
+            keep_class_names: false,
+            ignore_eval: false,
+            keep_top: false,
+        },
+        keep_top: None,
+        style: Style::Kept,
+        form,
+    }
 }
 
 fn resolving<'a>(given: &ArgMatches<'a>) -> Task<'a> {
-    if given.get_flag("json") {
+    let form = form_of(given);
+    if form.source != Source::Text {
+        return Task::ResolveGiven(looking(given), resolving_given(given, form));
+    }
+    if form.json {
         return Task::Tree(looking(given));
     }
     Task::Resolve(looking(given))
@@ -303,6 +352,20 @@ fn target_of<'a>(given: &ArgMatches<'a>) -> Target<'a> {
     }
 }
 
+fn form_of(given: &ArgMatches<'_>) -> Form {
+    let source = if given.get_flag("marks") {
+        Source::Marked
+    } else if given.get_flag("from-json") {
+        Source::Tree
+    } else {
+        Source::Text
+    };
+    Form {
+        source,
+        json: given.get_flag("json"),
+    }
+}
+
 fn top_of(given: &ArgMatches<'_>) -> Option<bool> {
     if given.get_flag("keep-top") {
         return Some(true);
@@ -343,6 +406,7 @@ fn rewriting<'a>(
         explains: given.get_flag("explain"),
         map: given.get_str("source-map"),
         target: target_of(given),
+        form: form_of(given),
         files: files_of(alloc, given)?,
     }))
 }

@@ -3,7 +3,8 @@
 
 mod command_line;
 mod task;
+mod version;
 
 pub use clap::Error;
 pub use command_line::read_words;
-pub use task::{Judging, Looking, Rewriting, Target, Task};
+pub use task::{Form, Giving, Judging, Looking, Rewriting, Source, Target, Task};

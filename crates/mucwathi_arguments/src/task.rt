@@ -12,6 +12,43 @@ pub enum Target<'a> {
     Folder(&'a str),
 }
 
+/// As what a program is given.
+#[derive(Clone, Copy, Debug, PartialEq, Eq)]
+pub enum Source {
+    /// As a text.
+    Text,
+    /// As a text with marks behind its names.
+    Marked,
+    /// As an envelope, which `jsbase` reads and writes.
+    Tree,
+}
+
+/// As what a program is given, and whether the answer is an envelope.
+#[derive(Clone, Copy, Debug, PartialEq, Eq)]
+pub struct Form {
+    pub source: Source,
+    pub json: bool,
+}
+
+impl Form {
+    /// From text to text.
+    pub fn is_plain(self) -> bool {
+        self.source == Source::Text && !self.json
+    }
+}
+
+/// What is to be made of a program that is given or answered otherwise than as a text.
+#[derive(Clone, Copy)]
+pub struct Giving {
+    /// None: each name gets the mark of its scope.
+    pub command: Option<Command>,
+    pub goal: Option<Goal>,
+    pub settings: Settings,
+    pub keep_top: Option<bool>,
+    pub style: Style,
+    pub form: Form,
+}
+
 /// What is to be made of texts.
 #[derive(Drop)]
 pub struct Rewriting<'a> {
@@ -28,8 +65,23 @@ pub struct Rewriting<'a> {
     /// Where a source map goes, if one is asked for.
     pub map: Option<&'a str>,
     pub target: Target<'a>,
+    pub form: Form,
     /// Files; none for standard input.
     pub files: Vec<&'a str>,
+}
+
+impl Rewriting<'_> {
+    /// The same of a program that is not given, or not answered, as a text.
+    pub fn giving(&self) -> Giving {
+        Giving {
+            command: Some(self.command),
+            goal: self.goal,
+            settings: self.settings,
+            keep_top: self.keep_top,
+            style: self.style,
+            form: self.form,
+        }
+    }
 }
 
 /// Two files to be compared.
@@ -61,6 +113,8 @@ pub enum Task<'a> {
     Resolve(Looking<'a>),
     /// The tree of a text as JSON, with these marks.
     Tree(Looking<'a>),
+    /// The same of a program that is given otherwise.
+    ResolveGiven(Looking<'a>, Giving),
     /// A text as a page.
     Show(Looking<'a>),
 }

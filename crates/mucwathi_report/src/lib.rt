@@ -8,5 +8,5 @@ mod reports;
 mod sentences;
 
 pub use lists::{list_names, list_renamed};
-pub use reports::{Named, tell_cover, tell_difference, tell_fault, tell_judge_fault};
+pub use reports::{Named, tell_cover, tell_difference, tell_fault, tell_judge_fault, tell_no_tree};
 pub use sentences::{status_of, status_of_judging};

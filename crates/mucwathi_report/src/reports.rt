@@ -72,6 +72,11 @@ pub fn tell_fault(alloc: Global, of: Named<'_>, fault: &RunFault) -> Result<Vec<
     }
 }
 
+/// That an input is no envelope, by the path of what is wrong in it first.
+pub fn tell_no_tree(alloc: Global, name: &str, path: &str) -> Result<Vec<u8>, AllocError> {
+    tell_line(alloc, &[name, ": not a tree: ", path])
+}
+
 /// Why nothing is said of two texts.
 pub fn tell_judge_fault(
     alloc: Global,

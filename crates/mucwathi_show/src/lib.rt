@@ -1,7 +1,6 @@
 //! A text as a page for people: each variable in a colour of its own.
 #![tactic(auto)]
 
-mod page;
 mod show;
 mod variables;
 

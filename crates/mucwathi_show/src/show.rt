@@ -1,14 +1,15 @@
 //! Texts as pages.
-ghost use Rattle.std.specs.Prelude.{◌≡◌, Some};
+ghost use Rattle.std.specs.Prelude.{◌≡◌, Some, IfOk};
 ghost use Rattle.swc_tree_scoping.specs.declared.places.Scope.TheVariants as scope;
 ghost use Rattle.swc_tree_scoping.specs.Places.{opened, program_place};
 ghost use Rattle.text_source.specs.Texts.{IsTextOf};
+ghost use Rattle.mucwathi_page.specs.Shown.{IsPage};
 
-use crate::page::page;
 use crate::variables::uses_of;
 use mucwathi_faults::RunFault;
 use mucwathi_looks::{Change, list_changes};
 use mucwathi_order::{Command, Goal, Order, Settings, Style};
+use mucwathi_page::page;
 use mucwathi_passes::{own_marks, resolve};
 use std::alloc::Global;
 use swc_tree_marks::PassError;
@@ -45,12 +46,13 @@ fn draw(
     program: Node,
 ) -> Result<Vec<u8>, PassError>
     requires { opened program_place program ≡ Some scope.Program }
+    ensures { IfOk result (λ out. IsPage of.text.now out.items) }
 {
     let mut globals = own_marks(alloc)?;
     let resolved = resolve(alloc, &mut globals, program)?;
     let found = sites(alloc, &resolved)?;
-    let uses = uses_of(alloc, found.as_slice())?;
-    let out = page(alloc, of.name, of.text, uses.as_slice(), changes)?;
+    let uses = uses_of(alloc, found.as_slice(), changes)?;
+    let out = page(alloc, of.name, of.text, uses.as_slice())?;
     Ok(out)
 }
 
@@ -62,6 +64,7 @@ fn draw_source(
     program: Node,
 ) -> Result<Vec<u8>, RunFault>
     requires { IsTextOf goal program of.text.now }
+    ensures { IfOk result (λ out. IsPage of.text.now out.items) }
 {
     match draw(alloc, of, changes, program) {
         Ok(out) => Ok(out),
@@ -69,7 +72,7 @@ fn draw_source(
     }
 }
 
-/// A page with a text, each variable of which has a colour of its own. Who points at a name sees its uses, and what a chain calls it.
+/// A page with a text, each variable of which has a colour of its own: between its tags, in `pre`, it has the text. Who points at a name sees its uses, and what a chain calls it.
 ///
 /// # Errors
 ///
@@ -80,7 +83,9 @@ pub fn show_text(
     depth: u32,
     name: &str,
     text: &[u8],
-) -> Result<Vec<u8>, RunFault> {
+) -> Result<Vec<u8>, RunFault>
+    ensures { IfOk result (λ out. IsPage text.now out.items) }
+{
     let changes = list_changes(alloc, &chain_of(goal, depth), text)?;
     match read_text(alloc, goal, depth, text) {
         Ok(program) => draw_source(

@@ -1,19 +1,17 @@
 //! Which names of a program are one variable's.
+use mucwathi_looks::Change;
+use mucwathi_page::Use;
 use std::alloc::{AllocError, Global};
 use std::collections::BTreeMap;
 use swc_tree_walk::Site;
 
-/// Where a name stands in a text, and whose it is.
+// Where a name stands in a text, the number of its variable, and the mark of its scope.
 #[derive(Clone, Copy, Debug, PartialEq, Eq, PartialOrd, Ord)]
-pub(crate) struct Use {
-    /// How many bytes are before it.
-    pub from: usize,
-    /// How many bytes are before what is behind it.
-    pub to: usize,
-    /// The number of its variable.
-    pub variable: u32,
-    /// The mark of its scope.
-    pub mark: u32,
+struct Place {
+    from: usize,
+    to: usize,
+    variable: u32,
+    mark: u32,
 }
 
 // Texts of names by marks of scopes.
@@ -36,16 +34,16 @@ impl<'a> Variables<'a> {
     }
 }
 
-fn add_use<'a>(
+fn add_place<'a>(
     site: &Site<'a>,
     variables: &mut Variables<'a>,
-    uses: &mut Vec<Use>,
+    places: &mut Vec<Place>,
 ) -> Result<(), AllocError> {
     let ident = site.ident;
     if let [mark] = ident.ctxt.marks() {
         let mark = mark.as_u32();
         let variable = variables.number(mark, ident.sym.as_str())?;
-        uses.push(Use {
+        places.push(Place {
             from: ident.span.lo.saturating_sub(1) as usize,
             to: ident.span.hi.saturating_sub(1) as usize,
             variable,
@@ -55,16 +53,40 @@ fn add_use<'a>(
     Ok(())
 }
 
-/// The names of a program that was resolved, in the order of its text.
-pub(crate) fn uses_of(alloc: Global, sites: &[Site<'_>]) -> Result<Vec<Use>, AllocError> {
+// Where the names of a program stand, in the order of its text.
+fn places_of(alloc: Global, sites: &[Site<'_>]) -> Result<Vec<Place>, AllocError> {
     let mut variables = Variables {
         numbers: BTreeMap::new(alloc),
         count: 0,
     };
-    let mut uses = Vec::new(alloc);
+    let mut places = Vec::new(alloc);
     for site in sites {
-        add_use(site, &mut variables, &mut uses)?;
+        add_place(site, &mut variables, &mut places)?;
     }
-    uses.sort()?;
+    places.sort()?;
+    Ok(places)
+}
+
+/// The names of a program that was resolved, in the order of its text, with what they are called anew.
+pub(crate) fn uses_of<'a>(
+    alloc: Global,
+    sites: &[Site<'_>],
+    changes: &'a [Change],
+) -> Result<Vec<Use<'a>>, AllocError> {
+    let mut news = BTreeMap::new(alloc);
+    for change in changes {
+        news.insert(change.at, change.new.as_str())?;
+    }
+    let places = places_of(alloc, sites)?;
+    let mut uses = Vec::new(alloc);
+    for place in places.as_slice() {
+        uses.push(Use {
+            from: place.from,
+            to: place.to,
+            variable: place.variable,
+            mark: place.mark,
+            new: news.get(&place.from).copied(),
+        })?;
+    }
     Ok(uses)
 }

@@ -2,6 +2,7 @@
 import { whyNoParser } from '../parser.mjs';
 import { COMMANDS, WITH_JSBASE } from './commands.mjs';
 import { NUMBERS } from './numbers.mjs';
+import { WITH_MUCWATHI } from './program.mjs';
 import { ROUND_TRIPS } from './round_trip.mjs';
 
 function passes([name, test]) {
@@ -26,8 +27,9 @@ function runThese(tests, skipped, why) {
 
 /** Runs every test, and answers the exit status. */
 export function runAll() {
-  const { tests, skipped } = WITH_JSBASE;
-  return runThese([...ROUND_TRIPS, ...NUMBERS, ...COMMANDS, ...tests], skipped, 'since the program jsbase is not built');
+  const tests = [...WITH_JSBASE.tests, ...WITH_MUCWATHI.tests];
+  const skipped = [...WITH_JSBASE.skipped, ...WITH_MUCWATHI.skipped];
+  return runThese([...ROUND_TRIPS, ...NUMBERS, ...COMMANDS, ...tests], skipped, 'since the program is not built');
 }
 
 /** Runs the tests that need no program, or says why it runs none, and answers the exit status. */
@@ -38,7 +40,6 @@ export function runInGate() {
     return 0;
   }
   console.log('tools/js/test:');
-  const { tests, skipped } = WITH_JSBASE;
-  const names = [...tests.map(([name]) => name), ...skipped];
+  const names = [WITH_JSBASE, WITH_MUCWATHI].flatMap(({ tests, skipped }) => [...tests.map(([name]) => name), ...skipped]);
   return runThese([...ROUND_TRIPS, ...NUMBERS, ...COMMANDS], names, 'since the gate runs no program by hand');
 }

@@ -1,0 +1,169 @@
+//! Texts read with their marks.
+use crate::contexts::{Signs, put_marks};
+use mucwathi_faults::RunFault;
+use mucwathi_given::Envelope;
+use mucwathi_order::Goal;
+use mucwathi_passes::{own_marks, top, unresolved};
+use mucwathi_signs::{Found, Sign, blank_signs, cut_signs, find_signs};
+use std::alloc::{AllocError, Global};
+use std::collections::{BTreeMap, BTreeSet};
+use swc_tree_marks::{Globals, NoMemory};
+use swc_tree_node::Node;
+use swc_tree_walk::sites;
+use text_source::{TextFault, read_text};
+
+/// A program that was read with the marks of its names, and its text without them.
+#[derive(Debug, Drop)]
+pub struct Marked {
+    pub text: Vec<u8>,
+    pub program: Envelope,
+}
+
+fn envelope_of(globals: Globals, tree: Node) -> Envelope {
+    Envelope {
+        globals,
+        unresolved: unresolved(),
+        top: top(),
+        keep_class_names: false,
+        ignore_eval: false,
+        keep_top: None,
+        tree,
+    }
+}
+
+fn read(alloc: Global, goal: Goal, depth: u32, text: &[u8]) -> Result<Node, RunFault> {
+    match read_text(alloc, goal, depth, text) {
+        Ok(tree) => Ok(tree),
+        Err(fault) => Err(RunFault::of_text(fault)),
+    }
+}
+
+/// A program with the two marks that a text is resolved with, and none on a name.
+///
+/// # Errors
+///
+/// `Text` where the text is not read; `Refused` where memory is.
+pub fn give_text(alloc: Global, goal: Goal, depth: u32, text: &[u8]) -> Result<Envelope, RunFault> {
+    let tree = read(alloc, goal, depth, text)?;
+    let globals = own_globals(alloc)?;
+    Ok(envelope_of(globals, tree))
+}
+
+fn own_globals(alloc: Global) -> Result<Globals, AllocError> {
+    match own_marks(alloc) {
+        Ok(globals) => Ok(globals),
+        Err(NoMemory) => Err(AllocError),
+    }
+}
+
+// The places behind identifiers.
+fn ends_of(alloc: Global, tree: &Node) -> Result<BTreeSet<usize>, AllocError> {
+    let found = sites(alloc, tree)?;
+    let mut ends = BTreeSet::new(alloc);
+    for site in found.as_slice() {
+        ends.insert(site.ident.span.hi.saturating_sub(1) as usize)?;
+    }
+    Ok(ends)
+}
+
+// Of what looks like signs that which stands behind identifiers.
+fn behind_names(
+    alloc: Global,
+    found: Vec<Found>,
+    ends: &BTreeSet<usize>,
+) -> Result<Vec<Found>, AllocError> {
+    let mut signs = Vec::new(alloc);
+    for sign in found {
+        if ends.contains(&sign.from) {
+            signs.push(sign)?;
+        }
+    }
+    Ok(signs)
+}
+
+// The same signs in the text that is left once they are cut out.
+fn moved(alloc: Global, found: Vec<Found>) -> Result<Vec<Sign>, AllocError> {
+    let mut signs = Vec::new(alloc);
+    let mut cut = 0usize;
+    for sign in found {
+        let at = sign.from.saturating_sub(cut);
+        cut = cut.saturating_add(sign.to.saturating_sub(sign.from));
+        signs.push(Sign {
+            at,
+            marks: sign.marks,
+        })?;
+    }
+    Ok(signs)
+}
+
+// The table of the marks of signs, and of the two that a text is resolved with, each below the root.
+fn table_of(alloc: Global, signs: &[Sign]) -> Result<Globals, AllocError> {
+    let mut numbers = BTreeSet::new(alloc);
+    numbers.insert(unresolved().as_u32())?;
+    numbers.insert(top().as_u32())?;
+    for sign in signs {
+        for mark in sign.marks.as_slice() {
+            numbers.insert(*mark)?;
+        }
+    }
+    let mut rows = Vec::new(alloc);
+    for number in numbers.iter() {
+        rows.push((*number, 0))?;
+    }
+    match Globals::from_table(alloc, rows.as_slice()) {
+        Ok(globals) => Ok(globals),
+        // Numbers of a set rise, so memory was refused.
+        Err(_) => Err(AllocError),
+    }
+}
+
+fn with_marks(alloc: Global, signs: &[Sign], tree: Node) -> Result<Node, AllocError> {
+    let mut places: Signs<'_> = BTreeMap::new(alloc);
+    for sign in signs {
+        places.insert(sign.at, sign)?;
+    }
+    let mut marked = tree;
+    put_marks(&mut marked, &places)?;
+    Ok(marked)
+}
+
+// What looks like signs and stands behind names; a text is read first with blanks in their place, so that faults are where they are.
+fn signs_in(alloc: Global, goal: Goal, depth: u32, text: &[u8]) -> Result<Vec<Found>, RunFault> {
+    let found = find_signs(alloc, text)?;
+    let blank = blank_signs(alloc, text, found.as_slice())?;
+    let tree = read(alloc, goal, depth, blank.as_slice())?;
+    let ends = ends_of(alloc, &tree)?;
+    let count = found.len();
+    let signs = behind_names(alloc, found, &ends)?;
+    if signs.len() < count {
+        let blank = blank_signs(alloc, text, signs.as_slice())?;
+        let _tree = read(alloc, goal, depth, blank.as_slice())?;
+    }
+    Ok(signs)
+}
+
+/// A program, with the marks that stand behind its names: `let a#2; { let a#3; a#2.4; }`. Its table has these, and the two that a text is
+/// resolved with.
+///
+/// What looks like marks in strings, comments and the like is none.
+///
+/// # Errors
+///
+/// `Text` where the text is not read; `Refused` where memory is.
+pub fn give_marked(alloc: Global, goal: Goal, depth: u32, text: &[u8]) -> Result<Marked, RunFault> {
+    let found = signs_in(alloc, goal, depth, text)?;
+    let plain = cut_signs(alloc, text, found.as_slice())?;
+    let tree = match read_text(alloc, goal, depth, plain.as_slice()) {
+        Ok(tree) => tree,
+        Err(TextFault::NoMemory) => return Err(RunFault::from(AllocError)),
+        // It was read with blanks.
+        Err(_) => return Err(RunFault::Text(TextFault::NotTheText)),
+    };
+    let signs = moved(alloc, found)?;
+    let globals = table_of(alloc, signs.as_slice())?;
+    let tree = with_marks(alloc, signs.as_slice(), tree)?;
+    Ok(Marked {
+        text: plain,
+        program: envelope_of(globals, tree),
+    })
+}

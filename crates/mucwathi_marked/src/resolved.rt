@@ -1,0 +1,37 @@
+//! Texts some of whose names have marks, resolved.
+use crate::given::{Marked, give_marked};
+use mucwathi_faults::RunFault;
+use mucwathi_given::{Envelope, make_given};
+use mucwathi_looks::signs_at;
+use mucwathi_order::Goal;
+use mucwathi_signs::put_signs;
+use std::alloc::Global;
+use swc_tree_marks::PassError;
+use swc_tree_walk::sites;
+
+fn resolve(alloc: Global, text: &[u8], program: Envelope) -> Result<Vec<u8>, PassError> {
+    let made = make_given(alloc, None, program)?;
+    let names = sites(alloc, &made.tree)?;
+    let signs = signs_at(alloc, names.as_slice(), names.as_slice())?;
+    let out = put_signs(alloc, text, signs.as_slice())?;
+    Ok(out)
+}
+
+/// A text with the mark of its scope behind each name, but for those that have marks, which stay: of `let a; { a#4 }` it makes
+/// `let a#2; { a#4 }`.
+///
+/// # Errors
+///
+/// `Text` where the text is not read; `Refused` where memory is refused, or marks are spent.
+pub fn resolve_marked(
+    alloc: Global,
+    goal: Goal,
+    depth: u32,
+    text: &[u8],
+) -> Result<Vec<u8>, RunFault> {
+    let Marked { text, program } = give_marked(alloc, goal, depth, text)?;
+    match resolve(alloc, text.as_slice(), program) {
+        Ok(out) => Ok(out),
+        Err(error) => Err(RunFault::Refused(error)),
+    }
+}

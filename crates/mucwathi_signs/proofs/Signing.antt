@@ -1,0 +1,45 @@
+-- One sign more.
+use Rattle.std.proofs.Common.{◌≡◌, ℕ, ◌+◌, ◌<◌, ◌≤◌, List, [], ◌∷◌, ◌++◌, length, drop, take, get_or, arith, refl, sym, ap, ◌∙◌, subst, decimal, add-one, length-append, length-drop}
+use Rattle.std.proofs.lemmas.List.{append_assoc, take_more}
+use Rattle.std.proofs.Math.ListN.{drop_of_length-le}
+use Rattle.std.proofs.Math.Seq.{drop-cons}
+use Rattle.mucwathi_signs.specs.declared.sign.Sign.{Sign}
+use Rattle.mucwathi_signs.specs.Signed.{IsPut, IsSigned, more_marks, sign_text}
+
+-- whatever follows a beginning, if it is what is left with its signs, makes the whole with its signs
+abbrev pub Begins : List Sign → List ℕ → ℕ → ℕ → List ℕ → Type 0
+Begins ss text i from out = (rest : List ℕ) → IsSigned from (drop i ss) (drop from text) rest → IsSigned 0 ss text (out ++ rest)
+
+left_length : (text before : List ℕ) (from to : ℕ) → from ≤ length text → drop from text ≡ before ++ drop to text → from + length (before ++ drop to text) ≡ length text
+left_length text before from to within left = rw (← left) (rw length-drop (omega arith))
+
+pub begins_more : (ss : List Sign) (text : List ℕ) (i from to : ℕ) (s : Sign) (old new : List ℕ) → i < length ss → s ≡ get_or ss i s → from ≤ length text → IsPut text from s old new to → Begins ss text i from old → Begins ss text (i + 1) to new
+begins_more ss text i from to s old new below is within put begins rest h =
+    let there : IsSigned (from + length put.before) (drop (i + 1) ss) (drop to text) rest = subst (λ n. IsSigned n (drop (i + 1) ss) (drop to text) rest) put.moved h in
+    let placed = λ (low : from ≤ s.at) (high : s.at ≤ from + length (put.before ++ drop to text)).
+    let high : s.at ≤ length text = subst (λ n. s.at ≤ n) (left_length text put.before from to within put.left) high in
+    put.placed low high ∙ put.moved in
+    let one = IsSigned.signed from s (drop (i + 1) ss) put.before (drop to text) rest placed there in
+    let cons : drop i ss ≡ s ∷ drop (i + 1) ss = drop-cons ss i s below ∙ ap (λ z. z ∷ drop (suc i) ss) (sym is) ∙ ap (λ n. s ∷ drop n ss) (sym (add-one i)) in
+    let whole : IsSigned from (drop i ss) (drop from text) (put.before ++ sign_text s.marks.items ++ rest) =
+    subst (λ l. IsSigned from l (drop from text) (put.before ++ sign_text s.marks.items ++ rest)) (sym cons)
+    (subst (λ t. IsSigned from (s ∷ drop (i + 1) ss) t (put.before ++ sign_text s.marks.items ++ rest)) (sym put.left) one) in
+    let same : old ++ (put.before ++ sign_text s.marks.items ++ rest) ≡ new ++ rest = rw put.added (simp append_assoc) in
+    subst (IsSigned 0 ss text) same (begins (put.before ++ sign_text s.marks.items ++ rest) whole)
+
+pub begins_all : (ss : List Sign) (text out : List ℕ) (i from : ℕ) → length ss ≤ i → Begins ss text i from out → IsSigned 0 ss text (out ++ drop from text)
+begins_all ss text out i from ended begins =
+    begins (drop from text) (subst (λ l. IsSigned from l (drop from text) (drop from text)) (sym (drop_of_length-le ss ended)) (IsSigned.plain from (drop from text)))
+
+pub begins_none : (ss : List Sign) (text : List ℕ) → Begins ss text 0 0 []
+begins_none ss text rest h = h
+
+more_append : (a b : List ℕ) → more_marks (a ++ b) ≡ more_marks a ++ more_marks b
+more_append [] b = refl
+more_append (m ∷ ms) b = simp (more_append ms b, append_assoc)
+
+pub one_more : (ms : List ℕ) (i m : ℕ) (old new text : List ℕ) → i < length ms → m ≡ get_or ms i m → text ≡ 46 ∷ decimal m → new ≡ old ++ more_marks (take i ms) ++ text → new ≡ old ++ more_marks (take (i + 1) ms)
+one_more ms i m old new text below is told h =
+    let more : more_marks (take (i + 1) ms) ≡ more_marks (take i ms) ++ (46 ∷ decimal m ++ []) =
+    ap more_marks (take_more ms i m below is) ∙ more_append (take i ms) (get_or ms i m ∷ []) ∙ ap (λ z. more_marks (take i ms) ++ (46 ∷ decimal z ++ [])) (sym is) in
+    rw more (h ∙ rw told (simp append_assoc))

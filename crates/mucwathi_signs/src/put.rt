@@ -1,0 +1,89 @@
+//! Signs put into a text, and taken out of it.
+ghost use Rattle.std.specs.Prelude.{◌≡◌, ◌≤◌, ◌++◌, [], length, IfOk, OnOk};
+ghost use Rattle.mucwathi_signs.specs.Signed.{IsPut, IsSigned, more_marks, sign_text};
+
+use crate::find::Found;
+use crate::sign::Sign;
+use std::alloc::{AllocError, Global};
+
+// Adds the marks behind the first.
+fn add_more(alloc: Global, marks: &[u32], out: &mut Vec<u8>) -> Result<(), AllocError>
+    ensures { OnOk result (out.new.items ≡ out.old.items ++ more_marks marks.now) }
+{
+    for mark in marks {
+        let number = *mark;
+        let text = format!(in alloc; ".{number}")?;
+        out.extend_from_slice(text.as_bytes())?;
+    }
+    Ok(())
+}
+
+// Adds what is written for marks.
+fn add_sign(alloc: Global, marks: &[u32], out: &mut Vec<u8>) -> Result<(), AllocError>
+    ensures { OnOk result (out.new.items ≡ out.old.items ++ sign_text marks.now) }
+{
+    let [first, more @ ..] = marks else {
+        return Ok(());
+    };
+    let number = *first;
+    let text = format!(in alloc; "#{number}")?;
+    out.extend_from_slice(text.as_bytes())?;
+    add_more(alloc, more, out)
+}
+
+// Adds what is before a sign, from a place on, and the sign; tells the place behind.
+fn put_sign(
+    alloc: Global,
+    text: &[u8],
+    from: usize,
+    sign: &Sign,
+    out: &mut Vec<u8>,
+) -> Result<usize, AllocError>
+    requires { from ≤ length text.now }
+    ensures { IfOk result (IsPut text.now from sign.now out.old.items out.new.items) }
+{
+    let to = sign.at.min(text.len()).max(from);
+    out.extend_from_slice(&text[from..to])?;
+    add_sign(alloc, sign.marks.as_slice(), out)?;
+    Ok(to)
+}
+
+/// A text with signs in their places, the first of which comes first.
+pub fn put_signs(alloc: Global, text: &[u8], signs: &[Sign]) -> Result<Vec<u8>, AllocError>
+    ensures { IfOk result (λ out. IsSigned 0 signs.now text.now out.items) }
+{
+    let mut out = Vec::new(alloc);
+    let mut from = 0;
+    for sign in signs {
+        from = put_sign(alloc, text, from, sign, &mut out)?;
+    }
+    out.extend_from_slice(&text[from..])?;
+    Ok(out)
+}
+
+/// A text without signs that were found in it.
+pub fn cut_signs(alloc: Global, text: &[u8], signs: &[Found]) -> Result<Vec<u8>, AllocError> {
+    let mut out = Vec::new(alloc);
+    let mut from = 0;
+    for sign in signs {
+        out.extend_from_slice(text.get(from..sign.from).unwrap_or(&[]))?;
+        from = sign.to;
+    }
+    out.extend_from_slice(text.get(from..).unwrap_or(&[]))?;
+    Ok(out)
+}
+
+/// A text with blanks in the place of signs that were found in it, so that all else stays where it is.
+pub fn blank_signs(alloc: Global, text: &[u8], signs: &[Found]) -> Result<Vec<u8>, AllocError> {
+    let mut out = Vec::new(alloc);
+    let mut from = 0;
+    for sign in signs {
+        out.extend_from_slice(text.get(from..sign.from).unwrap_or(&[]))?;
+        for _ in sign.from..sign.to {
+            out.push(b' ')?;
+        }
+        from = sign.to;
+    }
+    out.extend_from_slice(text.get(from..).unwrap_or(&[]))?;
+    Ok(out)
+}
