@@ -14,13 +14,13 @@ pub memory_unlooked : (g : Goal) (text : List ℕ) (f : RunFault) → IsMemoryFa
 memory_unlooked g text f is = subst (IsUnlooked g text) (sym is) (inl refl)
 
 -- of what is only tested nothing is said
-pub tested : {T E : Type 0} (r : Result T E) → MatchResult r (λ t. Unit {0}) (λ e. Unit {0})
-tested (Ok t) = tt
-tested (Err e) = tt
-
 pub tested_unless : {T E : Type 0} (r : Result T E) (P : E → Type 0) → IfErr r P → MatchResult r (λ t. Unit {0}) P
 tested_unless (Ok t) P h = tt
 tested_unless (Err e) P h = h
+
+pub tested_if : {T E : Type 0} (r : Result T E) (P : T → Type 0) → IfOk r P → MatchResult r P (λ e. Unit {0})
+tested_if (Ok t) P h = h
+tested_if (Err e) P h = tt
 
 module _ {Z : Type 0} (w : Work) (given : Option Goal) (of : Named) where
   pub shown_as : (g : Goal) (r : Result (Vec ℕ Z) RunFault) → IsAsked given of g → MatchResult r (λ out. Shows w g of.text.now out.items) (IsUnshown w g of.text.now)

@@ -18,7 +18,9 @@ use Rattle.mucwathi_faults.specs.declared.fault.JudgeFault.{JudgeFault}
 use Rattle.mucwathi_faults.specs.declared.fault.RunFault.{RunFault}
 use Rattle.mucwathi_faults.specs.declared.fault.RunFault.TheVariants.{Refused}
 use Rattle.mucwathi_looks.specs.Looks.{IsUnlooked}
+use Rattle.mucwathi_looks.specs.Marked.{HasSigns}
 use Rattle.mucwathi_looks.specs.Trees.{HasTree}
+use Rattle.mucwathi_page.specs.Shown.{IsPage}
 use Rattle.mucwathi_report.specs.declared.reports.Named.{Named}
 use Rattle.mucwathi_report.specs.Status.{judge_status, run_status}
 use Rattle.mucwathi_answers.specs.declared.answer.Answer.{Answer}
@@ -97,16 +99,17 @@ pub record IsAnswered (task : Rewriting) (of : Named) (a : Answer) : Type 0 wher
   pub well : IsWell a → IsWorked task of a
   pub fault : ¬ IsWell a → (f : RunFault) × IsTold task of f × IsFaultTold f a
 
--- what is shown of a text, as what it is read: its tree; that of the other works is tested
+-- what is shown of a text, as what it is read: its tree, the text with marks, or in a page; how names are listed is tested
 abbrev pub Shows : Work → Goal → List ℕ → List ℕ → Type 0
 Shows work.Tree goal text out = HasTree goal text out
-Shows _ goal text out = Unit {0}
+Shows work.Marks goal text out = HasSigns text out
+Shows work.Page goal text out = IsPage text out
+Shows work.Names goal text out = Unit {0}
 
--- ... and why nothing is
+-- ... and why nothing is, but for a page
 abbrev pub IsUnshown : Work → Goal → List ℕ → RunFault → Type 0
-IsUnshown work.Tree goal text f = IsUnlooked goal text f
-IsUnshown work.Names goal text f = IsUnlooked goal text f
-IsUnshown _ goal text f = Unit {0}
+IsUnshown work.Page goal text f = Unit {0}
+IsUnshown _ goal text f = IsUnlooked goal text f
 
 -- so it is of a text, as what it is read
 abbrev pub IsShown : Work → Option Goal → Named → List ℕ → Type 0
