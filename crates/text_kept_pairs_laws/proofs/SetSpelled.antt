@@ -42,7 +42,7 @@ pairable_calm t h =
 pair_calm : (us : List Node) → C (Tree kind.ParenExpr us)
 pair_calm us = tree_calm kind.ParenExpr us refl
 
-trees_calm : (k : Kind) (ts us : List Node) → Lists ts us → C (Tree k ts) → C (Tree k us)
+pub trees_calm : (k : Kind) (ts us : List Node) → Lists ts us → C (Tree k ts) → C (Tree k us)
 trees_calm k ts us l h = tree_calm k us (valueless_row k ts us l ∙ (neither false (is_valueless (Node-F.Tree k ts)) (sym (ap (λ y. is_reserved_name y || is_valueless y) (outs-Tree k ts)) ∙ h)).1)
 
 calm : {s : Slot} {t u : Node} → Sets s t u → C t → C u
@@ -55,7 +55,7 @@ calm (tree k ts us e d) h = trees_calm k ts us (fields_listed d) h
 
 -- ---- specifiers
 
-abbrev N : Node → Type 0
+abbrev pub N : Node → Type 0
 N t = is_amiss_specifier (out-Node t) ≡ false
 
 specifier_row : (k : Kind) {ss : List Slot} {ts us : List Node} → FieldsSet ss ts us → is_amiss_specifier (Node-F.Tree k ts) ≡ false → is_amiss_specifier (Node-F.Tree k us) ≡ false
@@ -74,7 +74,7 @@ specifier (named r k i c) h = ap is_amiss_specifier (outs-Tree kind.ParenExpr (S
 specifier (items ts us d) h = ap is_amiss_specifier (outs-List us)
 specifier (tree k ts us e d) h = ap is_amiss_specifier (outs-Tree k us) ∙ specifier_row k d (sym (ap is_amiss_specifier (outs-Tree k ts)) ∙ h)
 
-abbrev Ns : List Node → Type 0
+abbrev pub Ns : List Node → Type 0
 Ns ts = list_any (λ t. is_amiss_specifier (out-Node t)) ts ≡ false
 
 all_specifiers : {s : Slot} {ts us : List Node} → AllSet s ts us → Ns ts → Ns us

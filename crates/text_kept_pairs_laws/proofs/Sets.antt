@@ -130,7 +130,7 @@ fields_keyed h nil = tt
 fields_keyed h (field {s} {ss} c d) = let b = both_of (not (takes_pair s)) (list_all (λ s. not (takes_pair s)) ss) h in (keyed (not_right (takes_pair s) b.0) c, fields_keyed b.1 d)
 
 -- where a key is looked at no field takes a pair
-pairless_kind : (k : Kind) → has_key k ≡ true → list_all (λ s. not (takes_pair s)) (slots_of k) ≡ true
+pub pairless_kind : (k : Kind) → has_key k ≡ true → list_all (λ s. not (takes_pair s)) (slots_of k) ≡ true
 pairless_kind kind.ClassMethod h = refl
 pairless_kind k h = seen_never (sym h)
 
