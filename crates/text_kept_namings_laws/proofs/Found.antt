@@ -45,11 +45,12 @@ record Found (t : Node) (p : Path) (x : Id) : Type 0 where
 -- what stands at a place stands at the path
 at_path : (p : Path) (w v : Place) (t n : Node) → place_at w t p ≡ Some (v, n) → node_at t p ≡ Some n
 at_path [] w v t n e = ap (option_map (λ (q : Place × Node). q.1)) e
-at_path (i ∷ p) w v t n e = by (child t i) e
+at_path (i ∷ p) w v t n e = by (λ c. at_path p (place_below w t i) v c n) (child t i) e
   where
-    by : (o : Option Node) → given o None (λ c. place_at (place_below w t i) c p) ≡ Some (v, n) → given o None (λ c. node_at c p) ≡ Some n
-    by None e = absurd (cc)
-    by (Some c) e = at_path p (place_below w t i) v c n e
+    by : ((c : Node) → place_at (place_below w t i) c p ≡ Some (v, n) → node_at c p ≡ Some n) → (o : Option Node) → given o None (λ c. place_at (place_below w t i) c p) ≡ Some (v, n)
+        → given o None (λ c. node_at c p) ≡ Some n
+    by further None e = absurd (cc)
+    by further (Some c) e = further c e
 
 abbrev seen_in : Place → Node-F Node → Option (Standing × Id)
 seen_in w y = option_map (λ i. (w.standing, (i.sym, i.ctxt))) (name_in y)

@@ -138,13 +138,13 @@ name_of_begins c cs b =
 abbrev are_parts : List ℕ → Bool
 are_parts cs = list_all is_name_part cs
 
+never_backslash : (start : Bool) → is_named start 92 ≡ true → ⊥
+unfolding is_name_part is_name_start
+never_backslash true h = absurd (cc)
+never_backslash false h = absurd (cc)
+
 no_backslash : (start : Bool) (c : ℕ) → is_named start c ≡ true → (c == 92) ≡ false
-no_backslash start c h = false_from_ne_true (c == 92) (λ e. never start (subst (λ c. is_named start c ≡ true) (eqb-true c 92 e) h))
-  where
-    never : (start : Bool) → is_named start 92 ≡ true → ⊥
-    unfolding is_name_part is_name_start
-    never true h = absurd (cc)
-    never false h = absurd (cc)
+no_backslash start c h = false_from_ne_true (c == 92) (λ e. never_backslash start (subst (λ c. is_named start c ≡ true) (eqb-true c 92 e) h))
 
 first_plain : (c : ℕ) (z : List ℕ) → has_escape (encode_utf8 c ++ z) ≡ false → ((c == 92) ≡ false) × (has_escape z ≡ false)
 first_plain c z h =
@@ -174,23 +174,23 @@ parts_from zero (d ∷ ds) s h l e = absurd (omega (arith, l, longer d ds))
 parts_from (suc n) (d ∷ ds) s h l e =
     let plain = first_plain d (encode_utf8_all ds) h in
     let both = and_parts (scalar d) (scalars ds) s in
-    by (is_name_part d) refl (character false d (encode_utf8_all ds) both.0 plain.0) both.1 plain.1
+    by (is_name_part d) refl (character false d (encode_utf8_all ds) both.0 plain.0) (λ r. parts_from n ds both.1 plain.1 (omega (arith, l, shorter d ds)) r)
   where
-    by : (b : Bool) → is_name_part d ≡ b → name_character false (encode_utf8_all (d ∷ ds)) ≡ cond (is_named false d) (Some (encode_utf8_all ds)) None → scalars ds ≡ true → has_escape (encode_utf8_all ds) ≡ false
-        → are_parts (d ∷ ds) ≡ true
-    by true f g s h =
-        and_from (is_name_part d) (are_parts ds) f (parts_from n ds s h (omega (arith, l, shorter d ds))
-        (sym (name_rest_more (suc n) n (encode_utf8_all (d ∷ ds)) (encode_utf8_all ds) refl (g ∙ ap (λ b. cond b (Some (encode_utf8_all ds)) None) f)) ∙ e))
-    by false f g s h =
+    by : (b : Bool) → is_name_part d ≡ b → name_character false (encode_utf8_all (d ∷ ds)) ≡ cond (is_named false d) (Some (encode_utf8_all ds)) None
+        → (name_rest n (encode_utf8_all ds) ≡ [] → are_parts ds ≡ true) → are_parts (d ∷ ds) ≡ true
+    by true f g further =
+        and_from (is_name_part d) (are_parts ds) f
+        (further (sym (name_rest_more (suc n) n (encode_utf8_all (d ∷ ds)) (encode_utf8_all ds) refl (g ∙ ap (λ b. cond b (Some (encode_utf8_all ds)) None) f)) ∙ e))
+    by false f g further =
         absurd (left_none d ds (sym (name_rest_stop (suc n) n (encode_utf8_all (d ∷ ds)) refl (g ∙ ap (λ b. cond b (Some (encode_utf8_all ds)) None) f)) ∙ e))
+
+no_character : name_character false [] ≡ None
+unfolding name_character point_of is_name_part
+no_character = refl
 
 nothing_rest : (n : ℕ) → name_rest n [] ≡ []
 nothing_rest zero = name_rest_end zero [] refl
-nothing_rest (suc n) = name_rest_stop (suc n) n [] refl none
-  where
-    none : name_character false [] ≡ None
-    unfolding name_character point_of is_name_part
-    none = refl
+nothing_rest (suc n) = name_rest_stop (suc n) n [] refl no_character
 
 rest_none : (n : ℕ) (ds : List ℕ) → scalars ds ≡ true → are_parts ds ≡ true → length (encode_utf8_all ds) ≤ n → name_rest n (encode_utf8_all ds) ≡ []
 rest_none n [] s p l = nothing_rest n

@@ -56,11 +56,11 @@ hygiene_shape table config before after s fits unread (given, by, cleared) shape
 -- what no node of a tree passes none does of what stands in it
 below : (test : Node-F Node → Bool) (p : Path) (t n : Node) → node_at t p ≡ Some n → (HasNode test t → ⊥) → HasNode test n → ⊥
 below test [] t n e f h = f (subst (HasNode test) (sym (some_same e)) h)
-below test (i ∷ p) t n e f h = by (child t i) refl e
+below test (i ∷ p) t n e f h = by (λ c g k. below test p c n g k h) (child t i) refl e
   where
-    by : (o : Option Node) → child t i ≡ o → given o None (λ c. node_at c p) ≡ Some n → ⊥
-    by None g e = absurd (cc)
-    by (Some c) g e = below test p c n e (free_child test t c i g f) h
+    by : ((c : Node) → node_at c p ≡ Some n → (HasNode test c → ⊥) → ⊥) → (o : Option Node) → child t i ≡ o → given o None (λ c. node_at c p) ≡ Some n → ⊥
+    by further None g e = absurd (cc)
+    by further (Some c) g e = further c e (free_child test t c i g f)
 
 pub hygiene_words : HygieneGivesNewWords
 hygiene_words t utf8 spelled p k i n at within other =

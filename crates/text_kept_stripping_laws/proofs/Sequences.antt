@@ -26,11 +26,11 @@ each_map P Q h (t ∷ ts) l = (h t l.0, each_map P Q h ts l.1)
 
 pub filtered : (P : Node → Type 0) (q : Node → Bool) (ts : List Node) → Each P ts → Each P (filter q ts)
 filtered P q [] l = tt
-filtered P q (t ∷ ts) l = by (q t)
+filtered P q (t ∷ ts) l = by (q t) (filtered P q ts l.1)
   where
-    by : (b : Bool) → Each P (cond b (t ∷ filter q ts) (filter q ts))
-    by true = (l.0, filtered P q ts l.1)
-    by false = filtered P q ts l.1
+    by : (b : Bool) → Each P (filter q ts) → Each P (cond b (t ∷ filter q ts) (filter q ts))
+    by true rest = (l.0, rest)
+    by false rest = rest
 
 -- a property of sequences that their items have, of `void` that its operand has, and of lists that their items have
 pub record Inherited (P : Node → Type 0) : Type 0 where

@@ -435,16 +435,17 @@ member_of t h = by (out-Node t) h
 
 constructors_left : (ts : List Node) → length (filter is_constructor (filter is_member ts)) ≡ length (filter is_constructor ts)
 constructors_left [] = refl
-constructors_left (t ∷ ts) = by (is_member t) (is_constructor t) refl refl
+constructors_left (t ∷ ts) = by (is_member t) (is_constructor t) refl refl (constructors_left ts)
   where
-    more : (c : Bool) → length (cond c (t ∷ filter is_constructor (filter is_member ts)) (filter is_constructor (filter is_member ts))) ≡ length (cond c (t ∷ filter is_constructor ts) (filter is_constructor ts))
-    more true = ap suc (constructors_left ts)
-    more false = constructors_left ts
+    more : (c : Bool) → length (filter is_constructor (filter is_member ts)) ≡ length (filter is_constructor ts) → length (cond c (t ∷ filter is_constructor (filter is_member ts)) (filter is_constructor (filter is_member ts))) ≡ length (cond c (t ∷ filter is_constructor ts) (filter is_constructor ts))
+    more true h = ap suc h
+    more false h = h
 
-    by : (m c : Bool) → is_member t ≡ m → is_constructor t ≡ c → length (filter is_constructor (cond (is_member t) (t ∷ filter is_member ts) (filter is_member ts))) ≡ length (cond (is_constructor t) (t ∷ filter is_constructor ts) (filter is_constructor ts))
-    by true c e g = ap (λ m. length (filter is_constructor (cond m (t ∷ filter is_member ts) (filter is_member ts)))) e ∙ more (is_constructor t)
-    by false true e g = seen_never (sym (member_of t g) ∙ e)
-    by false false e g = ap (λ m. length (filter is_constructor (cond m (t ∷ filter is_member ts) (filter is_member ts)))) e ∙ constructors_left ts ∙ sym (ap (λ c. length (cond c (t ∷ filter is_constructor ts) (filter is_constructor ts))) g)
+    by : (m c : Bool) → is_member t ≡ m → is_constructor t ≡ c → length (filter is_constructor (filter is_member ts)) ≡ length (filter is_constructor ts)
+        → length (filter is_constructor (cond (is_member t) (t ∷ filter is_member ts) (filter is_member ts))) ≡ length (cond (is_constructor t) (t ∷ filter is_constructor ts) (filter is_constructor ts))
+    by true c e g h = ap (λ m. length (filter is_constructor (cond m (t ∷ filter is_member ts) (filter is_member ts)))) e ∙ more (is_constructor t) h
+    by false true e g h = seen_never (sym (member_of t g) ∙ e)
+    by false false e g h = ap (λ m. length (filter is_constructor (cond m (t ∷ filter is_member ts) (filter is_member ts)))) e ∙ h ∙ sym (ap (λ c. length (cond c (t ∷ filter is_constructor ts) (filter is_constructor ts))) g)
 
 class_kept : (s : Slot) (a h b : Node) → AllKept (slots_of kind.Class) (a ∷ h ∷ b ∷ []) (map stripped (a ∷ h ∷ b ∷ []))
     → Kept s (Tree kind.Class (a ∷ h ∷ b ∷ [])) (Tree kind.Class (stripped a ∷ stripped h ∷ Many (filter is_member (items_of (stripped b))) ∷ []))
