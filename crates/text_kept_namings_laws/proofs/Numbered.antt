@@ -1,5 +1,5 @@
 -- A number behind a name in UTF-8 makes a name, and no reserved word.
-use Rattle.std.proofs.Common.{◌≡◌, ◌≢◌, ℕ, zero, suc, ◌+◌, ◌%◌, ◌<◌, ◌≤◌, ◌^◌, Bool, true, false, not, cond, ◌&&◌, ◌||◌, ◌==◌, Option, Some, None, Result, Ok, Err, List, [], ◌∷◌, ◌++◌, length, take, drop, decimal, eqb-true, refl, sym, ap, ◌∙◌, subst, arith, append_assoc, append-nil, length-append, nat_eq}
+use Rattle.std.proofs.Common.{◌≡◌, ◌≢◌, ℕ, zero, suc, ◌+◌, ◌-◌, ◌%◌, ◌<◌, ◌≤◌, ◌^◌, Bool, true, false, not, cond, ◌&&◌, ◌||◌, ◌==◌, Option, Some, None, Result, Ok, Err, List, [], ◌∷◌, ◌++◌, length, take, drop, decimal, eqb-true, refl, sym, ap, ◌∙◌, subst, arith, append_assoc, append-nil, length-append, nat_eq}
 use Rattle.std.specs.Prelude.{IsUtf8, encode_utf8_all, is_some, nat_le}
 use Rattle.std.specs.Char.{encode_utf8}
 use Rattle.std.specs.List.{list_all, list_any}
@@ -93,10 +93,10 @@ record BeginsName (text : List ℕ) : Type 0 where
 
 empty : (xs : List ℕ) → (length xs == 0) ≡ true → xs ≡ []
 empty [] h = refl
-empty (x ∷ xs) h = absurd (cc)
+empty (x ∷ xs) h = let never : (length (x ∷ xs) == 0) ≡ false = eqb-suc-zero (length xs) in absurd (cc)
 
 up_to_end : (text rest : List ℕ) → rest ≡ [] → up_to text rest ≡ text
-up_to_end text rest e = ap (up_to text) e ∙ all_taken text
+up_to_end text rest e = let whole : length text - 0 ≡ length text = omega arith in ap (up_to text) e ∙ ap (λ n. take n text) whole ∙ all_taken text
   where
     all_taken : (text : List ℕ) → take (length text) text ≡ text
     all_taken [] = refl
@@ -317,14 +317,14 @@ ends-decimal = decimal_by_steps (λ n ds. (xs : List ℕ) → ends_from false (x
     (λ n ds ten before xs. ap (ends_from false) (sym (append_assoc xs ds ((48 + n % 10) ∷ []))) ∙ ends-append false (xs ++ ds) (48 + n % 10) ∙ digit-of (n % 10) (omega arith))
 
 apart : (text word : List ℕ) → ends_from false text ≡ true → ends_from false word ≡ false → pointwise nat_eq text word ≡ false
-apart text word yes no = false_from_ne_true (pointwise nat_eq text word) (λ same. (
-      let never : true ≡ false = sym yes ∙ ap (ends_from false) ((bytes_eq-Decides text word).0 same) ∙ no in absurd (cc)))
+apart text word digit other = false_from_ne_true (pointwise nat_eq text word) (λ same. (
+      let never : true ≡ false = sym digit ∙ ap (ends_from false) ((bytes_eq-Decides text word).0 same) ∙ other in absurd (cc)))
 
 is_none_of : (text : List ℕ) → ends_from false text ≡ true → (words : List (List ℕ)) → list_any (ends_from false) words ≡ false → list_any (pointwise nat_eq text) words ≡ false
-is_none_of text yes [] none = refl
-is_none_of text yes (w ∷ ws) none =
+is_none_of text digit [] none = refl
+is_none_of text digit (w ∷ ws) none =
     let others = or_parts (ends_from false w) (list_any (ends_from false) ws) none in
-    or_from _ _ (apart text w yes others.0) (is_none_of text yes ws others.1)
+    or_from _ _ (apart text w digit others.0) (is_none_of text digit ws others.1)
 
 pub numbered_word : (text : List ℕ) (n : ℕ) → IsUtf8 text → is_name text ≡ true → n < 2 ^ 64 → numbered text n ≢ text → IsWord (numbered text n)
 numbered_word text n utf8 named within other = by (n == 0) refl

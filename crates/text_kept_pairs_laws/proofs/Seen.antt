@@ -123,7 +123,7 @@ record Unseen (k : Kind) (ts : List Node) : Type 0 where
   plain : plain_in (Node-F.Tree k ts) ≡ false
   value : has_no_value (Node-F.Tree k ts) ≡ false
 
-seen_never : {A : Type 0} → true ≡ false → A
+pub seen_never : {A : Type 0} → true ≡ false → A
 seen_never h = absurd (cc)
 
 unseen : (k : Kind) (ts : List Node) → is_seen k ≡ false → Unseen k ts

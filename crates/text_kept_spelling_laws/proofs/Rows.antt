@@ -114,7 +114,7 @@ module _ (m : Changes) (keeps : Bool) where
   value_row ps kind.TplElement (a ∷ b ∷ c ∷ d ∷ e ∷ ts) = refl
   value_row ps k ts = refl
 
-  value_same : (p : Place) (t : Node) → has_no_value (out-Node (substituted m keeps p t)) ≡ has_no_value (out-Node t)
+  pub value_same : (p : Place) (t : Node) → has_no_value (out-Node (substituted m keeps p t)) ≡ has_no_value (out-Node t)
   value_same p t = look has_no_value false blind-value m keeps p (λ k ts. value_row _ k ts) t
 
   values_same : (ps : ℕ → Place) (ts : List Node) → list_any (λ t. has_no_value (out-Node t)) (each_substituted m keeps ps ts) ≡ list_any (λ t. has_no_value (out-Node t)) ts
@@ -182,7 +182,7 @@ module _ (m : Changes) (gives : GivesWords m) (keeps : Bool) where
   calm-specifier : Calm is_amiss_specifier
   calm-specifier = record { names = λ k i j n h. refl; lists = λ us. refl; properties = λ us. refl; targets = λ us. refl; classes = λ us. refl; declarations = λ us. refl; imports = λ i us h. refl; exports = other_calm }
 
-  specifier_calm : (p : Place) (t : Node) → Fitting t → is_amiss_specifier (out-Node t) ≡ false → is_amiss_specifier (out-Node (substituted m keeps p t)) ≡ false
+  pub specifier_calm : (p : Place) (t : Node) → Fitting t → is_amiss_specifier (out-Node t) ≡ false → is_amiss_specifier (out-Node (substituted m keeps p t)) ≡ false
   specifier_calm p t w h = settled m gives is_amiss_specifier calm-specifier keeps Fitting (λ ps k ts w h. specifier_row ps k ts (tree_fields k ts w) h) t p w h
 
   specifiers_calm : (ps : ℕ → Place) (ts : List Node) → Each Fitting ts → list_any (λ t. is_amiss_specifier (out-Node t)) ts ≡ false → list_any (λ t. is_amiss_specifier (out-Node t)) (each_substituted m keeps ps ts) ≡ false

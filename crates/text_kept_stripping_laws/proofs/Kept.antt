@@ -3,15 +3,17 @@ use Rattle.std.proofs.Common.{◌≡◌, ℕ, Bool, true, false, not, ◌&&◌, 
 use Rattle.std.specs.List.{list_all, list_any}
 use Rattle.swc_tree_node.specs.declared.kind.Kind.{Kind}
 use Rattle.swc_tree_node.specs.declared.kind.Kind.TheVariants as kind
+use Rattle.swc_tree_node.specs.declared.slot.Content.TheVariants as content
 use Rattle.swc_tree_node.specs.declared.slot.Slot.{Slot}
+use Rattle.swc_tree_node.specs.declared.slot.Slot.TheVariants as slot
 use Rattle.swc_tree_node.specs.declared.node.Node.{Node, List as Many, Tree, out-Node}
 use Rattle.swc_tree_node.specs.declared.node.Node.TheOpen.{Node-F}
 use Rattle.swc_tree_node.specs.declared.node.Node.TheVariants.{outs-List, outs-Tree}
 use Rattle.swc_tree_node.specs.Table.{slots_of}
+use Rattle.swc_tree_node.specs.Fits.{belongs}
 use Rattle.swc_tree_grammar.specs.Shapes.{items_in, items_of}
 use Rattle.swc_tree_grammar.specs.Writable.{constructor_key_in}
 use Rattle.swc_tree_grammar.proofs.Induction.{Each}
-use Rattle.swc_base_fixer_laws.specs.Sets.{takes_pair}
 use Rattle.text_grammar.specs.Shaped.{is_misshapen}
 use Rattle.text_spelling.specs.Spelled.{has_amiss, is_amiss, is_amiss_specifier, is_bad_leaf, is_misspelled}
 use Rattle.text_kept_renames_laws.proofs.Free.{Free, free_list, free_tree, list_below, list_here, tree_below, tree_here}
@@ -22,7 +24,17 @@ use Rattle.text_kept_spelling_laws.proofs.Made.{C, list_calm, list_spelled, tree
 use Rattle.text_kept_pairs_laws.proofs.Seen.{Pairwise, Seen, key_tree, no_items, pairwise_same, seen_list, seen_never, seen_same, seen_tree}
 use Rattle.text_kept_pairs_laws.proofs.Rows.{Held, Keys, Lists, amiss_row, leaves_row, news, olds, shape_row}
 use Rattle.text_kept_pairs_laws.proofs.SetSpelled.{N, Ns, trees_calm}
-use Rattle.text_kept_pairs_laws.proofs.Sets.{pairless_kind}
+
+-- a place that takes a pair or a sequence
+abbrev pub takes : Slot → Bool
+takes (slot.One (content.Node c)) = belongs kind.ParenExpr c || belongs kind.SeqExpr c
+takes (slot.Optional (content.Node c)) = belongs kind.ParenExpr c || belongs kind.SeqExpr c
+takes _ = false
+
+-- where a key is looked at no field does
+bare_kind : (k : Kind) → has_key k ≡ true → list_all (λ s. not (takes s)) (slots_of k) ≡ true
+bare_kind kind.ClassMethod h = refl
+bare_kind k h = seen_never (sym h)
 
 abbrev pub F : Node → Type 0
 F t = Free is_misshapen t
@@ -30,7 +42,7 @@ F t = Free is_misshapen t
 pub record Kept (s : Slot) (t u : Node) : Type 0 where
   pub seen : Seen t u
   pub listed : Pairwise (items_of t) (items_of u)
-  pub key : takes_pair s ≡ false → constructor_key_in (out-Node u) ≡ constructor_key_in (out-Node t)
+  pub key : takes s ≡ false → constructor_key_in (out-Node u) ≡ constructor_key_in (out-Node t)
   pub calm : S t → C t → C u
   pub specifier : S t → N t → N u
   pub specifiers : S t → Ns (items_of t) → Ns (items_of u)
@@ -87,9 +99,9 @@ both_of : (a b : Bool) → (a && b) ≡ true → (a ≡ true) × (b ≡ true)
 both_of true b h = (refl, h)
 both_of false b h = seen_never (sym h)
 
-keys : (ss : List Slot) (ts us : List Node) → list_all (λ s. not (takes_pair s)) ss ≡ true → AllKept ss ts us → Keys ts us
+keys : (ss : List Slot) (ts us : List Node) → list_all (λ s. not (takes s)) ss ≡ true → AllKept ss ts us → Keys ts us
 keys [] [] [] h l = tt
-keys (s ∷ ss) (t ∷ ts) (u ∷ us) h l = let b = both_of (not (takes_pair s)) (list_all (λ s. not (takes_pair s)) ss) h in (l.0.key (not_right (takes_pair s) b.0), keys ss ts us b.1 l.1)
+keys (s ∷ ss) (t ∷ ts) (u ∷ us) h l = let b = both_of (not (takes s)) (list_all (λ s. not (takes s)) ss) h in (l.0.key (not_right (takes s) b.0), keys ss ts us b.1 l.1)
 keys [] [] (u ∷ us) h l = absurd l
 keys [] (t ∷ ts) us h l = absurd l
 keys (s ∷ ss) [] us h l = absurd l
@@ -207,7 +219,7 @@ tree_kept s k ts us l = record {
   calm = λ f h. trees_calm k ts us (lists ss ts us l) h;
   specifier = λ f h. ap is_amiss_specifier (outs-Tree k us) ∙ specifier_row k ss ts us l (tree_below is_misspelled k ts f) (sym (ap is_amiss_specifier (outs-Tree k ts)) ∙ h);
   specifiers = λ f h. trees_specifiers k us;
-  shaped = λ f. free_tree is_misshapen k us (shape_row k ts us (pairwise ss ts us l) (λ h. lists ss ts us l) (λ h. keys ss ts us (pairless_kind k h) l) ∙ tree_here is_misshapen k ts f) (all_shaped ss ts us l (tree_below is_misshapen k ts f));
+  shaped = λ f. free_tree is_misshapen k us (shape_row k ts us (pairwise ss ts us l) (λ h. lists ss ts us l) (λ h. keys ss ts us (bare_kind k h) l) ∙ tree_here is_misshapen k ts f) (all_shaped ss ts us l (tree_below is_misshapen k ts f));
   spelled = λ f. (
       let below : Each S ts = tree_below is_misspelled k ts f in
       let asked = neither (is_bad_leaf (Node-F.Tree k ts)) (has_amiss (Node-F.Tree k ts)) (tree_here is_misspelled k ts f) in

@@ -28,7 +28,7 @@ use Rattle.swc_tree_grammar.proofs.Kept.{stripped_fits}
 use Rattle.swc_tree_grammar.proofs.Stripped.{is_other, stripped_of_list, stripped_of_tree, stripped_other}
 use Rattle.swc_tree_grammar.proofs.Walks.{bare_of_list, bare_of_tree}
 use Rattle.swc_base_rename_substitution.proofs.Room.{tree_open}
-use Rattle.swc_base_fixer_laws.specs.Sets.{item, takes_pair}
+use Rattle.swc_base_fixer_laws.specs.Sets.{item}
 use Rattle.swc_base_fixer_laws.proofs.SetsRows.{items_open}
 use Rattle.text_grammar.specs.Shaped.{at_most_one, constructor_kind, is_constructor, is_misshapen, named_kind}
 use Rattle.text_spelling.specs.Spelled.{has_amiss, is_amiss, is_amiss_specifier, is_misspelled, is_reserved_name, is_valueless}
@@ -39,7 +39,7 @@ use Rattle.text_kept_spelling_laws.proofs.Bound.{S, named}
 use Rattle.text_kept_spelling_laws.proofs.Made.{C, list_calm, list_spelled, name_spelled, tree_calm, tree_spelled}
 use Rattle.text_kept_pairs_laws.proofs.Seen.{Pairwise, Plain, is_seen, no_items, plain_name, plain_tree, seen_never, seen_plain}
 use Rattle.text_kept_pairs_laws.proofs.SetSpelled.{N, Ns}
-use Rattle.text_kept_stripping_laws.proofs.Kept.{AllKept, F, ItemsKept, Kept, all_calm, all_shaped, all_spelled, kept_same, list_kept, tree_kept, trees_listed, trees_specifiers}
+use Rattle.text_kept_stripping_laws.proofs.Kept.{AllKept, F, ItemsKept, Kept, all_calm, all_shaped, all_spelled, kept_same, list_kept, takes, tree_kept}
 use Rattle.text_kept_stripping_laws.proofs.Sequences.{Inherited, Some, each_flat, each_map, filtered, flat_some, items_have, parts_have, settled_have, settled_some}
 
 abbrev an_expression : Slot
@@ -85,28 +85,19 @@ expression_plain t = by_children (λ t. Fits t an_expression → Plain t) (
 
 -- ---- places
 
-takes_of : (s : Slot) (c : Class) → single s ≡ Just (content.Node c) → takes_pair s ≡ belongs kind.ParenExpr c
-takes_of (slot.One (content.Node d)) c e = let same : d ≡ c = cc in ap (belongs kind.ParenExpr) same
-takes_of (slot.Optional (content.Node d)) c e = let same : d ≡ c = cc in ap (belongs kind.ParenExpr) same
+takes_of : (s : Slot) (c : Class) → single s ≡ Just (content.Node c) → takes s ≡ (belongs kind.ParenExpr c || belongs kind.SeqExpr c)
+takes_of (slot.One (content.Node d)) c e = let same : d ≡ c = cc in ap (λ c. belongs kind.ParenExpr c || belongs kind.SeqExpr c) same
+takes_of (slot.Optional (content.Node d)) c e = let same : d ≡ c = cc in ap (λ c. belongs kind.ParenExpr c || belongs kind.SeqExpr c) same
 takes_of s c e = absurd (cc)
 
--- where a sequence may stand a pair may
-pair_room : (c : Class) → (not (belongs kind.SeqExpr c) || belongs kind.ParenExpr c) ≡ true
-pair_room class.Module = refl
-pair_room c = refl
+pair_takes : (ts : List Node) (s : Slot) → Fits (Tree kind.ParenExpr ts) s → takes s ≡ false → ⊥
+pair_takes ts s f h = let o = tree_open kind.ParenExpr ts s f in seen_never (sym o.3 ∙ (neither (belongs kind.ParenExpr o.0) (belongs kind.SeqExpr o.0) (sym (takes_of s o.0 o.1) ∙ h)).0)
 
-room : (a b : Bool) → (not a || b) ≡ true → a ≡ true → b ≡ true
-room true b h g = h
-room false b h g = seen_never (sym g)
-
-pair_takes : (ts : List Node) (s : Slot) → Fits (Tree kind.ParenExpr ts) s → takes_pair s ≡ false → ⊥
-pair_takes ts s f h = let o = tree_open kind.ParenExpr ts s f in seen_never (sym o.3 ∙ sym (takes_of s o.0 o.1) ∙ h)
-
-sequence_takes : (ts : List Node) (s : Slot) → Fits (Tree kind.SeqExpr ts) s → takes_pair s ≡ false → ⊥
-sequence_takes ts s f h = let o = tree_open kind.SeqExpr ts s f in seen_never (sym (room _ _ (pair_room o.0) o.3) ∙ sym (takes_of s o.0 o.1) ∙ h)
+sequence_takes : (ts : List Node) (s : Slot) → Fits (Tree kind.SeqExpr ts) s → takes s ≡ false → ⊥
+sequence_takes ts s f h = let o = tree_open kind.SeqExpr ts s f in seen_never (sym o.3 ∙ (neither (belongs kind.ParenExpr o.0) (belongs kind.SeqExpr o.0) (sym (takes_of s o.0 o.1) ∙ h)).1)
 
 -- a node that is an expression before and after
-as_expression : (s : Slot) (t u : Node) → Plain t → Plain u → (takes_pair s ≡ false → constructor_key_in (out-Node u) ≡ constructor_key_in (out-Node t)) → (S t → C t → C u) → is_amiss_specifier (out-Node u) ≡ false → (F t → F u) → (S t → S u) → Kept s t u
+as_expression : (s : Slot) (t u : Node) → Plain t → Plain u → (takes s ≡ false → constructor_key_in (out-Node u) ≡ constructor_key_in (out-Node t)) → (S t → C t → C u) → is_amiss_specifier (out-Node u) ≡ false → (F t → F u) → (S t → S u) → Kept s t u
 as_expression s t u p q key calm specifier shaped spelled = record {
   seen = seen_plain t u p q;
   listed = no_items t u p.items q.items;
@@ -290,8 +281,8 @@ pair_stays (a ∷ e ∷ c ∷ ts) l s b f = absurd (tree_fits kind.ParenExpr (a 
 -- ---- sequences
 
 module _ (a es : Node) (s : Slot) (bare : IsTrue (all_bare (Tree kind.SeqExpr (a ∷ es ∷ [])))) (f : Fits (Tree kind.SeqExpr (a ∷ es ∷ [])) s) (l : AllKept (slots_of kind.SeqExpr) (a ∷ es ∷ []) (map stripped (a ∷ es ∷ []))) where
-  abbrev ts : List Node
-  ts = a ∷ es ∷ []
+  abbrev both : List Node
+  both = a ∷ es ∷ []
 
   abbrev gathered : List Node
   gathered = flat_map parts (items_of (stripped es))
@@ -299,48 +290,48 @@ module _ (a es : Node) (s : Slot) (bare : IsTrue (all_bare (Tree kind.SeqExpr (a
   abbrev left : Node
   left = sequence (stripped a) (settled gathered)
 
-  left_is : stripped (Tree kind.SeqExpr ts) ≡ left
-  left_is = stripped_of_tree kind.SeqExpr ts
+  left_is : stripped (Tree kind.SeqExpr both) ≡ left
+  left_is = stripped_of_tree kind.SeqExpr both
 
   plain_left : Plain left
-  plain_left = subst Plain left_is (plain_stripped (Tree kind.SeqExpr ts) bare (expression_fits kind.SeqExpr ts s refl refl f))
+  plain_left = subst Plain left_is (plain_stripped (Tree kind.SeqExpr both) bare (expression_fits kind.SeqExpr both s refl refl f))
 
-  items_shaped : F (Tree kind.SeqExpr ts) → Each F (items_of (stripped es))
-  items_shaped g = items_have F shapes_inherited (stripped es) (l.1.0.shaped (tree_below is_misshapen kind.SeqExpr ts g).1.0)
+  items_shaped : F (Tree kind.SeqExpr both) → Each F (items_of (stripped es))
+  items_shaped g = items_have F shapes_inherited (stripped es) (l.1.0.shaped (tree_below is_misshapen kind.SeqExpr both g).1.0)
 
   -- as many items as before
-  items_some : F (Tree kind.SeqExpr ts) → Some (items_of (stripped es))
-  items_some g = subst (λ n. 0 < n) (same_count (items_of es) (items_of (stripped es)) l.1.0.listed) (long_some (length (items_of es)) (tree_here is_misshapen kind.SeqExpr ts g))
+  items_some : F (Tree kind.SeqExpr both) → Some (items_of (stripped es))
+  items_some g = subst (λ n. 0 < n) (same_count (items_of es) (items_of (stripped es)) l.1.0.listed) (long_some (length (items_of es)) (tree_here is_misshapen kind.SeqExpr both g))
 
-  gathered_shaped : F (Tree kind.SeqExpr ts) → Each F gathered
+  gathered_shaped : F (Tree kind.SeqExpr both) → Each F gathered
   gathered_shaped g = each_flat F parts (items_of (stripped es)) (each_map F (λ t. Each F (parts t)) (parts_have F shapes_inherited) (items_of (stripped es)) (items_shaped g))
 
-  gathered_some : F (Tree kind.SeqExpr ts) → Some gathered
+  gathered_some : F (Tree kind.SeqExpr both) → Some gathered
   gathered_some g = flat_some parts (items_of (stripped es)) (items_some g) (each_map F (λ t. Some (parts t)) parts_some (items_of (stripped es)) (items_shaped g))
 
-  left_shaped : F (Tree kind.SeqExpr ts) → F left
-  left_shaped g = sequence_shaped (stripped a) (settled gathered) (l.0.shaped (tree_below is_misshapen kind.SeqExpr ts g).0) (settled_have F shapes_inherited gathered (gathered_shaped g)) (settled_some gathered (gathered_some g))
+  left_shaped : F (Tree kind.SeqExpr both) → F left
+  left_shaped g = sequence_shaped (stripped a) (settled gathered) (l.0.shaped (tree_below is_misshapen kind.SeqExpr both g).0) (settled_have F shapes_inherited gathered (gathered_shaped g)) (settled_some gathered (gathered_some g))
 
-  calm_fields : S (Tree kind.SeqExpr ts) → Each C ts
-  calm_fields g = none_passes is_amiss ts (neither false _ (tree_here is_misspelled kind.SeqExpr ts g)).1
+  calm_fields : S (Tree kind.SeqExpr both) → Each C both
+  calm_fields g = none_passes is_amiss both (neither false _ (tree_here is_misspelled kind.SeqExpr both g)).1
 
-  gathered_spelled : S (Tree kind.SeqExpr ts) → Each Q gathered
+  gathered_spelled : S (Tree kind.SeqExpr both) → Each Q gathered
   gathered_spelled g =
-      let below = tree_below is_misspelled kind.SeqExpr ts g in
+      let below = tree_below is_misspelled kind.SeqExpr both g in
       let items = items_have Q texts_inherited (stripped es) (l.1.0.spelled below.1.0, l.1.0.calm below.1.0 (calm_fields g).1.0) in
       each_flat Q parts (items_of (stripped es)) (each_map Q (λ t. Each Q (parts t)) (parts_have Q texts_inherited) (items_of (stripped es)) items)
 
-  left_spelled : S (Tree kind.SeqExpr ts) → S left
+  left_spelled : S (Tree kind.SeqExpr both) → S left
   left_spelled g =
-      let below = tree_below is_misspelled kind.SeqExpr ts g in
+      let below = tree_below is_misspelled kind.SeqExpr both g in
       sequence_spelled (stripped a) (settled gathered) (l.0.spelled below.0) (l.0.calm below.0 (calm_fields g).0) (settled_have Q texts_inherited gathered (gathered_spelled g))
 
-  left_calm : S (Tree kind.SeqExpr ts) → C left
+  left_calm : S (Tree kind.SeqExpr both) → C left
   left_calm g = sequence_calm (stripped a) (settled gathered) (settled_have Q texts_inherited gathered (gathered_spelled g))
 
-  sequence_kept : Kept s (Tree kind.SeqExpr ts) (stripped (Tree kind.SeqExpr ts))
-  sequence_kept = subst (Kept s (Tree kind.SeqExpr ts)) (sym left_is)
-      (as_expression s (Tree kind.SeqExpr ts) left (plain_tree (Tree kind.SeqExpr ts) kind.SeqExpr ts (outs-Tree kind.SeqExpr ts) refl) plain_left (λ h. absurd (sequence_takes ts s f h))
+  sequence_kept : Kept s (Tree kind.SeqExpr both) (stripped (Tree kind.SeqExpr both))
+  sequence_kept = subst (Kept s (Tree kind.SeqExpr both)) (sym left_is)
+      (as_expression s (Tree kind.SeqExpr both) left (plain_tree (Tree kind.SeqExpr both) kind.SeqExpr both (outs-Tree kind.SeqExpr both) refl) plain_left (λ h. absurd (sequence_takes both s f h))
       (λ g c. left_calm g) (no_specifier left plain_left) left_shaped left_spelled)
 
 sequence_stays : (ts : List Node) → Each Stays ts → Stays (Tree kind.SeqExpr ts)
