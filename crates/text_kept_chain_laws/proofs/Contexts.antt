@@ -1,5 +1,5 @@
 -- A tree without contexts, and one with others, fits where the tree does and has its texts.
-use Rattle.std.proofs.Common.{◌≡◌, ℕ, Bool, IsTrue, Option, Some, None, List, [], ◌∷◌, map, refl, sym, ap, ◌∙◌, subst}
+use Rattle.std.proofs.Common.{◌≡◌, Option, Some, None, List, [], ◌∷◌, map, refl, sym, ap, ◌∙◌, subst}
 use Rattle.std.specs.Prelude.{IsUtf8}
 use Rattle.swc_tree_marks.specs.declared.ident.Ident.{Ident}
 use Rattle.swc_tree_node.specs.declared.kind.Kind.{Kind}
@@ -8,7 +8,6 @@ use Rattle.swc_tree_node.specs.declared.node.Node.{Node, Absent, Flag, Word, Tex
 use Rattle.swc_tree_node.specs.declared.node.Node.TheOpen.{Node-F}
 use Rattle.swc_tree_node.specs.declared.node.Node.TheVariants.{outs-Absent, outs-Flag, outs-Identifier, outs-List, outs-Span, outs-Text, outs-Tree, outs-Word}
 use Rattle.swc_tree_node.specs.Fits.{Fits, fits}
-use Rattle.swc_tree_scoping.specs.Places.{Path}
 use Rattle.swc_tree_scoping.specs.Readings.{by_texts}
 use Rattle.swc_tree_scoping.specs.Resolved.{Contexts, remarked}
 use Rattle.swc_tree_scoping.proofs.Remarked.{each_remarked, fits-remarked, remarked-Identifier, remarked-List, remarked-Tree, remarked-leaf}

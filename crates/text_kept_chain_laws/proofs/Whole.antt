@@ -1,9 +1,8 @@
 -- The law.
-use Rattle.std.proofs.Common.{◌≡◌, IsTrue, sym, subst}
-use Rattle.swc_tree_node.specs.declared.node.Node.{Node}
+use Rattle.std.proofs.Common.{sym, subst}
 use Rattle.swc_tree_node.specs.Fits.{Fits}
 use Rattle.swc_base_rename_program.specs.Renamed.{hygiene_renaming}
-use Rattle.text_kept_laws.proofs.Whole.{resolved_shaped, resolved_spelled, texts_shaped, texts_spelled}
+use Rattle.text_kept_laws.proofs.Whole.{resolved_shaped, resolved_spelled}
 use Rattle.text_kept_namings_laws.proofs.Whole.{hygiene_words}
 use Rattle.text_kept_stripping_laws.proofs.Whole.{fixer_shape, fixer_spelling}
 use Rattle.text_kept_units_laws.proofs.Whole.{any_hygiene, renaming_fits}

@@ -1,6 +1,6 @@
 -- A short text is a name that is no reserved word.
-use Rattle.std.proofs.Common.{◌≡◌, ℕ, zero, suc, ◌-◌, ◌/◌, ◌%◌, ◌<◌, ◌≤◌, ◌⊎◌, inl, inr, Bool, true, false, not, ◌&&◌, ◌||◌, List, [], ◌∷◌, ◌++◌, refl, sym, ap, ◌∙◌, subst, arith, nat_eq}
-use Rattle.std.specs.Prelude.{IsAscii, encode_utf8_all, nat_lt}
+use Rattle.std.proofs.Common.{◌≡◌, ℕ, zero, suc, ◌-◌, ◌/◌, ◌%◌, ◌<◌, ◌≤◌, ◌⊎◌, inl, inr, Bool, true, false, not, ◌||◌, List, [], ◌∷◌, ◌++◌, map, refl, sym, ap, ◌∙◌, arith, nat_eq}
+use Rattle.std.specs.Prelude.{encode_utf8_all, nat_lt}
 use Rattle.std.specs.List.{list_all, list_any}
 use Rattle.std.specs.Cmp.Lexicographic.{pointwise}
 use Rattle.std.proofs.lemmas.Bool.{and_from, and_parts, false_from_ne_true}
@@ -12,7 +12,7 @@ use lib.Utf8.{low_scalar, scalar, scalars}
 use Rattle.text_characters.specs.Characters.{is_name_part, is_name_start}
 use Rattle.text_words.specs.Words.{is_name, reserved as words}
 use Rattle.swc_tree_grammar.specs.Writable.{begins_name, is_digit, is_identifier_text, is_letter, reserved}
-use Rattle.swc_base_rename_short_texts.specs.ShortTexts.{character, short_text, text_at_place}
+use Rattle.swc_base_rename_short_texts.specs.ShortTexts.{character, past, place, short_text, text_at_place, withheld}
 use Rattle.text_kept_spelling_laws.specs.Laws.{IsWord}
 use Rattle.text_kept_namings_laws.proofs.Numbered.{name_of}
 
@@ -95,4 +95,4 @@ low_word text low h =
     (low_name text low parts.0, none_of_fewer text (not_true (list_any (pointwise nat_eq text) reserved) parts.1) words refl)
 
 pub short_word : (n : ℕ) → is_identifier_text (short_text n) ≡ true → IsWord (short_text n)
-short_word n h = low_word (short_text n) (low_text 11 _) h
+short_word n h = low_word (short_text n) (low_text 11 (past (map place withheld) n)) h

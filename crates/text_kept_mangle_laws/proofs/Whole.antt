@@ -1,7 +1,5 @@
 -- The laws.
-use Rattle.std.proofs.Common.{◌≡◌, ◌⊎◌, inl, inr, sym, subst}
-use Rattle.swc_tree_node.specs.declared.node.Node.{Node}
-use Rattle.swc_base_rename_analysis.specs.Named.{Renaming}
+use Rattle.std.proofs.Common.{inl, inr, sym, subst}
 use Rattle.swc_base_rename_by_use.specs.ByUse.{moved, own}
 use Rattle.swc_base_rename_by_use.specs.ByUseLaws.{identifier-by_use}
 use Rattle.swc_base_mangle.specs.Mangled.{IsShortened}

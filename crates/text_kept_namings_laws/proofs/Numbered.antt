@@ -148,12 +148,14 @@ no_backslash start c h = false_from_ne_true (c == 92) (λ e. never_backslash sta
 
 first_plain : (c : ℕ) (z : List ℕ) → has_escape (encode_utf8 c ++ z) ≡ false → ((c == 92) ≡ false) × (has_escape z ≡ false)
 first_plain c z h =
-    let parts = or_parts (has_escape (encode_utf8 c)) (has_escape z) (sym (list_any-append (λ c. c == 92) (encode_utf8 c) z) ∙ h) in
-    (false_from_ne_true (c == 92) (λ e. (
-      let is : c ≡ 92 = eqb-true c 92 e in
-      let one : encode_utf8 c ≡ c ∷ [] = encode_ascii c (omega (arith, is)) in
-      let yes : has_escape (encode_utf8 c) ≡ true = ap has_escape (one ∙ ap (λ c. c ∷ []) is) in
-      let no : has_escape (encode_utf8 c) ≡ false = parts.0 in absurd (cc))), parts.1)
+    let parts = or_parts (has_escape (encode_utf8 c)) (has_escape z) (sym (list_any-append (λ c. c == 92) (encode_utf8 c) z) ∙ h) in (
+      false_from_ne_true (c == 92) (λ e. (
+          let is : c ≡ 92 = eqb-true c 92 e in
+          let one : encode_utf8 c ≡ c ∷ [] = encode_ascii c (omega (arith, is)) in
+          let yes : has_escape (encode_utf8 c) ≡ true = ap has_escape (one ∙ ap (λ c. c ∷ []) is) in
+          let no : has_escape (encode_utf8 c) ≡ false = parts.0 in absurd (cc))),
+      parts.1,
+    )
 
 some_named : (b : Bool) (z : List ℕ) → is_some (cond b (Some z) None) ≡ true → b ≡ true
 some_named true z h = refl
@@ -318,7 +320,7 @@ ends-decimal = decimal_by_steps (λ n ds. (xs : List ℕ) → ends_from false (x
 
 apart : (text word : List ℕ) → ends_from false text ≡ true → ends_from false word ≡ false → pointwise nat_eq text word ≡ false
 apart text word digit other = false_from_ne_true (pointwise nat_eq text word) (λ same. (
-      let never : true ≡ false = sym digit ∙ ap (ends_from false) ((bytes_eq-Decides text word).0 same) ∙ other in absurd (cc)))
+    let never : true ≡ false = sym digit ∙ ap (ends_from false) ((bytes_eq-Decides text word).0 same) ∙ other in absurd (cc)))
 
 is_none_of : (text : List ℕ) → ends_from false text ≡ true → (words : List (List ℕ)) → list_any (ends_from false) words ≡ false → list_any (pointwise nat_eq text) words ≡ false
 is_none_of text digit [] none = refl

@@ -1,18 +1,15 @@
 -- An outermost unit that got its names is seen as it was, and lengths, leaves and names stay in it.
-use Rattle.std.proofs.Common.{◌≡◌, ◌≢◌, ◌<◌, ◌^◌, ℕ, zero, suc, Bool, true, false, ◌==◌, IsTrue, Option, Some, None, List, [], ◌∷◌, ◌++◌, eqb-true, refl, sym, ap, ◌∙◌, subst}
+use Rattle.std.proofs.Common.{◌≡◌, ℕ, Bool, IsTrue, Option, Some, None, List, [], ◌∷◌, ◌++◌, eqb-true, refl, sym, ap, ◌∙◌, subst}
 use Rattle.std.specs.Prelude.{slice_get}
 use Rattle.std.specs.List.{list_any}
-use Rattle.swc_tree_marks.specs.declared.ident.Ident.{Ident}
-use Rattle.swc_tree_node.specs.declared.kind.Kind.{Kind}
 use Rattle.swc_tree_node.specs.declared.kind.Kind.TheVariants as kind
 use Rattle.swc_tree_node.specs.declared.fields.statements.class_decl.TheConstants as class_decl
 use Rattle.swc_tree_node.specs.declared.fields.statements.fn_decl.TheConstants as fn_decl
 use Rattle.swc_tree_node.specs.declared.slot.Content.{Content}
 use Rattle.swc_tree_node.specs.declared.slot.Slot.{Slot}
 use Rattle.swc_tree_node.specs.declared.slot.Slot.TheVariants as slot
-use Rattle.swc_tree_node.specs.declared.node.Node.{Node, List as Many, Identifier, Tree, out-Node}
+use Rattle.swc_tree_node.specs.declared.node.Node.{Node, Identifier, Tree, out-Node}
 use Rattle.swc_tree_node.specs.declared.node.Node.TheOpen.{Node-F}
-use Rattle.swc_tree_node.specs.Table.{slots_of}
 use Rattle.swc_tree_node.specs.Fits.{FieldsFit, Fits, fits}
 use Rattle.swc_tree_node.proofs.Fit.{fits-List}
 use Rattle.swc_tree_scoping.specs.BoundNames.{Id}
@@ -39,7 +36,7 @@ use Rattle.text_kept_spelling_laws.proofs.Spelling.{stays as spelling_stays}
 use Rattle.text_kept_namings_laws.specs.Laws.{GivesNewWords}
 use Rattle.text_kept_namings_laws.proofs.Found.{gives_words}
 use Rattle.text_kept_pairs_laws.proofs.Seen.{no_items, seen_never}
-use Rattle.text_kept_stripping_laws.proofs.Kept.{Kept, kept_same}
+use Rattle.text_kept_stripping_laws.proofs.Kept.{kept_same}
 use Rattle.text_kept_units_laws.proofs.Paths.{May, fits_at, some_same}
 use Rattle.text_kept_units_laws.proofs.Units.{Both}
 
@@ -135,7 +132,7 @@ words_below r t u p at g q k i n there within other = g (p ++ q) k i n (walked_o
 
 pub unit_kept : (r : Renaming) (preserved : List ℕ → Type 0) (keeps : Bool) (before : Node) (s : Slot) (p : Path) (u v : Node) → Fitting before → GivesNewWords r before → node_at before p ≡ Some u → Fits u s → IsOutermost before p u
     → HasNames r preserved keeps u v → May (Both s u v)
-unit_kept r preserved keeps before s p u v whole gives at f o names no = no (subst (Both s u) (sym (names.given.none none)) (kept_same s u, λ s r g. g))
+unit_kept r preserved keeps before s p u v whole gives at f o names refute = refute (subst (Both s u) (sym (names.given.none none)) (kept_same s u, λ s r g. g))
   where
     m : Changes
     m = new_id_by names.new_texts
@@ -148,7 +145,7 @@ unit_kept r preserved keeps before s p u v whole gives at f o names no = no (sub
 
     none_at : (x : Id) (o : Option (List ℕ)) → names.new_texts x ≡ o → names.new_texts x ≡ None
     none_at x None e = e
-    none_at x (Some text) e = absurd (no (new (names.given.some x text e)))
+    none_at x (Some text) e = absurd (refute (new (names.given.some x text e)))
 
     none : (x : Id) → names.new_texts x ≡ None
     none x = none_at x (names.new_texts x) refl

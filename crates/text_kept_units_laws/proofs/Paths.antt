@@ -1,8 +1,6 @@
 -- What stands at a path of a tree that fits, and what follows where it can't be told which of two cases holds.
-use Rattle.std.proofs.Common.{◌≡◌, ℕ, zero, suc, Bool, true, false, ◌⊎◌, inl, inr, Option, Some, None, List, [], ◌∷◌, ◌++◌, refl, sym, ap, ◌∙◌, subst}
-use Rattle.std.specs.Prelude.{slice_get}
-use Rattle.swc_tree_node.specs.declared.kind.Kind.{Kind}
-use Rattle.swc_tree_node.specs.declared.node.Node.{Node, List as Many, Tree, out-Node}
+use Rattle.std.proofs.Common.{◌≡◌, ℕ, ◌⊎◌, inl, inr, Option, Some, None, List, [], ◌∷◌, ◌++◌, refl, sym, ap, ◌∙◌, subst}
+use Rattle.swc_tree_node.specs.declared.node.Node.{Node, Tree, out-Node}
 use Rattle.swc_tree_node.specs.declared.node.Node.TheOpen.{Node-F}
 use Rattle.swc_tree_scoping.specs.Places.{Path, child, children_in, given}
 use Rattle.swc_tree_scoping.proofs.Remarked.{list_is, tree_is}
@@ -17,10 +15,10 @@ abbrev pub May : Type 0 → Type 0
 May A = (A → ⊥) → ⊥
 
 pub either : (A : Type 0) → May (A ⊎ (A → ⊥))
-either A no = no (inr (λ a. no (inl a)))
+either A refute = refute (inr (λ a. refute (inl a)))
 
 pub may_then : {A B : Type 0} → May A → (A → May B) → May B
-may_then m f no = m (λ a. f a no)
+may_then m f refute = m (λ a. f a refute)
 
 -- ---- paths
 
@@ -37,7 +35,7 @@ children_fit t f = by (out-Node t) refl
     by (Node-F.Text x) o = tt
     by (Node-F.Span x) o = tt
 
-some_same : {X : Type 0} {a b : X} → Some a ≡ Some b → a ≡ b
+pub some_same : {X : Type 0} {a b : X} → Some a ≡ Some b → a ≡ b
 some_same h = cc
 
 pub fits_at : (p : Path) (t n : Node) → Fitting t → node_at t p ≡ Some n → Fitting n

@@ -1,11 +1,8 @@
 -- A tree of which each outermost unit without a reader of names became another.
-use Rattle.std.proofs.Common.{◌≡◌, ℕ, zero, suc, Bool, true, false, ◌⊎◌, inl, inr, IsTrue, Option, Some, None, List, [], ◌∷◌, ◌++◌, length, map, refl, sym, ap, ◌∙◌, subst}
+use Rattle.std.proofs.Common.{◌≡◌, ℕ, zero, suc, Bool, true, false, ◌⊎◌, inl, inr, IsTrue, Some, List, [], ◌∷◌, ◌++◌, length, map, refl, sym, ap, ◌∙◌, subst}
 use Rattle.std.specs.Prelude.{slice_get}
 use Rattle.std.specs.List.{list_all}
-use Rattle.swc_tree_marks.specs.declared.span.Span.{Span as Range}
-use Rattle.swc_tree_marks.specs.declared.ident.Ident.{Ident}
 use Rattle.swc_tree_node.specs.declared.kind.Kind.{Kind}
-use Rattle.swc_tree_node.specs.declared.kind.Word.{Word as Word'}
 use Rattle.swc_tree_node.specs.declared.slot.Content.TheVariants as content
 use Rattle.swc_tree_node.specs.declared.slot.Slot.{Slot}
 use Rattle.swc_tree_node.specs.declared.slot.Slot.TheVariants as slot
@@ -15,7 +12,7 @@ use Rattle.swc_tree_node.specs.declared.node.Node.TheVariants.{outs-Absent, outs
 use Rattle.swc_tree_node.specs.Table.{slots_of}
 use Rattle.swc_tree_node.specs.Fits.{AllFit, FieldsFit, Fits, fits, list_fits}
 use Rattle.swc_tree_node.proofs.Fit.{all_close, all_open, fields_close, fields_open, fits-List}
-use Rattle.swc_tree_scoping.specs.Places.{Path, child, children_in}
+use Rattle.swc_tree_scoping.specs.Places.{Path, children_in}
 use Rattle.swc_tree_scoping.proofs.Remarked.{list_is, tree_is}
 use Rattle.swc_tree_grammar.proofs.Induction.{Each, by_children}
 use Rattle.swc_base_rename_substitution.specs.Room.{FitsAs, has_room, takes_exports, takes_written}
@@ -199,21 +196,21 @@ more_each : (t u : Node) (ts us : List Node) → Each' (t ∷ ts) (u ∷ us) →
 more_each t u ts us h i c s e f = h (suc i) c s e f
 
 first_each : (t u : Node) (ts us : List Node) (s : Slot) → Each' (t ∷ ts) (u ∷ us) → Fits t s → May (Both s t u)
-first_each t u ts us s h f = may_then (h zero t s refl f) (λ w no. no (subst (Both s t) (sym (some_same w.1)) w.2))
+first_each t u ts us s h f = may_then (h zero t s refl f) (λ w refute. refute (subst (Both s t) (sym (some_same w.1)) w.2))
 
 fields_may : (ss : List Slot) (ts us : List Node) → FieldsFit ss ts → length us ≡ length ts → Each' ts us → May (AllBoth ss ts us)
-fields_may [] [] [] f e h no = no tt
-fields_may [] [] (u ∷ us) f e h no = absurd (cc)
-fields_may [] (t ∷ ts) us f e h no = absurd f
-fields_may (s ∷ ss) [] us f e h no = absurd f
-fields_may (s ∷ ss) (t ∷ ts) [] f e h no = absurd (cc)
-fields_may (s ∷ ss) (t ∷ ts) (u ∷ us) f e h no = first_each t u ts us s h f.0 (λ b. fields_may ss ts us f.1 (cc) (more_each t u ts us h) (λ l. no (b, l)))
+fields_may [] [] [] f e h refute = refute tt
+fields_may [] [] (u ∷ us) f e h refute = absurd (cc)
+fields_may [] (t ∷ ts) us f e h refute = absurd f
+fields_may (s ∷ ss) [] us f e h refute = absurd f
+fields_may (s ∷ ss) (t ∷ ts) [] f e h refute = absurd (cc)
+fields_may (s ∷ ss) (t ∷ ts) (u ∷ us) f e h refute = first_each t u ts us s h f.0 (λ b. fields_may ss ts us f.1 (cc) (more_each t u ts us h) (λ l. refute (b, l)))
 
 items_may : (s : Slot) (ts us : List Node) → AllFit s ts → length us ≡ length ts → Each' ts us → May (ItemsBoth s ts us)
-items_may s [] [] f e h no = no tt
-items_may s [] (u ∷ us) f e h no = absurd (cc)
-items_may s (t ∷ ts) [] f e h no = absurd (cc)
-items_may s (t ∷ ts) (u ∷ us) f e h no = first_each t u ts us s h f.0 (λ b. items_may s ts us f.1 (cc) (more_each t u ts us h) (λ l. no (b, l)))
+items_may s [] [] f e h refute = refute tt
+items_may s [] (u ∷ us) f e h refute = absurd (cc)
+items_may s (t ∷ ts) [] f e h refute = absurd (cc)
+items_may s (t ∷ ts) (u ∷ us) f e h refute = first_each t u ts us s h f.0 (λ b. items_may s ts us f.1 (cc) (more_each t u ts us h) (λ l. refute (b, l)))
 
 -- ---- the whole
 
@@ -253,18 +250,18 @@ module _ (before between : Node) (becomes : Node → Node → Type 0) (h : HasUn
   decided t otherwise q s at f none = may_then (either (IsOutermost before q t)) by
     where
       by : IsOutermost before q t ⊎ (IsOutermost before q t → ⊥) → May (Out s t q)
-      by (inl o) no = let (v, there, b) = h.units q t o in named s q t v at f o b (λ k. no (v, there, k))
-      by (inr other) no = let (m, there, e) = h.others q t at (not_here q t at none other) in otherwise q s m at f none other there e (λ k. no (m, there, k))
+      by (inl o) refute = let (v, there, b) = h.units q t o in named s q t v at f o b (λ k. refute (v, there, k))
+      by (inr other) refute = let (m, there, e) = h.others q t at (not_here q t at none other) in otherwise q s m at f none other there e (λ k. refute (m, there, k))
 
   leaf_stays : (t : Node) (z : Node-F Node) → out-Node t ≡ z → is_leaf z ≡ true → P t
-  leaf_stays t z o l = decided t (λ q s m at f none other there e no. no (subst (Both s t) (sym (leaf_same m t z o l e)) (kept_same s t, λ s r g. g)))
+  leaf_stays t z o l = decided t (λ q s m at f none other there e refute. refute (subst (Both s t) (sym (leaf_same m t z o l e)) (kept_same s t, λ s r g. g)))
 
   -- the children of a node are those of the other
   children_become : (t m : Node) (ts us : List Node) (q : Path) → children_in (out-Node t) ≡ ts → children_in (out-Node m) ≡ us → node_at before q ≡ Some t → node_at between q ≡ Some m → NoneAbove q → (IsOutermost before q t → ⊥)
       → Each P ts → Each' ts us
   children_become t m ts us q a b at there none other l i c s e f =
       let here : node_at before (q ++ i ∷ []) ≡ Some c = further q before t i at ∙ ap (λ l. slice_get l i) a ∙ e in
-      may_then (at_each P ts l i c e (q ++ i ∷ []) s here f (none_below q t i at none other)) (λ w no. no (w.0, sym (further q between m i there ∙ ap (λ l. slice_get l i) b) ∙ w.1, w.2))
+      may_then (at_each P ts l i c e (q ++ i ∷ []) s here f (none_below q t i at none other)) (λ w refute. refute (w.0, sym (further q between m i there ∙ ap (λ l. slice_get l i) b) ∙ w.1, w.2))
 
   list_stays : (ts : List Node) → Each P ts → P (Many ts)
   list_stays ts l = decided (Many ts) by
@@ -275,7 +272,7 @@ module _ (before between : Node) (becomes : Node → Node → Type 0) (h : HasUn
       as_list : (q : Path) (s : Slot) (us : List Node) → node_at before q ≡ Some (Many ts) → Fits (Many ts) s → NoneAbove q → (IsOutermost before q (Many ts) → ⊥) → node_at between q ≡ Some (Many us) → length us ≡ length ts → May (Both s (Many ts) (Many us))
       as_list q s us at f none other there e =
           may_then (items_may (item s) ts us (items_open s ts (sym (fits-List ts s) ∙ f)) e (children_become (Many ts) (Many us) ts us q (children ts) (children us) at there none other l))
-          (λ b no. no (list_kept s (item s) ts us (items_kept (item s) ts us b), list_fits_as ts us (items_fitted (item s) ts us b)))
+          (λ b refute. refute (list_kept s (item s) ts us (items_kept (item s) ts us b), list_fits_as ts us (items_fitted (item s) ts us b)))
 
       by : Otherwise (Many ts)
       by q s m at f none other there e =
@@ -292,7 +289,7 @@ module _ (before between : Node) (becomes : Node → Node → Type 0) (h : HasUn
           → May (Both s (Tree k ts) (Tree k us))
       as_tree q s us at f none other there e =
           may_then (fields_may (slots_of k) ts us (tree_open k ts s f).4 e (children_become (Tree k ts) (Tree k us) ts us q (children ts) (children us) at there none other l))
-          (λ b no. no (tree_kept s k ts us (all_kept (slots_of k) ts us b), tree_fits_as k ts us (all_fitted (slots_of k) ts us b)))
+          (λ b refute. refute (tree_kept s k ts us (all_kept (slots_of k) ts us b), tree_fits_as k ts us (all_fitted (slots_of k) ts us b)))
 
       by : Otherwise (Tree k ts)
       by q s m at f none other there e =
@@ -315,4 +312,4 @@ module _ (before between : Node) (becomes : Node → Node → Type 0) (h : HasUn
   nothing_above (j ∷ r) (i, below, e) = absurd (cc)
 
   pub units_kept : (s : Slot) → Fits before s → May (Both s before between)
-  units_kept s f = may_then (stays before [] s refl f (λ r v o l. nothing_above r l)) (λ w no. no (subst (Both s before) (sym (some_same w.1)) w.2))
+  units_kept s f = may_then (stays before [] s refl f (λ r v o l. nothing_above r l)) (λ w refute. refute (subst (Both s before) (sym (some_same w.1)) w.2))

@@ -1,5 +1,5 @@
 -- The laws.
-use Rattle.std.proofs.Common.{◌≡◌, ℕ, Bool, true, false, ◌⊎◌, inl, inr, IsTrue, Option, Some, None, List, refl, sym, ap, ◌∙◌, subst}
+use Rattle.std.proofs.Common.{◌≡◌, ℕ, Bool, true, false, ◌⊎◌, inl, inr, IsTrue, Option, Some, None, List, refl, sym, ◌∙◌, subst}
 use Rattle.swc_tree_marks.specs.Globals.{Table}
 use Rattle.swc_tree_node.specs.declared.node.Node.{Node}
 use Rattle.swc_tree_node.specs.declared.slot.Slot.{Slot}
@@ -24,7 +24,7 @@ use Rattle.text_kept_namings_laws.proofs.Whole.{hygiene_words}
 use Rattle.text_kept_pairs_laws.proofs.Seen.{seen_never}
 use Rattle.text_kept_units_laws.specs.Laws.{AnyHygieneKeepsTexts, AnyRenamingKeepsTexts}
 use Rattle.text_kept_units_laws.proofs.Paths.{May, either, may_then}
-use Rattle.text_kept_units_laws.proofs.Units.{Both, units_kept}
+use Rattle.text_kept_units_laws.proofs.Units.{units_kept}
 use Rattle.text_kept_units_laws.proofs.Named.{unit_kept}
 
 abbrev Texts : Node → Type 0
@@ -36,7 +36,7 @@ Sound s t = Texts t × Fits t s
 
 -- a tree that has its names by a map
 given_texts : (new_texts : Id → Option (List ℕ)) (keeps : Bool) (before after : Node) (s : Slot) → IsTrue (has_room s) → GivesWords (new_id_by new_texts) → IsGiven new_texts keeps before after → Sound s before → May (Sound s after)
-given_texts new_texts keeps before after s room words given sound no = no (subst (Sound s) (sym (given.none none)) sound)
+given_texts new_texts keeps before after s room words given sound refute = refute (subst (Sound s) (sym (given.none none)) sound)
   where
     new : Substituted (new_id_by new_texts) keeps before after → Sound s after
     new e = (
@@ -46,7 +46,7 @@ given_texts new_texts keeps before after s room words given sound no = no (subst
 
     none_at : (x : Id) (o : Option (List ℕ)) → new_texts x ≡ o → new_texts x ≡ None
     none_at x None e = e
-    none_at x (Some text) e = absurd (no (new (given.some x text e)))
+    none_at x (Some text) e = absurd (refute (new (given.some x text e)))
 
     none : (x : Id) → new_texts x ≡ None
     none x = none_at x (new_texts x) refl
