@@ -153,7 +153,10 @@ count (Node-F.List us) = length us
 count (Node-F.Tree k us) = length us
 count _ = 0
 
-mapped : (ts : List Node) → length (map (λ c. tt {0}) ts) ≡ length ts
+abbrev nothing : Node → Unit {0}
+nothing c = tt
+
+mapped : (ts : List Node) → length (map nothing ts) ≡ length ts
 mapped [] = refl
 mapped (t ∷ ts) = ap suc (mapped ts)
 
