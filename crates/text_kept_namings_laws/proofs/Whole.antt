@@ -1,9 +1,14 @@
 -- The laws.
-use Rattle.std.proofs.Common.{◌≡◌, ℕ, Bool, Option, Some, None, List, [], ◌∷◌, refl, sym, subst}
-use Rattle.swc_tree_node.specs.declared.node.Node.{Node, Identifier}
+use Rattle.std.proofs.Common.{◌≡◌, ◌≢◌, ◌<◌, ◌^◌, ℕ, Bool, Option, Some, None, List, [], ◌∷◌, refl, sym, subst}
+use Rattle.swc_tree_marks.specs.declared.ident.Ident.{Ident}
+use Rattle.swc_tree_node.specs.declared.kind.Kind.{Kind}
+use Rattle.swc_tree_node.specs.declared.node.Node.{Node, Identifier, out-Node}
 use Rattle.swc_tree_node.specs.declared.node.Node.TheOpen.{Node-F}
+use Rattle.swc_tree_node.specs.declared.slot.Slot.{Slot}
+use Rattle.swc_tree_node.specs.Fits.{Fits}
 use Rattle.swc_tree_scoping.specs.BoundNames.{Id}
 use Rattle.swc_tree_scoping.specs.Places.{Path, child, given}
+use Rattle.swc_tree_scoping.specs.Readings.{by_texts}
 use Rattle.swc_tree_walk.specs.Nodes.{HasNode, node_at}
 use Rattle.swc_base_rename_substitution.specs.Substituted.{Substituted}
 use Rattle.swc_base_rename_analysis.specs.Named.{Renaming}

@@ -1,9 +1,10 @@
 -- Where first branches get blocks, lengths, leaves and names stay.
-use Rattle.std.proofs.Common.{◌≡◌, Bool, true, false, List, [], ◌∷◌, map, rules, refl, sym, ap, ◌∙◌, subst, cond}
+use Rattle.std.proofs.Common.{◌≡◌, ℕ, Bool, true, false, not, ◌&&◌, ◌||◌, List, [], ◌∷◌, map, rules, refl, sym, ap, ◌∙◌, subst, cond}
 use Rattle.std.specs.List.{list_any}
+use Rattle.swc_tree_marks.specs.declared.ident.Ident.{Ident}
 use Rattle.swc_tree_node.specs.declared.kind.Kind.{Kind}
 use Rattle.swc_tree_node.specs.declared.kind.Kind.TheVariants as kind
-use Rattle.swc_tree_node.specs.declared.node.Node.{Node, Absent, Flag, Word, Text, Span, List as Many, Identifier, Tree, out-Node, the_lemmas}
+use Rattle.swc_tree_node.specs.declared.node.Node.{Node, Absent, Flag, Word, Text, Span, List as Many, Identifier, Tree, out-Node, roll-Node, the_lemmas}
 use Rattle.swc_tree_node.specs.declared.node.Node.TheOpen.{Node-F}
 use Rattle.swc_tree_node.specs.declared.node.Node.TheVariants.{outs-List, outs-Tree, rolls-Tree}
 use Rattle.swc_tree_grammar.specs.Shapes.{items_in, items_of}
@@ -12,7 +13,7 @@ use Rattle.swc_tree_grammar.specs.Blocks.{block, block_step, branch, span_of, ta
 use Rattle.swc_tree_grammar.proofs.Induction.{Each, by_children}
 use Rattle.swc_tree_grammar.proofs.Walks.{blocks_of_list, blocks_of_tree}
 use Rattle.text_grammar.specs.Shaped.{is_misshapen}
-use Rattle.text_spelling.specs.Spelled.{has_amiss, is_amiss, is_amiss_specifier, is_bad_leaf, is_misspelled}
+use Rattle.text_spelling.specs.Spelled.{has_amiss, is_amiss, is_amiss_specifier, is_bad_leaf, is_misspelled, is_reserved_name, is_valueless}
 use Rattle.text_kept_renames_laws.proofs.Free.{Free, free_list, free_tree, list_below, list_here, tree_below, tree_here}
 use Rattle.text_kept_renames_laws.proofs.Shape.{span_free}
 use Rattle.text_kept_spelling_laws.proofs.Calm.{all_fail, both_false, neither, none_passes}

@@ -1,5 +1,5 @@
 -- What is asked of a node rests on what is seen of its fields.
-use Rattle.std.proofs.Common.{◌≡◌, ℕ, Bool, true, false, not, ◌&&◌, Option, Some, None, List, [], ◌∷◌, map, refl, sym, ap, ◌∙◌}
+use Rattle.std.proofs.Common.{◌≡◌, ℕ, Bool, true, false, not, ◌&&◌, ◌||◌, Option, Some, None, List, [], ◌∷◌, map, refl, sym, ap, ◌∙◌, subst}
 use Rattle.std.specs.List.{list_any}
 use Rattle.swc_tree_node.specs.declared.kind.Kind.{Kind}
 use Rattle.swc_tree_node.specs.declared.kind.Kind.TheVariants as kind
@@ -16,7 +16,7 @@ use Rattle.text_spelling.specs.Spelled.{are_bad_flags, fails, fails_there, has_a
 use Rattle.text_kept_renames_laws.proofs.Views.{Keyed, Listed, Of, View, afters, befores}
 use Rattle.text_kept_renames_laws.proofs.Lengths.{has_items, has_key, row}
 use Rattle.text_kept_spelling_laws.proofs.Calm.{both_false, neither}
-use Rattle.text_kept_pairs_laws.proofs.Seen.{Pairwise, views, views_after, views_before}
+use Rattle.text_kept_pairs_laws.proofs.Seen.{Pairwise, Seen, views, views_after, views_before}
 
 -- ---- lengths
 

@@ -1,5 +1,5 @@
 -- Where pairs are set, leaves and names stay.
-use Rattle.std.proofs.Common.{◌≡◌, true, false, ◌||◌, IsTrue, List, [], ◌∷◌, codes, nat_eq, refl, sym, ap, ◌∙◌, subst}
+use Rattle.std.proofs.Common.{◌≡◌, ℕ, Bool, true, false, not, ◌&&◌, ◌||◌, IsTrue, List, [], ◌∷◌, codes, nat_eq, refl, sym, ap, ◌∙◌, subst}
 use Rattle.std.specs.List.{list_any}
 use Rattle.std.specs.Cmp.Lexicographic.{pointwise}
 use Rattle.std.proofs.lemmas.Slice.Eq.{bytes_eq-Decides}
@@ -8,7 +8,7 @@ use Rattle.swc_tree_marks.specs.declared.ident.Ident.{Ident}
 use Rattle.swc_tree_node.specs.declared.kind.Kind.{Kind}
 use Rattle.swc_tree_node.specs.declared.kind.Kind.TheVariants as kind
 use Rattle.swc_tree_node.specs.declared.slot.Slot.{Slot}
-use Rattle.swc_tree_node.specs.declared.node.Node.{Node, Span, Identifier, Tree, out-Node}
+use Rattle.swc_tree_node.specs.declared.node.Node.{Node, Span, List as Many, Identifier, Tree, out-Node}
 use Rattle.swc_tree_node.specs.declared.node.Node.TheOpen.{Node-F}
 use Rattle.swc_tree_node.specs.declared.node.Node.TheVariants.{outs-Identifier, outs-List, outs-Tree}
 use Rattle.swc_tree_grammar.specs.Shapes.{items_in, items_of}
@@ -26,7 +26,7 @@ use Rattle.text_kept_spelling_laws.proofs.Bound.{S, named as name_of}
 use Rattle.text_kept_spelling_laws.proofs.Made.{C, list_spelled, name_calm, name_spelled, span_calm, span_spelled, tree_calm, tree_spelled}
 use Rattle.text_kept_pairs_laws.proofs.Seen.{seen_never}
 use Rattle.text_kept_pairs_laws.proofs.Rows.{Held, Lists, amiss_row, leaves_row, news, olds, valueless_row}
-use Rattle.text_kept_pairs_laws.proofs.Sets.{fields_listed, fields_seen, paired, seen}
+use Rattle.text_kept_pairs_laws.proofs.Sets.{Paired, fields_listed, fields_seen, paired, seen}
 
 -- ---- what may stand anywhere
 

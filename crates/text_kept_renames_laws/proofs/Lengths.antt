@@ -1,5 +1,5 @@
 -- What is asked of the lengths of a node rests on what is seen of its fields and of their items.
-use Rattle.std.proofs.Common.{◌≡◌, ℕ, zero, suc, ◌-◌, Bool, true, false, not, ◌&&◌, ◌||◌, List, [], ◌∷◌, length, take, refl, sym, ap, ◌∙◌}
+use Rattle.std.proofs.Common.{◌≡◌, ℕ, zero, suc, ◌-◌, Bool, true, false, not, ◌&&◌, ◌||◌, List, [], ◌∷◌, length, take, map, refl, sym, ap, ◌∙◌}
 use Rattle.std.specs.Prelude.{if◌then◌else◌, nat_eq, nat_le, slice_get}
 use Rattle.std.specs.List.{filter, list_all, list_any}
 use Rattle.swc_tree_node.specs.declared.kind.Kind.{Kind}
@@ -12,7 +12,7 @@ use Rattle.swc_tree_grammar.specs.Kinds.{has_kind}
 use Rattle.swc_tree_grammar.specs.Levels.{is_absent, word_of}
 use Rattle.swc_tree_grammar.specs.Forms.{holds}
 use Rattle.swc_tree_grammar.specs.Writable.{is_getter, is_setter}
-use Rattle.text_grammar.specs.Shaped.{are_imported, are_names, at_most_one, default_kind, ends_in_tail, import_kind, is_clause, is_constructor, is_default, is_empty, is_export, is_misshapen, is_odd_accessor, is_odd_method, is_odd_rest, is_spread, is_tail, is_template, named_kind, star_or_names, tail_at}
+use Rattle.text_grammar.specs.Shaped.{are_imported, are_names, at_most_one, default_kind, ends_in_tail, import_kind, is_clause, is_constructor, is_default, is_empty, is_export, is_misshapen, is_odd_accessor, is_odd_method, is_odd_rest, is_spread, is_tail, is_template, named_kind, star_kind, star_or_names, tail_at}
 use Rattle.text_kept_renames_laws.proofs.Views.{Keyed, Listed, Of, View, afters, befores}
 
 -- ---- lists

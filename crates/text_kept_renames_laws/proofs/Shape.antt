@@ -1,7 +1,7 @@
 -- A tree that fits its place and is shaped still is when its names are given anew.
 use Rattle.std.proofs.Common.{◌≡◌, ℕ, zero, suc, Bool, true, false, not, ◌&&◌, Option, Some, None, List, [], ◌∷◌, ◌++◌, map, refl, sym, ap, ◌∙◌, subst, cond}
 use Rattle.std.specs.Prelude.{codes, is_some, nat_eq, if◌then◌else◌}
-use Rattle.std.specs.List.{list_any}
+use Rattle.std.specs.List.{flat_map, list_all, list_any}
 use Rattle.std.specs.Cmp.Lexicographic.{pointwise}
 use Rattle.swc_tree_marks.specs.declared.span.Span.{Span as Range}
 use Rattle.swc_tree_marks.specs.declared.ident.Ident.{Ident}
@@ -11,7 +11,7 @@ use Rattle.swc_tree_node.specs.declared.kind.Word.{Word as Word'}
 use Rattle.swc_tree_node.specs.declared.kind.Word.TheVariants as word
 use Rattle.swc_tree_node.specs.declared.node.Node.{Node, Absent, Flag, Word, Text, Span, List as Many, Identifier, Tree, out-Node}
 use Rattle.swc_tree_node.specs.declared.node.Node.TheOpen.{Node-F}
-use Rattle.swc_tree_node.specs.declared.node.Node.TheVariants.{outs-Absent, outs-Identifier, outs-List, outs-Span, outs-Text, outs-Tree, outs-Word}
+use Rattle.swc_tree_node.specs.declared.node.Node.TheVariants.{outs-Absent, outs-Flag, outs-Identifier, outs-List, outs-Span, outs-Text, outs-Tree, outs-Word}
 use Rattle.swc_tree_node.specs.Table.{slots_of}
 use Rattle.swc_tree_node.specs.Fits.{FieldsFit}
 use Rattle.swc_tree_scoping.specs.Shorthands.{computed_key, key_of, shorthand_key}
@@ -23,17 +23,18 @@ use Rattle.swc_tree_grammar.proofs.Induction.{Each, by_children}
 use Rattle.swc_base_rename_substitution.specs.declared.place.Place.{Place}
 use Rattle.swc_base_rename_substitution.specs.declared.place.Place.TheVariants as place
 use Rattle.swc_base_rename_substitution.specs.Names.{Id}
-use Rattle.swc_base_rename_substitution.specs.Identifiers.{Changes, changed, default_in, identifier_at, identifier_in, identifier_to, kept_in, kept_name, with_default, with_other, written_out, written_out_if}
-use Rattle.swc_base_rename_substitution.specs.Exports.{declaration_in, declaration_of, export_list, exported_ids, items_for, made, nowhere, specifier, specifier_to, with_exports}
+use Rattle.swc_base_rename_substitution.specs.Identifiers.{Changes, changed, default_in, identifier_at, identifier_in, identifier_to, kept_in, kept_name, or_kept, with_default, with_other, written_out, written_out_if}
+use Rattle.swc_base_rename_substitution.specs.Exports.{declaration_in, declaration_of, export_list, exported_ids, exports_of, items_for, made, nowhere, specifier, specifier_to, with_exports}
 use Rattle.swc_base_rename_substitution.specs.Places.{places}
 use Rattle.swc_base_rename_substitution.specs.Classes.{class_span, kept_class, let_if, let_of_class}
 use Rattle.swc_base_rename_substitution.specs.Substituted.{if_changed, keeps_name, substituted}
 use Rattle.swc_base_rename_substitution.specs.Walk.{each_substituted, items_substituted}
 use Rattle.swc_base_rename_substitution.proofs.Equations.{substituted-Absent, substituted-Flag, substituted-Word, substituted-Text, substituted-Span, substituted_identifier, substituted_list, substituted_tree}
 use Rattle.text_grammar.specs.Shaped.{are_names, is_empty, is_export, is_misshapen, named_kind, star_or_names}
-use Rattle.text_kept_renames_laws.proofs.Free.{Free, free_leaf, free_list, free_tree, list_below, tree_below, tree_here}
+use Rattle.text_kept_renames_laws.proofs.Free.{Free, free_child, free_leaf, free_list, free_tree, list_below, tree_below, tree_here}
 use Rattle.text_kept_renames_laws.proofs.Fitting.{Fitting, are_quiet, fields_quiet, list_fitting, tree_fields, tree_fitting}
-use Rattle.text_kept_renames_laws.proofs.Lengths.{has_items, row}
+use Rattle.text_kept_renames_laws.proofs.Views.{Listed, Of, afters, befores}
+use Rattle.text_kept_renames_laws.proofs.Lengths.{has_items, has_key, row}
 use Rattle.text_kept_renames_laws.proofs.Seen.{keyed_all, listed_all, views, views_after, views_before}
 use Rattle.text_kept_renames_laws.proofs.Looks.{keeps_class}
 

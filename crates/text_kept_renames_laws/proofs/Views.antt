@@ -1,6 +1,11 @@
 -- What is seen of a node where it stands, before and after a change: what tests of lengths and of leaves look at.
-use Rattle.std.proofs.Common.{◌≡◌, List, [], ◌∷◌, map}
+use Rattle.std.proofs.Common.{◌≡◌, ℕ, Bool, Option, List, [], ◌∷◌, map}
+use Rattle.std.specs.List.{list_all}
+use Rattle.swc_tree_node.specs.declared.kind.Kind.{Kind}
+use Rattle.swc_tree_node.specs.declared.kind.Kind.TheVariants as kind
+use Rattle.swc_tree_node.specs.declared.kind.Word.{Word}
 use Rattle.swc_tree_node.specs.declared.node.Node.{Node, out-Node}
+use Rattle.swc_tree_node.specs.declared.node.Node.TheOpen.{Node-F}
 use Rattle.swc_tree_node.specs.Parts.{text_of}
 use Rattle.swc_tree_scoping.specs.Places.{plain_in}
 use Rattle.swc_tree_grammar.specs.Shapes.{items_of}

@@ -1,6 +1,6 @@
 -- What is written out is spelled, where the names are names.
 use Rattle.std.proofs.Common.{◌≡◌, ℕ, Bool, true, false, not, ◌&&◌, ◌||◌, Option, Some, None, List, [], ◌∷◌, ◌++◌, map, rules, refl, sym, ap, ◌∙◌, subst, cond}
-use Rattle.std.specs.Prelude.{codes, is_some, nat_eq}
+use Rattle.std.specs.Prelude.{codes, is_some, nat_eq, if◌then◌else◌}
 use Rattle.std.specs.List.{list_any}
 use Rattle.std.specs.Cmp.Lexicographic.{pointwise}
 use Rattle.swc_tree_marks.specs.declared.span.Span.{Span as Range}
@@ -8,6 +8,7 @@ use Rattle.swc_tree_marks.specs.declared.ident.Ident.{Ident}
 use Rattle.swc_tree_node.specs.declared.kind.Kind.{Kind}
 use Rattle.swc_tree_node.specs.declared.kind.Kind.TheVariants as kind
 use Rattle.swc_tree_node.specs.declared.kind.Word.{Word as Word'}
+use Rattle.swc_tree_node.specs.declared.kind.Word.TheVariants as word
 use Rattle.swc_tree_node.specs.declared.node.Node.{Node, Absent, Flag, Word, Text, Span, List as Many, Identifier, Tree, out-Node, the_lemmas}
 use Rattle.swc_tree_node.specs.declared.node.Node.TheOpen.{Node-F}
 use Rattle.swc_tree_node.specs.declared.node.Node.TheVariants.{outs-Absent, outs-Identifier, outs-List, outs-Span, outs-Text, outs-Tree, outs-Word}
@@ -15,15 +16,15 @@ use Rattle.swc_tree_node.specs.Parts.{text_of}
 use Rattle.swc_tree_scoping.specs.Shorthands.{computed_key, key_of, shorthand_key}
 use Rattle.swc_tree_scoping.proofs.Remarked.{tree_is}
 use Rattle.swc_tree_grammar.specs.Shapes.{items_in}
-use Rattle.swc_tree_grammar.specs.Levels.{is_absent_in}
+use Rattle.swc_tree_grammar.specs.Levels.{is_absent, is_absent_in}
 use Rattle.swc_tree_grammar.proofs.Induction.{Each}
 use Rattle.swc_base_rename_substitution.specs.Names.{Id}
-use Rattle.swc_base_rename_substitution.specs.Identifiers.{Changes, default_in, kept_in, kept_name, with_default, with_other, written_out, written_out_if}
-use Rattle.swc_base_rename_substitution.specs.Exports.{declaration_in, declaration_of, export_list, exported_ids, items_for, made, nowhere, specifier, specifier_to, with_exports}
+use Rattle.swc_base_rename_substitution.specs.Identifiers.{Changes, default_in, kept_in, kept_name, or_kept, with_default, with_other, written_out, written_out_if}
+use Rattle.swc_base_rename_substitution.specs.Exports.{declaration_in, declaration_of, export_list, exported_ids, exports_of, items_for, made, nowhere, specifier, specifier_to, with_exports}
 use Rattle.text_words.specs.Words.{is_name, is_reserved}
 use Rattle.text_words.specs.Words as words
-use Rattle.text_spelling.specs.Spelled.{fails, has_amiss, is_amiss, is_amiss_specifier, is_bad_leaf, is_bad_raw, is_misspelled, is_reserved_name, is_valueless}
-use Rattle.text_kept_renames_laws.proofs.Free.{free_leaf, free_list, free_tree, tree_below, tree_here}
+use Rattle.text_spelling.specs.Spelled.{fails, fails_there, has_amiss, is_amiss, is_amiss_export, is_amiss_specifier, is_bad_leaf, is_bad_raw, is_bad_string, is_misspelled, is_reserved_name, is_valueless}
+use Rattle.text_kept_renames_laws.proofs.Free.{Free, free_leaf, free_list, free_tree, tree_below, tree_here}
 use Rattle.text_kept_spelling_laws.specs.Laws.{GivesWords, IsWord}
 use Rattle.text_kept_spelling_laws.proofs.Calm.{all_fail, both_false, neither, none_passes}
 use Rattle.text_kept_spelling_laws.proofs.Bound.{AllWords, S}

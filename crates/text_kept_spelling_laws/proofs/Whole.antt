@@ -1,5 +1,6 @@
 -- The laws.
-use Rattle.std.proofs.Common.{sym, subst}
+use Rattle.std.proofs.Common.{◌≡◌, sym, subst}
+use Rattle.swc_tree_node.specs.declared.node.Node.{Node}
 use Rattle.swc_base_rename_substitution.specs.declared.place.Place.TheVariants as place
 use Rattle.text_spelling.specs.Spelled.{Spelled}
 use Rattle.text_kept_spelling_laws.specs.Laws.{NewNamesKeepSpelling}

@@ -1,5 +1,5 @@
 -- Where a tree loses its pairs of parentheses, lengths, leaves and names stay.
-use Rattle.std.proofs.Common.{◌≡◌, ℕ, suc, ◌<◌, Bool, true, false, not, ◌&&◌, ◌||◌, IsTrue, Some as Just, List, [], ◌∷◌, length, map, le-leb, rules, refl, sym, ap, ◌∙◌, subst, cond, arith}
+use Rattle.std.proofs.Common.{◌≡◌, ℕ, suc, ◌<◌, ◌≤◌, Bool, true, false, not, ◌&&◌, ◌||◌, IsTrue, Option, Some as Just, List, [], ◌∷◌, ◌++◌, length, map, le-leb, rules, refl, sym, ap, ◌∙◌, subst, cond, arith}
 use Rattle.std.specs.Prelude.{nat_le}
 use Rattle.std.specs.List.{filter, flat_map, list_all, list_any}
 use Rattle.std.proofs.lemmas.Bool.Decides.{nat_tests}
@@ -17,11 +17,11 @@ use Rattle.swc_tree_node.specs.declared.node.Node.TheVariants.{outs-Identifier, 
 use Rattle.swc_tree_node.specs.Table.{is_identifier, slots_of}
 use Rattle.swc_tree_node.specs.Fits.{AllFit, FieldsFit, Fits, belongs, fits, single}
 use Rattle.swc_tree_node.proofs.Fit.{fits-Absent, fits-Flag, fits-Word, fits-Text, fits-Span, fits-List, tree_closes}
-use Rattle.swc_tree_scoping.proofs.Remarked.{identifier_is, tree_is}
+use Rattle.swc_tree_scoping.proofs.Remarked.{identifier_is, list_is, tree_is}
 use Rattle.swc_tree_grammar.specs.Shapes.{items_in, items_of}
 use Rattle.swc_tree_grammar.specs.Kinds.{has_kind_in}
 use Rattle.swc_tree_grammar.specs.Writable.{constructor_key_in}
-use Rattle.swc_tree_grammar.specs.Stripped.{is_empty_in, is_member, parts, parts_in, sequence, settled, stripped, target, target_in}
+use Rattle.swc_tree_grammar.specs.Stripped.{is_empty_in, is_member, parts, parts_in, sequence, settled, strip_step, stripped, target, target_in}
 use Rattle.swc_tree_grammar.specs.Targets.{all_bare, bare_in, seen as seen_of}
 use Rattle.swc_tree_grammar.proofs.Induction.{Each, by_children}
 use Rattle.swc_tree_grammar.proofs.Kept.{stripped_fits}
@@ -31,14 +31,14 @@ use Rattle.swc_base_rename_substitution.proofs.Room.{tree_open}
 use Rattle.swc_base_fixer_laws.specs.Sets.{item}
 use Rattle.swc_base_fixer_laws.proofs.SetsRows.{items_open}
 use Rattle.text_grammar.specs.Shaped.{at_most_one, constructor_kind, is_constructor, is_misshapen, named_kind}
-use Rattle.text_spelling.specs.Spelled.{is_amiss, is_amiss_specifier, is_misspelled, is_reserved_name, is_valueless}
+use Rattle.text_spelling.specs.Spelled.{has_amiss, is_amiss, is_amiss_specifier, is_misspelled, is_reserved_name, is_valueless}
 use Rattle.text_kept_renames_laws.proofs.Free.{free_list, free_tree, list_below, list_here, tree_below, tree_here}
 use Rattle.text_kept_renames_laws.proofs.Shape.{name_free}
 use Rattle.text_kept_spelling_laws.proofs.Calm.{all_fail, neither, none_passes}
 use Rattle.text_kept_spelling_laws.proofs.Bound.{S, named}
 use Rattle.text_kept_spelling_laws.proofs.Made.{C, list_calm, list_spelled, name_spelled, tree_calm, tree_spelled}
 use Rattle.text_kept_pairs_laws.proofs.Seen.{Pairwise, Plain, is_seen, no_items, plain_name, plain_tree, seen_never, seen_plain}
-use Rattle.text_kept_pairs_laws.proofs.SetSpelled.{N}
+use Rattle.text_kept_pairs_laws.proofs.SetSpelled.{N, Ns}
 use Rattle.text_kept_stripping_laws.proofs.Kept.{AllKept, F, ItemsKept, Kept, all_calm, all_shaped, all_spelled, kept_same, list_kept, takes, tree_kept}
 use Rattle.text_kept_stripping_laws.proofs.Sequences.{Inherited, Some, each_flat, each_map, filtered, flat_some, items_have, parts_have, settled_have, settled_some}
 
