@@ -28,7 +28,6 @@ impl<const MANGLES: bool, const RESETS: bool> Numbered<MANGLES, RESETS> {
 }
 
 // The ids of a list.
-#[tactic(auto, using(crate::proofs::Listed::any_next))]
 fn set_of(alloc: Global, ids: &[Id]) -> Result<HashSet<Id>, NoMemory>
     ensures { IfOk result (HasJust (λ x. list_any (λ id. same_id id x) ids.now)) }
 {
