@@ -17,6 +17,7 @@ SOURCES = {
     'text_source': {'IsPlace': '967ffe0168ea', 'IsTextOf': 'b2ba1f051c39 c4495303a130', 'Tells': '937587000cd3'},
     'text_grammar': {'Shaped': 'd37384ac3ed7'},
     'text_spelling': {'Spelled': 'f542e98ccbfa'},
+    'text_pinned': {'IsPinned': 'ffb9c8602165', 'Worded': 'a3a249ad1c58'},
     'text_checks': {'IsWellFormed': '778d07726601', 'Lacks': 'c3c984c47bb3'},
     'text_spans': {'LeavesStand': '14e46942b007'},
     'text_comments': {'HasComments': '44814e244567', 'HasCommentsFrom': '24975e54d4aa'},
@@ -166,6 +167,15 @@ def FitsGrammar(D, t):
 
 def IsWellFormed(D, t):
     return Fits(D, t) and Shaped(D, t) and Spelled(D, t) and FitsGrammar(D, t)
+
+
+def Worded(D, t):
+    return D.text_pinned.Words.fits(t, D.text_pinned.Words.neither)
+
+
+def IsPinned(D, t):
+    straight, lax = not HasNode(D.text_pinned.Pinned.is_astray, t), HasNode(D.text_pinned.Pinned.is_lax, t)
+    return straight and Worded(D, t) and (lax or D.swc_tree_grammar.Writable.is_writable(t))
 
 
 def pieces(D, t):
