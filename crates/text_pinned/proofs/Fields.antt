@@ -3,10 +3,9 @@ use Rattle.std.proofs.Common.{◌≡◌, Bool, List, [], ◌∷◌, get_or, leng
 use Rattle.swc_tree_node.specs.declared.kind.Kind.TheVariants as kind
 use Rattle.swc_tree_node.specs.declared.node.Node.{Node}
 use Rattle.swc_tree_node.specs.declared.node.Node.TheOpen.{Node-F}
-use Rattle.swc_tree_grammar.specs.Forms.{holds}
 use Rattle.text_pinned.specs.declared.words.Words.{Words}
 use Rattle.text_pinned.specs.Pinned.{asks_nothing, is_astray, is_grouped_right}
-use Rattle.text_pinned.specs.Words.{function_rule, operators, throughout}
+use Rattle.text_pinned.specs.Words.{function_rule, of_function}
 
 pub chain_fields : (ts : List Node) (a b : Node) → length ts ≡ 3 → a ≡ get_or ts 1 a → b ≡ get_or ts 2 b → asks_nothing a b ≡ is_astray (Node-F.Tree kind.OptChainExpr ts)
 chain_fields (x ∷ y ∷ z ∷ []) a b l g h = ap (λ a. asks_nothing a b) g ∙ ap (asks_nothing y) h
@@ -24,8 +23,8 @@ operator_fields (x ∷ y ∷ z ∷ []) a b l g h = absurd (omega (arith, l))
 operator_fields (x ∷ y ∷ z ∷ v ∷ w ∷ ws) a b l g h = absurd (omega (arith, l))
 
 pub flag_fields : (q : Words) (ts : List Node) (a b : Node) → length ts ≡ 5 → a ≡ get_or ts 3 a → b ≡ get_or ts 4 b
-    → throughout (operators (holds a) (holds b)) ≡ function_rule q (Node-F.Tree kind.Function ts)
-flag_fields q (x ∷ y ∷ z ∷ v ∷ u ∷ []) a b l g h = ap (λ a. throughout (operators (holds a) (holds b))) g ∙ ap (λ b. throughout (operators (holds v) (holds b))) h
+    → of_function a b ≡ function_rule q (Node-F.Tree kind.Function ts)
+flag_fields q (x ∷ y ∷ z ∷ v ∷ u ∷ []) a b l g h = ap (λ a. of_function a b) g ∙ ap (of_function v) h
 flag_fields q [] a b l g h = absurd (omega (arith, l))
 flag_fields q (x ∷ []) a b l g h = absurd (omega (arith, l))
 flag_fields q (x ∷ y ∷ []) a b l g h = absurd (omega (arith, l))

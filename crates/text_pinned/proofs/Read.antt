@@ -1,11 +1,12 @@
 -- Whether words are what they have to be, at each form of a node, in terms of the nodes below it.
-use Rattle.std.proofs.Common.{◌≡◌, ℕ, zero, suc, ◌+◌, Bool, true, false, ◌&&◌, List, [], ◌∷◌, map, take, Option, Some, None, rules, refl, sym, ap, ◌∙◌, add-one}
+use Rattle.std.proofs.Common.{◌≡◌, ℕ, zero, suc, ◌+◌, Bool, true, false, not, ◌&&◌, ◌||◌, List, [], ◌∷◌, map, take, Some, rules, refl, sym, ap, ◌∙◌, add-one}
 use Rattle.std.specs.List.{slice_get}
 use Rattle.swc_tree_marks.specs.declared.ident.Ident.{Ident}
 use Rattle.swc_tree_node.specs.declared.kind.Kind.{Kind}
 use Rattle.swc_tree_node.specs.declared.node.Node.{Node, List as Many, Identifier, Tree, the_lemmas}
 use Rattle.swc_tree_node.specs.declared.node.Node.TheOpen.{Node-F}
 use Rattle.swc_tree_grammar.proofs.Wholes.{carried}
+use Rattle.text_pinned.specs.declared.words.Ask.{Ask}
 use Rattle.text_pinned.specs.declared.words.Rule.{Rule}
 use Rattle.text_pinned.specs.declared.words.Words.{Words}
 use Rattle.text_pinned.specs.Words.{Read, all_meet, ask_at, by_rule, each_meets, fits, fits_in, is_name, meets, read, read_step, rule_of, throughout}
@@ -37,7 +38,7 @@ wholes : (ts : List Node) → map (λ e. e.whole) (map given ts) ≡ ts
 wholes [] = refl
 wholes (t ∷ ts) = ap (λ us. t ∷ us) (wholes ts)
 
-all_given : (asks : ℕ → Option Words) (ts : List Node) → each_meets asks (map given ts) ≡ all_meet asks ts
+all_given : (asks : ℕ → Ask) (ts : List Node) → each_meets asks (map given ts) ≡ all_meet asks ts
 all_given asks [] = refl
 all_given asks (t ∷ ts) = ap (λ b. meets (asks zero) (fits t) && b) (all_given (λ i. asks (suc i)) ts)
 
@@ -68,14 +69,14 @@ module _ (t : Node) (k : Kind) (ts : List Node) (w : Words) (u : Rule) (is : t �
   none_of_tree e = by_parts ∙ ap (λ b. b && all_meet (ask_at u) ts) e
 
 -- one child more
-pub met_next : (asks : ℕ → Option Words) (ts : List Node) (i : ℕ) (c : Node) → slice_get ts i ≡ Some c → all_meet asks (take i ts) ≡ true → meets (asks i) (fits c) ≡ true → all_meet asks (take (i + 1) ts) ≡ true
+pub met_next : (asks : ℕ → Ask) (ts : List Node) (i : ℕ) (c : Node) → slice_get ts i ≡ Some c → all_meet asks (take i ts) ≡ true → meets (asks i) (fits c) ≡ true → all_meet asks (take (i + 1) ts) ≡ true
 met_next asks ts i c here before now = rw add-one (next asks ts i here before now)
   where
     both : (a b : Bool) → (a && b) ≡ true → (a ≡ true) × (b ≡ true)
     both true b h = (refl, h)
     both false b h = absurd (cc)
 
-    next : (asks : ℕ → Option Words) (ts : List Node) (i : ℕ) → slice_get ts i ≡ Some c → all_meet asks (take i ts) ≡ true → meets (asks i) (fits c) ≡ true → all_meet asks (take (suc i) ts) ≡ true
+    next : (asks : ℕ → Ask) (ts : List Node) (i : ℕ) → slice_get ts i ≡ Some c → all_meet asks (take i ts) ≡ true → meets (asks i) (fits c) ≡ true → all_meet asks (take (suc i) ts) ≡ true
     next asks [] i here before now = absurd (cc)
     next asks (t ∷ ts) zero here before now =
         let is : t ≡ c = cc in
@@ -85,7 +86,7 @@ met_next asks ts i c here before now = rw add-one (next asks ts i here before no
         ap (λ b. b && all_meet (λ j. asks (suc j)) (take (suc i) ts)) p.0 ∙ next (λ j. asks (suc j)) ts i here p.1 now
 
 -- a child that is not what is asked of it
-pub met_none : (asks : ℕ → Option Words) (ts : List Node) (i : ℕ) (c : Node) → slice_get ts i ≡ Some c → meets (asks i) (fits c) ≡ false → all_meet asks ts ≡ false
+pub met_none : (asks : ℕ → Ask) (ts : List Node) (i : ℕ) (c : Node) → slice_get ts i ≡ Some c → meets (asks i) (fits c) ≡ false → all_meet asks ts ≡ false
 met_none asks [] i c here now = absurd (cc)
 met_none asks (t ∷ ts) zero c here now =
     let is : t ≡ c = cc in
@@ -96,9 +97,17 @@ met_none asks (t ∷ ts) (suc i) c here now = ap (λ b. meets (asks zero) (fits 
     none true = refl
     none false = refl
 
--- what is asked of a child, by a look at it
-pub asked : (a : Option Words) (w : Words) (f : Words → Bool) → a ≡ Some w → meets a f ≡ f w
-asked a w f e = ap (λ a. meets a f) e
+-- what is asked of a child, as the code looks at it
+pub met_below : (a : Ask) (f : Words → Bool) → a.asks ≡ true → meets a f ≡ f a.words
+met_below a f e = ap (λ b. not b || f a.words) e
 
-pub not_asked : (a : Option Words) (f : Words → Bool) → a ≡ None → meets a f ≡ true
-not_asked a f e = ap (λ a. meets a f) e
+pub met_unasked : (a : Ask) (f : Words → Bool) → a.asks ≡ false → meets a f ≡ true
+met_unasked a f e = ap (λ b. not b || f a.words) e
+
+pub is_not : (b : Bool) → not b ≡ true → b ≡ false
+is_not true h = absurd (cc)
+is_not false h = refl
+
+pub is_so : (b : Bool) → not b ≡ false → b ≡ true
+is_so true h = refl
+is_so false h = absurd (cc)

@@ -1,5 +1,5 @@
 //! Where `yield` and `await` are operators, and where names (ECMA-262, 13.1.1 and 15.5 to 15.9).
-ghost use Rattle.std.specs.Prelude.{◌≡◌, Option, Some};
+ghost use Rattle.std.specs.Prelude.{◌≡◌};
 ghost use Rattle.swc_tree_node.specs.declared.node.Node.TheOpen.{Node-F};
 ghost use Rattle.text_pinned.specs.Words as spec;
 
@@ -14,12 +14,19 @@ pub struct Words {
     pub awaits: bool,
 }
 
-/// What is asked of a node: whether it may stand there, and which words are operators in its second field and in all others.
+/// Whether anything is asked of what stands in a field, and which words are operators there.
+#[derive(Clone, Copy)]
+pub struct Ask {
+    pub asks: bool,
+    pub words: Words,
+}
+
+/// What is asked of a node: whether it may stand there, and what of its second field and of all others.
 #[derive(Clone, Copy)]
 pub struct Rule {
     pub holds: bool,
-    pub second: Option<Words>,
-    pub others: Option<Words>,
+    pub second: Ask,
+    pub others: Ask,
 }
 
 fn operators(yields: bool, awaits: bool) -> Words
@@ -35,7 +42,28 @@ fn is_name(text: &str, words: Words) -> bool
     !(words.yields && text == "yield") && !(words.awaits && text == "await")
 }
 
-fn ruled(holds: bool, second: Option<Words>, others: Option<Words>) -> Rule
+fn neither() -> Words
+    ensures { result ≡ spec.neither }
+{
+    operators(false, false)
+}
+
+fn asked(words: Words) -> Ask
+    ensures { result ≡ spec.asked words }
+{
+    Ask { asks: true, words }
+}
+
+fn nothing() -> Ask
+    ensures { result ≡ spec.nothing }
+{
+    Ask {
+        asks: false,
+        words: neither(),
+    }
+}
+
+fn ruled(holds: bool, second: Ask, others: Ask) -> Rule
     ensures { result ≡ spec.rule holds second others }
 {
     Rule {
@@ -49,55 +77,86 @@ fn ruled(holds: bool, second: Option<Words>, others: Option<Words>) -> Rule
 fn throughout(words: Words) -> Rule
     ensures { result ≡ spec.throughout words }
 {
-    ruled(true, Some(words), Some(words))
+    ruled(true, asked(words), asked(words))
 }
 
 // A key, which belongs to what stands round it, and what stands behind.
 fn behind_key(words: Words, inside: Words) -> Rule
     ensures { result ≡ spec.behind_key words inside }
 {
-    ruled(true, Some(words), Some(inside))
+    ruled(true, asked(words), asked(inside))
+}
+
+// Of a function, a generator or an async one.
+fn of_function(is_generator: &Node, is_async: &Node) -> Rule
+    ensures { result ≡ spec.of_function is_generator.now is_async.now }
+{
+    throughout(operators(is_set(is_generator), is_set(is_async)))
+}
+
+fn of_arrow(words: Words, is_async: &Node) -> Rule
+    ensures { result ≡ spec.of_arrow words is_async.now }
+{
+    behind_key(words, operators(false, is_set(is_async)))
 }
 
 // Of functions, and of what has the body of one.
 fn function_rule(kind: Kind, fields: &[Node], words: Words) -> Rule
     ensures { result ≡ spec.function_rule words (Node-F.Tree kind fields.now) }
 {
-    let neither = operators(false, false);
     match kind {
         Kind::Function if fields.len() == 5 => {
-            let yields = is_set(&fields[function::IS_GENERATOR]);
-            let awaits = is_set(&fields[function::IS_ASYNC]);
-            throughout(operators(yields, awaits))
+            of_function(
+                &fields[function::IS_GENERATOR],
+                &fields[function::IS_ASYNC],
+            )
         }
-        Kind::ArrowExpr if fields.len() == 4 => {
-            let awaits = is_set(&fields[arrow_expr::IS_ASYNC]);
-            behind_key(words, operators(false, awaits))
-        }
+        Kind::ArrowExpr if fields.len() == 4 => of_arrow(words, &fields[arrow_expr::IS_ASYNC]),
         Kind::Constructor | Kind::SetterProp | Kind::ClassProp | Kind::PrivateProp
             if fields.len() == 4 =>
-            behind_key(words, neither),
-        Kind::GetterProp if fields.len() == 3 => behind_key(words, neither),
-        Kind::StaticBlock if fields.len() == 2 => throughout(neither),
+            behind_key(words, neither()),
+        Kind::GetterProp if fields.len() == 3 => behind_key(words, neither()),
+        Kind::StaticBlock if fields.len() == 2 => throughout(neither()),
         _ => throughout(words),
     }
+}
+
+// Of an operator, which may stand there or not.
+fn operator(holds: bool, words: Words) -> Rule
+    ensures { result ≡ spec.operator holds words }
+{
+    ruled(holds, asked(words), asked(words))
+}
+
+// Of a function with its name, of which nothing is asked here.
+fn behind_name(words: Words) -> Rule
+    ensures { result ≡ spec.behind_name words }
+{
+    ruled(true, asked(words), nothing())
+}
+
+// Of what names what is imported or exported.
+fn unasked() -> Rule
+    ensures { result ≡ spec.unasked }
+{
+    ruled(true, nothing(), nothing())
 }
 
 fn rule_of(kind: Kind, fields: &[Node], words: Words) -> Rule
     ensures { result ≡ spec.rule_of words (Node-F.Tree kind fields.now) }
 {
     match kind {
-        Kind::YieldExpr if fields.len() == 3 => ruled(words.yields, Some(words), Some(words)),
-        Kind::AwaitExpr if fields.len() == 2 => ruled(words.awaits, Some(words), Some(words)),
-        Kind::FnDecl | Kind::FnExpr if fields.len() == 2 => ruled(true, Some(words), None),
+        Kind::YieldExpr if fields.len() == 3 => operator(words.yields, words),
+        Kind::AwaitExpr if fields.len() == 2 => operator(words.awaits, words),
+        Kind::FnDecl | Kind::FnExpr if fields.len() == 2 => behind_name(words),
         Kind::Module if fields.len() == 3 => throughout(operators(false, true)),
-        Kind::ImportDecl | Kind::NamedExport => ruled(true, None, None),
+        Kind::ImportDecl | Kind::NamedExport => unasked(),
         kind => function_rule(kind, fields, words),
     }
 }
 
 // What is asked of the field of a number.
-fn ask_at(rule: Rule, index: usize) -> Option<Words>
+fn ask_at(rule: Rule, index: usize) -> Ask
     ensures { result ≡ spec.ask_at rule index }
 {
     if index == 1 {
@@ -133,10 +192,10 @@ fn all_fit(rule: Rule, nodes: &[Node]) -> bool
     ensures { result ≡ spec.all_meet (spec.ask_at rule) nodes.now }
 {
     for i in 0..nodes.len() {
-        if let Some(words) = ask_at(rule, i) {
-            if !fits(&nodes[i], words) {
-                return false;
-            }
+        let node = &nodes[i];
+        let ask = ask_at(rule, i);
+        if ask.asks && !fits(node, ask.words) {
+            return false;
         }
     }
     true
@@ -146,5 +205,5 @@ fn all_fit(rule: Rule, nodes: &[Node]) -> bool
 pub fn is_worded(tree: &Node) -> bool
     ensures { result ≡ spec.fits tree.now spec.neither }
 {
-    fits(tree, operators(false, false))
+    fits(tree, neither())
 }

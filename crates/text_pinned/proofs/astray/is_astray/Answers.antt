@@ -1,0 +1,17 @@
+use Rattle.std.proofs.Common.{sym, ap, ◌∙◌}
+use Rattle.swc_tree_node.specs.declared.node.Node.TheOpen.{Node-F}
+use Rattle.text_pinned.specs.Pinned.{is_astray}
+use Rattle.text_pinned.proofs.Fields.{chain_fields, operator_fields}
+use Rattle.text_pinned.proofs.astray.is_astray.Goals as goal
+
+pub returns-in-OptChainExpr : goal.returns-in-OptChainExpr
+returns-in-OptChainExpr c =
+    c.asks_nothing.ensures
+    ∙ chain_fields c.args.fields.now c.index-fields-1-in-OptChainExpr.result c.index-fields-2-in-OptChainExpr.result c.if-fields-eq3.true c.index-fields-1-in-OptChainExpr.is c.index-fields-2-in-OptChainExpr.is
+    ∙ ap (λ k. is_astray (Node-F.Tree k c.args.fields.now)) (sym c.in-OptChainExpr.is)
+
+pub returns-in-BinExpr : goal.returns-in-BinExpr
+returns-in-BinExpr c =
+    c.is_grouped_right.ensures
+    ∙ operator_fields c.args.fields.now c.index-fields-1-in-BinExpr.result c.index-fields-3.result c.if-fields-eq4.true c.index-fields-1-in-BinExpr.is c.index-fields-3.is
+    ∙ ap (λ k. is_astray (Node-F.Tree k c.args.fields.now)) (sym c.in-BinExpr.is)
