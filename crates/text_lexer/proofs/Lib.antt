@@ -1,3 +1,4 @@
 pub mod Walks
 pub mod Bytes
 pub mod Starts
+pub mod Ascii

@@ -7,3 +7,4 @@ pub mod Literals
 pub mod Blanks
 pub mod Skips
 pub mod Lexical
+pub mod Plain

@@ -3,7 +3,10 @@ ghost use Rattle.std.specs.Prelude.{◌≡◌, ◌≤◌, ◌<◌, length, optio
 ghost use Rattle.text_lexer.specs.Blanks as spec;
 ghost use Rattle.text_lexer.specs.Skips.{skip_view, IsShorterWhere};
 
-use text_characters::{after_line_end, begins_line_end, behind, byte_at, is_space, point};
+use crate::plain::{has_ended, is_plain_blank, is_plain_stop, past_plain};
+use text_characters::{
+    after_line_end, begins_line_end, behind, byte_at, first, is_space, past_byte, point,
+};
 
 /// Which comments a text may have.
 #[derive(Clone, Copy)]
@@ -76,11 +79,9 @@ fn skip_block(ended: bool, text: &[u8]) -> Skip<'_>
     }
 }
 
-/// What is skipped at a place: the white space, the line terminator or the comment that a text begins with, of which it is told
-/// whether a line has ended in it or before (`ended`).
-#[inline]
+/// The same of a place, whatever byte stands there.
 #[tactic(auto, unfolding(crate::specs::Blanks::skip_piece))]
-pub fn skip_piece(comments: Comments, ended: bool, text: &[u8]) -> Skip<'_>
+fn other_piece(comments: Comments, ended: bool, text: &[u8]) -> Skip<'_>
     ensures value { skip_view result ≡ spec.skip_piece comments ended text.now }
     ensures within { IsShorterWhere (λ n. n ≤ length text.now) (skip_view result) }
 {
@@ -97,10 +98,26 @@ pub fn skip_piece(comments: Comments, ended: bool, text: &[u8]) -> Skip<'_>
     }
 }
 
-/// What is left behind white space, line terminators and comments, and whether a line has ended among them, or begun with
-/// the text (`fresh`). `None` where a comment is not closed.
+/// What is skipped at a place: the white space, the line terminator or the comment that a text begins with, of which it is told
+/// whether a line has ended in it or before (`ended`).
+#[inline]
+pub fn skip_piece(comments: Comments, ended: bool, text: &[u8]) -> Skip<'_>
+    ensures value { skip_view result ≡ spec.skip_piece comments ended text.now }
+    ensures within { IsShorterWhere (λ n. n ≤ length text.now) (skip_view result) }
+{
+    let byte = first(text);
+    if is_plain_stop(byte) {
+        Skip::Stop
+    } else if is_plain_blank(byte) {
+        Skip::Past(has_ended(ended, byte), past_byte(text))
+    } else {
+        other_piece(comments, ended, text)
+    }
+}
+
+/// The same where anything may stand at the front.
 #[tactic(auto, using(crate::proofs::Walks::blank_from_past, std::proofs::lemmas::Grind::common_steps))]
-pub fn skip_blank(comments: Comments, fresh: bool, text: &[u8]) -> Option<(bool, &[u8])>
+fn other_blank(comments: Comments, fresh: bool, text: &[u8]) -> Option<(bool, &[u8])>
     ensures value { option_map (λ p. (p.0, p.1.now)) result ≡ spec.blank comments fresh text.now }
     ensures within { IfSome result (λ p. length p.1.now ≤ length text.now) }
 {
@@ -117,4 +134,19 @@ pub fn skip_blank(comments: Comments, fresh: bool, text: &[u8]) -> Option<(bool,
         }
     }
     Some((ended, rest))
+}
+
+/// What is left behind white space, line terminators and comments, and whether a line has ended among them, or begun with
+/// the text (`fresh`). `None` where a comment is not closed.
+#[tactic(auto, using(crate::proofs::Ascii::blank_stop, std::proofs::lemmas::Grind::common_steps))]
+pub fn skip_blank(comments: Comments, fresh: bool, text: &[u8]) -> Option<(bool, &[u8])>
+    ensures value { option_map (λ p. (p.0, p.1.now)) result ≡ spec.blank comments fresh text.now }
+    ensures within { IfSome result (λ p. length p.1.now ≤ length text.now) }
+{
+    let (ended, rest) = past_plain(comments, fresh, text);
+    if is_plain_stop(first(rest)) {
+        Some((ended, rest))
+    } else {
+        other_blank(comments, ended, rest)
+    }
 }

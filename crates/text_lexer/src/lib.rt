@@ -6,6 +6,7 @@ mod literal;
 mod mark;
 mod name;
 mod number;
+mod plain;
 mod sign;
 mod token;
 

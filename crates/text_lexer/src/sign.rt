@@ -9,6 +9,7 @@ use crate::literal::{regex_at, string_at, template_at};
 use crate::mark::{Mark, marks_from, spelling};
 use crate::name::{after_name, named};
 use crate::number::{begins_number, number_at};
+use crate::plain::{plain_mark, plain_name};
 use crate::token::{Fault, Goal, Token};
 use text_characters::{first, past_byte};
 
@@ -23,7 +24,7 @@ fn has_regex(goal: Goal) -> bool
 }
 
 #[inline]
-fn has_template_tail(goal: Goal) -> bool
+pub(crate) fn has_template_tail(goal: Goal) -> bool
     ensures { result ≡ spec.has_template_tail goal }
 {
     match goal {
@@ -109,10 +110,9 @@ fn sign_at(goal: Goal, text: &[u8]) -> Result<(Token<'_>, &[u8]), Fault>
     }
 }
 
-/// The token at the front of a text by the lexical goal of its place, and the text behind it (ECMA-262, 12). Before it stand
-/// no white space and no comment.
+/// The same of any text.
 #[tactic(auto, unfolding(crate::specs::Lexical::token_at))]
-pub fn token_at(goal: Goal, text: &[u8]) -> Result<(Token<'_>, &[u8]), Fault>
+fn other_token(goal: Goal, text: &[u8]) -> Result<(Token<'_>, &[u8]), Fault>
     ensures value { map_ok (λ p. (token_view p.0, p.1.now)) result ≡ spec.token_at goal text.now }
     ensures shorter { 0 < length text.now → IfOk result (λ p. length p.1.now < length text.now) }
 {
@@ -124,5 +124,21 @@ pub fn token_at(goal: Goal, text: &[u8]) -> Result<(Token<'_>, &[u8]), Fault>
         number_at(text)
     } else {
         sign_at(goal, text)
+    }
+}
+
+/// The token at the front of a text by the lexical goal of its place, and the text behind it (ECMA-262, 12). Before it stand
+/// no white space and no comment.
+pub fn token_at(goal: Goal, text: &[u8]) -> Result<(Token<'_>, &[u8]), Fault>
+    ensures value { map_ok (λ p. (token_view p.0, p.1.now)) result ≡ spec.token_at goal text.now }
+    ensures shorter { 0 < length text.now → IfOk result (λ p. length p.1.now < length text.now) }
+{
+    let len = plain_name(goal, text);
+    if 0 < len {
+        return Ok((Token::Name(&text[..len]), &text[len..]));
+    }
+    match plain_mark(goal, text) {
+        Some(mark) => Ok((Token::Mark(mark), past_byte(text))),
+        None => other_token(goal, text),
     }
 }

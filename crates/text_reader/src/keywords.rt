@@ -62,106 +62,130 @@ pub enum Keyword {
 
 type Entry = (&'static str, Keyword);
 
-const OF_TWO: &[Entry] = &[
-    ("if", Keyword::If),
-    ("in", Keyword::In),
-    ("do", Keyword::Do),
-    ("of", Keyword::Of),
+const FROM_A: &[Entry] = &[
     ("as", Keyword::As),
-];
-
-const OF_THREE: &[Entry] = &[
-    ("var", Keyword::Var),
-    ("let", Keyword::Let),
-    ("new", Keyword::New),
-    ("for", Keyword::For),
-    ("get", Keyword::Get),
-    ("set", Keyword::Set),
-    ("try", Keyword::Try),
-];
-
-const OF_FOUR: &[Entry] = &[
-    ("this", Keyword::This),
-    ("null", Keyword::Null),
-    ("true", Keyword::True),
-    ("else", Keyword::Else),
-    ("case", Keyword::Case),
-    ("void", Keyword::Void),
-    ("from", Keyword::From),
-    ("with", Keyword::With),
-    ("meta", Keyword::Meta),
-    ("enum", Keyword::Enum),
-];
-
-const OF_FIVE: &[Entry] = &[
-    ("const", Keyword::Const),
-    ("false", Keyword::False),
     ("async", Keyword::Async),
     ("await", Keyword::Await),
-    ("break", Keyword::Break),
-    ("throw", Keyword::Throw),
-    ("while", Keyword::While),
+];
+
+const FROM_B: &[Entry] = &[("break", Keyword::Break)];
+
+const FROM_C: &[Entry] = &[
+    ("case", Keyword::Case),
+    ("const", Keyword::Const),
     ("class", Keyword::Class),
     ("catch", Keyword::Catch),
-    ("super", Keyword::Super),
-    ("yield", Keyword::Yield),
-    ("using", Keyword::Using),
-];
-
-const OF_SIX: &[Entry] = &[
-    ("return", Keyword::Return),
-    ("typeof", Keyword::TypeOf),
-    ("static", Keyword::Static),
-    ("import", Keyword::Import),
-    ("export", Keyword::Export),
-    ("delete", Keyword::Delete),
-    ("switch", Keyword::Switch),
-    ("target", Keyword::Target),
-    ("public", Keyword::Public),
-];
-
-const OF_SEVEN: &[Entry] = &[
-    ("default", Keyword::Default),
-    ("extends", Keyword::Extends),
-    ("finally", Keyword::Finally),
-    ("package", Keyword::Package),
-    ("private", Keyword::Private),
-];
-
-const OF_EIGHT: &[Entry] = &[
-    ("function", Keyword::Function),
     ("continue", Keyword::Continue),
+];
+
+const FROM_D: &[Entry] = &[
+    ("do", Keyword::Do),
+    ("delete", Keyword::Delete),
+    ("default", Keyword::Default),
     ("debugger", Keyword::Debugger),
 ];
 
-const OF_NINE: &[Entry] = &[
-    ("interface", Keyword::Interface),
-    ("protected", Keyword::Protected),
+const FROM_E: &[Entry] = &[
+    ("else", Keyword::Else),
+    ("enum", Keyword::Enum),
+    ("export", Keyword::Export),
+    ("extends", Keyword::Extends),
 ];
 
-const OF_TEN: &[Entry] = &[
+const FROM_F: &[Entry] = &[
+    ("for", Keyword::For),
+    ("from", Keyword::From),
+    ("false", Keyword::False),
+    ("finally", Keyword::Finally),
+    ("function", Keyword::Function),
+];
+
+const FROM_G: &[Entry] = &[("get", Keyword::Get)];
+
+const FROM_I: &[Entry] = &[
+    ("if", Keyword::If),
+    ("in", Keyword::In),
+    ("import", Keyword::Import),
+    ("interface", Keyword::Interface),
     ("instanceof", Keyword::InstanceOf),
     ("implements", Keyword::Implements),
 ];
 
-fn of_length(len: usize) -> &'static [Entry] {
-    match len {
-        2 => OF_TWO,
-        3 => OF_THREE,
-        4 => OF_FOUR,
-        5 => OF_FIVE,
-        6 => OF_SIX,
-        7 => OF_SEVEN,
-        8 => OF_EIGHT,
-        9 => OF_NINE,
-        10 => OF_TEN,
+const FROM_L: &[Entry] = &[("let", Keyword::Let)];
+
+const FROM_M: &[Entry] = &[("meta", Keyword::Meta)];
+
+const FROM_N: &[Entry] = &[("new", Keyword::New), ("null", Keyword::Null)];
+
+const FROM_O: &[Entry] = &[("of", Keyword::Of)];
+
+const FROM_P: &[Entry] = &[
+    ("public", Keyword::Public),
+    ("package", Keyword::Package),
+    ("private", Keyword::Private),
+    ("protected", Keyword::Protected),
+];
+
+const FROM_R: &[Entry] = &[("return", Keyword::Return)];
+
+const FROM_S: &[Entry] = &[
+    ("set", Keyword::Set),
+    ("super", Keyword::Super),
+    ("static", Keyword::Static),
+    ("switch", Keyword::Switch),
+];
+
+const FROM_T: &[Entry] = &[
+    ("try", Keyword::Try),
+    ("this", Keyword::This),
+    ("true", Keyword::True),
+    ("throw", Keyword::Throw),
+    ("typeof", Keyword::TypeOf),
+    ("target", Keyword::Target),
+];
+
+const FROM_U: &[Entry] = &[("using", Keyword::Using)];
+
+const FROM_V: &[Entry] = &[("var", Keyword::Var), ("void", Keyword::Void)];
+
+const FROM_W: &[Entry] = &[("with", Keyword::With), ("while", Keyword::While)];
+
+const FROM_Y: &[Entry] = &[("yield", Keyword::Yield)];
+
+/// The words that begin with a letter.
+fn words_from(letter: u8) -> &'static [Entry] {
+    match letter {
+        b'a' => FROM_A,
+        b'b' => FROM_B,
+        b'c' => FROM_C,
+        b'd' => FROM_D,
+        b'e' => FROM_E,
+        b'f' => FROM_F,
+        b'g' => FROM_G,
+        b'i' => FROM_I,
+        b'l' => FROM_L,
+        b'm' => FROM_M,
+        b'n' => FROM_N,
+        b'o' => FROM_O,
+        b'p' => FROM_P,
+        b'r' => FROM_R,
+        b's' => FROM_S,
+        b't' => FROM_T,
+        b'u' => FROM_U,
+        b'v' => FROM_V,
+        b'w' => FROM_W,
+        b'y' => FROM_Y,
         _ => &[],
     }
 }
 
 /// The word that a name is, if the grammar knows it.
 pub fn keyword_of(name: &[u8]) -> Option<Keyword> {
-    for (word, keyword) in of_length(name.len()) {
+    let letter = match name {
+        [first, ..] => *first,
+        [] => return None,
+    };
+    for (word, keyword) in words_from(letter) {
         if name == word.as_bytes() {
             return Some(*keyword);
         }
@@ -171,8 +195,8 @@ pub fn keyword_of(name: &[u8]) -> Option<Keyword> {
 
 /// How a word is written.
 pub fn spelling_of(keyword: Keyword) -> &'static str {
-    for len in 2..11 {
-        for (word, known) in of_length(len) {
+    for letter in b'a'..=b'z' {
+        for (word, known) in words_from(letter) {
             if *known == keyword {
                 return word;
             }

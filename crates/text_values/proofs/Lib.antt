@@ -1,3 +1,4 @@
 pub mod Units
 pub mod Values
 pub mod RawBytes
+pub mod Plain

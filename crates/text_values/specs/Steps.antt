@@ -1,6 +1,6 @@
 -- What the first unit of a literal adds to a value.
-use Rattle.std.specs.Prelude.{ℕ, nat_eq, if◌then◌else◌, List, length, drop, Option, Some, None}
-use Rattle.std.specs.List.{starts_with}
+use Rattle.std.specs.Prelude.{ℕ, Bool, not, ◌&&◌, ◌==◌, nat_eq, if◌then◌else◌, List, length, drop, Option, Some, None}
+use Rattle.std.specs.List.{list_any, starts_with}
 use Rattle.text_strings.specs.declared.escape.Reading.{Reading}
 use Rattle.text_strings.specs.declared.escape.Unit.{Unit}
 use Rattle.text_strings.specs.Escapes.{next_unit}
@@ -26,3 +26,7 @@ bytes_taken value (Some (bytes, (half, rest))) =
 -- the same, with those bytes taken off a value that begins with them
 abbrev pub past_unit : Reading → ℕ → List ℕ → List ℕ → Option (ℕ × (List ℕ × List ℕ))
 past_unit reading half text value = bytes_taken value (next_bytes reading half text)
+
+-- no byte is read as another: neither a backslash nor a carriage return is among them
+abbrev pub is_plain : List ℕ → Bool
+is_plain text = not (list_any (λ c. c == 92) text) && not (list_any (λ c. c == 13) text)

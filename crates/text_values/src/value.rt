@@ -131,8 +131,15 @@ fn is_done(half: u32, left: &[u8]) -> bool
     half == 0 && left.is_empty()
 }
 
-/// Whether a literal's text without its quotes stands for these bytes of UTF-8.
-pub fn cooks_to(reading: Reading, text: &[u8], value: &[u8]) -> bool
+/// Whether a literal's text stands for itself: no escape stands in it, and no carriage return, which may be read as a line feed.
+fn is_plain(text: &[u8]) -> bool
+    ensures { result ≡ steps.is_plain text.now }
+{
+    !text.contains(&b'\\') && !text.contains(&b'\r')
+}
+
+/// Whether a literal's text stands for these bytes, a unit at a time.
+fn reads_as(reading: Reading, text: &[u8], value: &[u8]) -> bool
     ensures { result ≡ spec.is_value (spec.cooked reading text.now) value.now }
 {
     let mut half: u32 = 0;
@@ -152,6 +159,18 @@ pub fn cooks_to(reading: Reading, text: &[u8], value: &[u8]) -> bool
         }
     }
     is_done(half, left)
+}
+
+/// Whether a literal's text without its quotes stands for these bytes of UTF-8.
+#[tactic(auto, using(crate::proofs::Plain::plain_value, std::proofs::lemmas::Grind::common_steps))]
+pub fn cooks_to(reading: Reading, text: &[u8], value: &[u8]) -> bool
+    ensures { result ≡ spec.is_value (spec.cooked reading text.now) value.now }
+{
+    if is_plain(text) {
+        text == value
+    } else {
+        reads_as(reading, text, value)
+    }
 }
 
 /// Why a value is not made.

@@ -1,6 +1,6 @@
 use Rattle.std.proofs.Common.{◌≡◌, ◌-◌, ◌≤◌, length}
 use Rattle.text_lexer.specs.Blanks.{blank_from}
-use Rattle.text_lexer.proofs.blank.skip_blank.Given as goal
+use Rattle.text_lexer.proofs.blank.other_blank.Given as goal
 
 abbrev pub invariant-pieces : goal.invariant-pieces
 invariant-pieces l = record {

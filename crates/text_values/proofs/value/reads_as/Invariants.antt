@@ -1,7 +1,7 @@
 use Rattle.std.proofs.Common.{◌≡◌, ◌-◌, length}
 use Rattle.text_values.specs.Values.{units_in}
 use Rattle.text_values.proofs.Values.{matches}
-use Rattle.text_values.proofs.value.cooks_to.Given as goal
+use Rattle.text_values.proofs.value.reads_as.Given as goal
 
 abbrev pub invariant-units : goal.invariant-units
 invariant-units l =

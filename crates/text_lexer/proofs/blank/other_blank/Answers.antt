@@ -2,7 +2,7 @@ use Rattle.std.proofs.Common.{◌≡◌, ◌∙◌, ◌-◌, ◌+◌, suc, lengt
 use Rattle.std.proofs.lemmas.Grind.{common_steps}
 use Rattle.text_lexer.specs.Blanks.{skip_piece, stop, unclosed}
 use Rattle.text_lexer.proofs.Walks.{blank_from_stop, blank_from_unclosed, blank_from_end}
-use Rattle.text_lexer.proofs.blank.skip_blank.Goals as goal
+use Rattle.text_lexer.proofs.blank.other_blank.Goals as goal
 
 pub returns-in-Stop-clause-value : goal.returns-in-Stop-clause-value
 returns-in-Stop-clause-value c =

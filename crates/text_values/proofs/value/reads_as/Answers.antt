@@ -3,7 +3,7 @@ use Rattle.std.proofs.lemmas.Grind.{common_steps}
 use Rattle.text_values.specs.Values.{units_in}
 use Rattle.text_values.specs.Steps.{past_unit}
 use Rattle.text_values.proofs.Values.{matches, value_matches, matches_empty, matches_end, matches_more, matches_stop}
-use Rattle.text_values.proofs.value.cooks_to.Goals as goal
+use Rattle.text_values.proofs.value.reads_as.Goals as goal
 
 pub units-preserved : goal.units-preserved
 units-preserved c =
