@@ -7,7 +7,7 @@ use Rattle.text_pinned.proofs.astray.is_astray.Goals as goal
 pub returns-in-OptChainExpr : goal.returns-in-OptChainExpr
 returns-in-OptChainExpr c =
     c.asks_nothing.ensures
-    ∙ chain_fields c.args.fields.now c.index-fields-1-in-OptChainExpr.result c.index-fields-2-in-OptChainExpr.result c.if-fields-eq3.true c.index-fields-1-in-OptChainExpr.is c.index-fields-2-in-OptChainExpr.is
+    ∙ chain_fields c.args.fields.now c.index-fields-1.result c.index-fields-2.result c.if-fields-eq3.true c.index-fields-1.is c.index-fields-2.is
     ∙ ap (λ k. is_astray (Node-F.Tree k c.args.fields.now)) (sym c.in-OptChainExpr.is)
 
 pub returns-in-BinExpr : goal.returns-in-BinExpr

@@ -25,7 +25,7 @@ all_fit-loop-i-preserved t c =
 
 pub fits-returns-in-List : goal.fits-returns-in-List
 fits-returns-in-List t c =
-    c.all_fit-in-List.ensures
+    c.all_fit.ensures
     ∙ sym (of_list c.args.node.now c.as_slice.result.now c.args.words c.throughout-rule.result (c.in-List.is ∙ ap (λ ts. Many ts) (sym c.as_slice.ensures)) c.throughout-rule.ensures)
 
 pub fits-returns-then-rule : goal.fits-returns-then-rule
