@@ -7,8 +7,8 @@ ghost use Rattle.text_pinned.specs.Pinned as spec;
 
 use crate::leaves::items;
 use swc_tree_node::fields::{
-    array_pat, arrow_expr, assign_pat, catch_clause, key_value_pat_prop, param, rest_pat, setter_prop,
-    var_declarator,
+    array_pat, arrow_expr, assign_pat, catch_clause, key_value_pat_prop, param, rest_pat,
+    setter_prop, var_declarator,
 };
 use swc_tree_node::{Kind, Node};
 

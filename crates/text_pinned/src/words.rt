@@ -106,15 +106,11 @@ fn function_rule(kind: Kind, fields: &[Node], words: Words) -> Rule
 {
     match kind {
         Kind::Function if fields.len() == 5 => {
-            of_function(
-                &fields[function::IS_GENERATOR],
-                &fields[function::IS_ASYNC],
-            )
+            of_function(&fields[function::IS_GENERATOR], &fields[function::IS_ASYNC])
         }
         Kind::ArrowExpr if fields.len() == 4 => of_arrow(words, &fields[arrow_expr::IS_ASYNC]),
         Kind::Constructor | Kind::SetterProp | Kind::ClassProp | Kind::PrivateProp
-            if fields.len() == 4 =>
-            behind_key(words, neither()),
+            if fields.len() == 4 => behind_key(words, neither()),
         Kind::GetterProp if fields.len() == 3 => behind_key(words, neither()),
         Kind::StaticBlock if fields.len() == 2 => throughout(neither()),
         _ => throughout(words),
@@ -159,11 +155,7 @@ fn rule_of(kind: Kind, fields: &[Node], words: Words) -> Rule
 fn ask_at(rule: Rule, index: usize) -> Ask
     ensures { result ≡ spec.ask_at rule index }
 {
-    if index == 1 {
-        rule.second
-    } else {
-        rule.others
-    }
+    if index == 1 { rule.second } else { rule.others }
 }
 
 /// Whether each `yield` and `await` in a tree is what it has to be, where some of them are operators.
