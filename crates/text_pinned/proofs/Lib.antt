@@ -1,3 +1,3 @@
 mod Fields
-mod Pinned
 mod Read
+mod Steps

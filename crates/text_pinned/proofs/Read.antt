@@ -103,11 +103,3 @@ met_below a f e = ap (λ b. not b || f a.words) e
 
 pub met_unasked : (a : Ask) (f : Words → Bool) → a.asks ≡ false → meets a f ≡ true
 met_unasked a f e = ap (λ b. not b || f a.words) e
-
-pub is_not : (b : Bool) → not b ≡ true → b ≡ false
-is_not true h = absurd (cc)
-is_not false h = refl
-
-pub is_so : (b : Bool) → not b ≡ false → b ≡ true
-is_so true h = refl
-is_so false h = absurd (cc)

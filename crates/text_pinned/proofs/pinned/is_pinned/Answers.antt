@@ -1,4 +1,4 @@
-use Rattle.text_pinned.proofs.Pinned.{bent, lax_or_not, unworded, written}
+use Rattle.text_pinned.proofs.Steps.{bent, lax_or_not, unworded, written}
 use Rattle.text_pinned.proofs.pinned.is_pinned.Goals as goal
 
 pub returns-then-has_astray : goal.returns-then-has_astray
