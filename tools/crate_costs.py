@@ -1,11 +1,14 @@
 #!/usr/bin/env python3
-"""crate_costs.py [--jobs N] [CRATE..]: what each crate costs the gate, as a table in Markdown, the dearest first.
+"""crate_costs.py [--jobs N] [--apart] [CRATE..]: what each crate costs the gate, as a table in Markdown, the dearest first.
 crate_costs.py --log LOG: what each check of a gate's log loaded, and from which libraries.
 
 It proves each crate of crates.txt, or those named and the ones that they use, by `rt ci NAME`, those below first and N at a time (4), and
 takes the processor time of each such run as a whole: the crate's proofs and its must-fail edits, and some seconds for a look at
 what is kept of the crates below. A crate that an earlier run on this machine has passed costs no more than that look, so the table
-tells what crates cost from nothing on a machine where nothing is kept, or after a change below all of them. What passed is kept for the gate.
+tells what crates cost from nothing on a machine where nothing is kept, or after a change below all of them. What passed is kept for the gate:
+on a new machine it may stand in the place of a first `.ci/run`, whose log tells no seconds.
+
+With --apart each crate is proved in a copy without edits first, and then as it is, which tries its edits alone: the table tells the two apart.
 
 The programs that no run keeps are left out; `time .ci/run` tells what a run costs in which nothing changed.
 
@@ -16,8 +19,10 @@ import collections
 import glob
 import os
 import re
+import shutil
 import subprocess
 import sys
+import tempfile
 
 ROOT = os.path.dirname(os.path.dirname(os.path.abspath(__file__)))
 NEVER_KEPT = {'gate_replay', 'gate_tables', 'gate_trees', 'bench_passes'}
@@ -58,22 +63,39 @@ def chains(uses):
     return {crate: height(crate) for crate in uses}
 
 
-def prove_all(uses, wanted, jobs):
-    """yields each crate with the processor seconds of its run, and whether it passed"""
+def without_edits(place):
+    """a copy of the repository's crates in a folder, without their edits and what rt made"""
+    shutil.copytree(os.path.join(ROOT, 'crates'), os.path.join(place, 'crates'), ignore=shutil.ignore_patterns('must-fail', 'out'))
+    for name in ('crates.txt', 'HANDLES'):
+        shutil.copy(os.path.join(ROOT, name), place)
+    return place
+
+
+def prove_all(uses, wanted, jobs, places):
+    """yields each crate with the processor seconds of its run in each place, one after the other, and whether all passed"""
     heights, left, passed, running = chains(uses), set(wanted), set(), {}
+
+    def start(crate, spent):
+        run = subprocess.Popen(['rt', 'ci', crate], cwd=places[len(spent)], stdout=subprocess.DEVNULL, stderr=subprocess.DEVNULL)
+        # kept, since a child whose object is gone is waited for by whoever starts the next one
+        running[run.pid] = run, crate, spent
     while left or running:
         ready = sorted((crate for crate in left if all(used in passed for used in uses[crate])), key=lambda crate: (-heights[crate], crate))
         for crate in ready[:jobs - len(running)]:
             left.remove(crate)
-            run = subprocess.Popen(['rt', 'ci', crate], cwd=ROOT, stdout=subprocess.DEVNULL, stderr=subprocess.DEVNULL)
-            running[run.pid] = crate
+            start(crate, [])
         if not running:
             return
         pid, status, usage = os.wait4(-1, 0)
-        crate = running.pop(pid)
+        run, crate, spent = running.pop(pid)
+        run.returncode = status
+        spent = spent + [usage.ru_utime + usage.ru_stime]
+        if status == 0 and len(spent) < len(places) and edits_of(crate):
+            start(crate, spent)
+            continue
         if status == 0:
             passed.add(crate)
-        yield crate, usage.ru_utime + usage.ru_stime, status == 0
+        yield crate, spent, status == 0
 
 
 def loaded(log):
@@ -106,9 +128,18 @@ def print_loads(log):
     print(f'\n{total:,} modules in {len(rows)} crates: ' + ', '.join(f'{name} {100 * count / total:.0f} %' for name, count in libraries.most_common(12)))
 
 
+def print_costs(rows, apart):
+    """prints what crates took, the dearest first"""
+    print('| crate | edits | seconds |' + (' of them for edits |' if apart else '') + '\n|---|---|---|' + ('---|' if apart else ''))
+    for seconds, crate, spent in sorted(rows, reverse=True):
+        print(f'| `{crate}` | {edits_of(crate)} | {seconds:.0f} |' + (f' {sum(spent[1:]):.0f} |' if apart else ''))
+    print(f'\n{sum(row[0] for row in rows) / 60:.0f} processor minutes in all.')
+
+
 def main():
     parser = argparse.ArgumentParser(description=__doc__.split('\n')[0])
     parser.add_argument('--jobs', type=int, default=4)
+    parser.add_argument('--apart', action='store_true')
     parser.add_argument('--log')
     parser.add_argument('crates', nargs='*')
     given = parser.parse_args()
@@ -118,14 +149,13 @@ def main():
     uses = crates()
     wanted = below(uses, given.crates or set(uses)) - NEVER_KEPT
     rows, failed = [], False
-    for crate, seconds, passed in prove_all(uses, wanted, given.jobs):
-        failed |= not passed
-        print(f'{crate}: {seconds:.0f} s{"" if passed else ", FAILED"}', file=sys.stderr)
-        rows.append((seconds, crate))
-    print('| crate | edits | seconds |\n|---|---|---|')
-    for seconds, crate in sorted(rows, reverse=True):
-        print(f'| `{crate}` | {edits_of(crate)} | {seconds:.0f} |')
-    print(f'\n{sum(seconds for seconds, _ in rows) / 60:.0f} processor minutes in all.')
+    with tempfile.TemporaryDirectory() as place:
+        places = [without_edits(place), ROOT] if given.apart else [ROOT]
+        for crate, spent, passed in prove_all(uses, wanted, given.jobs, places):
+            failed |= not passed
+            print(f'{crate}: {" + ".join(f"{seconds:.0f}" for seconds in spent)} s{"" if passed else ", FAILED"}', file=sys.stderr)
+            rows.append((sum(spent), crate, spent))
+    print_costs(rows, given.apart)
     sys.exit(failed or len(rows) < len(wanted))
 
 

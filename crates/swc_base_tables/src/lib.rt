@@ -1,5 +1,4 @@
-//! What lowered programs stand on: helpers and how they come into a program, the features of versions, assumptions and
-//! native names.
+//! Helpers, which lowered programs call, and how they come into a program.
 //!
 //! `specs/Helpers.antt` says how a helper is named, and `specs/Visits.antt` what a program is once it has its helpers.
 #![tactic(auto)]
@@ -12,6 +11,3 @@ pub use bodies::HelperBodies;
 pub use inject::{InjectHelpers, inject_helpers};
 pub use names::{helper, helper_expr};
 pub use swc_base_tables_helpers::{Helper, HelperData, Helpers};
-pub use swc_base_tables_settings::{
-    Assumptions, AssumptionsError, FeatureFlag, enable_available_feature_from_es_version, is_native,
-};

@@ -28,8 +28,8 @@ module _ (t : Node) (a w : Bool) (astray : IsTrue a ↔ HasNode is_astray t) (wo
   is_worded = words.0 worded
 
   -- it can be written down
-  pub written : (b : Bool) → IsTrue b ↔ Writable t → b ≡ true → IsTrue true ↔ IsPinned t
-  written b h e = ((λ y. record { straight = is_straight; worded = is_worded; writable = λ n. h.0 e }), (λ p. refl))
+  pub written : (b : Bool) → IsTrue b ↔ Writable t → b ≡ true → IsTrue b ↔ IsPinned t
+  written b h e = ((λ y. record { straight = is_straight; worded = is_worded; writable = λ n. h.0 e }), (λ p. e))
 
   -- it can't, and the last step says why
   pub lax_or_not : (b l : Bool) → IsTrue b ↔ Writable t → IsTrue l ↔ HasNode is_lax t → b ≡ false → IsTrue l ↔ IsPinned t

@@ -2,4 +2,3 @@ pub mod Bytes
 pub mod Begun
 pub mod Regexes
 pub mod Templates
-pub mod Letters
