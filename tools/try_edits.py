@@ -124,13 +124,22 @@ def misfits(crate, file):
 
 
 def listed():
-    """What the edits of each crate guard, as the page has it: a line or more a crate, with each function and clause once, those of the gate in bold."""
-    lines = []
+    """What the edits of each crate guard that the gate tries, as the page has it, with each function and clause once, and how many go by hand."""
+    lines, alone = [], []
     for crate in (name for name in sorted(os.listdir(os.path.join(ROOT, 'crates'))) if files_of(name, GATE, HAND)):
-        whats = {ending: {':'.join(filter(None, guarded(crate, file) or ())) for file in files_of(crate, ending)} for ending in (GATE, HAND)}
-        terms = [f'**`{what}`**' if what in whats[GATE] else f'`{what}`' for what in sorted(whats[GATE] | whats[HAND])]
-        lines += textwrap.wrap(f'- `{crate}`: ' + ', '.join(terms), WIDTH, subsequent_indent='  ', break_long_words=False, break_on_hyphens=False)
+        whats = sorted({':'.join(filter(None, guarded(crate, file) or ())) for file in files_of(crate, GATE)})
+        count = len(files_of(crate, HAND))
+        if whats:
+            terms = [f'`{what}`' for what in whats] + ([f'{count} by hand'] if count else [])
+            lines += wrapped(f'- `{crate}`: ' + ', '.join(terms))
+        else:
+            alone.append(f'`{crate}` {count}')
+    lines += wrapped('- by hand alone: ' + ', '.join(alone))
     return ''.join(line + '\n' for line in lines)
+
+
+def wrapped(line):
+    return textwrap.wrap(line, WIDTH, subsequent_indent='  ', break_long_words=False, break_on_hyphens=False)
 
 
 def print_list():
