@@ -8,7 +8,7 @@ import trees
 from antt_values import Rec
 
 CRATES = ('text_characters', 'text_strings', 'text_values', 'text_lexer', 'text_words', 'text_pieces', 'text_follow', 'text_grammar',
-          'text_spelling', 'text_reader', 'text_source', 'text_spans', 'text_derives', 'text_checks', 'text_comments', 'text_edit', 'text_places')
+          'text_spelling', 'text_reader', 'text_source', 'text_spans', 'text_derives', 'text_checks', 'text_pinned', 'text_comments', 'text_edit', 'text_places')
 # the relations that this was made from, by crate, by digests of their texts, as in scoping.py
 SOURCES = {
     'text_follow': {'Follows': 'd864ea92f49a', 'FollowsFrom': '3fa5f2a378d6', 'InParens': 'fde49c9e6b45', 'IsCooked': '2b1e5a733852',
@@ -17,6 +17,7 @@ SOURCES = {
     'text_source': {'IsPlace': '967ffe0168ea', 'IsTextOf': 'b2ba1f051c39 c4495303a130', 'Tells': '937587000cd3'},
     'text_grammar': {'Shaped': 'd37384ac3ed7'},
     'text_spelling': {'Spelled': 'f542e98ccbfa'},
+    'text_pinned': {'IsPinned': 'ffb9c8602165', 'Worded': 'a3a249ad1c58'},
     'text_checks': {'IsWellFormed': '778d07726601', 'Lacks': 'c3c984c47bb3'},
     'text_spans': {'LeavesStand': '14e46942b007'},
     'text_comments': {'HasComments': '44814e244567', 'HasCommentsFrom': '24975e54d4aa'},
@@ -166,6 +167,15 @@ def FitsGrammar(D, t):
 
 def IsWellFormed(D, t):
     return Fits(D, t) and Shaped(D, t) and Spelled(D, t) and FitsGrammar(D, t)
+
+
+def Worded(D, t):
+    return D.text_pinned.Words.fits(t, D.text_pinned.Words.neither)
+
+
+def IsPinned(D, t):
+    straight, lax = not HasNode(D.text_pinned.Pinned.is_astray, t), HasNode(D.text_pinned.Pinned.is_lax, t)
+    return straight and Worded(D, t) and (lax or D.swc_tree_grammar.Writable.is_writable(t))
 
 
 def pieces(D, t):

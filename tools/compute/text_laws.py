@@ -97,30 +97,41 @@ def is_tree(node, wanted):
     return node[0] == 'Tree' and node[1] == wanted
 
 
-def lazy_chain(node):
-    """a part of an optional chain that is none: it is not optional, and what it goes on from is no chain"""
-    return is_tree(node, 'OptChainExpr') and node[2][1] == ('Flag', False) and kind(node[2][2][2][1]) != 'OptChainExpr'
+def pinned():
+    return D.all.text_pinned.Pinned
 
 
-def expression_as_pattern(t):
+def is_head(node):
+    return node[0] == 'Tree' and node[1] in ('ForInStmt', 'ForOfStmt')
+
+
+def head_of(node):
+    return node[2][1 if node[1] == 'ForInStmt' else 2]
+
+
+def expression_as_pattern(node):
     """a name, an array, an object or an assignment as an expression where a pattern stands"""
-    return any(slot[1] in (('Node', 'Pat'), ('Node', 'ForHead')) and regroup.as_pattern(node) != node
-               for _, node, slot in trees.slots(t) if isinstance(slot, tuple))
+    return pinned().is_astray_pattern(node) or is_head(node) and pinned().is_like_pattern(head_of(node))
 
 
-def grouped_right(node):
-    """`a || b || c` whose right side is `b || c`"""
-    return is_tree(node, 'BinExpr') and node[2][1][1] in ('LogicalOr', 'LogicalAnd', 'NullishCoalescing') \
-        and is_tree(node[2][3], 'BinExpr') and node[2][3][2][1] == node[2][1]
+def bracket_behind_let(node):
+    """the head of a `for` begins with a member of `let`"""
+    return is_tree(node, 'ForStmt') and pinned().begins_so(node[2][1]) or is_head(node) and pinned().begins_so(head_of(node))
 
 
-# What is asked besides of a tree that is well formed, so that its text has no other. Writable trees have no name `let`, `yield` or `await`, of which no
-# tree tells whether it is one.
+def astray(wanted):
+    """a node of a kind that no text is read as"""
+    return lambda node: is_tree(node, wanted) and pinned().is_astray(node)
+
+
+# What is asked besides of a tree that is well formed, so that its text has no other: the parts of `IsPinned`.
 BESIDES = {
-    'writable': is_writable,
-    'no chain that is none': lambda t: not has(t, lazy_chain),
-    'patterns as patterns': lambda t: not expression_as_pattern(t),
-    'grouped to the left': lambda t: not has(t, grouped_right)}
+    'no chain that is none': lambda t: not has(t, astray('OptChainExpr')),
+    'patterns as patterns': lambda t: not has(t, expression_as_pattern),
+    'no member of `let` in a head': lambda t: not has(t, bracket_behind_let),
+    'grouped to the left': lambda t: not has(t, astray('BinExpr')),
+    'operators where they may be': lambda t: following.Worded(D.all, t),
+    'writable, if not lax': lambda t: is_writable(t) or has(t, pinned().is_lax)}
 
 
 def other_of_one_text(t, besides):
@@ -136,7 +147,8 @@ def other_of_one_text(t, besides):
 
 # programs that random ones seldom are
 SELDOM = ['a || b || c;', 'a ?? b ?? c;', 'for (let [a] = b;;);', 'for (let [a] of b);', 'yield;', 'yield(a);', 'function* f() { yield; }', 'await(a);',
-          'async function f() { await(a); }', '(class { a() {} });', 'a.b;', '(a?.b).c;', 'if (a) if (b); else c;', 'new a.b();']
+          'async function f() { await(a); }', '(class { a() {} });', 'a.b;', 'let[a] = b;', 'let[a];', 'if (a) let[b];', 'yield + a;', 'var package;',
+          'function* f() { yield(a); yield[a]; yield + a; }', 'function* f(a) { return () => yield_(a); }', '(a?.b).c;', 'if (a) if (b); else c;', 'new a.b();']
 
 
 def grouped_source(random, size):
@@ -163,8 +175,10 @@ def one_tree_of_a_text(t):
 
 @law(grouped_source)
 def one_exact_tree_of_a_text(t):
-    """a text is that of one well-formed tree for which all of BESIDES hold"""
-    return other_of_one_text(t, list(BESIDES.values()))
+    """a text is that of one well-formed tree that is pinned"""
+    if following.IsPinned(D.all, t) != all(asks(t) for asks in BESIDES.values()):
+        return Bad('pinned by its parts alone')
+    return other_of_one_text(t, [lambda u: following.IsPinned(D.all, u)])
 
 
 def exact_source(random, size):

@@ -1,8 +1,9 @@
 //! What the gate asks of the checks of a tree that a text has: rows of trees that lack something, and of such that don't,
-//! and of texts that are written of them.
+//! of trees that are pinned or not, and of texts that are written of them.
 #![tactic(auto)]
 
 mod lack;
+mod pin;
 mod written;
 
 use anyhow::Result;
@@ -14,7 +15,10 @@ struct OfRows;
 
 impl Answers for OfRows {
     fn answer(alloc: Global, words: &str, input: &str) -> Result<Option<String>> {
-        match lack::answer(alloc, words, input) {
+        if let Some(answer) = lack::answer(alloc, words, input) {
+            return Ok(Some(answer));
+        }
+        match pin::answer(alloc, words, input) {
             Some(answer) => Ok(Some(answer)),
             None => Ok(written::answer(alloc, words, input)),
         }

@@ -1,5 +1,5 @@
 -- What an expression begins with, as the code keeps it, and which field of a node its start is that of.
-use Rattle.std.specs.Prelude.{ℕ, List, [], ◌∷◌, Bool, false, ◌&&◌, Option, Some, None, if◌then◌else◌}
+use Rattle.std.specs.Prelude.{ℕ, List, [], ◌∷◌, Bool, true, false, ◌&&◌, Option, Some, None, if◌then◌else◌}
 use Rattle.swc_tree_node.specs.declared.kind.Kind.{Kind}
 use Rattle.swc_tree_node.specs.declared.kind.Kind.TheVariants as kind
 use Rattle.swc_tree_node.specs.declared.node.Node.{Node, out-Node}
@@ -44,3 +44,8 @@ own_start kind.ClassExpr ts = ClassWord
 own_start kind.Function (span ∷ params ∷ body ∷ is_generator ∷ is_async ∷ []) = if holds is_async then AsyncFunction else FunctionWord
 own_start kind.MemberExpr (span ∷ obj ∷ prop ∷ []) = LetBracket
 own_start _ _ = Other
+
+-- `let` with `[` behind it
+abbrev pub is_bracket : Start → Bool
+is_bracket LetBracket = true
+is_bracket _ = false

@@ -15,3 +15,4 @@ mod rule;
 mod start;
 
 pub use grammar::derives;
+pub use start::begins_with_let_bracket;

@@ -3,7 +3,7 @@ ghost use Rattle.std.specs.Prelude.{◌≡◌, ◌<◌, length, IfSome};
 ghost use Rattle.swc_tree_grammar.specs.Starts.{is_computed_in, is_let_bracket as is_let_bracket_in, is_let_in, start as start_in};
 ghost use Rattle.swc_tree_node.specs.declared.node.Node.{out-Node};
 ghost use Rattle.swc_tree_grammar.specs.Grammar.{may_begin_body as may_begin_body_so, may_begin_export as may_begin_export_so, may_begin_statement as may_begin_statement_so};
-ghost use Rattle.text_derives.specs.Begin.{begins, own_start as own_start_of, start_field as start_field_of, has_let_bracket as has_let_bracket_in};
+ghost use Rattle.text_derives.specs.Begin.{begins, is_bracket as is_bracket_start, own_start as own_start_of, start_field as start_field_of, has_let_bracket as has_let_bracket_in};
 
 use crate::form::is_set;
 use swc_tree_node::fields::{
@@ -200,4 +200,17 @@ pub fn may_be_body(expr: &Node) -> bool
     ensures { result ≡ may_begin_body_so (start_in expr.now) }
 {
     begins_body(start_of(expr))
+}
+
+fn is_bracket(start: Start) -> bool
+    ensures { result ≡ is_bracket_start (begins start) }
+{
+    matches!(start, Start::LetBracket)
+}
+
+/// Whether an expression begins with the name `let` and a bracket behind it.
+pub fn begins_with_let_bracket(expr: &Node) -> bool
+    ensures { result ≡ is_bracket_start (start_in expr.now) }
+{
+    is_bracket(start_of(expr))
 }

@@ -4,6 +4,7 @@ ghost use Rattle.std.specs.Str.Lossy.{utf8_valid_len};
 ghost use Rattle.swc_tree_modules.specs.Nodes.{module_node, script_node};
 ghost use Rattle.text_checks.specs.Checked.{IsWellFormed};
 ghost use Rattle.text_parser.specs.declared.programs.Goal.TheVariants as goal;
+ghost use Rattle.text_pinned.specs.Pinned.{IsPinned};
 ghost use Rattle.text_reader.specs.declared.fault.TextFault.TheVariants as fault;
 ghost use Rattle.text_source.specs.Texts.{IsTextOf, Tells, most_bytes, slot_of};
 ghost use Rattle.text_spans.specs.Leaves.{LeavesStand};
@@ -20,6 +21,7 @@ use text_source::{Goal, TextFault, read_text};
 pub fn read_module(alloc: Global, depth: u32, text: &[u8]) -> Result<Module, TextFault>
     ensures tree { IfOk result (λ read. IsTextOf goal.Module (module_node read) text.now) }
     ensures formed { IfOk result (λ read. IsWellFormed (slot_of goal.Module) (module_node read)) }
+    ensures pinned { IfOk result (λ read. IsPinned (module_node read)) }
     ensures leaves { IfOk result (λ read. LeavesStand text.now (module_node read)) }
     ensures refusal { IfErr result (Tells text.now) }
     ensures too_long { most_bytes < length text.now → result ≡ Err fault.TooLong }
@@ -39,6 +41,7 @@ pub fn read_module(alloc: Global, depth: u32, text: &[u8]) -> Result<Module, Tex
 pub fn read_script(alloc: Global, depth: u32, text: &[u8]) -> Result<Script, TextFault>
     ensures tree { IfOk result (λ read. IsTextOf goal.Script (script_node read) text.now) }
     ensures formed { IfOk result (λ read. IsWellFormed (slot_of goal.Script) (script_node read)) }
+    ensures pinned { IfOk result (λ read. IsPinned (script_node read)) }
     ensures leaves { IfOk result (λ read. LeavesStand text.now (script_node read)) }
     ensures refusal { IfErr result (Tells text.now) }
     ensures too_long { most_bytes < length text.now → result ≡ Err fault.TooLong }

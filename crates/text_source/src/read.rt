@@ -7,6 +7,7 @@ ghost use Rattle.swc_tree_node.specs.Fits.{Fits};
 ghost use Rattle.text_checks.specs.Checked.{IsWellFormed};
 ghost use Rattle.text_follow.specs.Follows.{Follows};
 ghost use Rattle.text_pieces.specs.Tokens.{piece_view};
+ghost use Rattle.text_pinned.specs.Pinned.{IsPinned};
 ghost use Rattle.text_reader.specs.declared.fault.TextFault.TheVariants as fault;
 ghost use Rattle.text_source.specs.Texts as spec;
 ghost use Rattle.text_source.specs.Texts.{IsTextOf, Tells, most_bytes};
@@ -20,6 +21,7 @@ use text_follow::follows;
 use text_lexer::Comments;
 use text_parser::{Goal, TextFault, parse};
 use text_pieces::{Piece, pieces};
+use text_pinned::is_pinned;
 use text_spans::leaves_stand;
 use text_table::fits;
 
@@ -64,6 +66,14 @@ fn is_formed(goal: Goal, tree: &Node) -> bool
         Ok(()) => true,
         Err(_) => false,
     }
+}
+
+// Whether it is the one that its tokens say, where the grammar leaves a choice.
+fn is_exact(goal: Goal, tree: &Node) -> bool
+    requires { Fits tree.now (spec.slot_of goal) }
+    ensures { IsTrue result → IsPinned tree.now }
+{
+    is_pinned(tree)
 }
 
 fn is_written(goal: Goal, text: &[u8], pieces: &[Piece<'_>]) -> bool
@@ -178,10 +188,14 @@ fn held(alloc: Global, goal: Goal, tree: Node, text: &[u8]) -> Result<Node, Text
     requires { IsUtf8 text.now }
     ensures tree { IfOk result (λ read. IsTextOf goal read text.now) }
     ensures formed { IfOk result (IsWellFormed (spec.slot_of goal)) }
+    ensures pinned { IfOk result IsPinned }
     ensures leaves { IfOk result (LeavesStand text.now) }
     ensures refusal { IfErr result (Tells text.now) }
 {
     if !is_formed(goal, &tree) {
+        return Err(TextFault::NotTheText);
+    }
+    if !is_exact(goal, &tree) {
         return Err(TextFault::NotTheText);
     }
     match has_tokens(alloc, goal, &tree, text) {
@@ -200,6 +214,7 @@ fn read_utf8(alloc: Global, goal: Goal, depth: u32, text: &[u8]) -> Result<Node,
     requires { IsUtf8 text.now }
     ensures tree { IfOk result (λ read. IsTextOf goal read text.now) }
     ensures formed { IfOk result (IsWellFormed (spec.slot_of goal)) }
+    ensures pinned { IfOk result IsPinned }
     ensures leaves { IfOk result (LeavesStand text.now) }
     ensures refusal { IfErr result (Tells text.now) }
 {
@@ -215,8 +230,8 @@ fn read_utf8(alloc: Global, goal: Goal, depth: u32, text: &[u8]) -> Result<Node,
 /// may stand one in another. A program's stack of 8 MB bears 10,000.
 ///
 /// What is answered is what the text says: its tokens are those of the tree, one after another, and nothing else stands there
-/// but blanks, comments, and what no tree tells; and the grammar derives the tree as it stands. Each name, key, number and
-/// string stands where its span says. The spans of other nodes are not proved yet.
+/// but blanks, comments, and what no tree tells; and the grammar derives the tree as it stands, which is pinned where the grammar leaves
+/// a choice. Each name, key, number and string stands where its span says. The spans of other nodes are not proved yet.
 ///
 /// # Errors
 ///
@@ -226,6 +241,7 @@ fn read_utf8(alloc: Global, goal: Goal, depth: u32, text: &[u8]) -> Result<Node,
 pub fn read_text(alloc: Global, goal: Goal, depth: u32, text: &[u8]) -> Result<Node, TextFault>
     ensures tree { IfOk result (λ tree. IsTextOf goal tree text.now) }
     ensures formed { IfOk result (IsWellFormed (spec.slot_of goal)) }
+    ensures pinned { IfOk result IsPinned }
     ensures leaves { IfOk result (LeavesStand text.now) }
     ensures refusal { IfErr result (Tells text.now) }
     ensures too_long { most_bytes < length text.now → result ≡ Err fault.TooLong }

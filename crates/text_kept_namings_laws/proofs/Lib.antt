@@ -1,0 +1,4 @@
+pub mod Characters
+pub mod Numbered
+pub mod Found
+pub mod Whole

@@ -1,0 +1,4 @@
+pub mod Kept
+pub mod Sequences
+pub mod Stripping
+pub mod Whole

@@ -1,0 +1,3 @@
+mod Fields
+mod Read
+mod Steps
