@@ -1,14 +1,10 @@
 -- One pass after another.
-use Rattle.std.proofs.Common.{◌≡◌, Bool, true, false, Option, Some, Result, Ok, Err, refl, sym, ◌∙◌, subst}
+use Rattle.std.proofs.Common.{◌≡◌, Option, Some, Result, Ok, Err, sym, ◌∙◌, subst}
 use Rattle.std.specs.Result.{IfOk}
 use Rattle.swc_tree_marks.specs.declared.error.PassError.{PassError}
 use Rattle.jsbase_reader.specs.declared.envelope.Envelope.{Envelope}
 use Rattle.mucwathi_settings.specs.declared.command.Command.{Command}
 use Rattle.mucwathi_given.specs.Given.{IsAround, IsMade, IsReady, Makes, Then}
-
-pub true_unless : (b : Bool) → (b ≡ false → ⊥) → b ≡ true
-true_unless true h = refl
-true_unless false h = absurd (h refl)
 
 around_both : (given between made : Envelope) → IsAround given between → IsAround between made → IsAround given made
 around_both given between made one other = record {
