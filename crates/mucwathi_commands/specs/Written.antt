@@ -10,6 +10,7 @@ use Rattle.text_follow.specs.Follows.{Follows}
 use Rattle.text_lexer.specs.declared.blank.Comments.{Comments}
 use Rattle.text_pieces.specs.Pieces.{pieces}
 use Rattle.text_checks.specs.Checked.{IsWellFormed}
+use Rattle.text_pinned.specs.Pinned.{IsPinned}
 use Rattle.text_parser.specs.declared.programs.Goal.{Goal}
 use Rattle.text_source.specs.Texts.{IsTextOf, comments_of, slot_of}
 use Rattle.mucwathi_order.specs.declared.order.Order.{Order}
@@ -17,9 +18,10 @@ use Rattle.mucwathi_order.specs.declared.order.Style.{Style}
 use Rattle.mucwathi_order.specs.declared.order.Style.TheVariants as style
 use Rattle.mucwathi_passes.specs.Passes.{IsRefusal, Makes}
 
--- A text is read as a tree: its tokens are the tree's, and the grammar derives the tree as it stands.
+-- A text is read as a tree: its tokens are the tree's, the grammar derives the tree as it stands, and where that leaves a choice, it is
+-- pinned.
 abbrev pub IsReadAs : Goal → Node → List ℕ → Type 0
-IsReadAs g t text = IsTextOf g t text × IsWellFormed (slot_of g) t
+IsReadAs g t text = IsTextOf g t text × IsWellFormed (slot_of g) t × IsPinned t
 
 -- The layout of a source's text is kept: what is written has the tokens of the answer; what stands between two tokens that stay next to
 -- each other stays too; where the two trees have the same tokens it is the source's text, and where they differ in names alone, so do the

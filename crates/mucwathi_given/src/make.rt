@@ -68,8 +68,25 @@ fn set_apart(alloc: Global, given: Envelope) -> Result<Envelope, PassError>
     ensures made { IfOk result (IsApart given) }
 {
     let config = config_of(&given);
-    let tree = hygiene_program(alloc, &config, &given.globals, given.tree)?;
-    Ok(Envelope { tree, ..given })
+    let Envelope {
+        globals,
+        unresolved,
+        top,
+        keep_class_names,
+        ignore_eval,
+        keep_top,
+        tree,
+    } = given;
+    let tree = hygiene_program(alloc, &config, &globals, tree)?;
+    Ok(Envelope {
+        globals,
+        unresolved,
+        top,
+        keep_class_names,
+        ignore_eval,
+        keep_top,
+        tree,
+    })
 }
 
 fn shorten(alloc: Global, given: Envelope) -> Result<Envelope, PassError>
@@ -78,8 +95,25 @@ fn shorten(alloc: Global, given: Envelope) -> Result<Envelope, PassError>
 {
     let config = config_of(&given);
     let keeps = keeps_top(given.keep_top, &given.tree);
-    let tree = mangle_program(alloc, &config, &given.globals, keeps, given.tree)?;
-    Ok(Envelope { tree, ..given })
+    let Envelope {
+        globals,
+        unresolved,
+        top,
+        keep_class_names,
+        ignore_eval,
+        keep_top,
+        tree,
+    } = given;
+    let tree = mangle_program(alloc, &config, &globals, keeps, tree)?;
+    Ok(Envelope {
+        globals,
+        unresolved,
+        top,
+        keep_class_names,
+        ignore_eval,
+        keep_top,
+        tree,
+    })
 }
 
 fn pair(alloc: Global, given: Envelope) -> Result<Envelope, PassError>

@@ -1,0 +1,10 @@
+use Rattle.mucwathi_given.specs.Given.{HasPairs, IsShort, IsResolved, Then}
+use Rattle.mucwathi_given.proofs.Making.{then_around, then_made}
+use Rattle.mucwathi_given.proofs.make.mangle.Goals as goal
+
+pub returns-clause-around : goal.returns-clause-around
+returns-clause-around c = then_around c.args.given c.in_ok-resolved.resolved c.shorten_and_pair.result c.in_ok-resolved.ensures.around c.shorten_and_pair.ensures.around
+
+pub returns-clause-made : goal.returns-clause-made
+returns-clause-made c = λ ready.
+    then_made IsResolved (Then IsShort HasPairs) c.args.given c.in_ok-resolved.resolved c.shorten_and_pair.result (c.in_ok-resolved.ensures.made ready) c.in_ok-resolved.ensures.around c.shorten_and_pair.ensures.made

@@ -1,0 +1,5 @@
+use Rattle.std.proofs.Common.{◌≡◌, length}
+use Rattle.mucwathi_marked.proofs.contexts.+put_marks.Given as goal
+
+abbrev pub invariant-put_marks_on_all-loop-i : goal.invariant-put_marks_on_all-loop-i
+invariant-put_marks_on_all-loop-i l = length l.nodes ≡ length l.initial.nodes
