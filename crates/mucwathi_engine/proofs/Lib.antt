@@ -1,1 +1,1 @@
-mod Promised
+mod Keeping

@@ -1,5 +1,5 @@
 -- One identifier more.
-use Rattle.std.proofs.Common.{◌≡◌, ℕ, ◌+◌, ◌-◌, ◌<◌, ◌≤◌, Bool, true, false, IsTrue, ◌⊎◌, inl, inr, ⊎_elim, List, [], ◌∷◌, ◌++◌, Contains, map, take, length, get_or, sym, ap, ◌∙◌, subst, Result, Ok, Err, OnOk}
+use Rattle.std.proofs.Common.{◌≡◌, ℕ, ◌+◌, ◌-◌, ◌<◌, ◌≤◌, Bool, true, false, IsTrue, ◌⊎◌, inl, inr, ⊎_elim, List, [], ◌∷◌, ◌++◌, Contains, map, take, length, get_or, refl, sym, ap, ◌∙◌, subst, Result, Ok, Err, OnOk}
 use Rattle.std.proofs.lemmas.List.{append_assoc, map-append, take_all, take_more}
 use Rattle.std.proofs.lemmas.List.Elements.{Contains-append_left, Contains-push, Contains-push_cases}
 use Rattle.swc_tree_walk.specs.Sites.{site_of}
@@ -127,7 +127,7 @@ module _ (ss : List Seen) (y : Seen) (old new : Texts) (names : List FreeName) (
 
 pub seen_one : (ss : List Seen) (y : Seen) (old new : Texts) (names others : List FreeName) → IsTrue (is_free y) → AddsName y old names others → AddsText y.1.sym old new → HasSeen ss old names → HasSeen (ss ++ y ∷ []) new others
 seen_one ss y old new names others free (inl (has, same)) texts h = subst (λ (l : List FreeName). HasSeen (ss ++ y ∷ []) new l) (sym same) (seen_again ss y old new names has texts h)
-seen_one ss y old new names others free (inr (none, (n, (text, (placed, is))))) texts h = subst (λ (l : List FreeName). HasSeen (ss ++ y ∷ []) new l) (sym is) (seen_first ss y old new names n free none text placed texts h)
+seen_one ss y old new names others free (inr (none, n, text, placed, is)) texts h = subst (λ (l : List FreeName). HasSeen (ss ++ y ∷ []) new l) (sym is) (seen_first ss y old new names n free none text placed texts h)
 
 -- what is free is noted, whatever is answered
 pub noted_free : {A : Type 0} {E : Type 0} (y : Seen) (old new : Texts) (names others : List FreeName) (r : Result A E) → IsTrue (is_free y) → OnOk r (AddsName y old names others) → OnOk r (AddsText y.1.sym old new) → OnOk r (Notes y old new names others)

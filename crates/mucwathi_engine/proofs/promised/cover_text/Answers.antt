@@ -1,4 +1,4 @@
-use Rattle.mucwathi_engine.proofs.Promised.{told}
+use Rattle.mucwathi_engine.proofs.Keeping.{told}
 use Rattle.mucwathi_engine.proofs.promised.cover_text.Goals as goal
 
 pub returns : goal.returns

@@ -1,4 +1,4 @@
-use Rattle.mucwathi_engine.proofs.Promised.{promised}
+use Rattle.mucwathi_engine.proofs.Keeping.{promised}
 use Rattle.mucwathi_engine.proofs.promised.rewrite_text.Goals as goal
 
 pub returns : goal.returns
