@@ -46,7 +46,7 @@ fn draw(
     program: Node,
 ) -> Result<Vec<u8>, PassError>
     requires { opened program_place program ≡ Some scope.Program }
-    ensures { IfOk result (λ out. IsPage of.text.now out.items) }
+    ensures { IfOk result (λ out. IsPage of.entry.text.now out.items) }
 {
     let mut globals = own_marks(alloc)?;
     let resolved = resolve(alloc, &mut globals, program)?;
@@ -64,7 +64,7 @@ fn draw_source(
     program: Node,
 ) -> Result<Vec<u8>, RunFault>
     requires { IsTextOf goal program of.text.now }
-    ensures { IfOk result (λ out. IsPage of.text.now out.items) }
+    ensures { IfOk result (λ out. IsPage of.entry.text.now out.items) }
 {
     match draw(alloc, of, changes, program) {
         Ok(out) => Ok(out),
