@@ -1,5 +1,8 @@
-use Rattle.std.proofs.Common.{◌≡◌, length}
+use Rattle.std.proofs.Common.{◌≡◌, drop, length}
 use Rattle.mucwathi_marked.proofs.contexts.+put_marks.Given as goal
 
 abbrev pub invariant-put_marks_on_all-loop-i : goal.invariant-put_marks_on_all-loop-i
-invariant-put_marks_on_all-loop-i l = length l.nodes ≡ length l.initial.nodes
+invariant-put_marks_on_all-loop-i l = record {
+  size : length l.nodes ≡ length l.initial.nodes;
+  rest : drop l.i l.nodes ≡ drop l.i l.initial.nodes;
+}
