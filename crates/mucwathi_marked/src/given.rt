@@ -1,12 +1,12 @@
 //! Texts read with their marks.
-use crate::contexts::{Signs, put_marks};
+use crate::contexts::put_marks;
 use mucwathi_faults::RunFault;
 use mucwathi_given::Envelope;
 use mucwathi_order::Goal;
 use mucwathi_passes::{own_marks, top, unresolved};
 use mucwathi_signs::{Found, Sign, blank_signs, cut_signs, find_signs};
 use std::alloc::{AllocError, Global};
-use std::collections::{BTreeMap, BTreeSet};
+use std::collections::BTreeSet;
 use swc_tree_marks::{Globals, NoMemory};
 use swc_tree_node::Node;
 use swc_tree_walk::sites;
@@ -117,13 +117,9 @@ fn table_of(alloc: Global, signs: &[Sign]) -> Result<Globals, AllocError> {
     }
 }
 
-fn with_marks(alloc: Global, signs: &[Sign], tree: Node) -> Result<Node, AllocError> {
-    let mut places: Signs<'_> = BTreeMap::new(alloc);
-    for sign in signs {
-        places.insert(sign.at, sign)?;
-    }
+fn with_marks(signs: &[Sign], tree: Node) -> Result<Node, AllocError> {
     let mut marked = tree;
-    put_marks(&mut marked, &places)?;
+    put_marks(&mut marked, signs)?;
     Ok(marked)
 }
 
@@ -161,7 +157,7 @@ pub fn give_marked(alloc: Global, goal: Goal, depth: u32, text: &[u8]) -> Result
     };
     let signs = moved(alloc, found)?;
     let globals = table_of(alloc, signs.as_slice())?;
-    let tree = with_marks(alloc, signs.as_slice(), tree)?;
+    let tree = with_marks(signs.as_slice(), tree)?;
     Ok(Marked {
         text: plain,
         program: envelope_of(globals, tree),
