@@ -25,7 +25,7 @@ import sys
 import tempfile
 
 ROOT = os.path.dirname(os.path.dirname(os.path.abspath(__file__)))
-NEVER_KEPT = {'gate_replay', 'gate_tables', 'gate_trees', 'bench_passes'}
+NEVER_KEPT = {'gate_trees'}
 
 
 def crates():
