@@ -113,7 +113,7 @@ const FILES = {
   'envelopes there and back': inFolder((folder) => {
     const given = run(folder, ['resolve', '--json', 'a.js']);
     expect(given, 0, { stdout: /^\{"marks":/ });
-    expect(run(folder, ['chain', '--from-json', '--compact'], given.stdout), 0, { stdout: 'let x;function g(p=()=>x){var x1;}\n' });
+    expect(run(folder, ['chain', '--from-json', '--compact'], given.stdout), 0, { stdout: 'let x;function g(p=()=>x){var x1;}' });
   }),
   'what `resolve` writes is read': inFolder((folder) => {
     const marked = run(folder, ['resolve', 'a.js']);
