@@ -13,8 +13,11 @@ CRATES = ('text_characters', 'text_strings', 'text_values', 'text_lexer', 'text_
 SOURCES = {
     'text_follow': {'Follows': 'd864ea92f49a', 'FollowsFrom': '3fa5f2a378d6', 'InParens': 'fde49c9e6b45', 'IsCooked': '2b1e5a733852',
         'IsRaw': '8282b052dca3', 'MayInsert': '912b3b2e3ffc', 'Reads': '2ed50b9397e1', 'ReadsAttribute': '8e7257f40cf1',
-        'ReadsThree': '1406b34520ea', 'ReadsTwo': 'd2fd7be6de7c', 'Spells': 'c00bf1728911', 'StandsFor': '3eecba0cb2cf', 'Takes': '0cca22217816'},
-    'text_source': {'IsPlace': '967ffe0168ea', 'IsTextOf': 'b2ba1f051c39 c4495303a130', 'Tells': '937587000cd3'},
+        'ReadsThree': '1406b34520ea', 'ReadsTwo': 'd2fd7be6de7c', 'Spells': 'c00bf1728911', 'StandsFor': '3eecba0cb2cf', 'Takes': '0ffd640bed29',
+        'BeginsAt': 'bb01574c70b5', 'HasName': '3dc1b9d3a8e8', 'IsAt': 'c49ad8f95e42', 'IsSo': '3f7bf72fd36f', 'Says': 'fd16f671b5bd',
+        'Stands': 'fd88b6fd2e4a', 'StandsFrom': '6115f03617be'},
+    'text_source': {'IsPlace': '967ffe0168ea', 'IsTextOf': 'b2ba1f051c39 c4495303a130', 'IsWhole': '1aa3236c5db9', 'SpansAreOf': '5568a235d4a2',
+        'Tells': '937587000cd3'},
     'text_grammar': {'Shaped': 'd37384ac3ed7'},
     'text_spelling': {'Spelled': 'f542e98ccbfa'},
     'text_pinned': {'IsPinned': 'ffb9c8602165', 'Worded': 'a3a249ad1c58'},
@@ -121,15 +124,16 @@ def Takes(D, c, soft, before, p, text):
     if piece == 'here':
         found = D.text_lexer.Blanks.blank(c, fresh, text)
         return [text] if found is not None and not found[0][0] else []
-    if piece in ('closes', 'gap'):
+    if piece in ('closes', 'gap', 'frame'):
         return [text]
     return [] if piece == 'never' else Reads(D, c, fresh, text, p)
 
 
-def places(D, c, soft, ps, text):
-    """for each piece the rests before which it may stand, and at last those that are left; none where the text is no such"""
+def places(D, c, soft, ps, text, is_so=lambda fresh, p, rest: True):
+    """for each piece the rests before which it may stand and is so, and at last those that are left; none where the text is no such"""
     fresh, e, rests, found = True, 'Closed', [text], []
     for p in ps:
+        rests = [rest for rest in rests if is_so(fresh, p, rest)]
         found.append((fresh, e, rests))
         behind = {len(rest): rest for before in rests for rest in Takes(D, c, soft, (fresh, e), p, before)}
         rests = list(behind.values())
@@ -142,6 +146,36 @@ def places(D, c, soft, ps, text):
 
 def Follows(D, c, soft, ps, text):
     return places(D, c, soft, ps, text) is not None
+
+
+def IsAt(n, rest, place):
+    return place + len(rest) == n + 1
+
+
+def BeginsAt(D, n, c, fresh, text, place):
+    found = D.text_lexer.Blanks.blank(c, fresh, text)
+    return found is not None and IsAt(n, found[0][1], place)
+
+
+def HasName(D, n, c, fresh, text, a, s):
+    return BeginsAt(D, n, c, fresh, text, s.lo) and any(IsAt(n, rest, s.hi) for rest in Reads(D, c, fresh, text, ('name', a)))
+
+
+def Says(D, n, c, fresh, f, text):
+    if word(f) == 'begins':
+        return BeginsAt(D, n, c, fresh, text, f[1])
+    if word(f) == 'stops':
+        return IsAt(n, text, f[1])
+    return HasName(D, n, c, fresh, text, f[1], f[2]) or any(
+        HasName(D, n, c, False, inner, f[1], f[2]) for inner in Reads(D, c, fresh, text, mark('LeftParen')))
+
+
+def IsSo(D, n, c, fresh, p, text):
+    return word(p) != 'frame' or Says(D, n, c, fresh, p[1], text)
+
+
+def Stands(D, c, soft, ps, text):
+    return places(D, c, soft, ps, text, lambda fresh, p, rest: IsSo(D, len(text), c, fresh, p, rest)) is not None
 
 
 # ---- trees
@@ -201,3 +235,12 @@ def IsTextOf(D, t, text):
 
 def LeavesStand(D, text, t):
     return not HasNode(lambda node: D.text_spans.Leaves.is_misplaced(text, node), t)
+
+
+def IsWhole(text, span):
+    return span is not None and (span[0].lo, span[0].hi) == (1, len(text) + 1)
+
+
+def SpansAreOf(D, t, text):
+    """each node stands where its span says; of a module or a script"""
+    return IsWhole(text, D.text_pieces.Frames.first_span(t)) and Stands(D, comments_of(D, t), True, D.text_pieces.Pieces.framed_pieces(t), text)

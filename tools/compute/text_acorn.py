@@ -72,12 +72,17 @@ def moved(t):
     return trees.with_kids(t, list(map(moved, trees.kids(t)))) if t[0] in ('List', 'Tree') else t
 
 
+def has_its_spans(t, text):
+    """so do all nodes; of a text of another tree, from which empty members of classes are left out here, nothing is asked"""
+    return not following.IsTextOf(D.all, t, text) or following.SpansAreOf(D.all, t, text) and not following.SpansAreOf(D.all, moved(t), text)
+
+
 def text_is_of(t, text):
     """its leaves stand where acorn has them, and not a byte further; where all is in ASCII, since acorn counts otherwise"""
     if max(text, default=0) > 127:
         return True
     names = following.HasNode(lambda node: node[0] == 'Identifier', t)
-    return following.LeavesStand(D.all, text, t) and not (names and following.LeavesStand(D.all, text, moved(t)))
+    return following.LeavesStand(D.all, text, t) and not (names and following.LeavesStand(D.all, text, moved(t))) and has_its_spans(t, text)
 
 
 def shown(t):

@@ -9,10 +9,10 @@ MARKS = {'(': 'LeftParen', ')': 'RightParen', '{': 'LeftBrace', '}': 'RightBrace
          ';': 'Semicolon', ',': 'Comma', '...': 'Dots', '?': 'Question', '?.': 'QuestionDot', ':': 'Colon', '=>': 'Arrow', '=': 'Assign',
          '*': 'Mul'}
 PLAIN = {'here': 'Here', 'in': 'In', 'out': 'Out', 'end': 'End'}
-CALLS = {'if': 'If', 'unless': 'Unless', 'apart': 'Apart', 'string': 'Quoted', 'regex': 'Regex', 'template': 'Template'}
-WHOLE = {'list': 'List', 'others': 'Others', 'specifiers': 'Specifiers', 'head': 'Head', 'body': 'Body'}
+CALLS = {'if': 'If', 'unless': 'Unless', 'apart': 'Apart', 'string': 'Quoted', 'regex': 'Regex', 'template': 'Template', 'at': 'At'}
+WHOLE = {'within': 'Within', 'dots': 'Dots', 'lone': 'Lone', 'list': 'List', 'others': 'Others', 'specifiers': 'Specifiers', 'head': 'Head', 'body': 'Body'}
 FORMS = {'comma': 'Comma', 'others_comma': 'CommaUnlessLone', 'hole': 'Hole', 'name': 'Name', 'number': 'Number', 'big': 'BigInt', 'private': 'Private', 'hashbang': 'Hashbang',
-         'lone': 'Lone', 'dot': 'Dot', 'accessor': 'Accessor', 'async': 'Async', 'star': 'Star', 'meta': 'Meta', 'attributes': 'Attributes',
+         'dot': 'Dot', 'accessor': 'Accessor', 'async': 'Async', 'star': 'Star', 'meta': 'Meta', 'attributes': 'Attributes',
          'bare': 'Bare', 'braces': 'Braces'}
 ENDINGS = {'block': 'BlockEnding', 'key': 'KeyEnding', 'let': 'LetEnding', 'from': 'FromEnding'}
 TOKEN = re.compile(r'\w+\(\w+, \w+\)|\S+')

@@ -12,6 +12,7 @@ mod print;
 mod read;
 mod refuse;
 mod rows;
+mod shifts;
 mod show;
 mod words;
 

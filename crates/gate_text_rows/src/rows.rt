@@ -4,6 +4,7 @@ use crate::levels::levels;
 use crate::mutants::mutants;
 use crate::print::print;
 use crate::read::{cuts, read};
+use crate::shifts::shifts;
 use crate::words::{Asked, Task, parse_words};
 use anyhow::{Result, bail};
 use std::alloc::Global;
@@ -72,6 +73,7 @@ pub(crate) fn answer(alloc: Global, asked: Asked, text: &[u8]) -> Result<String>
         Task::Print(layout) => print(alloc, asked, layout, text),
         Task::Edit => edit(alloc, asked, text),
         Task::Cuts => cuts(alloc, asked, text),
+        Task::Shifts => shifts(alloc, asked, text),
         Task::Mutants(count) => mutants(alloc, asked, count, text),
         Task::Levels(count) => levels(alloc, asked, count, text),
     }

@@ -17,6 +17,8 @@ pub(crate) enum Task {
     Edit,
     /// What is answered to each beginning of the text, in numbers.
     Cuts,
+    /// How many spans the tree has, none of which may be off by a byte.
+    Shifts,
     /// Whether so many texts, each but for a byte the text, are answered, and printed where they are read.
     Mutants(u32),
     /// What is answered to so many first lines of the text, its second, and so many third lines.
@@ -59,6 +61,7 @@ pub(crate) fn parse_words(words: &str) -> Option<Asked> {
         "compact" => Task::Print(Layout::Compact),
         "edit" => Task::Edit,
         "cuts" => Task::Cuts,
+        "shifts" => Task::Shifts,
         "mutants" => Task::Mutants(words.next()?.parse().ok()?),
         "levels" => Task::Levels(words.next()?.parse().ok()?),
         _ => return None,

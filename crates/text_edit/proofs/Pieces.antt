@@ -9,7 +9,7 @@ use Rattle.text_lexer.specs.declared.token.TemplatePart.TheVariants as part
 use Rattle.text_pieces.specs.declared.piece.Gap.{Gap}
 use Rattle.text_pieces.specs.declared.piece.Gap.TheVariants as line
 use Rattle.text_pieces.specs.declared.piece.Piece as code
-use Rattle.text_pieces.specs.Tokens.{Piece, attribute, big_integer, closes, ends, gap, hashbang, here, may_braces, may_comma, may_from, name, never, number, parameter, piece_view, private_name, punctuator, quoted, regex, template, word}
+use Rattle.text_pieces.specs.Tokens.{Piece, attribute, big_integer, closes, ends, frame, gap, hashbang, here, may_braces, may_comma, may_from, name, never, number, parameter, piece_view, private_name, punctuator, quoted, regex, template, word}
 use Rattle.text_edit.specs.Alike.{alike, begin_alike, is_same, new_name, other_text, same_gap, same_part, same_raw, same_text}
 
 text_self : (a : List ℕ) → same_text a a ≡ true
@@ -57,6 +57,7 @@ alike_self here = refl
 alike_self (closes e) = refl
 alike_self ends = refl
 alike_self (gap g) = gap_self g
+alike_self (frame f) = refl
 alike_self never = refl
 
 no_other : (a : List ℕ) → other_text a a ≡ None
@@ -82,6 +83,7 @@ named_self here = refl
 named_self (closes e) = refl
 named_self ends = refl
 named_self (gap g) = refl
+named_self (frame f) = refl
 named_self never = refl
 
 one_self : (p : Piece) → is_same p p ≡ true

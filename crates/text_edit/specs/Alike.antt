@@ -7,7 +7,7 @@ use Rattle.text_lexer.specs.declared.token.TemplatePart.TheVariants as part
 use Rattle.text_lexer.specs.Marks.{spelling}
 use Rattle.text_pieces.specs.declared.piece.Gap.{Gap}
 use Rattle.text_pieces.specs.declared.piece.Gap.TheVariants as line
-use Rattle.text_pieces.specs.Tokens.{Piece, attribute, big_integer, closes, ends, gap, hashbang, here, may_braces, may_comma, may_from, name, never, number, parameter, private_name, punctuator, quoted, regex, template, word}
+use Rattle.text_pieces.specs.Tokens.{Piece, attribute, big_integer, closes, ends, frame, gap, hashbang, here, may_braces, may_comma, may_from, name, never, number, parameter, private_name, punctuator, quoted, regex, template, word}
 
 abbrev pub same_text : List ℕ → List ℕ → Bool
 same_text a b = pointwise nat_eq a b
@@ -60,6 +60,7 @@ alike may_braces may_braces = true
 alike here here = true
 alike ends ends = true
 alike never never = true
+alike (frame f) (frame g) = true
 alike (gap g) (gap h) = same_gap g h
 alike p q = same_token p q
 

@@ -73,6 +73,7 @@ pub(crate) fn is_alike(one: Piece<'_>, other: Piece<'_>) -> bool
             Piece::Gap(other) => same_gap(one, other),
             _ => false,
         },
+        Piece::Frame(_) => matches!(other, Piece::Frame(_)),
         Piece::Never => matches!(other, Piece::Never),
         Piece::Word(_)
         | Piece::Private(_)
@@ -128,6 +129,7 @@ fn is_same_token(one: Piece<'_>, other: Piece<'_>) -> bool
         | Piece::Closes(_)
         | Piece::End
         | Piece::Gap(_)
+        | Piece::Frame(_)
         | Piece::Never => is_same_literal(one, other),
     }
 }

@@ -7,7 +7,7 @@ use Rattle.text_lexer.specs.Tokens as token
 use Rattle.text_lexer.specs.Tokens.{Token}
 use Rattle.text_pieces.specs.declared.item.Ending.{Ending}
 use Rattle.text_pieces.specs.declared.item.Ending.TheVariants as ending
-use Rattle.text_pieces.specs.Tokens.{Piece, closes, ends, gap, here, may_braces, may_comma, may_from}
+use Rattle.text_pieces.specs.Tokens.{Piece, closes, ends, frame, gap, here, may_braces, may_comma, may_from}
 
 -- An expression goes on with any punctuator but those that begin another: `++` and `--` stand on the line of their operand.
 abbrev pub mark_goes_on : Mark → Bool
@@ -84,6 +84,7 @@ abbrev pub ending_behind : Ending → Piece → Ending
 ending_behind e (closes f) = f
 ending_behind e here = e
 ending_behind e (gap g) = e
+ending_behind e (frame f) = e
 ending_behind e may_comma = e
 ending_behind e may_from = e
 ending_behind e may_braces = e

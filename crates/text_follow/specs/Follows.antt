@@ -15,7 +15,7 @@ use Rattle.text_lexer.specs.Lexical.{token_at}
 use Rattle.text_pieces.specs.declared.item.Ending.{Ending}
 use Rattle.text_pieces.specs.declared.item.Ending.TheVariants as ending
 use Rattle.text_lexer.specs.declared.token.TemplatePart.TheVariants as part
-use Rattle.text_pieces.specs.Tokens.{Piece, attribute, big_integer, closes, ends, gap, hashbang, here, may_braces, may_comma, may_from, name, never, number, parameter, private_name, punctuator, quoted, regex, template, word}
+use Rattle.text_pieces.specs.Tokens.{Piece, attribute, big_integer, closes, ends, frame, gap, hashbang, here, may_braces, may_comma, may_from, name, never, number, parameter, private_name, punctuator, quoted, regex, template, word}
 use Rattle.text_follow.specs.Endings.{ending_behind, goes_on, is_loop}
 
 -- The lexical goal of a place is that of the piece that stands there (12).
@@ -104,6 +104,7 @@ Takes c soft fresh e (attribute key value) text rest = ReadsAttribute c fresh te
 Takes c soft fresh e here text rest = ((next : List ℕ) × (blank c fresh text ≡ Some (false, next))) × (rest ≡ text)
 Takes c soft fresh e (closes f) text rest = rest ≡ text
 Takes c soft fresh e (gap g) text rest = rest ≡ text
+Takes c soft fresh e (frame f) text rest = rest ≡ text
 Takes c soft fresh e never text rest = ⊥
 Takes c soft fresh e p text rest = Reads c fresh text p rest
 
@@ -111,6 +112,7 @@ Takes c soft fresh e p text rest = Reads c fresh text p rest
 abbrev pub fresh_behind : Bool → Piece → Bool
 fresh_behind fresh (closes e) = fresh
 fresh_behind fresh (gap g) = fresh
+fresh_behind fresh (frame f) = fresh
 fresh_behind fresh here = fresh
 fresh_behind fresh p = false
 

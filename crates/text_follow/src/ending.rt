@@ -132,6 +132,7 @@ pub fn ending_behind(ending: Ending, piece: Piece<'_>) -> Ending
         Piece::Closes(closed) => closed,
         Piece::Here
         | Piece::Gap(_)
+        | Piece::Frame(_)
         | Piece::MayComma
         | Piece::MayFrom
         | Piece::MayBraces

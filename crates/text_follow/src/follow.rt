@@ -13,7 +13,12 @@ use text_lexer::{Comments, Goal, Mark, skip_blank, token_at};
 use text_pieces::{Ending, Piece};
 
 // What is left behind a token, if the text begins with it.
-fn read<'a>(comments: Comments, fresh: bool, text: &'a [u8], piece: Piece<'_>) -> Option<&'a [u8]>
+pub(crate) fn read<'a>(
+    comments: Comments,
+    fresh: bool,
+    text: &'a [u8],
+    piece: Piece<'_>,
+) -> Option<&'a [u8]>
     ensures { IfSome result (λ rest. Reads comments fresh text.now (piece_view piece.entry) rest.now) }
 {
     let (_, next) = skip_blank(comments, fresh, text)?;
@@ -297,7 +302,7 @@ pub fn take<'a>(
         Piece::Parameter(name) => take_parameter(comments, soft, fresh, ending, text, name),
         Piece::Attribute(key, value) => take_attribute(comments, fresh, text, key, value),
         Piece::Here => take_here(comments, soft, fresh, ending, text),
-        Piece::Closes(_) | Piece::Gap(_) => Some(text),
+        Piece::Closes(_) | Piece::Gap(_) | Piece::Frame(_) => Some(text),
         Piece::Never => None,
         Piece::Word(_)
         | Piece::Name(_)
@@ -317,7 +322,7 @@ pub fn fresh_behind(fresh: bool, piece: Piece<'_>) -> bool
     ensures { result ≡ fresh_behind fresh (piece_view piece.entry) }
 {
     match piece {
-        Piece::Closes(_) | Piece::Gap(_) | Piece::Here => fresh,
+        Piece::Closes(_) | Piece::Gap(_) | Piece::Frame(_) | Piece::Here => fresh,
         _ => false,
     }
 }

@@ -4,7 +4,9 @@
 mod ending;
 mod follow;
 mod spell;
+mod stand;
 
 pub use ending::ending_behind;
 pub use follow::{follows, fresh_behind, take};
 pub use spell::goal_of;
+pub use stand::frames_stand;

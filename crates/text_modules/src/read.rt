@@ -6,7 +6,7 @@ ghost use Rattle.text_checks.specs.Checked.{IsWellFormed};
 ghost use Rattle.text_parser.specs.declared.programs.Goal.TheVariants as goal;
 ghost use Rattle.text_pinned.specs.Pinned.{IsPinned};
 ghost use Rattle.text_reader.specs.declared.fault.TextFault.TheVariants as fault;
-ghost use Rattle.text_source.specs.Texts.{IsTextOf, Tells, most_bytes, slot_of};
+ghost use Rattle.text_source.specs.Texts.{IsTextOf, SpansAreOf, Tells, most_bytes, slot_of};
 ghost use Rattle.text_spans.specs.Leaves.{LeavesStand};
 
 use std::alloc::Global;
@@ -23,6 +23,7 @@ pub fn read_module(alloc: Global, depth: u32, text: &[u8]) -> Result<Module, Tex
     ensures formed { IfOk result (λ read. IsWellFormed (slot_of goal.Module) (module_node read)) }
     ensures pinned { IfOk result (λ read. IsPinned (module_node read)) }
     ensures leaves { IfOk result (λ read. LeavesStand text.now (module_node read)) }
+    ensures spans { IfOk result (λ read. SpansAreOf goal.Module (module_node read) text.now) }
     ensures refusal { IfErr result (Tells text.now) }
     ensures too_long { most_bytes < length text.now → result ≡ Err fault.TooLong }
     ensures no_utf8 { length text.now ≤ most_bytes → (IsUtf8 text.now → ⊥) → result ≡ Err (fault.NotUtf8 (utf8_valid_len text.now)) }
@@ -43,6 +44,7 @@ pub fn read_script(alloc: Global, depth: u32, text: &[u8]) -> Result<Script, Tex
     ensures formed { IfOk result (λ read. IsWellFormed (slot_of goal.Script) (script_node read)) }
     ensures pinned { IfOk result (λ read. IsPinned (script_node read)) }
     ensures leaves { IfOk result (λ read. LeavesStand text.now (script_node read)) }
+    ensures spans { IfOk result (λ read. SpansAreOf goal.Script (script_node read) text.now) }
     ensures refusal { IfErr result (Tells text.now) }
     ensures too_long { most_bytes < length text.now → result ≡ Err fault.TooLong }
     ensures no_utf8 { length text.now ≤ most_bytes → (IsUtf8 text.now → ⊥) → result ≡ Err (fault.NotUtf8 (utf8_valid_len text.now)) }

@@ -85,13 +85,6 @@ abbrev pub attributes : Node-F Node → List Piece
 attributes (Node-F.List ts) = token.word (codes "with") ∷ token.punctuator mark.LeftBrace ∷ pairs false ts ++ token.punctuator mark.RightBrace ∷ []
 attributes _ = []
 
-abbrev pub lone_piece : Option (List ℕ) → List Piece
-lone_piece (Some a) = token.parameter a ∷ []
-lone_piece None = []
-
-abbrev pub lone : Node-F Node → List Piece
-lone x = lone_piece (lone_name x)
-
 abbrev pub text_piece : Form → List ℕ → Piece
 text_piece form.Name a = token.name a
 text_piece form.Number a = token.number a
@@ -119,7 +112,6 @@ form_pieces (form.EndingUnless e) t = when (not (is_set (out-Node t))) (token.cl
 form_pieces form.Comma t = when (takes_comma (out-Node t)) token.may_comma
 form_pieces form.CommaUnlessLone t = when (takes_comma (out-Node t) && not (is_some (lone_name (out-Node t)))) token.may_comma
 form_pieces form.Hole t = when (ends_with_hole (out-Node t)) (token.punctuator mark.Comma)
-form_pieces form.Lone t = lone (out-Node t)
 form_pieces form.Dot t = when (not (is_computed (out-Node t))) (token.punctuator mark.Dot)
 form_pieces form.Accessor t = accessor (out-Node t)
 form_pieces form.Async t = asynchronous (out-Node t)

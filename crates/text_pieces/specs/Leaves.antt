@@ -1,6 +1,7 @@
 -- What is seen of a node by its form alone.
 use Rattle.std.specs.Prelude.{ℕ, ◌-◌, Bool, true, false, not, List, [], ◌∷◌, codes, length, slice_get, Option, Some, None, is_some, nat_eq}
 use Rattle.std.specs.Cmp.Lexicographic.{pointwise}
+use Rattle.swc_tree_marks.specs.declared.span.Span.{Span}
 use Rattle.swc_tree_node.specs.declared.kind.Kind.TheVariants as kind
 use Rattle.swc_tree_node.specs.declared.kind.Word.TheVariants as word
 use Rattle.swc_tree_node.specs.declared.node.Node.{Node, out-Node}
@@ -106,6 +107,18 @@ only_name _ = None
 -- the plain name that is the one item of a list
 abbrev pub lone_name : Node-F Node → Option (List ℕ)
 lone_name x = only_name (items_of x)
+
+abbrev pub bound_span : Node-F Node → Option Span
+bound_span (Node-F.Identifier kind.BindingIdent i) = Some i.span
+bound_span _ = None
+
+abbrev pub only_span : List Node → Option Span
+only_span (t ∷ []) = bound_span (out-Node t)
+only_span _ = None
+
+-- where that name stands
+abbrev pub lone_span : Node-F Node → Option Span
+lone_span x = only_span (items_of x)
 
 abbrev pub is_let : Node-F Node → Bool
 is_let (Node-F.Identifier k i) = pointwise nat_eq i.sym (codes "let")

@@ -4,4 +4,5 @@ pub mod Leaves
 pub mod Signs
 pub mod Tokens
 pub mod Forms
+pub mod Frames
 pub mod Pieces

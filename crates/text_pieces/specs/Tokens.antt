@@ -4,9 +4,21 @@ use Rattle.std.specs.Option.{option_copied}
 use Rattle.text_lexer.specs.declared.mark.Mark.{Mark}
 use Rattle.text_lexer.specs.declared.token.TemplatePart.{TemplatePart}
 use Rattle.text_pieces.specs.declared.item.Ending.{Ending}
+use Rattle.swc_tree_marks.specs.declared.span.Span.{Span}
+use Rattle.text_pieces.specs.declared.piece.Frame as frame_code
+use Rattle.text_pieces.specs.declared.piece.Frame.TheVariants as frames_of
 use Rattle.text_pieces.specs.declared.piece.Gap.{Gap}
 use Rattle.text_pieces.specs.declared.piece.Piece as code
 use Rattle.text_pieces.specs.declared.piece.Piece.TheVariants as codes_of
+
+-- where a node begins or stops in its text, in bytes from 1
+pub data Frame : Type 0 where
+  -- the next token begins here
+  begins : ℕ → Frame
+  -- the last token has ended before this byte
+  stops : ℕ → Frame
+  -- the next name, which may stand in parentheses, is this one and has this span
+  named : List ℕ → Span → Frame
 
 -- a token of a tree, or what is said of the text between two
 pub data Piece : Type 0 where
@@ -45,8 +57,15 @@ pub data Piece : Type 0 where
   ends : Piece
   -- no token: how a text is laid out
   gap : Gap → Piece
+  -- no token: where a node begins or stops
+  frame : Frame → Piece
   -- what no text has
   never : Piece
+
+abbrev pub frame_view : frame_code.Frame → Frame
+frame_view (frames_of.Begins place) = begins place
+frame_view (frames_of.Stops place) = stops place
+frame_view (frames_of.Named a s) = named a.now s
 
 abbrev pub piece_view : code.Piece → Piece
 piece_view (codes_of.Word a) = word a.now
@@ -68,6 +87,7 @@ piece_view codes_of.Here = here
 piece_view (codes_of.Closes e) = closes e
 piece_view codes_of.End = ends
 piece_view (codes_of.Gap g) = gap g
+piece_view (codes_of.Frame f) = frame (frame_view f)
 piece_view codes_of.Never = never
 
 abbrev pub sign_piece : Option Mark → List ℕ → Piece

@@ -208,15 +208,6 @@ fn add_attributes<'a>(node: &'a Node, found: &mut Vec<Piece<'a>>) -> Result<(), 
     }
 }
 
-fn add_lone<'a>(node: &'a Node, found: &mut Vec<Piece<'a>>) -> Result<(), AllocError>
-    ensures { OnOk result (map piece_view found.new.items ≡ map piece_view found.old.items ++ spec.lone (out-Node node.now)) }
-{
-    match lone_name(node) {
-        Some(name) => push(found, Piece::Parameter(name)),
-        None => Ok(()),
-    }
-}
-
 fn add_text<'a>(node: &'a Node, form: Form, found: &mut Vec<Piece<'a>>) -> Result<(), AllocError>
     ensures { OnOk result (map piece_view found.new.items ≡ map piece_view found.old.items ++ spec.text_pieces form node.now) }
 {
@@ -265,7 +256,6 @@ pub(crate) fn add_form<'a>(
         Form::Name | Form::Number | Form::BigInt | Form::Private | Form::Hashbang => add_text(
             node, form, found,
         ),
-        Form::Lone => add_lone(node, found),
         Form::Dot => push_if(found, !is_computed(node), Piece::Mark(Mark::Dot)),
         Form::Accessor => add_accessor(node, found),
         Form::Async => add_async(node, found),

@@ -50,8 +50,6 @@ pub enum Form {
     BigInt,
     Private,
     Hashbang,
-    /// One plain name that may stand in parentheses.
-    Lone,
     /// A dot before a name, and nothing before a computed key.
     Dot,
     /// `get` or `set`.
@@ -85,6 +83,14 @@ pub enum Item {
     Word(Keyword),
     /// A field as it is written; the items of a list each in a line.
     Part(usize),
+    /// A field without its frame, which is that of the whole.
+    Within(usize),
+    /// The second field, in the frame of the span that the first is.
+    At(usize, usize),
+    /// Three dots, if the field is their span.
+    Dots(usize),
+    /// One plain name that may stand in parentheses.
+    Lone(usize),
     /// A field as it stands at the head of a `for`.
     Head(usize),
     /// A statement where no declaration by `let` may stand.

@@ -53,7 +53,7 @@ pub fn layout_of(kind: Kind) -> &'static [Item]
         Kind::ExportNamespaceSpecifier => &[
             Item::Sign(Mark::Mul),
             Item::Word(Keyword::As),
-            Item::Part(1),
+            Item::At(0, 1),
         ],
         Kind::ExportNamedSpecifier => &[
             Item::Part(1),
@@ -129,13 +129,13 @@ pub fn layout_of(kind: Kind) -> &'static [Item]
             Item::Word(Keyword::Function),
             Item::Of(1, Form::Star),
             Item::Part(0),
-            Item::Part(1),
+            Item::Within(1),
         ],
         Kind::ArrowExpr => &[
             Item::Of(3, Form::WordIf(Keyword::Async)),
             Item::Of(3, Form::HereIf),
             Item::Of(1, Form::SignUnlessLone(Mark::LeftParen)),
-            Item::Of(1, Form::Lone),
+            Item::Lone(1),
             Item::Others(1),
             Item::Of(1, Form::CommaUnlessLone),
             Item::Of(1, Form::SignUnlessLone(Mark::RightParen)),
@@ -153,7 +153,7 @@ pub fn layout_of(kind: Kind) -> &'static [Item]
             Item::Out,
             Item::Sign(Mark::RightBrace),
         ],
-        Kind::ClassExpr => &[Item::Word(Keyword::Class), Item::Part(0), Item::Part(1)],
+        Kind::ClassExpr => &[Item::Word(Keyword::Class), Item::Part(0), Item::Within(1)],
         Kind::Constructor => &[
             Item::Part(1),
             Item::Sign(Mark::LeftParen),
@@ -194,7 +194,7 @@ pub fn layout_of(kind: Kind) -> &'static [Item]
             Item::Part(2),
             Item::End,
         ],
-        Kind::StaticBlock => &[Item::Word(Keyword::Static), Item::Part(1)],
+        Kind::StaticBlock => &[Item::Word(Keyword::Static), Item::Within(1)],
         Kind::ComputedPropName => &[
             Item::Sign(Mark::LeftBracket),
             Item::Part(1),
@@ -249,14 +249,14 @@ pub fn layout_of(kind: Kind) -> &'static [Item]
             Item::Of(1, Form::Comma),
             Item::Sign(Mark::RightBracket),
         ],
-        Kind::ExprOrSpread => &[Item::Of(0, Form::SignIf(Mark::Dots)), Item::Part(1)],
+        Kind::ExprOrSpread => &[Item::Dots(0), Item::Part(1)],
         Kind::ObjectLit => &[
             Item::Sign(Mark::LeftBrace),
             Item::List(1),
             Item::Of(1, Form::Comma),
             Item::Sign(Mark::RightBrace),
         ],
-        Kind::SpreadElement => &[Item::Sign(Mark::Dots), Item::Part(1)],
+        Kind::SpreadElement => &[Item::Dots(0), Item::Part(1)],
         Kind::KeyValueProp => &[Item::Part(0), Item::Sign(Mark::Colon), Item::Part(1)],
         Kind::UnaryExpr => &[Item::Part(1), Item::Part(2)],
         Kind::UpdateExpr => &[
@@ -316,13 +316,13 @@ pub fn layout_of(kind: Kind) -> &'static [Item]
             Item::Of(2, Form::Comma),
             Item::Sign(Mark::RightParen),
         ],
-        Kind::ClassDecl => &[Item::Word(Keyword::Class), Item::Part(0), Item::Part(1)],
+        Kind::ClassDecl => &[Item::Word(Keyword::Class), Item::Part(0), Item::Within(1)],
         Kind::FnDecl => &[
             Item::Of(1, Form::Async),
             Item::Word(Keyword::Function),
             Item::Of(1, Form::Star),
             Item::Part(0),
-            Item::Part(1),
+            Item::Within(1),
         ],
         Kind::VarDecl => &[Item::Part(1), Item::List(2), Item::End],
         Kind::UsingDecl => &[

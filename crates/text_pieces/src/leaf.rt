@@ -4,6 +4,7 @@ ghost use Rattle.std.specs.Option.{option_copied};
 ghost use Rattle.swc_tree_node.specs.declared.node.Node.{out-Node};
 ghost use Rattle.text_pieces.specs.Leaves as spec;
 
+use swc_tree_marks::Span;
 use swc_tree_node::{Kind, Node, Word};
 
 /// A field by its number.
@@ -176,6 +177,25 @@ pub(crate) fn lone_name(node: &Node) -> Option<&str>
 {
     match items_of(node) {
         [item] => bound_name(item),
+        _ => None,
+    }
+}
+
+fn bound_span(node: &Node) -> Option<Span>
+    ensures { result ≡ spec.bound_span (out-Node node.now) }
+{
+    match node {
+        Node::Identifier(Kind::BindingIdent, ident) => Some(ident.get().span),
+        _ => None,
+    }
+}
+
+/// Where the plain name stands that is the one item of a list.
+pub(crate) fn lone_span(node: &Node) -> Option<Span>
+    ensures { result ≡ spec.lone_span (out-Node node.now) }
+{
+    match items_of(node) {
+        [item] => bound_span(item),
         _ => None,
     }
 }

@@ -1,5 +1,6 @@
 //! The tokens of a tree.
 use crate::item::Ending;
+use swc_tree_marks::Span;
 use text_lexer::{Mark, TemplatePart};
 
 /// Where a line ends, if a text is laid out.
@@ -11,6 +12,17 @@ pub enum Gap {
     In,
     /// Lines are no longer further in, and one begins.
     Out,
+}
+
+/// Where a node begins or stops in its text, in bytes from 1.
+#[derive(Clone, Copy)]
+pub enum Frame<'a> {
+    /// The next token begins here.
+    Begins(usize),
+    /// The last token has ended before this byte.
+    Stops(usize),
+    /// The next name, which may stand in parentheses, is this one and has this span.
+    Named(&'a str, Span),
 }
 
 /// What a tree is written with: a token, or what is said of the text between two.
@@ -53,6 +65,8 @@ pub enum Piece<'a> {
     End,
     /// No token: how a text is laid out.
     Gap(Gap),
+    /// No token: where a node begins or stops.
+    Frame(Frame<'a>),
     /// What no text has.
     Never,
 }

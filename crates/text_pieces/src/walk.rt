@@ -1,20 +1,26 @@
 //! A tree's tokens, one after another.
-ghost use Rattle.std.specs.Prelude.{◌≡◌, ◌++◌, [], false, map, IfOk, OnOk, slice_get, if◌then◌else◌};
+ghost use Rattle.std.specs.Prelude.{◌≡◌, ◌++◌, [], ◌∷◌, Some, false, map, IfOk, OnOk, slice_get, if◌then◌else◌};
 ghost use Rattle.swc_tree_node.specs.declared.node.Node.{out-Node};
+ghost use Rattle.text_pieces.specs.Frames.{framing, in_frames, span_at as field_span, without_frames};
 ghost use Rattle.text_pieces.specs.Pieces as spec;
-ghost use Rattle.text_pieces.specs.Pieces.{written};
-ghost use Rattle.text_pieces.specs.Tokens.{piece_view};
+ghost use Rattle.text_pieces.specs.Pieces.{written, written_with};
+ghost use Rattle.text_pieces.specs.Tokens.{name, piece_view};
 
 use crate::form::{add_form, piece_of_word, push, push_if};
+use crate::frame::{
+    first_span, inner_span, own_span, push_begun, push_named, push_stopped, push_text_begun,
+    push_text_stopped, span_at,
+};
 use crate::item::{Form, Item};
 use crate::keyword::keyword_text;
 use crate::layout::{apart_layout_of, layout_of};
 use crate::leaf::{
     field_at, is_declaration_at, is_expression_at, is_lone_at, is_named, is_set_at, items_of,
-    text_at,
+    lone_name, lone_span, text_at,
 };
 use crate::piece::{Gap, Piece};
 use std::alloc::{AllocError, Global};
+use swc_tree_marks::Ident;
 use swc_tree_node::{Kind, Node};
 use text_lexer::{Mark, TemplatePart};
 
@@ -38,7 +44,22 @@ pub fn pieces(alloc: Global, tree: &Node) -> Result<Vec<Piece<'_>>, AllocError>
     ensures { IfOk result (λ found. map piece_view found.items ≡ spec.pieces tree.now) }
 {
     let mut found = Vec::new(alloc);
-    add(tree, &mut found)?;
+    add(false, tree, &mut found)?;
+    Ok(found)
+}
+
+/// The same, with each node in the frame of its span.
+///
+/// # Errors
+///
+/// Where memory is refused.
+#[tactic(auto, using(crate::proofs::Frameless::frameless))]
+pub fn framed_pieces(alloc: Global, tree: &Node) -> Result<Vec<Piece<'_>>, AllocError>
+    ensures frames { IfOk result (λ found. map piece_view found.items ≡ spec.framed_pieces tree.now) }
+    ensures tokens { IfOk result (λ found. without_frames (map piece_view found.items) ≡ spec.pieces tree.now) }
+{
+    let mut found = Vec::new(alloc);
+    add(true, tree, &mut found)?;
     Ok(found)
 }
 
@@ -128,54 +149,186 @@ fn regex_piece<'a>(
     }
 }
 
+// One plain name that may stand in parentheses.
+fn add_lone<'a>(
+    framed: bool,
+    fields: &'a [Node],
+    n: usize,
+    found: &mut Vec<Piece<'a>>,
+) -> Result<(), AllocError>
+    ensures { OnOk result (map piece_view found.new.items ≡ map piece_view found.old.items ++ spec.lone_in framed (slice_get fields.now n)) }
+{
+    match field_at(fields, n) {
+        Some(node) => match lone_name(node) {
+            Some(name) => {
+                push_named(framed, lone_span(node), name, found)?;
+                push(found, Piece::Parameter(name))
+            }
+            None => Ok(()),
+        },
+        None => Ok(()),
+    }
+}
+
+fn add_dots<'a>(
+    framed: bool,
+    fields: &'a [Node],
+    n: usize,
+    found: &mut Vec<Piece<'a>>,
+) -> Result<(), AllocError>
+    ensures { OnOk result (map piece_view found.new.items ≡ map piece_view found.old.items ++ spec.dots_at framed fields.now n) }
+{
+    if !is_set_at(fields, n) {
+        return Ok(());
+    }
+    if !framed {
+        return push(found, Piece::Mark(Mark::Dots));
+    }
+    push_begun(span_at(fields, n), found)?;
+    push(found, Piece::Mark(Mark::Dots))?;
+    push_stopped(span_at(fields, n), found)
+}
+
+// A text of a template.
+fn add_text<'a>(
+    framed: bool,
+    part: TemplatePart,
+    node: &'a Node,
+    found: &mut Vec<Piece<'a>>,
+) -> Result<(), AllocError>
+    ensures { OnOk result (map piece_view found.new.items ≡ map piece_view found.old.items ++ spec.text_in_frame framed part (out-Node node.now)) }
+{
+    if !framed {
+        return push(found, template_piece(part, node));
+    }
+    push_text_begun(first_span(node), found)?;
+    push(found, template_piece(part, node))?;
+    push_text_stopped(part, first_span(node), found)
+}
+
+fn add_name<'a>(
+    framed: bool,
+    ident: &'a Ident,
+    found: &mut Vec<Piece<'a>>,
+) -> Result<(), AllocError>
+    ensures { OnOk result (map piece_view found.new.items ≡ map piece_view found.old.items ++ framing framed (Some ident.now.span) (name ident.now.sym ∷ [])) }
+{
+    if !framed {
+        return push(found, Piece::Name(ident.sym.as_str()));
+    }
+    push_begun(Some(ident.span), found)?;
+    push(found, Piece::Name(ident.sym.as_str()))?;
+    push_stopped(Some(ident.span), found)
+}
+
 #[cycle(add)]
-fn add<'a>(tree: &'a Node, found: &mut Vec<Piece<'a>>) -> Result<(), AllocError>
-    ensures { OnOk result (map piece_view found.new.items ≡ map piece_view found.old.items ++ spec.pieces tree.now) }
+fn add<'a>(framed: bool, tree: &'a Node, found: &mut Vec<Piece<'a>>) -> Result<(), AllocError>
+    ensures { OnOk result (map piece_view found.new.items ≡ map piece_view found.old.items ++ written_with framed tree.now) }
 {
     match tree {
-        Node::List(items) => add_lines(items.as_slice(), found),
-        Node::Identifier(_, ident) => push(found, Piece::Name(ident.get().sym.as_str())),
+        Node::List(items) => add_lines(framed, items.as_slice(), found),
+        Node::Identifier(_, ident) => add_name(framed, ident.get(), found),
         Node::Word(word) => push(found, piece_of_word(*word)),
-        Node::Tree(kind, fields) => add_fields(layout_of(*kind), fields.as_slice(), found),
+        Node::Tree(kind, fields) => add_tree(
+            framed,
+            *kind,
+            layout_of(*kind),
+            fields.as_slice(),
+            found,
+        ),
         Node::Absent | Node::Flag(_) | Node::Text(_) | Node::Span(_) => Ok(()),
     }
 }
 
 #[cycle(add)]
-fn add_apart<'a>(tree: &'a Node, found: &mut Vec<Piece<'a>>) -> Result<(), AllocError>
-    ensures { OnOk result (map piece_view found.new.items ≡ map piece_view found.old.items ++ (written tree.now).apart) }
+fn add_apart<'a>(framed: bool, tree: &'a Node, found: &mut Vec<Piece<'a>>) -> Result<(), AllocError>
+    ensures { OnOk result (map piece_view found.new.items ≡ map piece_view found.old.items ++ (written framed tree.now).apart) }
 {
     match tree {
-        Node::Tree(kind, fields) => add_fields(apart_layout_of(*kind), fields.as_slice(), found),
+        Node::Tree(kind, fields) => add_tree(
+            framed,
+            *kind,
+            apart_layout_of(*kind),
+            fields.as_slice(),
+            found,
+        ),
         _ => Ok(()),
     }
 }
 
+// The same without its frames.
 #[cycle(add)]
-fn add_lines<'a>(items: &'a [Node], found: &mut Vec<Piece<'a>>) -> Result<(), AllocError>
-    ensures { OnOk result (map piece_view found.new.items ≡ map piece_view found.old.items ++ spec.lines (map spec.pieces items.now)) }
+fn add_within<'a>(
+    framed: bool,
+    tree: &'a Node,
+    found: &mut Vec<Piece<'a>>,
+) -> Result<(), AllocError>
+    ensures { OnOk result (map piece_view found.new.items ≡ map piece_view found.old.items ++ (written framed tree.now).within) }
+{
+    match tree {
+        Node::Tree(kind, fields) => add_fields(framed, layout_of(*kind), fields.as_slice(), found),
+        _ => Ok(()),
+    }
+}
+
+// What a node of a kind is written with by a layout, in its frames.
+#[cycle(add)]
+fn add_tree<'a>(
+    framed: bool,
+    kind: Kind,
+    layout: &[Item],
+    fields: &'a [Node],
+    found: &mut Vec<Piece<'a>>,
+) -> Result<(), AllocError>
+    ensures { OnOk result (map piece_view found.new.items ≡ map piece_view found.old.items ++ in_frames framed kind fields.now (spec.layout_pieces framed fields.now (map (written framed) fields.now) layout.now)) }
+{
+    if !framed {
+        return add_fields(framed, layout, fields, found);
+    }
+    push_begun(own_span(kind, fields), found)?;
+    push_begun(inner_span(kind, fields), found)?;
+    add_fields(framed, layout, fields, found)?;
+    push_stopped(inner_span(kind, fields), found)?;
+    push_stopped(own_span(kind, fields), found)
+}
+
+#[cycle(add)]
+fn add_lines<'a>(
+    framed: bool,
+    items: &'a [Node],
+    found: &mut Vec<Piece<'a>>,
+) -> Result<(), AllocError>
+    ensures { OnOk result (map piece_view found.new.items ≡ map piece_view found.old.items ++ spec.lines (map (written_with framed) items.now)) }
 {
     for i in 0..items.len() {
         push(found, Piece::Gap(Gap::Line))?;
-        add(&items[i], found)?;
+        add(framed, &items[i], found)?;
     }
     Ok(())
 }
 
 #[cycle(add)]
-fn add_list<'a>(items: &'a [Node], found: &mut Vec<Piece<'a>>) -> Result<(), AllocError>
-    ensures { OnOk result (map piece_view found.new.items ≡ map piece_view found.old.items ++ spec.with_commas (map spec.pieces items.now)) }
+fn add_list<'a>(
+    framed: bool,
+    items: &'a [Node],
+    found: &mut Vec<Piece<'a>>,
+) -> Result<(), AllocError>
+    ensures { OnOk result (map piece_view found.new.items ≡ map piece_view found.old.items ++ spec.with_commas (map (written_with framed) items.now)) }
 {
     for i in 0..items.len() {
         push_if(found, i > 0, Piece::Mark(Mark::Comma))?;
-        add(&items[i], found)?;
+        add(framed, &items[i], found)?;
     }
     Ok(())
 }
 
 #[cycle(add)]
-fn add_specifiers<'a>(items: &'a [Node], found: &mut Vec<Piece<'a>>) -> Result<(), AllocError>
-    ensures { OnOk result (map piece_view found.new.items ≡ map piece_view found.old.items ++ spec.specified false false items.now (map spec.pieces items.now)) }
+fn add_specifiers<'a>(
+    framed: bool,
+    items: &'a [Node],
+    found: &mut Vec<Piece<'a>>,
+) -> Result<(), AllocError>
+    ensures { OnOk result (map piece_view found.new.items ≡ map piece_view found.old.items ++ spec.specified false false items.now (map (written_with framed) items.now)) }
 {
     let mut some = false;
     let mut inside = false;
@@ -183,7 +336,7 @@ fn add_specifiers<'a>(items: &'a [Node], found: &mut Vec<Piece<'a>>) -> Result<(
         let named = is_named(&items[i]);
         push_if(found, some, Piece::Mark(Mark::Comma))?;
         push_if(found, named && !inside, Piece::Mark(Mark::LeftBrace))?;
-        add(&items[i], found)?;
+        add(framed, &items[i], found)?;
         some = true;
         inside = inside || named;
     }
@@ -193,111 +346,158 @@ fn add_specifiers<'a>(items: &'a [Node], found: &mut Vec<Piece<'a>>) -> Result<(
 
 #[cycle(add)]
 fn add_template<'a>(
+    framed: bool,
     parts: &'a [Node],
     texts: &'a [Node],
     found: &mut Vec<Piece<'a>>,
 ) -> Result<(), AllocError>
-    ensures { OnOk result (map piece_view found.new.items ≡ map piece_view found.old.items ++ spec.template_pieces texts.now (map spec.pieces parts.now)) }
+    ensures { OnOk result (map piece_view found.new.items ≡ map piece_view found.old.items ++ spec.template_pieces framed texts.now (map (written_with framed) parts.now)) }
 {
     if texts.len() != parts.len() + 1 {
         return push(found, Piece::Never);
     }
     let mut some = false;
     for i in 0..parts.len() {
-        push(found, template_piece(opening_part(some), &texts[i]))?;
-        add(&parts[i], found)?;
+        add_text(framed, opening_part(some), &texts[i], found)?;
+        add(framed, &parts[i], found)?;
         some = true;
     }
-    push(
-        found,
-        template_piece(closing_part(some), &texts[parts.len()]),
-    )
+    add_text(framed, closing_part(some), &texts[parts.len()], found)
 }
 
 #[cycle(add)]
 fn add_many<'a>(
+    framed: bool,
     items: &'a [Node],
     texts: &'a [Node],
     many: Many,
     found: &mut Vec<Piece<'a>>,
 ) -> Result<(), AllocError>
-    ensures { OnOk result (map piece_view found.new.items ≡ map piece_view found.old.items ++ spec.many_pieces many texts.now items.now (map spec.pieces items.now)) }
+    ensures { OnOk result (map piece_view found.new.items ≡ map piece_view found.old.items ++ spec.many_pieces framed many texts.now items.now (map (written_with framed) items.now)) }
 {
     match many {
-        Many::List => add_list(items, found),
-        Many::Specifiers => add_specifiers(items, found),
-        Many::Template => add_template(items, texts, found),
+        Many::List => add_list(framed, items, found),
+        Many::Specifiers => add_specifiers(framed, items, found),
+        Many::Template => add_template(framed, items, texts, found),
     }
 }
 
 #[cycle(add)]
 fn add_items<'a>(
+    framed: bool,
     fields: &'a [Node],
     n: usize,
     texts: &'a [Node],
     many: Many,
     found: &mut Vec<Piece<'a>>,
 ) -> Result<(), AllocError>
-    ensures { OnOk result (map piece_view found.new.items ≡ map piece_view found.old.items ++ spec.items_pieces many texts.now (spec.each_in (slice_get (map written fields.now) n))) }
+    ensures { OnOk result (map piece_view found.new.items ≡ map piece_view found.old.items ++ spec.items_pieces framed many texts.now (spec.each_in (slice_get (map (written framed) fields.now) n))) }
 {
     if n >= fields.len() {
         return Ok(());
     }
     match &fields[n] {
-        Node::List(items) => add_many(items.as_slice(), texts, many, found),
+        Node::List(items) => add_many(framed, items.as_slice(), texts, many, found),
         _ => Ok(()),
     }
 }
 
 #[cycle(add)]
-fn add_part<'a>(fields: &'a [Node], n: usize, found: &mut Vec<Piece<'a>>) -> Result<(), AllocError>
-    ensures { OnOk result (map piece_view found.new.items ≡ map piece_view found.old.items ++ spec.pieces_in (slice_get (map written fields.now) n)) }
+fn add_part<'a>(
+    framed: bool,
+    fields: &'a [Node],
+    n: usize,
+    found: &mut Vec<Piece<'a>>,
+) -> Result<(), AllocError>
+    ensures { OnOk result (map piece_view found.new.items ≡ map piece_view found.old.items ++ spec.pieces_in (slice_get (map (written framed) fields.now) n)) }
 {
     if n < fields.len() {
-        add(&fields[n], found)
+        add(framed, &fields[n], found)
     } else {
         Ok(())
     }
 }
 
 #[cycle(add)]
-fn add_other<'a>(fields: &'a [Node], n: usize, found: &mut Vec<Piece<'a>>) -> Result<(), AllocError>
-    ensures { OnOk result (map piece_view found.new.items ≡ map piece_view found.old.items ++ spec.apart_in (slice_get (map written fields.now) n)) }
+fn add_other<'a>(
+    framed: bool,
+    fields: &'a [Node],
+    n: usize,
+    found: &mut Vec<Piece<'a>>,
+) -> Result<(), AllocError>
+    ensures { OnOk result (map piece_view found.new.items ≡ map piece_view found.old.items ++ spec.apart_in (slice_get (map (written framed) fields.now) n)) }
 {
     if n < fields.len() {
-        add_apart(&fields[n], found)
+        add_apart(framed, &fields[n], found)
     } else {
         Ok(())
     }
+}
+
+#[cycle(add)]
+fn add_inner<'a>(
+    framed: bool,
+    fields: &'a [Node],
+    n: usize,
+    found: &mut Vec<Piece<'a>>,
+) -> Result<(), AllocError>
+    ensures { OnOk result (map piece_view found.new.items ≡ map piece_view found.old.items ++ spec.within_in (slice_get (map (written framed) fields.now) n)) }
+{
+    if n < fields.len() {
+        add_within(framed, &fields[n], found)
+    } else {
+        Ok(())
+    }
+}
+
+// A field in the frame of the span that another is.
+#[cycle(add)]
+fn add_at<'a>(
+    framed: bool,
+    fields: &'a [Node],
+    n: usize,
+    m: usize,
+    found: &mut Vec<Piece<'a>>,
+) -> Result<(), AllocError>
+    ensures { OnOk result (map piece_view found.new.items ≡ map piece_view found.old.items ++ framing framed (field_span fields.now n) (spec.pieces_in (slice_get (map (written framed) fields.now) m))) }
+{
+    if !framed {
+        return add_part(framed, fields, m, found);
+    }
+    push_begun(span_at(fields, n), found)?;
+    add_part(framed, fields, m, found)?;
+    push_stopped(span_at(fields, n), found)
 }
 
 #[cycle(add)]
 fn add_chosen<'a>(
+    framed: bool,
     apart: bool,
     fields: &'a [Node],
     n: usize,
     found: &mut Vec<Piece<'a>>,
 ) -> Result<(), AllocError>
-    ensures { OnOk result (map piece_view found.new.items ≡ map piece_view found.old.items ++ spec.chosen apart (slice_get (map written fields.now) n)) }
+    ensures { OnOk result (map piece_view found.new.items ≡ map piece_view found.old.items ++ spec.chosen apart (slice_get (map (written framed) fields.now) n)) }
 {
     if apart {
-        add_other(fields, n, found)
+        add_other(framed, fields, n, found)
     } else {
-        add_part(fields, n, found)
+        add_part(framed, fields, n, found)
     }
 }
 
 #[cycle(add)]
 fn add_part_if<'a>(
+    framed: bool,
     wanted: bool,
     fields: &'a [Node],
     n: usize,
     found: &mut Vec<Piece<'a>>,
 ) -> Result<(), AllocError>
-    ensures { OnOk result (map piece_view found.new.items ≡ map piece_view found.old.items ++ (if wanted then spec.pieces_in (slice_get (map written fields.now) n) else [])) }
+    ensures { OnOk result (map piece_view found.new.items ≡ map piece_view found.old.items ++ (if wanted then spec.pieces_in (slice_get (map (written framed) fields.now) n) else [])) }
 {
     if wanted {
-        add_part(fields, n, found)
+        add_part(framed, fields, n, found)
     } else {
         Ok(())
     }
@@ -305,55 +505,69 @@ fn add_part_if<'a>(
 
 #[cycle(add)]
 fn add_others<'a>(
+    framed: bool,
     fields: &'a [Node],
     n: usize,
     found: &mut Vec<Piece<'a>>,
 ) -> Result<(), AllocError>
-    ensures { OnOk result (map piece_view found.new.items ≡ map piece_view found.old.items ++ spec.others_at fields.now (map written fields.now) n) }
+    ensures { OnOk result (map piece_view found.new.items ≡ map piece_view found.old.items ++ spec.others_at framed fields.now (map (written framed) fields.now) n) }
 {
     if is_lone_at(fields, n) {
         Ok(())
     } else {
-        add_items(fields, n, &[], Many::List, found)
+        add_items(framed, fields, n, &[], Many::List, found)
     }
 }
 
 #[cycle(add)]
 fn add_fields<'a>(
+    framed: bool,
     layout: &[Item],
     fields: &'a [Node],
     found: &mut Vec<Piece<'a>>,
 ) -> Result<(), AllocError>
-    ensures { OnOk result (map piece_view found.new.items ≡ map piece_view found.old.items ++ spec.layout_pieces fields.now (map written fields.now) layout.now) }
+    ensures { OnOk result (map piece_view found.new.items ≡ map piece_view found.old.items ++ spec.layout_pieces framed fields.now (map (written framed) fields.now) layout.now) }
 {
     for i in 0..layout.len() {
-        add_item(layout[i], fields, found)?;
+        add_item(framed, layout[i], fields, found)?;
     }
     Ok(())
 }
 
 #[cycle(add)]
 fn add_item<'a>(
+    framed: bool,
     item: Item,
     fields: &'a [Node],
     found: &mut Vec<Piece<'a>>,
 ) -> Result<(), AllocError>
-    ensures { OnOk result (map piece_view found.new.items ≡ map piece_view found.old.items ++ spec.item_pieces fields.now (map written fields.now) item) }
+    ensures { OnOk result (map piece_view found.new.items ≡ map piece_view found.old.items ++ spec.item_pieces framed fields.now (map (written framed) fields.now) item) }
 {
     match item {
-        Item::Part(n) => add_part(fields, n, found),
+        Item::Part(n) => add_part(framed, fields, n, found),
+        Item::Within(n) => add_inner(framed, fields, n, found),
+        Item::At(n, m) => add_at(framed, fields, n, m, found),
+        Item::Dots(n) => add_dots(framed, fields, n, found),
+        Item::Lone(n) => add_lone(framed, fields, n, found),
         Item::Sign(mark) => push(found, Piece::Mark(mark)),
         Item::Word(keyword) => push(found, Piece::Word(keyword_text(keyword))),
         Item::Of(n, form) => add_of(fields, n, form, found),
-        Item::List(n) => add_items(fields, n, &[], Many::List, found),
-        Item::Head(n) => add_chosen(is_declaration_at(fields, n), fields, n, found),
-        Item::Body(n) => add_chosen(is_expression_at(fields, n), fields, n, found),
-        Item::Apart(n, m) => add_chosen(is_set_at(fields, n), fields, m, found),
-        Item::If(n, m) => add_part_if(is_set_at(fields, n), fields, m, found),
-        Item::Unless(n, m) => add_part_if(!is_set_at(fields, n), fields, m, found),
-        Item::Others(n) => add_others(fields, n, found),
-        Item::Specifiers(n) => add_items(fields, n, &[], Many::Specifiers, found),
-        Item::Template(n, m) => add_items(fields, m, items_at(fields, n), Many::Template, found),
+        Item::List(n) => add_items(framed, fields, n, &[], Many::List, found),
+        Item::Head(n) => add_chosen(framed, is_declaration_at(fields, n), fields, n, found),
+        Item::Body(n) => add_chosen(framed, is_expression_at(fields, n), fields, n, found),
+        Item::Apart(n, m) => add_chosen(framed, is_set_at(fields, n), fields, m, found),
+        Item::If(n, m) => add_part_if(framed, is_set_at(fields, n), fields, m, found),
+        Item::Unless(n, m) => add_part_if(framed, !is_set_at(fields, n), fields, m, found),
+        Item::Others(n) => add_others(framed, fields, n, found),
+        Item::Specifiers(n) => add_items(framed, fields, n, &[], Many::Specifiers, found),
+        Item::Template(n, m) => add_items(
+            framed,
+            fields,
+            m,
+            items_at(fields, n),
+            Many::Template,
+            found,
+        ),
         Item::Quoted(n, m) => quoted_piece(fields, n, m, found),
         Item::Regex(n, m) => regex_piece(fields, n, m, found),
         Item::Here => push(found, Piece::Here),

@@ -218,6 +218,7 @@ impl Writer {
             | Piece::MayBraces
             | Piece::Here
             | Piece::Closes(_)
+            | Piece::Frame(_)
             | Piece::Never => Ok(()),
         }
     }

@@ -1,19 +1,22 @@
 -- What a text has in common with the tree that it is read as, and what a fault says of a text.
-use Rattle.std.specs.Prelude.{◌≡◌, ℕ, ◌<◌, ◌≤◌, true, List, length, Option, Some, None, IsUtf8}
+use Rattle.std.specs.Prelude.{◌≡◌, ℕ, ◌+◌, ◌<◌, ◌≤◌, true, List, length, Option, Some, None, IsUtf8}
 use Rattle.std.specs.Str.Lossy.{utf8_valid_len}
+use Rattle.swc_tree_marks.specs.declared.span.Span.{Span}
 use Rattle.swc_tree_node.specs.declared.kind.Class.{Class}
 use Rattle.swc_tree_node.specs.declared.kind.Class.TheVariants as class
-use Rattle.swc_tree_node.specs.declared.node.Node.{Node}
+use Rattle.swc_tree_node.specs.declared.node.Node.{Node, out-Node}
 use Rattle.swc_tree_node.specs.declared.slot.Content.TheVariants as content
 use Rattle.swc_tree_node.specs.declared.slot.Slot.{Slot}
 use Rattle.swc_tree_node.specs.declared.slot.Slot.TheVariants as slot
 use Rattle.swc_tree_node.specs.Fits.{Fits}
 use Rattle.text_follow.specs.Follows.{Follows}
+use Rattle.text_follow.specs.Stands.{Stands}
 use Rattle.text_lexer.specs.declared.blank.Comments.{Comments}
 use Rattle.text_lexer.specs.declared.blank.Comments.TheVariants as comments
 use Rattle.text_parser.specs.declared.programs.Goal.{Goal}
 use Rattle.text_parser.specs.declared.programs.Goal.TheVariants as goal
-use Rattle.text_pieces.specs.Pieces.{pieces}
+use Rattle.text_pieces.specs.Frames.{first_span}
+use Rattle.text_pieces.specs.Pieces.{framed_pieces, pieces}
 use Rattle.text_reader.specs.declared.fault.TextFault.{TextFault}
 use Rattle.text_reader.specs.declared.fault.TextFault.TheVariants as fault
 use Rattle.text_reader.specs.Faults.{place_of}
@@ -38,6 +41,15 @@ pub record IsTextOf (g : Goal) (tree : Node) (text : List ℕ) : Type 0 where
   pub utf8 : IsUtf8 text
   pub fits : Fits tree (slot_of g)
   pub follows : Follows (comments_of g) true (pieces tree) text
+
+abbrev pub IsWhole : List ℕ → Option Span → Type 0
+IsWhole text (Some s) = (s.lo ≡ 1) × (s.hi ≡ length text + 1)
+IsWhole text None = ⊥
+
+-- Each node's span goes from its first token to its last in the text, in bytes from 1; the program's is the whole text.
+pub record SpansAreOf (g : Goal) (tree : Node) (text : List ℕ) : Type 0 where
+  pub whole : IsWhole text (first_span (out-Node tree))
+  pub nodes : Stands (comments_of g) true (framed_pieces tree) text
 
 -- as many bytes as a text may have, at most: a tree's places go up to 2 ^ 32 - 1, and begin with 1
 abbrev pub most_bytes : ℕ

@@ -5,6 +5,6 @@ mod located;
 mod read;
 
 pub use located::{Located, locate};
-pub use read::{MOST_BYTES, is_text_of, read_text};
+pub use read::{MOST_BYTES, are_spans_of, is_text_of, read_text};
 pub use text_parser::{Expected, Goal, Language, TextFault};
 pub use text_places::{Place, line_and_column};

@@ -1,26 +1,29 @@
 //! Texts read, and held against what was read.
 ghost use Rattle.std.specs.Prelude.{◌≡◌, ◌<◌, ◌≤◌, length, map, true, Err, IfErr, IfOk, IsTrue, IsUtf8};
 ghost use Rattle.std.specs.Str.Lossy.{utf8_valid_len};
+ghost use Rattle.swc_tree_node.specs.declared.node.Node.{out-Node};
 ghost use Rattle.swc_tree_node.specs.declared.slot.Content.TheVariants as content;
 ghost use Rattle.swc_tree_node.specs.declared.slot.Slot.TheVariants as slot;
 ghost use Rattle.swc_tree_node.specs.Fits.{Fits};
 ghost use Rattle.text_checks.specs.Checked.{IsWellFormed};
 ghost use Rattle.text_follow.specs.Follows.{Follows};
+ghost use Rattle.text_follow.specs.Stands.{Stands};
+ghost use Rattle.text_pieces.specs.Frames.{first_span as span_of_first, without_frames};
 ghost use Rattle.text_pieces.specs.Tokens.{piece_view};
 ghost use Rattle.text_pinned.specs.Pinned.{IsPinned};
 ghost use Rattle.text_reader.specs.declared.fault.TextFault.TheVariants as fault;
 ghost use Rattle.text_source.specs.Texts as spec;
-ghost use Rattle.text_source.specs.Texts.{IsTextOf, Tells, most_bytes};
+ghost use Rattle.text_source.specs.Texts.{IsTextOf, IsWhole, SpansAreOf, Tells, most_bytes};
 ghost use Rattle.text_spans.specs.Leaves.{LeavesStand};
 
 use std::alloc::{AllocError, Global};
 use std::str;
 use swc_tree_node::{Class, Content, Node, Slot};
 use text_checks::check_tree;
-use text_follow::follows;
+use text_follow::{follows, frames_stand};
 use text_lexer::Comments;
 use text_parser::{Goal, TextFault, parse};
-use text_pieces::{Piece, pieces};
+use text_pieces::{Piece, first_span, framed_pieces, pieces};
 use text_pinned::is_pinned;
 use text_spans::leaves_stand;
 use text_table::fits;
@@ -126,6 +129,41 @@ pub fn is_text_of(alloc: Global, goal: Goal, tree: &Node, text: &[u8]) -> Result
     }
 }
 
+// Whether the span of a program is the whole text.
+fn is_whole(tree: &Node, text: &[u8]) -> bool
+    ensures { IsTrue result → IsWhole text.now (span_of_first (out-Node tree.now)) }
+{
+    match first_span(tree) {
+        Some(span) => span.lo == 1 && (0 < span.hi && span.hi as usize - 1 == text.len()),
+        None => false,
+    }
+}
+
+fn is_framed(goal: Goal, text: &[u8], pieces: &[Piece<'_>]) -> bool
+    ensures frames { IsTrue result → Stands (spec.comments_of goal) true (map piece_view pieces.now) text.now }
+    ensures tokens { IsTrue result → Follows (spec.comments_of goal) true (without_frames (map piece_view pieces.now)) text.now }
+{
+    frames_stand(comments_of(goal), true, text, pieces)
+}
+
+/// Whether the spans of a tree, which is read as a module or a script, are those of a text: a yes says that they are.
+///
+/// The time is in step with the text and the tree; the recursion is as deep as the tree.
+///
+/// # Errors
+///
+/// Where memory is refused.
+pub fn are_spans_of(alloc: Global, goal: Goal, tree: &Node, text: &[u8]) -> Result<bool, AllocError>
+    ensures { IfOk result (λ yes. IsTrue yes → SpansAreOf goal tree.now text.now) }
+{
+    let found = framed_pieces(alloc, tree)?;
+    if is_whole(tree, text) && is_framed(goal, text, &found) {
+        Ok(true)
+    } else {
+        Ok(false)
+    }
+}
+
 // A place that the parser tells, as one of the text.
 fn within(at: usize, text: &[u8]) -> usize
     ensures { result ≤ length text.now }
@@ -182,6 +220,21 @@ fn stand(tree: &Node, text: &[u8]) -> bool
     leaves_stand(tree, text)
 }
 
+// Whether a text in UTF-8 is that of a tree that fits, whose nodes stand where their spans say.
+fn has_nodes(alloc: Global, goal: Goal, tree: &Node, text: &[u8]) -> Result<bool, AllocError>
+    requires utf8 { IsUtf8 text.now }
+    requires fits { Fits tree.now (spec.slot_of goal) }
+    ensures tree { IfOk result (λ yes. IsTrue yes → IsTextOf goal tree.now text.now) }
+    ensures spans { IfOk result (λ yes. IsTrue yes → SpansAreOf goal tree.now text.now) }
+{
+    let found = framed_pieces(alloc, tree)?;
+    if is_whole(tree, text) && is_framed(goal, text, &found) {
+        Ok(true)
+    } else {
+        Ok(false)
+    }
+}
+
 // What was read, if it is a program, and what the text says.
 #[tactic(auto, using(crate::proofs::Formed::fits_of))]
 fn held(alloc: Global, goal: Goal, tree: Node, text: &[u8]) -> Result<Node, TextFault>
@@ -190,6 +243,7 @@ fn held(alloc: Global, goal: Goal, tree: Node, text: &[u8]) -> Result<Node, Text
     ensures formed { IfOk result (IsWellFormed (spec.slot_of goal)) }
     ensures pinned { IfOk result IsPinned }
     ensures leaves { IfOk result (LeavesStand text.now) }
+    ensures spans { IfOk result (λ tree. SpansAreOf goal tree text.now) }
     ensures refusal { IfErr result (Tells text.now) }
 {
     if !is_formed(goal, &tree) {
@@ -198,7 +252,7 @@ fn held(alloc: Global, goal: Goal, tree: Node, text: &[u8]) -> Result<Node, Text
     if !is_exact(goal, &tree) {
         return Err(TextFault::NotTheText);
     }
-    match has_tokens(alloc, goal, &tree, text) {
+    match has_nodes(alloc, goal, &tree, text) {
         Ok(is_said) => {
             if is_said && stand(&tree, text) {
                 Ok(tree)
@@ -216,6 +270,7 @@ fn read_utf8(alloc: Global, goal: Goal, depth: u32, text: &[u8]) -> Result<Node,
     ensures formed { IfOk result (IsWellFormed (spec.slot_of goal)) }
     ensures pinned { IfOk result IsPinned }
     ensures leaves { IfOk result (LeavesStand text.now) }
+    ensures spans { IfOk result (λ tree. SpansAreOf goal tree text.now) }
     ensures refusal { IfErr result (Tells text.now) }
 {
     match parse(alloc, goal, depth, text) {
@@ -231,7 +286,7 @@ fn read_utf8(alloc: Global, goal: Goal, depth: u32, text: &[u8]) -> Result<Node,
 ///
 /// What is answered is what the text says: its tokens are those of the tree, one after another, and nothing else stands there
 /// but blanks, comments, and what no tree tells; and the grammar derives the tree as it stands, which is pinned where the grammar leaves
-/// a choice. Each name, key, number and string stands where its span says. The spans of other nodes are not proved yet.
+/// a choice. Each node's span goes from its first token to its last, and names, keys, numbers and strings are spelled so there.
 ///
 /// # Errors
 ///
@@ -243,6 +298,7 @@ pub fn read_text(alloc: Global, goal: Goal, depth: u32, text: &[u8]) -> Result<N
     ensures formed { IfOk result (IsWellFormed (spec.slot_of goal)) }
     ensures pinned { IfOk result IsPinned }
     ensures leaves { IfOk result (LeavesStand text.now) }
+    ensures spans { IfOk result (λ tree. SpansAreOf goal tree text.now) }
     ensures refusal { IfErr result (Tells text.now) }
     ensures too_long { most_bytes < length text.now → result ≡ Err fault.TooLong }
     ensures no_utf8 { length text.now ≤ most_bytes → (IsUtf8 text.now → ⊥) → result ≡ Err (fault.NotUtf8 (utf8_valid_len text.now)) }

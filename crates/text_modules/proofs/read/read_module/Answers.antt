@@ -2,7 +2,7 @@ use Rattle.std.proofs.Common.{subst, sym}
 use Rattle.text_parser.specs.declared.programs.Goal.TheVariants as variant
 use Rattle.text_checks.specs.Checked.{IsWellFormed}
 use Rattle.text_pinned.specs.Pinned.{IsPinned}
-use Rattle.text_source.specs.Texts.{IsTextOf, slot_of}
+use Rattle.text_source.specs.Texts.{IsTextOf, SpansAreOf, slot_of}
 use Rattle.text_spans.specs.Leaves.{LeavesStand}
 use Rattle.text_modules.proofs.read.read_module.Goals as goal
 
@@ -17,6 +17,9 @@ returns-in-Ok-clause-formed c = subst (IsWellFormed (slot_of variant.Module)) (s
 
 pub returns-in-Ok-clause-leaves : goal.returns-in-Ok-clause-leaves
 returns-in-Ok-clause-leaves c = subst (LeavesStand c.args.text.now) (sym c.from_node.ensures) c.in-Ok.ensures.leaves
+
+pub returns-in-Ok-clause-spans : goal.returns-in-Ok-clause-spans
+returns-in-Ok-clause-spans c = subst (λ t. SpansAreOf variant.Module t c.args.text.now) (sym c.from_node.ensures) c.in-Ok.ensures.spans
 
 pub returns-in-Ok-clause-pinned : goal.returns-in-Ok-clause-pinned
 returns-in-Ok-clause-pinned c = subst IsPinned (sym c.from_node.ensures) c.in-Ok.ensures.pinned

@@ -1,23 +1,23 @@
 use Rattle.std.proofs.Common.{◌≡◌, ◌++◌, false, map, take, drop}
-use Rattle.text_pieces.specs.Pieces.{layout_pieces, lines, pieces, specified, template_from, with_commas, written}
+use Rattle.text_pieces.specs.Pieces.{layout_pieces, lines, specified, template_from, with_commas, written, written_with}
 use Rattle.text_pieces.specs.Tokens.{piece_view}
 use Rattle.text_pieces.proofs.walk.+add.Given as goal
 
 abbrev pub invariant-add_lines-loop-i : goal.invariant-add_lines-loop-i
-invariant-add_lines-loop-i l = map piece_view l.found.items ≡ map piece_view l.initial.found.items ++ lines (map pieces (take l.i l.items))
+invariant-add_lines-loop-i l = map piece_view l.found.items ≡ map piece_view l.initial.found.items ++ lines (map (written_with l.framed) (take l.i l.items))
 
 abbrev pub invariant-add_list-loop-i : goal.invariant-add_list-loop-i
-invariant-add_list-loop-i l = map piece_view l.found.items ≡ map piece_view l.initial.found.items ++ with_commas (map pieces (take l.i l.items))
+invariant-add_list-loop-i l = map piece_view l.found.items ≡ map piece_view l.initial.found.items ++ with_commas (map (written_with l.framed) (take l.i l.items))
 
 abbrev pub invariant-add_specifiers-loop-i : goal.invariant-add_specifiers-loop-i
 invariant-add_specifiers-loop-i l =
-    map piece_view l.found.items ++ specified l.some l.inside (drop l.i l.items) (map pieces (drop l.i l.items))
-    ≡ map piece_view l.initial.found.items ++ specified false false l.items (map pieces l.items)
+    map piece_view l.found.items ++ specified l.some l.inside (drop l.i l.items) (map (written_with l.framed) (drop l.i l.items))
+    ≡ map piece_view l.initial.found.items ++ specified false false l.items (map (written_with l.framed) l.items)
 
 abbrev pub invariant-add_template-loop-i : goal.invariant-add_template-loop-i
 invariant-add_template-loop-i l =
-    map piece_view l.found.items ++ template_from l.some (drop l.i l.texts) (map pieces (drop l.i l.parts))
-    ≡ map piece_view l.initial.found.items ++ template_from false l.texts (map pieces l.parts)
+    map piece_view l.found.items ++ template_from l.framed l.some (drop l.i l.texts) (map (written_with l.framed) (drop l.i l.parts))
+    ≡ map piece_view l.initial.found.items ++ template_from l.framed false l.texts (map (written_with l.framed) l.parts)
 
 abbrev pub invariant-add_fields-loop-i : goal.invariant-add_fields-loop-i
-invariant-add_fields-loop-i l = map piece_view l.found.items ≡ map piece_view l.initial.found.items ++ layout_pieces l.fields (map written l.fields) (take l.i l.layout)
+invariant-add_fields-loop-i l = map piece_view l.found.items ≡ map piece_view l.initial.found.items ++ layout_pieces l.framed l.fields (map (written l.framed) l.fields) (take l.i l.layout)

@@ -1,0 +1,235 @@
+//! A text held against the frames of a tree's nodes.
+ghost use Rattle.std.specs.Prelude.{◌≡◌, ◌+◌, map, IfSome, IsTrue};
+ghost use Rattle.text_follow.specs.Endings as spec;
+ghost use Rattle.text_follow.specs.Follows.{Follows, Takes};
+ghost use Rattle.text_follow.specs.Follows.{fresh_behind as is_fresh_behind};
+ghost use Rattle.text_follow.specs.Stands.{BeginsAt, HasName, IsAt, IsSo, Says, Stands};
+ghost use Rattle.text_pieces.specs.Frames.{without_frames};
+ghost use Rattle.text_pieces.specs.Tokens.{named, piece_view};
+
+use crate::ending::ending_behind;
+use crate::follow::{fresh_behind, read, take};
+use swc_tree_marks::Span;
+use text_lexer::{Comments, Mark, skip_blank};
+use text_pieces::{Ending, Frame, Piece};
+
+fn is_at(whole: usize, rest: &[u8], place: usize) -> bool
+    ensures { IsTrue result → IsAt whole rest.now place }
+{
+    0 < place && (place - 1 <= whole && rest.len() == whole - (place - 1))
+}
+
+// How many bytes stand before the next token in a text of so many bytes, of which this is left.
+fn bytes_before(whole: usize, comments: Comments, fresh: bool, text: &[u8]) -> Option<usize>
+    ensures { IfSome result (λ before. BeginsAt whole comments fresh text.now (before + 1)) }
+{
+    let (_, next) = skip_blank(comments, fresh, text)?;
+    if next.len() <= whole {
+        Some(whole - next.len())
+    } else {
+        None
+    }
+}
+
+// The same where it may be known already.
+fn before_next(
+    known: Option<usize>,
+    whole: usize,
+    comments: Comments,
+    fresh: bool,
+    text: &[u8],
+) -> Option<usize>
+    requires { IfSome known (λ before. BeginsAt whole comments fresh text.now (before + 1)) }
+    ensures { IfSome result (λ before. BeginsAt whole comments fresh text.now (before + 1)) }
+{
+    match known {
+        Some(before) => Some(before),
+        None => bytes_before(whole, comments, fresh, text),
+    }
+}
+
+// Whether the next token begins at a place, where so many bytes are known to stand before it.
+fn begins_behind(
+    known: Option<usize>,
+    whole: usize,
+    comments: Comments,
+    fresh: bool,
+    text: &[u8],
+    place: usize,
+) -> bool
+    requires { IfSome known (λ before. BeginsAt whole comments fresh text.now (before + 1)) }
+    ensures { IsTrue result → BeginsAt whole comments fresh text.now place }
+{
+    match known {
+        Some(before) => 0 < place && place - 1 == before,
+        None => false,
+    }
+}
+
+fn begins_at(whole: usize, comments: Comments, fresh: bool, text: &[u8], place: usize) -> bool
+    ensures { IsTrue result → BeginsAt whole comments fresh text.now place }
+{
+    match skip_blank(comments, fresh, text) {
+        Some((_, next)) => is_at(whole, next, place),
+        None => false,
+    }
+}
+
+fn has_name(
+    whole: usize,
+    comments: Comments,
+    fresh: bool,
+    text: &[u8],
+    name: &str,
+    span: Span,
+) -> bool
+    ensures { IsTrue result → HasName whole comments fresh text.now name.now span }
+{
+    match read(comments, fresh, text, Piece::Name(name)) {
+        Some(rest) => {
+            begins_at(whole, comments, fresh, text, span.lo as usize)
+                && is_at(whole, rest, span.hi as usize)
+        }
+        None => false,
+    }
+}
+
+fn is_named(
+    whole: usize,
+    comments: Comments,
+    fresh: bool,
+    text: &[u8],
+    name: &str,
+    span: Span,
+) -> bool
+    ensures { IsTrue result → Says whole comments fresh (named name.now span) text.now }
+{
+    if has_name(whole, comments, fresh, text, name, span) {
+        return true;
+    }
+    match read(comments, fresh, text, Piece::Mark(Mark::LeftParen)) {
+        Some(inner) => has_name(whole, comments, false, inner, name, span),
+        None => false,
+    }
+}
+
+fn is_so(whole: usize, comments: Comments, fresh: bool, text: &[u8], piece: Piece<'_>) -> bool
+    ensures { IsTrue result → IsSo whole comments fresh (piece_view piece.entry) text.now }
+{
+    match piece {
+        Piece::Frame(Frame::Begins(place)) => begins_at(whole, comments, fresh, text, place),
+        Piece::Frame(Frame::Stops(place)) => is_at(whole, text, place),
+        Piece::Frame(Frame::Named(name, span)) => {
+            is_named(whole, comments, fresh, text, name, span)
+        }
+        _ => true,
+    }
+}
+
+// Where a text is read on.
+#[derive(Clone, Copy)]
+struct Place<'t> {
+    rest: &'t [u8],
+    // Nothing stands before.
+    fresh: bool,
+    // How what stands before ends.
+    ending: Ending,
+    // How many bytes stand before the next token, if that is known: blanks are skipped once, however many nodes begin with it.
+    known: Option<usize>,
+}
+
+fn begin<'t>(whole: usize, comments: Comments, place: Place<'t>, at: usize) -> Option<Place<'t>>
+    requires { IfSome place.known (λ before. BeginsAt whole comments place.fresh place.rest.now (before + 1)) }
+    ensures begins { IfSome result (λ next. BeginsAt whole comments place.entry.fresh place.entry.rest.now at) }
+    ensures rest { IfSome result (λ next. next.rest.now ≡ place.entry.rest.now) }
+    ensures fresh { IfSome result (λ next. next.fresh ≡ place.entry.fresh) }
+    ensures ending { IfSome result (λ next. next.ending ≡ place.entry.ending) }
+    ensures known { IfSome result (λ next. IfSome next.known (λ before. BeginsAt whole comments next.fresh next.rest.now (before + 1))) }
+{
+    let known = before_next(place.known, whole, comments, place.fresh, place.rest);
+    if !begins_behind(known, whole, comments, place.fresh, place.rest, at) {
+        return None;
+    }
+    Some(Place {
+        rest: place.rest,
+        fresh: place.fresh,
+        ending: place.ending,
+        known,
+    })
+}
+
+fn pass<'t>(
+    whole: usize,
+    comments: Comments,
+    soft: bool,
+    place: Place<'t>,
+    piece: Piece<'_>,
+) -> Option<Place<'t>>
+    ensures so { IfSome result (λ next. IsSo whole comments place.entry.fresh (piece_view piece.entry) place.entry.rest.now) }
+    ensures takes { IfSome result (λ next. Takes comments soft place.entry.fresh place.entry.ending (piece_view piece.entry) place.entry.rest.now next.rest.now) }
+    ensures fresh { IfSome result (λ next. next.fresh ≡ is_fresh_behind place.entry.fresh (piece_view piece.entry)) }
+    ensures ending { IfSome result (λ next. next.ending ≡ spec.ending_behind place.entry.ending (piece_view piece.entry)) }
+    ensures known { IfSome result (λ next. IfSome next.known (λ before. BeginsAt whole comments next.fresh next.rest.now (before + 1))) }
+{
+    if !is_so(whole, comments, place.fresh, place.rest, piece) {
+        return None;
+    }
+    let rest = take(comments, soft, place.fresh, place.ending, place.rest, piece)?;
+    Some(Place {
+        rest,
+        fresh: fresh_behind(place.fresh, piece),
+        ending: ending_behind(place.ending, piece),
+        known: None,
+    })
+}
+
+fn step<'t>(
+    whole: usize,
+    comments: Comments,
+    soft: bool,
+    place: Place<'t>,
+    piece: Piece<'_>,
+) -> Option<Place<'t>>
+    requires { IfSome place.known (λ before. BeginsAt whole comments place.fresh place.rest.now (before + 1)) }
+    ensures so { IfSome result (λ next. IsSo whole comments place.entry.fresh (piece_view piece.entry) place.entry.rest.now) }
+    ensures takes { IfSome result (λ next. Takes comments soft place.entry.fresh place.entry.ending (piece_view piece.entry) place.entry.rest.now next.rest.now) }
+    ensures fresh { IfSome result (λ next. next.fresh ≡ is_fresh_behind place.entry.fresh (piece_view piece.entry)) }
+    ensures ending { IfSome result (λ next. next.ending ≡ spec.ending_behind place.entry.ending (piece_view piece.entry)) }
+    ensures known { IfSome result (λ next. IfSome next.known (λ before. BeginsAt whole comments next.fresh next.rest.now (before + 1))) }
+{
+    match piece {
+        Piece::Frame(Frame::Begins(at)) => begin(whole, comments, place, at),
+        _ => pass(whole, comments, soft, place, piece),
+    }
+}
+
+#[tactic(auto, using(crate::proofs::Frames::one_more, crate::proofs::Frames::at_end))]
+fn stand(comments: Comments, soft: bool, text: &[u8], pieces: &[Piece<'_>]) -> bool
+    ensures { IsTrue result → Stands comments soft (map piece_view pieces.now) text.now }
+{
+    let mut place = Place {
+        rest: text,
+        fresh: true,
+        ending: Ending::Closed,
+        known: None,
+    };
+    for i in 0..pieces.len() {
+        match step(text.len(), comments, soft, place, pieces[i]) {
+            Some(next) => place = next,
+            None => return false,
+        }
+    }
+    match skip_blank(comments, place.fresh, place.rest) {
+        Some((_, end)) => end.is_empty(),
+        None => false,
+    }
+}
+
+/// Whether a text is written with these pieces, as `follows` has it, and each frame among them says what is so.
+#[tactic(auto, using(crate::proofs::Frames::tokens_follow))]
+pub fn frames_stand(comments: Comments, soft: bool, text: &[u8], pieces: &[Piece<'_>]) -> bool
+    ensures frames { IsTrue result → Stands comments soft (map piece_view pieces.now) text.now }
+    ensures tokens { IsTrue result → Follows comments soft (without_frames (map piece_view pieces.now)) text.now }
+{
+    stand(comments, soft, text, pieces)
+}
