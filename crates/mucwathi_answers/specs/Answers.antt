@@ -60,7 +60,7 @@ settings_for s keep = record { keep_class_names = s.keep_class_names; ignore_eva
 
 -- what a task asks of a text that is read as the goal has it; as many productions may be open at once
 abbrev pub order_for : Rewriting → Goal → Order
-order_for task g = record { command = task.command; goal = g; depth = 10000; settings = settings_for task.settings (keeps_top task.keep_top g); style = task.style }
+order_for task g = record { command = task.command; goal = g; depth = 4000; settings = settings_for task.settings (keeps_top task.keep_top g); style = task.style }
 
 -- nothing is written, and the status is that of a fault
 pub record IsFaultTold (f : RunFault) (a : Answer) : Type 0 where
@@ -125,7 +125,7 @@ pub record IsLooked (w : Work) (given : Option Goal) (of : Named) (a : Answer) :
 
 -- by what they are judged
 abbrev pub rules_for : Judging → Rules
-rules_for task = record { depth = 10000; keep_top = task.keep_top; spelling = task.spelling }
+rules_for task = record { depth = 4000; keep_top = task.keep_top; spelling = task.spelling }
 
 -- one of two texts is read as what it is to be read, or else as the other is to be
 abbrev pub IsAskedOfTwo : Option Goal → Named → Named → Goal → Type 0

@@ -7,7 +7,7 @@ use mucwathi_report::{Named, status_of, tell_fault};
 use std::alloc::{AllocError, Global};
 
 /// How many productions may be open at once.
-pub(crate) const DEPTH: u32 = 10_000;
+pub(crate) const DEPTH: u32 = 4_000;
 
 /// What is written to standard output or to a file, what is told on standard error, and the status: 0 where all went well.
 #[derive(Debug, Drop)]

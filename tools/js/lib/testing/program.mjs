@@ -141,7 +141,7 @@ const NESTS = {
   templates: ['`${', 'x', '}`'],
   choices: ['if(x)', 'x', ''],
 };
-const LEVELS = [127, 1000, 3000, 10_000];
+const LEVELS = [127, 1000, 3000, 4000, 10_000];
 const DEEP_COMMANDS = ['chain', 'mangle', 'hygiene', 'fix', 'unparen', 'names', 'resolve', 'show'];
 const DEEP = 'nested too deeply';
 
