@@ -72,29 +72,31 @@ def without_edits(place):
 
 
 def prove_all(uses, wanted, jobs, places):
-    """yields each crate with the processor seconds of its run in each place, one after the other, and whether all passed"""
-    heights, left, passed, running = chains(uses), set(wanted), set(), {}
+    """yields each crate with the processor seconds of its run in each place, and whether all passed; edits are tried where no proof is ready"""
+    heights, left, passed, edited, running = chains(uses), set(wanted), set(), [], {}
 
     def start(crate, spent):
         run = subprocess.Popen(['rt', 'ci', crate], cwd=places[len(spent)], stdout=subprocess.DEVNULL, stderr=subprocess.DEVNULL)
         # kept, since a child whose object is gone is waited for by whoever starts the next one
         running[run.pid] = run, crate, spent
-    while left or running:
+    while left or edited or running:
         ready = sorted((crate for crate in left if all(used in passed for used in uses[crate])), key=lambda crate: (-heights[crate], crate))
         for crate in ready[:jobs - len(running)]:
             left.remove(crate)
             start(crate, [])
+        while edited and len(running) < jobs:
+            start(*edited.pop(0))
         if not running:
             return
         pid, status, usage = os.wait4(-1, 0)
         run, crate, spent = running.pop(pid)
         run.returncode = status
         spent = spent + [usage.ru_utime + usage.ru_stime]
-        if status == 0 and len(spent) < len(places) and edits_of(crate):
-            start(crate, spent)
-            continue
         if status == 0:
             passed.add(crate)
+            if len(spent) < len(places) and edits_of(crate):
+                edited.append((crate, spent))
+                continue
         yield crate, spent, status == 0
 
 
