@@ -4,9 +4,9 @@ crate_costs.py --log LOG: what each check of a gate's log loaded, and from which
 
 It proves each crate of crates.txt, or those named and the ones that they use, by `rt ci NAME`, those below first and N at a time (4), and
 takes the processor time of each such run as a whole, in a folder with these crates alone: the crate's proofs and its must-fail edits,
-and a second or more for a look at what is kept of the crates below. A crate that an earlier run on this machine has passed costs no more than that look, so the table
-tells what crates cost from nothing on a machine where nothing is kept, or after a change below all of them. What passed is kept for the gate:
-on a new machine it may stand in the place of a first `.ci/run`, whose log tells no seconds.
+and a second or more for a look at what is kept of the crates below. A crate that an earlier run on this machine has passed costs no more
+than that look, so the table tells what crates cost from nothing on a machine where nothing is kept, or after a change below all of them.
+What passed is kept for the gate: on a new machine it may stand in the place of a first `.ci/run`, whose log tells no seconds.
 
 With --apart each crate is proved in a copy without edits first, and then as it is, which tries its edits alone: the table tells the two apart.
 
