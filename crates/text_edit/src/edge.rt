@@ -1,6 +1,10 @@
 //! What stands where a text changes. Nothing is promised of it here: the whole text is held against its tree in the end.
+use crate::blanks::{
+    end_byte, ends_line, first_byte, has_comment, in_line, is_name_byte, is_roomy, joins, joins_blanks,
+    last_byte,
+};
 use std::alloc::{AllocError, Global};
-use text_lexer::Mark;
+use text_lexer::{Comments, Mark};
 use text_pieces::{Gap, Piece};
 use text_printer::{Layout, text_of_pieces};
 
@@ -17,6 +21,12 @@ pub(crate) struct Edge {
     pub(crate) dropped: bool,
     /// The last token is new.
     pub(crate) inserted: bool,
+    /// No line may end before the next token.
+    pub(crate) here: bool,
+    /// A line has ended behind the last token.
+    pub(crate) ended: bool,
+    /// What stood behind the semicolon is taken away.
+    pub(crate) parted: bool,
 }
 
 impl Edge {
@@ -28,93 +38,81 @@ impl Edge {
             written: false,
             dropped: false,
             inserted: false,
+            here: false,
+            ended: false,
+            parted: false,
         }
     }
 
-    /// Behind an old piece that stays, which may be written with nothing.
+    /// Behind an old piece that stays, which may be written with nothing. What stands behind a semicolon that is left to the reader is
+    /// none of what is taken away before it.
     pub(crate) fn behind(self, piece: Piece<'_>, is_empty: bool) -> Edge {
         if !is_empty {
             return Edge::settled();
         }
-        Edge {
-            semicolon: self.semicolon || matches!(piece, Piece::End),
-            ..self
+        match piece {
+            Piece::End => Edge {
+                semicolon: true,
+                dropped: false,
+                parted: false,
+                ..self
+            },
+            Piece::Here => Edge { here: true, ..self },
+            _ => self,
         }
     }
 
     /// Behind a new piece that is written with nothing.
     fn behind_gap(self, piece: Piece<'_>) -> Edge {
+        match piece {
+            Piece::Gap(Gap::Line) => Edge { line: true, ..self },
+            Piece::Here => Edge { here: true, ..self },
+            _ => self,
+        }
+    }
+
+    /// Behind a new token.
+    fn behind_new(self, leads: bool) -> Edge {
         Edge {
-            line: self.line || matches!(piece, Piece::Gap(Gap::Line)),
+            written: self.written || leads,
+            dropped: self.dropped,
+            inserted: true,
+            ..Edge::settled()
+        }
+    }
+
+    /// The same where no line may end before the next token, if that is so.
+    pub(crate) fn before(self, here: bool) -> Edge {
+        Edge {
+            here: self.here || here,
             ..self
         }
     }
 
-    /// Behind an old piece that is taken away.
-    pub(crate) fn behind_removed(self, stood: &[u8]) -> Edge {
+    /// Behind an old piece that is taken away, of which blanks are left.
+    pub(crate) fn behind_removed(self, comments: Comments, stood: &[u8], left: &[u8]) -> Edge {
         if stood.is_empty() {
             return self;
         }
         Edge {
             written: false,
             dropped: self.dropped || !closes(stood),
+            ended: self.ended || ends_line(comments, left),
+            parted: true,
             ..self
         }
     }
-}
 
-fn is_name_byte(byte: u8) -> bool {
-    byte.is_ascii_alphanumeric() || byte == b'$' || byte == b'_' || byte == b'\\' || byte >= 128
-}
-
-fn first_byte(text: &[u8]) -> u8 {
-    if text.is_empty() { b' ' } else { text[0] }
-}
-
-fn last_byte(text: &[u8]) -> u8 {
-    if text.is_empty() {
-        b' '
-    } else {
-        text[text.len() - 1]
+    /// Whether a semicolon that was left to the reader has to be written before a token that begins with this byte, where the blanks
+    /// before it end a line or not.
+    fn wants_semicolon(self, ended: bool, next: u8) -> bool {
+        let stops = (self.ended || ended) && (!self.parted || is_name_byte(next));
+        self.semicolon && next != b'}' && !stops
     }
-}
-
-/// Whether a blank has to stand between what ends and what begins with these bytes.
-fn joins(last: u8, next: u8) -> bool {
-    match last {
-        b'+' | b'-' => next == last,
-        b'/' => next == b'/' || next == b'*' || is_name_byte(next),
-        b'<' => next == b'!',
-        _ => is_name_byte(last) && (is_name_byte(next) || next == b'.' && last.is_ascii_digit()),
-    }
-}
-
-/// Whether a blank stands between new tokens that end and begin with these bytes, though none has to.
-fn is_roomy(last: u8, next: u8) -> bool {
-    match next {
-        b',' | b';' | b'(' | b')' | b'.' => false,
-        b'{' => last != b'(',
-        b'}' => last != b'{',
-        _ => last == b',' || last == b':' || last == b'{',
-    }
-}
-
-fn has_byte(text: &[u8], wanted: u8) -> bool {
-    for byte in text {
-        if *byte == wanted {
-            return true;
-        }
-    }
-    false
-}
-
-/// Whether a comment is among blanks.
-fn has_comment(blanks: &[u8]) -> bool {
-    has_byte(blanks, b'/') || has_byte(blanks, b'<') || has_byte(blanks, b'>')
 }
 
 fn last_of(old: &[u8], new: &[u8]) -> u8 {
-    last_byte(if new.is_empty() { old } else { new })
+    end_byte(if new.is_empty() { old } else { new })
 }
 
 /// Whether a text ends with the parenthesis that closes a pair.
@@ -122,9 +120,31 @@ fn closes(stood: &[u8]) -> bool {
     last_byte(stood) == b')'
 }
 
+/// Puts blanks behind a text, in one line where none may end there.
+fn put_blanks(
+    alloc: Global,
+    comments: Comments,
+    here: bool,
+    last: u8,
+    blanks: &[u8],
+    new: &mut Vec<u8>,
+) -> Result<(), AllocError> {
+    if joins_blanks(last, first_byte(blanks)) {
+        new.push(b' ')?;
+    }
+    if here && ends_line(comments, blanks) {
+        let line = in_line(alloc, last == b' ', blanks)?;
+        new.extend_from_slice(&line)?;
+    } else {
+        new.extend_from_slice(blanks)?;
+    }
+    Ok(())
+}
+
 /// A new piece behind a text, before these blanks of the old one.
 pub(crate) fn put(
     alloc: Global,
+    comments: Comments,
     edge: Edge,
     old: &[u8],
     blanks: &[u8],
@@ -136,7 +156,8 @@ pub(crate) fn put(
         return Ok((edge.behind_gap(piece), token));
     }
     let mut new = Vec::new(alloc);
-    if edge.semicolon {
+    let next = first_byte(&token);
+    if edge.semicolon && next != b'}' {
         new.push(b';')?;
     }
     let leads = matches!(piece, Piece::Mark(Mark::LeftParen)) && !edge.line && !edge.written;
@@ -144,26 +165,20 @@ pub(crate) fn put(
         new.push(b'\n')?;
     }
     if leads {
-        new.extend_from_slice(blanks)?;
+        put_blanks(alloc, comments, edge.here, last_of(old, &new), blanks, &mut new)?;
     }
-    let (last, next) = (last_of(old, &new), first_byte(&token));
+    let last = last_of(old, &new);
     if joins(last, next) || edge.inserted && !edge.line && is_roomy(last, next) {
         new.push(b' ')?;
     }
     new.extend_from_slice(&token)?;
-    let behind = Edge {
-        semicolon: false,
-        line: false,
-        written: edge.written || leads,
-        dropped: edge.dropped,
-        inserted: true,
-    };
-    Ok((behind, new))
+    Ok((edge.behind_new(leads), new))
 }
 
 /// An old token behind a text that has changed, with what of the blanks before it stays.
 pub(crate) fn keep(
     alloc: Global,
+    comments: Comments,
     edge: Edge,
     old: &[u8],
     blanks: &[u8],
@@ -174,27 +189,32 @@ pub(crate) fn keep(
         return Ok(new);
     }
     let token = &stands[blanks.len()..];
-    if edge.semicolon && !(has_byte(blanks, b'\n') && is_name_byte(first_byte(token))) {
+    let stays = !(edge.written || edge.dropped && !has_comment(blanks));
+    if edge.wants_semicolon(stays && ends_line(comments, blanks), first_byte(token)) {
         new.push(b';')?;
     }
-    if !(edge.written || edge.dropped && !has_comment(blanks)) {
-        new.extend_from_slice(blanks)?;
-    }
-    if joins(last_of(old, &new), first_byte(token)) {
+    if stays && !blanks.is_empty() {
+        put_blanks(alloc, comments, edge.here, last_of(old, &new), blanks, &mut new)?;
+    } else if joins(last_of(old, &new), first_byte(token)) {
         new.push(b' ')?;
     }
     new.extend_from_slice(token)?;
     Ok(new)
 }
 
-/// What stays of an old token that is taken away: the blanks before it, where they are wanted.
-pub(crate) fn left_of<'t>(edge: Edge, blanks: &'t [u8], stood: &[u8]) -> &'t [u8] {
-    if stood.is_empty() || edge.written {
-        return &[];
+/// What stays behind a text of an old token that is taken away: the blanks before it, where they are wanted.
+pub(crate) fn left_of(
+    alloc: Global,
+    comments: Comments,
+    edge: Edge,
+    old: &[u8],
+    blanks: &[u8],
+    stood: &[u8],
+) -> Result<Vec<u8>, AllocError> {
+    let mut left = Vec::new(alloc);
+    let wanted = !stood.is_empty() && !edge.written;
+    if wanted && (has_comment(blanks) || !(edge.dropped || closes(stood))) {
+        put_blanks(alloc, comments, edge.here, last_byte(old), blanks, &mut left)?;
     }
-    if (edge.dropped || closes(stood)) && !has_comment(blanks) {
-        &[]
-    } else {
-        blanks
-    }
+    Ok(left)
 }

@@ -1,5 +1,5 @@
 //! What has changed where two lists of pieces part. Nothing is promised of a guess: it says which of the old text stays by what.
-use crate::alike::is_alike;
+use crate::alike::{begin_alike, is_alike};
 use text_lexer::Mark;
 use text_pieces::{Gap, Piece};
 
@@ -40,6 +40,45 @@ fn parens(pieces: &[Piece<'_>]) -> usize {
 
 fn meet(before: &[Piece<'_>], removed: usize, after: &[Piece<'_>], inserted: usize) -> bool {
     removed < before.len() && inserted < after.len() && is_alike(before[removed], after[inserted])
+}
+
+/// Whether the lists go on alike behind a change, three pieces of them (`well`) or one.
+fn meets(well: bool, before: &[Piece<'_>], after: &[Piece<'_>], change: Change) -> bool {
+    let (removed, inserted) = (change.removed, change.inserted);
+    let count = if well { 3 } else { 1 };
+    removed < before.len()
+        && inserted < after.len()
+        && begin_alike(count, &before[removed..], &after[inserted..])
+}
+
+/// The fewest parentheses behind which both lists go on alike, three pieces of them if they can (`well`).
+fn found_parens(well: bool, before: &[Piece<'_>], after: &[Piece<'_>]) -> Option<Change> {
+    let (old, new) = (parens(before), parens(after));
+    let most = if old < new { new } else { old };
+    for count in 0..most {
+        let far = count + 1;
+        let change = Change { removed: far, inserted: 0 };
+        if far <= old && meets(well, before, after, change) {
+            return Some(change);
+        }
+        let change = Change { removed: 0, inserted: far };
+        if far <= new && meets(well, before, after, change) {
+            return Some(change);
+        }
+    }
+    None
+}
+
+/// Whether no line may end before the next of these tokens.
+pub(crate) fn comes_here(pieces: &[Piece<'_>]) -> bool {
+    for piece in pieces {
+        match piece {
+            Piece::Here => return true,
+            Piece::Closes(_) | Piece::Gap(_) | Piece::Frame(_) | Piece::MayComma => {}
+            _ => return false,
+        }
+    }
+    false
 }
 
 fn is_word(piece: Piece<'_>, word: &str) -> bool {
@@ -118,19 +157,11 @@ pub(crate) fn find_change(before: &[Piece<'_>], after: &[Piece<'_>]) -> Change {
             inserted: statement_length(after),
         };
     }
-    let old = parens(before);
-    if old > 0 && meet(before, old, after, 0) {
-        return Change {
-            removed: old,
-            inserted: 0,
-        };
+    if let Some(change) = found_parens(true, before, after) {
+        return change;
     }
-    let new = parens(after);
-    if new > 0 && meet(before, 0, after, new) {
-        return Change {
-            removed: 0,
-            inserted: new,
-        };
+    if let Some(change) = found_parens(false, before, after) {
+        return change;
     }
     found(before, after)
 }

@@ -3,6 +3,7 @@
 
 mod align;
 mod alike;
+mod blanks;
 mod edge;
 mod edit;
 mod fault;

@@ -14,7 +14,7 @@ use crate::align::{Step, change_at, due_behind, step_at};
 use crate::alike::{new_name, split_first};
 use crate::edge::{Edge, keep, left_of, put};
 use crate::fault::EditFault;
-use crate::guess::Change;
+use crate::guess::{Change, comes_here};
 use std::alloc::{AllocError, Global};
 use text_characters::{first, past_byte};
 use text_follow::{ending_behind, fresh_behind, take};
@@ -167,7 +167,7 @@ fn write_piece(
     let mut stands = Vec::new(alloc);
     stand(comments, place.fresh, name, place.rest, rest, &mut stands)?;
     let blanks = blanks_at(comments, place);
-    let new = keep(alloc, place.edge, out.as_slice(), blanks, &stands)?;
+    let new = keep(alloc, comments, place.edge, out.as_slice(), blanks, &stands)?;
     out.extend_from_slice(&new)?;
     Ok(())
 }
@@ -224,7 +224,7 @@ fn put_piece<'p, 'a, 't>(
     };
     let place = cursor.place;
     let blanks = blanks_at(comments, place);
-    let (edge, new) = put(alloc, place.edge, out.as_slice(), blanks, piece)?;
+    let (edge, new) = put(alloc, comments, place.edge, out.as_slice(), blanks, piece)?;
     append(out, &new)?;
     Ok(Cursor {
         olds: cursor.olds,
@@ -241,6 +241,7 @@ fn put_piece<'p, 'a, 't>(
 
 /// An old piece is taken away.
 fn remove_piece<'p, 'a, 't>(
+    alloc: Global,
     comments: Comments,
     cursor: Cursor<'p, 'a, 't>,
     out: &mut Vec<u8>,
@@ -256,12 +257,13 @@ fn remove_piece<'p, 'a, 't>(
         return Err(EditFault::OtherText);
     };
     let stood = up_to(place.rest, next.rest);
-    let left = left_of(place.edge, blanks_at(comments, place), stood);
-    append(out, left)?;
+    let edge = place.edge.before(comes_here(cursor.news));
+    let left = left_of(alloc, comments, edge, out.as_slice(), blanks_at(comments, place), stood)?;
+    append(out, &left)?;
     Ok(Cursor {
         olds,
         news: cursor.news,
-        place: with_edge(next, place.edge.behind_removed(stood)),
+        place: with_edge(next, place.edge.behind_removed(comments, stood, &left)),
     })
 }
 
@@ -279,7 +281,7 @@ fn advance<'p, 'a, 't>(
     match step {
         Step::Both => keep_piece(alloc, comments, cursor, out),
         Step::Insert => put_piece(alloc, comments, cursor, out),
-        Step::Remove => remove_piece(comments, cursor, out),
+        Step::Remove => remove_piece(alloc, comments, cursor, out),
     }
 }
 
