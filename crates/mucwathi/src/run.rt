@@ -53,6 +53,15 @@ fn put(rt: &HostRuntime, target: Target<'_>, file: Option<&str>, out: &[u8]) -> 
     }
 }
 
+// What the place of an answer is called, where it is not written.
+fn place_of<'a>(target: Target<'a>, name: &'a str) -> &'a str {
+    match target {
+        Target::Folder(folder) => folder,
+        Target::Output => "standard output",
+        Target::Place => name,
+    }
+}
+
 fn put_map(rt: &HostRuntime, path: &str, map: &[u8]) -> u8 {
     match write_whole(rt, path, map) {
         Ok(()) => 0,
@@ -86,7 +95,7 @@ fn rewrite_one(rt: &HostRuntime, task: &Rewriting<'_>, prefix: &str, file: Optio
         return answer.status;
     }
     if let Err(error) = put(rt, task.target, file, answer.out.as_slice()) {
-        return tell_failure(rt, name, "not written", &error);
+        return tell_failure(rt, place_of(task.target, name), "not written", &error);
     }
     match task.map {
         Some(path) => put_map(rt, path, answer.map.as_slice()),

@@ -14,7 +14,7 @@ use std::alloc::{AllocError, Global};
 use std::collections::BTreeMap;
 use swc_tree_marks::PassError;
 use swc_tree_node::Node;
-use text_source::read_text;
+use text_source::{TextFault, read_text};
 
 // Where a node stood, where it is written, and the number of its old name, from 1, if it has another now.
 #[derive(Clone, Copy, Debug, PartialEq, Eq, PartialOrd, Ord)]
@@ -171,8 +171,10 @@ fn map_answer(
     source: &Node,
     answer: &Node,
 ) -> Result<Vec<u8>, RunFault> {
-    let Ok(written) = read_text(alloc, order.goal, order.depth, texts.written) else {
-        return Err(RunFault::NotWritten);
+    let written = match read_text(alloc, order.goal, order.depth, texts.written) {
+        Ok(written) => written,
+        Err(TextFault::NoMemory) => return Err(RunFault::Refused(PassError::NoMemory)),
+        Err(_) => return Err(RunFault::NotWritten),
     };
     let map = map_of(alloc, texts, source, answer, &written)?;
     match map {

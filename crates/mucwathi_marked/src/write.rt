@@ -11,7 +11,7 @@ use swc_tree_marks::PassError;
 use swc_tree_node::Node;
 use swc_tree_walk::sites;
 use text_printer::Layout;
-use text_source::read_text;
+use text_source::{TextFault, read_text};
 
 // A text that was written for a tree, with the marks of the tree's names: the text is read again, to see where they stand.
 fn with_marks(
@@ -25,8 +25,10 @@ fn with_marks(
     if !any_is_marked(names.as_slice()) {
         return Ok(out);
     }
-    let Ok(again) = read_text(alloc, goal, depth, out.as_slice()) else {
-        return Err(RunFault::NotWritten);
+    let again = match read_text(alloc, goal, depth, out.as_slice()) {
+        Ok(again) => again,
+        Err(TextFault::NoMemory) => return Err(RunFault::Refused(PassError::NoMemory)),
+        Err(_) => return Err(RunFault::NotWritten),
     };
     let places = sites(alloc, &again)?;
     if places.len() != names.len() {

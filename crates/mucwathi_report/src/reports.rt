@@ -1,6 +1,6 @@
 //! Reports, as compilers give them: `file:line:column: what it is`, the line, and a caret.
 use crate::excerpt::add_excerpt;
-use crate::sentences::{cause_sentence, why_sentence};
+use crate::sentences::{cause_sentence, refusal_sentence, why_sentence};
 use mucwathi_commands::{CoverGap, JudgeFault, RunFault, TextDifference};
 use std::alloc::{AllocError, Global};
 use swc_tree_marks::PassError;
@@ -52,8 +52,7 @@ fn tell_text_fault(alloc: Global, of: Named<'_>, fault: &TextFault) -> Result<Ve
 }
 
 fn tell_refusal(alloc: Global, name: &str, error: PassError) -> Result<Vec<u8>, AllocError> {
-    let said = error.to_string(alloc)?;
-    tell_line(alloc, &[name, ": refused: ", said.as_str()])
+    tell_line(alloc, &[name, ": refused: ", refusal_sentence(error)])
 }
 
 /// Why nothing was made of a text.

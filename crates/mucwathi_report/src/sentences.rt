@@ -3,6 +3,7 @@ ghost use Rattle.std.specs.Prelude.{◌≡◌};
 ghost use Rattle.mucwathi_report.specs.Status.{judge_status, run_status, text_status};
 
 use mucwathi_commands::{Cause, JudgeFault, RunFault, Why};
+use swc_tree_marks::PassError;
 use text_source::TextFault;
 
 // The status for a text that is not read: 3, but for a fault of ours and for want of memory.
@@ -32,6 +33,17 @@ pub fn status_of_judging(fault: &JudgeFault) -> u8
     match fault {
         JudgeFault::Before(fault) | JudgeFault::After(fault) => status_of_text(fault),
         JudgeFault::Refused(_) => 5,
+    }
+}
+
+// Why a command is refused a program.
+pub(crate) fn refusal_sentence(error: PassError) -> &'static str {
+    match error {
+        PassError::NoMemory => "no memory",
+        PassError::MarksSpent => "no mark is left for a scope",
+        PassError::CounterSpent => "no number is left to make a free name with",
+        PassError::NotAssignable => "a target in parentheses takes no value",
+        PassError::TypesLeft => "types stand in it",
     }
 }
 
