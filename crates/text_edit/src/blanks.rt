@@ -149,7 +149,11 @@ fn put_in_line(
         }
         Within::Block => {
             out.push(if ends { b' ' } else { byte })?;
-            Ok(if closes { Within::Closes } else { Within::Block })
+            Ok(if closes {
+                Within::Closes
+            } else {
+                Within::Block
+            })
         }
         Within::Closes => {
             out.push(byte)?;
@@ -161,9 +165,18 @@ fn put_in_line(
 /// Blanks with their comments, each closed before its line ends, in one line; `behind`: behind a blank.
 pub(crate) fn in_line(alloc: Global, behind: bool, blanks: &[u8]) -> Result<Vec<u8>, AllocError> {
     let mut out = Vec::new(alloc);
-    let mut within = if behind { Within::Indent } else { Within::Blank };
+    let mut within = if behind {
+        Within::Indent
+    } else {
+        Within::Blank
+    };
     for i in 0..blanks.len() {
-        within = put_in_line(within, blanks[i], byte_at(blanks, i.saturating_add(1)), &mut out)?;
+        within = put_in_line(
+            within,
+            blanks[i],
+            byte_at(blanks, i.saturating_add(1)),
+            &mut out,
+        )?;
     }
     if within == Within::Line {
         out.extend_from_slice(b" */")?;
