@@ -3,10 +3,10 @@
 crate_costs.py --log LOG: what each check of a gate's log loaded, and from which libraries.
 
 It proves each crate of crates.txt, or those named and the ones that they use, by `rt ci NAME`, those below first and N at a time (4), and
-takes the processor time of each such run as a whole: the crate's proofs and its must-fail edits, and some seconds for a look at
-what is kept of the crates below. A crate that an earlier run on this machine has passed costs no more than that look, so the table
-tells what crates cost from nothing on a machine where nothing is kept, or after a change below all of them. What passed is kept for the gate:
-on a new machine it may stand in the place of a first `.ci/run`, whose log tells no seconds.
+takes the processor time of each such run as a whole, in a folder with these crates alone: the crate's proofs and its must-fail edits,
+and a second or more for a look at what is kept of the crates below. A crate that an earlier run on this machine has passed costs no more
+than that look, so the table tells what crates cost from nothing on a machine where nothing is kept, or after a change below all of them.
+What passed is kept for the gate: on a new machine it may stand in the place of a first `.ci/run`, whose log tells no seconds.
 
 With --apart each crate is proved in a copy without edits first, and then as it is, which tries its edits alone: the table tells the two apart.
 
@@ -63,38 +63,47 @@ def chains(uses):
     return {crate: height(crate) for crate in uses}
 
 
-def without_edits(place):
-    """a copy of the repository's crates in a folder, without their edits and what rt made"""
-    shutil.copytree(os.path.join(ROOT, 'crates'), os.path.join(place, 'crates'), ignore=shutil.ignore_patterns('must-fail', 'out'))
-    for name in ('crates.txt', 'HANDLES'):
-        shutil.copy(os.path.join(ROOT, name), place)
+def part(uses, crate, with_edits):
+    """a new folder with a crate and those below it alone, since a run looks at all that stands in the repository; with its edits, if that is asked"""
+    place = tempfile.mkdtemp()
+    found = below(uses, [crate])
+    for each in found:
+        left_out = ('out',) if with_edits and each == crate else ('out', 'must-fail')
+        shutil.copytree(os.path.join(ROOT, 'crates', each), os.path.join(place, 'crates', each), ignore=shutil.ignore_patterns(*left_out))
+    shutil.copy(os.path.join(ROOT, 'HANDLES'), place)
+    with open(os.path.join(ROOT, 'crates.txt'), encoding='utf-8') as text, open(os.path.join(place, 'crates.txt'), 'w', encoding='utf-8') as kept:
+        kept.writelines(line for line in text if line.split(':')[0] in found)
     return place
 
 
-def prove_all(uses, wanted, jobs, places):
-    """yields each crate with the processor seconds of its run in each place, one after the other, and whether all passed"""
-    heights, left, passed, running = chains(uses), set(wanted), set(), {}
+def prove_all(uses, wanted, jobs, apart):
+    """yields each crate with the processor seconds of its runs, and whether all passed; edits are tried where no proof is ready"""
+    heights, left, passed, edited, running = chains(uses), set(wanted), set(), [], {}
 
     def start(crate, spent):
-        run = subprocess.Popen(['rt', 'ci', crate], cwd=places[len(spent)], stdout=subprocess.DEVNULL, stderr=subprocess.DEVNULL)
+        place = part(uses, crate, not apart or spent)
+        run = subprocess.Popen(['rt', 'ci', crate], cwd=place, stdout=subprocess.DEVNULL, stderr=subprocess.DEVNULL)
         # kept, since a child whose object is gone is waited for by whoever starts the next one
-        running[run.pid] = run, crate, spent
-    while left or running:
+        running[run.pid] = run, crate, spent, place
+    while left or edited or running:
         ready = sorted((crate for crate in left if all(used in passed for used in uses[crate])), key=lambda crate: (-heights[crate], crate))
         for crate in ready[:jobs - len(running)]:
             left.remove(crate)
             start(crate, [])
+        while edited and len(running) < jobs:
+            start(*edited.pop(0))
         if not running:
             return
         pid, status, usage = os.wait4(-1, 0)
-        run, crate, spent = running.pop(pid)
+        run, crate, spent, place = running.pop(pid)
         run.returncode = status
+        shutil.rmtree(place)
         spent = spent + [usage.ru_utime + usage.ru_stime]
-        if status == 0 and len(spent) < len(places) and edits_of(crate):
-            start(crate, spent)
-            continue
         if status == 0:
             passed.add(crate)
+            if apart and len(spent) == 1 and edits_of(crate):
+                edited.append((crate, spent))
+                continue
         yield crate, spent, status == 0
 
 
@@ -149,12 +158,10 @@ def main():
     uses = crates()
     wanted = below(uses, given.crates or set(uses)) - NEVER_KEPT
     rows, failed = [], False
-    with tempfile.TemporaryDirectory() as place:
-        places = [without_edits(place), ROOT] if given.apart else [ROOT]
-        for crate, spent, passed in prove_all(uses, wanted, given.jobs, places):
-            failed |= not passed
-            print(f'{crate}: {" + ".join(f"{seconds:.0f}" for seconds in spent)} s{"" if passed else ", FAILED"}', file=sys.stderr)
-            rows.append((sum(spent), crate, spent))
+    for crate, spent, passed in prove_all(uses, wanted, given.jobs, given.apart):
+        failed |= not passed
+        print(f'{crate}: {" + ".join(f"{seconds:.0f}" for seconds in spent)} s{"" if passed else ", FAILED"}', file=sys.stderr, flush=True)
+        rows.append((sum(spent), crate, spent))
     print_costs(rows, given.apart)
     sys.exit(failed or len(rows) < len(wanted))
 
