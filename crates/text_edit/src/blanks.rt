@@ -105,6 +105,9 @@ fn put_between(
     out: &mut Vec<u8>,
 ) -> Result<Within, AllocError> {
     if byte == b'\n' || byte == b'\r' {
+        if within == Within::Blank && (out.is_empty() || last_byte(out.as_slice()) != b' ') {
+            out.push(b' ')?;
+        }
         return Ok(Within::Indent);
     }
     if within == Within::Indent && (byte == b' ' || byte == b'\t') {
