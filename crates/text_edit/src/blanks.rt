@@ -105,6 +105,9 @@ fn put_between(
     out: &mut Vec<u8>,
 ) -> Result<Within, AllocError> {
     if byte == b'\n' || byte == b'\r' {
+        if within == Within::Blank && (out.is_empty() || last_byte(out.as_slice()) != b' ') {
+            out.push(b' ')?;
+        }
         return Ok(Within::Indent);
     }
     if within == Within::Indent && (byte == b' ' || byte == b'\t') {
@@ -149,7 +152,11 @@ fn put_in_line(
         }
         Within::Block => {
             out.push(if ends { b' ' } else { byte })?;
-            Ok(if closes { Within::Closes } else { Within::Block })
+            Ok(if closes {
+                Within::Closes
+            } else {
+                Within::Block
+            })
         }
         Within::Closes => {
             out.push(byte)?;
@@ -161,9 +168,18 @@ fn put_in_line(
 /// Blanks with their comments, each closed before its line ends, in one line; `behind`: behind a blank.
 pub(crate) fn in_line(alloc: Global, behind: bool, blanks: &[u8]) -> Result<Vec<u8>, AllocError> {
     let mut out = Vec::new(alloc);
-    let mut within = if behind { Within::Indent } else { Within::Blank };
+    let mut within = if behind {
+        Within::Indent
+    } else {
+        Within::Blank
+    };
     for i in 0..blanks.len() {
-        within = put_in_line(within, blanks[i], byte_at(blanks, i.saturating_add(1)), &mut out)?;
+        within = put_in_line(
+            within,
+            blanks[i],
+            byte_at(blanks, i.saturating_add(1)),
+            &mut out,
+        )?;
     }
     if within == Within::Line {
         out.extend_from_slice(b" */")?;

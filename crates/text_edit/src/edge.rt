@@ -1,7 +1,7 @@
 //! What stands where a text changes. Nothing is promised of it here: the whole text is held against its tree in the end.
 use crate::blanks::{
-    end_byte, ends_line, first_byte, has_comment, in_line, is_name_byte, is_roomy, joins, joins_blanks,
-    last_byte,
+    end_byte, ends_line, first_byte, has_comment, in_line, is_name_byte, is_roomy, joins,
+    joins_blanks, last_byte,
 };
 use std::alloc::{AllocError, Global};
 use text_lexer::{Comments, Mark};
@@ -44,8 +44,8 @@ impl Edge {
         }
     }
 
-    /// Behind an old piece that stays, which may be written with nothing. What stands behind a semicolon that is left to the reader is
-    /// none of what is taken away before it.
+    /// Behind an old piece that stays, which may be written with nothing. The blanks behind a semicolon that is left to the
+    /// reader are no part of what is taken away before it.
     pub(crate) fn behind(self, piece: Piece<'_>, is_empty: bool) -> Edge {
         if !is_empty {
             return Edge::settled();
@@ -103,8 +103,8 @@ impl Edge {
         }
     }
 
-    /// Whether a semicolon that was left to the reader has to be written before a token that begins with this byte, where the blanks
-    /// before it end a line or not.
+    /// Whether a semicolon that was left to the reader has to be written before a token that begins with this byte, where
+    /// the blanks before it end a line or not.
     fn wants_semicolon(self, ended: bool, next: u8) -> bool {
         let stops = (self.ended || ended) && (!self.parted || is_name_byte(next));
         self.semicolon && next != b'}' && !stops
@@ -165,7 +165,14 @@ pub(crate) fn put(
         new.push(b'\n')?;
     }
     if leads {
-        put_blanks(alloc, comments, edge.here, last_of(old, &new), blanks, &mut new)?;
+        put_blanks(
+            alloc,
+            comments,
+            edge.here,
+            last_of(old, &new),
+            blanks,
+            &mut new,
+        )?;
     }
     let last = last_of(old, &new);
     if joins(last, next) || edge.inserted && !edge.line && is_roomy(last, next) {
@@ -194,7 +201,14 @@ pub(crate) fn keep(
         new.push(b';')?;
     }
     if stays && !blanks.is_empty() {
-        put_blanks(alloc, comments, edge.here, last_of(old, &new), blanks, &mut new)?;
+        put_blanks(
+            alloc,
+            comments,
+            edge.here,
+            last_of(old, &new),
+            blanks,
+            &mut new,
+        )?;
     } else if joins(last_of(old, &new), first_byte(token)) {
         new.push(b' ')?;
     }
@@ -214,7 +228,14 @@ pub(crate) fn left_of(
     let mut left = Vec::new(alloc);
     let wanted = !stood.is_empty() && !edge.written;
     if wanted && (has_comment(blanks) || !(edge.dropped || closes(stood))) {
-        put_blanks(alloc, comments, edge.here, last_byte(old), blanks, &mut left)?;
+        put_blanks(
+            alloc,
+            comments,
+            edge.here,
+            last_byte(old),
+            blanks,
+            &mut left,
+        )?;
     }
     Ok(left)
 }

@@ -57,11 +57,17 @@ fn found_parens(well: bool, before: &[Piece<'_>], after: &[Piece<'_>]) -> Option
     let most = if old < new { new } else { old };
     for count in 0..most {
         let far = count + 1;
-        let change = Change { removed: far, inserted: 0 };
+        let change = Change {
+            removed: far,
+            inserted: 0,
+        };
         if far <= old && meets(well, before, after, change) {
             return Some(change);
         }
-        let change = Change { removed: 0, inserted: far };
+        let change = Change {
+            removed: 0,
+            inserted: far,
+        };
         if far <= new && meets(well, before, after, change) {
             return Some(change);
         }

@@ -258,7 +258,8 @@ fn remove_piece<'p, 'a, 't>(
     };
     let stood = up_to(place.rest, next.rest);
     let edge = place.edge.before(comes_here(cursor.news));
-    let left = left_of(alloc, comments, edge, out.as_slice(), blanks_at(comments, place), stood)?;
+    let blanks = blanks_at(comments, place);
+    let left = left_of(alloc, comments, edge, out.as_slice(), blanks, stood)?;
     append(out, &left)?;
     Ok(Cursor {
         olds,
