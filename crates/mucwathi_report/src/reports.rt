@@ -51,8 +51,12 @@ fn tell_text_fault(alloc: Global, of: Named<'_>, fault: &TextFault) -> Result<Ve
     Ok(out)
 }
 
+fn tell_refused(alloc: Global, name: &str, sentence: &str) -> Result<Vec<u8>, AllocError> {
+    tell_line(alloc, &[name, ": refused: ", sentence])
+}
+
 fn tell_refusal(alloc: Global, name: &str, error: PassError) -> Result<Vec<u8>, AllocError> {
-    tell_line(alloc, &[name, ": refused: ", refusal_sentence(error)])
+    tell_refused(alloc, name, refusal_sentence(error))
 }
 
 /// Why nothing was made of a text.
