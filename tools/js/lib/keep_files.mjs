@@ -23,7 +23,7 @@ says of each other file why.
   --help           this text
 
   same             as it is to be
-  not kept         comments differ
+  not kept         comments differ by their texts
   other scopes     not the same by eslint-scope
   not read back    by acorn
   judged other     not the same by mucwathi, where all else is well; of a tool, another text by a word of the judge
@@ -59,7 +59,8 @@ function kindOf(text, file) {
 /** The tree of a text without pairs, and its comments. */
 function read(text, kind) {
   const comments = [];
-  const onComment = (isBlock, comment) => comments.push((isBlock ? '/*' : '//') + comment);
+  // where no line may end, what was to the line's end stands in a block
+  const onComment = (_, comment) => comments.push(comment.replace(/\s+/g, ' ').replaceAll('* /', '*/').trim());
   return { tree: parseAs(text, kind, { preserveParens: false, ranges: true, onComment }), comments };
 }
 
