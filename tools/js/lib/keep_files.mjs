@@ -83,13 +83,16 @@ function held(kind, source, answer) {
   }
 }
 
-function judge(program, words, before, after) {
-  const { status, stdout, stderr } = spawnSync(program, ['judge', ...words, before, '/dev/stdin'], { ...ROOM, input: after });
+/** What the program says of a file and an answer, which it reads in the folder: node's standard input is no file. */
+function judge(program, folder, words, before, after) {
+  const place = join(folder, 'after.js');
+  writeFileSync(place, after);
+  const { status, stdout, stderr } = spawnSync(program, ['judge', ...words, before, place], ROOM);
   return { status, why: firstLine(status === 1 ? stdout : stderr) };
 }
 
 /** What is said of a file and a command. */
-function byCommand(program, command, file) {
+function byCommand(program, folder, command, file) {
   const source = textOf(readFileSync(file));
   const kind = source === null ? null : kindOf(source, file);
   const { stdout, stderr, status } = spawnSync(program, [command, file], ROOM);
@@ -100,7 +103,7 @@ function byCommand(program, command, file) {
     return { how: `status ${status}`, why: firstLine(stderr) };
   }
   const found = held(kind, source, textOf(stdout));
-  const judged = found.how === 'same' ? judge(program, [`--${kind}`], file, stdout) : null;
+  const judged = found.how === 'same' ? judge(program, folder, [`--${kind}`], file, stdout) : null;
   return judged === null || judged.status === 0 ? found : { ...found, how: 'judged other', why: judged.why };
 }
 
@@ -116,7 +119,7 @@ async function byTool(program, folder, tool, file) {
     const after = await printed(await RENAMERS[tool](before, kind, NAMES.inner), kind);
     const place = join(folder, 'before.js');
     writeFileSync(place, before);
-    const { status, why } = judge(program, [`--${kind}`, '--any-spelling'], place, after);
+    const { status, why } = judge(program, folder, [`--${kind}`, '--any-spelling'], place, after);
     return { how: status === 0 ? 'same' : status === 1 ? 'judged other' : `status ${status}`, why };
   } catch (error) {
     return { ...NONE, why: error.message.split('\n')[0] };
@@ -162,7 +165,7 @@ export const keepFiles = {
     const head = ['by', 'files', ...COLUMNS];
     const rows = [`| ${head.join(' | ')} |\n|${head.map(() => '---').join('|')}|\n`];
     for (const name of commands) {
-      rows.push(await row(files, name, (file) => byCommand(at, name, file)));
+      rows.push(await row(files, name, (file) => byCommand(at, folder, name, file)));
     }
     for (const name of tool) {
       rows.push(await row(files, name, (file) => byTool(at, folder, name, file)));
