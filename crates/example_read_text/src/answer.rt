@@ -8,7 +8,7 @@ use std::alloc::Global;
 use text_source::{Goal, TextFault, read_text};
 
 /// How many productions may be open at once, and how many nodes may stand one in another.
-const DEPTH: u32 = 10_000;
+const DEPTH: u32 = 4_000;
 
 /// The tree that a text is, as JSON.
 pub fn answer(alloc: Global, goal: Goal, text: &[u8]) -> Result<String, TextFault>

@@ -282,7 +282,7 @@ fn read_utf8(alloc: Global, goal: Goal, depth: u32, text: &[u8]) -> Result<Node,
 /// The tree of a text, as a module or as a script. Spans are bytes of the text, from 1.
 ///
 /// `depth` says how many productions may be open at once, where parentheses in one another take ten each, and how many nodes
-/// may stand one in another. A program's stack of 8 MB bears 10,000.
+/// may stand one in another. A program's stack of 8 MB bears 4,000.
 ///
 /// What is answered is what the text says: its tokens are those of the tree, one after another, and nothing else stands there
 /// but blanks, comments, and what no tree tells; and the grammar derives the tree as it stands, which is pinned where the grammar leaves
