@@ -12,7 +12,7 @@ use text_printer::{Layout, PrintFault, print_text};
 use text_source::{Goal, TextFault, read_text};
 
 /// How many productions may be open at once, and how many nodes may stand one in another.
-const DEPTH: u32 = 10_000;
+const DEPTH: u32 = 4_000;
 
 /// What is made of a text.
 #[derive(Clone, Copy, Debug)]
