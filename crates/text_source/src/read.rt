@@ -16,16 +16,15 @@ ghost use Rattle.text_source.specs.Texts as spec;
 ghost use Rattle.text_source.specs.Texts.{IsTextOf, IsWhole, SpansAreOf, Tells, most_bytes};
 ghost use Rattle.text_spans.specs.Leaves.{LeavesStand};
 
+use crate::sound::is_formed;
 use std::alloc::{AllocError, Global};
 use std::str;
 use swc_tree_node::{Class, Content, Node, Slot};
-use text_checks::check_tree;
 use text_follow::{follows, frames_stand};
 use text_lexer::Comments;
 use text_parser::{Goal, TextFault, parse};
 use text_pieces::{Piece, first_span, framed_pieces, pieces};
 use text_pinned::is_pinned;
-use text_spans::leaves_stand;
 use text_table::fits;
 
 /// As many bytes as a text may have: the places in a tree go up to 2 ^ 32 - 1, and begin with 1.
@@ -59,16 +58,6 @@ fn stands(goal: Goal, tree: &Node) -> bool
     ensures { IsTrue result → Fits tree.now (spec.slot_of goal) }
 {
     fits(tree, slot_of(goal))
-}
-
-// Whether a text can have the tree at all: the table, lengths, leaves and the grammar.
-fn is_formed(goal: Goal, tree: &Node) -> bool
-    ensures { IsTrue result → IsWellFormed (spec.slot_of goal) tree.now }
-{
-    match check_tree(slot_of(goal), tree) {
-        Ok(()) => true,
-        Err(_) => false,
-    }
 }
 
 // Whether it is the one that its tokens say, where the grammar leaves a choice.
@@ -213,13 +202,6 @@ fn of_parser(said: TextFault, text: &[u8]) -> TextFault
     }
 }
 
-// Whether leaves stand where they say.
-fn stand(tree: &Node, text: &[u8]) -> bool
-    ensures { IsTrue result → LeavesStand text.now tree.now }
-{
-    leaves_stand(tree, text)
-}
-
 // Whether a text in UTF-8 is that of a tree that fits, whose nodes stand where their spans say.
 fn has_nodes(alloc: Global, goal: Goal, tree: &Node, text: &[u8]) -> Result<bool, AllocError>
     requires utf8 { IsUtf8 text.now }
@@ -246,7 +228,7 @@ fn held(alloc: Global, goal: Goal, tree: Node, text: &[u8]) -> Result<Node, Text
     ensures spans { IfOk result (λ tree. SpansAreOf goal tree text.now) }
     ensures refusal { IfErr result (Tells text.now) }
 {
-    if !is_formed(goal, &tree) {
+    if !is_formed(slot_of(goal), &tree, text) {
         return Err(TextFault::NotTheText);
     }
     if !is_exact(goal, &tree) {
@@ -254,7 +236,7 @@ fn held(alloc: Global, goal: Goal, tree: Node, text: &[u8]) -> Result<Node, Text
     }
     match has_nodes(alloc, goal, &tree, text) {
         Ok(is_said) => {
-            if is_said && stand(&tree, text) {
+            if is_said {
                 Ok(tree)
             } else {
                 Err(TextFault::NotTheText)
