@@ -22,7 +22,8 @@ fn position(whole: &[u8], rest: &[u8]) -> BytePos
     1 + whole.len().saturating_sub(rest.len()) as u32
 }
 
-fn is_comment(text: &[u8]) -> bool
+/// Whether what is skipped at the front of a text is a comment, and no white space and no line end.
+pub fn is_comment(text: &[u8]) -> bool
     ensures { result ≡ spec.is_comment text.now }
 {
     !begins_line_end(text) && !is_space(point(text))
@@ -30,9 +31,9 @@ fn is_comment(text: &[u8]) -> bool
 
 /// A text, and which comments it may have.
 #[derive(Clone, Copy)]
-struct Source<'t> {
-    comments: Comments,
-    whole: &'t [u8],
+pub struct Source<'t> {
+    pub comments: Comments,
+    pub whole: &'t [u8],
 }
 
 /// The tokens that blanks stand between.
@@ -110,7 +111,11 @@ fn end_before(whole: &[u8], fresh: bool, text: &[u8]) -> BytePos
 }
 
 /// Adds the comments before the next token.
-fn add_before_token(
+///
+/// # Errors
+///
+/// Where memory is refused.
+pub fn add_before_token(
     source: Source<'_>,
     fresh: bool,
     text: &[u8],
@@ -138,7 +143,11 @@ fn behind_token(comments: Comments, goal: Goal, fresh: bool, text: &[u8]) -> &[u
 }
 
 /// Adds the comments before the tokens of a piece.
-fn add_before_tokens(
+///
+/// # Errors
+///
+/// Where memory is refused.
+pub fn add_before_tokens(
     source: Source<'_>,
     goal: Goal,
     fresh: bool,

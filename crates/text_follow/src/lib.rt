@@ -3,6 +3,7 @@
 
 mod ending;
 mod follow;
+mod plain;
 mod spell;
 mod stand;
 
