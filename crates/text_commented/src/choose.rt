@@ -8,7 +8,7 @@ use std::alloc::{AllocError, Global};
 use swc_tree_node::Node;
 use text_characters::begins_line_end;
 use text_comments::Comment;
-use text_pieces::framed_pieces;
+use text_walk::framed_pieces;
 
 fn has_line_end(text: &[u8]) -> bool {
     for at in 0..text.len() {
