@@ -16,10 +16,10 @@ abbrev pub Leads : ℕ → Comments → Bool → Place → List Piece → Place 
 Leads n c soft p ps q = (qs : List Piece) → StandsFrom n c soft q.fresh q.ending qs q.rest.now → StandsFrom n c soft p.fresh p.ending (ps ++ qs) p.rest.now
 
 -- nothing of the text is read
-pub record IsFront (c : Comments) (soft : Bool) (text : List ℕ) (r : Reader) : Type 0 where
+pub record IsFront (c : Comments) (may : Bool) (text : List ℕ) (r : Reader) : Type 0 where
   pub whole : r.whole ≡ length text
   pub comments : r.comments ≡ c
-  pub soft : r.soft ≡ soft
+  pub soft : r.soft ≡ may
   pub rest : r.place.rest.now ≡ text
   pub fresh : r.place.fresh ≡ true
   pub ending : r.place.ending ≡ ending.Closed
