@@ -11,21 +11,18 @@ use Rattle.text_lexer.specs.declared.token.TemplatePart.{TemplatePart}
 use Rattle.text_pieces.specs.declared.item.Item.{Item}
 use Rattle.text_pieces.specs.declared.piece.Gap.TheVariants as line
 use Rattle.text_pieces.specs.Forms.{attribute, pairs, when}
-use Rattle.text_pieces.specs.Frames.{begun, framing, stopped}
+use Rattle.text_pieces.specs.Frames.{begun, framing, framing_text, stopped, text_begun, text_stopped}
 use Rattle.text_pieces.specs.Leaves.{is_named}
 use Rattle.text_pieces.specs.Pieces.{Written, closing_part, item_pieces, layout_pieces, lines, opening_part, specified, template_from, text_in_frame, with_commas, written_with}
 use Rattle.text_pieces.specs.Tokens.{Piece, gap, may_comma, punctuator}
 use Rattle.text_walk.specs.declared.sink.Sink.{Sink}
 use Rattle.text_walk.specs.Sinks.{Gains}
-use Rattle.text_walk.proofs.Sinks.{goes_on}
+use Rattle.text_walk.proofs.Sinks.{goes_on, three}
 use Rattle.text_walk.proofs.Walked.{layout_more, lines_one, listed_more, there_by}
 
 -- what one that has become another owes, to have taken all
 abbrev pub Owes : Sink → List Piece → Sink → List Piece → Type 0
 Owes old all mid ps = (end : Sink) → Gains mid ps end → Gains old all end
-
-three : (s t u v : Sink) (ps qs rs : List Piece) → Gains s ps t → Gains t qs u → Gains u rs v → Gains s (ps ++ qs ++ rs) v
-three s t u v ps qs rs one two last = goes_on s u v (ps ++ qs) rs (goes_on s t u ps qs one two) last
 
 pub lines_more : (f : Bool) (ts : List Node) (i : ℕ) (t : Node) (old mid between new : Sink) → i < length ts → t ≡ get_or ts i t → Gains old (lines (map (written_with f) (take i ts))) mid → Gains mid (gap line.Line ∷ []) between
     → Gains between (written_with f t) new → Gains old (lines (map (written_with f) (take (i + 1) ts))) new
@@ -104,9 +101,29 @@ template_end f ts us i t some part old mid end all within is past before part_is
     (subst (λ l. Gains mid (template_from f some (t ∷ drop (i + 1) ts) (map (written_with f) l)) end) (sym (drop_all i us past))
     (subst (λ p. Gains mid (text_in_frame f p (out-Node t)) end) part_is text)))
 
-pub in_frame : (framed : Bool) (s : Option Span) (ps : List Piece) (old begins ends new : Sink) → framed ≡ true → Gains old (begun s) begins → Gains begins ps ends → Gains ends (stopped s) new → Gains old (framing framed s ps) new
-in_frame framed s ps old begins ends new asked begins_there found stops_there =
-    subst (λ b. Gains old (framing b s ps) new) (sym asked) (three old begins ends new (begun s) ps (stopped s) begins_there found stops_there)
+-- in the frame of a span, which two calls have told
+pub in_frame : (framed : Bool) (s a b : Option Span) (ps : List Piece) (old begins ends new : Sink) → framed ≡ true → a ≡ s → b ≡ s → Gains old (begun a) begins → Gains begins ps ends → Gains ends (stopped b) new
+    → Gains old (framing framed s ps) new
+in_frame framed s a b ps old begins ends new asked at to begins_there found stops_there =
+    subst (λ f. Gains old (framing f s ps) new) (sym asked)
+    (three old begins ends new (begun s) ps (stopped s) (subst (λ s. Gains old (begun s) begins) at begins_there) found (subst (λ s. Gains ends (stopped s) new) to stops_there))
 
-pub in_no_frame : (framed : Bool) (s : Option Span) (ps : List Piece) (old new : Sink) → framed ≡ false → Gains old ps new → Gains old (framing framed s ps) new
-in_no_frame framed s ps old new asked found = subst (λ b. Gains old (framing b s ps) new) (sym asked) found
+pub dots_in_frame : (some framed : Bool) (s a b : Option Span) (ps : List Piece) (old begins ends new : Sink) → some ≡ true → framed ≡ true → a ≡ s → b ≡ s → Gains old (begun a) begins → Gains begins ps ends → Gains ends (stopped b) new
+    → Gains old (if some then framing framed s ps else []) new
+dots_in_frame some framed s a b ps old begins ends new is asked at to begins_there found stops_there =
+    subst (λ c. Gains old (if c then framing framed s ps else []) new) (sym is) (in_frame framed s a b ps old begins ends new asked at to begins_there found stops_there)
+
+pub text_framed : (framed : Bool) (p : TemplatePart) (s a b : Option Span) (x y : Piece) (old begins ends new : Sink) → framed ≡ true → a ≡ s → b ≡ s → x ≡ y → Gains old (text_begun a) begins → Gains begins (x ∷ []) ends → Gains ends (text_stopped p b) new
+    → Gains old (framing_text framed p s (y ∷ [])) new
+text_framed framed p s a b x y old begins ends new asked at to same begins_there found stops_there =
+    subst (λ f. Gains old (framing_text f p s (y ∷ [])) new) (sym asked)
+    (three old begins ends new (text_begun s) (y ∷ []) (text_stopped p s) (subst (λ s. Gains old (text_begun s) begins) at begins_there) (subst (λ z. Gains begins (z ∷ []) ends) same found) (subst (λ s. Gains ends (text_stopped p s) new) to stops_there))
+
+-- the span of a node's own, and that of what it holds, which four calls have told
+pub in_two_frames : (framed : Bool) (s r a b c d : Option Span) (ps : List Piece) (old one two three_on four new : Sink) → framed ≡ true → a ≡ s → b ≡ r → c ≡ r → d ≡ s
+    → Gains old (begun a) one → Gains one (begun b) two → Gains two ps three_on → Gains three_on (stopped c) four → Gains four (stopped d) new
+    → Gains old (framing framed s (framing framed r ps)) new
+in_two_frames framed s r a b c d ps old one two three_on four new asked at inner_at inner_to to begins_there inside found inside_stops stops_there =
+    in_frame framed s a d (framing framed r ps) old one four new asked at to begins_there
+    (in_frame framed r b c ps one two three_on four asked inner_at inner_to inside found inside_stops)
+    stops_there

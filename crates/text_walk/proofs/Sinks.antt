@@ -1,5 +1,5 @@
 -- What has been taken by some, and then by others.
-use Rattle.std.proofs.Common.{◌≡◌, ℕ, Bool, List, [], ◌∷◌, ◌++◌, Global, Vec, map, sym, ap, subst, ◌∙◌, append_assoc, append-nil}
+use Rattle.std.proofs.Common.{◌≡◌, ℕ, Bool, List, [], ◌++◌, Global, Vec, Result, Ok, Err, OnOk, map, refl, sym, ap, subst, ◌∙◌, append_assoc, append-nil}
 use Rattle.text_follow.specs.declared.stand.Reader.{Reader}
 use Rattle.text_follow.specs.Readers.{IsFront, IsOver}
 use Rattle.text_follow.specs.Stands.{Stands}
@@ -7,6 +7,7 @@ use Rattle.text_follow.proofs.Readers.{read_whole, reads_on_nowhere, reads_on_tw
 use Rattle.text_lexer.specs.declared.blank.Comments.{Comments}
 use Rattle.text_pieces.specs.declared.piece.Piece as code
 use Rattle.text_pieces.specs.Tokens.{Piece, piece_view}
+use Rattle.text_walk.specs.declared.sink.Refusal.{Refusal}
 use Rattle.text_walk.specs.declared.sink.Sink.{Sink}
 use Rattle.text_walk.specs.declared.sink.Sink.TheVariants as sink
 use Rattle.text_walk.specs.Sinks.{Gains, IsReadOut}
@@ -50,3 +51,18 @@ pub listed : (old new : Sink) (had has : Vec code.Piece Global) (ps : List Piece
 listed old new had has ps is none now gained =
     let kept = gained.list had is in
     ap (λ v. map piece_view v.items) (one_list has kept.0 (sym now ∙ kept.1)) ∙ kept.2 ∙ ap (λ l. l ++ ps) none
+
+no_text : (a : Vec code.Piece Global) (b : Reader) → sink.List a ≡ sink.Text b → ⊥
+no_text a b h = cc
+
+-- a list that has more has gained that
+pub kept_more : (old : Sink) (list more : Vec code.Piece Global) (ps : List Piece) → old ≡ sink.List list → map piece_view more.items ≡ map piece_view list.items ++ ps → Gains old ps (sink.List more)
+kept_more old list more ps is gained = record {
+  list = λ had h. (more, refl, gained ∙ ap (λ v. map piece_view v.items ++ ps) (one_list list had (sym is ∙ h)));
+  text = λ at h. absurd (no_text list at (sym is ∙ h));
+}
+
+-- what follows where a call went well
+pub then : {P Q : Type 0} (r : Result (Unit {0}) Refusal) → (P → Q) → OnOk r P → OnOk r Q
+then (Ok x) f h = f h
+then (Err e) f h = h

@@ -1,5 +1,6 @@
 -- What has been taken of a tree's tokens.
-use Rattle.std.specs.Prelude.{◌≡◌, List, ◌++◌, Global, Vec, map}
+use Rattle.std.specs.Prelude.{◌≡◌, List, ◌++◌, Vec, map}
+use Rattle.std.specs.Global.{Global}
 use Rattle.text_follow.specs.declared.stand.Reader.{Reader}
 use Rattle.text_follow.specs.Readers.{IsOver, ReadsOn}
 use Rattle.text_pieces.specs.declared.piece.Piece as code

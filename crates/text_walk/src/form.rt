@@ -1,9 +1,12 @@
 //! What is written of a field by its form alone.
-ghost use Rattle.std.specs.Prelude.{◌≡◌, ◌∷◌, [], false, OnOk, if◌then◌else◌};
+#![tactic(auto, using(crate::proofs::Sinks::stays))]
+
+ghost use Rattle.std.specs.Prelude.{◌≡◌, ◌∷◌, ◌++◌, [], codes, false, OnOk, if◌then◌else◌};
 ghost use Rattle.std.specs.Option.{option_copied};
 ghost use Rattle.swc_tree_node.specs.declared.node.Node.{Node, out-Node};
+ghost use Rattle.text_lexer.specs.declared.mark.Mark.TheVariants as mark;
 ghost use Rattle.text_pieces.specs.Forms as spec;
-ghost use Rattle.text_pieces.specs.Tokens.{piece_view, sign_piece};
+ghost use Rattle.text_pieces.specs.Tokens.{piece_view, punctuator, sign_piece, word as word_of};
 ghost use Rattle.text_walk.specs.Sinks.{Gains};
 
 use crate::leaf::{
@@ -148,15 +151,19 @@ fn add_pairs<'a>(pairs: &'a [Node], found: &mut Sink<'a>) -> Result<(), Refusal>
     push_if(found, some, Piece::MayComma)
 }
 
+fn add_attribute_list<'a>(pairs: &'a [Node], found: &mut Sink<'a>) -> Result<(), Refusal>
+    ensures { OnOk result (Gains found.old (word_of (codes "with") ∷ punctuator mark.LeftBrace ∷ spec.pairs false pairs.now ++ punctuator mark.RightBrace ∷ []) found.new) }
+{
+    push_two(found, Piece::Word("with"), Piece::Mark(Mark::LeftBrace))?;
+    add_pairs(pairs, found)?;
+    push(found, Piece::Mark(Mark::RightBrace))
+}
+
 fn add_attributes<'a>(node: &'a Node, found: &mut Sink<'a>) -> Result<(), Refusal>
     ensures { OnOk result (Gains found.old (spec.attributes (out-Node node.now)) found.new) }
 {
     match node {
-        Node::List(pairs) => {
-            push_two(found, Piece::Word("with"), Piece::Mark(Mark::LeftBrace))?;
-            add_pairs(pairs.as_slice(), found)?;
-            push(found, Piece::Mark(Mark::RightBrace))
-        }
+        Node::List(pairs) => add_attribute_list(pairs.as_slice(), found),
         _ => Ok(()),
     }
 }
@@ -183,11 +190,7 @@ fn word<'a>(keyword: Keyword) -> Piece<'a>
 }
 
 /// What is written of a node by a form.
-pub(crate) fn add_form<'a>(
-    node: &'a Node,
-    form: Form,
-    found: &mut Sink<'a>,
-) -> Result<(), Refusal>
+pub(crate) fn add_form<'a>(node: &'a Node, form: Form, found: &mut Sink<'a>) -> Result<(), Refusal>
     ensures { OnOk result (Gains found.old (spec.form_pieces form node.now) found.new) }
 {
     match form {

@@ -1,4 +1,6 @@
 //! Where nodes begin and stop.
+#![tactic(auto, using(crate::proofs::Sinks::stays))]
+
 ghost use Rattle.std.specs.Prelude.{◌≡◌, ◌≤◌, OnOk, slice_get};
 ghost use Rattle.swc_tree_node.specs.declared.node.Node.{out-Node};
 ghost use Rattle.text_pieces.specs.Frames as spec;
@@ -12,10 +14,7 @@ use text_lexer::TemplatePart;
 use text_pieces::{Frame, Piece};
 
 /// Puts the beginning of a span there.
-pub(crate) fn push_begun<'a>(
-    span: Option<Span>,
-    found: &mut Sink<'a>,
-) -> Result<(), Refusal>
+pub(crate) fn push_begun<'a>(span: Option<Span>, found: &mut Sink<'a>) -> Result<(), Refusal>
     ensures { OnOk result (Gains found.old (spec.begun span) found.new) }
 {
     match span {
@@ -25,10 +24,7 @@ pub(crate) fn push_begun<'a>(
 }
 
 /// Puts the end of a span there.
-pub(crate) fn push_stopped<'a>(
-    span: Option<Span>,
-    found: &mut Sink<'a>,
-) -> Result<(), Refusal>
+pub(crate) fn push_stopped<'a>(span: Option<Span>, found: &mut Sink<'a>) -> Result<(), Refusal>
     ensures { OnOk result (Gains found.old (spec.stopped span) found.new) }
 {
     match span {
@@ -121,10 +117,7 @@ fn behind_text(part: TemplatePart) -> usize
 }
 
 /// Puts there where a token begins that a text of a template has this span in.
-pub(crate) fn push_text_begun<'a>(
-    span: Option<Span>,
-    found: &mut Sink<'a>,
-) -> Result<(), Refusal>
+pub(crate) fn push_text_begun<'a>(span: Option<Span>, found: &mut Sink<'a>) -> Result<(), Refusal>
     ensures { OnOk result (Gains found.old (spec.text_begun span) found.new) }
 {
     match span {

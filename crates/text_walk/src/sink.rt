@@ -1,4 +1,6 @@
 //! Where the tokens of a tree go, one after another.
+#![tactic(auto, using(crate::proofs::Sinks::stays))]
+
 ghost use Rattle.std.specs.Prelude.{◌≡◌, ◌++◌, ◌∷◌, [], map, OnOk, if◌then◌else◌};
 ghost use Rattle.text_pieces.specs.Tokens.{piece_view};
 ghost use Rattle.text_walk.specs.Sinks.{Gains};

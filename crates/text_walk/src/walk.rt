@@ -1,10 +1,13 @@
 //! A tree's tokens, one after another.
-ghost use Rattle.std.specs.Prelude.{◌≡◌, [], ◌∷◌, Some, false, map, OnOk, slice_get, if◌then◌else◌};
+#![tactic(auto, using(crate::proofs::Sinks::stays))]
+
+ghost use Rattle.std.specs.Prelude.{◌≡◌, ◌&&◌, ◌||◌, ◌++◌, [], ◌∷◌, Some, false, not, map, OnOk, slice_get, if◌then◌else◌};
 ghost use Rattle.swc_tree_node.specs.declared.node.Node.{out-Node};
-ghost use Rattle.text_pieces.specs.Frames.{framing, in_frames, span_at as field_span};
+ghost use Rattle.text_pieces.specs.Frames.{framed_name, framing, in_frames, span_at as field_span};
+ghost use Rattle.text_pieces.specs.Leaves.{lone_span as name_span};
 ghost use Rattle.text_pieces.specs.Pieces as spec;
 ghost use Rattle.text_pieces.specs.Pieces.{written, written_with};
-ghost use Rattle.text_pieces.specs.Tokens.{name, piece_view};
+ghost use Rattle.text_pieces.specs.Tokens.{name, parameter, piece_view};
 ghost use Rattle.text_walk.specs.Sinks.{Gains};
 
 use crate::form::{add_form, piece_of_word};
@@ -63,12 +66,7 @@ fn items_at(fields: &[Node], n: usize) -> &[Node]
     }
 }
 
-fn add_of<'a>(
-    fields: &'a [Node],
-    n: usize,
-    form: Form,
-    found: &mut Sink<'a>,
-) -> Result<(), Refusal>
+fn add_of<'a>(fields: &'a [Node], n: usize, form: Form, found: &mut Sink<'a>) -> Result<(), Refusal>
     ensures { OnOk result (Gains found.old (spec.form_in form (slice_get fields.now n)) found.new) }
 {
     match field_at(fields, n) {
@@ -108,6 +106,18 @@ fn regex_piece<'a>(
     }
 }
 
+fn add_parameter<'a>(
+    framed: bool,
+    node: &'a Node,
+    name: &'a str,
+    found: &mut Sink<'a>,
+) -> Result<(), Refusal>
+    ensures { OnOk result (Gains found.old (framed_name framed (name_span (out-Node node.now)) name.now ++ parameter name.now ∷ []) found.new) }
+{
+    push_named(framed, lone_span(node), name, found)?;
+    push(found, Piece::Parameter(name))
+}
+
 // One plain name that may stand in parentheses.
 fn add_lone<'a>(
     framed: bool,
@@ -119,10 +129,7 @@ fn add_lone<'a>(
 {
     match field_at(fields, n) {
         Some(node) => match lone_name(node) {
-            Some(name) => {
-                push_named(framed, lone_span(node), name, found)?;
-                push(found, Piece::Parameter(name))
-            }
+            Some(name) => add_parameter(framed, node, name, found),
             None => Ok(()),
         },
         None => Ok(()),
@@ -165,11 +172,7 @@ fn add_text<'a>(
     push_text_stopped(part, first_span(node), found)
 }
 
-fn add_name<'a>(
-    framed: bool,
-    ident: &'a Ident,
-    found: &mut Sink<'a>,
-) -> Result<(), Refusal>
+fn add_name<'a>(framed: bool, ident: &'a Ident, found: &mut Sink<'a>) -> Result<(), Refusal>
     ensures { OnOk result (Gains found.old (framing framed (Some ident.now.span) (name ident.now.sym ∷ [])) found.new) }
 {
     if !framed {
@@ -182,11 +185,7 @@ fn add_name<'a>(
 
 /// Takes the tokens that a tree is written with; `framed`: with each node in the frame of its span.
 #[cycle(add)]
-pub(crate) fn add<'a>(
-    framed: bool,
-    tree: &'a Node,
-    found: &mut Sink<'a>,
-) -> Result<(), Refusal>
+pub(crate) fn add<'a>(framed: bool, tree: &'a Node, found: &mut Sink<'a>) -> Result<(), Refusal>
     ensures { OnOk result (Gains found.old (written_with framed tree.now) found.new) }
 {
     match tree {
@@ -222,11 +221,7 @@ fn add_apart<'a>(framed: bool, tree: &'a Node, found: &mut Sink<'a>) -> Result<(
 
 // The same without its frames.
 #[cycle(add)]
-fn add_within<'a>(
-    framed: bool,
-    tree: &'a Node,
-    found: &mut Sink<'a>,
-) -> Result<(), Refusal>
+fn add_within<'a>(framed: bool, tree: &'a Node, found: &mut Sink<'a>) -> Result<(), Refusal>
     ensures { OnOk result (Gains found.old ((written framed tree.now).within) found.new) }
 {
     match tree {
@@ -257,11 +252,7 @@ fn add_tree<'a>(
 }
 
 #[cycle(add)]
-fn add_lines<'a>(
-    framed: bool,
-    items: &'a [Node],
-    found: &mut Sink<'a>,
-) -> Result<(), Refusal>
+fn add_lines<'a>(framed: bool, items: &'a [Node], found: &mut Sink<'a>) -> Result<(), Refusal>
     ensures { OnOk result (Gains found.old (spec.lines (map (written_with framed) items.now)) found.new) }
 {
     for i in 0..items.len() {
@@ -272,11 +263,7 @@ fn add_lines<'a>(
 }
 
 #[cycle(add)]
-fn add_list<'a>(
-    framed: bool,
-    items: &'a [Node],
-    found: &mut Sink<'a>,
-) -> Result<(), Refusal>
+fn add_list<'a>(framed: bool, items: &'a [Node], found: &mut Sink<'a>) -> Result<(), Refusal>
     ensures { OnOk result (Gains found.old (spec.with_commas (map (written_with framed) items.now)) found.new) }
 {
     for i in 0..items.len() {
@@ -286,23 +273,34 @@ fn add_list<'a>(
     Ok(())
 }
 
+// Whether a brace opens before the next specifier.
+fn opens(inside: bool, named: bool) -> bool
+    ensures { result ≡ (named && not inside) }
+{
+    named && !inside
+}
+
+// Whether one is open behind it.
+fn stays_open(inside: bool, named: bool) -> bool
+    ensures { result ≡ (inside || named) }
+{
+    inside || named
+}
+
 #[cycle(add)]
-fn add_specifiers<'a>(
-    framed: bool,
-    items: &'a [Node],
-    found: &mut Sink<'a>,
-) -> Result<(), Refusal>
+fn add_specifiers<'a>(framed: bool, items: &'a [Node], found: &mut Sink<'a>) -> Result<(), Refusal>
     ensures { OnOk result (Gains found.old (spec.specified false false items.now (map (written_with framed) items.now)) found.new) }
 {
     let mut some = false;
     let mut inside = false;
     for i in 0..items.len() {
-        let named = is_named(&items[i]);
+        let item = &items[i];
+        let named = is_named(item);
         push_if(found, some, Piece::Mark(Mark::Comma))?;
-        push_if(found, named && !inside, Piece::Mark(Mark::LeftBrace))?;
-        add(framed, &items[i], found)?;
+        push_if(found, opens(inside, named), Piece::Mark(Mark::LeftBrace))?;
+        add(framed, item, found)?;
         some = true;
-        inside = inside || named;
+        inside = stays_open(inside, named);
     }
     push_if(found, inside, Piece::MayComma)?;
     push_if(found, inside, Piece::Mark(Mark::RightBrace))

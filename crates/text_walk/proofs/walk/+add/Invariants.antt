@@ -1,5 +1,6 @@
 use Rattle.std.proofs.Common.{false, map, take, drop}
 use Rattle.text_pieces.specs.Pieces.{layout_pieces, lines, specified, template_from, with_commas, written, written_with}
+use Rattle.text_walk.specs.Sinks.{Gains}
 use Rattle.text_walk.proofs.Gained.{Owes}
 use Rattle.text_walk.proofs.walk.+add.Given as goal
 
