@@ -38,7 +38,7 @@ get_same (t ∷ ts) (suc i) = get_same ts i
 child_same : (t : Node) (i : ℕ) (o : Option Node) → child t i ≡ o → child (by_texts t) i ≡ option_map by_texts o
 child_same t i o e = ap (λ ts. slice_get ts i) (children_same t) ∙ get_same (children_in (out-Node t)) i ∙ ap (option_map by_texts) e
 
-pub there : (p : Path) (t n : Node) → node_at t p ≡ Some n → node_at (by_texts t) p ≡ Some (by_texts n)
+there : (p : Path) (t n : Node) → node_at t p ≡ Some n → node_at (by_texts t) p ≡ Some (by_texts n)
 there [] t n e = ap (option_map by_texts) e
 there (i ∷ p) t n e = by (λ c g. there p c n g) (child t i) refl e
   where
@@ -48,10 +48,10 @@ there (i ∷ p) t n e = by (λ c g. there p c n g) (child t i) refl e
     by further (Some c) g e = ap (λ o. given o None (λ c. node_at c p)) (child_same t i (Some c) g) ∙ further c e
 
 -- what stands at a path in the tree without contexts
-abbrev pub Stood : Path → Node → Node → Type 0
+abbrev Stood : Path → Node → Node → Type 0
 Stood p t n = (m : Node) × (node_at t p ≡ Some m) × (by_texts m ≡ n)
 
-pub back : (p : Path) (t n : Node) → node_at (by_texts t) p ≡ Some n → Stood p t n
+back : (p : Path) (t n : Node) → node_at (by_texts t) p ≡ Some n → Stood p t n
 back [] t n e = (t, refl, some_same e)
 back (i ∷ p) t n e = by (λ c g. back p c n g) (child t i) refl
   where

@@ -21,6 +21,9 @@ use Rattle.text_kept_namings_laws.proofs.Numbered.{name_of}
 abbrev is_low : ℕ → Bool
 is_low c = nat_lt c 128
 
+low_small : (c : ℕ) → is_low c ≡ true → c < 128
+low_small c h = grind (arith, nat_tests)
+
 low-character : (k : ℕ) → k < 64 → is_low (character k) ≡ true
 low-character k small = grind (arith, nat_tests)
 
@@ -50,15 +53,14 @@ low_scalars : (cs : List ℕ) → list_all is_low cs ≡ true → scalars cs ≡
 low_scalars [] h = refl
 low_scalars (c ∷ cs) h =
     let parts = and_parts (is_low c) (list_all is_low cs) h in
-    let small : c < 55296 = grind (arith, nat_tests) in
-    and_from (scalar c) (scalars cs) (low_scalar c small) (low_scalars cs parts.1)
+    let small : c < 128 = low_small c parts.0 in
+    and_from (scalar c) (scalars cs) (low_scalar c (omega (arith, small))) (low_scalars cs parts.1)
 
 low_encodes : (cs : List ℕ) → list_all is_low cs ≡ true → encode_utf8_all cs ≡ cs
 low_encodes [] h = refl
 low_encodes (c ∷ cs) h =
     let parts = and_parts (is_low c) (list_all is_low cs) h in
-    let small : c < 128 = grind (arith, nat_tests) in
-    ap (λ l. l ++ encode_utf8_all cs) (encode_ascii c small) ∙ ap (λ l. c ∷ l) (low_encodes cs parts.1)
+    ap (λ l. l ++ encode_utf8_all cs) (encode_ascii c (low_small c parts.0)) ∙ ap (λ l. c ∷ l) (low_encodes cs parts.1)
 
 parts_all : (cs : List ℕ) → list_all is_low cs ≡ true → list_all (λ c. is_letter c || is_digit c) cs ≡ true → list_all is_name_part cs ≡ true
 parts_all [] low h = refl
@@ -76,14 +78,17 @@ low_name (c ∷ cs) low h =
 
 -- ---- and no reserved word
 
-none_of_fewer : (text : List ℕ) → list_any (pointwise nat_eq text) reserved ≡ false → (ws : List (List ℕ)) → list_all (λ w. list_any (pointwise nat_eq w) reserved) ws ≡ true → list_any (pointwise nat_eq text) ws ≡ false
-none_of_fewer text none [] all = refl
-none_of_fewer text none (w ∷ ws) all =
-    let parts = and_parts (list_any (pointwise nat_eq w) reserved) (list_all (λ w. list_any (pointwise nat_eq w) reserved) ws) all in
-    let other : pointwise nat_eq text w ≡ false = false_from_ne_true (pointwise nat_eq text w) (λ same. (
-      let never : list_any (pointwise nat_eq text) reserved ≡ true = ap (λ w. list_any (pointwise nat_eq w) reserved) ((bytes_eq-Decides text w).0 same) ∙ parts.0 in
-      let no : list_any (pointwise nat_eq text) reserved ≡ false = none in absurd (cc))) in
-    ap (λ b. b || list_any (pointwise nat_eq text) ws) other ∙ none_of_fewer text none ws parts.1
+never : {A : Type 0} (b : Bool) → b ≡ true → b ≡ false → A
+never b yes no = absurd (cc)
+
+-- what is none of some words is none of those among them
+none_of_fewer : (text : List ℕ) (all : List (List ℕ)) → list_any (pointwise nat_eq text) all ≡ false → (ws : List (List ℕ)) → list_all (λ w. list_any (pointwise nat_eq w) all) ws ≡ true → list_any (pointwise nat_eq text) ws ≡ false
+none_of_fewer text all none [] among = refl
+none_of_fewer text all none (w ∷ ws) among =
+    let parts = and_parts (list_any (pointwise nat_eq w) all) (list_all (λ w. list_any (pointwise nat_eq w) all) ws) among in
+    let other : pointwise nat_eq text w ≡ false = false_from_ne_true (pointwise nat_eq text w) (λ same.
+      never (list_any (pointwise nat_eq text) all) (ap (λ w. list_any (pointwise nat_eq w) all) ((bytes_eq-Decides text w).0 same) ∙ parts.0) none) in
+    ap (λ b. b || list_any (pointwise nat_eq text) ws) other ∙ none_of_fewer text all none ws parts.1
 
 not_true : (b : Bool) → not b ≡ true → b ≡ false
 not_true true h = absurd (cc)
@@ -92,7 +97,7 @@ not_true false h = refl
 low_word : (text : List ℕ) → list_all is_low text ≡ true → is_identifier_text text ≡ true → IsWord text
 low_word text low h =
     let parts = and_parts (begins_name text) (not (list_any (pointwise nat_eq text) reserved)) h in
-    (low_name text low parts.0, none_of_fewer text (not_true (list_any (pointwise nat_eq text) reserved) parts.1) words refl)
+    (low_name text low parts.0, none_of_fewer text reserved (not_true (list_any (pointwise nat_eq text) reserved) parts.1) words refl)
 
 pub short_word : (n : ℕ) → is_identifier_text (short_text n) ≡ true → IsWord (short_text n)
 short_word n h = low_word (short_text n) (low_text 11 (past (map place withheld) n)) h

@@ -1,15 +1,19 @@
 -- An outermost unit that got its names is seen as it was, and lengths, leaves and names stay in it.
-use Rattle.std.proofs.Common.{◌≡◌, ℕ, Bool, IsTrue, Option, Some, None, List, [], ◌∷◌, ◌++◌, eqb-true, refl, sym, ap, ◌∙◌, subst}
+use Rattle.std.proofs.Common.{◌≡◌, ℕ, zero, suc, Bool, IsTrue, Option, Some, None, List, [], ◌∷◌, ◌++◌, eqb-true, refl, sym, ap, ◌∙◌, subst}
 use Rattle.std.specs.Prelude.{slice_get}
 use Rattle.std.specs.List.{list_any}
+use Rattle.swc_tree_node.specs.declared.kind.Kind.{Kind}
 use Rattle.swc_tree_node.specs.declared.kind.Kind.TheVariants as kind
+use Rattle.swc_tree_node.specs.declared.kind.Class.TheVariants as class
 use Rattle.swc_tree_node.specs.declared.fields.statements.class_decl.TheConstants as class_decl
 use Rattle.swc_tree_node.specs.declared.fields.statements.fn_decl.TheConstants as fn_decl
 use Rattle.swc_tree_node.specs.declared.slot.Content.{Content}
+use Rattle.swc_tree_node.specs.declared.slot.Content.TheVariants as content
 use Rattle.swc_tree_node.specs.declared.slot.Slot.{Slot}
 use Rattle.swc_tree_node.specs.declared.slot.Slot.TheVariants as slot
 use Rattle.swc_tree_node.specs.declared.node.Node.{Node, Identifier, Tree, out-Node}
 use Rattle.swc_tree_node.specs.declared.node.Node.TheOpen.{Node-F}
+use Rattle.swc_tree_node.specs.Table.{slots_of}
 use Rattle.swc_tree_node.specs.Fits.{FieldsFit, Fits, fits}
 use Rattle.swc_tree_node.proofs.Fit.{fits-List}
 use Rattle.swc_tree_scoping.specs.BoundNames.{Id}
@@ -28,6 +32,7 @@ use Rattle.swc_base_rename_units.specs.Eval.{node_at}
 use Rattle.swc_base_rename_units.specs.Units.{IsOutermost, is_unit_below}
 use Rattle.text_spelling.specs.Spelled.{is_amiss_specifier}
 use Rattle.text_kept_renames_laws.proofs.Fitting.{Fitting, tree_fields}
+use Rattle.text_kept_renames_laws.proofs.Free.{some_same}
 use Rattle.text_kept_renames_laws.proofs.Seen.{items_are, keyed, kind_of, leaf_of, parts_of}
 use Rattle.text_kept_renames_laws.proofs.Shape.{stays as shape_stays}
 use Rattle.text_kept_spelling_laws.specs.Laws.{GivesWords}
@@ -37,7 +42,7 @@ use Rattle.text_kept_namings_laws.specs.Laws.{GivesNewWords}
 use Rattle.text_kept_namings_laws.proofs.Found.{gives_words}
 use Rattle.text_kept_pairs_laws.proofs.Seen.{no_items, seen_never}
 use Rattle.text_kept_stripping_laws.proofs.Kept.{kept_same}
-use Rattle.text_kept_units_laws.proofs.Paths.{May, fits_at, some_same}
+use Rattle.text_kept_units_laws.proofs.Paths.{May, fits_at}
 use Rattle.text_kept_units_laws.proofs.Units.{Both}
 
 -- ---- a node with new names
@@ -69,19 +74,22 @@ module _ (m : Changes) (gives : GivesWords m) (keeps : Bool) (s : Slot) (t : Nod
 no_list : (u : Node) (us : List Node) (c : Content) → out-Node u ≡ Node-F.List us → Fits u (slot.One c) → ⊥
 no_list u us c o f = seen_never (sym (sym (ap (λ t. fits t (slot.One c)) (list_is u us o) ∙ fits-List us (slot.One c)) ∙ f))
 
-second : (b u : Node) (ts : List Node) (c d : Content) → FieldsFit (slot.One c ∷ slot.One d ∷ []) ts → slice_get ts 1 ≡ Some u → Fits u (slot.One d)
-second b u (x ∷ y ∷ []) c d f e = subst (λ t. Fits t (slot.One d)) (some_same e) f.1.0
-second b u [] c d f e = absurd f
-second b u (x ∷ []) c d f e = absurd f.1
-second b u (x ∷ y ∷ z ∷ ts) c d f e = absurd f.1.1
+field_fits : (ss : List Slot) (ts : List Node) (i : ℕ) (s : Slot) (u : Node) → FieldsFit ss ts → slice_get ss i ≡ Some s → slice_get ts i ≡ Some u → Fits u s
+field_fits [] [] i s u f e g = absurd (cc)
+field_fits [] (t ∷ ts) i s u f e g = absurd f
+field_fits (r ∷ ss) [] i s u f e g = absurd f
+field_fits (r ∷ ss) (t ∷ ts) zero s u f e g = subst (Fits u) (some_same e) (subst (λ t. Fits t r) (some_same g) f.0)
+field_fits (r ∷ ss) (t ∷ ts) (suc i) s u f e g = field_fits ss ts i s u f.1 e g
+
+-- one that fits the field of a unit is no list
+no_list_below : (v u : Node) (k : Kind) (n : ℕ) (c : Content) (us ts : List Node) → out-Node v ≡ Node-F.Tree k ts → Fitting v → slice_get (slots_of k) n ≡ Some (slot.One c) → slice_get ts n ≡ Some u → out-Node u ≡ Node-F.List us → ⊥
+no_list_below v u k n c us ts o f e g l = no_list u us c l (field_fits (slots_of k) ts n (slot.One c) u (tree_fields k ts (subst Fitting (tree_is v k ts o) f)) e g)
 
 unit_below : (v u : Node) (i : ℕ) (us : List Node) (y : Node-F Node) → out-Node v ≡ y → Fitting v → slice_get (children_in y) i ≡ Some u → out-Node u ≡ Node-F.List us → IsTrue (is_unit_below y i (Node-F.List us)) → ⊥
 unit_below v u i us (Node-F.Tree kind.FnDecl ts) o f e l h =
-    let at : slice_get ts 1 ≡ Some u = subst (λ i. slice_get ts i ≡ Some u) (eqb-true i fn_decl.FUNCTION h) e in
-    no_list u us _ l (second v u ts _ _ (tree_fields kind.FnDecl ts (subst Fitting (tree_is v kind.FnDecl ts o) f)) at)
+    no_list_below v u kind.FnDecl fn_decl.FUNCTION (content.Node class.Function) us ts o f refl (subst (λ i. slice_get ts i ≡ Some u) (eqb-true i fn_decl.FUNCTION h) e) l
 unit_below v u i us (Node-F.Tree kind.ClassDecl ts) o f e l h =
-    let at : slice_get ts 1 ≡ Some u = subst (λ i. slice_get ts i ≡ Some u) (eqb-true i class_decl.CLASS h) e in
-    no_list u us _ l (second v u ts _ _ (tree_fields kind.ClassDecl ts (subst Fitting (tree_is v kind.ClassDecl ts o) f)) at)
+    no_list_below v u kind.ClassDecl class_decl.CLASS (content.Node class.Class) us ts o f refl (subst (λ i. slice_get ts i ≡ Some u) (eqb-true i class_decl.CLASS h) e) l
 unit_below v u i us (Node-F.Tree k ts) o f e l h = seen_never (sym h)
 unit_below v u i us (Node-F.List ts) o f e l h = seen_never (sym h)
 unit_below v u i us (Node-F.Identifier k x) o f e l h = seen_never (sym h)
@@ -134,18 +142,15 @@ pub unit_kept : (r : Renaming) (preserved : List ℕ → Type 0) (keeps : Bool) 
     → HasNames r preserved keeps u v → May (Both s u v)
 unit_kept r preserved keeps before s p u v whole gives at f o names refute = refute (subst (Both s u) (sym (names.given.none none)) (kept_same s u, λ s r g. g))
   where
-    m : Changes
-    m = new_id_by names.new_texts
-
     words : GivesWords (new_id_by names.new_texts)
     words = gives_words u r preserved _ names.new_texts names.named (words_below r before u p at gives)
 
-    new : Substituted (new_id_by names.new_texts) keeps u v → Both s u v
-    new e = subst (Both s u) (sym e) (new_kept (new_id_by names.new_texts) words keeps s u f (unit_items before p u whole o))
+    renewed : Substituted (new_id_by names.new_texts) keeps u v → Both s u v
+    renewed e = subst (Both s u) (sym e) (new_kept (new_id_by names.new_texts) words keeps s u f (unit_items before p u whole o))
 
     none_at : (x : Id) (o : Option (List ℕ)) → names.new_texts x ≡ o → names.new_texts x ≡ None
     none_at x None e = e
-    none_at x (Some text) e = absurd (refute (new (names.given.some x text e)))
+    none_at x (Some text) e = absurd (refute (renewed (names.given.some x text e)))
 
     none : (x : Id) → names.new_texts x ≡ None
     none x = none_at x (names.new_texts x) refl

@@ -6,7 +6,7 @@ use Rattle.swc_tree_scoping.specs.Places.{Path, child, children_in, given}
 use Rattle.swc_tree_scoping.proofs.Remarked.{list_is, tree_is}
 use Rattle.swc_tree_grammar.proofs.Induction.{Each}
 use Rattle.swc_base_rename_units.specs.Eval.{node_at}
-use Rattle.text_kept_renames_laws.proofs.Free.{at_each}
+use Rattle.text_kept_renames_laws.proofs.Free.{at_each, some_same}
 use Rattle.text_kept_renames_laws.proofs.Fitting.{Fitting, list_fitting, tree_fitting}
 
 -- ---- either case
@@ -35,9 +35,6 @@ children_fit t f = by (out-Node t) refl
     by (Node-F.Text x) o = tt
     by (Node-F.Span x) o = tt
 
-pub some_same : {X : Type 0} {a b : X} → Some a ≡ Some b → a ≡ b
-some_same h = cc
-
 pub fits_at : (p : Path) (t n : Node) → Fitting t → node_at t p ≡ Some n → Fitting n
 fits_at [] t n f e = subst Fitting (some_same e) f
 fits_at (i ∷ p) t n f e = by (λ c g. fits_at p c n g) (child t i) refl e
@@ -60,12 +57,15 @@ further (j ∷ p) t n i e = by (λ c g. further p c n i g) (child t j) refl e
     by more None g e = absurd (cc)
     by more (Some c) g e = more c e
 
+pub not_nothing : (r : Path) (j : ℕ) (below : Path) → [] ≡ r ++ j ∷ below → ⊥
+not_nothing [] j below e = absurd (cc)
+not_nothing (b ∷ r) j below e = absurd (cc)
+
 -- a path that leads on to one step further leads on, or is the path
 pub one_further : (r q : Path) (i j : ℕ) (below : Path) → q ++ i ∷ [] ≡ r ++ j ∷ below → (r ≡ q) ⊎ ((k : ℕ) × (more : Path) × (q ≡ r ++ k ∷ more))
 one_further [] [] i j below e = inl refl
 one_further [] (a ∷ q) i j below e = inr (a, q, refl)
-one_further (b ∷ []) [] i j below e = absurd (cc)
-one_further (b ∷ c ∷ r) [] i j below e = absurd (cc)
+one_further (b ∷ r) [] i j below e = let rest : [] ≡ r ++ j ∷ below = cc in absurd (not_nothing r j below rest)
 one_further (b ∷ r) (a ∷ q) i j below e =
     let first : a ≡ b = cc in
     let rest : q ++ i ∷ [] ≡ r ++ j ∷ below = cc in

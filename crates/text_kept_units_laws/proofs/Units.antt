@@ -1,5 +1,5 @@
 -- A tree of which each outermost unit without a reader of names became another.
-use Rattle.std.proofs.Common.{◌≡◌, ℕ, zero, suc, Bool, true, false, ◌⊎◌, inl, inr, IsTrue, Some, List, [], ◌∷◌, ◌++◌, length, map, refl, sym, ap, ◌∙◌, subst}
+use Rattle.std.proofs.Common.{◌≡◌, ℕ, zero, suc, Bool, true, false, ◌⊎◌, inl, inr, IsTrue, Some, List, [], ◌∷◌, ◌++◌, length, map, refl, sym, ap, ◌∙◌, subst, arith}
 use Rattle.std.specs.Prelude.{slice_get}
 use Rattle.std.specs.List.{list_all}
 use Rattle.swc_tree_node.specs.declared.kind.Kind.{Kind}
@@ -21,10 +21,10 @@ use Rattle.swc_base_rename_units.specs.Eval.{node_at}
 use Rattle.swc_base_rename_units.specs.Units.{HasUnits, IsOutermost, LeadsOn, shape}
 use Rattle.swc_base_fixer_laws.specs.Sets.{item}
 use Rattle.swc_base_fixer_laws.proofs.SetsRows.{items_open}
-use Rattle.text_kept_renames_laws.proofs.Free.{at_each}
+use Rattle.text_kept_renames_laws.proofs.Free.{at_each, some_same}
 use Rattle.text_kept_pairs_laws.proofs.Seen.{seen_never}
 use Rattle.text_kept_stripping_laws.proofs.Kept.{AllKept, ItemsKept, Kept, kept_same, list_kept, tree_kept}
-use Rattle.text_kept_units_laws.proofs.Paths.{May, either, further, may_then, one_further, some_same}
+use Rattle.text_kept_units_laws.proofs.Paths.{May, either, further, may_then, not_nothing, one_further}
 
 abbrev pub Both : Slot → Node → Node → Type 0
 Both s t u = Kept s t u × FitsAs t u
@@ -201,19 +201,30 @@ more_each t u ts us h i c s e f = h (suc i) c s e f
 first_each : (t u : Node) (ts us : List Node) (s : Slot) → Each' (t ∷ ts) (u ∷ us) → Fits t s → May (Both s t u)
 first_each t u ts us s h f = may_then (h zero t s refl f) (λ w refute. refute (subst (Both s t) (sym (some_same w.1)) w.2))
 
+-- lists that are as long are so behind their first items
+lengths_behind : (t u : Node) (ts us : List Node) → length (u ∷ us) ≡ length (t ∷ ts) → length us ≡ length ts
+lengths_behind t u ts us e = omega (arith, e)
+
+none_longer : {A : Type 0} (u : Node) (us : List Node) → length (u ∷ us) ≡ 0 → A
+none_longer u us e = absurd (omega (arith, e))
+
+none_shorter : {A : Type 0} (t : Node) (ts : List Node) → 0 ≡ length (t ∷ ts) → A
+none_shorter t ts e = absurd (omega (arith, e))
+
 fields_may : (ss : List Slot) (ts us : List Node) → FieldsFit ss ts → length us ≡ length ts → Each' ts us → May (AllBoth ss ts us)
 fields_may [] [] [] f e h refute = refute tt
-fields_may [] [] (u ∷ us) f e h refute = absurd (cc)
+fields_may [] [] (u ∷ us) f e h refute = none_longer u us e
 fields_may [] (t ∷ ts) us f e h refute = absurd f
 fields_may (s ∷ ss) [] us f e h refute = absurd f
-fields_may (s ∷ ss) (t ∷ ts) [] f e h refute = absurd (cc)
-fields_may (s ∷ ss) (t ∷ ts) (u ∷ us) f e h refute = first_each t u ts us s h f.0 (λ b. fields_may ss ts us f.1 (cc) (more_each t u ts us h) (λ l. refute (b, l)))
+fields_may (s ∷ ss) (t ∷ ts) [] f e h refute = none_shorter t ts e
+fields_may (s ∷ ss) (t ∷ ts) (u ∷ us) f e h refute =
+    first_each t u ts us s h f.0 (λ b. fields_may ss ts us f.1 (lengths_behind t u ts us e) (more_each t u ts us h) (λ l. refute (b, l)))
 
 items_may : (s : Slot) (ts us : List Node) → AllFit s ts → length us ≡ length ts → Each' ts us → May (ItemsBoth s ts us)
 items_may s [] [] f e h refute = refute tt
-items_may s [] (u ∷ us) f e h refute = absurd (cc)
-items_may s (t ∷ ts) [] f e h refute = absurd (cc)
-items_may s (t ∷ ts) (u ∷ us) f e h refute = first_each t u ts us s h f.0 (λ b. items_may s ts us f.1 (cc) (more_each t u ts us h) (λ l. refute (b, l)))
+items_may s [] (u ∷ us) f e h refute = none_longer u us e
+items_may s (t ∷ ts) [] f e h refute = none_shorter t ts e
+items_may s (t ∷ ts) (u ∷ us) f e h refute = first_each t u ts us s h f.0 (λ b. items_may s ts us f.1 (lengths_behind t u ts us e) (more_each t u ts us h) (λ l. refute (b, l)))
 
 -- ---- the whole
 
@@ -311,8 +322,7 @@ module _ (before between : Node) (becomes : Node → Node → Type 0) (h : HasUn
       list_stays tree_stays t
 
   nothing_above : (r : Path) → LeadsOn r [] → ⊥
-  nothing_above [] (i, below, e) = absurd (cc)
-  nothing_above (j ∷ r) (i, below, e) = absurd (cc)
+  nothing_above r (i, below, e) = not_nothing r i below e
 
   pub units_kept : (s : Slot) → Fits before s → May (Both s before between)
   units_kept s f = may_then (stays before [] s refl f (λ r v o l. nothing_above r l)) (λ w refute. refute (subst (Both s before) (sym (some_same w.1)) w.2))

@@ -68,20 +68,20 @@ either_way r table config before after s room gives renamed sound = may_then (ei
     by (inr unread) = whole (renamed.whole unread)
 
 pub any_renaming : AnyRenamingKeepsTexts
-any_renaming r table config before after s room gives fits renamed shaped spelled =
-    let may = either_way r table config before after s room gives renamed ((shaped, spelled), fits) in
+any_renaming r table config before after s room gives fitting renamed shaped spelled =
+    let may = either_way r table config before after s room gives renamed ((shaped, spelled), fitting) in
     (λ bad. may (λ sound. sound.0.0 bad), λ bad. may (λ sound. sound.0.1 bad))
 
 -- ... and the answer stands where the tree does
 pub renaming_fits : (r : Renaming) (table : Table) (config : Config) (before after : Node) (s : Slot) → IsTrue (has_room s) → GivesNewWords r before → Fits before s → IsRenamedBy table config r before after → Shaped before → Spelled before
     → Fits after s
-renaming_fits r table config before after s room gives renamed_fits renamed shaped spelled = by (fits after s) refl
+renaming_fits r table config before after s room gives fitting renamed shaped spelled = by (fits after s) refl
   where
     by : (b : Bool) → fits after s ≡ b → fits after s ≡ true
     by true e = e
-    by false e = absurd (either_way r table config before after s room gives renamed ((shaped, spelled), renamed_fits) (λ sound. seen_never (sym sound.1 ∙ e)))
+    by false e = absurd (either_way r table config before after s room gives renamed ((shaped, spelled), fitting) (λ sound. seen_never (sym sound.1 ∙ e)))
 
 pub any_hygiene : AnyHygieneKeepsTexts
-any_hygiene table config before after s room utf8 fits (given, by, cleared) shaped spelled =
-    let texts = any_renaming hygiene_renaming table config before given s room (hygiene_words before utf8 spelled) fits by shaped spelled in
+any_hygiene table config before after s room utf8 fitting (given, by, cleared) shaped spelled =
+    let texts = any_renaming hygiene_renaming table config before given s room (hygiene_words before utf8 spelled) fitting by shaped spelled in
     (subst Shaped (sym cleared) ((texts_shaped given).1 texts.0), subst Spelled (sym cleared) ((texts_spelled given).1 texts.1))
