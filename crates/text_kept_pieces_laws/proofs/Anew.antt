@@ -1,5 +1,5 @@
 -- Pieces of a tree whose identifiers are given anew, each where it stands.
-use Rattle.std.proofs.Common.{◌≡◌, ℕ, zero, suc, Bool, true, false, Option, Some, None, List, [], ◌∷◌, ◌++◌, map, rules, refl, sym, ap, ◌∙◌, subst}
+use Rattle.std.proofs.Common.{◌≡◌, ℕ, Bool, true, false, None, List, [], ◌∷◌, ◌++◌, map, rules, refl, sym, ap, ◌∙◌, subst}
 use Rattle.std.specs.Prelude.{is_some}
 use Rattle.std.proofs.lemmas.Bool.{and_from}
 use Rattle.swc_tree_marks.specs.declared.span.Span.{Span as Range}
@@ -19,7 +19,7 @@ use Rattle.text_pieces.specs.declared.item.Item.TheVariants as item
 use Rattle.text_pieces.specs.Forms.{accessor, attribute, attributes, ending_of_attributes, ending_of_key, meta, when}
 use Rattle.text_pieces.specs.Layouts.{apart_layout_of, layout_of}
 use Rattle.text_pieces.specs.Leaves.{bound_name, is_block, is_computed, is_declaration, is_default, is_empty_list, is_expression_statement, is_hole, is_let, is_named, is_rest, is_set, is_set_in, items_of, lone_name, only_name, takes_comma}
-use Rattle.text_pieces.specs.Pieces.{template_piece, written, written_step}
+use Rattle.text_pieces.specs.Pieces.{Written, template_piece, written, written_step}
 use Rattle.text_pieces.specs.Tokens.{Piece, closes, name, parameter}
 use Rattle.text_kept_pieces_laws.proofs.Seen.{Seen, by_forms, text_of_name}
 use Rattle.text_kept_pieces_laws.proofs.Rows.{AllKept, Kept, is_free, item_free, kept_same, layout_free, list_kept, lone_pieces, moved, none_each, none_items, tree_kept}
@@ -92,11 +92,11 @@ module _ (R : List Piece → List Piece → Type 0) (same : (ps : List Piece) �
       let_ends = moved R same join _ _ _ _ (ap (λ x. when (is_let x) (closes ending.Let)) (outs-Identifier k i)) (ap (λ x. when (is_let x) (closes ending.Let)) (outs-Identifier k (g i))) (lets k i);
     };
     stands = record {
-      of_pieces = moved R same join _ _ _ _ (ap (λ w. w.pieces) (step i)) (ap (λ w. w.pieces) (step (g i))) (named i);
-      of_each = none_each R same join _ _ (ap (λ w. w.each) (step i)) (ap (λ w. w.each) (step (g i)));
+      of_pieces = moved R same join _ _ _ _ (ap (λ (w : Written). w.pieces) (step i)) (ap (λ (w : Written). w.pieces) (step (g i))) (named i);
+      of_each = none_each R same join _ _ (ap (λ (w : Written). w.each) (step i)) (ap (λ (w : Written). w.each) (step (g i)));
     };
-    within = λ o. moved R same join _ _ _ _ (ap (λ w. w.within) (step i)) (ap (λ w. w.within) (step (g i))) (same []);
-    apart = λ own. moved R same join _ _ _ _ (ap (λ w. w.apart) (step i)) (ap (λ w. w.apart) (step (g i))) (same []);
+    within = λ o. moved R same join _ _ _ _ (ap (λ (w : Written). w.within) (step i)) (ap (λ (w : Written). w.within) (step (g i))) (same []);
+    apart = λ own. moved R same join _ _ _ _ (ap (λ (w : Written). w.apart) (step i)) (ap (λ (w : Written). w.apart) (step (g i))) (same []);
   }
     where
       step : (i : Ident) → written false (Identifier k i) ≡ written_step false (Node-F.Identifier k i)

@@ -19,20 +19,20 @@ use Rattle.swc_tree_node.specs.Table.{slots_of}
 use Rattle.swc_tree_scoping.proofs.Remarked.{tree_is}
 use Rattle.swc_tree_grammar.specs.Grammar.{async_in, is_async_name}
 use Rattle.swc_base_fixer_laws.specs.Sets.{AllSet, FieldsSet, Sets, can_pair, item, pairable, pairable_in, takes_pair}
-use Rattle.swc_base_fixer_laws.specs.Sets.Sets as sets
-use Rattle.swc_base_fixer_laws.specs.Sets.AllSet as all
-use Rattle.swc_base_fixer_laws.specs.Sets.FieldsSet as each_field
+use Rattle.swc_base_fixer_laws.specs.Sets.Sets.{same as unchanged, after as further, around as enclosed, named as of_name, items as of_items, tree as of_tree}
+use Rattle.swc_base_fixer_laws.specs.Sets.AllSet.{none, more}
+use Rattle.swc_base_fixer_laws.specs.Sets.FieldsSet.{nil, field}
 use Rattle.text_lexer.specs.declared.mark.Mark.TheVariants as mark
 use Rattle.text_lexer.specs.declared.token.TemplatePart.{TemplatePart}
 use Rattle.text_pieces.specs.declared.item.Ending.TheVariants as ending
 use Rattle.text_pieces.specs.Forms.{accessor, attribute, attributes, ending_of_attributes, ending_of_key, meta, when}
 use Rattle.text_pieces.specs.Layouts.{apart_layout_of, layout_of}
-use Rattle.text_pieces.specs.Leaves.{bound_name, is_block, is_computed, is_declaration, is_default, is_empty_list, is_expression_statement, is_hole, is_let, is_named, is_rest, is_set, is_set_in, items_of, lone_name, only_name, takes_comma}
-use Rattle.text_pieces.specs.Pieces.{template_piece, written, written_step, written_with}
+use Rattle.text_pieces.specs.Leaves.{bound_name, is_block, is_computed, is_declaration, is_default, is_empty_list, is_expression_statement, is_hole, is_let, is_named, is_rest, is_set, items_of, lone_name, only_name, takes_comma}
+use Rattle.text_pieces.specs.Pieces.{Written, template_piece, written, written_step, written_with}
 use Rattle.text_pieces.specs.Tokens.{Piece, closes, name, punctuator}
 use Rattle.text_pieces.proofs.Walked.{tree_pieces}
 use Rattle.text_kept_pieces_laws.specs.Paired.{WithPairs}
-use Rattle.text_kept_pieces_laws.specs.Paired.WithPairs as pairs
+use Rattle.text_kept_pieces_laws.specs.Paired.WithPairs.{same, join, after, around}
 use Rattle.text_kept_pieces_laws.proofs.Seen.{Pairwise, Seen, by_forms, pairwise_then, seen_then, text_of_name, text_of_tree}
 use Rattle.text_kept_pieces_laws.proofs.Rows.{AllKept, Each', Kept, Lists, is_own, kept_same, layout_free, list_kept, lone_pieces, tree_kept, tree_step}
 
@@ -42,7 +42,7 @@ abbrev R : List Piece → List Piece → Type 0
 R = WithPairs
 
 equal : (ps qs : List Piece) → ps ≡ qs → R ps qs
-equal ps qs e = subst (R ps) e (pairs.same ps)
+equal ps qs e = subst (R ps) e (same ps)
 
 -- two lists of pieces of which each is what is written otherwise
 moved : (ps qs rs ss : List Piece) → ps ≡ rs → qs ≡ ss → R rs ss → R ps qs
@@ -50,7 +50,7 @@ moved ps qs rs ss e f h = subst (λ (l : List Piece). R l qs) (sym e) (subst (R 
 
 lists_then : (pss qss rss : List (List Piece)) → Lists R pss qss → Lists R qss rss → Lists R pss rss
 lists_then [] [] [] c d = tt
-lists_then (ps ∷ pss) (qs ∷ qss) (rs ∷ rss) c d = (pairs.after ps qs rs c.0 d.0, lists_then pss qss rss c.1 d.1)
+lists_then (ps ∷ pss) (qs ∷ qss) (rs ∷ rss) c d = (after ps qs rs c.0 d.0, lists_then pss qss rss c.1 d.1)
 lists_then [] [] (rs ∷ rss) c d = absurd d
 lists_then [] (qs ∷ qss) rss c d = absurd c
 lists_then (ps ∷ pss) [] rss c d = absurd c
@@ -74,15 +74,15 @@ kept_then wide t u v c d = record {
     items = pairwise_then (items_of (out-Node t)) (items_of (out-Node u)) (items_of (out-Node v)) c.looks.items d.looks.items;
     function = λ o n. c.looks.function o n ∙ d.looks.function o n;
     only = c.looks.only ∙ d.looks.only;
-    lone = pairs.after _ _ _ c.looks.lone d.looks.lone;
-    let_ends = pairs.after _ _ _ c.looks.let_ends d.looks.let_ends;
+    lone = after _ _ _ c.looks.lone d.looks.lone;
+    let_ends = after _ _ _ c.looks.let_ends d.looks.let_ends;
   };
   stands = record {
-    of_pieces = pairs.after _ _ _ c.stands.of_pieces d.stands.of_pieces;
+    of_pieces = after _ _ _ c.stands.of_pieces d.stands.of_pieces;
     of_each = each_then _ _ _ c.stands.of_each d.stands.of_each;
   };
-  within = λ o. pairs.after _ _ _ (c.within o) (d.within o);
-  apart = λ own. pairs.after _ _ _ (c.apart own) (d.apart (λ o. sym (own_same t u c.looks.seen) ∙ own o));
+  within = λ o. after _ _ _ (c.within o) (d.within o);
+  apart = λ own. after _ _ _ (c.apart own) (d.apart (λ o. sym (own_same t u c.looks.seen) ∙ own o));
 }
 
 -- ---- an expression and a pair
@@ -91,22 +91,21 @@ never : {A : Type 0} → true ≡ false → A
 never h = absurd (cc)
 
 -- what is seen of an expression is seen of a pair
-module _ (k : Kind) (ts us : List Node) where
-  abbrev Row : {X : Type 0} → (Node-F Node → X) → Type 0
-  Row g = g (Node-F.Tree k ts) ≡ g (Node-F.Tree kind.ParenExpr us)
+abbrev Row : {X : Type 0} → Kind → List Node → List Node → (Node-F Node → X) → Type 0
+Row k ts us g = g (Node-F.Tree k ts) ≡ g (Node-F.Tree kind.ParenExpr us)
 
-  record Plain : Type 0 where
-    rest : Row is_rest
-    default : Row is_default
-    named : Row is_named
-    declaration : Row is_declaration
-    expression : Row is_expression_statement
-    computed : Row is_computed
-    block : Row is_block
-    key : Row ending_of_key
-    part : (p : TemplatePart) → Row (template_piece p)
-    comma : Row takes_comma
-    own : is_own (Node-F.Tree k ts) ≡ false
+record Plain (k : Kind) (ts us : List Node) : Type 0 where
+  rest : Row k ts us is_rest
+  default : Row k ts us is_default
+  braced : Row k ts us is_named
+  declaration : Row k ts us is_declaration
+  expression : Row k ts us is_expression_statement
+  computed : Row k ts us is_computed
+  block : Row k ts us is_block
+  key : Row k ts us ending_of_key
+  part : (p : TemplatePart) → Row k ts us (template_piece p)
+  comma : Row k ts us takes_comma
+  own : is_own (Node-F.Tree k ts) ≡ false
 
 -- kinds that are seen otherwise than a pair
 abbrev is_odd : Kind → Bool
@@ -152,7 +151,7 @@ plain_rows kind.BlockStmt ts us h = never h
 plain_rows kind.IdentName ts us h = never h
 plain_rows kind.TplElement ts us h = never h
 plain_rows kind.Param ts us h = never h
-plain_rows k ts us h = record { rest = refl; default = refl; named = refl; declaration = refl; expression = refl; computed = refl; block = refl; key = refl; part = λ p. refl; comma = refl; own = refl }
+plain_rows k ts us h = record { rest = refl; default = refl; braced = refl; declaration = refl; expression = refl; computed = refl; block = refl; key = refl; part = λ p. refl; comma = refl; own = refl }
 
 seen_pair : (k : Kind) (ts us : List Node) → can_pair k ≡ true → Seen (Tree k ts) (Tree kind.ParenExpr us)
 seen_pair k ts us can = record {
@@ -160,7 +159,7 @@ seen_pair k ts us can = record {
   hole = by is_hole refl;
   rest = by is_rest rows.rest;
   default = by is_default rows.default;
-  named = by is_named rows.named;
+  named = by is_named rows.braced;
   declaration = by is_declaration rows.declaration;
   expression = by is_expression_statement rows.expression;
   computed = by is_computed rows.computed;
@@ -233,12 +232,12 @@ around_kept wide r k ts u w can h = record {
     items = none_items _ _ (no_items k ts) (no_items kind.ParenExpr us);
     function = λ o n. never (sym w ∙ o);
     only = ap (λ l. is_some (only_name l)) (no_items k ts) ∙ sym (ap (λ l. is_some (only_name l)) (no_items kind.ParenExpr us));
-    lone = moved _ _ _ _ (ap (λ l. lone_pieces (only_name l)) (no_items k ts)) (ap (λ l. lone_pieces (only_name l)) (no_items kind.ParenExpr us)) (pairs.same []);
-    let_ends = moved _ _ _ _ (ap (λ x. when (is_let x) (closes ending.Let)) (outs-Tree k ts)) (ap (λ x. when (is_let x) (closes ending.Let)) (outs-Tree kind.ParenExpr us)) (pairs.same []);
+    lone = moved _ _ _ _ (ap (λ l. lone_pieces (only_name l)) (no_items k ts)) (ap (λ l. lone_pieces (only_name l)) (no_items kind.ParenExpr us)) (same []);
+    let_ends = moved _ _ _ _ (ap (λ x. when (is_let x) (closes ending.Let)) (outs-Tree k ts)) (ap (λ x. when (is_let x) (closes ending.Let)) (outs-Tree kind.ParenExpr us)) (same []);
   };
   stands = record {
-    of_pieces = moved _ _ _ _ refl (pair_pieces r u) (pairs.around (written_with false (Tree k ts)) (written_with false u) h);
-    of_each = none_each _ _ (ap (λ w. w.each) (tree_step k ts)) (ap (λ w. w.each) (tree_step kind.ParenExpr us));
+    of_pieces = moved _ _ _ _ refl (pair_pieces r u) (around (written_with false (Tree k ts)) (written_with false u) h);
+    of_each = none_each _ _ (ap (λ (w : Written). w.each) (tree_step k ts)) (ap (λ (w : Written). w.each) (tree_step kind.ParenExpr us));
   };
   within = λ o. never (sym w ∙ o);
   apart = λ own. never (sym (own w) ∙ ap is_own (outs-Tree k ts) ∙ (plain_rows k ts us (not_odd k can)).own);
@@ -261,12 +260,12 @@ named_kept r k i h = record {
     items = none_items _ _ (ap items_of (outs-Identifier k i)) (no_items kind.ParenExpr us);
     function = λ o n. never o;
     only = ap (λ x. is_some (lone_name x)) (outs-Identifier k i) ∙ sym (ap (λ x. is_some (lone_name x)) (outs-Tree kind.ParenExpr us));
-    lone = moved _ _ _ _ (ap (λ x. lone_pieces (lone_name x)) (outs-Identifier k i)) (ap (λ x. lone_pieces (lone_name x)) (outs-Tree kind.ParenExpr us)) (pairs.same []);
-    let_ends = moved _ _ _ _ (ap (λ x. when (is_let x) (closes ending.Let)) (outs-Identifier k i) ∙ ap (λ b. when b (closes ending.Let)) (async_no_let i.sym async)) (ap (λ x. when (is_let x) (closes ending.Let)) (outs-Tree kind.ParenExpr us)) (pairs.same []);
+    lone = moved _ _ _ _ (ap (λ x. lone_pieces (lone_name x)) (outs-Identifier k i)) (ap (λ x. lone_pieces (lone_name x)) (outs-Tree kind.ParenExpr us)) (same []);
+    let_ends = moved _ _ _ _ (ap (λ x. when (is_let x) (closes ending.Let)) (outs-Identifier k i) ∙ ap (λ b. when b (closes ending.Let)) (async_no_let i.sym async)) (ap (λ x. when (is_let x) (closes ending.Let)) (outs-Tree kind.ParenExpr us)) (same []);
   };
   stands = record {
-    of_pieces = moved _ _ _ _ (ap (λ w. w.pieces) (name_step k i)) (pair_pieces r (Identifier kind.Ident i) ∙ ap (λ w. in_pair w.pieces) (name_step kind.Ident i)) (pairs.around (name i.sym ∷ []) (name i.sym ∷ []) (pairs.same (name i.sym ∷ [])));
-    of_each = none_each _ _ (ap (λ w. w.each) (name_step k i)) (ap (λ w. w.each) (tree_step kind.ParenExpr us));
+    of_pieces = moved _ _ _ _ (ap (λ (w : Written). w.pieces) (name_step k i)) (pair_pieces r (Identifier kind.Ident i) ∙ ap (λ (w : Written). in_pair w.pieces) (name_step kind.Ident i)) (around (name i.sym ∷ []) (name i.sym ∷ []) (same (name i.sym ∷ [])));
+    of_each = none_each _ _ (ap (λ (w : Written). w.each) (name_step k i)) (ap (λ (w : Written). w.each) (tree_step kind.ParenExpr us));
   };
   within = λ o. never o;
   apart = λ own. never (sym (own refl) ∙ ap is_own (outs-Identifier k i));
@@ -328,17 +327,17 @@ list_none ts = ap bound_name (outs-List ts)
 tree_none : (k : Kind) (ts : List Node) → bound_name (out-Node (Tree k ts)) ≡ None
 tree_none k ts = ap bound_name (outs-Tree k ts)
 
-pub record Paired (t : Node) : Type 0 where
-  pub kind : Kind
-  pub fields : List Node
-  pub is : t ≡ Tree kind fields
-  pub can : can_pair kind ≡ true
+record Paired (t : Node) : Type 0 where
+  sort : Kind
+  fields : List Node
+  is : t ≡ Tree sort fields
+  can : can_pair sort ≡ true
 
 paired : (t : Node) → IsTrue (pairable t) → Paired t
 paired t h = by (out-Node t) refl h
   where
     by : (y : Node-F Node) → out-Node t ≡ y → IsTrue (pairable_in y) → Paired t
-    by (Node-F.Tree k ts) o h = record { kind = k; fields = ts; is = tree_is t k ts o; can = h }
+    by (Node-F.Tree k ts) o h = record { sort = k; fields = ts; is = tree_is t k ts o; can = h }
     by (Node-F.List ts) o h = never (sym h)
     by (Node-F.Identifier k i) o h = never (sym h)
     by Node-F.Absent o h = never (sym h)
@@ -347,18 +346,18 @@ paired t h = by (out-Node t) refl h
     by (Node-F.Text x) o h = never (sym h)
     by (Node-F.Span x) o h = never (sym h)
 
-bound_set : {s : Slot} {t u : Node} → is_head s ≡ false → Sets s t u → bound_name (out-Node t) ≡ bound_name (out-Node u)
-bound_set h (sets.same t) = refl
-bound_set h (sets.after c d) = bound_set h c ∙ bound_set h d
-bound_set h (sets.around r t u p q d) = let w = paired t q in ap (λ t. bound_name (out-Node t)) w.is ∙ tree_none w.kind w.fields ∙ sym (tree_none kind.ParenExpr (Span r ∷ u ∷ []))
-bound_set h (sets.named r k i c) = never h
-bound_set h (sets.items ts us d) = list_none ts ∙ sym (list_none us)
-bound_set h (sets.tree k ts us e d) = tree_none k ts ∙ sym (tree_none k us)
+bound_set : {s : Slot} {t u : Node} → Sets s t u → is_head s ≡ false → bound_name (out-Node t) ≡ bound_name (out-Node u)
+bound_set (unchanged t) h = refl
+bound_set (further c d) h = bound_set c h ∙ bound_set d h
+bound_set (enclosed r t u p q d) h = let w = paired t q in ap (λ t. bound_name (out-Node t)) w.is ∙ tree_none w.sort w.fields ∙ sym (tree_none kind.ParenExpr (Span r ∷ u ∷ []))
+bound_set (of_name r k i c) h = never h
+bound_set (of_items ts us d) h = list_none ts ∙ sym (list_none us)
+bound_set (of_tree k ts us e d) h = tree_none k ts ∙ sym (tree_none k us)
 
-only_set : {s : Slot} {ts us : List Node} → is_head s ≡ false → AllSet s ts us → only_name ts ≡ only_name us
-only_set h all.none = refl
-only_set h (all.more c all.none) = bound_set h c
-only_set h (all.more c (all.more d e)) = refl
+only_set : {s : Slot} {ts us : List Node} → AllSet s ts us → is_head s ≡ false → only_name ts ≡ only_name us
+only_set none h = refl
+only_set (more c none) h = bound_set c h
+only_set (more c (more d e)) h = refl
 
 -- ---- all of it
 
@@ -367,25 +366,24 @@ both_parts true b h = (refl, h)
 both_parts false b h = never (sym h)
 
 mutual
-  pub set_kept : {s : Slot} {t u : Node} → is_fair s ≡ true → Sets s t u → Kept R (takes_pair s) t u
-  set_kept {s} f (sets.same t) = kept_same R pairs.same pairs.join (takes_pair s) t
-  set_kept {s} f (sets.after {t} {u} {v} c d) = kept_then (takes_pair s) t u v (set_kept f c) (set_kept f d)
-  set_kept {s} f (sets.around r t u p q d) =
+  pub set_kept : {s : Slot} {t u : Node} → Sets s t u → is_fair s ≡ true → Kept R (takes_pair s) t u
+  set_kept (unchanged {s} t) f = kept_same R same join (takes_pair s) t
+  set_kept (further {s} {t} {u} {v} c d) f = kept_then (takes_pair s) t u v (set_kept c f) (set_kept d f)
+  set_kept (enclosed {s} r t u p q d) f =
       let w = paired t q in
-      let fair : is_fair (slot.One (content.Node class.Expr)) ≡ true = refl in
-      let inner : R (written_with false t) (written_with false u) = (set_kept fair d).stands.of_pieces in
-      subst (λ (t : Node). Kept R (takes_pair s) t (Tree kind.ParenExpr (Span r ∷ u ∷ []))) (sym w.is) (around_kept (takes_pair s) r w.kind w.fields u p w.can (subst (λ (t : Node). R (written_with false t) (written_with false u)) w.is inner))
-  set_kept f (sets.named r k i c) = named_kept r k i c
-  set_kept {s} f (sets.items ts us d) =
-      let e : only_name ts ≡ only_name us = only_set (no_head (is_head (item s)) f) d in
-      list_kept R pairs.same pairs.join (λ n. takes_pair (item s)) (takes_pair s) ts us (ap is_some e) (equal _ _ (ap lone_pieces e)) (items_kept (items_fair s) d)
-  set_kept {s} f (sets.tree k ts us e d) =
-      tree_kept R pairs.same pairs.join (wide_at (slots_of k)) (takes_pair s) k ts us (whole_free k) (apart_free k) (fields_kept (fields_fair k) d)
+      let inner : R (written_with false t) (written_with false u) = (set_kept d refl).stands.of_pieces in
+      subst (λ (t : Node). Kept R (takes_pair s) t (Tree kind.ParenExpr (Span r ∷ u ∷ []))) (sym w.is)
+      (around_kept (takes_pair s) r w.sort w.fields u p w.can (subst (λ (t : Node). R (written_with false t) (written_with false u)) w.is inner))
+  set_kept (of_name r k i c) f = named_kept r k i c
+  set_kept (of_items {s} ts us d) f =
+      let e : only_name ts ≡ only_name us = only_set d (no_head (is_head (item s)) f) in
+      list_kept R same join (λ n. takes_pair (item s)) (takes_pair s) ts us (ap is_some e) (equal (lone_pieces (only_name ts)) (lone_pieces (only_name us)) (ap lone_pieces e)) (items_kept d (items_fair s))
+  set_kept (of_tree {s} k ts us e d) f = tree_kept R same join (wide_at (slots_of k)) (takes_pair s) k ts us (whole_free k) (apart_free k) (fields_kept d (fields_fair k))
 
-  items_kept : {s : Slot} {ts us : List Node} → is_fair s ≡ true → AllSet s ts us → AllKept R (λ n. takes_pair s) ts us
-  items_kept f all.none = tt
-  items_kept f (all.more c d) = (set_kept f c, items_kept f d)
+  items_kept : {s : Slot} {ts us : List Node} → AllSet s ts us → is_fair s ≡ true → AllKept R (λ n. takes_pair s) ts us
+  items_kept none f = tt
+  items_kept (more c d) f = (set_kept c f, items_kept d f)
 
-  fields_kept : {ss : List Slot} {ts us : List Node} → list_all is_fair ss ≡ true → FieldsSet ss ts us → AllKept R (wide_at ss) ts us
-  fields_kept f each_field.nil = tt
-  fields_kept f (each_field.field {s} {ss} c d) = let b = both_parts (is_fair s) (list_all is_fair ss) f in (set_kept b.0 c, fields_kept b.1 d)
+  fields_kept : {ss : List Slot} {ts us : List Node} → FieldsSet ss ts us → list_all is_fair ss ≡ true → AllKept R (wide_at ss) ts us
+  fields_kept nil f = tt
+  fields_kept (field {s} {ss} c d) f = let b = both_parts (is_fair s) (list_all is_fair ss) f in (set_kept c b.0, fields_kept d b.1)

@@ -20,7 +20,7 @@ use Rattle.text_pieces.specs.declared.walk.Many.{Many as Ways}
 use Rattle.text_pieces.specs.declared.walk.Many.TheVariants as many
 use Rattle.text_pieces.specs.Forms.{form_pieces, text_pieces_of, when, word_piece}
 use Rattle.text_pieces.specs.Layouts.{apart_layout_of, layout_of}
-use Rattle.text_pieces.specs.Leaves.{is_declaration, is_declaration_at, is_default_alone, is_empty_list, is_expression_at, is_expression_statement, is_let, is_lone_of, is_named, is_set_at, is_set_in, is_set_of, items_of, lone_name, lone_span, may_comma as takes_comma_behind, only_name, text_in}
+use Rattle.text_pieces.specs.Leaves.{is_declaration, is_declaration_at, is_default_alone, is_empty_list, is_expression_at, is_expression_statement, is_let, is_lone_at, is_lone_of, is_named, is_set_at, is_set_in, is_set_of, items_of, lone_name, lone_span, may_comma as takes_comma_behind, only_name, text_at, text_in}
 use Rattle.text_pieces.specs.Pieces.{Written, apart_in, behind_commas, chosen, closing_part, each_in, form_in, item_pieces, items_at, items_pieces, layout_pieces, lines, lone_in, lone_piece, opening_part, pieces_in, quoted_piece, regex_piece, specified, template_from, template_piece, template_pieces, with_commas, within_in, written, written_step, written_with}
 use Rattle.text_pieces.specs.Tokens.{Piece, closes, gap, here, may_braces, may_comma, may_from, never, parameter, punctuator, word}
 use Rattle.text_pieces.proofs.Walked.{each_items, list_pieces, tree_apart, tree_pieces, tree_within}
@@ -145,10 +145,13 @@ module _ (R : List Piece → List Piece → Type 0) (same : (ps : List Piece) �
   specified_kept some inside [] [] pss qss s h = same (when inside may_comma ++ when inside (punctuator mark.RightBrace))
   specified_kept some inside (t ∷ ts) (u ∷ us) [] [] s h = same (when inside may_comma ++ when inside (punctuator mark.RightBrace))
   specified_kept some inside (t ∷ ts) (u ∷ us) (ps ∷ pss) (qs ∷ qss) s h =
-      let front : List Piece = when some (punctuator mark.Comma) ++ when (is_named (out-Node t) && not inside) (punctuator mark.LeftBrace) in
+      let comma : List Piece = when some (punctuator mark.Comma) in
+      let brace : List Piece = when (is_named (out-Node t) && not inside) (punctuator mark.LeftBrace) in
+      let old : List Piece = specified true (inside || is_named (out-Node t)) ts pss in
+      let new : List Piece = specified true (inside || is_named (out-Node t)) us qss in
       subst (λ (b : Bool). R (specified some inside (t ∷ ts) (ps ∷ pss)) (when some (punctuator mark.Comma) ++ when (b && not inside) (punctuator mark.LeftBrace) ++ qs ++ specified true (inside || b) us qss)) s.0.named
-      (join (front ++ ps) (front ++ qs) (specified true (inside || is_named (out-Node t)) ts pss) (specified true (inside || is_named (out-Node t)) us qss) (join front front ps qs (same front) h.0)
-          (specified_kept true (inside || is_named (out-Node t)) ts us pss qss s.1 h.1))
+      (join comma comma (brace ++ ps ++ old) (brace ++ qs ++ new) (same comma)
+          (join brace brace (ps ++ old) (qs ++ new) (same brace) (join ps qs old new h.0 (specified_kept true (inside || is_named (out-Node t)) ts us pss qss s.1 h.1))))
   specified_kept some inside [] (u ∷ us) pss qss s h = absurd s
   specified_kept some inside (t ∷ ts) [] pss qss s h = absurd s
   specified_kept some inside (t ∷ ts) (u ∷ us) [] (qs ∷ qss) s h = absurd h
@@ -401,26 +404,47 @@ module _ (R : List Piece → List Piece → Type 0) (same : (ps : List Piece) �
   regex_kept a b flags others e f = equal _ _ (ap (λ a. regex_piece a flags) e ∙ ap (regex_piece b) f)
 
   module _ (wide : ℕ → Bool) (ts us : List Node) (h : AllKept R wide ts us) where
+    part_there : (n : ℕ) → R (pieces_in (slice_get (map (written false) ts) n)) (pieces_in (slice_get (map (written false) us) n))
+    part_there n = part_kept (slice_get (map (written false) ts) n) (slice_get (map (written false) us) n) (stand_at wide ts us h n)
+
+    each_there : (n : ℕ) → Each' R (each_in (slice_get (map (written false) ts) n)) (each_in (slice_get (map (written false) us) n))
+    each_there n = each_kept (slice_get (map (written false) ts) n) (slice_get (map (written false) us) n) (stand_at wide ts us h n)
+
+    set_there : (n : ℕ) → is_set_at ts n ≡ is_set_at us n
+    set_there n = set_kept (wide n) (slice_get ts n) (slice_get us n) (look_at wide ts us h n)
+
+    text_there : (n : ℕ) → text_at ts n ≡ text_at us n
+    text_there n = text_kept (wide n) (slice_get ts n) (slice_get us n) (look_at wide ts us h n)
+
+    list_there : (m : Ways) (n : ℕ) → R (items_pieces false m [] (each_in (slice_get (map (written false) ts) n))) (items_pieces false m [] (each_in (slice_get (map (written false) us) n)))
+    list_there m n = many_kept m [] [] (each_in (slice_get (map (written false) ts) n)) (each_in (slice_get (map (written false) us) n)) tt (each_there n)
+
+    asked_there : (b c : Bool) (n : ℕ) → b ≡ c → R (if b then pieces_in (slice_get (map (written false) ts) n) else []) (if c then pieces_in (slice_get (map (written false) us) n) else [])
+    asked_there b c n e = asked_kept b c (slice_get (map (written false) ts) n) (slice_get (map (written false) us) n) e (stand_at wide ts us h n)
+
     item_kept : (i : Item) → item_free wide i ≡ true → R (item_pieces false ts (map (written false) ts) i) (item_pieces false us (map (written false) us) i)
     item_kept (item.Sign m) q = same _
     item_kept (item.Word k) q = same _
-    item_kept (item.Part n) q = part_kept _ _ (stand_at wide ts us h n)
+    item_kept (item.Part n) q = part_there n
     item_kept (item.Within n) q = within_at wide ts us h n (closed_off (wide n) q)
-    item_kept (item.At n m) q = part_kept _ _ (stand_at wide ts us h m)
-    item_kept (item.Dots n) q = dots_kept _ _ (set_kept (wide n) _ _ (look_at wide ts us h n))
-    item_kept (item.Lone n) q = lone_in_kept (wide n) _ _ (look_at wide ts us h n)
+    item_kept (item.At n m) q = part_there m
+    item_kept (item.Dots n) q = dots_kept (is_set_at ts n) (is_set_at us n) (set_there n)
+    item_kept (item.Lone n) q = lone_in_kept (wide n) (slice_get ts n) (slice_get us n) (look_at wide ts us h n)
     item_kept (item.Head n) q = head_at wide ts us h n
     item_kept (item.Body n) q = body_at wide ts us h n
-    item_kept (item.Apart n m) q = apart_kept wide ts us h (is_set_at ts n) (is_set_at us n) m (set_kept (wide n) _ _ (look_at wide ts us h n)) (closed_off (wide m) q)
-    item_kept (item.If n m) q = asked_kept _ _ _ _ (set_kept (wide n) _ _ (look_at wide ts us h n)) (stand_at wide ts us h m)
-    item_kept (item.Unless n m) q = asked_kept _ _ _ _ (ap not (set_kept (wide n) _ _ (look_at wide ts us h n))) (stand_at wide ts us h m)
-    item_kept (item.List n) q = many_kept many.List [] [] _ _ tt (each_kept _ _ (stand_at wide ts us h n))
-    item_kept (item.Others n) q = others_kept _ _ _ _ (lone_kept (wide n) _ _ (look_at wide ts us h n)) (each_kept _ _ (stand_at wide ts us h n))
-    item_kept (item.Specifiers n) q = many_kept many.Specifiers [] [] _ _ tt (each_kept _ _ (stand_at wide ts us h n))
-    item_kept (item.Template n m) q = many_kept many.Template (items_at ts n) (items_at us n) _ _ (texts_kept wide ts us h n) (each_kept _ _ (stand_at wide ts us h m))
-    item_kept (item.Quoted n m) q = quoted_kept _ _ _ _ (text_kept (wide n) _ _ (look_at wide ts us h n)) (text_kept (wide m) _ _ (look_at wide ts us h m))
-    item_kept (item.Regex n m) q = regex_kept _ _ _ _ (text_kept (wide n) _ _ (look_at wide ts us h n)) (text_kept (wide m) _ _ (look_at wide ts us h m))
-    item_kept (item.Of n f) q = form_in_kept (wide n) f _ _ q (look_at wide ts us h n)
+    item_kept (item.Apart n m) q = apart_kept wide ts us h (is_set_at ts n) (is_set_at us n) m (set_there n) (closed_off (wide m) q)
+    item_kept (item.If n m) q = asked_there (is_set_at ts n) (is_set_at us n) m (set_there n)
+    item_kept (item.Unless n m) q = asked_there (not (is_set_at ts n)) (not (is_set_at us n)) m (ap not (set_there n))
+    item_kept (item.List n) q = list_there many.List n
+    item_kept (item.Others n) q =
+        others_kept (is_lone_at ts n) (is_lone_at us n) (each_in (slice_get (map (written false) ts) n)) (each_in (slice_get (map (written false) us) n))
+        (lone_kept (wide n) (slice_get ts n) (slice_get us n) (look_at wide ts us h n)) (each_there n)
+    item_kept (item.Specifiers n) q = list_there many.Specifiers n
+    item_kept (item.Template n m) q =
+        many_kept many.Template (items_at ts n) (items_at us n) (each_in (slice_get (map (written false) ts) m)) (each_in (slice_get (map (written false) us) m)) (texts_kept wide ts us h n) (each_there m)
+    item_kept (item.Quoted n m) q = quoted_kept (text_at ts n) (text_at us n) (text_at ts m) (text_at us m) (text_there n) (text_there m)
+    item_kept (item.Regex n m) q = regex_kept (text_at ts n) (text_at us n) (text_at ts m) (text_at us m) (text_there n) (text_there m)
+    item_kept (item.Of n f) q = form_in_kept (wide n) f (slice_get ts n) (slice_get us n) q (look_at wide ts us h n)
     item_kept item.Here q = same _
     item_kept item.In q = same _
     item_kept item.Out q = same _
@@ -471,8 +495,8 @@ module _ (R : List Piece → List Piece → Type 0) (same : (ps : List Piece) �
       of_pieces = moved _ _ _ _ (list_pieces false ts) (list_pieces false us) (lines_kept (map (written_with false) ts) (map (written_with false) us) (each_piece wide ts us h));
       of_each = subst (λ x. Each' R x (written false (Many us)).each) (sym (each_items false ts)) (subst (Each' R (Some (ts, map (written_with false) ts))) (sym (each_items false us)) (s, each_piece wide ts us h));
     };
-    within = λ o. moved _ _ _ _ (ap (λ w. w.within) (list_step ts)) (ap (λ w. w.within) (list_step us)) (same []);
-    apart = λ own. moved _ _ _ _ (ap (λ w. w.apart) (list_step ts)) (ap (λ w. w.apart) (list_step us)) (same []);
+    within = λ o. moved _ _ _ _ (ap (λ (w : Written). w.within) (list_step ts)) (ap (λ (w : Written). w.within) (list_step us)) (same []);
+    apart = λ own. moved _ _ _ _ (ap (λ (w : Written). w.apart) (list_step ts)) (ap (λ (w : Written). w.apart) (list_step us)) (same []);
   }
     where
       s : Pairwise ts us
@@ -494,7 +518,7 @@ module _ (R : List Piece → List Piece → Type 0) (same : (ps : List Piece) �
     };
     stands = record {
       of_pieces = moved _ _ _ _ (tree_pieces false k ts) (tree_pieces false k us) (layout_kept wide ts us h (layout_of k) q);
-      of_each = none_each _ _ (ap (λ w. w.each) (tree_step k ts)) (ap (λ w. w.each) (tree_step k us));
+      of_each = none_each _ _ (ap (λ (w : Written). w.each) (tree_step k ts)) (ap (λ (w : Written). w.each) (tree_step k us));
     };
     within = λ o. moved _ _ _ _ (tree_within false k ts) (tree_within false k us) (layout_kept wide ts us h (layout_of k) q);
     apart = λ own. moved _ _ _ _ (tree_apart false k ts) (tree_apart false k us) (layout_kept wide ts us h (apart_layout_of k) a);

@@ -6,14 +6,14 @@ use Rattle.swc_tree_node.specs.declared.kind.Kind.{Kind}
 use Rattle.swc_tree_node.specs.declared.kind.Kind.TheVariants as kind
 use Rattle.swc_tree_node.specs.declared.node.Node.{Node, List as Many, Identifier, Tree, out-Node, the_lemmas}
 use Rattle.swc_tree_node.specs.declared.node.Node.TheOpen.{Node-F}
-use Rattle.swc_tree_node.specs.declared.node.Node.TheVariants.{outs-Identifier, outs-List, outs-Tree}
+use Rattle.swc_tree_node.specs.declared.node.Node.TheVariants.{outs-List, outs-Tree}
 use Rattle.swc_tree_node.specs.Parts.{text_of}
 use Rattle.text_lexer.specs.declared.mark.Mark.TheVariants as mark
 use Rattle.text_lexer.specs.declared.token.TemplatePart.{TemplatePart}
 use Rattle.text_pieces.specs.Forms.{accessor, attribute, attribute_of, attributes, ending_by, ending_of_attributes, ending_of_key, meta, pairs, when}
 use Rattle.text_pieces.specs.Leaves.{is_block, is_computed, is_declaration, is_default, is_default_only, is_empty_list, is_expression_statement, is_hole, is_hole_in, is_named, is_rest, is_rest_in, is_set, is_set_at, is_set_in, is_set_of, is_some_item, last, takes_comma, takes_comma_in, text_at, text_in}
 use Rattle.text_pieces.specs.Pieces.{template_piece, text_of_template}
-use Rattle.text_pieces.specs.Tokens.{Piece, punctuator, word}
+use Rattle.text_pieces.specs.Tokens.{punctuator, word}
 
 -- ---- one node
 

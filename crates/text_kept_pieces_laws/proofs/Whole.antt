@@ -95,4 +95,4 @@ goal_fair (slot.One (content.Node class.Script)) g = refl
 goal_fair _ g = absurd (cc)
 
 pub due_pieces : PairsAloneAreSet
-due_pieces place t goal g fits = (set_kept (goal_fair goal g) (due_set place t goal fits)).stands.of_pieces
+due_pieces place t goal g fits = (set_kept (due_set place t goal fits) (goal_fair goal g)).stands.of_pieces
