@@ -30,7 +30,7 @@ use Rattle.text_pieces.specs.Layouts.{apart_layout_of, layout_of}
 use Rattle.text_pieces.specs.Leaves.{bound_name, is_block, is_computed, is_declaration, is_default, is_empty_list, is_expression_statement, is_hole, is_let, is_named, is_rest, is_set, items_of, lone_name, only_name, takes_comma}
 use Rattle.text_pieces.specs.Pieces.{Written, template_piece, written, written_step, written_with}
 use Rattle.text_pieces.specs.Tokens.{Piece, closes, name, punctuator}
-use Rattle.text_pieces.proofs.Walked.{tree_pieces}
+use Rattle.text_walk.proofs.Walked.{tree_pieces}
 use Rattle.text_kept_pieces_laws.specs.Paired.{WithPairs}
 use Rattle.text_kept_pieces_laws.specs.Paired.WithPairs.{same, join, after, around}
 use Rattle.text_kept_pieces_laws.proofs.Seen.{Pairwise, Seen, by_forms, pairwise_then, seen_then, text_of_name, text_of_tree}

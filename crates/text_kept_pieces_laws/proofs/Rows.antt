@@ -16,14 +16,14 @@ use Rattle.text_pieces.specs.declared.item.Form.TheVariants as form
 use Rattle.text_pieces.specs.declared.item.Item.{Item}
 use Rattle.text_pieces.specs.declared.item.Item.TheVariants as item
 use Rattle.text_pieces.specs.declared.piece.Gap.TheVariants as line
-use Rattle.text_pieces.specs.declared.walk.Many.{Many as Ways}
-use Rattle.text_pieces.specs.declared.walk.Many.TheVariants as many
+use Rattle.text_pieces.specs.declared.item.Many.{Many as Ways}
+use Rattle.text_pieces.specs.declared.item.Many.TheVariants as many
 use Rattle.text_pieces.specs.Forms.{form_pieces, text_pieces_of, when, word_piece}
 use Rattle.text_pieces.specs.Layouts.{apart_layout_of, layout_of}
 use Rattle.text_pieces.specs.Leaves.{is_declaration, is_declaration_at, is_default_alone, is_empty_list, is_expression_at, is_expression_statement, is_let, is_lone_at, is_lone_of, is_named, is_set_at, is_set_in, is_set_of, items_of, lone_name, lone_span, may_comma as takes_comma_behind, only_name, text_at, text_in}
 use Rattle.text_pieces.specs.Pieces.{Written, apart_in, behind_commas, chosen, closing_part, each_in, form_in, item_pieces, items_at, items_pieces, layout_pieces, lines, lone_in, lone_piece, opening_part, pieces_in, quoted_piece, regex_piece, specified, template_from, template_piece, template_pieces, with_commas, within_in, written, written_step, written_with}
 use Rattle.text_pieces.specs.Tokens.{Piece, closes, gap, here, may_braces, may_comma, may_from, never, parameter, punctuator, word}
-use Rattle.text_pieces.proofs.Walked.{each_items, list_pieces, tree_apart, tree_pieces, tree_within}
+use Rattle.text_walk.proofs.Walked.{each_items, list_pieces, tree_apart, tree_pieces, tree_within}
 use Rattle.text_kept_pieces_laws.proofs.Seen.{Pairwise, Seen, commas_seen, default_seen, function_row, holes_seen, pairwise_same, seen_list, seen_same, seen_tree, some_seen}
 
 -- the text of a plain name that may stand in parentheses
