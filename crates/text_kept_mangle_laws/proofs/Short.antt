@@ -87,7 +87,7 @@ none_of_fewer text all none [] among = refl
 none_of_fewer text all none (w ∷ ws) among =
     let parts = and_parts (list_any (pointwise nat_eq w) all) (list_all (λ w. list_any (pointwise nat_eq w) all) ws) among in
     let other : pointwise nat_eq text w ≡ false = false_from_ne_true (pointwise nat_eq text w) (λ same.
-      never (list_any (pointwise nat_eq text) all) (ap (λ w. list_any (pointwise nat_eq w) all) ((bytes_eq-Decides text w).0 same) ∙ parts.0) none) in
+    never (list_any (pointwise nat_eq text) all) (ap (λ w. list_any (pointwise nat_eq w) all) ((bytes_eq-Decides text w).0 same) ∙ parts.0) none) in
     ap (λ b. b || list_any (pointwise nat_eq text) ws) other ∙ none_of_fewer text all none ws parts.1
 
 not_true : (b : Bool) → not b ≡ true → b ≡ false

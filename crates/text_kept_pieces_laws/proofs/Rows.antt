@@ -151,7 +151,7 @@ module _ (R : List Piece → List Piece → Type 0) (same : (ps : List Piece) �
       let new : List Piece = specified true (inside || is_named (out-Node t)) us qss in
       subst (λ (b : Bool). R (specified some inside (t ∷ ts) (ps ∷ pss)) (when some (punctuator mark.Comma) ++ when (b && not inside) (punctuator mark.LeftBrace) ++ qs ++ specified true (inside || b) us qss)) s.0.named
       (join comma comma (brace ++ ps ++ old) (brace ++ qs ++ new) (same comma)
-          (join brace brace (ps ++ old) (qs ++ new) (same brace) (join ps qs old new h.0 (specified_kept true (inside || is_named (out-Node t)) ts us pss qss s.1 h.1))))
+      (join brace brace (ps ++ old) (qs ++ new) (same brace) (join ps qs old new h.0 (specified_kept true (inside || is_named (out-Node t)) ts us pss qss s.1 h.1))))
   specified_kept some inside [] (u ∷ us) pss qss s h = absurd s
   specified_kept some inside (t ∷ ts) [] pss qss s h = absurd s
   specified_kept some inside (t ∷ ts) (u ∷ us) [] (qs ∷ qss) s h = absurd h
@@ -163,7 +163,7 @@ module _ (R : List Piece → List Piece → Type 0) (same : (ps : List Piece) �
   parts_kept some (t ∷ ts) (u ∷ us) (ps ∷ pss) (qs ∷ qss) s h =
       subst (λ (p : Piece). R (template_from false some (t ∷ ts) (ps ∷ pss)) (p ∷ qs ++ template_from false true us qss)) (s.0.part (opening_part some))
       (one (template_piece (opening_part some) (out-Node t)) (ps ++ template_from false true ts pss) (qs ++ template_from false true us qss)
-          (join ps qs (template_from false true ts pss) (template_from false true us qss) h.0 (parts_kept true ts us pss qss s.1 h.1)))
+      (join ps qs (template_from false true ts pss) (template_from false true us qss) h.0 (parts_kept true ts us pss qss s.1 h.1)))
   parts_kept some [] (u ∷ us) pss qss s h = absurd s
   parts_kept some (t ∷ ts) [] pss qss s h = absurd s
   parts_kept some (t ∷ ts) (u ∷ us) [] (qs ∷ qss) s h = absurd h

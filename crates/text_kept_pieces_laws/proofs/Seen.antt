@@ -40,8 +40,25 @@ pub record Seen (t u : Node) : Type 0 where
 
 pub seen_same : (t : Node) → Seen t t
 seen_same t = record {
-  set = refl; hole = refl; rest = refl; default = refl; named = refl; declaration = refl; expression = refl; computed = refl; block = refl; access = refl; metas = refl;
-  from = refl; key = refl; text = refl; part = λ p. refl; comma = refl; pair = refl; list = refl; others = refl;
+  set = refl;
+  hole = refl;
+  rest = refl;
+  default = refl;
+  named = refl;
+  declaration = refl;
+  expression = refl;
+  computed = refl;
+  block = refl;
+  access = refl;
+  metas = refl;
+  from = refl;
+  key = refl;
+  text = refl;
+  part = λ p. refl;
+  comma = refl;
+  pair = refl;
+  list = refl;
+  others = refl;
 }
 
 pub seen_then : (t u v : Node) → Seen t u → Seen u v → Seen t v

@@ -58,7 +58,7 @@ let_ends false false = refl
 unnamed_same : (t : Node) → unnamed (pieces t) ≡ unnamed (pieces (nameless t))
 unnamed_same t =
     (anew_kept SameButNames (λ ps. refl) joined (λ (i : Ident). record i { ctxt = []; sym = [] }) (λ i. refl) (λ i. refl)
-        (λ k i. let_ends (is_let (Node-F.Identifier k i)) (is_let (Node-F.Identifier k (record i { ctxt = []; sym = [] })))) nameless nameless_is t false).stands.of_pieces
+    (λ k i. let_ends (is_let (Node-F.Identifier k i)) (is_let (Node-F.Identifier k (record i { ctxt = []; sym = [] })))) nameless nameless_is t false).stands.of_pieces
 
 pub one_form : NamesAloneDiffer
 one_form t u e = unnamed_same t ∙ ap (λ t. unnamed (pieces t)) e ∙ sym (unnamed_same u)
