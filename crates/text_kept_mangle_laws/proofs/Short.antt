@@ -79,7 +79,7 @@ low_name (c ∷ cs) low h =
 -- ---- and no reserved word
 
 never : {A : Type 0} (b : Bool) → b ≡ true → b ≡ false → A
-never b yes no = absurd (cc)
+never b h n = absurd (cc)
 
 -- what is none of some words is none of those among them
 none_of_fewer : (text : List ℕ) (all : List (List ℕ)) → list_any (pointwise nat_eq text) all ≡ false → (ws : List (List ℕ)) → list_all (λ w. list_any (pointwise nat_eq w) all) ws ≡ true → list_any (pointwise nat_eq text) ws ≡ false

@@ -145,13 +145,10 @@ module _ (R : List Piece → List Piece → Type 0) (same : (ps : List Piece) �
   specified_kept some inside [] [] pss qss s h = same (when inside may_comma ++ when inside (punctuator mark.RightBrace))
   specified_kept some inside (t ∷ ts) (u ∷ us) [] [] s h = same (when inside may_comma ++ when inside (punctuator mark.RightBrace))
   specified_kept some inside (t ∷ ts) (u ∷ us) (ps ∷ pss) (qs ∷ qss) s h =
-      let comma : List Piece = when some (punctuator mark.Comma) in
-      let brace : List Piece = when (is_named (out-Node t) && not inside) (punctuator mark.LeftBrace) in
-      let old : List Piece = specified true (inside || is_named (out-Node t)) ts pss in
-      let new : List Piece = specified true (inside || is_named (out-Node t)) us qss in
+      let front : List Piece = when some (punctuator mark.Comma) ++ when (is_named (out-Node t) && not inside) (punctuator mark.LeftBrace) in
       subst (λ (b : Bool). R (specified some inside (t ∷ ts) (ps ∷ pss)) (when some (punctuator mark.Comma) ++ when (b && not inside) (punctuator mark.LeftBrace) ++ qs ++ specified true (inside || b) us qss)) s.0.named
-      (join comma comma (brace ++ ps ++ old) (brace ++ qs ++ new) (same comma)
-      (join brace brace (ps ++ old) (qs ++ new) (same brace) (join ps qs old new h.0 (specified_kept true (inside || is_named (out-Node t)) ts us pss qss s.1 h.1))))
+      (join (front ++ ps) (front ++ qs) (specified true (inside || is_named (out-Node t)) ts pss) (specified true (inside || is_named (out-Node t)) us qss) (join front front ps qs (same front) h.0)
+      (specified_kept true (inside || is_named (out-Node t)) ts us pss qss s.1 h.1))
   specified_kept some inside [] (u ∷ us) pss qss s h = absurd s
   specified_kept some inside (t ∷ ts) [] pss qss s h = absurd s
   specified_kept some inside (t ∷ ts) (u ∷ us) [] (qs ∷ qss) s h = absurd h
