@@ -17,4 +17,4 @@ one_more c whole rs items i d s t within steps after =
 
 -- no item is left
 pub at_end : (c : Comments) (whole : List ℕ) (rs : List Remark) (items : List code.Item) (i : ℕ) (s : Walk) → length items ≤ i → GoesOn c whole rs s [] → GoesOn c whole rs s (map item_view (drop i items))
-at_end c whole rs items i s none end = subst (λ l. GoesOn c whole rs s (map item_view l)) (sym (drop_all items i none)) end
+at_end c whole rs items i s none end = subst (λ l. GoesOn c whole rs s (map item_view l)) (sym (drop_all i items none)) end

@@ -1,23 +1,14 @@
 //! Which of the tokens round it a comment of a text stands at.
 ghost use Rattle.std.specs.Prelude.{◌≡◌, IfOk, IfSome};
-ghost use Rattle.text_commented.specs.Chosen.{AreChosen, IsChosen, text_of as text_there};
+ghost use Rattle.text_commented.specs.Chosen.{AreChosen, IsChosen};
+ghost use Rattle.text_commented.specs.Commented.{written};
 
 use crate::frames::{Places, key_of};
 use crate::remark::{At, Remark};
 use std::alloc::{AllocError, Global};
 use swc_tree_node::Node;
-use text_characters::begins_line_end;
-use text_comments::Comment;
+use text_comments::{Comment, has_line_end};
 use text_pieces::framed_pieces;
-
-fn has_line_end(text: &[u8]) -> bool {
-    for at in 0..text.len() {
-        if begins_line_end(&text[at..]) {
-            return true;
-        }
-    }
-    false
-}
 
 // Whether a line ends between a comment and the token before it.
 fn begins_line(text: &[u8], comment: Comment) -> bool {
@@ -62,7 +53,7 @@ fn at_of(text: &[u8], comment: Comment, places: &Places) -> At
 }
 
 fn text_of(text: &[u8], comment: Comment) -> &[u8]
-    ensures { result.now ≡ text_there text.now comment }
+    ensures { result.now ≡ written text.now comment }
 {
     let (lo, hi) = (comment.span.lo as usize, comment.span.hi as usize);
     let behind = text.get(lo.saturating_sub(1)..).unwrap_or(&[]);

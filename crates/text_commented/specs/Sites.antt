@@ -1,0 +1,23 @@
+-- Places in two lists: where nodes begin, and where they stop.
+use Rattle.std.specs.Prelude.{ℕ, List, [], ◌∷◌}
+use Rattle.std.specs.List.Sorted.{IsNonDecreasing, IsPermutation}
+use Rattle.text_commented.specs.declared.remark.At.{At}
+use Rattle.text_commented.specs.declared.remark.At.TheVariants as stand
+use Rattle.text_commented.specs.declared.sites.Sites.{Sites}
+
+unfoldable pub leads_in : List At → List ℕ
+leads_in [] = []
+leads_in (stand.Leads n ∷ more) = n ∷ leads_in more
+leads_in (stand.Trails n ∷ more) = leads_in more
+
+unfoldable pub trails_in : List At → List ℕ
+trails_in [] = []
+trails_in (stand.Leads n ∷ more) = trails_in more
+trails_in (stand.Trails n ∷ more) = n ∷ trails_in more
+
+-- just these places, in the order of the text
+pub record IsSites (s : Sites) (all : List At) : Type 0 where
+  pub begun : IsPermutation (leads_in all) s.begun.items
+  pub stopped : IsPermutation (trails_in all) s.stopped.items
+  pub begun_rise : IsNonDecreasing s.begun.items
+  pub stopped_rise : IsNonDecreasing s.stopped.items
