@@ -7,7 +7,7 @@ use Rattle.std.specs.List.Sorted.{IsBinarySearchResult, IsNonDecreasing, IsPermu
 use Rattle.std.specs.Ordering.{nat_cmp}
 use Rattle.std.specs.Result.{is_ok}
 use Rattle.text_commented.specs.Places.{may_end_line, places, places_among}
-use Rattle.text_commented.specs.Sites.{IsSites, leads_in, trails_in}
+use Rattle.text_commented.specs.Sites.{IsFirst, IsFirstBegun, IsLast, IsLastStop, IsSites, leads_in, trails_in}
 use Rattle.text_commented.specs.declared.remark.At.{At}
 use Rattle.text_commented.specs.declared.remark.At.TheVariants as stand
 use Rattle.text_commented.specs.declared.sites.Sites.{Sites}
@@ -30,6 +30,42 @@ found_among xs x (Err i) position rise = (
         | inr after ↦ let above = around.2 k after within in absurd (omega arith)
       ],
 )
+
+-- the number that is looked for is the last, and the first
+pub last_found : (xs : List ℕ) (limit i : ℕ) → IsBinarySearchResult (λ y. nat_cmp y limit) xs (Ok i) → IsNonDecreasing xs → IsLast xs limit limit
+last_found xs limit i position rise = (omega arith, (found_among xs limit (Ok i) position rise).0 refl, λ m above within among. absurd (omega arith))
+
+pub first_found : (xs : List ℕ) (limit i : ℕ) → IsBinarySearchResult (λ y. nat_cmp y limit) xs (Ok i) → IsNonDecreasing xs → IsFirst xs limit limit
+first_found xs limit i position rise = (omega arith, (found_among xs limit (Ok i) position rise).0 refl, λ m above within among. absurd (omega arith))
+
+-- the one before the place where it would be, and the one there
+pub last_before : (xs : List ℕ) (limit i j n : ℕ) → IsBinarySearchResult (λ y. nat_cmp y limit) xs (Err i) → i ≡ j + 1 → i ≤ length xs → n ≡ get_or xs j 0 → IsNonDecreasing xs → IsLast xs limit n
+last_before xs limit i j n position next within is rise =
+    let around = searched xs limit (Err i) position (λ a b le inside. rise a b 0 le inside) in
+    let below : get_or xs j 0 < limit = around.1 j (omega arith) in
+    ( omega arith,
+      (j, omega arith, get_or_default xs j n 0 (omega arith) ∙ sym is),
+      λ m above no_more among.
+          let (k, inside, same) = among in
+          let there : get_or xs k 0 ≡ m = get_or_default xs k 0 m inside ∙ same in
+          elim (cases_lt k i) [
+            | inl before ↦ let up : get_or xs k 0 ≤ get_or xs j 0 = rise k j 0 (omega arith) (omega arith) in absurd (omega arith)
+            | inr after ↦ let over : limit < get_or xs k 0 = around.2 k after inside in absurd (omega arith)
+          ] )
+
+pub first_behind : (xs : List ℕ) (limit i n : ℕ) → IsBinarySearchResult (λ y. nat_cmp y limit) xs (Err i) → i < length xs → n ≡ get_or xs i 0 → IsNonDecreasing xs → IsFirst xs limit n
+first_behind xs limit i n position within is rise =
+    let around = searched xs limit (Err i) position (λ a b le inside. rise a b 0 le inside) in
+    let above : limit < get_or xs i 0 = around.2 i (omega arith) within in
+    ( omega arith,
+      (i, within, get_or_default xs i n 0 within ∙ sym is),
+      λ m no_less below among.
+          let (k, inside, same) = among in
+          let there : get_or xs k 0 ≡ m = get_or_default xs k 0 m inside ∙ same in
+          elim (cases_lt k i) [
+            | inl before ↦ let under : get_or xs k 0 < limit = around.1 k before in absurd (omega arith)
+            | inr after ↦ let up : get_or xs i 0 ≤ get_or xs k 0 = rise i k 0 after inside in absurd (omega arith)
+          ] )
 
 -- the places of each list
 not_both : (a b : ℕ) → stand.Trails a ≡ stand.Leads b → ⊥
@@ -83,6 +119,20 @@ has_trails s all p b are listed =
     let so = listed are.stopped_rise in
     ( λ yes. trails_from all p (Contains-permutation s.stopped.items (trails_in all) p (IsPermutation-sym (trails_in all) s.stopped.items are.stopped) (so.0 yes)),
       λ among. so.1 (Contains-permutation (trails_in all) s.stopped.items p are.stopped (trails_to all p among)) )
+
+pub last_stops : (s : Sites) (all : List At) (limit n : ℕ) → IsSites s all → (IsNonDecreasing s.stopped.items → IsLast s.stopped.items limit n) → IsLastStop all limit n
+last_stops s all limit n are last =
+    let (within, here, none) = last are.stopped_rise in
+    ( within,
+      trails_from all n (Contains-permutation s.stopped.items (trails_in all) n (IsPermutation-sym (trails_in all) s.stopped.items are.stopped) here),
+      λ m above no_more among. none m above no_more (Contains-permutation (trails_in all) s.stopped.items m are.stopped (trails_to all m among)) )
+
+pub first_begins : (s : Sites) (all : List At) (limit n : ℕ) → IsSites s all → (IsNonDecreasing s.begun.items → IsFirst s.begun.items limit n) → IsFirstBegun all limit n
+first_begins s all limit n are first =
+    let (within, here, none) = first are.begun_rise in
+    ( within,
+      leads_from all n (Contains-permutation s.begun.items (leads_in all) n (IsPermutation-sym (leads_in all) s.begun.items are.begun) here),
+      λ m no_less below among. none m no_less below (Contains-permutation (leads_in all) s.begun.items m are.begun (leads_to all m among)) )
 
 -- one piece more
 leads_append : (xs ys : List At) → leads_in (xs ++ ys) ≡ leads_in xs ++ leads_in ys

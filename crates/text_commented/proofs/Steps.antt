@@ -6,6 +6,7 @@ use Rattle.text_comments.specs.declared.comment.Comment.{Comment}
 use Rattle.text_commented.specs.Chosen.{AreChosen, IsChosen}
 use Rattle.text_commented.specs.Commented.{not_put, written}
 use Rattle.text_commented.specs.declared.left.Left.{Left}
+use Rattle.text_commented.specs.declared.remark.At.{At}
 use Rattle.text_commented.specs.declared.remark.Remark.{Remark}
 
 pub not_put_more : (us : List Bool) (i : ℕ) (d : Bool) → i < length us
@@ -23,9 +24,9 @@ left_more ls l ns i d within is =
     ∙ ap (λ n. map (λ x. x.number) ls ++ n ∷ drop (i + 1) ns) is ∙ ap (λ m. map (λ x. x.number) ls ++ m) (sym (drop_more ns i d within))
 
 -- one comment more that is chosen a place
-pub chosen_more : (text : List ℕ) (ks : List Comment) (i : ℕ) (d : Comment) (r : Remark) (more : List Remark) → i < length ks → r.text.now ≡ written text (get_or ks i d) → IsChosen (get_or ks i d) r.at
-    → AreChosen text (drop (i + 1) ks) more → AreChosen text (drop i ks) (r ∷ more)
-chosen_more text ks i d r more within is at after = subst (λ l. AreChosen text l (r ∷ more)) (sym (drop_more ks i d within)) (is, at, after)
+pub chosen_more : (text : List ℕ) (all : List At) (ks : List Comment) (i : ℕ) (d : Comment) (r : Remark) (more : List Remark) → i < length ks → r.text.now ≡ written text (get_or ks i d)
+    → IsChosen all (get_or ks i d) r.at → AreChosen text all (drop (i + 1) ks) more → AreChosen text all (drop i ks) (r ∷ more)
+chosen_more text all ks i d r more within is chosen after = subst (λ l. AreChosen text all l (r ∷ more)) (sym (drop_more ks i d within)) (is, chosen, after)
 
-pub chosen_end : (text : List ℕ) (ks : List Comment) (i : ℕ) → length ks ≤ i → AreChosen text (drop i ks) []
-chosen_end text ks i none = subst (λ l. AreChosen text l []) (sym (drop_all i ks none)) tt
+pub chosen_end : (text : List ℕ) (all : List At) (ks : List Comment) (i : ℕ) → length ks ≤ i → AreChosen text all (drop i ks) []
+chosen_end text all ks i none = subst (λ l. AreChosen text all l []) (sym (drop_all i ks none)) tt

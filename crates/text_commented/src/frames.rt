@@ -81,14 +81,6 @@ impl Places {
         Ok(places)
     }
 
-    /// Whether a node begins or stops at a place.
-    pub(crate) fn has(&self, at: At) -> bool {
-        match self.index_of(at) {
-            Some(index) => self.nodes.get(index).copied().unwrap_or(0) > 0,
-            None => false,
-        }
-    }
-
     /// Passes a node at a place, and answers whether it is the last there.
     pub(crate) fn pass_last(&mut self, at: At) -> bool {
         match self.index_of(at) {

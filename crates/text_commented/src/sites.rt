@@ -1,14 +1,16 @@
 //! Where the nodes of a tree begin and stop.
-ghost use Rattle.std.specs.Prelude.{◌≡◌, ◌↔◌, ◌++◌, [], List, map, IfOk, IsTrue, OnOk, if◌then◌else◌};
+ghost use Rattle.std.specs.Prelude.{◌≡◌, ◌↔◌, ◌++◌, [], List, map, IfOk, IfSome, IsTrue, OnOk, if◌then◌else◌};
 ghost use Rattle.std.specs.List.{Contains};
 ghost use Rattle.std.specs.List.Sorted.{IsNonDecreasing, IsPermutation};
 ghost use Rattle.text_commented.specs.Places.{places as places_of, places_among, places_at};
-ghost use Rattle.text_commented.specs.Sites.{IsSites, leads_in, trails_in};
+ghost use Rattle.text_commented.specs.Sites.{IsFirst, IsFirstBegun, IsLast, IsLastStop, IsSites, leads_in, trails_in};
+ghost use Rattle.text_commented.specs.declared.remark.At.{At};
 ghost use Rattle.text_pieces.specs.Tokens.{frame_view, piece_view};
 
 use crate::lines::{line_behind, may_end_line};
 use crate::remark::At;
 use std::alloc::{AllocError, Global};
+use swc_tree_marks::BytePos;
 use text_pieces::{Frame, Piece};
 
 /// Where nodes begin, and where they stop.
@@ -31,6 +33,36 @@ fn is_listed(sorted: &[usize], place: usize) -> bool
     ensures { IsNonDecreasing sorted.now → (IsTrue result ↔ Contains sorted.now place) }
 {
     sorted.binary_search(&place).is_ok()
+}
+
+// The last that is no greater than a number.
+fn last_of(sorted: &[usize], limit: usize) -> Option<usize>
+    ensures { IsNonDecreasing sorted.now → IfSome result (IsLast sorted.now limit) }
+{
+    match sorted.binary_search(&limit) {
+        Ok(_) => Some(limit),
+        Err(place) => {
+            if place == 0 || sorted.len() < place {
+                return None;
+            }
+            Some(sorted[place - 1])
+        }
+    }
+}
+
+// The first that is no smaller than a number.
+fn first_of(sorted: &[usize], limit: usize) -> Option<usize>
+    ensures { IsNonDecreasing sorted.now → IfSome result (IsFirst sorted.now limit) }
+{
+    match sorted.binary_search(&limit) {
+        Ok(_) => Some(limit),
+        Err(place) => {
+            if place >= sorted.len() {
+                return None;
+            }
+            Some(sorted[place])
+        }
+    }
 }
 
 impl Sites {
@@ -93,6 +125,28 @@ impl Sites {
             At::Leads(here) => is_listed(&self.begun, here as usize),
             At::Trails(here) => is_listed(&self.stopped, here as usize),
         }
+    }
+
+    /// Where the last node stops that does so at a place or before.
+    pub(crate) fn last_stop(&self, limit: BytePos) -> Option<BytePos>
+        ensures { (all : List At) → IsSites self.now all → IfSome result (IsLastStop all limit) }
+    {
+        let place = last_of(&self.stopped, limit as usize)?;
+        if place > u32::MAX as usize {
+            return None;
+        }
+        Some(place as u32)
+    }
+
+    /// Where the first node begins that does so at a place or behind.
+    pub(crate) fn first_begun(&self, limit: BytePos) -> Option<BytePos>
+        ensures { (all : List At) → IsSites self.now all → IfSome result (IsFirstBegun all limit) }
+    {
+        let place = first_of(&self.begun, limit as usize)?;
+        if place > u32::MAX as usize {
+            return None;
+        }
+        Some(place as u32)
     }
 }
 
