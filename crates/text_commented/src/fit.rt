@@ -70,6 +70,7 @@ fn may_stand(given: Given<'_, '_>, line: bool, number: usize) -> bool {
 
 impl<'a> Put<'a> {
     // Puts a comment at a place, if it stands there, may, and has not been put; others there go on from the number that is answered.
+    #[tactic(auto, using(crate::proofs::Puts::none_from, crate::proofs::Puts::one_from, std::proofs::lemmas::Grind::common_steps))]
     fn put(
         &mut self,
         given: Given<'_, '_>,
@@ -99,6 +100,7 @@ impl<'a> Put<'a> {
     }
 
     // Puts all comments that stand at a place.
+    #[tactic(auto, using(crate::proofs::Puts::none_from))]
     fn put_at(&mut self, given: Given<'_, '_>, line: bool, place: At) -> Result<(), AllocError>
         ensures { OnOk result (PutsAt given.entry.remarks.now place self.old.used.items (map item_view self.old.items.items) self.new.used.items (map item_view self.new.items.items)) }
     {
@@ -116,6 +118,7 @@ impl<'a> Put<'a> {
     }
 
     // The same where a node stops, if none behind it stops there too.
+    #[tactic(auto, using(crate::proofs::Puts::none_there))]
     fn put_last(&mut self, given: Given<'_, '_>, line: bool, place: At) -> Result<(), AllocError>
         ensures { OnOk result (PutsAt given.entry.remarks.now place self.old.used.items (map item_view self.old.items.items) self.new.used.items (map item_view self.new.items.items)) }
     {
@@ -126,6 +129,7 @@ impl<'a> Put<'a> {
         }
     }
 
+    #[tactic(auto, using(crate::proofs::Puts::none_there))]
     fn put_begun(&mut self, given: Given<'_, '_>, line: bool, here: usize) -> Result<(), AllocError>
         ensures { OnOk result (PutsAt given.entry.remarks.now (At.Leads here) self.old.used.items (map item_view self.old.items.items) self.new.used.items (map item_view self.new.items.items)) }
     {
@@ -135,6 +139,7 @@ impl<'a> Put<'a> {
         self.put_at(given, line, At::Leads(here as u32))
     }
 
+    #[tactic(auto, using(crate::proofs::Puts::none_there))]
     fn put_stopped(
         &mut self,
         given: Given<'_, '_>,
@@ -176,6 +181,7 @@ impl<'a> Put<'a> {
     }
 
     // Puts all comments that stand right behind a piece.
+    #[tactic(auto, using(crate::proofs::Puts::none_behind))]
     fn put_behind(
         &mut self,
         given: Given<'_, '_>,
