@@ -51,16 +51,25 @@ fn closed_behind(comment: Comment, sites: &Sites) -> Option<At>
     }
 }
 
+// How far a place is from the tokens round a comment.
+fn distance(comment: Comment, place: Option<At>) -> u32 {
+    match place {
+        Some(At::Trails(place)) => comment.trails.saturating_sub(place),
+        Some(At::Leads(place)) => place.saturating_sub(comment.leads),
+        None => u32::MAX,
+    }
+}
+
 // Where a comment stands that no node stops or begins at.
 fn nearest(comment: Comment, sites: &Sites) -> Option<At>
     ensures { (all : List At) → IsSites sites.now all → IfSome result (IsChosen all comment) }
 {
-    match closed_behind(comment, sites) {
-        Some(place) => Some(place),
-        None => match stopped_before(comment, sites) {
-            Some(place) => Some(place),
-            None => begun_behind(comment, sites),
-        },
+    let stopped = stopped_before(comment, sites);
+    let begun = begun_behind(comment, sites);
+    if distance(comment, stopped) <= distance(comment, begun) {
+        stopped
+    } else {
+        begun
     }
 }
 
@@ -72,11 +81,14 @@ fn chosen(text: &[u8], comment: Comment, sites: &Sites) -> Option<At>
     let is_led = begun == Some(At::Leads(comment.leads));
     let is_trailed = stopped == Some(At::Trails(comment.trails));
     if is_trailed && !(is_led && begins_line(text, comment)) {
-        stopped
-    } else if is_led {
-        begun
-    } else {
-        nearest(comment, sites)
+        return stopped;
+    }
+    if is_led {
+        return begun;
+    }
+    match closed_behind(comment, sites) {
+        Some(place) => Some(place),
+        None => nearest(comment, sites),
     }
 }
 
@@ -117,7 +129,7 @@ fn remarks_by<'t>(
 
 /// The comments of a text as they are to be written; `tree` is that of the text, or what passes made of it. A comment in the line of
 /// what stands before it trails that, and leads what stands behind it else, where a node stops or begins there. Where neither does, it
-/// stands behind what closes right behind it, as in `{ /* none */ }`, else behind the last node before it, else before the first.
+/// stands behind what closes right behind it, as in `{ /* none */ }`, else at the nearest that stops before it or begins behind it.
 ///
 /// # Errors
 ///
