@@ -134,8 +134,8 @@ pub fn print_text_with_comments(
         order: &order,
     };
     let put = put_among(alloc, given, places, &found)?;
-    let text = text_of_items(alloc, layout, remarks, &put.items)?;
-    let text = checked(alloc, comments, tree, remarks, &put.items, text)?;
+    let made = text_of_items(alloc, layout, remarks, &put.items)?;
+    let text = checked(alloc, comments, tree, remarks, &put.items, made)?;
     let numbers = numbers_left(alloc, &put.used)?;
     let left = left_of(alloc, comments, remarks, &numbers, &found)?;
     Ok(Printed { text, left })
