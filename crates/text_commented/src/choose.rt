@@ -12,7 +12,7 @@ use crate::sites::{Sites, sites_of};
 use std::alloc::{AllocError, Global};
 use swc_tree_node::Node;
 use text_comments::{Comment, has_line_end};
-use text_pieces::framed_pieces;
+use text_walk::framed_pieces;
 
 // Whether a line ends between a comment and the token before it.
 fn begins_line(text: &[u8], comment: Comment) -> bool {

@@ -16,7 +16,8 @@ use swc_tree_node::Node;
 use text_comments::Source;
 use text_follow::follows;
 use text_lexer::Comments;
-use text_pieces::{Frame, Piece, framed_pieces, pieces};
+use text_pieces::{Frame, Piece};
+use text_walk::{framed_pieces, pieces};
 use text_printer::{Layout, Writer};
 
 /// A text that is written, and the comments that are not in it.

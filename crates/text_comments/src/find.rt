@@ -12,7 +12,8 @@ use swc_tree_node::Node;
 use text_characters::{begins_line_end, is_space, point};
 use text_follow::{ending_behind, fresh_behind, goal_of, take};
 use text_lexer::{Comments, Goal, Skip, skip_blank, skip_piece, token_at};
-use text_pieces::{Ending, Piece, pieces};
+use text_pieces::{Ending, Piece};
+use text_walk::pieces;
 
 /// Where what is left of a text begins.
 fn position(whole: &[u8], rest: &[u8]) -> BytePos

@@ -1,4 +1,4 @@
-//! Whether a text is written with the tokens of a tree.
+//! Texts held against the pieces of trees.
 #![tactic(auto)]
 
 mod ending;
@@ -10,4 +10,4 @@ mod stand;
 pub use ending::ending_behind;
 pub use follow::{follows, fresh_behind, take};
 pub use spell::goal_of;
-pub use stand::frames_stand;
+pub use stand::Reader;

@@ -94,13 +94,13 @@ no_apart f t h = by (out-Node t) (sym (roll-out-Node t))
 positive : (i : ℕ) → nat_lt 0 (suc i) ≡ true
 positive i = grind (arith, nat_tests)
 
-there_by : (is : List Item) (i : ℕ) (d : Item) → i < length is → slice_get is i ≡ Some (get_or is i d)
+pub there_by : (is : List Item) (i : ℕ) (d : Item) → i < length is → slice_get is i ≡ Some (get_or is i d)
 there_by [] i d h = absurd (omega arith)
 there_by (x ∷ is) zero d h = refl
 there_by (x ∷ is) (suc i) d h = there_by is i d (omega arith)
 
 -- one more
-lines_one : (f : Bool) (ts : List Node) (i : ℕ) (t : Node) → slice_get ts i ≡ Some t → lines (map (written_with f) (take (suc i) ts)) ≡ lines (map (written_with f) (take i ts)) ++ gap line.Line ∷ written_with f t
+pub lines_one : (f : Bool) (ts : List Node) (i : ℕ) (t : Node) → slice_get ts i ≡ Some t → lines (map (written_with f) (take (suc i) ts)) ≡ lines (map (written_with f) (take i ts)) ++ gap line.Line ∷ written_with f t
 lines_one f [] i t h = absurd (cc)
 lines_one f (x ∷ ts) zero t h = let same : x ≡ t = cc in rw (same, append-nil (written_with f t)) refl
 lines_one f (x ∷ ts) (suc i) t h = ap (λ l. gap line.Line ∷ written_with f x ++ l) (lines_one f ts i t h) ∙ ap (λ l. gap line.Line ∷ l) (sym (append_assoc (written_with f x) (lines (map (written_with f) (take i ts))) (gap line.Line ∷ written_with f t)))
@@ -110,7 +110,7 @@ behind_more f [] i t h = absurd (cc)
 behind_more f (x ∷ ts) zero t h = let same : x ≡ t = cc in rw (same, append-nil (written_with f t)) refl
 behind_more f (x ∷ ts) (suc i) t h = ap (λ l. punctuator mark.Comma ∷ written_with f x ++ l) (behind_more f ts i t h) ∙ ap (λ l. punctuator mark.Comma ∷ l) (sym (append_assoc (written_with f x) (behind_commas (map (written_with f) (take i ts))) (punctuator mark.Comma ∷ written_with f t)))
 
-listed_more : (f : Bool) (ts : List Node) (i : ℕ) (t : Node) → slice_get ts i ≡ Some t
+pub listed_more : (f : Bool) (ts : List Node) (i : ℕ) (t : Node) → slice_get ts i ≡ Some t
     → with_commas (map (written_with f) (take (suc i) ts)) ≡ (with_commas (map (written_with f) (take i ts)) ++ (if nat_lt 0 i then punctuator mark.Comma ∷ [] else [])) ++ written_with f t
 listed_more f [] i t h = absurd (cc)
 listed_more f (x ∷ ts) zero t h = let same : x ≡ t = cc in append-nil (written_with f x) ∙ ap (written_with f) same
@@ -119,35 +119,10 @@ listed_more f (x ∷ ts) (suc i) t h =
     ∙ sym (append_assoc (written_with f x) (behind_commas (map (written_with f) (take i ts))) (punctuator mark.Comma ∷ written_with f t))
     ∙ sym (append_assoc (written_with f x ++ behind_commas (map (written_with f) (take i ts))) (punctuator mark.Comma ∷ []) (written_with f t)))
 
-layout_more : (f : Bool) (ws : List Node) (es : List Written) (is : List Item) (i : ℕ) (x : Item) → slice_get is i ≡ Some x → layout_pieces f ws es (take (suc i) is) ≡ layout_pieces f ws es (take i is) ++ item_pieces f ws es x
+pub layout_more : (f : Bool) (ws : List Node) (es : List Written) (is : List Item) (i : ℕ) (x : Item) → slice_get is i ≡ Some x → layout_pieces f ws es (take (suc i) is) ≡ layout_pieces f ws es (take i is) ++ item_pieces f ws es x
 layout_more f ws es [] i x h = absurd (cc)
 layout_more f ws es (y ∷ is) zero x h = let same : y ≡ x = cc in append-nil (item_pieces f ws es y) ∙ ap (item_pieces f ws es) same
 layout_more f ws es (y ∷ is) (suc i) x h = ap (λ l. item_pieces f ws es y ++ l) (layout_more f ws es is i x h) ∙ sym (append_assoc (item_pieces f ws es y) (layout_pieces f ws es (take i is)) (item_pieces f ws es x))
-
-pub lines_more : (f : Bool) (ts : List Node) (i : ℕ) (t : Node) (old mid between new : List Piece) → i < length ts → t ≡ get_or ts i t → mid ≡ old ++ lines (map (written_with f) (take i ts)) → between ≡ mid ++ gap line.Line ∷ []
-    → new ≡ between ++ written_with f t → new ≡ old ++ lines (map (written_with f) (take (i + 1) ts))
-lines_more f ts i t old mid between new within is before begun found =
-    let there : slice_get ts i ≡ Some t = slice_get_read ts (length ts) i t refl within is in
-    found ∙ ap (λ l. l ++ written_with f t) (begun ∙ ap (λ l. l ++ gap line.Line ∷ []) before ∙ append_assoc old (lines (map (written_with f) (take i ts))) (gap line.Line ∷ []))
-    ∙ append_assoc old (lines (map (written_with f) (take i ts)) ++ gap line.Line ∷ []) (written_with f t)
-    ∙ ap (λ l. old ++ l) (append_assoc (lines (map (written_with f) (take i ts))) (gap line.Line ∷ []) (written_with f t) ∙ sym (lines_one f ts i t there)) ∙ ap (λ n. old ++ lines (map (written_with f) (take n ts))) (sym (add-one i))
-
-pub commas_more : (f : Bool) (ts : List Node) (i : ℕ) (t : Node) (old mid comma new : List Piece) → i < length ts → t ≡ get_or ts i t → mid ≡ old ++ with_commas (map (written_with f) (take i ts))
-    → comma ≡ mid ++ (if nat_lt 0 i then punctuator mark.Comma ∷ [] else []) → new ≡ comma ++ written_with f t
-    → new ≡ old ++ with_commas (map (written_with f) (take (i + 1) ts))
-commas_more f ts i t old mid comma new within is before between found =
-    let there : slice_get ts i ≡ Some t = slice_get_read ts (length ts) i t refl within is in
-    let c : List Piece = if nat_lt 0 i then punctuator mark.Comma ∷ [] else [] in
-    found ∙ ap (λ l. l ++ written_with f t) (between ∙ ap (λ l. l ++ c) before ∙ append_assoc old (with_commas (map (written_with f) (take i ts))) c)
-    ∙ append_assoc old (with_commas (map (written_with f) (take i ts)) ++ c) (written_with f t)
-    ∙ ap (λ l. old ++ l) (sym (listed_more f ts i t there)) ∙ ap (λ n. old ++ with_commas (map (written_with f) (take n ts))) (sym (add-one i))
-
-pub items_more : (f : Bool) (ws : List Node) (es : List Written) (is : List Item) (i : ℕ) (d : Item) (old mid new : List Piece) → i < length is → mid ≡ old ++ layout_pieces f ws es (take i is) → new ≡ mid ++ item_pieces f ws es (get_or is i d)
-    → new ≡ old ++ layout_pieces f ws es (take (i + 1) is)
-items_more f ws es is i d old mid new within before found =
-    let there : slice_get is i ≡ Some (get_or is i d) = there_by is i d within in
-    found ∙ ap (λ l. l ++ item_pieces f ws es (get_or is i d)) before ∙ append_assoc old (layout_pieces f ws es (take i is)) (item_pieces f ws es (get_or is i d))
-    ∙ ap (λ l. old ++ l) (sym (layout_more f ws es is i (get_or is i d) there)) ∙ ap (λ n. old ++ layout_pieces f ws es (take n is)) (sym (add-one i))
 
 -- a field that is no list has no items
 pub no_items : (f : Bool) (t : Node) → ((ts : List Node) → t ≡ Many ts → ⊥) → (written f t).each ≡ None
@@ -156,18 +131,3 @@ no_items f t h = by (out-Node t) (sym (roll-out-Node t))
     by : (y : Node-F Node) → t ≡ roll-Node y → (written f t).each ≡ None
     by (Node-F.List ts) e = absurd (h ts (e ∙ rolls-List ts))
     by y e = ap (λ t. (written f t).each) e ∙ search (rules, the_lemmas)
-
--- the pairs that are left
-pub pairs_more : (ts : List Node) (i : ℕ) (t : Node) (some : Bool) (old mid comma new : List Piece) → i < length ts → t ≡ get_or ts i t
-    → mid ++ pairs some (drop i ts) ≡ old → comma ≡ mid ++ when some (punctuator mark.Comma) → new ≡ comma ++ attribute (out-Node t) ∷ []
-    → new ++ pairs true (drop (i + 1) ts) ≡ old
-pairs_more ts i t some old mid comma new within is before between found =
-    let a : Piece = attribute (out-Node t) in
-    let c : List Piece = when some (punctuator mark.Comma) in
-    let more : List Piece = pairs true (drop (i + 1) ts) in
-    let split : drop i ts ≡ t ∷ drop (i + 1) ts = drop_more ts i t within ∙ ap (λ x. x ∷ drop (i + 1) ts) (sym is) in
-    ap (λ l. l ++ more) (found ∙ ap (λ l. l ++ a ∷ []) between)
-    ∙ append_assoc (mid ++ c) (a ∷ []) more
-    ∙ append_assoc mid c (a ∷ more)
-    ∙ ap (λ l. mid ++ pairs some l) (sym split)
-    ∙ before

@@ -1,67 +1,29 @@
 //! A tree's tokens, one after another.
-ghost use Rattle.std.specs.Prelude.{◌≡◌, ◌++◌, [], ◌∷◌, Some, false, map, IfOk, OnOk, slice_get, if◌then◌else◌};
+#![tactic(auto, using(crate::proofs::Sinks::stays))]
+
+ghost use Rattle.std.specs.Prelude.{◌≡◌, ◌&&◌, ◌||◌, ◌++◌, [], ◌∷◌, Some, false, not, map, OnOk, slice_get, if◌then◌else◌};
 ghost use Rattle.swc_tree_node.specs.declared.node.Node.{out-Node};
-ghost use Rattle.text_pieces.specs.Frames.{framing, in_frames, span_at as field_span, without_frames};
+ghost use Rattle.text_pieces.specs.Frames.{framed_name, framing, in_frames, span_at as field_span};
+ghost use Rattle.text_pieces.specs.Leaves.{lone_span as name_span};
 ghost use Rattle.text_pieces.specs.Pieces as spec;
 ghost use Rattle.text_pieces.specs.Pieces.{written, written_with};
-ghost use Rattle.text_pieces.specs.Tokens.{name, piece_view};
+ghost use Rattle.text_pieces.specs.Tokens.{name, parameter, piece_view};
+ghost use Rattle.text_walk.specs.Sinks.{Gains};
 
-use crate::form::{add_form, piece_of_word, push, push_if};
+use crate::form::{add_form, piece_of_word};
 use crate::frame::{
     first_span, inner_span, own_span, push_begun, push_named, push_stopped, push_text_begun,
     push_text_stopped, span_at,
 };
-use crate::item::{Form, Item};
-use crate::keyword::keyword_text;
-use crate::layout::{apart_layout_of, layout_of};
 use crate::leaf::{
     field_at, is_declaration_at, is_expression_at, is_lone_at, is_named, is_set_at, items_of,
     lone_name, lone_span, text_at,
 };
-use crate::piece::{Gap, Piece};
-use std::alloc::{AllocError, Global};
+use crate::sink::{Refusal, Sink, push, push_if};
 use swc_tree_marks::Ident;
 use swc_tree_node::{Kind, Node};
 use text_lexer::{Mark, TemplatePart};
-
-/// How the items of a list are written.
-#[derive(Clone, Copy)]
-pub(crate) enum Many {
-    /// With commas between them.
-    List,
-    /// As the names of an import or export.
-    Specifiers,
-    /// Between the texts of a template.
-    Template,
-}
-
-/// The tokens that a tree is written with.
-///
-/// # Errors
-///
-/// Where memory is refused.
-pub fn pieces(alloc: Global, tree: &Node) -> Result<Vec<Piece<'_>>, AllocError>
-    ensures { IfOk result (λ found. map piece_view found.items ≡ spec.pieces tree.now) }
-{
-    let mut found = Vec::new(alloc);
-    add(false, tree, &mut found)?;
-    Ok(found)
-}
-
-/// The same, with each node in the frame of its span.
-///
-/// # Errors
-///
-/// Where memory is refused.
-#[tactic(auto, using(crate::proofs::Frameless::frameless))]
-pub fn framed_pieces(alloc: Global, tree: &Node) -> Result<Vec<Piece<'_>>, AllocError>
-    ensures frames { IfOk result (λ found. map piece_view found.items ≡ spec.framed_pieces tree.now) }
-    ensures tokens { IfOk result (λ found. without_frames (map piece_view found.items) ≡ spec.pieces tree.now) }
-{
-    let mut found = Vec::new(alloc);
-    add(true, tree, &mut found)?;
-    Ok(found)
-}
+use text_pieces::{Form, Gap, Item, Many, Piece, apart_layout_of, keyword_text, layout_of};
 
 fn opening_part(some: bool) -> TemplatePart
     ensures { result ≡ spec.opening_part some }
@@ -104,13 +66,8 @@ fn items_at(fields: &[Node], n: usize) -> &[Node]
     }
 }
 
-fn add_of<'a>(
-    fields: &'a [Node],
-    n: usize,
-    form: Form,
-    found: &mut Vec<Piece<'a>>,
-) -> Result<(), AllocError>
-    ensures { OnOk result (map piece_view found.new.items ≡ map piece_view found.old.items ++ spec.form_in form (slice_get fields.now n)) }
+fn add_of<'a>(fields: &'a [Node], n: usize, form: Form, found: &mut Sink<'a>) -> Result<(), Refusal>
+    ensures { OnOk result (Gains found.old (spec.form_in form (slice_get fields.now n)) found.new) }
 {
     match field_at(fields, n) {
         Some(node) => add_form(node, form, found),
@@ -122,9 +79,9 @@ fn quoted_piece<'a>(
     fields: &'a [Node],
     n: usize,
     m: usize,
-    found: &mut Vec<Piece<'a>>,
-) -> Result<(), AllocError>
-    ensures { OnOk result (map piece_view found.new.items ≡ map piece_view found.old.items ++ spec.quoted_at fields.now n m) }
+    found: &mut Sink<'a>,
+) -> Result<(), Refusal>
+    ensures { OnOk result (Gains found.old (spec.quoted_at fields.now n m) found.new) }
 {
     match text_at(fields, n) {
         Some(value) => push(found, Piece::Quoted(value, text_at(fields, m))),
@@ -136,9 +93,9 @@ fn regex_piece<'a>(
     fields: &'a [Node],
     n: usize,
     m: usize,
-    found: &mut Vec<Piece<'a>>,
-) -> Result<(), AllocError>
-    ensures { OnOk result (map piece_view found.new.items ≡ map piece_view found.old.items ++ spec.regex_at fields.now n m) }
+    found: &mut Sink<'a>,
+) -> Result<(), Refusal>
+    ensures { OnOk result (Gains found.old (spec.regex_at fields.now n m) found.new) }
 {
     match text_at(fields, n) {
         Some(pattern) => match text_at(fields, m) {
@@ -149,21 +106,30 @@ fn regex_piece<'a>(
     }
 }
 
+fn add_parameter<'a>(
+    framed: bool,
+    node: &'a Node,
+    name: &'a str,
+    found: &mut Sink<'a>,
+) -> Result<(), Refusal>
+    ensures { OnOk result (Gains found.old (framed_name framed (name_span (out-Node node.now)) name.now ++ parameter name.now ∷ []) found.new) }
+{
+    push_named(framed, lone_span(node), name, found)?;
+    push(found, Piece::Parameter(name))
+}
+
 // One plain name that may stand in parentheses.
 fn add_lone<'a>(
     framed: bool,
     fields: &'a [Node],
     n: usize,
-    found: &mut Vec<Piece<'a>>,
-) -> Result<(), AllocError>
-    ensures { OnOk result (map piece_view found.new.items ≡ map piece_view found.old.items ++ spec.lone_in framed (slice_get fields.now n)) }
+    found: &mut Sink<'a>,
+) -> Result<(), Refusal>
+    ensures { OnOk result (Gains found.old (spec.lone_in framed (slice_get fields.now n)) found.new) }
 {
     match field_at(fields, n) {
         Some(node) => match lone_name(node) {
-            Some(name) => {
-                push_named(framed, lone_span(node), name, found)?;
-                push(found, Piece::Parameter(name))
-            }
+            Some(name) => add_parameter(framed, node, name, found),
             None => Ok(()),
         },
         None => Ok(()),
@@ -174,9 +140,9 @@ fn add_dots<'a>(
     framed: bool,
     fields: &'a [Node],
     n: usize,
-    found: &mut Vec<Piece<'a>>,
-) -> Result<(), AllocError>
-    ensures { OnOk result (map piece_view found.new.items ≡ map piece_view found.old.items ++ spec.dots_at framed fields.now n) }
+    found: &mut Sink<'a>,
+) -> Result<(), Refusal>
+    ensures { OnOk result (Gains found.old (spec.dots_at framed fields.now n) found.new) }
 {
     if !is_set_at(fields, n) {
         return Ok(());
@@ -194,9 +160,9 @@ fn add_text<'a>(
     framed: bool,
     part: TemplatePart,
     node: &'a Node,
-    found: &mut Vec<Piece<'a>>,
-) -> Result<(), AllocError>
-    ensures { OnOk result (map piece_view found.new.items ≡ map piece_view found.old.items ++ spec.text_in_frame framed part (out-Node node.now)) }
+    found: &mut Sink<'a>,
+) -> Result<(), Refusal>
+    ensures { OnOk result (Gains found.old (spec.text_in_frame framed part (out-Node node.now)) found.new) }
 {
     if !framed {
         return push(found, template_piece(part, node));
@@ -206,12 +172,8 @@ fn add_text<'a>(
     push_text_stopped(part, first_span(node), found)
 }
 
-fn add_name<'a>(
-    framed: bool,
-    ident: &'a Ident,
-    found: &mut Vec<Piece<'a>>,
-) -> Result<(), AllocError>
-    ensures { OnOk result (map piece_view found.new.items ≡ map piece_view found.old.items ++ framing framed (Some ident.now.span) (name ident.now.sym ∷ [])) }
+fn add_name<'a>(framed: bool, ident: &'a Ident, found: &mut Sink<'a>) -> Result<(), Refusal>
+    ensures { OnOk result (Gains found.old (framing framed (Some ident.now.span) (name ident.now.sym ∷ [])) found.new) }
 {
     if !framed {
         return push(found, Piece::Name(ident.sym.as_str()));
@@ -221,9 +183,10 @@ fn add_name<'a>(
     push_stopped(Some(ident.span), found)
 }
 
+/// Takes the tokens that a tree is written with; `framed`: with each node in the frame of its span.
 #[cycle(add)]
-fn add<'a>(framed: bool, tree: &'a Node, found: &mut Vec<Piece<'a>>) -> Result<(), AllocError>
-    ensures { OnOk result (map piece_view found.new.items ≡ map piece_view found.old.items ++ written_with framed tree.now) }
+pub(crate) fn add<'a>(framed: bool, tree: &'a Node, found: &mut Sink<'a>) -> Result<(), Refusal>
+    ensures { OnOk result (Gains found.old (written_with framed tree.now) found.new) }
 {
     match tree {
         Node::List(items) => add_lines(framed, items.as_slice(), found),
@@ -241,8 +204,8 @@ fn add<'a>(framed: bool, tree: &'a Node, found: &mut Vec<Piece<'a>>) -> Result<(
 }
 
 #[cycle(add)]
-fn add_apart<'a>(framed: bool, tree: &'a Node, found: &mut Vec<Piece<'a>>) -> Result<(), AllocError>
-    ensures { OnOk result (map piece_view found.new.items ≡ map piece_view found.old.items ++ (written framed tree.now).apart) }
+fn add_apart<'a>(framed: bool, tree: &'a Node, found: &mut Sink<'a>) -> Result<(), Refusal>
+    ensures { OnOk result (Gains found.old ((written framed tree.now).apart) found.new) }
 {
     match tree {
         Node::Tree(kind, fields) => add_tree(
@@ -258,12 +221,8 @@ fn add_apart<'a>(framed: bool, tree: &'a Node, found: &mut Vec<Piece<'a>>) -> Re
 
 // The same without its frames.
 #[cycle(add)]
-fn add_within<'a>(
-    framed: bool,
-    tree: &'a Node,
-    found: &mut Vec<Piece<'a>>,
-) -> Result<(), AllocError>
-    ensures { OnOk result (map piece_view found.new.items ≡ map piece_view found.old.items ++ (written framed tree.now).within) }
+fn add_within<'a>(framed: bool, tree: &'a Node, found: &mut Sink<'a>) -> Result<(), Refusal>
+    ensures { OnOk result (Gains found.old ((written framed tree.now).within) found.new) }
 {
     match tree {
         Node::Tree(kind, fields) => add_fields(framed, layout_of(*kind), fields.as_slice(), found),
@@ -278,9 +237,9 @@ fn add_tree<'a>(
     kind: Kind,
     layout: &[Item],
     fields: &'a [Node],
-    found: &mut Vec<Piece<'a>>,
-) -> Result<(), AllocError>
-    ensures { OnOk result (map piece_view found.new.items ≡ map piece_view found.old.items ++ in_frames framed kind fields.now (spec.layout_pieces framed fields.now (map (written framed) fields.now) layout.now)) }
+    found: &mut Sink<'a>,
+) -> Result<(), Refusal>
+    ensures { OnOk result (Gains found.old (in_frames framed kind fields.now (spec.layout_pieces framed fields.now (map (written framed) fields.now) layout.now)) found.new) }
 {
     if !framed {
         return add_fields(framed, layout, fields, found);
@@ -293,12 +252,8 @@ fn add_tree<'a>(
 }
 
 #[cycle(add)]
-fn add_lines<'a>(
-    framed: bool,
-    items: &'a [Node],
-    found: &mut Vec<Piece<'a>>,
-) -> Result<(), AllocError>
-    ensures { OnOk result (map piece_view found.new.items ≡ map piece_view found.old.items ++ spec.lines (map (written_with framed) items.now)) }
+fn add_lines<'a>(framed: bool, items: &'a [Node], found: &mut Sink<'a>) -> Result<(), Refusal>
+    ensures { OnOk result (Gains found.old (spec.lines (map (written_with framed) items.now)) found.new) }
 {
     for i in 0..items.len() {
         push(found, Piece::Gap(Gap::Line))?;
@@ -308,12 +263,8 @@ fn add_lines<'a>(
 }
 
 #[cycle(add)]
-fn add_list<'a>(
-    framed: bool,
-    items: &'a [Node],
-    found: &mut Vec<Piece<'a>>,
-) -> Result<(), AllocError>
-    ensures { OnOk result (map piece_view found.new.items ≡ map piece_view found.old.items ++ spec.with_commas (map (written_with framed) items.now)) }
+fn add_list<'a>(framed: bool, items: &'a [Node], found: &mut Sink<'a>) -> Result<(), Refusal>
+    ensures { OnOk result (Gains found.old (spec.with_commas (map (written_with framed) items.now)) found.new) }
 {
     for i in 0..items.len() {
         push_if(found, i > 0, Piece::Mark(Mark::Comma))?;
@@ -322,23 +273,34 @@ fn add_list<'a>(
     Ok(())
 }
 
+// Whether a brace opens before the next specifier.
+fn opens(inside: bool, named: bool) -> bool
+    ensures { result ≡ (named && not inside) }
+{
+    named && !inside
+}
+
+// Whether one is open behind it.
+fn stays_open(inside: bool, named: bool) -> bool
+    ensures { result ≡ (inside || named) }
+{
+    inside || named
+}
+
 #[cycle(add)]
-fn add_specifiers<'a>(
-    framed: bool,
-    items: &'a [Node],
-    found: &mut Vec<Piece<'a>>,
-) -> Result<(), AllocError>
-    ensures { OnOk result (map piece_view found.new.items ≡ map piece_view found.old.items ++ spec.specified false false items.now (map (written_with framed) items.now)) }
+fn add_specifiers<'a>(framed: bool, items: &'a [Node], found: &mut Sink<'a>) -> Result<(), Refusal>
+    ensures { OnOk result (Gains found.old (spec.specified false false items.now (map (written_with framed) items.now)) found.new) }
 {
     let mut some = false;
     let mut inside = false;
     for i in 0..items.len() {
-        let named = is_named(&items[i]);
+        let item = &items[i];
+        let named = is_named(item);
         push_if(found, some, Piece::Mark(Mark::Comma))?;
-        push_if(found, named && !inside, Piece::Mark(Mark::LeftBrace))?;
-        add(framed, &items[i], found)?;
+        push_if(found, opens(inside, named), Piece::Mark(Mark::LeftBrace))?;
+        add(framed, item, found)?;
         some = true;
-        inside = inside || named;
+        inside = stays_open(inside, named);
     }
     push_if(found, inside, Piece::MayComma)?;
     push_if(found, inside, Piece::Mark(Mark::RightBrace))
@@ -349,9 +311,9 @@ fn add_template<'a>(
     framed: bool,
     parts: &'a [Node],
     texts: &'a [Node],
-    found: &mut Vec<Piece<'a>>,
-) -> Result<(), AllocError>
-    ensures { OnOk result (map piece_view found.new.items ≡ map piece_view found.old.items ++ spec.template_pieces framed texts.now (map (written_with framed) parts.now)) }
+    found: &mut Sink<'a>,
+) -> Result<(), Refusal>
+    ensures { OnOk result (Gains found.old (spec.template_pieces framed texts.now (map (written_with framed) parts.now)) found.new) }
 {
     if texts.len() != parts.len() + 1 {
         return push(found, Piece::Never);
@@ -371,9 +333,9 @@ fn add_many<'a>(
     items: &'a [Node],
     texts: &'a [Node],
     many: Many,
-    found: &mut Vec<Piece<'a>>,
-) -> Result<(), AllocError>
-    ensures { OnOk result (map piece_view found.new.items ≡ map piece_view found.old.items ++ spec.many_pieces framed many texts.now items.now (map (written_with framed) items.now)) }
+    found: &mut Sink<'a>,
+) -> Result<(), Refusal>
+    ensures { OnOk result (Gains found.old (spec.many_pieces framed many texts.now items.now (map (written_with framed) items.now)) found.new) }
 {
     match many {
         Many::List => add_list(framed, items, found),
@@ -389,9 +351,9 @@ fn add_items<'a>(
     n: usize,
     texts: &'a [Node],
     many: Many,
-    found: &mut Vec<Piece<'a>>,
-) -> Result<(), AllocError>
-    ensures { OnOk result (map piece_view found.new.items ≡ map piece_view found.old.items ++ spec.items_pieces framed many texts.now (spec.each_in (slice_get (map (written framed) fields.now) n))) }
+    found: &mut Sink<'a>,
+) -> Result<(), Refusal>
+    ensures { OnOk result (Gains found.old (spec.items_pieces framed many texts.now (spec.each_in (slice_get (map (written framed) fields.now) n))) found.new) }
 {
     if n >= fields.len() {
         return Ok(());
@@ -407,9 +369,9 @@ fn add_part<'a>(
     framed: bool,
     fields: &'a [Node],
     n: usize,
-    found: &mut Vec<Piece<'a>>,
-) -> Result<(), AllocError>
-    ensures { OnOk result (map piece_view found.new.items ≡ map piece_view found.old.items ++ spec.pieces_in (slice_get (map (written framed) fields.now) n)) }
+    found: &mut Sink<'a>,
+) -> Result<(), Refusal>
+    ensures { OnOk result (Gains found.old (spec.pieces_in (slice_get (map (written framed) fields.now) n)) found.new) }
 {
     if n < fields.len() {
         add(framed, &fields[n], found)
@@ -423,9 +385,9 @@ fn add_other<'a>(
     framed: bool,
     fields: &'a [Node],
     n: usize,
-    found: &mut Vec<Piece<'a>>,
-) -> Result<(), AllocError>
-    ensures { OnOk result (map piece_view found.new.items ≡ map piece_view found.old.items ++ spec.apart_in (slice_get (map (written framed) fields.now) n)) }
+    found: &mut Sink<'a>,
+) -> Result<(), Refusal>
+    ensures { OnOk result (Gains found.old (spec.apart_in (slice_get (map (written framed) fields.now) n)) found.new) }
 {
     if n < fields.len() {
         add_apart(framed, &fields[n], found)
@@ -439,9 +401,9 @@ fn add_inner<'a>(
     framed: bool,
     fields: &'a [Node],
     n: usize,
-    found: &mut Vec<Piece<'a>>,
-) -> Result<(), AllocError>
-    ensures { OnOk result (map piece_view found.new.items ≡ map piece_view found.old.items ++ spec.within_in (slice_get (map (written framed) fields.now) n)) }
+    found: &mut Sink<'a>,
+) -> Result<(), Refusal>
+    ensures { OnOk result (Gains found.old (spec.within_in (slice_get (map (written framed) fields.now) n)) found.new) }
 {
     if n < fields.len() {
         add_within(framed, &fields[n], found)
@@ -457,9 +419,9 @@ fn add_at<'a>(
     fields: &'a [Node],
     n: usize,
     m: usize,
-    found: &mut Vec<Piece<'a>>,
-) -> Result<(), AllocError>
-    ensures { OnOk result (map piece_view found.new.items ≡ map piece_view found.old.items ++ framing framed (field_span fields.now n) (spec.pieces_in (slice_get (map (written framed) fields.now) m))) }
+    found: &mut Sink<'a>,
+) -> Result<(), Refusal>
+    ensures { OnOk result (Gains found.old (framing framed (field_span fields.now n) (spec.pieces_in (slice_get (map (written framed) fields.now) m))) found.new) }
 {
     if !framed {
         return add_part(framed, fields, m, found);
@@ -475,9 +437,9 @@ fn add_chosen<'a>(
     apart: bool,
     fields: &'a [Node],
     n: usize,
-    found: &mut Vec<Piece<'a>>,
-) -> Result<(), AllocError>
-    ensures { OnOk result (map piece_view found.new.items ≡ map piece_view found.old.items ++ spec.chosen apart (slice_get (map (written framed) fields.now) n)) }
+    found: &mut Sink<'a>,
+) -> Result<(), Refusal>
+    ensures { OnOk result (Gains found.old (spec.chosen apart (slice_get (map (written framed) fields.now) n)) found.new) }
 {
     if apart {
         add_other(framed, fields, n, found)
@@ -492,9 +454,9 @@ fn add_part_if<'a>(
     wanted: bool,
     fields: &'a [Node],
     n: usize,
-    found: &mut Vec<Piece<'a>>,
-) -> Result<(), AllocError>
-    ensures { OnOk result (map piece_view found.new.items ≡ map piece_view found.old.items ++ (if wanted then spec.pieces_in (slice_get (map (written framed) fields.now) n) else [])) }
+    found: &mut Sink<'a>,
+) -> Result<(), Refusal>
+    ensures { OnOk result (Gains found.old (if wanted then spec.pieces_in (slice_get (map (written framed) fields.now) n) else []) found.new) }
 {
     if wanted {
         add_part(framed, fields, n, found)
@@ -508,9 +470,9 @@ fn add_others<'a>(
     framed: bool,
     fields: &'a [Node],
     n: usize,
-    found: &mut Vec<Piece<'a>>,
-) -> Result<(), AllocError>
-    ensures { OnOk result (map piece_view found.new.items ≡ map piece_view found.old.items ++ spec.others_at framed fields.now (map (written framed) fields.now) n) }
+    found: &mut Sink<'a>,
+) -> Result<(), Refusal>
+    ensures { OnOk result (Gains found.old (spec.others_at framed fields.now (map (written framed) fields.now) n) found.new) }
 {
     if is_lone_at(fields, n) {
         Ok(())
@@ -524,9 +486,9 @@ fn add_fields<'a>(
     framed: bool,
     layout: &[Item],
     fields: &'a [Node],
-    found: &mut Vec<Piece<'a>>,
-) -> Result<(), AllocError>
-    ensures { OnOk result (map piece_view found.new.items ≡ map piece_view found.old.items ++ spec.layout_pieces framed fields.now (map (written framed) fields.now) layout.now) }
+    found: &mut Sink<'a>,
+) -> Result<(), Refusal>
+    ensures { OnOk result (Gains found.old (spec.layout_pieces framed fields.now (map (written framed) fields.now) layout.now) found.new) }
 {
     for i in 0..layout.len() {
         add_item(framed, layout[i], fields, found)?;
@@ -539,9 +501,9 @@ fn add_item<'a>(
     framed: bool,
     item: Item,
     fields: &'a [Node],
-    found: &mut Vec<Piece<'a>>,
-) -> Result<(), AllocError>
-    ensures { OnOk result (map piece_view found.new.items ≡ map piece_view found.old.items ++ spec.item_pieces framed fields.now (map (written framed) fields.now) item) }
+    found: &mut Sink<'a>,
+) -> Result<(), Refusal>
+    ensures { OnOk result (Gains found.old (spec.item_pieces framed fields.now (map (written framed) fields.now) item) found.new) }
 {
     match item {
         Item::Part(n) => add_part(framed, fields, n, found),

@@ -1,23 +1,21 @@
 //! Where nodes begin and stop.
-ghost use Rattle.std.specs.Prelude.{◌≡◌, ◌≤◌, ◌++◌, map, OnOk, slice_get};
+#![tactic(auto, using(crate::proofs::Sinks::stays))]
+
+ghost use Rattle.std.specs.Prelude.{◌≡◌, ◌≤◌, OnOk, slice_get};
 ghost use Rattle.swc_tree_node.specs.declared.node.Node.{out-Node};
 ghost use Rattle.text_pieces.specs.Frames as spec;
-ghost use Rattle.text_pieces.specs.Tokens.{piece_view};
+ghost use Rattle.text_walk.specs.Sinks.{Gains};
 
-use crate::form::push;
 use crate::leaf::field_at;
-use crate::piece::{Frame, Piece};
-use std::alloc::AllocError;
+use crate::sink::{Refusal, Sink, push};
 use swc_tree_marks::Span;
 use swc_tree_node::{Kind, Node};
 use text_lexer::TemplatePart;
+use text_pieces::{Frame, Piece};
 
 /// Puts the beginning of a span there.
-pub(crate) fn push_begun<'a>(
-    span: Option<Span>,
-    found: &mut Vec<Piece<'a>>,
-) -> Result<(), AllocError>
-    ensures { OnOk result (map piece_view found.new.items ≡ map piece_view found.old.items ++ spec.begun span) }
+pub(crate) fn push_begun<'a>(span: Option<Span>, found: &mut Sink<'a>) -> Result<(), Refusal>
+    ensures { OnOk result (Gains found.old (spec.begun span) found.new) }
 {
     match span {
         Some(span) => push(found, Piece::Frame(Frame::Begins(span.lo as usize))),
@@ -26,11 +24,8 @@ pub(crate) fn push_begun<'a>(
 }
 
 /// Puts the end of a span there.
-pub(crate) fn push_stopped<'a>(
-    span: Option<Span>,
-    found: &mut Vec<Piece<'a>>,
-) -> Result<(), AllocError>
-    ensures { OnOk result (map piece_view found.new.items ≡ map piece_view found.old.items ++ spec.stopped span) }
+pub(crate) fn push_stopped<'a>(span: Option<Span>, found: &mut Sink<'a>) -> Result<(), Refusal>
+    ensures { OnOk result (Gains found.old (spec.stopped span) found.new) }
 {
     match span {
         Some(span) => push(found, Piece::Frame(Frame::Stops(span.hi as usize))),
@@ -122,11 +117,8 @@ fn behind_text(part: TemplatePart) -> usize
 }
 
 /// Puts there where a token begins that a text of a template has this span in.
-pub(crate) fn push_text_begun<'a>(
-    span: Option<Span>,
-    found: &mut Vec<Piece<'a>>,
-) -> Result<(), AllocError>
-    ensures { OnOk result (map piece_view found.new.items ≡ map piece_view found.old.items ++ spec.text_begun span) }
+pub(crate) fn push_text_begun<'a>(span: Option<Span>, found: &mut Sink<'a>) -> Result<(), Refusal>
+    ensures { OnOk result (Gains found.old (spec.text_begun span) found.new) }
 {
     match span {
         Some(span) => push(
@@ -141,9 +133,9 @@ pub(crate) fn push_text_begun<'a>(
 pub(crate) fn push_text_stopped<'a>(
     part: TemplatePart,
     span: Option<Span>,
-    found: &mut Vec<Piece<'a>>,
-) -> Result<(), AllocError>
-    ensures { OnOk result (map piece_view found.new.items ≡ map piece_view found.old.items ++ spec.text_stopped part span) }
+    found: &mut Sink<'a>,
+) -> Result<(), Refusal>
+    ensures { OnOk result (Gains found.old (spec.text_stopped part span) found.new) }
 {
     match span {
         Some(span) => push(
@@ -159,9 +151,9 @@ pub(crate) fn push_named<'a>(
     framed: bool,
     span: Option<Span>,
     name: &'a str,
-    found: &mut Vec<Piece<'a>>,
-) -> Result<(), AllocError>
-    ensures { OnOk result (map piece_view found.new.items ≡ map piece_view found.old.items ++ spec.framed_name framed span name.now) }
+    found: &mut Sink<'a>,
+) -> Result<(), Refusal>
+    ensures { OnOk result (Gains found.old (spec.framed_name framed span name.now) found.new) }
 {
     if !framed {
         return Ok(());

@@ -12,8 +12,8 @@ use Rattle.text_pieces.specs.declared.item.Form.{Form}
 use Rattle.text_pieces.specs.declared.item.Item.{Item}
 use Rattle.text_pieces.specs.declared.item.Item.TheVariants as item
 use Rattle.text_pieces.specs.declared.piece.Gap.TheVariants as line
-use Rattle.text_pieces.specs.declared.walk.Many.{Many as Ways}
-use Rattle.text_pieces.specs.declared.walk.Many.TheVariants as many
+use Rattle.text_pieces.specs.declared.item.Many.{Many as Ways}
+use Rattle.text_pieces.specs.declared.item.Many.TheVariants as many
 use Rattle.text_pieces.specs.Forms.{piece_of_word, when}
 use Rattle.text_pieces.specs.Frames.{framing, span_at, without_frames}
 use Rattle.text_pieces.specs.Layouts.{apart_layout_of, layout_of}
@@ -21,8 +21,12 @@ use Rattle.text_pieces.specs.Leaves.{is_declaration_at, is_expression_at, is_lon
 use Rattle.text_pieces.specs.Pieces.{Written, apart_in, behind_commas, chosen, closing_part, each_in, form_in, framed_pieces, item_pieces, items_at, items_pieces, layout_pieces, lines, lone_in, lone_piece, many_pieces, opening_part, pieces, pieces_in, quoted_piece, regex_piece, specified, template_from, template_pieces, text_in_frame, with_commas, within_in, written, written_step, written_with}
 use Rattle.text_pieces.specs.Signs.{sign_of}
 use Rattle.text_pieces.specs.Tokens.{Piece, gap, may_comma, never, punctuator}
-use Rattle.text_pieces.proofs.Unframed.{appended, both_bare, form_bare, frame_off, frames_off, name_off, one_bare, sign_token, text_off, when_bare}
-use Rattle.text_pieces.proofs.Walked.{each_items, list_pieces, tree_apart, tree_pieces, tree_within}
+use Rattle.text_walk.proofs.Unframed.{appended, both_bare, form_bare, frame_off, frames_off, name_off, one_bare, sign_token, text_off, when_bare}
+use Rattle.text_walk.proofs.Walked.{each_items, list_pieces, tree_apart, tree_pieces, tree_within}
+use Rattle.text_follow.specs.Follows.{Follows}
+use Rattle.text_follow.specs.Stands.{Stands}
+use Rattle.text_follow.proofs.Frames.{tokens_follow}
+use Rattle.text_lexer.specs.declared.blank.Comments.{Comments}
 
 abbrev bares : List (List Piece) → List (List Piece)
 bares pss = map without_frames pss
@@ -251,3 +255,6 @@ all_alike t = by_children Are (
 
 pub frameless : (t : Node) → without_frames (framed_pieces t) ≡ pieces t
 frameless t = (all_alike t).of_pieces
+
+pub tree_follows : (c : Comments) (soft : Bool) (t : Node) (text : List ℕ) → Stands c soft (framed_pieces t) text → Follows c soft (pieces t) text
+tree_follows c soft t text h = subst (λ ps. Follows c soft ps text) (frameless t) (tokens_follow c soft (framed_pieces t) text h)

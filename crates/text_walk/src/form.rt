@@ -1,66 +1,22 @@
 //! What is written of a field by its form alone.
-ghost use Rattle.std.specs.Prelude.{◌≡◌, ◌++◌, ◌∷◌, [], false, map, OnOk, if◌then◌else◌};
+#![tactic(auto, using(crate::proofs::Sinks::stays))]
+
+ghost use Rattle.std.specs.Prelude.{◌≡◌, ◌∷◌, ◌++◌, [], codes, false, OnOk, if◌then◌else◌};
 ghost use Rattle.std.specs.Option.{option_copied};
 ghost use Rattle.swc_tree_node.specs.declared.node.Node.{Node, out-Node};
+ghost use Rattle.text_lexer.specs.declared.mark.Mark.TheVariants as mark;
 ghost use Rattle.text_pieces.specs.Forms as spec;
-ghost use Rattle.text_pieces.specs.Tokens.{piece_view, sign_piece};
+ghost use Rattle.text_pieces.specs.Tokens.{piece_view, punctuator, sign_piece, word as word_of};
+ghost use Rattle.text_walk.specs.Sinks.{Gains};
 
-use crate::item::{Ending, Form};
-use crate::keyword::{Keyword, keyword_text};
 use crate::leaf::{
     ends_with_hole, has_items, is_block, is_computed, is_default_alone, is_empty_list,
     is_identifier_let, is_set, is_set_in, items_of, lone_name, may_comma, text_at,
 };
-use crate::piece::Piece;
-use crate::sign::sign_of;
-use std::alloc::AllocError;
+use crate::sink::{Refusal, Sink, push, push_if, push_three, push_two};
 use swc_tree_node::{Kind, Node, Word, spelling_of};
 use text_lexer::Mark;
-
-/// Puts a token behind the others.
-pub(crate) fn push<'a>(found: &mut Vec<Piece<'a>>, piece: Piece<'a>) -> Result<(), AllocError>
-    ensures { OnOk result (map piece_view found.new.items ≡ map piece_view found.old.items ++ piece_view piece.entry ∷ []) }
-{
-    found.push(piece)?;
-    Ok(())
-}
-
-/// Puts a token there if it is wanted.
-pub(crate) fn push_if<'a>(
-    found: &mut Vec<Piece<'a>>,
-    wanted: bool,
-    piece: Piece<'a>,
-) -> Result<(), AllocError>
-    ensures { OnOk result (map piece_view found.new.items ≡ map piece_view found.old.items ++ (if wanted then piece_view piece.entry ∷ [] else [])) }
-{
-    if wanted { push(found, piece) } else { Ok(()) }
-}
-
-fn push_two<'a>(
-    found: &mut Vec<Piece<'a>>,
-    one: Piece<'a>,
-    two: Piece<'a>,
-) -> Result<(), AllocError>
-    ensures { OnOk result (map piece_view found.new.items ≡ map piece_view found.old.items ++ piece_view one.entry ∷ piece_view two.entry ∷ []) }
-{
-    found.push(one)?;
-    found.push(two)?;
-    Ok(())
-}
-
-fn push_three<'a>(
-    found: &mut Vec<Piece<'a>>,
-    one: Piece<'a>,
-    two: Piece<'a>,
-    three: Piece<'a>,
-) -> Result<(), AllocError>
-    ensures { OnOk result (map piece_view found.new.items ≡ map piece_view found.old.items ++ piece_view one.entry ∷ piece_view two.entry ∷ piece_view three.entry ∷ []) }
-{
-    found.push(one)?;
-    found.push(two)?;
-    found.push(three)?;
-    Ok(())
-}
+use text_pieces::{Ending, Form, Keyword, Piece, keyword_text, sign_of};
 
 /// What a word of a node is written with.
 pub(crate) fn piece_of_word(word: Word) -> Piece<'static>
@@ -72,8 +28,8 @@ pub(crate) fn piece_of_word(word: Word) -> Piece<'static>
     }
 }
 
-fn add_accessor<'a>(node: &Node, found: &mut Vec<Piece<'a>>) -> Result<(), AllocError>
-    ensures { OnOk result (map piece_view found.new.items ≡ map piece_view found.old.items ++ spec.accessor (out-Node node.now)) }
+fn add_accessor<'a>(node: &Node, found: &mut Sink<'a>) -> Result<(), Refusal>
+    ensures { OnOk result (Gains found.old (spec.accessor (out-Node node.now)) found.new) }
 {
     match node {
         Node::Word(Word::Getter) => push(found, Piece::Word("get")),
@@ -82,8 +38,8 @@ fn add_accessor<'a>(node: &Node, found: &mut Vec<Piece<'a>>) -> Result<(), Alloc
     }
 }
 
-fn add_meta<'a>(node: &Node, found: &mut Vec<Piece<'a>>) -> Result<(), AllocError>
-    ensures { OnOk result (map piece_view found.new.items ≡ map piece_view found.old.items ++ spec.meta (out-Node node.now)) }
+fn add_meta<'a>(node: &Node, found: &mut Sink<'a>) -> Result<(), Refusal>
+    ensures { OnOk result (Gains found.old (spec.meta (out-Node node.now)) found.new) }
 {
     let dot = Piece::Mark(Mark::Dot);
     match node {
@@ -103,8 +59,8 @@ fn add_meta<'a>(node: &Node, found: &mut Vec<Piece<'a>>) -> Result<(), AllocErro
     }
 }
 
-fn add_bare<'a>(node: &Node, found: &mut Vec<Piece<'a>>) -> Result<(), AllocError>
-    ensures { OnOk result (map piece_view found.new.items ≡ map piece_view found.old.items ++ spec.bare (out-Node node.now)) }
+fn add_bare<'a>(node: &Node, found: &mut Sink<'a>) -> Result<(), Refusal>
+    ensures { OnOk result (Gains found.old (spec.bare (out-Node node.now)) found.new) }
 {
     if is_empty_list(node) {
         push(found, Piece::MayFrom)
@@ -113,8 +69,8 @@ fn add_bare<'a>(node: &Node, found: &mut Vec<Piece<'a>>) -> Result<(), AllocErro
     }
 }
 
-fn add_braces<'a>(node: &Node, found: &mut Vec<Piece<'a>>) -> Result<(), AllocError>
-    ensures { OnOk result (map piece_view found.new.items ≡ map piece_view found.old.items ++ spec.braces (out-Node node.now)) }
+fn add_braces<'a>(node: &Node, found: &mut Sink<'a>) -> Result<(), Refusal>
+    ensures { OnOk result (Gains found.old (spec.braces (out-Node node.now)) found.new) }
 {
     if is_empty_list(node) {
         push_two(
@@ -127,8 +83,8 @@ fn add_braces<'a>(node: &Node, found: &mut Vec<Piece<'a>>) -> Result<(), AllocEr
     }
 }
 
-fn add_async<'a>(node: &Node, found: &mut Vec<Piece<'a>>) -> Result<(), AllocError>
-    ensures { OnOk result (map piece_view found.new.items ≡ map piece_view found.old.items ++ spec.asynchronous (out-Node node.now)) }
+fn add_async<'a>(node: &Node, found: &mut Sink<'a>) -> Result<(), Refusal>
+    ensures { OnOk result (Gains found.old (spec.asynchronous (out-Node node.now)) found.new) }
 {
     if is_set_in(node, 4) {
         push_two(found, Piece::Word("async"), Piece::Here)
@@ -183,8 +139,8 @@ fn attribute(node: &Node) -> Piece<'_>
     }
 }
 
-fn add_pairs<'a>(pairs: &'a [Node], found: &mut Vec<Piece<'a>>) -> Result<(), AllocError>
-    ensures { OnOk result (map piece_view found.new.items ≡ map piece_view found.old.items ++ spec.pairs false pairs.now) }
+fn add_pairs<'a>(pairs: &'a [Node], found: &mut Sink<'a>) -> Result<(), Refusal>
+    ensures { OnOk result (Gains found.old (spec.pairs false pairs.now) found.new) }
 {
     let mut some = false;
     for i in 0..pairs.len() {
@@ -195,21 +151,25 @@ fn add_pairs<'a>(pairs: &'a [Node], found: &mut Vec<Piece<'a>>) -> Result<(), Al
     push_if(found, some, Piece::MayComma)
 }
 
-fn add_attributes<'a>(node: &'a Node, found: &mut Vec<Piece<'a>>) -> Result<(), AllocError>
-    ensures { OnOk result (map piece_view found.new.items ≡ map piece_view found.old.items ++ spec.attributes (out-Node node.now)) }
+fn add_attribute_list<'a>(pairs: &'a [Node], found: &mut Sink<'a>) -> Result<(), Refusal>
+    ensures { OnOk result (Gains found.old (word_of (codes "with") ∷ punctuator mark.LeftBrace ∷ spec.pairs false pairs.now ++ punctuator mark.RightBrace ∷ []) found.new) }
+{
+    push_two(found, Piece::Word("with"), Piece::Mark(Mark::LeftBrace))?;
+    add_pairs(pairs, found)?;
+    push(found, Piece::Mark(Mark::RightBrace))
+}
+
+fn add_attributes<'a>(node: &'a Node, found: &mut Sink<'a>) -> Result<(), Refusal>
+    ensures { OnOk result (Gains found.old (spec.attributes (out-Node node.now)) found.new) }
 {
     match node {
-        Node::List(pairs) => {
-            push_two(found, Piece::Word("with"), Piece::Mark(Mark::LeftBrace))?;
-            add_pairs(pairs.as_slice(), found)?;
-            push(found, Piece::Mark(Mark::RightBrace))
-        }
+        Node::List(pairs) => add_attribute_list(pairs.as_slice(), found),
         _ => Ok(()),
     }
 }
 
-fn add_text<'a>(node: &'a Node, form: Form, found: &mut Vec<Piece<'a>>) -> Result<(), AllocError>
-    ensures { OnOk result (map piece_view found.new.items ≡ map piece_view found.old.items ++ spec.text_pieces form node.now) }
+fn add_text<'a>(node: &'a Node, form: Form, found: &mut Sink<'a>) -> Result<(), Refusal>
+    ensures { OnOk result (Gains found.old (spec.text_pieces form node.now) found.new) }
 {
     match node.as_text() {
         Some(text) => match form {
@@ -230,12 +190,8 @@ fn word<'a>(keyword: Keyword) -> Piece<'a>
 }
 
 /// What is written of a node by a form.
-pub(crate) fn add_form<'a>(
-    node: &'a Node,
-    form: Form,
-    found: &mut Vec<Piece<'a>>,
-) -> Result<(), AllocError>
-    ensures { OnOk result (map piece_view found.new.items ≡ map piece_view found.old.items ++ spec.form_pieces form node.now) }
+pub(crate) fn add_form<'a>(node: &'a Node, form: Form, found: &mut Sink<'a>) -> Result<(), Refusal>
+    ensures { OnOk result (Gains found.old (spec.form_pieces form node.now) found.new) }
 {
     match form {
         Form::SignIf(mark) => push_if(found, is_set(node), Piece::Mark(mark)),
