@@ -66,20 +66,20 @@ put_at_both rs a b used next now items made all one more = record {
 }
 
 -- one piece more, with the comments that are put behind it
-pub one_piece : (rs : List Remark) (start : List Bool) (all : List Piece) (ps : List code.Piece) (i : ℕ) (d : code.Piece) (before : List item_code.Item) (it : item_code.Item) (made more : List Item) (used next now : List Bool) → i < length ps
-    → item_view it ≡ token (piece_view (get_or ps i d)) → PutsBehind rs (places (piece_view (get_or ps i d))) used (map item_view (before ++ it ∷ [])) next made
+pub one_piece : (rs : List Remark) (start : List Bool) (all : List Piece) (ps : List code.Piece) (i : ℕ) (d : code.Piece) (before pushed : List item_code.Item) (it : item_code.Item) (made more : List Item) (used next now : List Bool) → i < length ps
+    → item_view it ≡ token (piece_view (get_or ps i d)) → pushed ≡ before ++ it ∷ [] → PutsBehind rs (places (piece_view (get_or ps i d))) used (map item_view pushed) next made
     → PutsAmong rs next (map piece_view (drop (i + 1) ps)) more now
     → ((m : List Item) (n : List Bool) → PutsAmong rs used (map piece_view (drop i ps)) m n → PutsAmong rs start all (map item_view before ++ m) n)
     → PutsAmong rs start all (made ++ more) now
-one_piece rs start all ps i d before it made more used next now within is_token puts after step =
+one_piece rs start all ps i d before pushed it made more used next now within is_token added puts after step =
     let p = piece_view (get_or ps i d) in
     let put = puts.put in
     let items = map item_view before in
     let one : PutsAmong rs used (map piece_view (drop i ps)) (token p ∷ (put ++ more)) now =
-        subst (λ l. PutsAmong rs used (map piece_view l) (token p ∷ (put ++ more)) now) (sym (drop_more ps i d within)) (put, next, more, refl, puts.are, after) in
-    let with_token : map item_view (before ++ it ∷ []) ≡ items ++ token p ∷ [] = map-append item_view before (it ∷ []) ∙ ap (λ x. items ++ x ∷ []) is_token in
+    subst (λ l. PutsAmong rs used (map piece_view l) (token p ∷ (put ++ more)) now) (sym (drop_more ps i d within)) (put, next, more, refl, puts.are, after) in
+    let with_token : map item_view pushed ≡ items ++ token p ∷ [] = ap (λ l. map item_view l) added ∙ map-append item_view before (it ∷ []) ∙ ap (λ x. items ++ x ∷ []) is_token in
     let same : made ++ more ≡ items ++ (token p ∷ (put ++ more)) =
-        ap (λ l. l ++ more) (puts.is ∙ ap (λ l. l ++ put) with_token) ∙ append_assoc (items ++ token p ∷ []) put more ∙ append_assoc items (token p ∷ []) (put ++ more) in
+    ap (λ l. l ++ more) (puts.is ∙ ap (λ l. l ++ put) with_token) ∙ append_assoc (items ++ token p ∷ []) put more ∙ append_assoc items (token p ∷ []) (put ++ more) in
     subst (λ l. PutsAmong rs start all l now) (sym same) (step (token p ∷ (put ++ more)) now one)
 
 -- no piece is left

@@ -6,12 +6,12 @@ use Rattle.text_commented.specs.declared.remark.At.{At}
 use Rattle.text_commented.specs.declared.remark.At.TheVariants as stand
 use Rattle.text_commented.specs.declared.sites.Sites.{Sites}
 
-unfoldable pub leads_in : List At → List ℕ
+abbrev pub leads_in : List At → List ℕ
 leads_in [] = []
 leads_in (stand.Leads n ∷ more) = n ∷ leads_in more
 leads_in (stand.Trails n ∷ more) = leads_in more
 
-unfoldable pub trails_in : List At → List ℕ
+abbrev pub trails_in : List At → List ℕ
 trails_in [] = []
 trails_in (stand.Leads n ∷ more) = trails_in more
 trails_in (stand.Trails n ∷ more) = n ∷ trails_in more

@@ -101,7 +101,8 @@ fn place_of(text: &[u8], comment: Comment, sites: &Sites) -> At
     }
 }
 
-fn text_of(text: &[u8], comment: Comment) -> &[u8]
+/// A comment of a text, as it is written there.
+pub(crate) fn text_of(text: &[u8], comment: Comment) -> &[u8]
     ensures { result.now ≡ written text.now comment }
 {
     let (lo, hi) = (comment.span.lo as usize, comment.span.hi as usize);

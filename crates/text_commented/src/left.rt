@@ -1,5 +1,5 @@
 //! Comments that are not written.
-ghost use Rattle.std.specs.Prelude.{◌≡◌, false, true, List, map, slice_get, IfOk, IfSome};
+ghost use Rattle.std.specs.Prelude.{◌≡◌, ◌++◌, ◌∷◌, [], List, map, slice_get, IfOk, IfSome, OnOk};
 ghost use Rattle.std.specs.List.{All};
 ghost use Rattle.text_commented.specs.Commented.{not_put};
 ghost use Rattle.text_commented.specs.Places.{all_places, tight_places};
@@ -35,7 +35,7 @@ pub struct Left {
 }
 
 /// The numbers of those that are not used.
-#[tactic(auto, using(crate::proofs::Steps::put_more, crate::proofs::Steps::not_put_more, crate::proofs::Steps::not_put_end, std::proofs::lemmas::Grind::common_steps))]
+#[tactic(auto, using(crate::proofs::Steps::not_put_end, std::proofs::lemmas::Grind::common_steps))]
 pub(crate) fn numbers_left(alloc: Global, used: &[bool]) -> Result<Vec<usize>, AllocError>
     ensures { IfOk result (λ numbers. numbers.items ≡ not_put 0 used.now) }
 {
@@ -81,6 +81,13 @@ fn why_at(
     why_of(comments, remark, all, tight)
 }
 
+fn push(left: &mut Vec<Left>, each: Left) -> Result<(), AllocError>
+    ensures { OnOk result (left.new.items ≡ left.old.items ++ each ∷ []) }
+{
+    left.push(each)?;
+    Ok(())
+}
+
 // Those that are left, each with why it is.
 fn left_by(
     alloc: Global,
@@ -99,7 +106,7 @@ fn left_by(
         let Some(why) = why_at(comments, remarks, number, all, tight) else {
             return Err(SetFault::NotSet);
         };
-        left.push(Left { number, why })?;
+        push(&mut left, Left { number, why })?;
     }
     Ok(left)
 }

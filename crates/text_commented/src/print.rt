@@ -17,8 +17,8 @@ use text_comments::Source;
 use text_follow::follows;
 use text_lexer::Comments;
 use text_pieces::{Frame, Piece};
-use text_walk::{framed_pieces, pieces};
 use text_printer::{Layout, Writer};
+use text_walk::{framed_pieces, pieces};
 
 /// A text that is written, and the comments that are not in it.
 #[derive(Drop)]

@@ -1,5 +1,5 @@
 //! Where the nodes of a tree begin and stop.
-ghost use Rattle.std.specs.Prelude.{◌≡◌, ◌↔◌, ◌++◌, [], List, map, IfOk, IfSome, IsTrue, OnOk, if◌then◌else◌};
+ghost use Rattle.std.specs.Prelude.{◌≡◌, ◌↔◌, ◌&&◌, ◌++◌, [], List, map, IfOk, IfSome, IsTrue, OnOk, if◌then◌else◌};
 ghost use Rattle.std.specs.List.{Contains};
 ghost use Rattle.std.specs.List.Sorted.{IsNonDecreasing, IsPermutation};
 ghost use Rattle.text_commented.specs.Places.{places as places_of, places_among, places_at};
@@ -65,7 +65,14 @@ fn first_of(sorted: &[usize], limit: usize) -> Option<usize>
     }
 }
 
+fn both(one: bool, other: bool) -> bool
+    ensures { result ≡ (one && other) }
+{
+    one && other
+}
+
 impl Sites {
+    #[tactic(auto, using(crate::proofs::Listed::nothing_added))]
     fn add_frame(&mut self, frame: Frame<'_>) -> Result<(), AllocError>
         ensures begun { OnOk result (self.new.begun.items ≡ self.old.begun.items ++ leads_in (places_at (frame_view frame.entry))) }
         ensures stopped { OnOk result (self.new.stopped.items ≡ self.old.stopped.items ++ trails_in (places_at (frame_view frame.entry))) }
@@ -87,6 +94,7 @@ impl Sites {
         }
     }
 
+    #[tactic(auto, using(crate::proofs::Listed::nothing_added))]
     fn add_behind(&mut self, piece: Piece<'_>) -> Result<(), AllocError>
         ensures begun { OnOk result (self.new.begun.items ≡ self.old.begun.items ++ leads_in (places_of (piece_view piece.entry))) }
         ensures stopped { OnOk result (self.new.stopped.items ≡ self.old.stopped.items ++ trails_in (places_of (piece_view piece.entry))) }
@@ -98,6 +106,7 @@ impl Sites {
     }
 
     // Adds the places behind a piece, unless they are passed over.
+    #[tactic(auto, using(crate::proofs::Listed::nothing_added))]
     fn add(&mut self, over: bool, piece: Piece<'_>) -> Result<(), AllocError>
         ensures begun { OnOk result (self.new.begun.items ≡ self.old.begun.items ++ leads_in (if over then [] else places_of (piece_view piece.entry))) }
         ensures stopped { OnOk result (self.new.stopped.items ≡ self.old.stopped.items ++ trails_in (if over then [] else places_of (piece_view piece.entry))) }
@@ -131,7 +140,9 @@ impl Sites {
     pub(crate) fn last_stop(&self, limit: BytePos) -> Option<BytePos>
         ensures { (all : List At) → IsSites self.now all → IfSome result (IsLastStop all limit) }
     {
-        let place = last_of(&self.stopped, limit as usize)?;
+        let Some(place) = last_of(&self.stopped, limit as usize) else {
+            return None;
+        };
         if place > u32::MAX as usize {
             return None;
         }
@@ -142,7 +153,9 @@ impl Sites {
     pub(crate) fn first_begun(&self, limit: BytePos) -> Option<BytePos>
         ensures { (all : List At) → IsSites self.now all → IfSome result (IsFirstBegun all limit) }
     {
-        let place = first_of(&self.begun, limit as usize)?;
+        let Some(place) = first_of(&self.begun, limit as usize) else {
+            return None;
+        };
         if place > u32::MAX as usize {
             return None;
         }
@@ -165,7 +178,8 @@ pub(crate) fn sites_of(
     let mut line = may_end_line(pieces);
     'pieces: for i in 0..pieces.len() {
         line = line_behind(line, pieces, i);
-        sites.add(tight && line, pieces[i])?;
+        let over = both(tight, line);
+        sites.add(over, pieces[i])?;
     }
     let sites = sites.ordered()?;
     Ok(sites)

@@ -1,11 +1,11 @@
-use Rattle.std.proofs.Common.{refl, arith}
+use Rattle.std.proofs.Common.{arith}
 use Rattle.text_commented.proofs.Sets.{none_written, one_written}
 use Rattle.text_commented.proofs.check.are_written.Goals as goal
 
 pub comments-preserved : goal.comments-preserved
 comments-preserved c = λ after.
     let l = c.comments in
-    l.invariant (one_written c.args.whole.now c.args.found.now c.args.due.now l.i _ _ (omega arith) (omega arith) (c.is_written.ensures c.if-is_written.true) after)
+    l.invariant (one_written c.args.whole.now c.args.found.now c.args.due.now l.i _ _ (omega arith) (omega arith) (c.is_written.ensures c.if-not-is_written.false) after)
 
 pub returns : goal.returns
 returns c = λ yes.

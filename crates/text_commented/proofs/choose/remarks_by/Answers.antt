@@ -1,14 +1,14 @@
-use Rattle.std.proofs.Common.{[], ◌∷◌, subst, sym, arith}
-use Rattle.std.proofs.lemmas.List.{append_assoc, append-nil}
+use Rattle.std.proofs.Common.{[], subst, arith}
+use Rattle.std.proofs.lemmas.List.{append-nil}
 use Rattle.text_commented.specs.Chosen.{AreChosen}
-use Rattle.text_commented.proofs.Steps.{chosen_end, chosen_more}
+use Rattle.text_commented.proofs.Steps.{chosen_end, remark_more}
 use Rattle.text_commented.proofs.choose.remarks_by.Goals as goal
 
 pub comments-preserved : goal.comments-preserved
 comments-preserved c = λ all more are after.
     let l = c.comments in
-    subst (λ x. AreChosen c.args.text.now all c.args.comments.now x) (sym (append_assoc l.remarks.items (_ ∷ []) more))
-    (l.invariant all (_ ∷ more) are (chosen_more c.args.text.now all c.args.comments.now l.i _ _ more (omega arith) c.text_of.ensures (c.place_of.ensures all are) after))
+    remark_more c.args.text.now all c.args.comments.now l.i _ l.remarks.items _ _ more (omega arith) c.in_ok-push.ensures.items c.text_of.ensures (c.place_of.ensures all are)
+    (λ m h. l.invariant all m are h) after
 
 pub returns : goal.returns
 returns c = λ all are.
