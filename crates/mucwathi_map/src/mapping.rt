@@ -1,13 +1,13 @@
 //! What is written, held against where it stood in the source.
-ghost use Rattle.std.specs.Prelude.{◌≡◌, Some};
+ghost use Rattle.std.specs.Prelude.{◌≡◌, IfOk, Some};
 ghost use Rattle.swc_tree_scoping.specs.declared.places.Scope.TheVariants as scope;
 ghost use Rattle.swc_tree_scoping.specs.Places.{opened, program_place};
 ghost use Rattle.text_source.specs.Texts.{IsTextOf};
+ghost use Rattle.mucwathi_map.specs.Map.{IsMap, IsMapFor, IsNoneOrMap};
 
-use crate::encode::{Segment, encode};
-use crate::positions::Cursor;
 use crate::spots::{Spot, spots_of};
 use mucwathi_faults::RunFault;
+use mucwathi_mappings::{Mapped, map_text};
 use mucwathi_order::Order;
 use mucwathi_passes::make;
 use std::alloc::{AllocError, Global};
@@ -15,15 +15,6 @@ use std::collections::BTreeMap;
 use swc_tree_marks::PassError;
 use swc_tree_node::Node;
 use text_source::{TextFault, read_text};
-
-// Where a node stood, where it is written, and the number of its old name, from 1, if it has another now.
-#[derive(Clone, Copy, Debug, PartialEq, Eq, PartialOrd, Ord)]
-struct Pair {
-    read: u32,
-    written: u32,
-    index: u32,
-    name: u32,
-}
 
 // The names of identifiers by where they stand.
 fn names_by_place<'a>(
@@ -39,28 +30,6 @@ fn names_by_place<'a>(
     Ok(names)
 }
 
-// Old names, each once, with their numbers.
-#[derive(Drop)]
-struct Names<'a> {
-    numbers: BTreeMap<&'a str, u32>,
-    texts: Vec<&'a str>,
-}
-
-impl<'a> Names<'a> {
-    // The number of a name, from 1.
-    fn number(&mut self, name: &'a str) -> Result<u32, AllocError> {
-        if let Some(number) = self.numbers.get(&name) {
-            return Ok(*number);
-        }
-        let number = u32::try_from(self.texts.len())
-            .unwrap_or(u32::MAX)
-            .saturating_add(1);
-        self.numbers.insert(name, number)?;
-        self.texts.push(name)?;
-        Ok(number)
-    }
-}
-
 // The old name of what stood at a place, if the new one is another.
 fn old_name<'a>(olds: &BTreeMap<u32, &'a str>, new: &Spot<'_>) -> Option<&'a str> {
     let name = new.name?;
@@ -68,50 +37,22 @@ fn old_name<'a>(olds: &BTreeMap<u32, &'a str>, new: &Spot<'_>) -> Option<&'a str
     if *old == name { None } else { Some(*old) }
 }
 
-fn add_pair<'a>(
+// Adds a node of what is written, if it stands there, for one that stood in the source.
+fn add_node<'a>(
     olds: &BTreeMap<u32, &'a str>,
     new: &Spot<'_>,
     written: &Spot<'_>,
-    names: &mut Names<'a>,
-    pairs: &mut Vec<Pair>,
+    mapped: &mut Vec<Mapped<'a>>,
 ) -> Result<(), AllocError> {
     if new.span.lo == 0 || written.span.lo == 0 {
         return Ok(());
     }
-    let name = match old_name(olds, new) {
-        Some(old) => names.number(old)?,
-        None => 0,
-    };
-    pairs.push(Pair {
-        read: new.span.lo.saturating_sub(1),
-        written: written.span.lo.saturating_sub(1),
-        index: u32::try_from(pairs.len()).unwrap_or(u32::MAX),
-        name,
+    mapped.push(Mapped {
+        read: new.span.lo.saturating_sub(1) as usize,
+        written: written.span.lo.saturating_sub(1) as usize,
+        old: old_name(olds, new),
     })?;
     Ok(())
-}
-
-// The segments of pairs, in the order of what is written.
-fn segments_of(
-    alloc: Global,
-    text: &[u8],
-    pairs: &mut Vec<Pair>,
-) -> Result<Vec<Segment>, AllocError> {
-    pairs.sort()?;
-    let mut cursor = Cursor::new();
-    let mut segments = Vec::new(alloc);
-    for pair in pairs.as_slice() {
-        let place = cursor.go(text, pair.read);
-        segments.push(Segment {
-            written: pair.written,
-            index: pair.index,
-            line: place.line,
-            column: place.column,
-            name: pair.name,
-        })?;
-    }
-    segments.sort()?;
-    Ok(segments)
 }
 
 // Texts, and what they are called.
@@ -129,7 +70,9 @@ fn map_of(
     source: &Node,
     answer: &Node,
     written: &Node,
-) -> Result<Option<Vec<u8>>, AllocError> {
+) -> Result<Option<Vec<u8>>, AllocError>
+    ensures { IfOk result (IsNoneOrMap texts.entry) }
+{
     let sources = spots_of(alloc, source)?;
     let news = spots_of(alloc, answer)?;
     let outs = spots_of(alloc, written)?;
@@ -137,22 +80,11 @@ fn map_of(
         return Ok(None);
     }
     let olds = names_by_place(alloc, sources.as_slice())?;
-    let mut names = Names {
-        numbers: BTreeMap::new(alloc),
-        texts: Vec::new(alloc),
-    };
-    let mut pairs = Vec::new(alloc);
+    let mut mapped = Vec::new(alloc);
     for (new, out) in news.iter().zip(outs.iter()) {
-        add_pair(&olds, new, out, &mut names, &mut pairs)?;
+        add_node(&olds, new, out, &mut mapped)?;
     }
-    let segments = segments_of(alloc, texts.read, &mut pairs)?;
-    let map = encode(
-        alloc,
-        texts.name,
-        names.texts.as_slice(),
-        texts.written,
-        segments.as_slice(),
-    )?;
+    let map = map_text(alloc, texts.name, texts.read, texts.written, mapped.as_slice())?;
     Ok(Some(map))
 }
 
@@ -170,16 +102,18 @@ fn map_answer(
     texts: Texts<'_>,
     source: &Node,
     answer: &Node,
-) -> Result<Vec<u8>, RunFault> {
+) -> Result<Vec<u8>, RunFault>
+    ensures { IfOk result (λ map. IsMapFor texts.entry map.items) }
+{
     let written = match read_text(alloc, order.goal, order.depth, texts.written) {
         Ok(written) => written,
-        Err(TextFault::NoMemory) => return Err(RunFault::Refused(PassError::NoMemory)),
+        Err(TextFault::NoMemory) => return Err(RunFault::from(AllocError)),
         Err(_) => return Err(RunFault::NotWritten),
     };
-    let map = map_of(alloc, texts, source, answer, &written)?;
-    match map {
-        Some(map) => Ok(map),
-        None => Err(RunFault::NotWritten),
+    match map_of(alloc, texts, source, answer, &written) {
+        Ok(Some(map)) => Ok(map),
+        Ok(None) => Err(RunFault::NotWritten),
+        Err(_) => Err(RunFault::from(AllocError)),
     }
 }
 
@@ -190,6 +124,7 @@ fn map_source(
     source: &Node,
 ) -> Result<Vec<u8>, RunFault>
     requires { IsTextOf order.now.goal source.now texts.read.now }
+    ensures { IfOk result (λ map. IsMapFor texts.entry map.items) }
 {
     match answer_to(alloc, order, source) {
         Ok(answer) => map_answer(alloc, order, texts, source, &answer),
@@ -211,7 +146,9 @@ pub fn source_map(
     name: &str,
     text: &[u8],
     out: &[u8],
-) -> Result<Vec<u8>, RunFault> {
+) -> Result<Vec<u8>, RunFault>
+    ensures { IfOk result (λ map. IsMap name.now text.now out.now map.items) }
+{
     let texts = Texts {
         name,
         read: text,

@@ -1,0 +1,5 @@
+pub mod Placing
+pub mod Quoting
+pub mod Segmenting
+pub mod Steps
+pub mod Telling
