@@ -1,3 +1,4 @@
+pub mod Marking
 pub mod Placing
 pub mod Quoting
 pub mod Segmenting

@@ -1,7 +1,13 @@
 -- Places one after another.
-use Rattle.std.proofs.Common.{◌≡◌, ℕ, zero, suc, ◌≤◌, ◌<◌, List, [], ◌∷◌, ◌++◌, All, get_or, length, map, min, arith, subst, sym}
+use Rattle.std.proofs.Common.{◌≡◌, ℕ, zero, suc, ◌≤◌, ◌<◌, List, [], ◌∷◌, ◌++◌, Option, Some, Bor, All, get_or, length, map, min, arith, subst, sym, ◌∙◌, length-map}
 use Rattle.std.proofs.lemmas.Bool.Decides.{nat_tests}
+use Rattle.std.proofs.lemmas.List.{map_push}
 use Rattle.std.proofs.lemmas.List.Elements.{All-cons, All-contains, All-nil, Contains-push}
+use Rattle.std.proofs.lemmas.Map.Iter.{btree_map_turn, rest_so_far}
+use Rattle.std.specs.BTreeMap.{BTreeMap, IsOrdered}
+use Rattle.std.specs.Cmp.{nat_cmp_total}
+use Rattle.std.specs.Iterator.{Yields}
+use Rattle.std.specs.Map.Iter.{TakesFirst, deref_pair}
 use Rattle.std.specs.Ordering.{nat_cmp}
 use Rattle.std.specs.declared.cmp.Ordering.TheVariants.{Less}
 use Rattle.mucwathi_mappings.specs.declared.segments.Segment.{Segment}
@@ -32,3 +38,16 @@ pub all_before : (passed left : List (ℕ × Segment)) (place : ℕ) → ((i : �
 all_before [] left place h = All-nil (IsNoFurther place)
 all_before (e ∷ passed) left place h =
     All-cons (IsNoFurther place) e passed (less_below e.0 place (h zero 0 (omega arith))) (all_before passed left place (λ i d below. h (suc i) d (omega (arith, below))))
+
+-- ... at the next place
+pub reached : (text : List ℕ) (m : BTreeMap ℕ Segment) (xs : List (Bor ℕ × Bor Segment)) (s t u : List (ℕ × Segment)) (r : Option (Bor ℕ × Bor Segment)) (x : Bor ℕ × Bor Segment) (at : ℕ) → s ≡ m.entries → IsOrdered nat_cmp m
+    → Yields (TakesFirst deref_pair) s xs t → r ≡ Some x → TakesFirst deref_pair t r u → Reaches text (map deref_pair xs) at → at ≤ line text (min x.0.now (length text))
+reached text m xs s t u r x at all rise y is step h =
+    let turn = btree_map_turn deref_pair xs s t u r x y is step nat_cmp_total m all rise in
+    let so_far : m.entries ≡ map deref_pair xs ++ t = sym all ∙ rest_so_far deref_pair xs s t y in
+    h x.0.now (all_before (map deref_pair xs) t x.0.now (λ i d below.
+    let low : i < length xs = subst (λ n. i < n) (length-map xs deref_pair) below in
+    subst (λ (es : List (ℕ × Segment)). nat_cmp (get_or (map (λ (e : ℕ × Segment). e.0) es) i d) x.0.now ≡ Less) so_far (turn.2 i d low)))
+
+pub reaches_step : (text : List ℕ) (xs : List (Bor ℕ × Bor Segment)) (x : Bor ℕ × Bor Segment) (at : ℕ) → at ≡ line text (min x.0.now (length text)) → Reaches text (map deref_pair (xs ++ x ∷ [])) at
+reaches_step text xs x at is = subst (λ l. Reaches text l at) (sym (map_push deref_pair xs x)) (reaches_more text (map deref_pair xs) (deref_pair x) at is)

@@ -1,6 +1,7 @@
 -- The mappings of a source map: of line after line, what each place is told of.
-use Rattle.std.specs.BTreeMap.{BTreeMap}
-use Rattle.std.specs.Prelude.{◌≡◌, ℕ, zero, suc, ◌+◌, Bool, true, false, List, [], ◌∷◌, ◌++◌, length, map, min}
+use Rattle.std.specs.BTreeMap.{BTreeMap, IsOrdered}
+use Rattle.std.specs.Ordering.{nat_cmp}
+use Rattle.std.specs.Prelude.{◌≡◌, ℕ, ◌+◌, Bool, true, false, List, [], ◌∷◌, ◌++◌, Option, Some, None, length, map, min, unwrap_or}
 use Rattle.mucwathi_mappings.specs.Numbers.{AddsWay, IsNumber, way}
 use Rattle.mucwathi_mappings.specs.Positions.{column, line}
 use Rattle.mucwathi_mappings.specs.declared.encode.Entry.{Entry}
@@ -9,20 +10,15 @@ use Rattle.mucwathi_mappings.specs.declared.segments.Segment.{Segment}
 
 -- before all entries
 abbrev pub start : Told
-start = record { line = 0; column = 0; source_line = 0; source_column = 0; name = 1; begun = false }
+start = record { line = 0; column = 0; source_line = 0; source_column = 0; name = 0; begun = false }
 
 -- behind a line
 abbrev pub line_behind : Told → Told
 line_behind t = record { line = t.line + 1; column = 0; source_line = t.source_line; source_column = t.source_column; name = t.name; begun = false }
 
--- the last name, if there is one
-abbrev pub last_name : ℕ → ℕ → ℕ
-last_name last zero = last
-last_name last (suc n) = suc n
-
 -- behind an entry
 abbrev pub entry_behind : Told → Entry → Told
-entry_behind t e = record { line = t.line; column = e.column; source_line = e.source_line; source_column = e.source_column; name = last_name t.name e.name; begun = true }
+entry_behind t e = record { line = t.line; column = e.column; source_line = e.source_line; source_column = e.source_column; name = unwrap_or e.name t.name; begun = true }
 
 -- a comma between entries of one line
 abbrev pub comma : Bool → List ℕ
@@ -30,9 +26,9 @@ comma true = 44 ∷ []
 comma false = []
 
 -- what is written for the number of a name, told against the last
-abbrev pub IsName : ℕ → ℕ → List ℕ → Type 0
-IsName last zero ds = ds ≡ []
-IsName last (suc n) ds = IsNumber (way last (suc n)) ds
+abbrev pub IsName : ℕ → Option ℕ → List ℕ → Type 0
+IsName last None ds = ds ≡ []
+IsName last (Some n) ds = IsNumber (way last n) ds
 
 -- what is written for an entry: the ways to its column, to the first source, to the line and the column there, and to its name
 pub record IsEntry (t : Told) (e : Entry) (text : List ℕ) : Type 0 where
@@ -58,7 +54,7 @@ pub record Continues (t : Told) (es : List Entry) (old new : List ℕ) (there : 
   pub whole : new ≡ old ++ text
   pub goes_on : (us : List Entry) (rest : List ℕ) → AreMappings there us rest → AreMappings t (es ++ us) (text ++ rest)
 
-pub record AddsName (last name : ℕ) (old new : List ℕ) : Type 0 where
+pub record AddsName (last : ℕ) (name : Option ℕ) (old new : List ℕ) : Type 0 where
   pub text : List ℕ
   pub whole : new ≡ old ++ text
   pub is : IsName last name text
@@ -73,8 +69,9 @@ entry_of text (place, s) = record {
   name = s.name
 }
 
--- the mappings of places were added
+-- the mappings of places, which rise, were added
 pub record AddsMappings (text : List ℕ) (places : BTreeMap ℕ Segment) (old new : List ℕ) : Type 0 where
   pub mappings : List ℕ
   pub whole : new ≡ old ++ mappings
+  pub rise : IsOrdered nat_cmp places
   pub are : AreMappings start (map (entry_of text) places.entries) mappings

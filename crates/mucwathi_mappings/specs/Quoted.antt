@@ -4,9 +4,13 @@ use Rattle.std.specs.Prelude.{ℕ, ◌/◌, ◌%◌, List, [], ◌∷◌, ◌++�
 abbrev pub hex : ℕ → ℕ
 hex n = slice_index (codes "0123456789abcdef") n
 
+-- a quote or a backslash
+abbrev pub takes_backslash : ℕ → Bool
+takes_backslash b = nat_eq b 34 || nat_eq b 92
+
 -- a byte in quotes
 abbrev pub escaped : ℕ → List ℕ
-escaped b = if nat_eq b 34 || nat_eq b 92 then 92 ∷ b ∷ [] else if nat_lt b 32 then 92 ∷ 117 ∷ 48 ∷ 48 ∷ hex (b / 16) ∷ hex (b % 16) ∷ [] else (b ∷ [])
+escaped b = if takes_backslash b then 92 ∷ b ∷ [] else if nat_lt b 32 then 92 ∷ 117 ∷ 48 ∷ 48 ∷ hex (b / 16) ∷ hex (b % 16) ∷ [] else (b ∷ [])
 
 abbrev pub escaped_all : List ℕ → List ℕ
 escaped_all [] = []

@@ -2,7 +2,7 @@
 use Rattle.std.specs.Borrow.{Bor}
 use Rattle.std.specs.BTreeMap.{BTreeMap, get}
 use Rattle.std.specs.Ordering.{nat_cmp}
-use Rattle.std.specs.Prelude.{◌≡◌, ℕ, zero, suc, List, [], ◌∷◌, ◌++◌, Option, Some, None, nat_eq, if◌then◌else◌, length, min, slice_get}
+use Rattle.std.specs.Prelude.{◌≡◌, ℕ, List, [], ◌∷◌, ◌++◌, Option, Some, None, nat_eq, if◌then◌else◌, length, min, slice_get}
 use Rattle.mucwathi_mappings.specs.Positions.{column, line}
 use Rattle.mucwathi_mappings.specs.declared.segments.Mapped.{Mapped}
 use Rattle.mucwathi_mappings.specs.declared.segments.Segment.{Segment}
@@ -10,19 +10,15 @@ use Rattle.mucwathi_mappings.specs.declared.segments.Segment.{Segment}
 abbrev pub text_of : Bor (List ℕ) → List ℕ
 text_of t = t.now
 
--- the name of a number, from 1
-abbrev pub name_of : List (List ℕ) → ℕ → Option (List ℕ)
-name_of names zero = None
-name_of names (suc n) = slice_get names n
-
 -- some names more
 abbrev pub GoesOn : List (Bor (List ℕ)) → List (Bor (List ℕ)) → Type 0
 GoesOn old new = (more : List (Bor (List ℕ))) × (new ≡ old ++ more)
 
--- a number tells the old name, and 0 that there is none
-abbrev pub IsNumberOf : List (List ℕ) → Option (Bor (List ℕ)) → ℕ → Type 0
-IsNumberOf names None n = n ≡ 0
-IsNumberOf names (Some old) n = name_of names n ≡ Some old.now
+-- the number of the old name, where there is one
+abbrev pub IsNumberOf : List (List ℕ) → Option (Bor (List ℕ)) → Option ℕ → Type 0
+IsNumberOf names None n = n ≡ None
+IsNumberOf names (Some old) None = ⊥
+IsNumberOf names (Some old) (Some n) = slice_get names n ≡ Some old.now
 
 -- where a node is written, the position where it stood in the source, and its old name
 pub record IsSegment (source : List ℕ) (names : List (List ℕ)) (m : Mapped) (s : Segment) : Type 0 where

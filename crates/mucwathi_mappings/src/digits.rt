@@ -7,10 +7,11 @@ use std::alloc::AllocError;
 
 const DIGITS: &[u8; 64] = b"ABCDEFGHIJKLMNOPQRSTUVWXYZabcdefghijklmnopqrstuvwxyz0123456789+/";
 
+// A digit; of no greater number is one asked for.
 fn digit(value: u64) -> u8
     ensures { result ≡ spec.digit value }
 {
-    DIGITS.get(value as usize).copied().unwrap_or(b'A')
+    DIGITS.get(value as usize).copied().unwrap_or(0)
 }
 
 // Adds a number: five bits a digit, the least first, and 32 more where others follow. There are 13 digits at most.

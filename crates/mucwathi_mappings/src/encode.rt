@@ -1,6 +1,6 @@
 //! A source map as JSON.
-ghost use Rattle.std.specs.Prelude.{◌≡◌, ◌≤◌, ◌++◌, [], ◌∷◌, All, IfOk, OnOk, map};
-ghost use Rattle.mucwathi_mappings.specs.Mappings.{AddsMappings, AddsName, Continues, comma, entry_of, last_name};
+ghost use Rattle.std.specs.Prelude.{◌≡◌, ◌≤◌, ◌++◌, [], ◌∷◌, All, IfOk, OnOk, map, unwrap_or};
+ghost use Rattle.mucwathi_mappings.specs.Mappings.{AddsMappings, AddsName, Continues, comma, entry_of};
 ghost use Rattle.mucwathi_mappings.specs.Maps.{IsMapOf};
 ghost use Rattle.mucwathi_mappings.specs.Positions.{IsMark};
 ghost use Rattle.mucwathi_mappings.specs.Segments.{text_of};
@@ -13,17 +13,17 @@ use crate::segments::{Mapped, Segment, by_place, segments_of};
 use std::alloc::{AllocError, Global};
 use std::collections::BTreeMap;
 
-/// A position of what is written, that where it stood in the source, and the number of its old name, from 1; 0 where it has no other.
+/// A position of what is written, that where it stood in the source, and the number of its old name, if it has another now.
 #[derive(Clone, Copy, Debug)]
 pub(crate) struct Entry {
     pub line: usize,
     pub column: usize,
     pub source_line: usize,
     pub source_column: usize,
-    pub name: usize,
+    pub name: Option<usize>,
 }
 
-/// What the next entry is told against: the last in each, the first name before all, and whether an entry stands in the line.
+/// What the next entry is told against: the last in each, and whether an entry stands in the line.
 #[derive(Clone, Copy, Debug)]
 pub(crate) struct Told {
     pub line: usize,
@@ -39,7 +39,7 @@ const START: Told = Told {
     column: 0,
     source_line: 0,
     source_column: 0,
-    name: 1,
+    name: 0,
     begun: false,
 };
 
@@ -61,14 +61,16 @@ fn go_to_line(out: &mut Vec<u8>, told: Told, line: usize) -> Result<Told, AllocE
     Ok(here)
 }
 
-fn add_name(out: &mut Vec<u8>, last: usize, name: usize) -> Result<usize, AllocError>
-    ensures { IfOk result (λ n. AddsName last name out.old.items out.new.items × (n ≡ last_name last name)) }
+fn add_name(out: &mut Vec<u8>, last: usize, name: Option<usize>) -> Result<usize, AllocError>
+    ensures { IfOk result (λ n. AddsName last name out.old.items out.new.items × (n ≡ unwrap_or name last)) }
 {
-    if name == 0 {
-        return Ok(last);
+    match name {
+        Some(number) => {
+            add_way(out, last, number)?;
+            Ok(number)
+        }
+        None => Ok(last),
     }
-    add_way(out, last, name)?;
-    Ok(name)
 }
 
 fn add_comma(out: &mut Vec<u8>, begun: bool) -> Result<(), AllocError>

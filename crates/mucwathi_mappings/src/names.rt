@@ -1,6 +1,6 @@
 //! Old names, each with its number.
-ghost use Rattle.std.specs.Prelude.{◌≡◌, IfOk, Some, map, true};
-ghost use Rattle.mucwathi_mappings.specs.Segments.{GoesOn, name_of, text_of};
+ghost use Rattle.std.specs.Prelude.{◌≡◌, IfOk, IfSome, Some, map, slice_get, true};
+ghost use Rattle.mucwathi_mappings.specs.Segments.{GoesOn, text_of};
 
 use std::alloc::{AllocError, Global};
 use std::collections::BTreeMap;
@@ -12,12 +12,9 @@ pub(crate) struct Names<'a> {
 }
 
 fn has_name(texts: &[&str], number: usize, name: &str) -> bool
-    ensures { result ≡ true → name_of (map text_of texts.now) number ≡ Some name.now }
+    ensures { result ≡ true → slice_get (map text_of texts.now) number ≡ Some name.now }
 {
-    if number == 0 {
-        return false;
-    }
-    match texts.get(number - 1) {
+    match texts.get(number) {
         Some(text) => *text == name,
         None => false,
     }
@@ -31,17 +28,28 @@ impl<'a> Names<'a> {
         }
     }
 
-    /// The number of a name, from 1.
-    pub(crate) fn number(&mut self, name: &'a str) -> Result<usize, AllocError>
-        ensures { IfOk result (λ n. GoesOn self.old.texts.items self.new.texts.items × (name_of (map text_of self.new.texts.items) n ≡ Some name.entry.now)) }
+    // The number of a name that is known.
+    fn known(&self, name: &'a str) -> Option<usize>
+        ensures { IfSome result (λ n. slice_get (map text_of self.now.texts.items) n ≡ Some name.entry.now) }
     {
-        if let Some(number) = self.numbers.get(&name)
-            && has_name(self.texts.as_slice(), *number, name)
-        {
-            return Ok(*number);
+        let Some(number) = self.numbers.get(&name) else {
+            return None;
+        };
+        if has_name(self.texts.as_slice(), *number, name) {
+            return Some(*number);
         }
+        None
+    }
+
+    /// The number of a name, from 0.
+    pub(crate) fn number(&mut self, name: &'a str) -> Result<usize, AllocError>
+        ensures { IfOk result (λ n. GoesOn self.old.texts.items self.new.texts.items × (slice_get (map text_of self.new.texts.items) n ≡ Some name.entry.now)) }
+    {
+        if let Some(number) = self.known(name) {
+            return Ok(number);
+        }
+        let number = self.texts.as_slice().len();
         self.texts.push(name)?;
-        let number = self.texts.len();
         self.numbers.insert(name, number)?;
         Ok(number)
     }

@@ -1,5 +1,5 @@
 //! Lines and columns as source maps have them: both from 0, columns in units of UTF-16.
-ghost use Rattle.std.specs.Prelude.{◌≡◌, ◌+◌, ◌<◌, ◌≤◌, All, IfOk, length, min, slice_index};
+ghost use Rattle.std.specs.Prelude.{◌≡◌, ◌+◌, ◌<◌, ◌≤◌, All, IfOk, OnOk, length, min, slice_index};
 ghost use Rattle.text_places.specs.Places as places;
 ghost use Rattle.mucwathi_mappings.specs.Positions as spec;
 ghost use Rattle.mucwathi_mappings.specs.Positions.{IsMark, IsPosition};
@@ -90,8 +90,31 @@ pub(crate) struct Mark {
 
 const START: Position = Position { line: 0, column: 0 };
 
+const FIRST: Mark = Mark {
+    at: 0,
+    position: START,
+};
+
 // How far marks are from one another.
 const STRIDE: usize = 64;
+
+// Adds a mark at every so many bytes.
+fn add_mark(
+    text: &[u8],
+    at: usize,
+    position: Position,
+    marks: &mut Vec<Mark>,
+) -> Result<(), AllocError>
+    requires within { at ≤ length text.now }
+    requires placed { IsPosition text.now at position }
+    requires before { All (IsMark text.now) marks.old.items }
+    ensures { OnOk result (All (IsMark text.now) marks.new.items) }
+{
+    if at % STRIDE == 0 {
+        marks.push(Mark { at, position })?;
+    }
+    Ok(())
+}
 
 /// Marks in a text, one after another: from the nearest each position is found in few steps.
 pub(crate) fn marks_of(alloc: Global, text: &[u8]) -> Result<Vec<Mark>, AllocError>
@@ -100,12 +123,28 @@ pub(crate) fn marks_of(alloc: Global, text: &[u8]) -> Result<Vec<Mark>, AllocErr
     let mut marks = Vec::new(alloc);
     let mut position = START;
     for at in 0..text.len() {
-        if at % STRIDE == 0 {
-            marks.push(Mark { at, position })?;
-        }
+        add_mark(text, at, position, &mut marks)?;
         position = step(text, at, position);
     }
     Ok(marks)
+}
+
+// The nearest mark before a place.
+fn mark_before(text: &[u8], marks: &[Mark], end: usize) -> Mark
+    requires { All (IsMark text.now) marks.now }
+    ensures is { IsMark text.now result }
+    ensures low { result.at ≤ end }
+{
+    match marks.get(end / STRIDE) {
+        Some(mark) => {
+            if mark.at <= end {
+                *mark
+            } else {
+                FIRST
+            }
+        }
+        None => FIRST,
+    }
 }
 
 /// The position of what stands behind so many bytes of a text; more bytes than it has are its end.
@@ -114,10 +153,6 @@ pub(crate) fn position_at(text: &[u8], marks: &[Mark], at: usize) -> Position
     ensures { IsPosition text.now (min at (length text.now)) result }
 {
     let end = at.min(text.len());
-    if let Some(mark) = marks.get(end / STRIDE)
-        && mark.at <= end
-    {
-        return walk(text, mark.at, end, mark.position);
-    }
-    walk(text, 0, end, START)
+    let mark = mark_before(text, marks, end);
+    walk(text, mark.at, end, mark.position)
 }

@@ -27,16 +27,22 @@ pub(crate) struct Segment {
     /// The line in the source, from 0.
     pub line: usize,
     pub column: usize,
-    /// The number of its old name, from 1; 0 where it has no other.
-    pub name: usize,
+    /// The number of its old name, if it has another now.
+    pub name: Option<usize>,
 }
 
-fn number_of<'a>(old: Option<&'a str>, names: &mut Names<'a>) -> Result<usize, AllocError>
+fn number_of<'a>(
+    old: Option<&'a str>,
+    names: &mut Names<'a>,
+) -> Result<Option<usize>, AllocError>
     ensures { IfOk result (λ n. GoesOn names.old.texts.items names.new.texts.items × IsNumberOf (map text_of names.new.texts.items) old.entry n) }
 {
     match old {
-        Some(old) => names.number(old),
-        None => Ok(0),
+        Some(old) => {
+            let number = names.number(old)?;
+            Ok(Some(number))
+        }
+        None => Ok(None),
     }
 }
 
@@ -72,7 +78,8 @@ pub(crate) fn segments_of<'a>(
 {
     let mut segments = Vec::new(alloc);
     for each in mapped {
-        segments.push(segment_of(text, marks, each, names)?)?;
+        let segment = segment_of(text, marks, each, names)?;
+        segments.push(segment)?;
     }
     Ok(segments)
 }

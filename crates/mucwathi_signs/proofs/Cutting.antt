@@ -1,7 +1,10 @@
 -- One sign less.
-use Rattle.std.proofs.Common.{◌≡◌, ℕ, ◌+◌, ◌-◌, ◌≤◌, List, [], ◌∷◌, ◌++◌, length, drop, take, arith, refl, sym, ap, ◌∙◌, subst, add_assoc, add-zero, length-append}
-use Rattle.std.proofs.lemmas.List.{append-nil, append_assoc, drop-drop, take-append-drop}
+use Rattle.std.proofs.Common.{◌≡◌, ℕ, ◌+◌, ◌-◌, ◌≤◌, Bool, IsTrue, nat_eq, List, [], ◌∷◌, ◌++◌, length, drop, take, arith, refl, sym, ap, ◌∙◌, subst, length-append}
+use Rattle.std.proofs.lemmas.Bool.Decides.{Decides-eqb}
+use Rattle.std.proofs.lemmas.List.{append-nil, append_assoc, take-append-drop}
+use Rattle.std.proofs.lemmas.Slice.Eq.{slice_eq-Decides}
 use Rattle.std.proofs.Math.Seq.{take-add}
+use Rattle.std.specs.Cmp.Lexicographic.{pointwise}
 use Rattle.mucwathi_signs.specs.declared.sign.Sign.{Sign}
 use Rattle.mucwathi_signs.specs.Cut.{IsWrittenAt}
 use Rattle.mucwathi_signs.specs.Signed.{IsMarked, sign_text}
@@ -26,8 +29,17 @@ joined us c d (IsMarked.marked n s ss before text out at h) k =
     subst (λ l. IsMarked n (s ∷ (ss ++ us)) l ((before ++ sign_text s.marks.items ++ out) ++ d)) (sym (append_assoc before text c))
     (subst (λ l. IsMarked n (s ∷ (ss ++ us)) (before ++ (text ++ c)) l) (simp append_assoc) one)
 
-pub cut_none : (text : List ℕ) → IsMarked 0 [] [] (take 0 text)
-cut_none text = IsMarked.plain 0 []
+pub cut_none : (text plain : List ℕ) (ss : List Sign) → plain ≡ [] → ss ≡ [] → IsMarked 0 ss plain (take 0 text)
+cut_none text plain ss empty none = subst (λ l. IsMarked 0 l plain (take 0 text)) (sym none) (subst (λ l. IsMarked 0 [] l (take 0 text)) (sym empty) (IsMarked.plain 0 []))
+
+-- what is just what is written for marks
+pub written_at : (text : List ℕ) (from to : ℕ) (marks part old written : List ℕ) (same : Bool) → (from ≤ to) × (to ≤ length text) → part ≡ take (to - from) (drop from text) → old ≡ [] → written ≡ old ++ sign_text marks → same ≡ pointwise nat_eq part written
+    → IsTrue same → IsWrittenAt text from to marks
+written_at text from to marks part old written same within is empty added test h = record {
+  low = within.0;
+  high = within.1;
+  written = sym is ∙ (slice_eq-Decides Decides-eqb part written same test).0 h ∙ added ∙ ap (λ (l : List ℕ). l ++ sign_text marks) empty;
+}
 
 -- what is before a sign, and the sign
 pub cut_more : (text : List ℕ) (from at to : ℕ) (s : Sign) (ss : List Sign) (plain : List ℕ) → from ≤ at → IsWrittenAt text at to s.marks.items → s.at ≡ length (plain ++ take (at - from) (drop from text)) → IsMarked 0 ss plain (take from text)

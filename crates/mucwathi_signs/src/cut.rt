@@ -30,7 +30,8 @@ fn is_written(
     };
     let mut written = Vec::new(alloc);
     add_sign(alloc, marks, &mut written)?;
-    Ok(part == written.as_slice())
+    let same = part == written.as_slice();
+    Ok(same)
 }
 
 // Adds what is before a sign, from a place on, and notes the sign; tells the place behind. What is not written as its marks stays.
@@ -44,30 +45,31 @@ fn cut_sign(
     requires { IsCutTo text.now from cut.old }
     ensures { IfOk result (λ to. IsCutTo text.now to cut.new) }
 {
-    if found.from < from {
+    let Found {
+        from: begin,
+        to: end,
+        marks,
+    } = found;
+    if begin < from {
         return Ok(from);
     }
-    let is_sign = is_written(alloc, text, found.from, found.to, found.marks.as_slice())?;
+    let is_sign = is_written(alloc, text, begin, end, marks.as_slice())?;
     if !is_sign {
         return Ok(from);
     }
-    cut.text.extend_from_slice(&text[from..found.from])?;
-    let at = cut.text.len();
-    cut.signs.push(Sign {
-        at,
-        marks: found.marks,
-    })?;
-    Ok(found.to)
+    cut.text.extend_from_slice(&text[from..begin])?;
+    let at = cut.text.as_slice().len();
+    cut.signs.push(Sign { at, marks })?;
+    Ok(end)
 }
 
 /// A text without signs that were found in it, and these: with them written into what is left it is the text.
 pub fn cut_signs(alloc: Global, text: &[u8], found: Vec<Found>) -> Result<Cut, AllocError>
     ensures { IfOk result (λ cut. IsMarked 0 cut.signs.items cut.text.items text.now) }
 {
-    let mut cut = Cut {
-        text: Vec::new(alloc),
-        signs: Vec::new(alloc),
-    };
+    let left = Vec::new(alloc);
+    let signs = Vec::new(alloc);
+    let mut cut = Cut { text: left, signs };
     let mut from = 0;
     for sign in found {
         from = cut_sign(alloc, text, from, sign, &mut cut)?;

@@ -5,7 +5,7 @@ use Rattle.mucwathi_signs.proofs.Cutting.{cut_all, cut_none}
 use Rattle.mucwathi_signs.proofs.cut.cut_signs.Goals as goal
 
 pub loop-sign-init : goal.loop-sign-init
-loop-sign-init c = record { within = omega arith; marked = cut_none c.args.text.now }
+loop-sign-init c = record { within = omega arith; marked = cut_none c.args.text.now c.new-left.result.items c.new-signs.result.items c.new-left.ensures.items c.new-signs.ensures.items }
 
 pub returns : goal.returns
 returns c =
