@@ -14,7 +14,7 @@ use Rattle.mucwathi_faults.specs.declared.fault.RunFault.TheVariants as running
 use Rattle.mucwathi_order.specs.declared.order.Order.{Order}
 use Rattle.mucwathi_report.specs.declared.reports.Named.{Named}
 use Rattle.mucwathi_report.specs.Status.{run_status, text_status}
-use Rattle.mucwathi_answers.specs.Answers.{HasList, IsAnswered, IsAsked, IsAskedOfTwo, IsFaultTold, IsGoalOf, IsMemoryFault, IsTold, IsWell, IsWorked, goal_asked, order_for}
+use Rattle.mucwathi_answers.specs.Answers.{HasList, HasMap, IsAnswered, IsAsked, IsAskedOfTwo, IsFaultTold, IsGoalOf, IsMemoryFault, IsTold, IsWell, IsWorked, goal_asked, order_for}
 use Rattle.mucwathi_answers.specs.declared.answer.Answer.{Answer}
 
 -- ---- goals
@@ -52,7 +52,7 @@ module _ (task : Rewriting) (prefix : List ℕ) (of : Named) where
   -- what is told in the place of an answer is none
   pub explained : (g : Goal) (r : Result Answer RunFault) (order : Order) → order ≡ order_for task g → IsAsked task.goal of g → task.explains ≡ true → MatchResult r IsWell (IsRunFault order of.text.now) → MatchResult r (IsWorked task prefix of) (IsTold task of)
   explained g (Ok a) order is asked tells well = record { well = well; made = λ lists explains. absurd (cc); listed = λ lists explains. absurd (cc) }
-  explained g (Err f) order is asked tells fault = λ map. record { goal = g; asked = asked; told = subst (λ order. IsRunFault order of.text.now f) is fault }
+  explained g (Err f) order is asked tells fault = record { goal = g; asked = asked; told = subst (λ order. IsRunFault order of.text.now f) is fault }
 
   pub listed : (g : Goal) (r : Result Answer RunFault) (order : Order) → order ≡ order_for task g → IsAsked task.goal of g → task.lists ≡ true
       → MatchResult r (λ a. IsWell a × HasList order prefix of.text.now a.out.items) (IsRunFault order of.text.now) → MatchResult r (IsWorked task prefix of) (IsTold task of)
@@ -61,16 +61,21 @@ module _ (task : Rewriting) (prefix : List ℕ) (of : Named) where
     made = λ none explains. absurd (cc);
     listed = λ all explains. record { goal = g; asked = asked; list = subst (λ order. HasList order prefix of.text.now a.out.items) is h.1 };
   }
-  listed g (Err f) order is asked lists fault = λ map. record { goal = g; asked = asked; told = subst (λ order. IsRunFault order of.text.now f) is fault }
+  listed g (Err f) order is asked lists fault = record { goal = g; asked = asked; told = subst (λ order. IsRunFault order of.text.now f) is fault }
 
   pub worked : (g : Goal) (r : Result Answer RunFault) (order : Order) → order ≡ order_for task g → IsAsked task.goal of g → task.lists ≡ false
-      → MatchResult r (λ a. IsWell a × IsRewritten order of.text.now a.out.items) (λ f. task.map ≡ None → IsRunFault order of.text.now f) → MatchResult r (IsWorked task prefix of) (IsTold task of)
+      → MatchResult r (λ a. IsWell a × IsRewritten order of.text.now a.out.items × HasMap task.map order of a.out.items a.map.items) (IsRunFault order of.text.now) → MatchResult r (IsWorked task prefix of) (IsTold task of)
   worked g (Ok a) order is asked none h = record {
     listed = λ lists explains. absurd (cc);
     well = h.0;
-    made = λ lists explains. record { goal = g; asked = asked; rewritten = subst (λ order. IsRewritten order of.text.now a.out.items) is h.1 };
+    made = λ lists explains. record {
+      goal = g;
+      asked = asked;
+      rewritten = subst (λ order. IsRewritten order of.text.now a.out.items) is h.1;
+      mapped = subst (λ order. HasMap task.map order of a.out.items a.map.items) is h.2;
+    };
   }
-  worked g (Err f) order is asked none h = λ map. record { goal = g; asked = asked; told = subst (λ order. IsRunFault order of.text.now f) is (h map) }
+  worked g (Err f) order is asked none h = record { goal = g; asked = asked; told = subst (λ order. IsRunFault order of.text.now f) is h }
 
   pub well_answered : (a : Answer) → IsWorked task prefix of a → IsAnswered task prefix of a
   well_answered a h = record { well = λ well. h; fault = λ other. absurd (other h.well) }

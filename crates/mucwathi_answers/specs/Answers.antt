@@ -1,5 +1,6 @@
 -- What is answered to a task over texts.
 use Rattle.std.specs.Prelude.{◌≡◌, ◌<◌, Bool, true, false, ℕ, nat_eq, codes, List, [], Option, Some, None}
+use Rattle.std.specs.Borrow.{Bor}
 use Rattle.std.specs.List.{ends_with}
 use Rattle.std.specs.Option.{option_or}
 use Rattle.swc_tree_marks.specs.declared.error.PassError.TheVariants as refusal
@@ -25,6 +26,7 @@ use Rattle.mucwathi_looks.specs.Looks.{IsUnlooked}
 use Rattle.mucwathi_looks.specs.Marked.{HasSigns}
 use Rattle.mucwathi_looks.specs.Names.{HasFreeNames}
 use Rattle.mucwathi_looks.specs.Trees.{HasTree}
+use Rattle.mucwathi_map.specs.Map.{IsMap}
 use Rattle.mucwathi_page.specs.Shown.{IsPage}
 use Rattle.mucwathi_report.specs.declared.reports.Named.{Named}
 use Rattle.mucwathi_report.specs.Status.{judge_status, run_status}
@@ -79,11 +81,17 @@ IsWell a = a.status ≡ 0
 abbrev pub IsMemoryFault : RunFault → Type 0
 IsMemoryFault f = f ≡ Refused refusal.NoMemory
 
--- what is written for a text is what was asked for
-pub record IsMade (task : Rewriting) (of : Named) (out : List ℕ) : Type 0 where
+-- a source map tells of what is written, where one is asked for
+abbrev pub HasMap : Option (Bor (List ℕ)) → Order → Named → List ℕ → List ℕ → Type 0
+HasMap None order of out map = Unit {0}
+HasMap (Some path) order of out map = IsMap order of.name.now of.text.now out map
+
+-- what is written for a text is what was asked for, and so is its map
+pub record IsMade (task : Rewriting) (of : Named) (out map : List ℕ) : Type 0 where
   pub goal : Goal
   pub asked : IsAsked task.goal of goal
   pub rewritten : IsRewritten (order_for task goal) of.text.now out
+  pub mapped : HasMap task.map (order_for task goal) of out map
 
 -- a list has the names that are given anew in a text, each in its line
 pub record HasList (order : Order) (prefix text out : List ℕ) : Type 0 where
@@ -100,17 +108,14 @@ pub record IsListed (task : Rewriting) (prefix : List ℕ) (of : Named) (out : L
 -- all is well, and so it is where nothing else is told in its place
 pub record IsWorked (task : Rewriting) (prefix : List ℕ) (of : Named) (a : Answer) : Type 0 where
   pub well : IsWell a
-  pub made : task.lists ≡ false → task.explains ≡ false → IsMade task of a.out.items
+  pub made : task.lists ≡ false → task.explains ≡ false → IsMade task of a.out.items a.map.items
   pub listed : task.lists ≡ true → task.explains ≡ false → IsListed task prefix of a.out.items
 
--- a fault tells of the text, as what it is read, where no map is asked for
-pub record IsFaultOf (task : Rewriting) (of : Named) (f : RunFault) : Type 0 where
+-- a fault tells of the text, as what it is read
+pub record IsTold (task : Rewriting) (of : Named) (f : RunFault) : Type 0 where
   pub goal : Goal
   pub asked : IsAsked task.goal of goal
   pub told : IsRunFault (order_for task goal) of.text.now f
-
-abbrev pub IsTold : Rewriting → Named → RunFault → Type 0
-IsTold task of f = task.map ≡ None → IsFaultOf task of f
 
 -- status 0 is only given where all is well; with another nothing is written, and it is that of a fault
 pub record IsAnswered (task : Rewriting) (prefix : List ℕ) (of : Named) (a : Answer) : Type 0 where

@@ -1,10 +1,10 @@
 //! What is made of a text.
-ghost use Rattle.std.specs.Prelude.{◌≡◌, None, IsOk, IfOk, MatchResult};
+ghost use Rattle.std.specs.Prelude.{◌≡◌, None, IfOk, MatchResult};
 ghost use Rattle.text_parser.specs.declared.programs.Goal.TheVariants as kinds;
 ghost use Rattle.mucwathi_commands.specs.Faults.{IsRunFault};
 ghost use Rattle.mucwathi_commands.specs.Written.{IsRewritten};
 ghost use Rattle.mucwathi_lists.specs.Listed.{changes_listed};
-ghost use Rattle.mucwathi_answers.specs.Answers.{HasList, IsAnswered, IsAsked, IsMemoryFault, IsTold, IsWell, IsWorked, goal_asked as is_asked, keeps_top, order_for as order_of};
+ghost use Rattle.mucwathi_answers.specs.Answers.{HasList, HasMap, IsAnswered, IsAsked, IsMemoryFault, IsTold, IsWell, IsWorked, goal_asked as is_asked, keeps_top, order_for as order_of};
 
 use crate::answer::{Answer, DEPTH};
 use crate::goals::{further, goal_asked, may_be_module};
@@ -94,7 +94,7 @@ fn map_for(
     of: Named<'_>,
     out: &[u8],
 ) -> Result<Vec<u8>, RunFault>
-    ensures { task.now.map ≡ None → IsOk result }
+    ensures { MatchResult result (λ map. HasMap task.now.map order.now of.entry out.now map.items) (IsRunFault order.now of.entry.text.now) }
 {
     match task.map {
         None => Ok(Vec::new(alloc)),
@@ -111,7 +111,7 @@ fn with_map(
     out: Vec<u8>,
 ) -> Result<Answer, RunFault>
     requires { IsRewritten order.now of.text.now out.items }
-    ensures { MatchResult result (λ a. IsWell a × IsRewritten order.now of.entry.text.now a.out.items) (λ _. task.now.map ≡ None → ⊥) }
+    ensures { MatchResult result (λ a. IsWell a × IsRewritten order.now of.entry.text.now a.out.items × HasMap task.now.map order.now of.entry a.out.items a.map.items) (IsRunFault order.now of.entry.text.now) }
 {
     match map_for(alloc, task, order, of, out.as_slice()) {
         Ok(map) => Ok(Answer {
@@ -130,7 +130,7 @@ fn rewrite(
     order: &Order,
     of: Named<'_>,
 ) -> Result<Answer, RunFault>
-    ensures { MatchResult result (λ a. IsWell a × IsRewritten order.now of.entry.text.now a.out.items) (λ f. task.now.map ≡ None → IsRunFault order.now of.entry.text.now f) }
+    ensures { MatchResult result (λ a. IsWell a × IsRewritten order.now of.entry.text.now a.out.items × HasMap task.now.map order.now of.entry a.out.items a.map.items) (IsRunFault order.now of.entry.text.now) }
 {
     match rewrite_text(alloc, order, of.text) {
         Ok(out) => with_map(alloc, task, order, of, out),
@@ -216,7 +216,7 @@ fn answer(
 /// What is made of a text, or told of it; each line of a list begins with the prefix.
 ///
 /// With status 0, and where nothing is told in its place, what is written is what was asked for (`IsRewritten` of `mucwathi_commands`). With
-/// another nothing is written, and the status is that of a fault, which tells of the text unless a map is asked for.
+/// another nothing is written, and the status is that of a fault, which tells of the text.
 pub fn answer_rewriting(
     alloc: Global,
     task: &Rewriting<'_>,

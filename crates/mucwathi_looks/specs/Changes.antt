@@ -6,6 +6,7 @@ use Rattle.swc_tree_node.specs.declared.node.Node.{Node}
 use Rattle.swc_tree_scoping.specs.declared.places.Standing.{Standing}
 use Rattle.swc_tree_scoping.specs.Places.{program_place}
 use Rattle.swc_tree_walk.specs.Sites.{sites}
+use Rattle.text_source.specs.Texts.{SpansAreOf}
 use Rattle.mucwathi_faults.specs.declared.fault.RunFault.{RunFault}
 use Rattle.mucwathi_faults.specs.declared.fault.RunFault.TheVariants.{Refused}
 use Rattle.mucwathi_order.specs.declared.order.Order.{Order}
@@ -22,11 +23,12 @@ seen_of s = (s.1.span.lo, s.1.sym)
 abbrev pub changes_between : Node → Node → List Renamed
 changes_between source answer = all_changed (map seen_of (sites program_place source)) (map seen_of (sites program_place answer))
 
--- what was read is the text of a program, and these are told of what the command makes of it
+-- what was read is the text of a program, whose names stand in it where their spans say, and these are told of what the command makes of it
 pub record HasChanges (order : Order) (text : List ℕ) (changes : List Change) : Type 0 where
   pub source : Node
   pub answer : Node
   pub read : IsReadAs order.goal source text
+  pub stands : SpansAreOf order.goal source text
   pub made : Makes order.command order.settings source answer
   pub are : map told changes ≡ changes_between source answer
 

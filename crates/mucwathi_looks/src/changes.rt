@@ -1,6 +1,7 @@
 //! What a command changes.
 ghost use Rattle.std.specs.Prelude.{◌≡◌, IfOk, MatchResult, map};
 ghost use Rattle.swc_tree_walk.specs.Sites.{site_of};
+ghost use Rattle.text_source.specs.Texts.{SpansAreOf};
 ghost use Rattle.mucwathi_commands.specs.Faults.{IsRunFault};
 ghost use Rattle.mucwathi_commands.specs.Written.{IsReadAs};
 ghost use Rattle.mucwathi_lists.specs.Changed.{seen, told};
@@ -60,6 +61,7 @@ fn changes_of_copy(
     copy: Node,
 ) -> Result<Vec<Change>, RunFault>
     requires read { IsReadAs order.now.goal source.now text.now }
+    requires stands { SpansAreOf order.now.goal source.now text.now }
     requires same { copy ≡ source.now }
     ensures { MatchResult result (λ changes. HasChanges order.now text.now changes.items) (IsRunFault order.now text.now) }
 {
@@ -76,7 +78,8 @@ fn changes_in(
     text: &[u8],
     source: &Node,
 ) -> Result<Vec<Change>, RunFault>
-    requires { IsReadAs order.now.goal source.now text.now }
+    requires read { IsReadAs order.now.goal source.now text.now }
+    requires stands { SpansAreOf order.now.goal source.now text.now }
     ensures { MatchResult result (λ changes. HasChanges order.now text.now changes.items) (IsRunFault order.now text.now) }
 {
     match source.clone() {

@@ -3,5 +3,6 @@
 
 mod mapping;
 mod spots;
+mod told;
 
 pub use mapping::source_map;

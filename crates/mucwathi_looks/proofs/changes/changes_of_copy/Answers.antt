@@ -18,6 +18,7 @@ returns-in-Ok c =
       source = c.args.source.now;
       answer = c.in-Ok.answer;
       read = c.requires.read;
+      stands = c.requires.stands;
       made = subst (λ (t : Node). Makes c.args.order.now.command c.args.order.now.settings t c.in-Ok.answer) c.requires.same c.in-Ok.ensures;
       are = h;
     })
