@@ -5,4 +5,4 @@ mod comment;
 mod find;
 
 pub use comment::{Comment, CommentsFault};
-pub use find::find_comments;
+pub use find::{Source, add_before_token, add_before_tokens, find_comments, is_comment};
