@@ -54,10 +54,10 @@ notes_none s names is place =
 pub no_names : (names : BTreeMap ℕ (Bor (List ℕ))) → names.entries ≡ [] → HasNames [] names
 no_names names empty place = ap (λ es. option_map text_of (lookup (is_at (nat_cmp place)) es)) empty
 
-pub names_step : (spots : List Spot) (i : ℕ) (s : Spot) (old new : BTreeMap ℕ (Bor (List ℕ))) → i < length spots → s ≡ get_or spots i s → HasNames (map seen (take i spots)) old → Notes (seen s) old new → HasNames (map seen (take (i + 1) spots)) new
-names_step spots i s old new below is h notes place =
+pub names_step : (spots : List Spot) (i : ℕ) (d s : Spot) (old new : BTreeMap ℕ (Bor (List ℕ))) → i < length spots → s ≡ get_or spots i d → HasNames (map seen (take i spots)) old → Notes (seen s) old new → HasNames (map seen (take (i + 1) spots)) new
+names_step spots i d s old new below is h notes place =
     let more : map seen (take (i + 1) spots) ≡ map seen (take i spots) ++ seen s ∷ [] =
-    map_more seen spots i s below ∙ ap (λ (x : Spot). map seen (take i spots) ++ seen x ∷ []) (sym is) in
+    map_more seen spots i d below ∙ ap (λ (x : Spot). map seen (take i spots) ++ seen x ∷ []) (sym is) in
     notes place ∙ ap (λ o. option_or (here (seen s) place) o) (h place) ∙ sym (name_push (map seen (take i spots)) (seen s) place) ∙ ap (λ l. name_at l place) (sym more)
 
 pub names_all : (spots : List Spot) (i : ℕ) (names : BTreeMap ℕ (Bor (List ℕ))) → length spots ≤ i → HasNames (map seen (take i spots)) names → HasNames (map seen spots) names

@@ -21,11 +21,11 @@ all_push names (x ∷ ns) (y ∷ os) n o same =
     let tails : length ns ≡ length os = omega arith in
     ap (λ (l : List ToldNode). told_of names x y ++ l) (all_push names ns os n o tails) ∙ sym (append_assoc (told_of names x y) (all_told names ns os) (told_of names n o))
 
-pub told_step : (names : ℕ → Option (List ℕ)) (news outs : List Spot) (i : ℕ) (n o : Spot) (mid new : List ToldNode) → length news ≡ length outs → i < length news → i < length outs → n ≡ get_or news i n → o ≡ get_or outs i o
+pub told_step : (names : ℕ → Option (List ℕ)) (news outs : List Spot) (i : ℕ) (d n o : Spot) (mid new : List ToldNode) → length news ≡ length outs → i < length news → i < length outs → n ≡ get_or news i d → o ≡ get_or outs i d
     → mid ≡ all_told names (map seen (take i news)) (map seen (take i outs)) → new ≡ mid ++ told_of names (seen n) (seen o) → new ≡ all_told names (map seen (take (i + 1) news)) (map seen (take (i + 1) outs))
-told_step names news outs i n o mid new same below within first second h k =
-    let more_news : map seen (take (i + 1) news) ≡ map seen (take i news) ++ seen n ∷ [] = map_more seen news i n below ∙ ap (λ (x : Spot). map seen (take i news) ++ seen x ∷ []) (sym first) in
-    let more_outs : map seen (take (i + 1) outs) ≡ map seen (take i outs) ++ seen o ∷ [] = map_more seen outs i o within ∙ ap (λ (x : Spot). map seen (take i outs) ++ seen x ∷ []) (sym second) in
+told_step names news outs i d n o mid new same below within first second h k =
+    let more_news : map seen (take (i + 1) news) ≡ map seen (take i news) ++ seen n ∷ [] = map_more seen news i d below ∙ ap (λ (x : Spot). map seen (take i news) ++ seen x ∷ []) (sym first) in
+    let more_outs : map seen (take (i + 1) outs) ≡ map seen (take i outs) ++ seen o ∷ [] = map_more seen outs i d within ∙ ap (λ (x : Spot). map seen (take i outs) ++ seen x ∷ []) (sym second) in
     let lengths : length (map seen (take i news)) ≡ length (map seen (take i outs)) = rw (length-map, length-take, length-map, length-take) (omega arith) in
     k ∙ ap (λ (l : List ToldNode). l ++ told_of names (seen n) (seen o)) h
     ∙ sym (all_push names (map seen (take i news)) (map seen (take i outs)) (seen n) (seen o) lengths)

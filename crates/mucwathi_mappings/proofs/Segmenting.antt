@@ -10,6 +10,13 @@ use Rattle.mucwathi_mappings.specs.declared.segments.Mapped.{Mapped}
 use Rattle.mucwathi_mappings.specs.declared.segments.Segment.{Segment}
 use Rattle.mucwathi_mappings.specs.Segments.{AreSegments, GoesOn, HasLast, IsNumberOf, IsSegment, last_at, or_else, text_of}
 
+-- in the place of what is not there
+abbrev pub no_node : Mapped
+no_node = record { read = 0; written = 0; old = None }
+
+abbrev pub no_segment : Segment
+no_segment = record { written = 0; line = 0; column = 0; name = None }
+
 -- ---- names
 
 get_kept : (xs ys : List (List ℕ)) (n : ℕ) (t : List ℕ) → slice_get xs n ≡ Some t → slice_get (xs ++ ys) n ≡ Some t
@@ -69,10 +76,10 @@ segments_more source old new m s ms ss on h is =
 pub segments_none : (source : List ℕ) (names : List (List ℕ)) (ss : List Segment) → ss ≡ [] → AreSegments source names [] ss
 segments_none source names ss empty = subst (AreSegments source names []) (sym empty) AreSegments.none
 
-pub segments_step : (source : List ℕ) (mapped : List Mapped) (i : ℕ) (m : Mapped) (s : Segment) (old new : List (Bor (List ℕ))) (ss all : List Segment) → i < length mapped → m ≡ get_or mapped i m → GoesOn old new
+pub segments_step : (source : List ℕ) (mapped : List Mapped) (i : ℕ) (d m : Mapped) (s : Segment) (old new : List (Bor (List ℕ))) (ss all : List Segment) → i < length mapped → m ≡ get_or mapped i d → GoesOn old new
     → IsSegment source (map text_of new) m s → all ≡ ss ++ s ∷ [] → AreSegments source (map text_of old) (take i mapped) ss → AreSegments source (map text_of new) (take (i + 1) mapped) all
-segments_step source mapped i m s old new ss all below is on one added h =
-    subst (λ l. AreSegments source (map text_of new) l all) (ap (λ (x : Mapped). take i mapped ++ x ∷ []) is ∙ sym (take_more mapped i m below))
+segments_step source mapped i d m s old new ss all below is on one added h =
+    subst (λ l. AreSegments source (map text_of new) l all) (ap (λ (x : Mapped). take i mapped ++ x ∷ []) is ∙ sym (take_more mapped i d below))
     (subst (AreSegments source (map text_of new) (take i mapped ++ m ∷ [])) (sym added) (segments_more source old new m s (take i mapped) ss on h one))
 
 pub segments_all : (source : List ℕ) (names : List (List ℕ)) (mapped : List Mapped) (i : ℕ) (ss : List Segment) → length mapped ≤ i → AreSegments source names (take i mapped) ss → AreSegments source names mapped ss
@@ -100,9 +107,9 @@ places_push ss s old new h updates place =
 pub places_none : (places : BTreeMap ℕ Segment) → places.entries ≡ [] → HasLast [] places
 places_none places empty place = ap (lookup (is_at (nat_cmp place))) empty
 
-pub places_step : (ss : List Segment) (i : ℕ) (s : Segment) (old new : BTreeMap ℕ Segment) → i < length ss → s ≡ get_or ss i s → HasLast (take i ss) old → Updates nat_cmp old new s.written (Some s) → HasLast (take (i + 1) ss) new
-places_step ss i s old new below is h updates =
-    subst (λ l. HasLast l new) (ap (λ (x : Segment). take i ss ++ x ∷ []) is ∙ sym (take_more ss i s below)) (places_push (take i ss) s old new h updates)
+pub places_step : (ss : List Segment) (i : ℕ) (d s : Segment) (old new : BTreeMap ℕ Segment) → i < length ss → s ≡ get_or ss i d → HasLast (take i ss) old → Updates nat_cmp old new s.written (Some s) → HasLast (take (i + 1) ss) new
+places_step ss i d s old new below is h updates =
+    subst (λ l. HasLast l new) (ap (λ (x : Segment). take i ss ++ x ∷ []) is ∙ sym (take_more ss i d below)) (places_push (take i ss) s old new h updates)
 
 pub places_all : (ss : List Segment) (i : ℕ) (places : BTreeMap ℕ Segment) → length ss ≤ i → HasLast (take i ss) places → HasLast ss places
 places_all ss i places ended h = subst (λ l. HasLast l places) (take_all i ss ended) h
