@@ -1,5 +1,6 @@
 -- Maps of nodes.
-use Rattle.std.proofs.Common.{◌≡◌, ℕ, List, Option, Bor, length, map, sym, ap, ◌∙◌, length-map, subst}
+use Rattle.std.proofs.Common.{◌≡◌, ℕ, List, Option, Bor, length, map, sym, ap, ◌∙◌}
+use Rattle.std.proofs.lemmas.List.{length-map}
 use Rattle.std.specs.BTreeMap.{BTreeMap}
 use Rattle.swc_tree_node.specs.declared.node.Node.{Node}
 use Rattle.mucwathi_mappings.specs.declared.segments.Mapped.{Mapped}

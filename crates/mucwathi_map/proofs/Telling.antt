@@ -1,7 +1,7 @@
 -- Nodes told of, one beside another.
 use Rattle.std.specs.Prelude.{if◌then◌else◌}
-use Rattle.std.proofs.Common.{◌≡◌, ℕ, zero, suc, ◌+◌, ◌-◌, ◌<◌, ◌≤◌, ◌||◌, true, false, List, [], ◌∷◌, ◌++◌, Option, Some, None, map, take, length, get_or, nat_eq, refl, sym, ap, ◌∙◌, subst, arith, length-map, length-take}
-use Rattle.std.proofs.lemmas.List.{append-nil, append_assoc, map_more, take_all}
+use Rattle.std.proofs.Common.{◌≡◌, ℕ, zero, suc, ◌+◌, ◌-◌, ◌<◌, ◌≤◌, ◌||◌, true, false, List, [], ◌∷◌, ◌++◌, Option, Some, None, map, take, length, get_or, nat_eq, refl, sym, ap, ◌∙◌, subst, arith, length-take}
+use Rattle.std.proofs.lemmas.List.{append-nil, append_assoc, length-map, map_more, take_all}
 use Rattle.mucwathi_map.specs.declared.spots.Spot.{Spot}
 use Rattle.mucwathi_map.specs.Spots.{Stood, ToldNode, all_told, old_name, other_than, seen, told_of}
 

@@ -1,7 +1,7 @@
 -- One node more.
-use Rattle.std.proofs.Common.{◌≡◌, ℕ, zero, suc, ◌+◌, ◌<◌, ◌≤◌, true, false, cond, List, [], ◌∷◌, ◌++◌, Option, Some, None, Bor, get_or, length, map, take, nat_eq, refl, sym, ap, ◌∙◌, subst, arith, length-map}
+use Rattle.std.proofs.Common.{◌≡◌, ℕ, zero, suc, ◌+◌, ◌<◌, ◌≤◌, true, false, cond, List, [], ◌∷◌, ◌++◌, Option, Some, None, Bor, get_or, length, map, take, nat_eq, refl, sym, ap, ◌∙◌, subst, arith}
 use Rattle.std.proofs.lemmas.Bool.Decides.{nat_tests}
-use Rattle.std.proofs.lemmas.List.{append-nil, map-append, map_push, take_all, take_more}
+use Rattle.std.proofs.lemmas.List.{append-nil, length-map, map-append, map_push, take_all, take_more}
 use Rattle.std.specs.BTreeMap.{BTreeMap, Updates, get, is_at}
 use Rattle.std.specs.Map.{lookup}
 use Rattle.std.specs.Ordering.{is_eq, nat_cmp}
@@ -58,12 +58,12 @@ segment_number names old given n is h = subst (λ o. IsNumberOf names o (Some n)
 pub no_number : (names : List (List ℕ)) (old : Option (Bor (List ℕ))) → old ≡ None → IsNumberOf names old None
 no_number names old is = let none : IsNumberOf names None None = refl in subst (λ o. IsNumberOf names o None) (sym is) none
 
-segments_kept : {ms : List Mapped} {ss : List Segment} (source : List ℕ) (xs ys : List (List ℕ)) → AreSegments source xs ms ss → AreSegments source (xs ++ ys) ms ss
+segments_kept : (source : List ℕ) (xs ys : List (List ℕ)) {ms : List Mapped} {ss : List Segment} → AreSegments source xs ms ss → AreSegments source (xs ++ ys) ms ss
 segments_kept source xs ys AreSegments.none = AreSegments.none
 segments_kept source xs ys (AreSegments.one_more m s ms ss is more) =
     AreSegments.one_more m s ms ss (record { written = is.written; line_is = is.line_is; column_is = is.column_is; named = number_kept xs ys m.old s.name is.named }) (segments_kept source xs ys more)
 
-segments_push : {ms : List Mapped} {ss : List Segment} (source : List ℕ) (xs : List (List ℕ)) (m : Mapped) (s : Segment) → AreSegments source xs ms ss → IsSegment source xs m s → AreSegments source xs (ms ++ m ∷ []) (ss ++ s ∷ [])
+segments_push : (source : List ℕ) (xs : List (List ℕ)) {ms : List Mapped} {ss : List Segment} (m : Mapped) (s : Segment) → AreSegments source xs ms ss → IsSegment source xs m s → AreSegments source xs (ms ++ m ∷ []) (ss ++ s ∷ [])
 segments_push source xs m s AreSegments.none is = AreSegments.one_more m s [] [] is AreSegments.none
 segments_push source xs m s (AreSegments.one_more n t ms ss first more) is = AreSegments.one_more n t (ms ++ m ∷ []) (ss ++ s ∷ []) first (segments_push source xs m s more is)
 

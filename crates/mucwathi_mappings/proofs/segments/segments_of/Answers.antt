@@ -8,7 +8,7 @@ loop-each-init c = segments_none c.args.text.now (map text_of c.args.names.now.t
 
 pub loop-each-preserved : goal.loop-each-preserved
 loop-each-preserved c =
-    segments_step c.args.text.now c.args.mapped.now c.loop-each.each-index no_node (get_or c.args.mapped.now c.loop-each.each-index no_node) c.in_ok-segment.segment c.loop-each.names.texts.items c.segment_of-segment.new.names.texts.items c.loop-each.segments.items c.push.new.self.items
+    segments_step c.args.text.now c.args.mapped.now c.loop-each.each-index no_node (get_or c.args.mapped.now c.loop-each.each-index no_node) c.in_ok-segment.segment c.loop-each.names.texts.items c.segment_of.new.names.texts.items c.loop-each.segments.items c.push.new.self.items
     c.loop-each-test.true refl c.in_ok-segment.ensures.0 c.in_ok-segment.ensures.1 c.in_ok-push.ensures.items c.loop-each.invariant
 
 pub returns : goal.returns
