@@ -12,7 +12,6 @@ use Rattle.mucwathi_mappings.specs.Segments.{text_of}
 use Rattle.mucwathi_map.specs.declared.spots.Spot.{Spot}
 use Rattle.mucwathi_map.specs.Spots.{HasNames, Notes, Stood, name_at, names_in, old_name, other_than, seen}
 
-
 same_number : (a b : ℕ) → is_eq (nat_cmp a b) ≡ nat_eq a b
 same_number a b = grind (arith, nat_tests)
 
