@@ -14,10 +14,6 @@ pub memory_unlooked : (g : Goal) (text : List ℕ) (f : RunFault) → IsMemoryFa
 memory_unlooked g text f is = subst (IsUnlooked g text) (sym is) (inl refl)
 
 -- of what is only tested nothing is said
-pub tested_unless : {T E : Type 0} (r : Result T E) (P : E → Type 0) → IfErr r P → MatchResult r (λ t. Unit {0}) P
-tested_unless (Ok t) P h = tt
-tested_unless (Err e) P h = h
-
 pub tested_if : {T E : Type 0} (r : Result T E) (P : T → Type 0) → IfOk r P → MatchResult r P (λ e. Unit {0})
 tested_if (Ok t) P h = h
 tested_if (Err e) P h = tt

@@ -1,5 +1,5 @@
 -- What is made of a text, as whatever it is read.
-use Rattle.std.proofs.Common.{◌≡◌, ◌⊎◌, true, ℕ, List, Option, Some, None, inl, inr, refl, sym, ◌∙◌, subst, Result, Ok, Err, IfOk, MatchResult}
+use Rattle.std.proofs.Common.{◌≡◌, ◌⊎◌, true, false, ℕ, List, Option, Some, None, inl, inr, refl, sym, ◌∙◌, subst, Result, Ok, Err, IfOk, MatchResult}
 use Rattle.std.specs.Option.{option_or}
 use Rattle.std.specs.Prelude.{unwrap_or}
 use Rattle.text_parser.specs.declared.programs.Goal.{Goal}
@@ -14,7 +14,7 @@ use Rattle.mucwathi_faults.specs.declared.fault.RunFault.TheVariants as running
 use Rattle.mucwathi_order.specs.declared.order.Order.{Order}
 use Rattle.mucwathi_report.specs.declared.reports.Named.{Named}
 use Rattle.mucwathi_report.specs.Status.{run_status, text_status}
-use Rattle.mucwathi_answers.specs.Answers.{IsAnswered, IsAsked, IsAskedOfTwo, IsFaultTold, IsGoalOf, IsMemoryFault, IsTold, IsWell, IsWorked, goal_asked, order_for}
+use Rattle.mucwathi_answers.specs.Answers.{HasList, HasMap, IsAnswered, IsAsked, IsAskedOfTwo, IsFaultTold, IsGoalOf, IsMemoryFault, IsTold, IsWell, IsWorked, goal_asked, order_for}
 use Rattle.mucwathi_answers.specs.declared.answer.Answer.{Answer}
 
 -- ---- goals
@@ -48,31 +48,42 @@ uncovered_told order text (running.Refused e) h = inl h
 uncovered_told order text running.NotWritten h = absurd h
 uncovered_told order text running.NotKept h = absurd h
 
-module _ (task : Rewriting) (of : Named) where
+module _ (task : Rewriting) (prefix : List ℕ) (of : Named) where
   -- what is told in the place of an answer is none
-  pub explained : (g : Goal) (r : Result Answer RunFault) (order : Order) → order ≡ order_for task g → IsAsked task.goal of g → task.explains ≡ true → MatchResult r IsWell (IsRunFault order of.text.now) → MatchResult r (IsWorked task of) (IsTold task of)
-  explained g (Ok a) order is asked tells well = record { well = well; made = λ lists explains. absurd (cc) }
-  explained g (Err f) order is asked tells fault = λ lists map. record { goal = g; asked = asked; told = subst (λ order. IsRunFault order of.text.now f) is fault }
+  pub explained : (g : Goal) (r : Result Answer RunFault) (order : Order) → order ≡ order_for task g → IsAsked task.goal of g → task.explains ≡ true → MatchResult r IsWell (IsRunFault order of.text.now) → MatchResult r (IsWorked task prefix of) (IsTold task of)
+  explained g (Ok a) order is asked tells well = record { well = well; made = λ lists explains. absurd (cc); listed = λ lists explains. absurd (cc) }
+  explained g (Err f) order is asked tells fault = record { goal = g; asked = asked; told = subst (λ order. IsRunFault order of.text.now f) is fault }
 
-  pub listed : (r : Result Answer RunFault) → task.lists ≡ true → IfOk r IsWell → MatchResult r (IsWorked task of) (IsTold task of)
-  listed (Ok a) lists well = record { well = well; made = λ none explains. absurd (cc) }
-  listed (Err f) lists well = λ none map. absurd (cc)
-
-  pub worked : (g : Goal) (r : Result Answer RunFault) (order : Order) → order ≡ order_for task g → IsAsked task.goal of g
-      → MatchResult r (λ a. IsWell a × IsRewritten order of.text.now a.out.items) (λ f. task.map ≡ None → IsRunFault order of.text.now f) → MatchResult r (IsWorked task of) (IsTold task of)
-  worked g (Ok a) order is asked h = record {
+  pub listed : (g : Goal) (r : Result Answer RunFault) (order : Order) → order ≡ order_for task g → IsAsked task.goal of g → task.lists ≡ true
+      → MatchResult r (λ a. IsWell a × HasList order prefix of.text.now a.out.items) (IsRunFault order of.text.now) → MatchResult r (IsWorked task prefix of) (IsTold task of)
+  listed g (Ok a) order is asked lists h = record {
     well = h.0;
-    made = λ lists explains. record { goal = g; asked = asked; rewritten = subst (λ order. IsRewritten order of.text.now a.out.items) is h.1 };
+    made = λ none explains. absurd (cc);
+    listed = λ all explains. record { goal = g; asked = asked; list = subst (λ order. HasList order prefix of.text.now a.out.items) is h.1 };
   }
-  worked g (Err f) order is asked h = λ lists map. record { goal = g; asked = asked; told = subst (λ order. IsRunFault order of.text.now f) is (h map) }
+  listed g (Err f) order is asked lists fault = record { goal = g; asked = asked; told = subst (λ order. IsRunFault order of.text.now f) is fault }
 
-  -- one of two faults is told
-  pub told_either : (f g r : RunFault) → (r ≡ f) ⊎ (r ≡ g) → IsTold task of f → IsTold task of g → IsTold task of r
-  told_either f g r (inl is) one other = subst (IsTold task of) (sym is) one
-  told_either f g r (inr is) one other = subst (IsTold task of) (sym is) other
+  pub worked : (g : Goal) (r : Result Answer RunFault) (order : Order) → order ≡ order_for task g → IsAsked task.goal of g → task.lists ≡ false
+      → MatchResult r (λ a. IsWell a × IsRewritten order of.text.now a.out.items × HasMap task.map order of a.out.items a.map.items) (IsRunFault order of.text.now) → MatchResult r (IsWorked task prefix of) (IsTold task of)
+  worked g (Ok a) order is asked none h = record {
+    listed = λ lists explains. absurd (cc);
+    well = h.0;
+    made = λ lists explains. record {
+      goal = g;
+      asked = asked;
+      rewritten = subst (λ order. IsRewritten order of.text.now a.out.items) is h.1;
+      mapped = subst (λ order. HasMap task.map order of a.out.items a.map.items) is h.2;
+    };
+  }
+  worked g (Err f) order is asked none h = record { goal = g; asked = asked; told = subst (λ order. IsRunFault order of.text.now f) is h }
 
-  pub well_answered : (a : Answer) → IsWorked task of a → IsAnswered task of a
+  pub well_answered : (a : Answer) → IsWorked task prefix of a → IsAnswered task prefix of a
   well_answered a h = record { well = λ well. h; fault = λ other. absurd (other h.well) }
+
+-- one of two faults is told
+pub told_either : (task : Rewriting) (of : Named) (f g r : RunFault) → (r ≡ f) ⊎ (r ≡ g) → IsTold task of f → IsTold task of g → IsTold task of r
+told_either task of f g r (inl is) one other = subst (IsTold task of) (sym is) one
+told_either task of f g r (inr is) one other = subst (IsTold task of) (sym is) other
 
 read_status : (f : TextFault) → text_status f ≡ 0 → ⊥
 read_status text.NoMemory h = absurd (cc)
@@ -96,6 +107,6 @@ fault_status running.NotWritten h = absurd (cc)
 fault_status running.NotKept h = absurd (cc)
 
 -- no fault has status 0
-pub fault_answered : {E : Type 0} (task : Rewriting) (of : Named) (f : RunFault) (r : Result Answer E) → IsTold task of f → IfOk r (IsFaultTold f) → IfOk r (IsAnswered task of)
-fault_answered task of f (Ok a) told is = record { well = λ well. absurd (fault_status f (sym is.status ∙ well)); fault = λ other. (f, told, is) }
-fault_answered task of f (Err e) told is = tt
+pub fault_answered : {E : Type 0} (task : Rewriting) (prefix : List ℕ) (of : Named) (f : RunFault) (r : Result Answer E) → IsTold task of f → IfOk r (IsFaultTold f) → IfOk r (IsAnswered task prefix of)
+fault_answered task prefix of f (Ok a) told is = record { well = λ well. absurd (fault_status f (sym is.status ∙ well)); fault = λ other. (f, told, is) }
+fault_answered task prefix of f (Err e) told is = tt

@@ -1,5 +1,6 @@
 -- What is answered to a task over texts.
 use Rattle.std.specs.Prelude.{◌≡◌, ◌<◌, Bool, true, false, ℕ, nat_eq, codes, List, [], Option, Some, None}
+use Rattle.std.specs.Borrow.{Bor}
 use Rattle.std.specs.List.{ends_with}
 use Rattle.std.specs.Option.{option_or}
 use Rattle.swc_tree_marks.specs.declared.error.PassError.TheVariants as refusal
@@ -17,9 +18,15 @@ use Rattle.mucwathi_commands.specs.declared.judge.TextDifference.{TextDifference
 use Rattle.mucwathi_faults.specs.declared.fault.JudgeFault.{JudgeFault}
 use Rattle.mucwathi_faults.specs.declared.fault.RunFault.{RunFault}
 use Rattle.mucwathi_faults.specs.declared.fault.RunFault.TheVariants.{Refused}
+use Rattle.mucwathi_lists.specs.declared.changes.Change.{Change}
+use Rattle.mucwathi_lists.specs.declared.lists.FreeName.{FreeName}
+use Rattle.mucwathi_lists.specs.Listed.{changes_listed, names_listed}
+use Rattle.mucwathi_looks.specs.Changes.{HasChanges}
 use Rattle.mucwathi_looks.specs.Looks.{IsUnlooked}
 use Rattle.mucwathi_looks.specs.Marked.{HasSigns}
+use Rattle.mucwathi_looks.specs.Names.{HasFreeNames}
 use Rattle.mucwathi_looks.specs.Trees.{HasTree}
+use Rattle.mucwathi_map.specs.Map.{IsMap}
 use Rattle.mucwathi_page.specs.Shown.{IsPage}
 use Rattle.mucwathi_report.specs.declared.reports.Named.{Named}
 use Rattle.mucwathi_report.specs.Status.{judge_status, run_status}
@@ -74,37 +81,57 @@ IsWell a = a.status ≡ 0
 abbrev pub IsMemoryFault : RunFault → Type 0
 IsMemoryFault f = f ≡ Refused refusal.NoMemory
 
--- what is written for a text is what was asked for
-pub record IsMade (task : Rewriting) (of : Named) (out : List ℕ) : Type 0 where
+-- a source map tells of what is written, where one is asked for
+abbrev pub HasMap : Option (Bor (List ℕ)) → Order → Named → List ℕ → List ℕ → Type 0
+HasMap None order of out map = Unit {0}
+HasMap (Some path) order of out map = IsMap order of.name.now of.text.now out map
+
+-- what is written for a text is what was asked for, and so is its map
+pub record IsMade (task : Rewriting) (of : Named) (out map : List ℕ) : Type 0 where
   pub goal : Goal
   pub asked : IsAsked task.goal of goal
   pub rewritten : IsRewritten (order_for task goal) of.text.now out
+  pub mapped : HasMap task.map (order_for task goal) of out map
 
--- all is well, and so it is where nothing is told in its place
-pub record IsWorked (task : Rewriting) (of : Named) (a : Answer) : Type 0 where
+-- a list has the names that are given anew in a text, each in its line
+pub record HasList (order : Order) (prefix text out : List ℕ) : Type 0 where
+  pub changes : List Change
+  pub told : HasChanges order text changes
+  pub listed : out ≡ changes_listed prefix text changes
+
+-- ... as what it is read
+pub record IsListed (task : Rewriting) (prefix : List ℕ) (of : Named) (out : List ℕ) : Type 0 where
+  pub goal : Goal
+  pub asked : IsAsked task.goal of goal
+  pub list : HasList (order_for task goal) prefix of.text.now out
+
+-- all is well, and so it is where nothing else is told in its place
+pub record IsWorked (task : Rewriting) (prefix : List ℕ) (of : Named) (a : Answer) : Type 0 where
   pub well : IsWell a
-  pub made : task.lists ≡ false → task.explains ≡ false → IsMade task of a.out.items
+  pub made : task.lists ≡ false → task.explains ≡ false → IsMade task of a.out.items a.map.items
+  pub listed : task.lists ≡ true → task.explains ≡ false → IsListed task prefix of a.out.items
 
--- a fault tells of the text, as what it is read, where neither a list nor a map is asked for
-pub record IsFaultOf (task : Rewriting) (of : Named) (f : RunFault) : Type 0 where
+-- a fault tells of the text, as what it is read
+pub record IsTold (task : Rewriting) (of : Named) (f : RunFault) : Type 0 where
   pub goal : Goal
   pub asked : IsAsked task.goal of goal
   pub told : IsRunFault (order_for task goal) of.text.now f
 
-abbrev pub IsTold : Rewriting → Named → RunFault → Type 0
-IsTold task of f = task.lists ≡ false → task.map ≡ None → IsFaultOf task of f
-
 -- status 0 is only given where all is well; with another nothing is written, and it is that of a fault
-pub record IsAnswered (task : Rewriting) (of : Named) (a : Answer) : Type 0 where
-  pub well : IsWell a → IsWorked task of a
+pub record IsAnswered (task : Rewriting) (prefix : List ℕ) (of : Named) (a : Answer) : Type 0 where
+  pub well : IsWell a → IsWorked task prefix of a
   pub fault : ¬ IsWell a → (f : RunFault) × IsTold task of f × IsFaultTold f a
 
--- what is shown of a text, as what it is read: its tree, the text with marks, or in a page; how names are listed is tested
+-- the free names of a text, each in its line
+abbrev pub HasNameList : Goal → List ℕ → List ℕ → Type 0
+HasNameList goal text out = (names : List FreeName) × HasFreeNames goal text names × (out ≡ names_listed text names)
+
+-- what is shown of a text, as what it is read: its tree, the text with marks or in a page, or its free names
 abbrev pub Shows : Work → Goal → List ℕ → List ℕ → Type 0
 Shows work.Tree goal text out = HasTree goal text out
 Shows work.Marks goal text out = HasSigns text out
 Shows work.Page goal text out = IsPage text out
-Shows work.Names goal text out = Unit {0}
+Shows work.Names goal text out = HasNameList goal text out
 
 -- ... and why nothing is, but for a page
 abbrev pub IsUnshown : Work → Goal → List ℕ → RunFault → Type 0

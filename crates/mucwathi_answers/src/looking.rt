@@ -1,16 +1,18 @@
 //! What is told of a text.
-ghost use Rattle.std.specs.Prelude.{◌≡◌, None, IfOk, IfErr, MatchResult};
+ghost use Rattle.std.specs.Prelude.{◌≡◌, None, IfOk, MatchResult};
 ghost use Rattle.text_parser.specs.declared.programs.Goal.TheVariants as kinds;
+ghost use Rattle.mucwathi_lists.specs.Listed.{names_listed};
 ghost use Rattle.mucwathi_looks.specs.Looks.{IsUnlooked};
 ghost use Rattle.mucwathi_looks.specs.Trees.{HasTree};
 ghost use Rattle.mucwathi_answers.specs.declared.looking.Work.TheVariants as works;
-ghost use Rattle.mucwathi_answers.specs.Answers.{IsAsked, IsLooked, IsMemoryFault, IsShowFault, IsShown, IsUnshown, Shows, goal_asked as is_asked};
+ghost use Rattle.mucwathi_answers.specs.Answers.{HasNameList, IsAsked, IsLooked, IsMemoryFault, IsShowFault, IsShown, IsUnshown, Shows, goal_asked as is_asked};
 
 use crate::answer::{Answer, DEPTH};
 use crate::goals::{further, goal_asked, may_be_module};
 use mucwathi_commands::{Goal, RunFault};
-use mucwathi_looks::{FreeName, free_names, mark_text, tree_of_text};
-use mucwathi_report::{Named, list_names};
+use mucwathi_lists::{FreeName, list_names};
+use mucwathi_looks::{free_names, mark_text, tree_of_text};
+use mucwathi_report::Named;
 use mucwathi_show::show_text;
 use std::alloc::{AllocError, Global};
 use swc_tree_marks::PassError;
@@ -33,7 +35,7 @@ fn tree(alloc: Global, of: Named<'_>, goal: Goal) -> Result<Vec<u8>, RunFault>
 }
 
 fn list(alloc: Global, of: Named<'_>, names: &[FreeName]) -> Result<Vec<u8>, RunFault>
-    ensures { IfErr result IsMemoryFault }
+    ensures { MatchResult result (λ out. out.items ≡ names_listed of.entry.text.now names.now) IsMemoryFault }
 {
     match list_names(alloc, of.text, names) {
         Ok(out) => Ok(out),
@@ -42,7 +44,7 @@ fn list(alloc: Global, of: Named<'_>, names: &[FreeName]) -> Result<Vec<u8>, Run
 }
 
 fn names(alloc: Global, of: Named<'_>, goal: Goal) -> Result<Vec<u8>, RunFault>
-    ensures { IfErr result (IsUnlooked goal of.entry.text.now) }
+    ensures { MatchResult result (λ out. HasNameList goal of.entry.text.now out.items) (IsUnlooked goal of.entry.text.now) }
 {
     match free_names(alloc, goal, DEPTH, of.text) {
         Ok(names) => list(alloc, of, names.as_slice()),

@@ -1,17 +1,19 @@
 //! What is made of a text.
-ghost use Rattle.std.specs.Prelude.{◌≡◌, None, IsOk, IfOk, MatchResult};
+ghost use Rattle.std.specs.Prelude.{◌≡◌, None, IfOk, MatchResult};
 ghost use Rattle.text_parser.specs.declared.programs.Goal.TheVariants as kinds;
 ghost use Rattle.mucwathi_commands.specs.Faults.{IsRunFault};
 ghost use Rattle.mucwathi_commands.specs.Written.{IsRewritten};
-ghost use Rattle.mucwathi_answers.specs.Answers.{IsAnswered, IsAsked, IsMemoryFault, IsTold, IsWell, IsWorked, goal_asked as is_asked, keeps_top, order_for as order_of};
+ghost use Rattle.mucwathi_lists.specs.Listed.{changes_listed};
+ghost use Rattle.mucwathi_answers.specs.Answers.{HasList, HasMap, IsAnswered, IsAsked, IsMemoryFault, IsTold, IsWell, IsWorked, goal_asked as is_asked, keeps_top, order_for as order_of};
 
 use crate::answer::{Answer, DEPTH};
 use crate::goals::{further, goal_asked, may_be_module};
 use mucwathi_arguments::Rewriting;
 use mucwathi_commands::{CoverGap, Goal, Order, RunFault, Settings, cover_text, rewrite_text};
+use mucwathi_lists::{Change, list_renamed};
 use mucwathi_looks::list_changes;
 use mucwathi_map::source_map;
-use mucwathi_report::{Named, list_renamed, tell_cover};
+use mucwathi_report::{Named, tell_cover};
 use std::alloc::{AllocError, Global};
 use swc_tree_marks::PassError;
 
@@ -41,12 +43,23 @@ fn order_for(task: &Rewriting<'_>, goal: Goal) -> Order
     }
 }
 
-fn list(alloc: Global, order: &Order, prefix: &str, text: &[u8]) -> Result<Answer, RunFault>
-    ensures { IfOk result IsWell }
+fn list_of(alloc: Global, prefix: &str, text: &[u8], changes: &[Change]) -> Result<Answer, RunFault>
+    ensures { MatchResult result (λ a. IsWell a × (a.out.items ≡ changes_listed prefix.now text.now changes.now)) IsMemoryFault }
 {
-    let changes = list_changes(alloc, order, text)?;
-    let out = list_renamed(alloc, prefix, text, changes.as_slice())?;
-    Ok(Answer::of(alloc, out))
+    match list_renamed(alloc, prefix, text, changes) {
+        Ok(out) => Ok(Answer::of(alloc, out)),
+        Err(_) => Err(RunFault::Refused(PassError::NoMemory)),
+    }
+}
+
+// The names that are given anew, in a list.
+fn list(alloc: Global, order: &Order, prefix: &str, text: &[u8]) -> Result<Answer, RunFault>
+    ensures { MatchResult result (λ a. IsWell a × HasList order.now prefix.now text.now a.out.items) (IsRunFault order.now text.now) }
+{
+    match list_changes(alloc, order, text) {
+        Ok(changes) => list_of(alloc, prefix, text, changes.as_slice()),
+        Err(fault) => Err(fault),
+    }
 }
 
 // Whether the promise covers a text, as told.
@@ -76,7 +89,7 @@ fn map_for(
     of: Named<'_>,
     out: &[u8],
 ) -> Result<Vec<u8>, RunFault>
-    ensures { task.now.map ≡ None → IsOk result }
+    ensures { MatchResult result (λ map. HasMap task.now.map order.now of.entry out.now map.items) (IsRunFault order.now of.entry.text.now) }
 {
     match task.map {
         None => Ok(Vec::new(alloc)),
@@ -93,7 +106,7 @@ fn with_map(
     out: Vec<u8>,
 ) -> Result<Answer, RunFault>
     requires { IsRewritten order.now of.text.now out.items }
-    ensures { MatchResult result (λ a. IsWell a × IsRewritten order.now of.entry.text.now a.out.items) (λ _. task.now.map ≡ None → ⊥) }
+    ensures { MatchResult result (λ a. IsWell a × IsRewritten order.now of.entry.text.now a.out.items × HasMap task.now.map order.now of.entry a.out.items a.map.items) (IsRunFault order.now of.entry.text.now) }
 {
     match map_for(alloc, task, order, of, out.as_slice()) {
         Ok(map) => Ok(Answer {
@@ -112,7 +125,7 @@ fn rewrite(
     order: &Order,
     of: Named<'_>,
 ) -> Result<Answer, RunFault>
-    ensures { MatchResult result (λ a. IsWell a × IsRewritten order.now of.entry.text.now a.out.items) (λ f. task.now.map ≡ None → IsRunFault order.now of.entry.text.now f) }
+    ensures { MatchResult result (λ a. IsWell a × IsRewritten order.now of.entry.text.now a.out.items × HasMap task.now.map order.now of.entry a.out.items a.map.items) (IsRunFault order.now of.entry.text.now) }
 {
     match rewrite_text(alloc, order, of.text) {
         Ok(out) => with_map(alloc, task, order, of, out),
@@ -129,7 +142,7 @@ fn answer_as(
     goal: Goal,
 ) -> Result<Answer, RunFault>
     requires { IsAsked task.now.goal of goal }
-    ensures { MatchResult result (IsWorked task.now of.entry) (IsTold task.now of.entry) }
+    ensures { MatchResult result (IsWorked task.now prefix.now of.entry) (IsTold task.now of.entry) }
 {
     let order = order_for(task, goal);
     if task.explains {
@@ -151,7 +164,7 @@ fn answer_as_module(
 ) -> Result<Answer, RunFault>
     requires asked { IsAsked task.now.goal of kinds.Module }
     requires told { IsTold task.now of fault }
-    ensures { MatchResult result (IsWorked task.now of.entry) (IsTold task.now of.entry) }
+    ensures { MatchResult result (IsWorked task.now prefix.now of.entry) (IsTold task.now of.entry) }
 {
     match answer_as(alloc, task, prefix, of, Goal::Module) {
         Ok(answer) => Ok(answer),
@@ -167,7 +180,7 @@ fn answer_open(
     of: Named<'_>,
 ) -> Result<Answer, RunFault>
     requires { is_asked task.now.goal of ≡ None }
-    ensures { MatchResult result (IsWorked task.now of.entry) (IsTold task.now of.entry) }
+    ensures { MatchResult result (IsWorked task.now prefix.now of.entry) (IsTold task.now of.entry) }
 {
     match answer_as(alloc, task, prefix, of, Goal::Script) {
         Ok(answer) => Ok(answer),
@@ -187,7 +200,7 @@ fn answer(
     prefix: &str,
     of: Named<'_>,
 ) -> Result<Answer, RunFault>
-    ensures { MatchResult result (IsWorked task.now of.entry) (IsTold task.now of.entry) }
+    ensures { MatchResult result (IsWorked task.now prefix.now of.entry) (IsTold task.now of.entry) }
 {
     match goal_asked(task.goal, of) {
         Some(goal) => answer_as(alloc, task, prefix, of, goal),
@@ -198,14 +211,14 @@ fn answer(
 /// What is made of a text, or told of it; each line of a list begins with the prefix.
 ///
 /// With status 0, and where nothing is told in its place, what is written is what was asked for (`IsRewritten` of `mucwathi_commands`). With
-/// another nothing is written, and the status is that of a fault, which tells of the text unless a list or a map is asked for.
+/// another nothing is written, and the status is that of a fault, which tells of the text.
 pub fn answer_rewriting(
     alloc: Global,
     task: &Rewriting<'_>,
     prefix: &str,
     of: Named<'_>,
 ) -> Result<Answer, AllocError>
-    ensures { IfOk result (IsAnswered task.now of.entry) }
+    ensures { IfOk result (IsAnswered task.now prefix.now of.entry) }
 {
     match answer(alloc, task, prefix, of) {
         Ok(answer) => Ok(answer),

@@ -1,4 +1,4 @@
 mod Contexts
 mod Covered
 mod Judged
-mod Rewritten
+pub mod Rewritten

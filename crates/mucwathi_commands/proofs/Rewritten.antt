@@ -78,7 +78,7 @@ module _ (order : Order) (bytes : List ℕ) where
       unfolding Written
       rewritten out written = record { source = source; answer = answer; read = read; made = made; written = written }
 
-      unwritten : (f : RunFault) → IsWriteFault f → IsRunFault order bytes f
+      pub unwritten : (f : RunFault) → IsWriteFault f → IsRunFault order bytes f
       unwritten (Refused e) none = inl none
       unwritten NotWritten h = record { source = source; answer = answer; read = read; made = made }
       unwritten NotKept h = record { source = source; answer = answer; read = read; made = made }

@@ -10,7 +10,7 @@ use Rattle.swc_tree_scoping.specs.Scopes.{is_reference}
 use Rattle.swc_tree_spaces.specs.Spaces.{ResolvedBy}
 use Rattle.swc_tree_walk.specs.Sites.{StandsIn, sites}
 use Rattle.mucwathi_passes.specs.Passes.{own_table}
-use Rattle.mucwathi_looks.specs.declared.names.FreeName.{FreeName}
+use Rattle.mucwathi_lists.specs.declared.lists.FreeName.{FreeName}
 use Rattle.mucwathi_looks.specs.Names.{AreNamesOf, HasNamesOf, IsFirstUse, IsFree, IsFreeAmong, Seen, is_only}
 
 only_is : (c : List ℕ) → IsTrue (is_only 1 c) → c ≡ 1 ∷ []

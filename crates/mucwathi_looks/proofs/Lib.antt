@@ -1,4 +1,5 @@
 mod Free
 mod Noted
+mod Standing
 mod Texts
 mod Unlooked

@@ -5,7 +5,7 @@ use Rattle.std.proofs.lemmas.List.Elements.{Contains-append_left, Contains-push,
 use Rattle.swc_tree_walk.specs.Sites.{site_of}
 use Rattle.swc_tree_walk.specs.declared.identifiers.Site.{Site}
 use Rattle.swc_tree_renaming.proofs.Core.{head_in, none_in, tail_in}
-use Rattle.mucwathi_looks.specs.declared.names.FreeName.{FreeName}
+use Rattle.mucwathi_lists.specs.declared.lists.FreeName.{FreeName}
 use Rattle.mucwathi_looks.specs.Names.{AddsName, AddsText, AreNamesOf, EachOnce, IsFirstUse, IsFreeAmong, Notes, Seen, Texts, has_text, is_free, name_text}
 
 each_once_push : (xs : List (List ℕ)) (y : List ℕ) → EachOnce xs → ¬ Contains xs y → EachOnce (xs ++ y ∷ [])

@@ -1,3 +1,4 @@
+pub mod Changes
 pub mod Looks
 pub mod Marked
 pub mod Names

@@ -15,7 +15,7 @@ use Rattle.swc_tree_walk.specs.Sites.{StandsIn, sites}
 use Rattle.text_parser.specs.declared.programs.Goal.{Goal}
 use Rattle.text_source.specs.Texts.{IsTextOf}
 use Rattle.mucwathi_passes.specs.Passes.{own_table}
-use Rattle.mucwathi_looks.specs.declared.names.FreeName.{FreeName}
+use Rattle.mucwathi_lists.specs.declared.lists.FreeName.{FreeName}
 
 abbrev pub name_text : FreeName → List ℕ
 name_text n = string_bytes n.text

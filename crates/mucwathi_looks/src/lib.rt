@@ -8,8 +8,8 @@ mod places;
 mod signs;
 mod trees;
 
-pub use changes::{Change, list_changes};
+pub use changes::list_changes;
 pub use marked::mark_text;
-pub use names::{FreeName, free_names};
+pub use names::free_names;
 pub use signs::{any_is_marked, signs_at};
 pub use trees::tree_of_text;

@@ -9,6 +9,7 @@ ghost use Rattle.mucwathi_looks.specs.Looks.{IsLookRefusal, IsUnlooked};
 
 use crate::places::bytes_before;
 use mucwathi_faults::RunFault;
+use mucwathi_lists::FreeName;
 use mucwathi_order::Goal;
 use mucwathi_passes::{own_marks, resolve, unresolved};
 use std::alloc::{AllocError, Global};
@@ -17,14 +18,6 @@ use swc_tree_marks::{JsWord, Mark, PassError};
 use swc_tree_node::Node;
 use swc_tree_walk::{Site, sites};
 use text_source::read_text;
-
-/// A name that nothing in the program declares.
-#[derive(Debug, Drop)]
-pub struct FreeName {
-    pub text: String,
-    /// How many bytes are before the first place where it stands.
-    pub at: usize,
-}
 
 // Whether an identifier is a reference with the one mark of names that nothing declares.
 fn is_free(unresolved: Mark, site: &Site<'_>) -> bool

@@ -1,0 +1,4 @@
+mod Mapping
+mod Naming
+mod Spotting
+mod Telling

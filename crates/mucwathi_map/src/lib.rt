@@ -1,9 +1,8 @@
 //! Source maps (ECMA-426, version 3) of what `mucwathi` writes.
 #![tactic(auto)]
 
-mod encode;
 mod mapping;
-mod positions;
 mod spots;
+mod told;
 
 pub use mapping::source_map;

@@ -1,13 +1,17 @@
 //! Texts read with their marks.
+ghost use Rattle.std.specs.Prelude.{IfOk};
+ghost use Rattle.mucwathi_signs.specs.Signed.{IsMarked};
+ghost use Rattle.mucwathi_marked.specs.Given.{IsGiven};
+
 use crate::contexts::put_marks;
 use mucwathi_faults::RunFault;
 use mucwathi_given::Envelope;
 use mucwathi_order::Goal;
 use mucwathi_passes::{own_marks, top, unresolved};
-use mucwathi_signs::{Found, Sign, blank_signs, cut_signs, find_signs};
+use mucwathi_signs::{Cut, Found, Sign, blank_signs, cut_signs, find_signs};
 use std::alloc::{AllocError, Global};
 use std::collections::BTreeSet;
-use swc_tree_marks::{Globals, NoMemory};
+use swc_tree_marks::{Globals, NoMemory, PassError};
 use swc_tree_node::Node;
 use swc_tree_walk::sites;
 use text_source::{TextFault, read_text};
@@ -81,21 +85,6 @@ fn behind_names(
     Ok(signs)
 }
 
-// The same signs in the text that is left once they are cut out.
-fn moved(alloc: Global, found: Vec<Found>) -> Result<Vec<Sign>, AllocError> {
-    let mut signs = Vec::new(alloc);
-    let mut cut = 0usize;
-    for sign in found {
-        let at = sign.from.saturating_sub(cut);
-        cut = cut.saturating_add(sign.to.saturating_sub(sign.from));
-        signs.push(Sign {
-            at,
-            marks: sign.marks,
-        })?;
-    }
-    Ok(signs)
-}
-
 // The table of the marks of signs, and of the two that a text is resolved with, each below the root.
 fn table_of(alloc: Global, signs: &[Sign]) -> Result<Globals, AllocError> {
     let mut numbers = BTreeSet::new(alloc);
@@ -138,28 +127,54 @@ fn signs_in(alloc: Global, goal: Goal, depth: u32, text: &[u8]) -> Result<Vec<Fo
     Ok(signs)
 }
 
+// The envelope of a tree, with the marks of signs on its names.
+fn marked(alloc: Global, signs: &[Sign], tree: Node) -> Result<Envelope, AllocError> {
+    let globals = table_of(alloc, signs)?;
+    let tree = with_marks(signs, tree)?;
+    Ok(envelope_of(globals, tree))
+}
+
+// A program whose signs are cut out of its text, with their marks.
+fn give_cut(
+    alloc: Global,
+    goal: Goal,
+    depth: u32,
+    text: &[u8],
+    cut: Cut,
+) -> Result<Marked, RunFault>
+    requires { IsMarked 0 cut.signs.items cut.text.items text.now }
+    ensures { IfOk result (IsGiven goal text.now) }
+{
+    let Cut { text: plain, signs } = cut;
+    match read_text(alloc, goal, depth, plain.as_slice()) {
+        Ok(tree) => match marked(alloc, signs.as_slice(), tree) {
+            Ok(program) => Ok(Marked {
+                text: plain,
+                program,
+            }),
+            Err(_) => Err(RunFault::Refused(PassError::NoMemory)),
+        },
+        Err(TextFault::NoMemory) => Err(RunFault::Refused(PassError::NoMemory)),
+        // It was read with blanks.
+        Err(_) => Err(RunFault::Text(TextFault::NotTheText)),
+    }
+}
+
 /// A program, with the marks that stand behind its names: `let a#2; { let a#3; a#2.4; }`. Its table has these, and the two that a text is
 /// resolved with.
 ///
-/// What looks like marks in strings, comments and the like is none.
+/// With these marks written into it, the text that is left is what was given, and it is the text of a program. What looks like marks in
+/// strings, comments and the like is none, and so are marks that are not written as numbers are: `a#02`.
 ///
 /// # Errors
 ///
 /// `Text` where the text is not read; `Refused` where memory is.
-pub fn give_marked(alloc: Global, goal: Goal, depth: u32, text: &[u8]) -> Result<Marked, RunFault> {
+pub fn give_marked(alloc: Global, goal: Goal, depth: u32, text: &[u8]) -> Result<Marked, RunFault>
+    ensures { IfOk result (IsGiven goal text.now) }
+{
     let found = signs_in(alloc, goal, depth, text)?;
-    let plain = cut_signs(alloc, text, found.as_slice())?;
-    let tree = match read_text(alloc, goal, depth, plain.as_slice()) {
-        Ok(tree) => tree,
-        Err(TextFault::NoMemory) => return Err(RunFault::from(AllocError)),
-        // It was read with blanks.
-        Err(_) => return Err(RunFault::Text(TextFault::NotTheText)),
-    };
-    let signs = moved(alloc, found)?;
-    let globals = table_of(alloc, signs.as_slice())?;
-    let tree = with_marks(signs.as_slice(), tree)?;
-    Ok(Marked {
-        text: plain,
-        program: envelope_of(globals, tree),
-    })
+    match cut_signs(alloc, text, found) {
+        Ok(cut) => give_cut(alloc, goal, depth, text, cut),
+        Err(_) => Err(RunFault::Refused(PassError::NoMemory)),
+    }
 }

@@ -1,6 +1,23 @@
 //! The line of a place, and a caret under it.
-use crate::cursor::{begins_character, ends_line};
 use std::alloc::AllocError;
+
+fn byte_at(text: &[u8], index: usize) -> u8 {
+    text.get(index).copied().unwrap_or(0)
+}
+
+// Whether a line ends with the byte at an index (ECMA-262, 12.3).
+fn ends_line(text: &[u8], i: usize) -> bool {
+    let byte = byte_at(text, i);
+    byte == 10
+        || byte == 13 && byte_at(text, i.saturating_add(1)) != 10
+        || (byte == 168 || byte == 169)
+            && byte_at(text, i.saturating_sub(1)) == 128
+            && byte_at(text, i.saturating_sub(2)) == 226
+}
+
+fn begins_character(byte: u8) -> bool {
+    byte < 128 || 191 < byte
+}
 
 // At most so many bytes of a line are shown before a place, and behind it.
 const WIDTH: usize = 72;

@@ -7,7 +7,8 @@ ghost use Rattle.mucwathi_page.specs.Shown.{IsPage};
 
 use crate::variables::uses_of;
 use mucwathi_faults::RunFault;
-use mucwathi_looks::{Change, list_changes};
+use mucwathi_lists::Change;
+use mucwathi_looks::list_changes;
 use mucwathi_order::{Command, Goal, Order, Settings, Style};
 use mucwathi_page::page;
 use mucwathi_passes::{own_marks, resolve};

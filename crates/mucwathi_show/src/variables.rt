@@ -1,5 +1,5 @@
 //! Which names of a program are one variable's.
-use mucwathi_looks::Change;
+use mucwathi_lists::Change;
 use mucwathi_page::Use;
 use std::alloc::{AllocError, Global};
 use std::collections::BTreeMap;

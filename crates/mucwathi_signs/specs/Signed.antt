@@ -18,6 +18,11 @@ pub data IsSigned : ℕ → List Sign → List ℕ → List ℕ → Type 0 where
   signed : (from : ℕ) (s : Sign) (ss : List Sign) (before text out : List ℕ) → (from ≤ s.at → s.at ≤ from + length (before ++ text) → s.at ≡ from + length before) → IsSigned (from + length before) ss text out
       → IsSigned from (s ∷ ss) (before ++ text) (before ++ sign_text s.marks.items ++ out)
 
+-- the same where each sign stands where it says
+pub data IsMarked : ℕ → List Sign → List ℕ → List ℕ → Type 0 where
+  plain : (from : ℕ) (text : List ℕ) → IsMarked from [] text text
+  marked : (from : ℕ) (s : Sign) (ss : List Sign) (before text out : List ℕ) → s.at ≡ from + length before → IsMarked (from + length before) ss text out → IsMarked from (s ∷ ss) (before ++ text) (before ++ sign_text s.marks.items ++ out)
+
 -- what is before a sign was added, and the sign
 pub record IsPut (text : List ℕ) (from : ℕ) (s : Sign) (old new : List ℕ) (to : ℕ) : Type 0 where
   pub before : List ℕ

@@ -31,8 +31,11 @@ fn may_end_name(text: &[u8], at: usize) -> bool {
     may_be_named(last) || last == b'}'
 }
 
-// The number whose digits begin at a place, and the place behind them; none where it is 0 or no mark is so great.
+// The number whose digits begin at a place, and the place behind them; none where the first is 0 or no mark is so great.
 fn number_at(text: &[u8], from: usize) -> Option<(u32, usize)> {
+    if byte_at(text, from) == b'0' {
+        return None;
+    }
     let mut number = 0u32;
     for i in from..text.len() {
         let byte = byte_at(text, i);

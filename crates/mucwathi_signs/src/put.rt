@@ -19,7 +19,7 @@ fn add_more(alloc: Global, marks: &[u32], out: &mut Vec<u8>) -> Result<(), Alloc
 }
 
 // Adds what is written for marks.
-fn add_sign(alloc: Global, marks: &[u32], out: &mut Vec<u8>) -> Result<(), AllocError>
+pub(crate) fn add_sign(alloc: Global, marks: &[u32], out: &mut Vec<u8>) -> Result<(), AllocError>
     ensures { OnOk result (out.new.items ≡ out.old.items ++ sign_text marks.now) }
 {
     let [first, more @ ..] = marks else {
@@ -68,18 +68,6 @@ pub fn put_signs(alloc: Global, text: &[u8], signs: &[Sign]) -> Result<Vec<u8>, 
         from = put_sign(alloc, text, from, sign, &mut out)?;
     }
     out.extend_from_slice(&text[from..])?;
-    Ok(out)
-}
-
-/// A text without signs that were found in it.
-pub fn cut_signs(alloc: Global, text: &[u8], signs: &[Found]) -> Result<Vec<u8>, AllocError> {
-    let mut out = Vec::new(alloc);
-    let mut from = 0;
-    for sign in signs {
-        out.extend_from_slice(text.get(from..sign.from).unwrap_or(&[]))?;
-        from = sign.to;
-    }
-    out.extend_from_slice(text.get(from..).unwrap_or(&[]))?;
     Ok(out)
 }
 

@@ -1,8 +1,6 @@
-use Rattle.std.proofs.Common.{◌≡◌, true, false, refl}
+use Rattle.std.proofs.Common.{refl, subst}
+use Rattle.mucwathi_answers.specs.Answers.{HasMap}
 use Rattle.mucwathi_answers.proofs.rewriting.with_map.Goals as goal
 
 pub returns-in-Ok : goal.returns-in-Ok
-returns-in-Ok c = (refl, c.requires)
-
-pub returns-in-Err : goal.returns-in-Err
-returns-in-Err c = λ none. let bad : false ≡ true = c.in-Err.ensures none in cc
+returns-in-Ok c = (refl, c.requires, subst (λ out. HasMap c.args.task.now.map c.args.order.now c.args.of out c.in-Ok.map.items) c.as_slice.ensures.value c.in-Ok.ensures)

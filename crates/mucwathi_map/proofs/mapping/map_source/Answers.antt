@@ -1,5 +1,8 @@
-use Rattle.mucwathi_faults.proofs.Programs.{opens}
+use Rattle.std.proofs.Common.{inl, refl}
 use Rattle.mucwathi_map.proofs.mapping.map_source.Goals as goal
 
-pub answer_to-requires : goal.answer_to-requires
-answer_to-requires c = opens c.args.order.now.goal c.args.source.now c.requires.fits
+pub map_copy-requires-clause-same : goal.map_copy-requires-clause-same
+map_copy-requires-clause-same c = c.in-Ok.ensures.cases
+
+pub returns-in-Err : goal.returns-in-Err
+returns-in-Err c = inl refl

@@ -1,0 +1,3 @@
+pub mod Changing
+pub mod Listing
+pub mod Steps

@@ -1,0 +1,19 @@
+use Rattle.std.proofs.Common.{Option, option_map, Bor, List, ℕ, ap, sym, ◌∙◌}
+use Rattle.mucwathi_mappings.specs.Segments.{text_of}
+use Rattle.mucwathi_map.specs.Spots.{names_in}
+use Rattle.mucwathi_map.proofs.Naming.{no_name, no_old, other_old, same_old}
+use Rattle.mucwathi_map.proofs.told.old_name.Goals as goal
+
+pub returns-in-None : goal.returns-in-None
+returns-in-None c = no_name (names_in c.args.olds.now) c.args.new.now c.in-None.is
+
+pub returns-in-None-in-Some : goal.returns-in-None-in-Some
+returns-in-None-in-Some c = no_old (names_in c.args.olds.now) c.args.new.now c.in-Some.name c.in-Some.is (ap (option_map text_of) (sym c.in-None-in-Some.ensures.value))
+
+pub returns-then-is_same : goal.returns-then-is_same
+returns-then-is_same c =
+    same_old (names_in c.args.olds.now) c.args.new.now c.in-Some.name c.in-Some-2.old.now.now c.in-Some.is (ap (option_map text_of) (sym c.in-Some-2.ensures.value)) (sym c.is_same.ensures ∙ c.if-is_same.true)
+
+pub returns-else-is_same : goal.returns-else-is_same
+returns-else-is_same c =
+    other_old (names_in c.args.olds.now) c.args.new.now c.in-Some.name c.in-Some-2.old.now.now c.in-Some.is (ap (option_map text_of) (sym c.in-Some-2.ensures.value)) (sym c.is_same.ensures ∙ c.if-is_same.false)

@@ -1,0 +1,158 @@
+-- What is told of one place after another.
+use Rattle.std.proofs.Common.{◌≡◌, ℕ, ◌+◌, ◌-◌, ◌*◌, ◌/◌, ◌%◌, ◌<◌, ◌≤◌, Bool, true, false, List, [], ◌∷◌, ◌++◌, Option, Some, None, Bor, length, map, min, unwrap_or, refl, sym, ap, ◌∙◌, subst, arith}
+use Rattle.std.proofs.lemmas.Bool.Decides.{nat_tests}
+use Rattle.std.proofs.lemmas.List.{append-nil, append_assoc, map_push}
+use Rattle.std.specs.BTreeMap.{BTreeMap, IsOrdered}
+use Rattle.std.specs.Map.Iter.{deref_pair}
+use Rattle.std.specs.Ordering.{nat_cmp}
+use Rattle.std.specs.Prelude.{if◌then◌else◌, nat_lt}
+use Rattle.mucwathi_mappings.specs.declared.encode.Entry.{Entry}
+use Rattle.mucwathi_mappings.specs.declared.encode.Told.{Told}
+use Rattle.mucwathi_mappings.specs.declared.positions.Position.{Position}
+use Rattle.mucwathi_mappings.specs.declared.segments.Segment.{Segment}
+use Rattle.mucwathi_mappings.specs.Mappings.{AddsMappings, AddsName, AreMappings, Continues, IsEntry, comma, entry_of, start}
+use Rattle.mucwathi_mappings.specs.Numbers.{AddsNumber, AddsWay, IsNumber, digit, way}
+use Rattle.mucwathi_mappings.specs.Positions.{IsPosition, line}
+
+pub number_last : (n : ℕ) (old new : List ℕ) → n < 32 → new ≡ old ++ digit n ∷ [] → AddsNumber n old new
+number_last n old new small whole = record { digits = digit n ∷ []; whole = whole; are = IsNumber.last n small }
+
+pub number_more : (n : ℕ) (old mid new : List ℕ) → 32 ≤ n → mid ≡ old ++ digit (n % 32 + 32) ∷ [] → AddsNumber (n / 32) mid new → AddsNumber n old new
+number_more n old mid new great whole rest = record {
+  digits = digit (n % 32 + 32) ∷ rest.digits;
+  whole = rest.whole ∙ ap (λ (l : List ℕ). l ++ rest.digits) whole ∙ append_assoc old (digit (n % 32 + 32) ∷ []) rest.digits;
+  are = IsNumber.more n rest.digits great rest.are;
+}
+
+pub far_last : (far back n : ℕ) (old new : List ℕ) → far < 16 → back < 2 → n ≡ far * 2 + back → new ≡ old ++ digit n ∷ [] → AddsNumber (2 * far + back) old new
+far_last far back n old new small low is whole =
+    let same : n ≡ 2 * far + back = omega arith in
+    let fits : n < 32 = omega arith in
+    subst (λ m. AddsNumber m old new) same (number_last n old new fits whole)
+
+pub far_more : (far back n : ℕ) (old mid new : List ℕ) → 16 ≤ far → back < 2 → n ≡ far % 16 * 2 + back + 32 → mid ≡ old ++ digit n ∷ [] → AddsNumber (far / 16) mid new → AddsNumber (2 * far + back) old new
+far_more far back n old mid new great low is whole rest =
+    let first : n ≡ (2 * far + back) % 32 + 32 = omega arith in
+    let others : far / 16 ≡ (2 * far + back) / 32 = omega arith in
+    let much : 32 ≤ 2 * far + back = omega arith in
+    number_more (2 * far + back) old mid new much (whole ∙ ap (λ m. old ++ digit m ∷ []) first) (subst (λ m. AddsNumber m mid new) others rest)
+
+-- ---- ways
+
+pub way_back : (from to : ℕ) (old new : List ℕ) → to < from → AddsNumber (2 * (from - to) + 1) old new → AddsWay from to old new
+way_back from to old new back h =
+    let test : nat_lt to from ≡ true = grind (arith, nat_tests) in
+    subst (λ b. AddsNumber (if b then 2 * (from - to) + 1 else 2 * (to - from)) old new) (sym test) h
+
+pub way_forth : (from to : ℕ) (old new : List ℕ) → from ≤ to → AddsNumber (2 * (to - from) + 0) old new → AddsWay from to old new
+way_forth from to old new forth h =
+    let test : nat_lt to from ≡ false = grind (arith, nat_tests) in
+    let same : 2 * (to - from) + 0 ≡ 2 * (to - from) = omega arith in
+    subst (λ b. AddsNumber (if b then 2 * (from - to) + 1 else 2 * (to - from)) old new) (sym test) (subst (λ n. AddsNumber n old new) same h)
+
+-- ---- lines
+
+pub continues_none : (t : Told) (old : List ℕ) → Continues t [] old old t
+continues_none t old = record { text = []; whole = sym (append-nil old); goes_on = λ us rest h. h }
+
+pub continues_both : (t there far : Told) (es us : List Entry) (old mid new : List ℕ) → Continues t es old mid there → Continues there us mid new far → Continues t (es ++ us) old new far
+continues_both t there far es us old mid new one other = record {
+  text = one.text ++ other.text;
+  whole = other.whole ∙ ap (λ (l : List ℕ). l ++ other.text) one.whole ∙ append_assoc old one.text other.text;
+  goes_on = λ vs rest h.
+      let all : AreMappings t (es ++ (us ++ vs)) (one.text ++ (other.text ++ rest)) = one.goes_on (us ++ vs) (other.text ++ rest) (other.goes_on vs rest h) in
+      subst (λ l. AreMappings t l ((one.text ++ other.text) ++ rest)) (sym (append_assoc es us vs))
+      (subst (λ l. AreMappings t (es ++ (us ++ vs)) l) (sym (append_assoc one.text other.text rest)) all);
+}
+
+-- behind a line end
+abbrev pub line_told : Told → ℕ → Told
+line_told t n = record { line = n; column = 0; source_line = t.source_line; source_column = t.source_column; name = t.name; begun = false }
+
+continues_line : (t : Told) (n : ℕ) (old new : List ℕ) → t.line ≡ n → new ≡ old ++ 59 ∷ [] → Continues t [] old new (line_told t (n + 1))
+continues_line t n old new is whole = record {
+  text = 59 ∷ [];
+  whole = whole;
+  goes_on = λ us rest h. AreMappings.next_line t us rest (subst (λ k. AreMappings (line_told t (k + 1)) us rest) (sym is) h);
+}
+
+pub continues_lines : (t here : Told) (n : ℕ) (old mid new : List ℕ) → Continues t [] old mid here → here.line ≡ n → new ≡ mid ++ 59 ∷ [] → Continues t [] old new (line_told here (n + 1))
+continues_lines t here n old mid new before is whole = continues_both t here (line_told here (n + 1)) [] [] old mid new before (continues_line here n mid new is whole)
+
+-- ---- entries
+
+pub comma_added : (begun : Bool) (old new : List ℕ) → begun ≡ true → new ≡ old ++ 44 ∷ [] → new ≡ old ++ comma begun
+comma_added begun old new is whole = whole ∙ ap (λ b. old ++ comma b) (sym is)
+
+pub no_comma : (begun : Bool) (old : List ℕ) → begun ≡ false → old ≡ old ++ comma begun
+no_comma begun old is = sym (append-nil old) ∙ ap (λ b. old ++ comma b) (sym is)
+
+pub name_told : (last : ℕ) (name : Option ℕ) (n : ℕ) (old new : List ℕ) → name ≡ Some n → AddsWay last n old new → AddsName last name old new × (n ≡ unwrap_or name last)
+name_told last name n old new is way =
+    let one : AddsName last (Some n) old new × (n ≡ unwrap_or (Some n) last) = (record { text = way.digits; whole = way.whole; is = way.are }, refl) in
+    subst (λ (o : Option ℕ). AddsName last o old new × (n ≡ unwrap_or o last)) (sym is) one
+
+pub no_name_told : (last : ℕ) (name : Option ℕ) (old : List ℕ) → name ≡ None → AddsName last name old old × (last ≡ unwrap_or name last)
+no_name_told last name old is =
+    let none : AddsName last None old old × (last ≡ unwrap_or None last) = (record { text = []; whole = sym (append-nil old); is = refl }, refl) in
+    subst (λ (o : Option ℕ). AddsName last o old old × (last ≡ unwrap_or o last)) (sym is) none
+
+-- behind an entry whose name, or the last, has that number
+abbrev pub entry_told : Told → Entry → ℕ → Told
+entry_told t e n = record { line = t.line; column = e.column; source_line = e.source_line; source_column = e.source_column; name = n; begun = true }
+
+pub continues_entry : (t : Told) (e : Entry) (n : ℕ) (old a b c d f new : List ℕ) → t.line ≡ e.line → a ≡ old ++ comma t.begun → AddsWay t.column e.column a b → c ≡ b ++ 65 ∷ [] → AddsWay t.source_line e.source_line c d
+    → AddsWay t.source_column e.source_column d f → AddsName t.name e.name f new → n ≡ unwrap_or e.name t.name → Continues t (e ∷ []) old new (entry_told t e n)
+continues_entry t e n old a b c d f new line begun column source line_way column_way name number =
+    let one : List ℕ = column.digits ++ 65 ∷ line_way.digits ++ column_way.digits ++ name.text in
+    let entry : IsEntry t e one = record {
+      column_way = column.digits;
+      line_way = line_way.digits;
+      source_way = column_way.digits;
+      name_way = name.text;
+      column_is = column.are;
+      line_is = line_way.are;
+      source_is = column_way.are;
+      name_is = name.is;
+      whole = refl;
+    } in
+    record {
+      text = comma t.begun ++ one;
+      whole = name.whole ∙ ap (λ (l : List ℕ). l ++ name.text) (column_way.whole ∙ ap (λ (l : List ℕ). l ++ column_way.digits) (line_way.whole ∙ ap (λ (l : List ℕ). l ++ line_way.digits) (source ∙ ap (λ (l : List ℕ). l ++ 65 ∷ []) (column.whole ∙ ap (λ (l : List ℕ). l ++ column.digits) begun)))) ∙ simp append_assoc;
+      goes_on = λ us rest h. AreMappings.entry t e us one rest (sym line) entry (subst (λ k. AreMappings (entry_told t e k) us rest) number h);
+    }
+
+-- ---- places
+
+pub entry_is : (text : List ℕ) (place : ℕ) (s : Segment) (p : Position) → IsPosition text (min place (length text)) p
+    → record { line = p.line; column = p.column; source_line = s.line; source_column = s.column; name = s.name } ≡ entry_of text (place, s)
+entry_is text place s p is =
+    let by : ℕ → ℕ → Entry = λ (l : ℕ) (k : ℕ). record { line = l; column = k; source_line = s.line; source_column = s.column; name = s.name } in
+    ap (λ l. by l p.column) is.line_is ∙ ap (λ k. by (line text (min place (length text))) k) is.column_is
+
+pub mappings_step : (text : List ℕ) (xs : List (Bor ℕ × Bor Segment)) (x : Bor ℕ × Bor Segment) (e : Entry) (told there : Told) (old mid new : List ℕ) → e ≡ entry_of text (deref_pair x)
+    → Continues start (map (entry_of text) (map deref_pair xs)) old mid told → Continues told (e ∷ []) mid new there → Continues start (map (entry_of text) (map deref_pair (xs ++ x ∷ []))) old new there
+mappings_step text xs x e told there old mid new is before one =
+    let more : map (entry_of text) (map deref_pair (xs ++ x ∷ [])) ≡ map (entry_of text) (map deref_pair xs) ++ e ∷ [] =
+    ap (map (entry_of text)) (map_push deref_pair xs x) ∙ map_push (entry_of text) (map deref_pair xs) (deref_pair x) ∙ ap (λ (z : Entry). map (entry_of text) (map deref_pair xs) ++ z ∷ []) (sym is) in
+    subst (λ l. Continues start l old new there) (sym more) (continues_both start told there (map (entry_of text) (map deref_pair xs)) (e ∷ []) old mid new before one)
+
+pub mappings_all : (text : List ℕ) (xs : List (Bor ℕ × Bor Segment)) (places : BTreeMap ℕ Segment) (there : Told) (old new : List ℕ) → map deref_pair xs ≡ places.entries → IsOrdered nat_cmp places
+    → Continues start (map (entry_of text) (map deref_pair xs)) old new there → AddsMappings text places old new
+mappings_all text xs places there old new all rise told =
+    let es : List Entry = map (entry_of text) (map deref_pair xs) in
+    let whole : AreMappings start es told.text =
+    subst (λ l. AreMappings start es l) (append-nil told.text) (subst (λ l. AreMappings start l (told.text ++ [])) (append-nil es) (told.goes_on [] [] (AreMappings.ended there))) in
+    record {
+      mappings = told.text;
+      whole = told.whole;
+      rise = rise;
+      are = subst (λ ps. AreMappings start (map (entry_of text) ps) told.text) all whole;
+    }
+
+-- ---- the whole
+
+pub whole_map : (old a b c d e f new first name second names third mappings last : List ℕ) → old ≡ [] → a ≡ old ++ first → b ≡ a ++ name → c ≡ b ++ second → d ≡ c ++ names → e ≡ d ++ third → f ≡ e ++ mappings → new ≡ f ++ last
+    → new ≡ first ++ name ++ second ++ names ++ third ++ mappings ++ last
+whole_map old a b c d e f new first name second names third mappings last empty one two three four five six seven =
+    seven ∙ ap (λ (l : List ℕ). l ++ last) (six ∙ ap (λ (l : List ℕ). l ++ mappings) (five ∙ ap (λ (l : List ℕ). l ++ third) (four ∙ ap (λ (l : List ℕ). l ++ names) (three ∙ ap (λ (l : List ℕ). l ++ second) (two ∙ ap (λ (l : List ℕ). l ++ name) (one ∙ ap (λ (l : List ℕ). l ++ first) empty))))))
