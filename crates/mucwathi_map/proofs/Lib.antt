@@ -1,4 +1,4 @@
-mod Mapping
+mod Placing
 mod Naming
 mod Spotting
 mod Telling
