@@ -70,7 +70,7 @@ first_behind xs limit i n position within is rise =
     )
 
 pub never : (b : Bool) → b ≡ true → b ≡ false → ⊥
-never b yes no = cc
+never b holds fails = cc
 
 -- nothing more
 pub nothing_added : (xs : List ℕ) → xs ≡ xs ++ []
