@@ -69,6 +69,9 @@ first_behind xs limit i n position within is rise =
           ],
     )
 
+pub never : (b : Bool) → b ≡ true → b ≡ false → ⊥
+never b holds fails = cc
+
 -- nothing more
 pub nothing_added : (xs : List ℕ) → xs ≡ xs ++ []
 nothing_added xs = sym (append-nil xs)

@@ -1,5 +1,5 @@
 -- One more of a list.
-use Rattle.std.proofs.Common.{◌≡◌, ℕ, ◌+◌, ◌<◌, ◌≤◌, Bool, true, false, List, [], ◌∷◌, ◌++◌, length, map, drop, get_or, refl, sym, ap, subst, ◌∙◌}
+use Rattle.std.proofs.Common.{◌≡◌, ℕ, ◌+◌, ◌<◌, ◌≤◌, Bool, true, false, List, [], ◌∷◌, ◌++◌, length, map, drop, get_or, refl, sym, ap, subst, ◌∙◌, arith}
 use Rattle.std.proofs.lemmas.List.{append_assoc, append-nil, drop_more, drop_all, map-append}
 use Rattle.std.specs.Prelude.{if◌then◌else◌}
 use Rattle.text_comments.specs.declared.comment.Comment.{Comment}
@@ -27,6 +27,10 @@ number_more numbers now us i d within is added =
     let rest = not_put (i + 1) (drop (i + 1) us) in
     ap (λ l. l ++ rest) added ∙ append_assoc numbers (i ∷ []) rest
     ∙ ap (λ l. numbers ++ l) (sym (not_put_more us i d within ∙ ap (λ b. if b then rest else i ∷ rest) is))
+
+pub none_left : (ns : List ℕ) → length ns ≡ 0 → [] ≡ ns
+none_left [] none = refl
+none_left (n ∷ ns) none = absurd (omega arith)
 
 -- one that is left more
 pub left_more : (ls now : List Left) (l : Left) (ns : List ℕ) (i d : ℕ) → i < length ns → l.number ≡ get_or ns i d → now ≡ ls ++ l ∷ []

@@ -84,7 +84,10 @@ IsSet c rs items text = IsSetFrom c text rs true ending.Closed [] items text
 
 -- A text has the tokens of a tree, and comments of those given and no others: each at most once, as it is written, between the tokens
 -- round a frame where it stands, those of one place in their order. Just the others are left, and each is told why.
-pub record IsCommented (c : Comments) (t : Node) (rs : List Remark) (text : List ℕ) (left : List Left) : Type 0 where
-  pub follows : Follows c false (pieces t) text
-  pub set : (used : List Bool) × (items : List Item) × PutsAmong rs (replicate (length rs) false) (framed_pieces t) items used × IsSet c rs items text × (map (λ l. l.number) left ≡ not_put 0 used)
-  pub told : All (λ l. IsTold c (framed_pieces t) (slice_get rs l.number) l.why) left
+pub record IsWrittenWith (c : Comments) (tokens framed : List Piece) (rs : List Remark) (text : List ℕ) (left : List Left) : Type 0 where
+  pub follows : Follows c false tokens text
+  pub set : (used : List Bool) × (items : List Item) × PutsAmong rs (replicate (length rs) false) framed items used × IsSet c rs items text × (map (λ l. l.number) left ≡ not_put 0 used)
+  pub told : All (λ l. IsTold c framed (slice_get rs l.number) l.why) left
+
+abbrev pub IsCommented : Comments → Node → List Remark → List ℕ → List Left → Type 0
+IsCommented c t rs text left = IsWrittenWith c (pieces t) (framed_pieces t) rs text left

@@ -1,5 +1,5 @@
 //! A text held against pieces with comments among them.
-ghost use Rattle.std.specs.Prelude.{◌≡◌, ℕ, ◌-◌, ◌^◌, ◌<◌, Bool, List, [], Some, length, map, slice_get, IfOk, IfSome, IsTrue};
+ghost use Rattle.std.specs.Prelude.{◌≡◌, ℕ, ◌-◌, ◌^◌, ◌<◌, Bool, List, [], Some, length, map, IfOk, IsTrue};
 ghost use Rattle.text_comments.specs.Comments.{before_token, before_tokens};
 ghost use Rattle.text_commented.specs.Commented.{IsSet, Meets, due_behind, item_view, remark, token, written};
 ghost use Rattle.text_commented.specs.Steps.{GoesOn, Steps};
@@ -9,7 +9,7 @@ ghost use Rattle.text_lexer.specs.declared.blank.Comments.{Comments};
 ghost use Rattle.text_pieces.specs.Tokens.{piece_view};
 
 use crate::choose::text_of;
-use crate::remark::{Item, Remark};
+use crate::remark::{Item, Remark, remark_at};
 use std::alloc::{AllocError, Global};
 use text_comments::{Comment, Source, add_before_token, add_before_tokens};
 use text_follow::{ending_behind, fresh_behind, goal_of, take};
@@ -92,15 +92,6 @@ fn is_at_end(comments: Comments, fresh: bool, text: &[u8]) -> bool
     match skip_blank(comments, fresh, text) {
         Some((_, end)) => end.is_empty(),
         None => false,
-    }
-}
-
-fn remark_at<'r>(remarks: &[Remark<'r>], number: usize) -> Option<Remark<'r>>
-    ensures { IfSome result (λ remark. slice_get remarks.now number ≡ Some remark) }
-{
-    match remarks.get(number) {
-        Some(remark) => Some(*remark),
-        None => None,
     }
 }
 

@@ -143,8 +143,9 @@ pub fn remarks_of<'t>(
 ) -> Result<Vec<Remark<'t>>, AllocError>
     ensures { IfOk result (λ remarks. AreChosen text.now (all_places (pieces_of tree.now)) comments.now remarks.items) }
 {
-    let pieces = framed_pieces(alloc, tree)?;
-    let sites = sites_of(alloc, false, &pieces)?;
+    let found = framed_pieces(alloc, tree)?;
+    let pieces = found.as_slice();
+    let sites = sites_of(alloc, false, pieces)?;
     let remarks = remarks_by(alloc, text, comments, &sites)?;
     Ok(remarks)
 }

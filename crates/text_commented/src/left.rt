@@ -9,7 +9,7 @@ ghost use Rattle.text_pieces.specs.Tokens as tokens;
 ghost use Rattle.text_pieces.specs.Tokens.{piece_view};
 
 use crate::fault::SetFault;
-use crate::remark::Remark;
+use crate::remark::{Remark, remark_at};
 use crate::sites::{Sites, sites_of};
 use std::alloc::{AllocError, Global};
 use text_comments::{ends_line, is_one_comment};
@@ -53,19 +53,23 @@ pub(crate) fn numbers_left(alloc: Global, used: &[bool]) -> Result<Vec<usize>, A
 fn why_of(comments: Comments, remark: Remark<'_>, all: &Sites, tight: &Sites) -> Option<Why>
     ensures { IfSome result (λ why. (ps : List tokens.Piece) → IsSites all.now (all_places ps) → IsSites tight.now (tight_places ps) → IsWhy comments ps remark.entry why) }
 {
-    if !is_one_comment(comments, remark.text) {
+    let is_one = is_one_comment(comments, remark.text);
+    if !is_one {
         return Some(Why::NoComment);
     }
-    if !all.has(remark.at) {
+    let is_placed = all.has(remark.at);
+    if !is_placed {
         return Some(Why::NoPlace);
     }
-    if !ends_line(remark.text) {
+    let ends = ends_line(remark.text);
+    if !ends {
         return None;
     }
-    if tight.has(remark.at) {
-        return Some(Why::NoLineEnd);
+    let is_tight = tight.has(remark.at);
+    if !is_tight {
+        return None;
     }
-    None
+    Some(Why::NoLineEnd)
 }
 
 fn why_at(
@@ -77,7 +81,9 @@ fn why_at(
 ) -> Option<Why>
     ensures { IfSome result (λ why. (ps : List tokens.Piece) → IsSites all.now (all_places ps) → IsSites tight.now (tight_places ps) → IsTold comments ps (slice_get remarks.now number) why) }
 {
-    let remark = *remarks.get(number)?;
+    let Some(remark) = remark_at(remarks, number) else {
+        return None;
+    };
     why_of(comments, remark, all, tight)
 }
 
@@ -112,6 +118,7 @@ fn left_by(
 }
 
 /// Those that are left of what is written among the pieces of a tree, each with why it is.
+#[tactic(auto, using(crate::proofs::Steps::none_left, std::proofs::lemmas::Grind::common_steps))]
 pub(crate) fn left_of(
     alloc: Global,
     comments: Comments,
@@ -122,7 +129,8 @@ pub(crate) fn left_of(
     ensures each { IfOk result (λ left. map (λ l. l.number) left.items ≡ numbers.now) }
     ensures told { IfOk result (λ left. All (λ l. IsTold comments (map piece_view pieces.now) (slice_get remarks.now l.number) l.why) left.items) }
 {
-    if numbers.is_empty() {
+    let count = numbers.len();
+    if count == 0 {
         return Ok(Vec::new(alloc));
     }
     let all = sites_of(alloc, false, pieces)?;

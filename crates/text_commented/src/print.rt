@@ -1,13 +1,13 @@
 //! The text of a tree, with comments.
-ghost use Rattle.std.specs.Prelude.{◌≡◌, ◌-◌, ◌^◌, ◌<◌, false, length, map, IfOk, IsTrue};
-ghost use Rattle.text_commented.specs.Commented.{IsCommented, IsSet, item_view};
+ghost use Rattle.std.specs.Prelude.{false, length, map, replicate, IfOk, IsTrue, OnOk};
+ghost use Rattle.text_commented.specs.Commented.{IsCommented, IsSet, IsWrittenWith, PutsAmong, item_view};
 ghost use Rattle.text_follow.specs.Follows.{Follows};
 ghost use Rattle.text_pieces.specs.Pieces.{pieces as pieces_of};
 ghost use Rattle.text_pieces.specs.Tokens.{piece_view};
 
 use crate::check::is_set;
 use crate::fault::SetFault;
-use crate::fit::{Given, order_of, put_among};
+use crate::fit::{Given, Put, order_of, put_among};
 use crate::frames::{Places, key_of};
 use crate::left::{Left, left_of, numbers_left};
 use crate::remark::{At, Item, Remark};
@@ -67,34 +67,34 @@ fn follows_strictly(comments: Comments, text: &[u8], pieces: &[Piece<'_>]) -> bo
     follows(comments, false, text, pieces)
 }
 
-// The text, if it has the tokens and the items.
-fn checked(
+// Whether a text has the tokens and the items.
+fn check(
     alloc: Global,
     comments: Comments,
     tree: &Node,
     remarks: &[Remark<'_>],
     items: &[Item<'_>],
-    text: Vec<u8>,
-) -> Result<Vec<u8>, SetFault>
-    ensures follows { IfOk result (λ out. Follows comments false (pieces_of tree.now) out.items) }
-    ensures set { IfOk result (λ out. IsSet comments remarks.now (map item_view items.now) out.items) }
+    text: &[u8],
+) -> Result<(), SetFault>
+    ensures follows { OnOk result (Follows comments false (pieces_of tree.now) text.now) }
+    ensures set { OnOk result (IsSet comments remarks.now (map item_view items.now) text.now) }
 {
     if text.len() >= u32::MAX as usize {
         return Err(SetFault::TooLong);
     }
     let found = pieces(alloc, tree)?;
-    if !follows_strictly(comments, &text, &found) {
+    if !follows_strictly(comments, text, &found) {
         return Err(SetFault::NotSpelled);
     }
     let source = Source {
         comments,
-        whole: &text,
+        whole: text,
     };
-    if is_set(alloc, source, remarks, items)? {
-        Ok(text)
-    } else {
-        Err(SetFault::NotSet)
+    let is_so = is_set(alloc, source, remarks, items)?;
+    if !is_so {
+        return Err(SetFault::NotSet);
     }
+    Ok(())
 }
 
 // Where the comments stand, held against the frames of a tree.
@@ -108,6 +108,49 @@ fn places_of(
         keys.push(key_of(remark.at))?;
     }
     Places::among(alloc, keys, pieces)
+}
+
+// The pieces in their order, and comments among them.
+fn put_of<'a>(
+    alloc: Global,
+    comments: Comments,
+    remarks: &[Remark<'_>],
+    pieces: &[Piece<'a>],
+) -> Result<Put<'a>, AllocError>
+    ensures { IfOk result (λ put. PutsAmong remarks.now (replicate (length remarks.now) false) (map piece_view pieces.now) (map item_view put.items.items) put.used.items) }
+{
+    let places = places_of(alloc, remarks, pieces)?;
+    let order = order_of(alloc, remarks)?;
+    let given = Given {
+        comments,
+        remarks,
+        order: &order,
+    };
+    let put = put_among(alloc, given, places, pieces)?;
+    Ok(put)
+}
+
+// The same of the pieces of a tree.
+fn print_among(
+    alloc: Global,
+    comments: Comments,
+    layout: Layout,
+    tree: &Node,
+    remarks: &[Remark<'_>],
+    framed: &[Piece<'_>],
+) -> Result<Printed, SetFault>
+    ensures { IfOk result (λ out. IsWrittenWith comments (pieces_of tree.now) (map piece_view framed.now) remarks.now out.text.items out.left.items) }
+{
+    let put = put_of(alloc, comments, remarks, framed)?;
+    let items = put.items.as_slice();
+    let text = text_of_items(alloc, layout, remarks, items)?;
+    let bytes = text.as_slice();
+    check(alloc, comments, tree, remarks, items, bytes)?;
+    let used = put.used.as_slice();
+    let numbers = numbers_left(alloc, used)?;
+    let each = numbers.as_slice();
+    let left = left_of(alloc, comments, remarks, each, framed)?;
+    Ok(Printed { text, left })
 }
 
 /// A text that is written with the tokens of a tree, in UTF-8, and with comments: each is written once, before the first node that begins
@@ -127,17 +170,7 @@ pub fn print_text_with_comments(
     ensures { IfOk result (λ out. IsCommented comments tree.now remarks.now out.text.items out.left.items) }
 {
     let found = framed_pieces(alloc, tree)?;
-    let places = places_of(alloc, remarks, &found)?;
-    let order = order_of(alloc, remarks)?;
-    let given = Given {
-        comments,
-        remarks,
-        order: &order,
-    };
-    let put = put_among(alloc, given, places, &found)?;
-    let made = text_of_items(alloc, layout, remarks, &put.items)?;
-    let text = checked(alloc, comments, tree, remarks, &put.items, made)?;
-    let numbers = numbers_left(alloc, &put.used)?;
-    let left = left_of(alloc, comments, remarks, &numbers, &found)?;
-    Ok(Printed { text, left })
+    let framed = found.as_slice();
+    let printed = print_among(alloc, comments, layout, tree, remarks, framed)?;
+    Ok(printed)
 }

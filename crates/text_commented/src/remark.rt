@@ -1,5 +1,5 @@
 //! Comments that are to be written.
-ghost use Rattle.std.specs.Prelude.{◌≡◌, slice_get, IsTrue};
+ghost use Rattle.std.specs.Prelude.{◌≡◌, Some, slice_get, IfSome, IsTrue};
 ghost use Rattle.text_commented.specs.Commented.{Stands};
 
 use swc_tree_marks::BytePos;
@@ -50,5 +50,15 @@ pub(crate) fn stands_at(remarks: &[Remark<'_>], number: usize, place: At) -> boo
     match remarks.get(number) {
         Some(remark) => same_place(remark.at, place),
         None => false,
+    }
+}
+
+/// The comment of this number, if there is one.
+pub(crate) fn remark_at<'r>(remarks: &[Remark<'r>], number: usize) -> Option<Remark<'r>>
+    ensures { IfSome result (λ remark. slice_get remarks.now number ≡ Some remark) }
+{
+    match remarks.get(number) {
+        Some(remark) => Some(*remark),
+        None => None,
     }
 }

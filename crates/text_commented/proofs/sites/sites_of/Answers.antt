@@ -7,11 +7,11 @@ use Rattle.text_commented.proofs.sites.sites_of.Goals as goal
 pub pieces-preserved : goal.pieces-preserved
 pieces-preserved c =
     let l = c.pieces in
-    let line = c.line_behind.ensures l.invariant.line in
+    let line = c.line_behind-line.ensures l.invariant.line in
     record {
       line = line;
-      begun = leads_more c.args.tight c.line_behind.result c.both-over.result c.args.pieces.now l.i _ l.sites.begun.items _ (omega arith) line c.both-over.ensures c.in_ok-add.ensures.begun ∙ l.invariant.begun;
-      stopped = trails_more c.args.tight c.line_behind.result c.both-over.result c.args.pieces.now l.i _ l.sites.stopped.items _ (omega arith) line c.both-over.ensures c.in_ok-add.ensures.stopped ∙ l.invariant.stopped;
+      begun = leads_more c.args.tight c.line_behind-line.result c.both-over.result c.args.pieces.now l.i _ l.sites.begun.items _ (omega arith) line c.both-over.ensures c.in_ok-add.ensures.begun ∙ l.invariant.begun;
+      stopped = trails_more c.args.tight c.line_behind-line.result c.both-over.result c.args.pieces.now l.i _ l.sites.stopped.items _ (omega arith) line c.both-over.ensures c.in_ok-add.ensures.stopped ∙ l.invariant.stopped;
     }
 
 pub returns : goal.returns
