@@ -1,5 +1,6 @@
 pub mod Seen
 pub mod Rows
 pub mod Anew
+pub mod Bound
 pub mod Pairs
 pub mod Whole
