@@ -1,5 +1,5 @@
 -- Pieces of two trees that are the same but for names that are bound.
-use Rattle.std.proofs.Common.{◌≡◌, ℕ, zero, suc, Bool, true, false, IsTrue, ◌&&◌, ◌||◌, ◌==◌, ◌⊎◌, inl, inr, Some, List, [], ◌∷◌, ◌++◌, slice_index_or, eqb-true, refl, sym, ap, ◌∙◌, subst, nat_eq}
+use Rattle.std.proofs.Common.{◌≡◌, ℕ, zero, suc, Bool, true, false, IsTrue, ◌&&◌, ◌||◌, ◌==◌, ◌⊎◌, inl, inr, Some, List, [], ◌∷◌, ◌++◌, refl, sym, ap, ◌∙◌, subst, nat_eq}
 use Rattle.std.specs.Prelude.{if◌then◌else◌, is_some, slice_get}
 use Rattle.std.specs.List.{list_any}
 use Rattle.std.specs.Cmp.Lexicographic.{pointwise}
@@ -9,13 +9,10 @@ use Rattle.swc_tree_marks.specs.declared.span.Span.{Span as Range}
 use Rattle.swc_tree_marks.specs.declared.ident.Ident.{Ident}
 use Rattle.swc_tree_node.specs.declared.kind.Kind.{Kind}
 use Rattle.swc_tree_node.specs.declared.kind.Kind.TheVariants as kind
-use Rattle.swc_tree_node.specs.declared.kind.Word.{Word as Word'}
-use Rattle.swc_tree_node.specs.declared.kind.Word.TheVariants as word
 use Rattle.swc_tree_node.specs.declared.node.Node.{Node, Span, List as Many, Identifier, Tree, out-Node, roll-Node, roll-out-Node}
 use Rattle.swc_tree_node.specs.declared.node.Node.TheOpen.{Node-F}
 use Rattle.swc_tree_node.specs.declared.node.Node.TheVariants.{outs-Identifier, outs-List, outs-Span, outs-Tree, rolls-Span}
-use Rattle.swc_tree_node.specs.Table.{kind_number, word_number}
-use Rattle.swc_tree_handle.proofs.Numbers.{same_kind}
+use Rattle.swc_tree_node.specs.Table.{kind_number}
 use Rattle.swc_tree_scoping.specs.declared.places.Place.{Place}
 use Rattle.swc_tree_scoping.specs.Places.{child, children_in, place_below, program_place}
 use Rattle.swc_tree_scoping.specs.Scopes.{is_name}
@@ -33,6 +30,7 @@ use Rattle.text_kept_pieces_laws.specs.Bound.{EachSame, SameButBound, SamePiece,
 use Rattle.text_kept_pieces_laws.specs.Laws.{BoundNamesAloneDiffer}
 use Rattle.text_kept_pieces_laws.specs.Unnamed.{is_ending}
 use Rattle.text_kept_pieces_laws.proofs.Anew.{free_layout, ident_kept, span_kept}
+use Rattle.text_kept_pieces_laws.proofs.Numbers.{same_kind, same_word}
 use Rattle.text_kept_pieces_laws.proofs.Rows.{AllKept, Kept, kept_same, list_kept, lone_pieces, moved, tree_kept}
 
 -- ---- the relation
@@ -188,18 +186,6 @@ named_by names i j c h = by (pointwise nat_eq i.sym j.sym) refl h
 
 -- ---- leaves
 
-words : List Word'
-words =
-    word.Method ∷ word.Getter ∷ word.Setter ∷ word.Var ∷ word.Let ∷ word.Const ∷ word.Minus ∷ word.Plus ∷ word.Bang ∷ word.Tilde ∷ word.TypeOf ∷ word.Void ∷ word.Delete ∷ word.PlusPlus ∷ word.MinusMinus ∷ word.EqEq ∷ word.NotEq ∷ word.EqEqEq ∷ word.NotEqEq ∷ word.Lt ∷ word.LtEq ∷ word.Gt ∷ word.GtEq ∷ word.LShift ∷ word.RShift ∷ word.ZeroFillRShift ∷ word.Mul ∷ word.Div ∷ word.Mod ∷ word.BitOr ∷ word.BitXor ∷ word.BitAnd ∷ word.LogicalOr ∷ word.LogicalAnd ∷ word.In ∷ word.InstanceOf ∷ word.Exp ∷ word.NullishCoalescing ∷ word.Assign ∷ word.AddAssign ∷ word.SubAssign ∷ word.MulAssign ∷ word.DivAssign ∷ word.ModAssign ∷ word.LShiftAssign ∷ word.RShiftAssign ∷ word.ZeroFillRShiftAssign ∷ word.BitOrAssign ∷ word.BitXorAssign ∷ word.BitAndAssign ∷ word.ExpAssign ∷ word.AndAssign ∷ word.OrAssign ∷ word.NullishAssign ∷ word.NewTarget ∷ word.ImportMeta ∷ []
-
-word_back : (x : Word') → slice_index_or words (word_number x) word.Method ≡ x
-unfolding words
-word_back word.Method = refl
-word_back _ = refl
-
-same_word : (x y : Word') → (word_number x == word_number y) ≡ true → x ≡ y
-same_word x y e = sym (word_back x) ∙ ap (λ n. slice_index_or words n word.Method) (eqb-true (word_number x) (word_number y) e) ∙ word_back y
-
 flags : (b c : Bool) → same_flag b c ≡ true → b ≡ c
 flags true c h = sym h
 flags false true h = never (sym h)
@@ -242,13 +228,13 @@ module _ (names : List Ident) where
       by (Node-F.Span r) (Node-F.Span s) o q e = as_forms t u (Span r) (Span s) (rolled t (Node-F.Span r) o ∙ rolls-Span r) (rolled u (Node-F.Span s) q ∙ rolls-Span s) (span_related names r s)
       by (Node-F.Identifier k i) (Node-F.Identifier l j) o q e =
           let parts = and_parts (kind_number k == kind_number l) (pointwise nat_eq i.sym j.sym || (is_name w.standing && list_any (same_id i) names)) e in
-          let one : k ≡ l = same_kind k l (eqb-true (kind_number k) (kind_number l) parts.0) in
+          let one : k ≡ l = same_kind k l parts.0 in
           as_forms t u (Identifier k i) (Identifier k j) (identifier_is t k i o) (identifier_is u l j q ∙ ap (λ k. Identifier k j) (sym one)) (name_related names k i j (named_by names i j (is_name w.standing) parts.1))
       by (Node-F.List ts) (Node-F.List us) o q e =
           as_forms t u (Many ts) (Many us) (list_is t ts o) (list_is u us q) (list_related names ts us (each_related (place_below w t) ts us (within (Node-F.List ts) o) e))
       by (Node-F.Tree k ts) (Node-F.Tree l us) o q e =
           let parts = and_parts (kind_number k == kind_number l) (each_same (each_in at (place_below w t) ts) us) e in
-          let one : k ≡ l = same_kind k l (eqb-true (kind_number k) (kind_number l) parts.0) in
+          let one : k ≡ l = same_kind k l parts.0 in
           as_forms t u (Tree k ts) (Tree k us) (tree_is t k ts o) (tree_is u l us q ∙ ap (λ k. Tree k us) (sym one)) (tree_related names k ts us (each_related (place_below w t) ts us (within (Node-F.Tree k ts) o) parts.1))
       by y z o q e = never (sym e)
 
