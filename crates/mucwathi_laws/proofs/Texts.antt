@@ -1,5 +1,5 @@
 -- What a command makes can be written, where the program can.
-use Rattle.std.proofs.Common.{◌≡◌, true, IsTrue, refl, sym, subst}
+use Rattle.std.proofs.Common.{IsTrue, refl, sym, subst}
 use Rattle.swc_tree_node.specs.declared.kind.Class.TheVariants as class
 use Rattle.swc_tree_node.specs.declared.slot.Content.TheVariants as content
 use Rattle.swc_tree_node.specs.declared.node.Node.{Node}

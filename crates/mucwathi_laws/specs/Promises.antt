@@ -12,8 +12,9 @@ use Rattle.swc_base_fixer.specs.Promises.{Promises}
 use Rattle.swc_ecma_transforms_base_laws.specs.Headline.{KeepsItsForm, KeepsItsSource}
 use Rattle.swc_ecma_transforms_base_laws.specs.Sources.{IsSource}
 use Rattle.swc_tree_grammar.specs.Normal.{normal_form}
+use Rattle.swc_tree_grammar.specs.Same.{declared_names}
 use Rattle.text_pieces.specs.Pieces.{pieces}
-use Rattle.text_kept_pieces_laws.specs.Unnamed.{SameButNames}
+use Rattle.text_kept_pieces_laws.specs.Bound.{SameButBound}
 use Rattle.text_kept_namings_laws.specs.Laws.{NamesAreUtf8}
 use Rattle.text_kept_chain_laws.specs.Laws.{HasTexts}
 use Rattle.mucwathi_settings.specs.declared.command.Command.{Command}
@@ -34,8 +35,8 @@ IsSameProgram source answer = (table : Table) × KeepsItsSource 1 2 own_table ta
 pub record KeepsProgram (s : Settings) (source answer : Node) : Type 0 where
   pub same : IsCovered s source → IsSameProgram source answer
   pub form : IsSource (config_of s) source → KeepsItsForm source answer
-  -- both with all written out have the same tokens, but for names
-  pub tokens : IsSource (config_of s) source → SameButNames (pieces (normal_form source)) (pieces (normal_form answer))
+  -- both with all written out have the same tokens, but for names that the program binds
+  pub tokens : IsSource (config_of s) source → SameButBound (declared_names source) (pieces (normal_form source)) (pieces (normal_form answer))
 
 -- what is promised of an answer beside that the command makes it
 abbrev pub Keeps : Command → Settings → Node → Node → Type 0

@@ -13,7 +13,7 @@ use swc_ecma_transforms_base_laws::{
 use text_kept_chain_laws::{
     fixer_keeps_texts, hygiene_keeps_texts, short_names_keep_texts, unparen_keeps_texts,
 };
-use text_kept_pieces_laws::names_alone_differ;
+use text_kept_pieces_laws::bound_names_alone_differ;
 
 /// What a command makes of a program has all that is promised of it.
 pub fn promises_are_kept()
@@ -27,7 +27,7 @@ pub fn promises_are_kept()
     resolved_sources_have_their_form();
     hygiene_stays_fitting();
     normal_form_stays();
-    names_alone_differ();
+    bound_names_alone_differ();
 }
 
 /// Where it is refused, targets are spared.

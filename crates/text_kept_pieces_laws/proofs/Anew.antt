@@ -10,6 +10,7 @@ use Rattle.swc_tree_node.specs.declared.kind.Word.{Word as Word'}
 use Rattle.swc_tree_node.specs.declared.node.Node.{Node, Absent, Flag, Word, Text, Span, List as Many, Identifier, Tree, out-Node, the_lemmas}
 use Rattle.swc_tree_node.specs.declared.node.Node.TheOpen.{Node-F}
 use Rattle.swc_tree_node.specs.declared.node.Node.TheVariants.{outs-Absent, outs-Flag, outs-Identifier, outs-List, outs-Span, outs-Text, outs-Tree, outs-Word}
+use Rattle.swc_tree_node.specs.Parts.{text_of}
 use Rattle.swc_tree_grammar.proofs.Induction.{Each, by_children}
 use Rattle.text_pieces.specs.declared.item.Ending.TheVariants as ending
 use Rattle.text_pieces.specs.declared.item.Form.{Form}
@@ -51,6 +52,36 @@ seen_name k i j = record {
     by : {X : Type 0} (g : Node-F Node → X) → g (Node-F.Identifier k i) ≡ g (Node-F.Identifier k j) → g (out-Node (Identifier k i)) ≡ g (out-Node (Identifier k j))
     by g e = by_forms g (Identifier k i) (Identifier k j) (Node-F.Identifier k i) (Node-F.Identifier k j) (outs-Identifier k i) (outs-Identifier k j) e
 
+-- two places in the source too
+seen_span : (r s : Range) → Seen (Span r) (Span s)
+seen_span r s = record {
+  set = by is_set refl;
+  hole = by is_hole refl;
+  rest = by is_rest refl;
+  default = by is_default refl;
+  named = by is_named refl;
+  declaration = by is_declaration refl;
+  expression = by is_expression_statement refl;
+  computed = by is_computed refl;
+  block = by is_block refl;
+  access = by accessor refl;
+  metas = by meta refl;
+  from = by ending_of_attributes refl;
+  key = by ending_of_key refl;
+  text = text_of_span r ∙ sym (text_of_span s);
+  part = λ p. by (template_piece p) refl;
+  comma = by takes_comma refl;
+  pair = by attribute refl;
+  list = by is_empty_list refl;
+  others = by attributes refl;
+}
+  where
+    by : {X : Type 0} (g : Node-F Node → X) → g (Node-F.Span r) ≡ g (Node-F.Span s) → g (out-Node (Span r)) ≡ g (out-Node (Span s))
+    by g e = by_forms g (Span r) (Span s) (Node-F.Span r) (Node-F.Span s) (outs-Span r) (outs-Span s) e
+
+    text_of_span : (r : Range) → text_of (Span r) ≡ None
+    text_of_span r = search (rules, the_lemmas)
+
 -- where no place is wide each layout may be
 free_form : (f : Form) → is_free false f ≡ true
 free_form form.Async = refl
@@ -63,7 +94,7 @@ free_item (item.Within n) = refl
 free_item (item.Apart n m) = refl
 free_item i = refl
 
-free_layout : (is : List Item) → layout_free (λ n. false) is ≡ true
+pub free_layout : (is : List Item) → layout_free (λ n. false) is ≡ true
 free_layout [] = refl
 free_layout (i ∷ is) = and_from (item_free (λ n. false) i) (layout_free (λ n. false) is) (free_item i) (free_layout is)
 
@@ -78,30 +109,55 @@ pub record IsAnew (g : Ident → Ident) (anew : Node → Node) : Type 0 where
   pub list : (ts : List Node) → anew (Many ts) ≡ Many (map anew ts)
   pub tree : (k : Kind) (ts : List Node) → anew (Tree k ts) ≡ Tree k (map anew ts)
 
-module _ (R : List Piece → List Piece → Type 0) (same : (ps : List Piece) → R ps ps) (join : (ps qs rs ss : List Piece) → R ps qs → R rs ss → R (ps ++ rs) (qs ++ ss))
-    (g : Ident → Ident) (named : (i : Ident) → R (name i.sym ∷ []) (name (g i).sym ∷ [])) (alone : (i : Ident) → R (parameter i.sym ∷ []) (parameter (g i).sym ∷ []))
-    (lets : (k : Kind) (i : Ident) → R (when (is_let (Node-F.Identifier k i)) (closes ending.Let)) (when (is_let (Node-F.Identifier k (g i))) (closes ending.Let))) where
-  ident_kept : (wide : Bool) (k : Kind) (i : Ident) → Kept R wide (Identifier k i) (Identifier k (g i))
-  ident_kept wide k i = record {
+module _ (R : List Piece → List Piece → Type 0) (same : (ps : List Piece) → R ps ps) (join : (ps qs rs ss : List Piece) → R ps qs → R rs ss → R (ps ++ rs) (qs ++ ss)) where
+  -- two names whose pieces are related
+  pub ident_kept : (wide : Bool) (k : Kind) (i j : Ident) → R (name i.sym ∷ []) (name j.sym ∷ []) → R (when (is_let (Node-F.Identifier k i)) (closes ending.Let)) (when (is_let (Node-F.Identifier k j)) (closes ending.Let))
+      → Kept R wide (Identifier k i) (Identifier k j)
+  ident_kept wide k i j named ends = record {
     looks = record {
-      seen = seen_name k i (g i);
-      items = none_items R same join _ _ (ap items_of (outs-Identifier k i)) (ap items_of (outs-Identifier k (g i)));
-      function = λ o n. ap (is_set_in n) (outs-Identifier k i) ∙ sym (ap (is_set_in n) (outs-Identifier k (g i)));
-      only = ap (λ x. is_some (lone_name x)) (outs-Identifier k i) ∙ sym (ap (λ x. is_some (lone_name x)) (outs-Identifier k (g i)));
-      lone = moved R same join _ _ _ _ (ap (λ x. lone_pieces (lone_name x)) (outs-Identifier k i)) (ap (λ x. lone_pieces (lone_name x)) (outs-Identifier k (g i))) (same []);
-      let_ends = moved R same join _ _ _ _ (ap (λ x. when (is_let x) (closes ending.Let)) (outs-Identifier k i)) (ap (λ x. when (is_let x) (closes ending.Let)) (outs-Identifier k (g i))) (lets k i);
+      seen = seen_name k i j;
+      items = none_items R same join _ _ (ap items_of (outs-Identifier k i)) (ap items_of (outs-Identifier k j));
+      function = λ o n. ap (is_set_in n) (outs-Identifier k i) ∙ sym (ap (is_set_in n) (outs-Identifier k j));
+      only = ap (λ x. is_some (lone_name x)) (outs-Identifier k i) ∙ sym (ap (λ x. is_some (lone_name x)) (outs-Identifier k j));
+      lone = moved R same join _ _ _ _ (ap (λ x. lone_pieces (lone_name x)) (outs-Identifier k i)) (ap (λ x. lone_pieces (lone_name x)) (outs-Identifier k j)) (same []);
+      let_ends = moved R same join _ _ _ _ (ap (λ x. when (is_let x) (closes ending.Let)) (outs-Identifier k i)) (ap (λ x. when (is_let x) (closes ending.Let)) (outs-Identifier k j)) ends;
     };
     stands = record {
-      of_pieces = moved R same join _ _ _ _ (ap (λ (w : Written). w.pieces) (step i)) (ap (λ (w : Written). w.pieces) (step (g i))) (named i);
-      of_each = none_each R same join _ _ (ap (λ (w : Written). w.each) (step i)) (ap (λ (w : Written). w.each) (step (g i)));
+      of_pieces = moved R same join _ _ _ _ (ap (λ (w : Written). w.pieces) (step i)) (ap (λ (w : Written). w.pieces) (step j)) named;
+      of_each = none_each R same join _ _ (ap (λ (w : Written). w.each) (step i)) (ap (λ (w : Written). w.each) (step j));
     };
-    within = λ o. moved R same join _ _ _ _ (ap (λ (w : Written). w.within) (step i)) (ap (λ (w : Written). w.within) (step (g i))) (same []);
-    apart = λ own. moved R same join _ _ _ _ (ap (λ (w : Written). w.apart) (step i)) (ap (λ (w : Written). w.apart) (step (g i))) (same []);
+    within = λ o. moved R same join _ _ _ _ (ap (λ (w : Written). w.within) (step i)) (ap (λ (w : Written). w.within) (step j)) (same []);
+    apart = λ own. moved R same join _ _ _ _ (ap (λ (w : Written). w.apart) (step i)) (ap (λ (w : Written). w.apart) (step j)) (same []);
   }
     where
       step : (i : Ident) → written false (Identifier k i) ≡ written_step false (Node-F.Identifier k i)
       step i = search (rules, the_lemmas)
 
+  -- where a node stands in the source is not written
+  pub span_kept : (wide : Bool) (r s : Range) → Kept R wide (Span r) (Span s)
+  span_kept wide r s = record {
+    looks = record {
+      seen = seen_span r s;
+      items = none_items R same join _ _ (ap items_of (outs-Span r)) (ap items_of (outs-Span s));
+      function = λ o n. ap (is_set_in n) (outs-Span r) ∙ sym (ap (is_set_in n) (outs-Span s));
+      only = ap (λ x. is_some (lone_name x)) (outs-Span r) ∙ sym (ap (λ x. is_some (lone_name x)) (outs-Span s));
+      lone = moved R same join _ _ _ _ (ap (λ x. lone_pieces (lone_name x)) (outs-Span r)) (ap (λ x. lone_pieces (lone_name x)) (outs-Span s)) (same []);
+      let_ends = moved R same join _ _ _ _ (ap (λ x. when (is_let x) (closes ending.Let)) (outs-Span r)) (ap (λ x. when (is_let x) (closes ending.Let)) (outs-Span s)) (same []);
+    };
+    stands = record {
+      of_pieces = moved R same join _ _ _ _ (ap (λ (w : Written). w.pieces) (step r)) (ap (λ (w : Written). w.pieces) (step s)) (same []);
+      of_each = none_each R same join _ _ (ap (λ (w : Written). w.each) (step r)) (ap (λ (w : Written). w.each) (step s));
+    };
+    within = λ o. moved R same join _ _ _ _ (ap (λ (w : Written). w.within) (step r)) (ap (λ (w : Written). w.within) (step s)) (same []);
+    apart = λ own. moved R same join _ _ _ _ (ap (λ (w : Written). w.apart) (step r)) (ap (λ (w : Written). w.apart) (step s)) (same []);
+  }
+    where
+      step : (r : Range) → written false (Span r) ≡ written_step false (Node-F.Span r)
+      step r = search (rules, the_lemmas)
+
+module _ (R : List Piece → List Piece → Type 0) (same : (ps : List Piece) → R ps ps) (join : (ps qs rs ss : List Piece) → R ps qs → R rs ss → R (ps ++ rs) (qs ++ ss))
+    (g : Ident → Ident) (named : (i : Ident) → R (name i.sym ∷ []) (name (g i).sym ∷ [])) (alone : (i : Ident) → R (parameter i.sym ∷ []) (parameter (g i).sym ∷ []))
+    (lets : (k : Kind) (i : Ident) → R (when (is_let (Node-F.Identifier k i)) (closes ending.Let)) (when (is_let (Node-F.Identifier k (g i))) (closes ending.Let))) where
   module _ (anew : Node → Node) (is : IsAnew g anew) where
     -- what is bound alone
     none_bound : (t u : Node) (y z : Node-F Node) → anew t ≡ u → out-Node t ≡ y → out-Node u ≡ z → bound_name y ≡ None → bound_name z ≡ None → R (lone_pieces (bound_name (out-Node t))) (lone_pieces (bound_name (out-Node (anew t))))
@@ -171,7 +227,7 @@ module _ (R : List Piece → List Piece → Type 0) (same : (ps : List Piece) �
       λ w. leaf_kept (Word w) (is.word w),
       λ x. leaf_kept (Text x) (is.text x),
       λ s. leaf_kept (Span s) (is.span s),
-      λ k i wide. subst (Kept R wide (Identifier k i)) (sym (is.ident k i)) (ident_kept wide k i),
+      λ k i wide. subst (Kept R wide (Identifier k i)) (sym (is.ident k i)) (ident_kept R same join wide k i (g i) (named i) (lets k i)),
     )
         (λ ts h wide. subst (Kept R wide (Many ts)) (sym (is.list ts)) (list_kept R same join (λ n. false) wide ts (map anew ts) (only_same ts) (only_kept ts) (all_kept ts h)))
         (λ k ts h wide. subst (Kept R wide (Tree k ts)) (sym (is.tree k ts)) (tree_kept R same join (λ n. false) wide k ts (map anew ts) (free_layout (layout_of k)) (free_layout (apart_layout_of k)) (all_kept ts h))) t

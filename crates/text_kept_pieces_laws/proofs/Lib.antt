@@ -1,5 +1,7 @@
 pub mod Seen
 pub mod Rows
 pub mod Anew
+pub mod Numbers
+pub mod Bound
 pub mod Pairs
 pub mod Whole

@@ -8,12 +8,14 @@ use Rattle.swc_tree_scoping.specs.Resolved.{Resolved}
 use Rattle.swc_tree_renaming.specs.Apart.{is_goal}
 use Rattle.swc_tree_grammar.specs.Due.{Places, with_due_pairs}
 use Rattle.swc_tree_grammar.specs.Normal.{normal_form}
+use Rattle.swc_tree_grammar.specs.Same.{SameButForBoundNames, declared_names}
 use Rattle.swc_tree_grammar.specs.Writable.{is_writable}
 use Rattle.swc_base_rename_substitution.specs.Identifiers.{Changes}
 use Rattle.swc_base_rename_substitution.specs.Substituted.{Substituted}
 use Rattle.swc_base_rename_laws.specs.Laws.{IsProgram}
 use Rattle.swc_base_rename_laws.specs.NewNames.{SameButForNames}
 use Rattle.text_pieces.specs.Pieces.{pieces}
+use Rattle.text_kept_pieces_laws.specs.Bound.{SameButBound}
 use Rattle.text_kept_pieces_laws.specs.Paired.{WithPairs}
 use Rattle.text_kept_pieces_laws.specs.Unnamed.{SameButNames}
 
@@ -25,6 +27,11 @@ ResolverKeepsPieces = (unresolved top : ℕ) (old new : Table) (source answer : 
 -- it, have the same pieces but for what these name
 abbrev pub NamesAloneDiffer : Type 0
 NamesAloneDiffer = (t u : Node) → SameButForNames t u → SameButNames (pieces t) (pieces u)
+
+-- with all written out, two programs that have one normal form but for the names that the first one binds, as a source and what a chain makes of
+-- it, have the same pieces but for these names
+abbrev pub BoundNamesAloneDiffer : Type 0
+BoundNamesAloneDiffer = (t u : Node) → SameButForBoundNames t u → SameButBound (declared_names t) (pieces (normal_form t)) (pieces (normal_form u))
 
 -- so a writable program and what it becomes with names given anew, both with all written out, have
 abbrev pub NewNamesKeepPieces : Type 0

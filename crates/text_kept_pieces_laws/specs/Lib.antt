@@ -1,3 +1,4 @@
 pub mod Unnamed
+pub mod Bound
 pub mod Paired
 pub mod Laws

@@ -3,7 +3,7 @@
 //! `specs/Laws.antt` states the laws. Each is the contract of a function that does nothing, so that it is proved.
 #![tactic(auto)]
 
-ghost use Rattle.text_kept_pieces_laws.specs.Laws.{NamesAloneDiffer, NewNamesKeepPieces, PairsAloneAreSet, ResolverKeepsPieces};
+ghost use Rattle.text_kept_pieces_laws.specs.Laws.{BoundNamesAloneDiffer, NamesAloneDiffer, NewNamesKeepPieces, PairsAloneAreSet, ResolverKeepsPieces};
 
 use swc_base_rename_laws::normal_form_keeps_spans;
 
@@ -15,6 +15,11 @@ pub fn resolver_keeps_pieces()
 /// Trees that are the same but for names have the same pieces but for what these name.
 pub fn names_alone_differ()
     ensures { NamesAloneDiffer }
+{}
+
+/// Programs that are the same but for bound names, with all written out, have the same pieces but for these.
+pub fn bound_names_alone_differ()
+    ensures { BoundNamesAloneDiffer }
 {}
 
 /// New names change what is named alone, once all is written out.

@@ -1,6 +1,6 @@
 -- What stands at a path of a tree that fits, and what follows where it can't be told which of two cases holds.
-use Rattle.std.proofs.Common.{◌≡◌, ℕ, ◌⊎◌, inl, inr, Option, Some, None, List, [], ◌∷◌, ◌++◌, refl, sym, ap, ◌∙◌, subst}
-use Rattle.swc_tree_node.specs.declared.node.Node.{Node, Tree, out-Node}
+use Rattle.std.proofs.Common.{◌≡◌, ℕ, ◌⊎◌, inl, inr, Option, Some, None, [], ◌∷◌, ◌++◌, refl, sym, ap, ◌∙◌, subst}
+use Rattle.swc_tree_node.specs.declared.node.Node.{Node, out-Node}
 use Rattle.swc_tree_node.specs.declared.node.Node.TheOpen.{Node-F}
 use Rattle.swc_tree_scoping.specs.Places.{Path, child, children_in, given}
 use Rattle.swc_tree_scoping.proofs.Remarked.{list_is, tree_is}
