@@ -3,7 +3,7 @@ use Rattle.mucwathi_mappings.specs.declared.segments.Mapped.{Mapped}
 use Rattle.mucwathi_mappings.specs.Maps.{IsMapOf}
 use Rattle.mucwathi_map.specs.declared.spots.Spot.{Spot}
 use Rattle.mucwathi_map.specs.Spots.{HasNames, seen}
-use Rattle.mucwathi_map.proofs.Mapping.{tells_nodes}
+use Rattle.mucwathi_map.proofs.Joined.{tells_nodes}
 use Rattle.mucwathi_map.proofs.mapping.map_of.Goals as goal
 
 pub returns : goal.returns
