@@ -1,4 +1,4 @@
-mod Placing
+mod Joined
 mod Naming
 mod Spotting
 mod Telling

@@ -12,6 +12,10 @@ use Rattle.mucwathi_mappings.specs.Segments.{text_of}
 use Rattle.mucwathi_map.specs.declared.spots.Spot.{Spot}
 use Rattle.mucwathi_map.specs.Spots.{HasNames, Notes, Stood, name_at, names_in, old_name, other_than, seen}
 
+-- in the place of a spot that is not there
+abbrev pub no_spot : Spot
+no_spot = record { lo = 0; name = None }
+
 same_number : (a b : ℕ) → is_eq (nat_cmp a b) ≡ nat_eq a b
 same_number a b = grind (arith, nat_tests)
 
