@@ -163,7 +163,7 @@ impl Sites {
     }
 }
 
-/// The places behind pieces: all of them, or (`tight`) those alone before whose next token no line may end.
+/// The places behind pieces: all of them, or (`tight`) those alone between tokens between which no line may end.
 pub(crate) fn sites_of(
     alloc: Global,
     tight: bool,
@@ -177,7 +177,7 @@ pub(crate) fn sites_of(
     };
     let mut line = may_end_line(pieces);
     'pieces: for i in 0..pieces.len() {
-        line = line_behind(line, pieces, i);
+        line = line_behind(line, pieces[i], &pieces[i + 1..]);
         let over = both(tight, line);
         sites.add(over, pieces[i])?;
     }

@@ -1,22 +1,29 @@
-use Rattle.std.proofs.Common.{map, arith, ◌∙◌}
+use Rattle.std.proofs.Common.{map, ap, arith, ◌++◌, ◌∙◌, sym}
 use Rattle.text_pieces.specs.Tokens.{piece_view}
-use Rattle.text_commented.specs.Places.{places_among}
+use Rattle.text_commented.specs.Places.{places_among, places_from}
+use Rattle.text_commented.specs.Sites.{leads_in, trails_in}
 use Rattle.text_commented.proofs.Listed.{leads_all, leads_more, trails_all, trails_more}
 use Rattle.text_commented.proofs.sites.sites_of.Goals as goal
+
+pub pieces-init : goal.pieces-init
+pieces-init c =
+    let ps = map piece_view c.args.pieces.now in
+    record {
+      begun = ap (λ b. leads_in (places_from c.args.tight b ps)) c.may_end_line-line.ensures;
+      stopped = ap (λ b. trails_in (places_from c.args.tight b ps)) c.may_end_line-line.ensures;
+    }
 
 pub pieces-preserved : goal.pieces-preserved
 pieces-preserved c =
     let l = c.pieces in
-    let line = c.line_behind-line.ensures l.invariant.line in
     record {
-      line = line;
-      begun = leads_more c.args.tight c.line_behind-line.result c.both-over.result c.args.pieces.now l.i _ l.sites.begun.items _ (omega arith) line c.both-over.ensures c.in_ok-add.ensures.begun ∙ l.invariant.begun;
-      stopped = trails_more c.args.tight c.line_behind-line.result c.both-over.result c.args.pieces.now l.i _ l.sites.stopped.items _ (omega arith) line c.both-over.ensures c.in_ok-add.ensures.stopped ∙ l.invariant.stopped;
+      begun = leads_more c.args.tight l.line c.line_behind-line.result c.both-over.result c.args.pieces.now l.i _ l.sites.begun.items _ (omega arith) c.line_behind-line.ensures c.both-over.ensures c.in_ok-add.ensures.begun ∙ l.invariant.begun;
+      stopped = trails_more c.args.tight l.line c.line_behind-line.result c.both-over.result c.args.pieces.now l.i _ l.sites.stopped.items _ (omega arith) c.line_behind-line.ensures c.both-over.ensures c.in_ok-add.ensures.stopped ∙ l.invariant.stopped;
     }
 
 pub returns : goal.returns
 returns c =
     let l = c.pieces in
     c.in_ok-sites.ensures (places_among c.args.tight (map piece_view c.args.pieces.now))
-    (leads_all c.args.tight c.args.pieces.now l.i _ _ (omega arith) l.invariant.begun)
-    (trails_all c.args.tight c.args.pieces.now l.i _ _ (omega arith) l.invariant.stopped)
+    (leads_all c.args.tight l.line c.args.pieces.now l.i _ _ (omega arith) l.invariant.begun)
+    (trails_all c.args.tight l.line c.args.pieces.now l.i _ _ (omega arith) l.invariant.stopped)
