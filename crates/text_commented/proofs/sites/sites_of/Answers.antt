@@ -1,17 +1,9 @@
-use Rattle.std.proofs.Common.{map, ap, arith, ◌++◌, ◌∙◌, sym}
+use Rattle.std.proofs.Common.{map, subst, arith, ◌∙◌}
 use Rattle.text_pieces.specs.Tokens.{piece_view}
-use Rattle.text_commented.specs.Places.{places_among, places_from}
-use Rattle.text_commented.specs.Sites.{leads_in, trails_in}
+use Rattle.text_commented.specs.Places.{places_from}
+use Rattle.text_commented.specs.Sites.{IsSites}
 use Rattle.text_commented.proofs.Listed.{leads_all, leads_more, trails_all, trails_more}
 use Rattle.text_commented.proofs.sites.sites_of.Goals as goal
-
-pub pieces-init : goal.pieces-init
-pieces-init c =
-    let ps = map piece_view c.args.pieces.now in
-    record {
-      begun = ap (λ b. leads_in (places_from c.args.tight b ps)) c.may_end_line-line.ensures;
-      stopped = ap (λ b. trails_in (places_from c.args.tight b ps)) c.may_end_line-line.ensures;
-    }
 
 pub pieces-preserved : goal.pieces-preserved
 pieces-preserved c =
@@ -24,6 +16,8 @@ pieces-preserved c =
 pub returns : goal.returns
 returns c =
     let l = c.pieces in
-    c.in_ok-sites.ensures (places_among c.args.tight (map piece_view c.args.pieces.now))
+    let ps = map piece_view c.args.pieces.now in
+    subst (λ b. IsSites c.in_ok-sites.sites (places_from c.args.tight b ps)) c.may_end_line-line.ensures
+    (c.in_ok-sites.ensures (places_from c.args.tight c.may_end_line-line.result ps)
     (leads_all c.args.tight l.line c.args.pieces.now l.i _ _ (omega arith) l.invariant.begun)
-    (trails_all c.args.tight l.line c.args.pieces.now l.i _ _ (omega arith) l.invariant.stopped)
+    (trails_all c.args.tight l.line c.args.pieces.now l.i _ _ (omega arith) l.invariant.stopped))
