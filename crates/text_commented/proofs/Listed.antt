@@ -6,8 +6,8 @@ use Rattle.std.proofs.lemmas.List.Sorted.{Contains-permutation, IsPermutation-sy
 use Rattle.std.specs.List.Sorted.{IsBinarySearchResult, IsNonDecreasing, IsPermutation}
 use Rattle.std.specs.Ordering.{nat_cmp}
 use Rattle.std.specs.Result.{is_ok}
-use Rattle.text_commented.specs.Places.{may_end_line, places, places_among}
-use Rattle.text_commented.specs.Sites.{IsFirst, IsFirstBegun, IsLast, IsLastStop, IsSites, leads_in, trails_in}
+use Rattle.text_commented.specs.Places.{line_behind, places, places_from}
+use Rattle.text_commented.specs.Sites.{IsFirst, IsFirstBegun, IsLast, IsLastBegun, IsLastStop, IsSites, leads_in, trails_in}
 use Rattle.text_commented.specs.declared.remark.At.{At}
 use Rattle.text_commented.specs.declared.remark.At.TheVariants as stand
 use Rattle.text_commented.specs.declared.sites.Sites.{Sites}
@@ -135,6 +135,14 @@ last_stops s all limit n are last =
       λ m above no_more among. none m above no_more (Contains-permutation (trails_in all) s.stopped.items m are.stopped (trails_to all m among)),
     )
 
+pub last_begins : (s : Sites) (all : List At) (limit n : ℕ) → IsSites s all → (IsNonDecreasing s.begun.items → IsLast s.begun.items limit n) → IsLastBegun all limit n
+last_begins s all limit n are last =
+    let (within, here, none) = last are.begun_rise in (
+      within,
+      leads_from all n (Contains-permutation s.begun.items (leads_in all) n (IsPermutation-sym (leads_in all) s.begun.items are.begun) here),
+      λ m above no_more among. none m above no_more (Contains-permutation (leads_in all) s.begun.items m are.begun (leads_to all m among)),
+    )
+
 pub first_begins : (s : Sites) (all : List At) (limit n : ℕ) → IsSites s all → (IsNonDecreasing s.begun.items → IsFirst s.begun.items limit n) → IsFirstBegun all limit n
 first_begins s all limit n are first =
     let (within, here, none) = first are.begun_rise in (
@@ -154,41 +162,47 @@ trails_append [] ys = refl
 trails_append (stand.Trails n ∷ xs) ys = ap (λ l. n ∷ l) (trails_append xs ys)
 trails_append (stand.Leads n ∷ xs) ys = trails_append xs ys
 
-places_cons : (tight : Bool) (p : Piece) (ps all : List Piece) → all ≡ p ∷ ps → places_among tight all ≡ (if tight && may_end_line ps then [] else places p) ++ places_among tight ps
-unfolding places_among
-places_cons tight p ps all e = rw e refl
+places_cons : (tight line : Bool) (p : Piece) (ps all : List Piece) → all ≡ p ∷ ps
+    → places_from tight line all ≡ (if tight && line_behind line p ps then [] else places p) ++ places_from tight (line_behind line p ps) ps
+unfolding places_from
+places_cons tight line p ps all e = rw e refl
 
-places_drop : (tight line over : Bool) (ps : List code.Piece) (i : ℕ) (d : code.Piece) → i < length ps → line ≡ may_end_line (map piece_view (drop (i + 1) ps)) → over ≡ (tight && line)
-    → places_among tight (map piece_view (drop i ps)) ≡ (if over then [] else places (piece_view (get_or ps i d))) ++ places_among tight (map piece_view (drop (i + 1) ps))
-places_drop tight line over ps i d within is so =
-    places_cons tight (piece_view (get_or ps i d)) (map piece_view (drop (i + 1) ps)) (map piece_view (drop i ps)) (ap (λ l. map piece_view l) (drop_more ps i d within))
-    ∙ ap (λ b. (if b then [] else places (piece_view (get_or ps i d))) ++ places_among tight (map piece_view (drop (i + 1) ps))) (ap (λ b. tight && b) (sym is) ∙ sym so)
+places_drop : (tight line next over : Bool) (ps : List code.Piece) (i : ℕ) (d : code.Piece) → i < length ps → next ≡ line_behind line (piece_view (get_or ps i d)) (map piece_view (drop (i + 1) ps)) → over ≡ (tight && next)
+    → places_from tight line (map piece_view (drop i ps)) ≡ (if over then [] else places (piece_view (get_or ps i d))) ++ places_from tight next (map piece_view (drop (i + 1) ps))
+places_drop tight line next over ps i d within is so =
+    let p = piece_view (get_or ps i d) in
+    let rest = map piece_view (drop (i + 1) ps) in
+    places_cons tight line p rest (map piece_view (drop i ps)) (ap (λ l. map piece_view l) (drop_more ps i d within))
+    ∙ ap (λ b. (if tight && b then [] else places p) ++ places_from tight b rest) (sym is)
+    ∙ ap (λ b. (if b then [] else places p) ++ places_from tight next rest) (sym so)
 
-pub leads_more : (tight line over : Bool) (ps : List code.Piece) (i : ℕ) (d : code.Piece) (old new : List ℕ) → i < length ps → line ≡ may_end_line (map piece_view (drop (i + 1) ps)) → over ≡ (tight && line)
+pub leads_more : (tight line next over : Bool) (ps after : List code.Piece) (i : ℕ) (d : code.Piece) (old new : List ℕ) → i < length ps → after ≡ drop (i + 1) ps → next ≡ line_behind line (piece_view (get_or ps i d)) (map piece_view after) → over ≡ (tight && next)
     → new ≡ old ++ leads_in (if over then [] else places (piece_view (get_or ps i d)))
-    → new ++ leads_in (places_among tight (map piece_view (drop (i + 1) ps))) ≡ old ++ leads_in (places_among tight (map piece_view (drop i ps)))
-leads_more tight line over ps i d old new within is so added =
+    → new ++ leads_in (places_from tight next (map piece_view (drop (i + 1) ps))) ≡ old ++ leads_in (places_from tight line (map piece_view (drop i ps)))
+leads_more tight line next over ps after i d old new within slice is so added =
     let here = if over then [] else places (piece_view (get_or ps i d)) in
-    let rest = places_among tight (map piece_view (drop (i + 1) ps)) in
+    let rest = places_from tight next (map piece_view (drop (i + 1) ps)) in
+    let behind : next ≡ line_behind line (piece_view (get_or ps i d)) (map piece_view (drop (i + 1) ps)) = is ∙ ap (λ l. line_behind line (piece_view (get_or ps i d)) (map piece_view l)) slice in
     ap (λ l. l ++ leads_in rest) added ∙ append_assoc old (leads_in here) (leads_in rest)
-    ∙ ap (λ l. old ++ l) (sym (leads_append here rest) ∙ ap leads_in (sym (places_drop tight line over ps i d within is so)))
+    ∙ ap (λ l. old ++ l) (sym (leads_append here rest) ∙ ap leads_in (sym (places_drop tight line next over ps i d within behind so)))
 
-pub trails_more : (tight line over : Bool) (ps : List code.Piece) (i : ℕ) (d : code.Piece) (old new : List ℕ) → i < length ps → line ≡ may_end_line (map piece_view (drop (i + 1) ps)) → over ≡ (tight && line)
+pub trails_more : (tight line next over : Bool) (ps after : List code.Piece) (i : ℕ) (d : code.Piece) (old new : List ℕ) → i < length ps → after ≡ drop (i + 1) ps → next ≡ line_behind line (piece_view (get_or ps i d)) (map piece_view after) → over ≡ (tight && next)
     → new ≡ old ++ trails_in (if over then [] else places (piece_view (get_or ps i d)))
-    → new ++ trails_in (places_among tight (map piece_view (drop (i + 1) ps))) ≡ old ++ trails_in (places_among tight (map piece_view (drop i ps)))
-trails_more tight line over ps i d old new within is so added =
+    → new ++ trails_in (places_from tight next (map piece_view (drop (i + 1) ps))) ≡ old ++ trails_in (places_from tight line (map piece_view (drop i ps)))
+trails_more tight line next over ps after i d old new within slice is so added =
     let here = if over then [] else places (piece_view (get_or ps i d)) in
-    let rest = places_among tight (map piece_view (drop (i + 1) ps)) in
+    let rest = places_from tight next (map piece_view (drop (i + 1) ps)) in
+    let behind : next ≡ line_behind line (piece_view (get_or ps i d)) (map piece_view (drop (i + 1) ps)) = is ∙ ap (λ l. line_behind line (piece_view (get_or ps i d)) (map piece_view l)) slice in
     ap (λ l. l ++ trails_in rest) added ∙ append_assoc old (trails_in here) (trails_in rest)
-    ∙ ap (λ l. old ++ l) (sym (trails_append here rest) ∙ ap trails_in (sym (places_drop tight line over ps i d within is so)))
+    ∙ ap (λ l. old ++ l) (sym (trails_append here rest) ∙ ap trails_in (sym (places_drop tight line next over ps i d within behind so)))
 
 -- no piece is left
-none_among : (tight : Bool) (ps : List code.Piece) (i : ℕ) → length ps ≤ i → places_among tight (map piece_view (drop i ps)) ≡ []
-unfolding places_among
-none_among tight ps i none = rw (drop_all i ps none) refl
+none_among : (tight line : Bool) (ps : List code.Piece) (i : ℕ) → length ps ≤ i → places_from tight line (map piece_view (drop i ps)) ≡ []
+unfolding places_from
+none_among tight line ps i none = rw (drop_all i ps none) refl
 
-pub leads_all : (tight : Bool) (ps : List code.Piece) (i : ℕ) (made whole : List ℕ) → length ps ≤ i → made ++ leads_in (places_among tight (map piece_view (drop i ps))) ≡ whole → made ≡ whole
-leads_all tight ps i made whole none is = sym (append-nil made) ∙ ap (λ l. made ++ leads_in l) (sym (none_among tight ps i none)) ∙ is
+pub leads_all : (tight line : Bool) (ps : List code.Piece) (i : ℕ) (made whole : List ℕ) → length ps ≤ i → made ++ leads_in (places_from tight line (map piece_view (drop i ps))) ≡ whole → made ≡ whole
+leads_all tight line ps i made whole none is = sym (append-nil made) ∙ ap (λ l. made ++ leads_in l) (sym (none_among tight line ps i none)) ∙ is
 
-pub trails_all : (tight : Bool) (ps : List code.Piece) (i : ℕ) (made whole : List ℕ) → length ps ≤ i → made ++ trails_in (places_among tight (map piece_view (drop i ps))) ≡ whole → made ≡ whole
-trails_all tight ps i made whole none is = sym (append-nil made) ∙ ap (λ l. made ++ trails_in l) (sym (none_among tight ps i none)) ∙ is
+pub trails_all : (tight line : Bool) (ps : List code.Piece) (i : ℕ) (made whole : List ℕ) → length ps ≤ i → made ++ trails_in (places_from tight line (map piece_view (drop i ps))) ≡ whole → made ≡ whole
+trails_all tight line ps i made whole none is = sym (append-nil made) ∙ ap (λ l. made ++ trails_in l) (sym (none_among tight line ps i none)) ∙ is

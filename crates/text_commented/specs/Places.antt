@@ -35,10 +35,17 @@ unfoldable pub may_end_line : List Piece → Bool
 may_end_line [] = true
 may_end_line (p ∷ ps) = not (is_here p) && (is_token p || may_end_line ps)
 
--- The places behind pieces: all of them, or those alone before whose next token no line may end.
-unfoldable pub places_among : Bool → List Piece → List At
-places_among tight [] = []
-places_among tight (p ∷ ps) = (if tight && may_end_line ps then [] else places p) ++ places_among tight ps
+-- a line may end between the tokens round the place behind a piece; `line` says whether one may before it
+abbrev pub line_behind : Bool → Piece → List Piece → Bool
+line_behind line p ps = if is_token p then may_end_line ps else line
+
+-- The places behind pieces: all of them, or those alone between tokens between which no line may end.
+unfoldable pub places_from : Bool → Bool → List Piece → List At
+places_from tight line [] = []
+places_from tight line (p ∷ ps) = (if tight && line_behind line p ps then [] else places p) ++ places_from tight (line_behind line p ps) ps
+
+abbrev pub places_among : Bool → List Piece → List At
+places_among tight ps = places_from tight (may_end_line ps) ps
 
 abbrev pub all_places : List Piece → List At
 all_places ps = places_among false ps

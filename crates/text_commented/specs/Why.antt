@@ -9,7 +9,7 @@ use Rattle.text_commented.specs.declared.left.Why.{Why}
 use Rattle.text_commented.specs.declared.left.Why.TheVariants as why
 use Rattle.text_commented.specs.declared.remark.Remark.{Remark}
 
--- No node begins or stops where it stands; it ends a line, and one does there before whose next token none may end; or it is not one comment.
+-- No node begins or stops where it stands; it ends a line, and stands between tokens between which none may end; or it is not one comment.
 abbrev pub IsWhy : Comments → List Piece → Remark → Why → Type 0
 IsWhy c ps r why.NoPlace = ¬ Contains (all_places ps) r.at
 IsWhy c ps r why.NoLineEnd = (ends_line r.text.now ≡ true) × Contains (tight_places ps) r.at

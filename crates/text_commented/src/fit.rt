@@ -214,7 +214,7 @@ pub(crate) fn put_among<'a>(
     put.used.resize(given.remarks.len(), false)?;
     let mut line = may_end_line(pieces);
     'pieces: for i in 0..pieces.len() {
-        line = line_behind(line, pieces, i);
+        line = line_behind(line, pieces[i], &pieces[i + 1..]);
         put.items.push(Item::Piece(pieces[i]))?;
         put.put_behind(given, line, pieces[i])?;
     }

@@ -1,5 +1,5 @@
 //! Where lines may end among the pieces of a tree.
-ghost use Rattle.std.specs.Prelude.{◌≡◌, ◌+◌, ◌<◌, drop, length, map};
+ghost use Rattle.std.specs.Prelude.{◌≡◌, map};
 ghost use Rattle.text_commented.specs.Places as spec;
 ghost use Rattle.text_pieces.specs.Tokens.{piece_view};
 
@@ -46,17 +46,13 @@ pub(crate) fn may_end_line(pieces: &[Piece<'_>]) -> bool
     true
 }
 
-/// Whether a line may end before the next token behind a piece; `line` says whether one may before the next of the piece and those behind it.
-#[tactic(auto, using(crate::proofs::Ends::may_end_drop, std::proofs::lemmas::Grind::common_steps))]
-pub(crate) fn line_behind(line: bool, pieces: &[Piece<'_>], i: usize) -> bool
-    requires { i < length pieces.now }
-    ensures { line ≡ spec.may_end_line (map piece_view (drop i pieces.now)) → result ≡ spec.may_end_line (map piece_view (drop (i + 1) pieces.now)) }
+/// Whether a line may end between the tokens round the place behind a piece; `line` says whether one may before it.
+pub(crate) fn line_behind(line: bool, piece: Piece<'_>, rest: &[Piece<'_>]) -> bool
+    ensures { result ≡ spec.line_behind line (piece_view piece.entry) (map piece_view rest.now) }
 {
-    if is_here(pieces[i]) {
-        return may_end_line(&pieces[i + 1..]);
+    if is_token(piece) {
+        may_end_line(rest)
+    } else {
+        line
     }
-    if is_token(pieces[i]) {
-        return may_end_line(&pieces[i + 1..]);
-    }
-    line
 }

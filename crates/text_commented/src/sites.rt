@@ -3,7 +3,7 @@ ghost use Rattle.std.specs.Prelude.{◌≡◌, ◌↔◌, ◌&&◌, ◌++◌, []
 ghost use Rattle.std.specs.List.{Contains};
 ghost use Rattle.std.specs.List.Sorted.{IsNonDecreasing, IsPermutation};
 ghost use Rattle.text_commented.specs.Places.{places as places_of, places_among, places_at};
-ghost use Rattle.text_commented.specs.Sites.{IsFirst, IsFirstBegun, IsLast, IsLastStop, IsSites, leads_in, trails_in};
+ghost use Rattle.text_commented.specs.Sites.{IsFirst, IsFirstBegun, IsLast, IsLastBegun, IsLastStop, IsSites, leads_in, trails_in};
 ghost use Rattle.text_commented.specs.declared.remark.At.{At};
 ghost use Rattle.text_pieces.specs.Tokens.{frame_view, piece_view};
 
@@ -149,6 +149,19 @@ impl Sites {
         Some(place as u32)
     }
 
+    /// Where the last node begins that does so at a place or before.
+    pub(crate) fn last_begun(&self, limit: BytePos) -> Option<BytePos>
+        ensures { (all : List At) → IsSites self.now all → IfSome result (IsLastBegun all limit) }
+    {
+        let Some(place) = last_of(&self.begun, limit as usize) else {
+            return None;
+        };
+        if place > u32::MAX as usize {
+            return None;
+        }
+        Some(place as u32)
+    }
+
     /// Where the first node begins that does so at a place or behind.
     pub(crate) fn first_begun(&self, limit: BytePos) -> Option<BytePos>
         ensures { (all : List At) → IsSites self.now all → IfSome result (IsFirstBegun all limit) }
@@ -163,7 +176,7 @@ impl Sites {
     }
 }
 
-/// The places behind pieces: all of them, or (`tight`) those alone before whose next token no line may end.
+/// The places behind pieces: all of them, or (`tight`) those alone between tokens between which no line may end.
 pub(crate) fn sites_of(
     alloc: Global,
     tight: bool,
@@ -177,7 +190,7 @@ pub(crate) fn sites_of(
     };
     let mut line = may_end_line(pieces);
     'pieces: for i in 0..pieces.len() {
-        line = line_behind(line, pieces, i);
+        line = line_behind(line, pieces[i], &pieces[i + 1..]);
         let over = both(tight, line);
         sites.add(over, pieces[i])?;
     }
