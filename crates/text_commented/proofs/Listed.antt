@@ -7,7 +7,7 @@ use Rattle.std.specs.List.Sorted.{IsBinarySearchResult, IsNonDecreasing, IsPermu
 use Rattle.std.specs.Ordering.{nat_cmp}
 use Rattle.std.specs.Result.{is_ok}
 use Rattle.text_commented.specs.Places.{line_behind, places, places_from}
-use Rattle.text_commented.specs.Sites.{IsFirst, IsFirstBegun, IsLast, IsLastStop, IsSites, leads_in, trails_in}
+use Rattle.text_commented.specs.Sites.{IsFirst, IsFirstBegun, IsLast, IsLastBegun, IsLastStop, IsSites, leads_in, trails_in}
 use Rattle.text_commented.specs.declared.remark.At.{At}
 use Rattle.text_commented.specs.declared.remark.At.TheVariants as stand
 use Rattle.text_commented.specs.declared.sites.Sites.{Sites}
@@ -134,6 +134,13 @@ last_stops s all limit n are last =
       trails_from all n (Contains-permutation s.stopped.items (trails_in all) n (IsPermutation-sym (trails_in all) s.stopped.items are.stopped) here),
       λ m above no_more among. none m above no_more (Contains-permutation (trails_in all) s.stopped.items m are.stopped (trails_to all m among)),
     )
+
+pub last_begins : (s : Sites) (all : List At) (limit n : ℕ) → IsSites s all → (IsNonDecreasing s.begun.items → IsLast s.begun.items limit n) → IsLastBegun all limit n
+last_begins s all limit n are last =
+    let (within, here, none) = last are.begun_rise in
+    ( within,
+      leads_from all n (Contains-permutation s.begun.items (leads_in all) n (IsPermutation-sym (leads_in all) s.begun.items are.begun) here),
+      λ m above no_more among. none m above no_more (Contains-permutation (leads_in all) s.begun.items m are.begun (leads_to all m among)) )
 
 pub first_begins : (s : Sites) (all : List At) (limit n : ℕ) → IsSites s all → (IsNonDecreasing s.begun.items → IsFirst s.begun.items limit n) → IsFirstBegun all limit n
 first_begins s all limit n are first =

@@ -11,7 +11,7 @@ use crate::remark::{At, Remark};
 use crate::sites::{Sites, sites_of};
 use std::alloc::{AllocError, Global};
 use swc_tree_node::Node;
-use text_comments::{Comment, has_line_end};
+use text_comments::{Comment, ends_line, has_line_end};
 use text_walk::framed_pieces;
 
 // Whether a line ends between a comment and the token before it.
@@ -92,10 +92,36 @@ fn chosen(text: &[u8], comment: Comment, sites: &Sites) -> Option<At>
     }
 }
 
-fn place_of(text: &[u8], comment: Comment, sites: &Sites) -> At
+// Before the last node that begins before a comment.
+fn begun_before(comment: Comment, sites: &Sites) -> Option<At>
+    ensures { (all : List At) → IsSites sites.now all → IfSome result (IsChosen all comment) }
+{
+    let place = sites.last_begun(comment.trails)?;
+    Some(At::Leads(place))
+}
+
+// Whether a comment ends a line at a place where none may end.
+fn is_caught(text: &[u8], place: Option<At>, tight: &Sites) -> bool {
+    match place {
+        Some(place) => ends_line(text) && tight.has(place),
+        None => false,
+    }
+}
+
+fn settled(text: &[u8], comment: Comment, sites: &Sites, tight: &Sites) -> Option<At>
+    ensures { (all : List At) → IsSites sites.now all → IfSome result (IsChosen all comment) }
+{
+    let first = chosen(text, comment, sites);
+    if is_caught(text_of(text, comment), first, tight) {
+        return begun_before(comment, sites);
+    }
+    first
+}
+
+fn place_of(text: &[u8], comment: Comment, sites: &Sites, tight: &Sites) -> At
     ensures { (all : List At) → IsSites sites.now all → IsChosen all comment result }
 {
-    match chosen(text, comment, sites) {
+    match settled(text, comment, sites, tight) {
         Some(place) => place,
         None => At::Leads(comment.leads),
     }
@@ -115,6 +141,7 @@ fn remarks_by<'t>(
     text: &'t [u8],
     comments: &[Comment],
     sites: &Sites,
+    tight: &Sites,
 ) -> Result<Vec<Remark<'t>>, AllocError>
     ensures { IfOk result (λ remarks. (all : List At) → IsSites sites.now all → AreChosen text.now all comments.now remarks.items) }
 {
@@ -122,7 +149,7 @@ fn remarks_by<'t>(
     'comments: for i in 0..comments.len() {
         remarks.push(Remark {
             text: text_of(text, comments[i]),
-            at: place_of(text, comments[i], sites),
+            at: place_of(text, comments[i], sites, tight),
         })?;
     }
     Ok(remarks)
@@ -130,7 +157,8 @@ fn remarks_by<'t>(
 
 /// The comments of a text as they are to be written; `tree` is that of the text, or what passes made of it. A comment in the line of
 /// what stands before it trails that, and leads what stands behind it else, where a node stops or begins there. Where neither does, it
-/// stands behind what closes right behind it, as in `{ /* none */ }`, else at the nearest that stops before it or begins behind it.
+/// stands behind what closes right behind it, as in `{ /* none */ }`, else at the nearest that stops before it or begins behind it;
+/// where no line may end there, and it ends one, before the last node that begins before it, as before `return ( // why`.
 ///
 /// # Errors
 ///
@@ -146,6 +174,7 @@ pub fn remarks_of<'t>(
     let found = framed_pieces(alloc, tree)?;
     let pieces = found.as_slice();
     let sites = sites_of(alloc, false, pieces)?;
-    let remarks = remarks_by(alloc, text, comments, &sites)?;
+    let tight = sites_of(alloc, true, pieces)?;
+    let remarks = remarks_by(alloc, text, comments, &sites, &tight)?;
     Ok(remarks)
 }

@@ -3,7 +3,7 @@ ghost use Rattle.std.specs.Prelude.{◌≡◌, ◌↔◌, ◌&&◌, ◌++◌, []
 ghost use Rattle.std.specs.List.{Contains};
 ghost use Rattle.std.specs.List.Sorted.{IsNonDecreasing, IsPermutation};
 ghost use Rattle.text_commented.specs.Places.{places as places_of, places_among, places_at};
-ghost use Rattle.text_commented.specs.Sites.{IsFirst, IsFirstBegun, IsLast, IsLastStop, IsSites, leads_in, trails_in};
+ghost use Rattle.text_commented.specs.Sites.{IsFirst, IsFirstBegun, IsLast, IsLastBegun, IsLastStop, IsSites, leads_in, trails_in};
 ghost use Rattle.text_commented.specs.declared.remark.At.{At};
 ghost use Rattle.text_pieces.specs.Tokens.{frame_view, piece_view};
 
@@ -141,6 +141,19 @@ impl Sites {
         ensures { (all : List At) → IsSites self.now all → IfSome result (IsLastStop all limit) }
     {
         let Some(place) = last_of(&self.stopped, limit as usize) else {
+            return None;
+        };
+        if place > u32::MAX as usize {
+            return None;
+        }
+        Some(place as u32)
+    }
+
+    /// Where the last node begins that does so at a place or before.
+    pub(crate) fn last_begun(&self, limit: BytePos) -> Option<BytePos>
+        ensures { (all : List At) → IsSites self.now all → IfSome result (IsLastBegun all limit) }
+    {
+        let Some(place) = last_of(&self.begun, limit as usize) else {
             return None;
         };
         if place > u32::MAX as usize {
