@@ -1,4 +1,4 @@
-//! Lists of names, one a line.
+//! Lists of names and of comments, one a line.
 use crate::cursor::Cursor;
 use mucwathi_looks::{Change, FreeName};
 use std::alloc::{AllocError, Global};
@@ -31,6 +31,23 @@ pub fn list_renamed(
         out.extend_from_slice(prefix.as_bytes())?;
         out.extend_from_slice(numbers.as_bytes())?;
         out.extend_from_slice(names.as_bytes())?;
+    }
+    Ok(out)
+}
+
+/// Comments that are not written, each with line and column, by how many bytes are before it.
+pub fn tell_lost(
+    alloc: Global,
+    name: &str,
+    text: &[u8],
+    lost: &[usize],
+) -> Result<Vec<u8>, AllocError> {
+    let mut out = Vec::new(alloc);
+    let mut cursor = Cursor::new();
+    for at in lost {
+        let place = cursor.go(text, *at);
+        let line = format!(in alloc; "{name}:{}:{}: this comment is not written\n", place.line, place.column)?;
+        out.extend_from_slice(line.as_bytes())?;
     }
     Ok(out)
 }
