@@ -46,7 +46,10 @@ pub fn tell_lost(
     let mut cursor = Cursor::new();
     for at in lost {
         let place = cursor.go(text, *at);
-        let line = format!(in alloc; "{name}:{}:{}: this comment is not written\n", place.line, place.column)?;
+        let line = format!(in alloc;
+            "{name}:{}:{}: this comment is not written\n",
+            place.line, place.column
+        )?;
         out.extend_from_slice(line.as_bytes())?;
     }
     Ok(out)

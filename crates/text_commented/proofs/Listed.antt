@@ -137,10 +137,11 @@ last_stops s all limit n are last =
 
 pub last_begins : (s : Sites) (all : List At) (limit n : ℕ) → IsSites s all → (IsNonDecreasing s.begun.items → IsLast s.begun.items limit n) → IsLastBegun all limit n
 last_begins s all limit n are last =
-    let (within, here, none) = last are.begun_rise in
-    ( within,
+    let (within, here, none) = last are.begun_rise in (
+      within,
       leads_from all n (Contains-permutation s.begun.items (leads_in all) n (IsPermutation-sym (leads_in all) s.begun.items are.begun) here),
-      λ m above no_more among. none m above no_more (Contains-permutation (leads_in all) s.begun.items m are.begun (leads_to all m among)) )
+      λ m above no_more among. none m above no_more (Contains-permutation (leads_in all) s.begun.items m are.begun (leads_to all m among)),
+    )
 
 pub first_begins : (s : Sites) (all : List At) (limit n : ℕ) → IsSites s all → (IsNonDecreasing s.begun.items → IsFirst s.begun.items limit n) → IsFirstBegun all limit n
 first_begins s all limit n are first =
