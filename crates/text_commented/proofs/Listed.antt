@@ -176,23 +176,25 @@ places_drop tight line next over ps i d within is so =
     ∙ ap (λ b. (if tight && b then [] else places p) ++ places_from tight b rest) (sym is)
     ∙ ap (λ b. (if b then [] else places p) ++ places_from tight next rest) (sym so)
 
-pub leads_more : (tight line next over : Bool) (ps : List code.Piece) (i : ℕ) (d : code.Piece) (old new : List ℕ) → i < length ps → next ≡ line_behind line (piece_view (get_or ps i d)) (map piece_view (drop (i + 1) ps)) → over ≡ (tight && next)
+pub leads_more : (tight line next over : Bool) (ps after : List code.Piece) (i : ℕ) (d : code.Piece) (old new : List ℕ) → i < length ps → after ≡ drop (i + 1) ps → next ≡ line_behind line (piece_view (get_or ps i d)) (map piece_view after) → over ≡ (tight && next)
     → new ≡ old ++ leads_in (if over then [] else places (piece_view (get_or ps i d)))
     → new ++ leads_in (places_from tight next (map piece_view (drop (i + 1) ps))) ≡ old ++ leads_in (places_from tight line (map piece_view (drop i ps)))
-leads_more tight line next over ps i d old new within is so added =
+leads_more tight line next over ps after i d old new within slice is so added =
     let here = if over then [] else places (piece_view (get_or ps i d)) in
     let rest = places_from tight next (map piece_view (drop (i + 1) ps)) in
+    let behind = is ∙ ap (λ l. line_behind line (piece_view (get_or ps i d)) (map piece_view l)) slice in
     ap (λ l. l ++ leads_in rest) added ∙ append_assoc old (leads_in here) (leads_in rest)
-    ∙ ap (λ l. old ++ l) (sym (leads_append here rest) ∙ ap leads_in (sym (places_drop tight line next over ps i d within is so)))
+    ∙ ap (λ l. old ++ l) (sym (leads_append here rest) ∙ ap leads_in (sym (places_drop tight line next over ps i d within behind so)))
 
-pub trails_more : (tight line next over : Bool) (ps : List code.Piece) (i : ℕ) (d : code.Piece) (old new : List ℕ) → i < length ps → next ≡ line_behind line (piece_view (get_or ps i d)) (map piece_view (drop (i + 1) ps)) → over ≡ (tight && next)
+pub trails_more : (tight line next over : Bool) (ps after : List code.Piece) (i : ℕ) (d : code.Piece) (old new : List ℕ) → i < length ps → after ≡ drop (i + 1) ps → next ≡ line_behind line (piece_view (get_or ps i d)) (map piece_view after) → over ≡ (tight && next)
     → new ≡ old ++ trails_in (if over then [] else places (piece_view (get_or ps i d)))
     → new ++ trails_in (places_from tight next (map piece_view (drop (i + 1) ps))) ≡ old ++ trails_in (places_from tight line (map piece_view (drop i ps)))
-trails_more tight line next over ps i d old new within is so added =
+trails_more tight line next over ps after i d old new within slice is so added =
     let here = if over then [] else places (piece_view (get_or ps i d)) in
     let rest = places_from tight next (map piece_view (drop (i + 1) ps)) in
+    let behind = is ∙ ap (λ l. line_behind line (piece_view (get_or ps i d)) (map piece_view l)) slice in
     ap (λ l. l ++ trails_in rest) added ∙ append_assoc old (trails_in here) (trails_in rest)
-    ∙ ap (λ l. old ++ l) (sym (trails_append here rest) ∙ ap trails_in (sym (places_drop tight line next over ps i d within is so)))
+    ∙ ap (λ l. old ++ l) (sym (trails_append here rest) ∙ ap trails_in (sym (places_drop tight line next over ps i d within behind so)))
 
 -- no piece is left
 none_among : (tight line : Bool) (ps : List code.Piece) (i : ℕ) → length ps ≤ i → places_from tight line (map piece_view (drop i ps)) ≡ []

@@ -1,4 +1,5 @@
-use Rattle.std.proofs.Common.{map, subst, arith, ◌∙◌}
+use Rattle.std.proofs.Common.{map, subst, arith, ◌+◌, ◌∙◌}
+use Rattle.std.proofs.lemmas.List.{take_rest}
 use Rattle.text_pieces.specs.Tokens.{piece_view}
 use Rattle.text_commented.specs.Places.{places_from}
 use Rattle.text_commented.specs.Sites.{IsSites}
@@ -9,8 +10,8 @@ pub pieces-preserved : goal.pieces-preserved
 pieces-preserved c =
     let l = c.pieces in
     record {
-      begun = leads_more c.args.tight l.line c.line_behind-line.result c.both-over.result c.args.pieces.now l.i _ l.sites.begun.items _ (omega arith) c.line_behind-line.ensures c.both-over.ensures c.in_ok-add.ensures.begun ∙ l.invariant.begun;
-      stopped = trails_more c.args.tight l.line c.line_behind-line.result c.both-over.result c.args.pieces.now l.i _ l.sites.stopped.items _ (omega arith) c.line_behind-line.ensures c.both-over.ensures c.in_ok-add.ensures.stopped ∙ l.invariant.stopped;
+      begun = leads_more c.args.tight l.line c.line_behind-line.result c.both-over.result c.args.pieces.now _ l.i _ l.sites.begun.items _ (omega arith) (take_rest c.args.pieces.now (l.i + 1)) c.line_behind-line.ensures c.both-over.ensures c.in_ok-add.ensures.begun ∙ l.invariant.begun;
+      stopped = trails_more c.args.tight l.line c.line_behind-line.result c.both-over.result c.args.pieces.now _ l.i _ l.sites.stopped.items _ (omega arith) (take_rest c.args.pieces.now (l.i + 1)) c.line_behind-line.ensures c.both-over.ensures c.in_ok-add.ensures.stopped ∙ l.invariant.stopped;
     }
 
 pub returns : goal.returns
