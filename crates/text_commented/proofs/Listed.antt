@@ -182,7 +182,7 @@ pub leads_more : (tight line next over : Bool) (ps after : List code.Piece) (i :
 leads_more tight line next over ps after i d old new within slice is so added =
     let here = if over then [] else places (piece_view (get_or ps i d)) in
     let rest = places_from tight next (map piece_view (drop (i + 1) ps)) in
-    let behind = is ∙ ap (λ l. line_behind line (piece_view (get_or ps i d)) (map piece_view l)) slice in
+    let behind : next ≡ line_behind line (piece_view (get_or ps i d)) (map piece_view (drop (i + 1) ps)) = is ∙ ap (λ l. line_behind line (piece_view (get_or ps i d)) (map piece_view l)) slice in
     ap (λ l. l ++ leads_in rest) added ∙ append_assoc old (leads_in here) (leads_in rest)
     ∙ ap (λ l. old ++ l) (sym (leads_append here rest) ∙ ap leads_in (sym (places_drop tight line next over ps i d within behind so)))
 
@@ -192,7 +192,7 @@ pub trails_more : (tight line next over : Bool) (ps after : List code.Piece) (i 
 trails_more tight line next over ps after i d old new within slice is so added =
     let here = if over then [] else places (piece_view (get_or ps i d)) in
     let rest = places_from tight next (map piece_view (drop (i + 1) ps)) in
-    let behind = is ∙ ap (λ l. line_behind line (piece_view (get_or ps i d)) (map piece_view l)) slice in
+    let behind : next ≡ line_behind line (piece_view (get_or ps i d)) (map piece_view (drop (i + 1) ps)) = is ∙ ap (λ l. line_behind line (piece_view (get_or ps i d)) (map piece_view l)) slice in
     ap (λ l. l ++ trails_in rest) added ∙ append_assoc old (trails_in here) (trails_in rest)
     ∙ ap (λ l. old ++ l) (sym (trails_append here rest) ∙ ap trails_in (sym (places_drop tight line next over ps i d within behind so)))
 
