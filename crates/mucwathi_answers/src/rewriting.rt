@@ -9,7 +9,7 @@ use crate::answer::{Answer, DEPTH};
 use crate::goals::{further, goal_asked, may_be_module};
 use mucwathi_arguments::Rewriting;
 use mucwathi_commands::{
-    CoverGap, Goal, Order, Rewritten, RunFault, Settings, cover_text, rewrite_with_comments,
+    CoverGap, Goal, Order, RewrittenText, RunFault, Settings, cover_text, rewrite_with_comments,
 };
 use mucwathi_looks::list_changes;
 use mucwathi_map::source_map;
@@ -114,12 +114,12 @@ fn with_told(
     task: &Rewriting<'_>,
     order: &Order,
     of: Named<'_>,
-    made: Rewritten,
+    made: RewrittenText,
 ) -> Result<Answer, RunFault>
     requires { IsRewritten order.now of.text.now made.out.items }
     ensures { MatchResult result (λ a. IsWell a × IsRewritten order.now of.entry.text.now a.out.items) (λ f. task.now.map ≡ None → IsMemoryFault f) }
 {
-    let Rewritten { out, lost } = made;
+    let RewrittenText { out, lost } = made;
     match tell_lost(alloc, of.name, of.text, &lost) {
         Ok(told) => with_map(alloc, task, order, of, out, told),
         Err(_) => Err(RunFault::Refused(PassError::NoMemory)),

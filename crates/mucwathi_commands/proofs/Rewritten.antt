@@ -20,7 +20,7 @@ use Rattle.mucwathi_faults.specs.declared.fault.RunFault.{RunFault}
 use Rattle.mucwathi_faults.specs.declared.fault.RunFault.TheVariants.{NotKept, NotWritten, Refused, Text}
 use Rattle.mucwathi_faults.specs.Faults.{of_text}
 use Rattle.mucwathi_commands.specs.Faults.{IsRunFault, IsWriteFault}
-use Rattle.mucwathi_commands.specs.declared.write.Rewritten.{Rewritten}
+use Rattle.mucwathi_commands.specs.declared.write.RewrittenText.{RewrittenText}
 use Rattle.mucwathi_commands.specs.Looks.{IsUncovered}
 use Rattle.mucwathi_commands.specs.Written.{IsKept, IsReadAs, IsRewritten, IsWritten}
 
@@ -86,7 +86,7 @@ module _ (order : Order) (bytes : List ℕ) where
       unwritten (Text f) h = absurd h
 
       -- whatever is answered where it is written anew
-      pub printed : (l : Layout) → layout_of order.style ≡ Some l → (r : Result Rewritten RunFault) → IfOk r (λ made. Follows (comments_of order.goal) false (pieces answer) made.out.items) → IfErr r IsWriteFault
+      pub printed : (l : Layout) → layout_of order.style ≡ Some l → (r : Result RewrittenText RunFault) → IfOk r (λ made. Follows (comments_of order.goal) false (pieces answer) made.out.items) → IfErr r IsWriteFault
           → MatchResult r (λ made. IsRewritten order bytes made.out.items) (IsRunFault order bytes)
       unfolding Written
       printed l is (Ok made) h f = rewritten made.out.items (anew order.style l (comments_of order.goal) source answer bytes made.out.items is h)

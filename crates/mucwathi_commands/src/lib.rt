@@ -16,4 +16,4 @@ pub use mucwathi_order::{Command, Goal, Order, Settings, Style};
 pub use rewrite::{rewrite_text, rewrite_with_comments};
 pub use swc_base_alpha::Why;
 pub use swc_base_covers::Cause;
-pub use write::{Rewritten, edit, print};
+pub use write::{RewrittenText, edit, print};

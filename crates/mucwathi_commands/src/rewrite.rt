@@ -4,7 +4,7 @@ ghost use Rattle.mucwathi_order.specs.Styles.{layout_of};
 ghost use Rattle.mucwathi_commands.specs.Faults.{IsRunFault};
 ghost use Rattle.mucwathi_commands.specs.Written.{IsReadAs, IsRewritten};
 
-use crate::write::{Rewritten, comments_in, edit, print_with};
+use crate::write::{RewrittenText, comments_in, edit, print_with};
 use mucwathi_faults::RunFault;
 use mucwathi_order::Order;
 use mucwathi_passes::make;
@@ -21,7 +21,7 @@ fn rewrite_anew(
     layout: Layout,
     text: &[u8],
     source: Node,
-) -> Result<Rewritten, RunFault>
+) -> Result<RewrittenText, RunFault>
     requires read { IsReadAs order.now.goal source text.now }
     requires anew { layout_of order.now.style ≡ Some layout }
     ensures { MatchResult result (λ made. IsRewritten order.now text.now made.out.items) (IsRunFault order.now text.now) }
@@ -77,13 +77,13 @@ fn rewrite_in_place(
     order: &Order,
     text: &[u8],
     source: &Node,
-) -> Result<Rewritten, RunFault>
+) -> Result<RewrittenText, RunFault>
     requires read { IsReadAs order.now.goal source.now text.now }
     requires kept { layout_of order.now.style ≡ None }
     ensures { MatchResult result (λ made. IsRewritten order.now text.now made.out.items) (IsRunFault order.now text.now) }
 {
     match rewrite_kept(alloc, order, text, source) {
-        Ok(out) => Ok(Rewritten {
+        Ok(out) => Ok(RewrittenText {
             out,
             lost: Vec::new(alloc),
         }),
@@ -97,7 +97,7 @@ fn rewrite_source(
     order: &Order,
     text: &[u8],
     source: Node,
-) -> Result<Rewritten, RunFault>
+) -> Result<RewrittenText, RunFault>
     requires read { IsReadAs order.now.goal source text.now }
     ensures { MatchResult result (λ made. IsRewritten order.now text.now made.out.items) (IsRunFault order.now text.now) }
 {
@@ -117,7 +117,7 @@ pub fn rewrite_with_comments(
     alloc: Global,
     order: &Order,
     text: &[u8],
-) -> Result<Rewritten, RunFault>
+) -> Result<RewrittenText, RunFault>
     ensures { MatchResult result (λ made. IsRewritten order.now text.now made.out.items) (IsRunFault order.now text.now) }
 {
     match read_text(alloc, order.goal, order.depth, text) {

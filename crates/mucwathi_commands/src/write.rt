@@ -19,7 +19,7 @@ use text_printer::{Layout, PrintFault, print_text};
 
 /// What is written for a text, and how many bytes are before each comment of the text that is not in it.
 #[derive(Debug, Drop)]
-pub struct Rewritten {
+pub struct RewrittenText {
     pub out: Vec<u8>,
     pub lost: Vec<usize>,
 }
@@ -94,13 +94,13 @@ fn print_set(
     text: &[u8],
     comments: &[Comment],
     answer: &Node,
-) -> Result<Rewritten, SetFault>
+) -> Result<RewrittenText, SetFault>
     ensures { IfOk result (λ made. Follows (texts.comments_of goal) false (pieces_of answer.now) made.out.items) }
 {
     let remarks = remarks_of(alloc, text, answer, comments)?;
     let printed = print_text_with_comments(alloc, comments_of(goal), layout, answer, &remarks)?;
     let lost = lost_among(alloc, comments, &printed.left)?;
-    Ok(Rewritten {
+    Ok(RewrittenText {
         out: printed.text,
         lost,
     })
@@ -118,7 +118,7 @@ pub(crate) fn print_with(
     text: &[u8],
     comments: &Option<Vec<Comment>>,
     answer: &Node,
-) -> Result<Rewritten, RunFault>
+) -> Result<RewrittenText, RunFault>
     ensures written { IfOk result (λ made. Follows (texts.comments_of goal) false (pieces_of answer.now) made.out.items) }
     ensures fault { IfErr result IsWriteFault }
 {
@@ -143,12 +143,12 @@ fn print_bare(
     goal: Goal,
     layout: Layout,
     answer: &Node,
-) -> Result<Rewritten, RunFault>
+) -> Result<RewrittenText, RunFault>
     ensures written { IfOk result (λ made. Follows (texts.comments_of goal) false (pieces_of answer.now) made.out.items) }
     ensures fault { IfErr result IsWriteFault }
 {
     match print(alloc, goal, layout, answer) {
-        Ok(out) => Ok(Rewritten {
+        Ok(out) => Ok(RewrittenText {
             out,
             lost: Vec::new(alloc),
         }),
