@@ -11,8 +11,28 @@ use mucwathi_passes::make;
 use std::alloc::Global;
 use swc_tree_marks::PassError;
 use swc_tree_node::Node;
+use text_comments::Comment;
 use text_printer::Layout;
 use text_source::read_text;
+
+// What a command makes of a program, written anew with comments of its text.
+fn rewrite_with(
+    alloc: Global,
+    order: &Order,
+    layout: Layout,
+    text: &[u8],
+    comments: &Option<Vec<Comment>>,
+    source: Node,
+) -> Result<RewrittenText, RunFault>
+    requires read { IsReadAs order.now.goal source text.now }
+    requires anew { layout_of order.now.style ≡ Some layout }
+    ensures { MatchResult result (λ made. IsRewritten order.now text.now made.out.items) (IsRunFault order.now text.now) }
+{
+    match make(alloc, order.command, &order.settings, source) {
+        Ok(answer) => print_with(alloc, order.goal, layout, text, comments, &answer),
+        Err(error) => Err(RunFault::Refused(error)),
+    }
+}
 
 // What a command makes of a program, written anew.
 fn rewrite_anew(
@@ -26,12 +46,9 @@ fn rewrite_anew(
     requires anew { layout_of order.now.style ≡ Some layout }
     ensures { MatchResult result (λ made. IsRewritten order.now text.now made.out.items) (IsRunFault order.now text.now) }
 {
-    let Ok(comments) = comments_in(alloc, order.goal, layout, text, &source) else {
-        return Err(RunFault::Refused(PassError::NoMemory));
-    };
-    match make(alloc, order.command, &order.settings, source) {
-        Ok(answer) => print_with(alloc, order.goal, layout, text, &comments, &answer),
-        Err(error) => Err(RunFault::Refused(error)),
+    match comments_in(alloc, order.goal, layout, text, &source) {
+        Ok(comments) => rewrite_with(alloc, order, layout, text, &comments, source),
+        Err(_) => Err(RunFault::Refused(PassError::NoMemory)),
     }
 }
 
