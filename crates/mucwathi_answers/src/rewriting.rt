@@ -9,8 +9,10 @@ ghost use Rattle.mucwathi_answers.specs.Answers.{HasList, HasMap, IsAnswered, Is
 use crate::answer::{Answer, DEPTH};
 use crate::goals::{further, goal_asked, may_be_module};
 use mucwathi_arguments::Rewriting;
-use mucwathi_commands::{CoverGap, Goal, Order, RunFault, Settings, cover_text, rewrite_text};
-use mucwathi_lists::{Change, list_renamed};
+use mucwathi_commands::{
+    CoverGap, Goal, Order, RewrittenText, RunFault, Settings, cover_text, rewrite_with_comments,
+};
+use mucwathi_lists::{Change, list_renamed, tell_lost};
 use mucwathi_looks::list_changes;
 use mucwathi_map::source_map;
 use mucwathi_report::{Named, tell_cover};
@@ -97,13 +99,14 @@ fn map_for(
     }
 }
 
-// What was written, and its map.
+// What was written, its map, and what is told of comments that are not in it.
 fn with_map(
     alloc: Global,
     task: &Rewriting<'_>,
     order: &Order,
     of: Named<'_>,
     out: Vec<u8>,
+    told: Vec<u8>,
 ) -> Result<Answer, RunFault>
     requires { IsRewritten order.now of.text.now out.items }
     ensures { MatchResult result (λ a. IsWell a × IsRewritten order.now of.entry.text.now a.out.items × HasMap task.now.map order.now of.entry a.out.items a.map.items) (IsRunFault order.now of.entry.text.now) }
@@ -112,10 +115,27 @@ fn with_map(
         Ok(map) => Ok(Answer {
             out,
             map,
-            told: Vec::new(alloc),
+            told,
             status: 0,
         }),
         Err(fault) => Err(fault),
+    }
+}
+
+fn with_told(
+    alloc: Global,
+    task: &Rewriting<'_>,
+    order: &Order,
+    of: Named<'_>,
+    made: RewrittenText,
+) -> Result<Answer, RunFault>
+    requires { IsRewritten order.now of.text.now made.out.items }
+    ensures { MatchResult result (λ a. IsWell a × IsRewritten order.now of.entry.text.now a.out.items × HasMap task.now.map order.now of.entry a.out.items a.map.items) (IsRunFault order.now of.entry.text.now) }
+{
+    let RewrittenText { out, lost } = made;
+    match tell_lost(alloc, of.name, of.text, &lost) {
+        Ok(told) => with_map(alloc, task, order, of, out, told),
+        Err(_) => Err(RunFault::Refused(PassError::NoMemory)),
     }
 }
 
@@ -127,8 +147,8 @@ fn rewrite(
 ) -> Result<Answer, RunFault>
     ensures { MatchResult result (λ a. IsWell a × IsRewritten order.now of.entry.text.now a.out.items × HasMap task.now.map order.now of.entry a.out.items a.map.items) (IsRunFault order.now of.entry.text.now) }
 {
-    match rewrite_text(alloc, order, of.text) {
-        Ok(out) => with_map(alloc, task, order, of, out),
+    match rewrite_with_comments(alloc, order, of.text) {
+        Ok(made) => with_told(alloc, task, order, of, made),
         Err(fault) => Err(fault),
     }
 }

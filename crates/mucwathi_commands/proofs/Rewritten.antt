@@ -20,6 +20,7 @@ use Rattle.mucwathi_faults.specs.declared.fault.RunFault.{RunFault}
 use Rattle.mucwathi_faults.specs.declared.fault.RunFault.TheVariants.{NotKept, NotWritten, Refused, Text}
 use Rattle.mucwathi_faults.specs.Faults.{of_text}
 use Rattle.mucwathi_commands.specs.Faults.{IsRunFault, IsWriteFault}
+use Rattle.mucwathi_commands.specs.declared.write.RewrittenText.{RewrittenText}
 use Rattle.mucwathi_commands.specs.Looks.{IsUncovered}
 use Rattle.mucwathi_commands.specs.Written.{IsKept, IsReadAs, IsRewritten, IsWritten}
 
@@ -85,10 +86,10 @@ module _ (order : Order) (bytes : List ℕ) where
       unwritten (Text f) h = absurd h
 
       -- whatever is answered where it is written anew
-      pub printed : {Z : Type 0} → (l : Layout) → layout_of order.style ≡ Some l → (r : Result (Vec ℕ Z) RunFault) → IfOk r (λ out. Follows (comments_of order.goal) false (pieces answer) out.items) → IfErr r IsWriteFault
-          → MatchResult r (λ out. IsRewritten order bytes out.items) (IsRunFault order bytes)
+      pub printed : (l : Layout) → layout_of order.style ≡ Some l → (r : Result RewrittenText RunFault) → IfOk r (λ made. Follows (comments_of order.goal) false (pieces answer) made.out.items) → IfErr r IsWriteFault
+          → MatchResult r (λ made. IsRewritten order bytes made.out.items) (IsRunFault order bytes)
       unfolding Written
-      printed l is (Ok out) h f = rewritten out.items (anew order.style l (comments_of order.goal) source answer bytes out.items is h)
+      printed l is (Ok made) h f = rewritten made.out.items (anew order.style l (comments_of order.goal) source answer bytes made.out.items is h)
       printed l is (Err e) h f = unwritten e f
 
       -- ... and where it is edited

@@ -4,15 +4,35 @@ ghost use Rattle.mucwathi_order.specs.Styles.{layout_of};
 ghost use Rattle.mucwathi_commands.specs.Faults.{IsRunFault};
 ghost use Rattle.mucwathi_commands.specs.Written.{IsReadAs, IsRewritten};
 
-use crate::write::{edit, print};
+use crate::write::{RewrittenText, comments_in, edit, print_with};
 use mucwathi_faults::RunFault;
 use mucwathi_order::Order;
 use mucwathi_passes::make;
 use std::alloc::Global;
 use swc_tree_marks::PassError;
 use swc_tree_node::Node;
+use text_comments::Comment;
 use text_printer::Layout;
 use text_source::read_text;
+
+// What a command makes of a program, written anew with comments of its text.
+fn rewrite_with(
+    alloc: Global,
+    order: &Order,
+    layout: Layout,
+    text: &[u8],
+    comments: &Option<Vec<Comment>>,
+    source: Node,
+) -> Result<RewrittenText, RunFault>
+    requires read { IsReadAs order.now.goal source text.now }
+    requires anew { layout_of order.now.style ≡ Some layout }
+    ensures { MatchResult result (λ made. IsRewritten order.now text.now made.out.items) (IsRunFault order.now text.now) }
+{
+    match make(alloc, order.command, &order.settings, source) {
+        Ok(answer) => print_with(alloc, order.goal, layout, text, comments, &answer),
+        Err(error) => Err(RunFault::Refused(error)),
+    }
+}
 
 // What a command makes of a program, written anew.
 fn rewrite_anew(
@@ -21,14 +41,14 @@ fn rewrite_anew(
     layout: Layout,
     text: &[u8],
     source: Node,
-) -> Result<Vec<u8>, RunFault>
+) -> Result<RewrittenText, RunFault>
     requires read { IsReadAs order.now.goal source text.now }
     requires anew { layout_of order.now.style ≡ Some layout }
-    ensures { MatchResult result (λ out. IsRewritten order.now text.now out.items) (IsRunFault order.now text.now) }
+    ensures { MatchResult result (λ made. IsRewritten order.now text.now made.out.items) (IsRunFault order.now text.now) }
 {
-    match make(alloc, order.command, &order.settings, source) {
-        Ok(answer) => print(alloc, order.goal, layout, &answer),
-        Err(error) => Err(RunFault::Refused(error)),
+    match comments_in(alloc, order.goal, layout, text, &source) {
+        Ok(comments) => rewrite_with(alloc, order, layout, text, &comments, source),
+        Err(_) => Err(RunFault::Refused(PassError::NoMemory)),
     }
 }
 
@@ -68,19 +88,58 @@ fn rewrite_kept(
     }
 }
 
+// The same, and that no comment is lost.
+fn rewrite_in_place(
+    alloc: Global,
+    order: &Order,
+    text: &[u8],
+    source: &Node,
+) -> Result<RewrittenText, RunFault>
+    requires read { IsReadAs order.now.goal source.now text.now }
+    requires kept { layout_of order.now.style ≡ None }
+    ensures { MatchResult result (λ made. IsRewritten order.now text.now made.out.items) (IsRunFault order.now text.now) }
+{
+    match rewrite_kept(alloc, order, text, source) {
+        Ok(out) => Ok(RewrittenText {
+            out,
+            lost: Vec::new(alloc),
+        }),
+        Err(fault) => Err(fault),
+    }
+}
+
 // What a command makes of a program.
 fn rewrite_source(
     alloc: Global,
     order: &Order,
     text: &[u8],
     source: Node,
-) -> Result<Vec<u8>, RunFault>
+) -> Result<RewrittenText, RunFault>
     requires read { IsReadAs order.now.goal source text.now }
-    ensures { MatchResult result (λ out. IsRewritten order.now text.now out.items) (IsRunFault order.now text.now) }
+    ensures { MatchResult result (λ made. IsRewritten order.now text.now made.out.items) (IsRunFault order.now text.now) }
 {
     match order.style.layout() {
         Some(layout) => rewrite_anew(alloc, order, layout, text, source),
-        None => rewrite_kept(alloc, order, text, &source),
+        None => rewrite_in_place(alloc, order, text, &source),
+    }
+}
+
+/// What a command makes of a text, and which comments of it are lost: where it is written anew, those that can stand at no node of the
+/// answer, or would end a line where none may end.
+///
+/// # Errors
+///
+/// Those of `rewrite_text`.
+pub fn rewrite_with_comments(
+    alloc: Global,
+    order: &Order,
+    text: &[u8],
+) -> Result<RewrittenText, RunFault>
+    ensures { MatchResult result (λ made. IsRewritten order.now text.now made.out.items) (IsRunFault order.now text.now) }
+{
+    match read_text(alloc, order.goal, order.depth, text) {
+        Ok(source) => rewrite_source(alloc, order, text, source),
+        Err(fault) => Err(RunFault::of_text(fault)),
     }
 }
 
@@ -98,8 +157,8 @@ fn rewrite_source(
 pub fn rewrite_text(alloc: Global, order: &Order, text: &[u8]) -> Result<Vec<u8>, RunFault>
     ensures { MatchResult result (λ out. IsRewritten order.now text.now out.items) (IsRunFault order.now text.now) }
 {
-    match read_text(alloc, order.goal, order.depth, text) {
-        Ok(source) => rewrite_source(alloc, order, text, source),
-        Err(fault) => Err(RunFault::of_text(fault)),
+    match rewrite_with_comments(alloc, order, text) {
+        Ok(made) => Ok(made.out),
+        Err(fault) => Err(fault),
     }
 }

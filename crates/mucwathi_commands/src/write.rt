@@ -8,12 +8,21 @@ ghost use Rattle.mucwathi_commands.specs.Written.{IsKept};
 
 use mucwathi_faults::RunFault;
 use mucwathi_order::Goal;
-use std::alloc::Global;
+use std::alloc::{AllocError, Global};
 use swc_tree_marks::PassError;
 use swc_tree_node::Node;
+use text_commented::{Left, SetFault, print_text_with_comments, remarks_of};
+use text_comments::{Comment, CommentsFault, find_comments};
 use text_edit::{EditFault, edit_text};
 use text_lexer::Comments;
 use text_printer::{Layout, PrintFault, print_text};
+
+/// What is written for a text, and how many bytes are before each comment of the text that is not in it.
+#[derive(Debug, Drop)]
+pub struct RewrittenText {
+    pub out: Vec<u8>,
+    pub lost: Vec<usize>,
+}
 
 fn comments_of(goal: Goal) -> Comments
     ensures { result ≡ texts.comments_of goal }
@@ -37,6 +46,113 @@ pub fn print(alloc: Global, goal: Goal, layout: Layout, answer: &Node) -> Result
         Ok(text) => Ok(text),
         Err(PrintFault::NoMemory) => Err(RunFault::Refused(PassError::NoMemory)),
         Err(PrintFault::NotSpelled) => Err(RunFault::NotWritten),
+    }
+}
+
+/// The comments of a source's text, where the layout has any: none where they are not found, which never happens.
+///
+/// # Errors
+///
+/// Where memory is refused.
+pub(crate) fn comments_in(
+    alloc: Global,
+    goal: Goal,
+    layout: Layout,
+    text: &[u8],
+    source: &Node,
+) -> Result<Option<Vec<Comment>>, AllocError> {
+    if layout == Layout::Compact {
+        return Ok(Some(Vec::new(alloc)));
+    }
+    match find_comments(alloc, comments_of(goal), text, source) {
+        Ok(found) => Ok(Some(found)),
+        Err(CommentsFault::NoMemory) => Err(AllocError),
+        Err(CommentsFault::TooLong | CommentsFault::OtherText) => Ok(None),
+    }
+}
+
+// How many bytes are before each comment that is left.
+fn lost_among(
+    alloc: Global,
+    comments: &[Comment],
+    left: &[Left],
+) -> Result<Vec<usize>, AllocError> {
+    let mut lost = Vec::new(alloc);
+    for each in left {
+        if let Some(comment) = comments.get(each.number) {
+            lost.push(comment.span.lo.saturating_sub(1) as usize)?;
+        }
+    }
+    Ok(lost)
+}
+
+// The text of an answer, anew, with comments of its source's text.
+fn print_set(
+    alloc: Global,
+    goal: Goal,
+    layout: Layout,
+    text: &[u8],
+    comments: &[Comment],
+    answer: &Node,
+) -> Result<RewrittenText, SetFault>
+    ensures { IfOk result (λ made. Follows (texts.comments_of goal) false (pieces_of answer.now) made.out.items) }
+{
+    let remarks = remarks_of(alloc, text, answer, comments)?;
+    let printed = print_text_with_comments(alloc, comments_of(goal), layout, answer, &remarks)?;
+    let lost = lost_among(alloc, comments, &printed.left)?;
+    Ok(RewrittenText {
+        out: printed.text,
+        lost,
+    })
+}
+
+/// The text of an answer, anew, with the comments of its source's text, but those that can stand nowhere.
+///
+/// # Errors
+///
+/// `NotWritten` where it has no text; `Refused` where memory is.
+pub(crate) fn print_with(
+    alloc: Global,
+    goal: Goal,
+    layout: Layout,
+    text: &[u8],
+    comments: &Option<Vec<Comment>>,
+    answer: &Node,
+) -> Result<RewrittenText, RunFault>
+    ensures written { IfOk result (λ made. Follows (texts.comments_of goal) false (pieces_of answer.now) made.out.items) }
+    ensures fault { IfErr result IsWriteFault }
+{
+    let Some(comments) = comments else {
+        return Err(RunFault::NotWritten);
+    };
+    if comments.is_empty() {
+        return print_bare(alloc, goal, layout, answer);
+    }
+    match print_set(alloc, goal, layout, text, comments, answer) {
+        Ok(made) => Ok(made),
+        Err(SetFault::NoMemory) => Err(RunFault::Refused(PassError::NoMemory)),
+        Err(SetFault::NotSpelled | SetFault::NotSet | SetFault::TooLong) => {
+            Err(RunFault::NotWritten)
+        }
+    }
+}
+
+// The same where the source's text has no comments.
+fn print_bare(
+    alloc: Global,
+    goal: Goal,
+    layout: Layout,
+    answer: &Node,
+) -> Result<RewrittenText, RunFault>
+    ensures written { IfOk result (λ made. Follows (texts.comments_of goal) false (pieces_of answer.now) made.out.items) }
+    ensures fault { IfErr result IsWriteFault }
+{
+    match print(alloc, goal, layout, answer) {
+        Ok(out) => Ok(RewrittenText {
+            out,
+            lost: Vec::new(alloc),
+        }),
+        Err(fault) => Err(fault),
     }
 }
 

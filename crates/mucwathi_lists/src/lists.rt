@@ -1,4 +1,4 @@
-//! Lists of names, one a line.
+//! Lists of names and of comments, one a line.
 ghost use Rattle.std.specs.Prelude.{◌≡◌, ◌++◌, IfOk, OnOk};
 ghost use Rattle.mucwathi_lists.specs.Cursors.{IsIn};
 ghost use Rattle.mucwathi_lists.specs.Listed.{change_line, changes_listed, name_line, names_listed, place_text};
@@ -99,6 +99,39 @@ pub fn list_renamed(
     let mut cursor = Cursor::new(text);
     for change in changes {
         add_change(alloc, prefix, text, change, &mut cursor, &mut out)?;
+    }
+    Ok(out)
+}
+
+fn add_lost(
+    alloc: Global,
+    name: &str,
+    text: &[u8],
+    at: usize,
+    cursor: &mut Cursor,
+    out: &mut Vec<u8>,
+) -> Result<(), AllocError>
+    requires { IsIn text.now cursor.old }
+    ensures { IsIn text.now cursor.new }
+{
+    out.extend_from_slice(name.as_bytes())?;
+    out.push(b':')?;
+    add_place(alloc, text, at, cursor, out)?;
+    out.extend_from_slice(b": this comment is not written\n")?;
+    Ok(())
+}
+
+/// Comments of a text that are not written, by how many bytes are before each: `name:line:column: this comment is not written`.
+pub fn tell_lost(
+    alloc: Global,
+    name: &str,
+    text: &[u8],
+    lost: &[usize],
+) -> Result<Vec<u8>, AllocError> {
+    let mut out = Vec::new(alloc);
+    let mut cursor = Cursor::new(text);
+    for at in lost {
+        add_lost(alloc, name, text, *at, &mut cursor, &mut out)?;
     }
     Ok(out)
 }

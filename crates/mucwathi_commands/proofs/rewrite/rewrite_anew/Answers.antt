@@ -1,14 +1,5 @@
-use Rattle.mucwathi_faults.proofs.Programs.{opens}
-use Rattle.mucwathi_commands.proofs.Rewritten.{printed, refused}
+use Rattle.std.proofs.Common.{inl, refl}
 use Rattle.mucwathi_commands.proofs.rewrite.rewrite_anew.Goals as goal
 
-pub make-requires : goal.make-requires
-make-requires c = opens c.args.order.now.goal c.args.source c.requires.read.0.fits
-
-pub returns-in-Ok : goal.returns-in-Ok
-returns-in-Ok c =
-    printed c.args.order.now c.args.text.now c.args.source c.requires.read c.in-Ok.answer c.in-Ok.ensures c.args.layout c.requires.anew c.print.result
-    c.print.ensures.written c.print.ensures.fault
-
 pub returns-in-Err : goal.returns-in-Err
-returns-in-Err c = refused c.args.order.now c.args.text.now c.args.source c.requires.read c.in-Err.error c.in-Err.ensures
+returns-in-Err c = inl refl

@@ -1,7 +1,7 @@
 use Rattle.std.proofs.Common.{subst, sym}
 use Rattle.mucwathi_commands.specs.Faults.{IsRunFault}
 use Rattle.mucwathi_commands.proofs.Rewritten.{unread}
-use Rattle.mucwathi_commands.proofs.rewrite.rewrite_text.Goals as goal
+use Rattle.mucwathi_commands.proofs.rewrite.rewrite_with_comments.Goals as goal
 
 pub rewrite_source-requires : goal.rewrite_source-requires
 rewrite_source-requires c = record { read = (c.in-Ok.ensures.tree, c.in-Ok.ensures.formed, c.in-Ok.ensures.pinned) }
