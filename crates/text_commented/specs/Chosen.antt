@@ -1,21 +1,20 @@
--- Which of the tokens round it a comment of a text stands at.
-use Rattle.std.specs.Prelude.{◌≡◌, ◌⊎◌, ℕ, ◌-◌, ◌+◌, List, [], ◌∷◌, drop, take}
+-- At which of the nodes round it a comment of a text stands.
+use Rattle.std.specs.Prelude.{◌≡◌, ◌⊎◌, ℕ, ◌+◌, List, [], ◌∷◌}
 use Rattle.text_comments.specs.declared.comment.Comment.{Comment}
+use Rattle.text_commented.specs.Commented.{written}
+use Rattle.text_commented.specs.Sites.{IsFirstBegun, IsLastStop}
 use Rattle.text_commented.specs.declared.remark.At.{At}
-use Rattle.text_commented.specs.declared.remark.At.TheVariants as at
+use Rattle.text_commented.specs.declared.remark.At.TheVariants as stand
 use Rattle.text_commented.specs.declared.remark.Remark.{Remark}
 
--- what is written of a comment, of which places are in bytes from 1
-abbrev pub text_of : List ℕ → Comment → List ℕ
-text_of text k = take (k.span.hi - k.span.lo) (drop (k.span.lo - 1) text)
-
--- it trails the token before it, or leads the one behind it, or trails the byte that stands behind it
-abbrev pub IsChosen : Comment → At → Type 0
-IsChosen k (at.Leads place) = place ≡ k.leads
-IsChosen k (at.Trails place) = (place ≡ k.trails) ⊎ (place ≡ k.leads + 1)
+-- It trails the last that stops before it, or the one that stops behind the byte that is behind it; or it leads the first that begins
+-- behind it, or what stands right there.
+abbrev pub IsChosen : List At → Comment → At → Type 0
+IsChosen all k (stand.Leads n) = (n ≡ k.leads) ⊎ IsFirstBegun all k.leads n
+IsChosen all k (stand.Trails n) = (n ≡ k.leads + 1) ⊎ IsLastStop all k.trails n
 
 -- each comment has its remark, in their order
-abbrev pub AreChosen : List ℕ → List Comment → List Remark → Type 0
-AreChosen text [] [] = Unit {0}
-AreChosen text (k ∷ ks) (r ∷ rs) = (r.text.now ≡ text_of text k) × IsChosen k r.at × AreChosen text ks rs
-AreChosen text _ _ = ⊥
+abbrev pub AreChosen : List ℕ → List At → List Comment → List Remark → Type 0
+AreChosen text all [] [] = Unit {0}
+AreChosen text all (k ∷ ks) (r ∷ rs) = (r.text.now ≡ written text k) × IsChosen all k r.at × AreChosen text all ks rs
+AreChosen text all _ _ = ⊥

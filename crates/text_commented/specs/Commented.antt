@@ -1,19 +1,21 @@
 -- A text that is written with the tokens of a tree, and with comments that stand at its nodes.
-use Rattle.std.specs.Prelude.{◌≡◌, ◌⊎◌, ℕ, ◌+◌, ◌-◌, ◌<◌, ◌≤◌, Bool, true, false, ◌==◌, ◌&&◌, List, [], ◌∷◌, ◌++◌, length, map, take, drop, replicate, reverse, slice_get, slice_set, Option, Some, None, if◌then◌else◌, nat_lt, not}
-use Rattle.swc_tree_marks.specs.declared.span.Span.{Span}
+use Rattle.std.specs.List.{All}
+use Rattle.std.specs.Prelude.{◌≡◌, ℕ, ◌+◌, ◌-◌, ◌<◌, ◌≤◌, Bool, true, false, List, [], ◌∷◌, ◌++◌, length, map, take, drop, replicate, slice_get, slice_set, Option, Some, None, if◌then◌else◌, nat_lt}
 use Rattle.swc_tree_node.specs.declared.node.Node.{Node}
 use Rattle.text_lexer.specs.declared.blank.Comments.{Comments}
 use Rattle.text_lexer.specs.Blanks.{blank}
 use Rattle.text_pieces.specs.declared.item.Ending.{Ending}
 use Rattle.text_pieces.specs.declared.item.Ending.TheVariants as ending
 use Rattle.text_pieces.specs.Pieces.{framed_pieces, pieces}
-use Rattle.text_pieces.specs.Tokens.{Frame, Piece, begins, frame, named, piece_view, stops}
+use Rattle.text_pieces.specs.Tokens.{Piece, piece_view}
 use Rattle.text_follow.specs.Endings.{ending_behind}
 use Rattle.text_follow.specs.Follows.{Follows, Takes, fresh_behind, goal_of}
 use Rattle.text_comments.specs.Comments.{before_token, before_tokens}
 use Rattle.text_comments.specs.declared.comment.Comment.{Comment}
+use Rattle.text_commented.specs.Places.{places}
+use Rattle.text_commented.specs.Why.{IsTold}
+use Rattle.text_commented.specs.declared.left.Left.{Left}
 use Rattle.text_commented.specs.declared.remark.At.{At}
-use Rattle.text_commented.specs.declared.remark.At.TheVariants as at
 use Rattle.text_commented.specs.declared.remark.Remark.{Remark}
 use Rattle.text_commented.specs.declared.remark.Item as code
 use Rattle.text_commented.specs.declared.remark.Item.TheVariants as codes_of
@@ -27,46 +29,34 @@ abbrev pub item_view : code.Item → Item
 item_view (codes_of.Piece p) = token (piece_view p)
 item_view (codes_of.Comment n) = remark n
 
--- a comment stands at a frame: where the node begins that it leads, or where the node stops that it trails
-abbrev pub stands_at : At → Frame → Bool
-stands_at (at.Leads place) (begins here) = place == here
-stands_at (at.Leads place) (stops here) = false
-stands_at (at.Leads place) (named a s) = place == s.lo
-stands_at (at.Trails place) (begins here) = false
-stands_at (at.Trails place) (stops here) = place == here
-stands_at (at.Trails place) (named a s) = place == s.hi
+abbrev pub Stands : Option Remark → At → Type 0
+Stands None a = ⊥
+Stands (Some r) a = r.at ≡ a
 
-abbrev pub stands_behind : At → Piece → Bool
-stands_behind a (frame f) = stands_at a f
-stands_behind a p = false
+-- Comments are put at a place, in the order in which they are given: each stands there, and was not put before; `used` says which
+-- were, and `now` which are.
+abbrev pub ArePut : List Remark → At → ℕ → List Bool → List ℕ → List Bool → Type 0
+ArePut rs a from used [] now = now ≡ used
+ArePut rs a from used (n ∷ ns) now = (from ≤ n) × (slice_get used n ≡ Some false) × Stands (slice_get rs n) a × ArePut rs a (n + 1) (slice_set used n true) ns now
 
-abbrev pub Stands : Option Remark → Piece → Type 0
-Stands None p = ⊥
-Stands (Some r) p = stands_behind r.at p ≡ true
-
--- Comments are put behind a piece: each stands there, and was not put before; `used` says which were, and `now` which are.
-abbrev pub ArePut : List Remark → Piece → List Bool → List ℕ → List Bool → Type 0
-ArePut rs p used [] now = now ≡ used
-ArePut rs p used (n ∷ ns) now = (slice_get used n ≡ Some false) × Stands (slice_get rs n) p × ArePut rs p (slice_set used n true) ns now
-
--- some are put behind the items that are made
-pub record PutsBehind (rs : List Remark) (p : Piece) (used : List Bool) (items : List Item) (now : List Bool) (made : List Item) : Type 0 where
-  pub numbers : List ℕ
-  pub is : made ≡ items ++ map remark numbers
-  pub are : ArePut rs p used numbers now
+-- at one place after another
+abbrev pub ArePutAt : List Remark → List At → List Bool → List Item → List Bool → Type 0
+ArePutAt rs [] used items now = (items ≡ []) × (now ≡ used)
+ArePutAt rs (a ∷ more) used items now =
+    (ns : List ℕ) × (next : List Bool) × (others : List Item) × (items ≡ map remark ns ++ others) × ArePut rs a 0 used ns next × ArePutAt rs more next others now
 
 -- The pieces in their order, each with the comments that are put behind it.
 abbrev pub PutsAmong : List Remark → List Bool → List Piece → List Item → List Bool → Type 0
 PutsAmong rs used [] items now = (items ≡ []) × (now ≡ used)
 PutsAmong rs used (p ∷ ps) items now =
-    (ns : List ℕ) × (next : List Bool) × (more : List Item) × (items ≡ token p ∷ map remark ns ++ more) × ArePut rs p used ns next × PutsAmong rs next ps more now
+    (put : List Item) × (next : List Bool) × (others : List Item) × (items ≡ token p ∷ (put ++ others)) × ArePutAt rs (places p) used put next × PutsAmong rs next ps others now
 
 -- the numbers of those that were not put, from n on
 abbrev pub not_put : ℕ → List Bool → List ℕ
 not_put n [] = []
 not_put n (u ∷ us) = if u then not_put (n + 1) us else n ∷ not_put (n + 1) us
 
--- a comment of a text as it is written there
+-- a comment of a text as it is written there; places are in bytes from 1
 abbrev pub written : List ℕ → Comment → List ℕ
 written whole k = take (k.span.hi - k.span.lo) (drop (k.span.lo - 1) whole)
 
@@ -92,8 +82,9 @@ IsSetFrom c whole rs fresh e due (token p ∷ is) text =
 abbrev pub IsSet : Comments → List Remark → List Item → List ℕ → Type 0
 IsSet c rs items text = IsSetFrom c text rs true ending.Closed [] items text
 
--- A text has the tokens of a tree. It has comments of those given and no others: each once, as it is written, between the tokens
--- before and behind the place where the first node begins or stops that it stands at. The others are left, by their numbers.
-pub record IsCommented (c : Comments) (t : Node) (rs : List Remark) (text : List ℕ) (left : List ℕ) : Type 0 where
+-- A text has the tokens of a tree, and comments of those given and no others: each at most once, as it is written, between the tokens
+-- round a frame where it stands, those of one place in their order. Just the others are left, and each is told why.
+pub record IsCommented (c : Comments) (t : Node) (rs : List Remark) (text : List ℕ) (left : List Left) : Type 0 where
   pub follows : Follows c false (pieces t) text
-  pub set : (used : List Bool) × (items : List Item) × PutsAmong rs (replicate (length rs) false) (framed_pieces t) items used × IsSet c rs items text × (left ≡ not_put 0 used)
+  pub set : (used : List Bool) × (items : List Item) × PutsAmong rs (replicate (length rs) false) (framed_pieces t) items used × IsSet c rs items text × (map (λ l. l.number) left ≡ not_put 0 used)
+  pub told : All (λ l. IsTold c (framed_pieces t) (slice_get rs l.number) l.why) left

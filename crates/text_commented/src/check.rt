@@ -1,16 +1,19 @@
 //! A text held against pieces with comments among them.
-ghost use Rattle.std.specs.Prelude.{◌≡◌, ℕ, ◌-◌, ◌^◌, ◌<◌, List, [], length, map, IfOk, IsTrue};
+ghost use Rattle.std.specs.Prelude.{◌≡◌, ℕ, ◌-◌, ◌^◌, ◌<◌, Bool, List, [], Some, length, map, slice_get, IfOk, IfSome, IsTrue};
+ghost use Rattle.text_comments.specs.Comments.{before_token, before_tokens};
 ghost use Rattle.text_commented.specs.Commented.{IsSet, Meets, due_behind, item_view, remark, token, written};
 ghost use Rattle.text_commented.specs.Steps.{GoesOn, Steps};
 ghost use Rattle.text_commented.specs.declared.remark.Remark.{Remark};
+ghost use Rattle.text_lexer.specs.Blanks.{blank};
 ghost use Rattle.text_lexer.specs.declared.blank.Comments.{Comments};
 ghost use Rattle.text_pieces.specs.Tokens.{piece_view};
 
+use crate::choose::text_of;
 use crate::remark::{Item, Remark};
 use std::alloc::{AllocError, Global};
 use text_comments::{Comment, Source, add_before_token, add_before_tokens};
 use text_follow::{ending_behind, fresh_behind, goal_of, take};
-use text_lexer::skip_blank;
+use text_lexer::{Comments, Goal, skip_blank};
 use text_pieces::{Ending, Piece};
 
 // Where a text is read on, and which comments are due before the next token.
@@ -24,15 +27,16 @@ struct Walk<'t, 'r> {
     due: Vec<&'r [u8]>,
 }
 
+fn same(one: &[u8], other: &[u8]) -> bool
+    ensures { IsTrue result → one.now ≡ other.now }
+{
+    one == other
+}
+
 fn is_written(whole: &[u8], comment: Comment, due: &[u8]) -> bool
     ensures { IsTrue result → written whole.now comment ≡ due.now }
 {
-    let (lo, hi) = (comment.span.lo as usize, comment.span.hi as usize);
-    if lo == 0 || hi < lo || whole.len() < hi - 1 {
-        return false;
-    }
-    let behind = &whole[lo - 1..];
-    &behind[..hi - lo] == due
+    same(text_of(whole, comment), due)
 }
 
 // Whether the comments of a text are those that are due.
@@ -50,6 +54,56 @@ fn are_written(whole: &[u8], found: &[Comment], due: &[&[u8]]) -> bool
     true
 }
 
+// The comments before the next token.
+fn comments_before(
+    alloc: Global,
+    source: Source<'_>,
+    fresh: bool,
+    text: &[u8],
+) -> Result<Vec<Comment>, AllocError>
+    requires { length source.whole.now < 2 ^ 32 - 1 }
+    ensures { IfOk result (λ found. found.items ≡ before_token source.entry.comments source.entry.whole.now fresh text.now) }
+{
+    let mut found = Vec::new(alloc);
+    add_before_token(source, fresh, text, &mut found)?;
+    Ok(found)
+}
+
+// The comments before the tokens of a piece.
+fn comments_between(
+    alloc: Global,
+    source: Source<'_>,
+    goal: Goal,
+    fresh: bool,
+    text: &[u8],
+    rest: &[u8],
+) -> Result<Vec<Comment>, AllocError>
+    requires { length source.whole.now < 2 ^ 32 - 1 }
+    ensures { IfOk result (λ found. found.items ≡ before_tokens (length text.now) source.entry.comments goal source.entry.whole.now fresh text.now rest.now) }
+{
+    let mut found = Vec::new(alloc);
+    add_before_tokens(source, goal, fresh, text, rest, &mut found)?;
+    Ok(found)
+}
+
+fn is_at_end(comments: Comments, fresh: bool, text: &[u8]) -> bool
+    ensures { IsTrue result → (ended : Bool) × (blank comments fresh text.now ≡ Some (ended, [])) }
+{
+    match skip_blank(comments, fresh, text) {
+        Some((_, end)) => end.is_empty(),
+        None => false,
+    }
+}
+
+fn remark_at<'r>(remarks: &[Remark<'r>], number: usize) -> Option<Remark<'r>>
+    ensures { IfSome result (λ remark. slice_get remarks.now number ≡ Some remark) }
+{
+    match remarks.get(number) {
+        Some(remark) => Some(*remark),
+        None => None,
+    }
+}
+
 impl<'t, 'r> Walk<'t, 'r> {
     // Whether the comments before a piece are those that are due, where it is written with a token.
     fn meets(
@@ -65,9 +119,8 @@ impl<'t, 'r> Walk<'t, 'r> {
         if rest.len() >= self.rest.len() {
             return Ok(true);
         }
-        let mut found = Vec::new(alloc);
         let goal = goal_of(piece);
-        add_before_tokens(source, goal, self.fresh, self.rest, rest, &mut found)?;
+        let found = comments_between(alloc, source, goal, self.fresh, self.rest, rest)?;
         Ok(are_written(source.whole, &found, &self.due))
     }
 
@@ -112,7 +165,7 @@ impl<'t, 'r> Walk<'t, 'r> {
     fn expect(&mut self, remarks: &[Remark<'r>], number: usize) -> Result<bool, AllocError>
         ensures { IfOk result (λ on. IsTrue on → (c : Comments) (whole : List ℕ) → Steps c whole remarks.now (remark number) self.old self.new) }
     {
-        let Some(remark) = remarks.get(number) else {
+        let Some(remark) = remark_at(remarks, number) else {
             return Ok(false);
         };
         self.due.push(remark.text)?;
@@ -147,14 +200,10 @@ impl<'t, 'r> Walk<'t, 'r> {
         requires { length source.whole.now < 2 ^ 32 - 1 }
         ensures { IfOk result (λ end. IsTrue end → (rs : List Remark) → GoesOn source.entry.comments source.entry.whole.now rs self.now []) }
     {
-        let Some((_, rest)) = skip_blank(source.comments, self.fresh, self.rest) else {
-            return Ok(false);
-        };
-        if !rest.is_empty() {
+        if !is_at_end(source.comments, self.fresh, self.rest) {
             return Ok(false);
         }
-        let mut found = Vec::new(alloc);
-        add_before_token(source, self.fresh, self.rest, &mut found)?;
+        let found = comments_before(alloc, source, self.fresh, self.rest)?;
         Ok(are_written(source.whole, &found, &self.due))
     }
 }

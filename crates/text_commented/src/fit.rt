@@ -1,15 +1,17 @@
 //! Comments put among the pieces of a tree.
-ghost use Rattle.std.specs.Prelude.{◌≡◌, ◌<◌, Some, false, length, map, replicate, slice_get, IsTrue, IfOk, OnOk};
-ghost use Rattle.text_commented.specs.Commented.{PutsAmong, PutsBehind, item_view};
-ghost use Rattle.text_pieces.specs.Tokens.{piece_view};
+ghost use Rattle.std.specs.Prelude.{◌≡◌, Some, false, length, map, replicate, slice_get, IsTrue, IfOk, OnOk};
+ghost use Rattle.text_commented.specs.Commented.{PutsAmong, item_view};
+ghost use Rattle.text_commented.specs.Places.{places, places_at};
+ghost use Rattle.text_commented.specs.Steps.{PutsAt, PutsBehind, PutsFrom};
+ghost use Rattle.text_pieces.specs.Tokens.{frame_view, piece_view};
 
-use crate::frames::{Places, key_of, place_of};
-use crate::remark::{At, Item, Remark, stands_behind};
+use crate::frames::{Places, key_of};
+use crate::lines::{line_behind, may_end_line};
+use crate::remark::{At, Item, Remark, stands_at};
 use std::alloc::{AllocError, Global};
-use text_comments::is_comment;
-use text_lexer::{Comments, Skip, skip_piece};
+use text_comments::{ends_line, is_one_comment};
+use text_lexer::Comments;
 use text_pieces::{Frame, Piece};
-use text_printer::ends_line;
 
 /// What comments are put among.
 #[derive(Clone, Copy)]
@@ -41,62 +43,14 @@ pub(crate) fn order_of(
     Ok(order)
 }
 
-/// How many stand before a place.
+// How many stand before a place.
 fn count_before(order: &[(u64, usize)], key: u64) -> usize {
-    let mut low: usize = 0;
-    let mut high = order.len();
-    for _ in 0..64 {
-        if low >= high {
-            return low;
-        }
-        let middle = low.saturating_add(high.saturating_sub(low) / 2);
-        match order.get(middle) {
-            Some(row) if row.0 < key => low = middle.saturating_add(1),
-            _ => high = middle,
-        }
-    }
-    low
-}
-
-/// Whether a text is one comment, which may begin a line.
-pub(crate) fn is_one_comment(comments: Comments, text: &[u8]) -> bool {
-    match skip_piece(comments, true, text) {
-        Skip::Past(_, rest) => rest.is_empty() && is_comment(text),
-        Skip::Stop | Skip::Unclosed => false,
-    }
-}
-
-/// Whether a piece is written with a token.
-pub(crate) fn is_token(piece: Piece<'_>) -> bool {
-    !matches!(
-        piece,
-        Piece::MayComma
-            | Piece::MayFrom
-            | Piece::MayBraces
-            | Piece::Here
-            | Piece::Closes(_)
-            | Piece::Gap(_)
-            | Piece::Frame(_)
-    )
-}
-
-/// Whether a line may end before the first token of some pieces.
-fn may_end_line(pieces: &[Piece<'_>]) -> bool {
-    for piece in pieces {
-        if is_token(*piece) {
-            return true;
-        }
-        if matches!(*piece, Piece::Here) {
-            return false;
-        }
-    }
-    true
+    order.partition_point(|row| row.0 < key)
 }
 
 // Whether a comment has not been put yet.
 fn is_open(used: &[bool], number: usize) -> bool
-    ensures open { IsTrue result → slice_get used.now number ≡ Some false }
-    ensures within { IsTrue result → number < length used.now }
+    ensures { IsTrue result → slice_get used.now number ≡ Some false }
 {
     match used.get(number) {
         Some(used) => !*used,
@@ -104,111 +58,143 @@ fn is_open(used: &[bool], number: usize) -> bool
     }
 }
 
+// Whether a text is a comment, and one that no line ends in where none may.
+fn may_stand(given: Given<'_, '_>, line: bool, number: usize) -> bool {
+    match given.remarks.get(number) {
+        Some(remark) => {
+            (line || !ends_line(remark.text)) && is_one_comment(given.comments, remark.text)
+        }
+        None => false,
+    }
+}
+
 impl<'a> Put<'a> {
-    /// Puts a comment behind a piece, if it stands there and has not been put.
-    #[tactic(auto, using(crate::proofs::Puts::stays, crate::proofs::Puts::put_one))]
+    // Puts a comment at a place, if it stands there, may, and has not been put; others there go on from the number that is answered.
+    #[tactic(auto, using(crate::proofs::Puts::none_from, crate::proofs::Puts::one_from, std::proofs::lemmas::Grind::common_steps))]
     fn put(
         &mut self,
         given: Given<'_, '_>,
         line: bool,
-        piece: Piece<'_>,
+        place: At,
+        from: usize,
         number: usize,
-    ) -> Result<(), AllocError>
-        ensures { OnOk result (PutsBehind given.entry.remarks.now (piece_view piece.entry) self.old.used.items (map item_view self.old.items.items) self.new.used.items (map item_view self.new.items.items)) }
+    ) -> Result<usize, AllocError>
+        ensures { IfOk result (λ to. PutsFrom given.entry.remarks.now place from self.old.used.items (map item_view self.old.items.items) self.new.used.items (map item_view self.new.items.items) to) }
     {
-        let Some(remark) = given.remarks.get(number) else {
-            return Ok(());
-        };
+        let len = self.used.len();
+        if number < from || len <= number {
+            return Ok(from);
+        }
         if !is_open(self.used.as_slice(), number) {
-            return Ok(());
+            return Ok(from);
         }
-        if !stands_behind(remark.at, piece) || !line && ends_line(remark.text) {
-            return Ok(());
+        if !stands_at(given.remarks, number, place) {
+            return Ok(from);
         }
-        if !is_one_comment(given.comments, remark.text) {
-            return Ok(());
+        if !may_stand(given, line, number) {
+            return Ok(from);
         }
         self.items.push(Item::Comment(number))?;
         self.used[number] = true;
-        Ok(())
+        Ok(number + 1)
     }
 
-    /// Puts all comments behind a piece that stand at a place there.
-    #[tactic(auto, using(crate::proofs::Puts::stays, crate::proofs::Puts::put_then))]
-    fn put_at(
-        &mut self,
-        given: Given<'_, '_>,
-        line: bool,
-        piece: Piece<'_>,
-        at: At,
-    ) -> Result<(), AllocError>
-        ensures { OnOk result (PutsBehind given.entry.remarks.now (piece_view piece.entry) self.old.used.items (map item_view self.old.items.items) self.new.used.items (map item_view self.new.items.items)) }
+    // Puts all comments that stand at a place.
+    #[tactic(auto, using(crate::proofs::Puts::none_from))]
+    fn put_at(&mut self, given: Given<'_, '_>, line: bool, place: At) -> Result<(), AllocError>
+        ensures { OnOk result (PutsAt given.entry.remarks.now place self.old.used.items (map item_view self.old.items.items) self.new.used.items (map item_view self.new.items.items)) }
     {
-        let key = key_of(at);
-        'places: for place in count_before(given.order, key)..given.order.len() {
-            let (there, number) = given.order[place];
+        let key = key_of(place);
+        let mut from = 0;
+        'order: for i in count_before(given.order, key)..given.order.len() {
+            let (there, number) = given.order[i];
             if there != key {
                 return Ok(());
             }
-            self.put(given, line, piece, number)?;
+            let next = self.put(given, line, place, from, number)?;
+            from = next;
         }
         Ok(())
     }
 
-    /// The same of a place where a node stops, if none behind it stops there too.
-    #[tactic(auto, using(crate::proofs::Puts::stays))]
-    fn put_last(
-        &mut self,
-        given: Given<'_, '_>,
-        line: bool,
-        piece: Piece<'_>,
-        at: At,
-    ) -> Result<(), AllocError>
-        ensures { OnOk result (PutsBehind given.entry.remarks.now (piece_view piece.entry) self.old.used.items (map item_view self.old.items.items) self.new.used.items (map item_view self.new.items.items)) }
+    // The same where a node stops, if none behind it stops there too.
+    #[tactic(auto, using(crate::proofs::Puts::none_there))]
+    fn put_last(&mut self, given: Given<'_, '_>, line: bool, place: At) -> Result<(), AllocError>
+        ensures { OnOk result (PutsAt given.entry.remarks.now place self.old.used.items (map item_view self.old.items.items) self.new.used.items (map item_view self.new.items.items)) }
     {
-        if self.places.pass_last(at) {
-            self.put_at(given, line, piece, at)
+        if self.places.pass_last(place) {
+            self.put_at(given, line, place)
         } else {
             Ok(())
         }
     }
 
-    /// Puts all comments that stand right behind a piece.
-    #[tactic(auto, using(crate::proofs::Puts::stays, crate::proofs::Puts::put_then))]
+    #[tactic(auto, using(crate::proofs::Puts::none_there))]
+    fn put_begun(&mut self, given: Given<'_, '_>, line: bool, here: usize) -> Result<(), AllocError>
+        ensures { OnOk result (PutsAt given.entry.remarks.now (At.Leads here) self.old.used.items (map item_view self.old.items.items) self.new.used.items (map item_view self.new.items.items)) }
+    {
+        if here > u32::MAX as usize {
+            return Ok(());
+        }
+        self.put_at(given, line, At::Leads(here as u32))
+    }
+
+    #[tactic(auto, using(crate::proofs::Puts::none_there))]
+    fn put_stopped(
+        &mut self,
+        given: Given<'_, '_>,
+        line: bool,
+        here: usize,
+    ) -> Result<(), AllocError>
+        ensures { OnOk result (PutsAt given.entry.remarks.now (At.Trails here) self.old.used.items (map item_view self.old.items.items) self.new.used.items (map item_view self.new.items.items)) }
+    {
+        if here > u32::MAX as usize {
+            return Ok(());
+        }
+        self.put_last(given, line, At::Trails(here as u32))
+    }
+
+    // Puts all comments that stand at a frame.
+    fn put_at_frame(
+        &mut self,
+        given: Given<'_, '_>,
+        line: bool,
+        frame: Frame<'_>,
+    ) -> Result<(), AllocError>
+        ensures { OnOk result (PutsBehind given.entry.remarks.now (places_at (frame_view frame.entry)) self.old.used.items (map item_view self.old.items.items) self.new.used.items (map item_view self.new.items.items)) }
+    {
+        match frame {
+            Frame::Begins(here) => {
+                self.put_begun(given, line, here)?;
+                Ok(())
+            }
+            Frame::Stops(here) => {
+                self.put_stopped(given, line, here)?;
+                Ok(())
+            }
+            Frame::Named(_, span) => {
+                self.put_at(given, line, At::Leads(span.lo))?;
+                self.put_last(given, true, At::Trails(span.hi))?;
+                Ok(())
+            }
+        }
+    }
+
+    // Puts all comments that stand right behind a piece.
+    #[tactic(auto, using(crate::proofs::Puts::none_behind))]
     fn put_behind(
         &mut self,
         given: Given<'_, '_>,
         line: bool,
         piece: Piece<'_>,
     ) -> Result<(), AllocError>
-        ensures { OnOk result (PutsBehind given.entry.remarks.now (piece_view piece.entry) self.old.used.items (map item_view self.old.items.items) self.new.used.items (map item_view self.new.items.items)) }
+        ensures { OnOk result (PutsBehind given.entry.remarks.now (places (piece_view piece.entry)) self.old.used.items (map item_view self.old.items.items) self.new.used.items (map item_view self.new.items.items)) }
     {
         match piece {
-            Piece::Frame(Frame::Begins(here)) => {
-                self.put_at(given, line, piece, At::Leads(place_of(here)))
-            }
-            Piece::Frame(Frame::Stops(here)) => {
-                self.put_last(given, line, piece, At::Trails(place_of(here)))
-            }
-            Piece::Frame(Frame::Named(_, span)) => {
-                self.put_at(given, line, piece, At::Leads(span.lo))?;
-                self.put_last(given, true, piece, At::Trails(span.hi))
-            }
+            Piece::Frame(frame) => self.put_at_frame(given, line, frame),
             _ => Ok(()),
         }
     }
-}
-
-/// Whether a line may end behind a piece and before the next token, which is asked once behind each token.
-fn line_behind(line: bool, pieces: &[Piece<'_>], i: usize) -> bool
-    requires { i < length pieces.now }
-{
-    let is_token = is_token(pieces[i]);
-    if !is_token && 0 < i {
-        return line;
-    }
-    let next = if is_token { i + 1 } else { i };
-    may_end_line(&pieces[next..])
 }
 
 /// The pieces in their order, and comments among them.
@@ -226,7 +212,7 @@ pub(crate) fn put_among<'a>(
         places,
     };
     put.used.resize(given.remarks.len(), false)?;
-    let mut line = true;
+    let mut line = may_end_line(pieces);
     'pieces: for i in 0..pieces.len() {
         line = line_behind(line, pieces, i);
         put.items.push(Item::Piece(pieces[i]))?;

@@ -3,7 +3,6 @@ ghost use Rattle.std.specs.Prelude.{◌<◌, length, IfSome};
 
 use crate::remark::At;
 use std::alloc::{AllocError, Global};
-use swc_tree_marks::BytePos;
 use text_pieces::{Frame, Piece};
 
 /// A number for each place, in the order of places.
@@ -40,15 +39,22 @@ impl Places {
         }
     }
 
-    fn note_piece(&mut self, piece: Piece<'_>) {
-        match piece {
-            Piece::Frame(Frame::Begins(here)) => self.note(At::Leads(place_of(here))),
-            Piece::Frame(Frame::Stops(here)) => self.note(At::Trails(place_of(here))),
-            Piece::Frame(Frame::Named(_, span)) => {
+    fn note_frame(&mut self, frame: Frame<'_>) {
+        match frame {
+            Frame::Begins(here) => {
+                if let Ok(place) = u32::try_from(here) {
+                    self.note(At::Leads(place));
+                }
+            }
+            Frame::Stops(here) => {
+                if let Ok(place) = u32::try_from(here) {
+                    self.note(At::Trails(place));
+                }
+            }
+            Frame::Named(_, span) => {
                 self.note(At::Leads(span.lo));
                 self.note(At::Trails(span.hi));
             }
-            _ => (),
         }
     }
 
@@ -68,17 +74,11 @@ impl Places {
             passed,
         };
         for piece in pieces {
-            places.note_piece(*piece);
+            if let Piece::Frame(frame) = *piece {
+                places.note_frame(frame);
+            }
         }
         Ok(places)
-    }
-
-    /// Whether a node begins or stops at a place.
-    pub(crate) fn has(&self, at: At) -> bool {
-        match self.index_of(at) {
-            Some(index) => self.nodes.get(index).copied().unwrap_or(0) > 0,
-            None => false,
-        }
     }
 
     /// Passes a node at a place, and answers whether it is the last there.
@@ -91,9 +91,4 @@ impl Places {
             None => false,
         }
     }
-}
-
-/// The place that a frame tells, which is 0 where there is none.
-pub(crate) fn place_of(here: usize) -> BytePos {
-    u32::try_from(here).unwrap_or(0)
 }

@@ -3,13 +3,17 @@
 
 mod check;
 mod choose;
+mod fault;
 mod fit;
 mod frames;
 mod left;
+mod lines;
 mod print;
 mod remark;
+mod sites;
 
 pub use choose::remarks_of;
+pub use fault::SetFault;
 pub use left::{Left, Why};
-pub use print::{Printed, SetFault, print_text_with_comments};
+pub use print::{Printed, print_text_with_comments};
 pub use remark::{At, Item, Remark};

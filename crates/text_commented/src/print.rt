@@ -6,6 +6,7 @@ ghost use Rattle.text_pieces.specs.Pieces.{pieces as pieces_of};
 ghost use Rattle.text_pieces.specs.Tokens.{piece_view};
 
 use crate::check::is_set;
+use crate::fault::SetFault;
 use crate::fit::{Given, order_of, put_among};
 use crate::frames::{Places, key_of};
 use crate::left::{Left, left_of, numbers_left};
@@ -16,30 +17,14 @@ use text_comments::Source;
 use text_follow::follows;
 use text_lexer::Comments;
 use text_pieces::{Frame, Piece};
-use text_walk::{framed_pieces, pieces};
 use text_printer::{Layout, Writer};
+use text_walk::{framed_pieces, pieces};
 
 /// A text that is written, and the comments that are not in it.
 #[derive(Drop)]
 pub struct Printed {
     pub text: Vec<u8>,
     pub left: Vec<Left>,
-}
-
-/// Why a tree is not written.
-#[derive(Clone, Copy, Debug, PartialEq, Eq)]
-pub enum SetFault {
-    NoMemory,
-    /// A text in the tree is no token of its kind, or a node has no text: a type, a template with too few texts.
-    NotSpelled,
-    /// The text would have 2^32 bytes or more, less one.
-    TooLong,
-}
-
-impl From<AllocError> for SetFault {
-    fn from(_: AllocError) -> SetFault {
-        SetFault::NoMemory
-    }
 }
 
 fn is_named(piece: Piece<'_>) -> bool {
@@ -108,7 +93,7 @@ fn checked(
     if is_set(alloc, source, remarks, items)? {
         Ok(text)
     } else {
-        Err(SetFault::NotSpelled)
+        Err(SetFault::NotSet)
     }
 }
 
@@ -130,7 +115,8 @@ fn places_of(
 ///
 /// # Errors
 ///
-/// `NotSpelled` where the tree has no text, `TooLong` where positions have not room, `NoMemory` where memory is refused.
+/// `NotSpelled` where the tree has no text, `TooLong` where positions have not room, `NoMemory` where memory is refused; `NotSet`, which
+/// is our fault, where a comment is not where it has to be.
 pub fn print_text_with_comments(
     alloc: Global,
     comments: Comments,
@@ -138,7 +124,7 @@ pub fn print_text_with_comments(
     tree: &Node,
     remarks: &[Remark<'_>],
 ) -> Result<Printed, SetFault>
-    ensures { IfOk result (λ out. IsCommented comments tree.now remarks.now out.text.items (map (λ l. l.number) out.left.items)) }
+    ensures { IfOk result (λ out. IsCommented comments tree.now remarks.now out.text.items out.left.items) }
 {
     let found = framed_pieces(alloc, tree)?;
     let places = places_of(alloc, remarks, &found)?;
@@ -149,9 +135,9 @@ pub fn print_text_with_comments(
         order: &order,
     };
     let put = put_among(alloc, given, places, &found)?;
-    let text = text_of_items(alloc, layout, remarks, &put.items)?;
-    let text = checked(alloc, comments, tree, remarks, &put.items, text)?;
+    let made = text_of_items(alloc, layout, remarks, &put.items)?;
+    let text = checked(alloc, comments, tree, remarks, &put.items, made)?;
     let numbers = numbers_left(alloc, &put.used)?;
-    let left = left_of(alloc, comments, remarks, &numbers, &put.places)?;
+    let left = left_of(alloc, comments, remarks, &numbers, &found)?;
     Ok(Printed { text, left })
 }

@@ -1,10 +1,9 @@
 //! Comments that are to be written.
-ghost use Rattle.std.specs.Prelude.{◌≡◌};
-ghost use Rattle.text_commented.specs.Commented as spec;
-ghost use Rattle.text_pieces.specs.Tokens.{frame_view, piece_view};
+ghost use Rattle.std.specs.Prelude.{◌≡◌, slice_get, IsTrue};
+ghost use Rattle.text_commented.specs.Commented.{Stands};
 
 use swc_tree_marks::BytePos;
-use text_pieces::{Frame, Piece};
+use text_pieces::Piece;
 
 /// Where a comment stands, in bytes from 1, as passes move it.
 #[derive(Clone, Copy, Debug, PartialEq, Eq)]
@@ -29,30 +28,27 @@ pub enum Item<'a> {
     Comment(usize),
 }
 
-/// Whether a comment stands at a frame.
-pub(crate) fn stands_at(at: At, frame: Frame<'_>) -> bool
-    ensures { result ≡ spec.stands_at at (frame_view frame.entry) }
+fn same_place(one: At, other: At) -> bool
+    ensures { IsTrue result → one ≡ other }
 {
-    match at {
-        At::Leads(place) => match frame {
-            Frame::Begins(here) => place as usize == here,
-            Frame::Stops(_) => false,
-            Frame::Named(_, span) => place == span.lo,
+    match one {
+        At::Leads(place) => match other {
+            At::Leads(here) => place == here,
+            At::Trails(_) => false,
         },
-        At::Trails(place) => match frame {
-            Frame::Begins(_) => false,
-            Frame::Stops(here) => place as usize == here,
-            Frame::Named(_, span) => place == span.hi,
+        At::Trails(place) => match other {
+            At::Leads(_) => false,
+            At::Trails(here) => place == here,
         },
     }
 }
 
-/// Whether a comment stands right behind a piece.
-pub(crate) fn stands_behind(at: At, piece: Piece<'_>) -> bool
-    ensures { result ≡ spec.stands_behind at (piece_view piece.entry) }
+/// Whether there is a comment of this number, and stands at the place.
+pub(crate) fn stands_at(remarks: &[Remark<'_>], number: usize, place: At) -> bool
+    ensures { IsTrue result → Stands (slice_get remarks.now number) place }
 {
-    match piece {
-        Piece::Frame(frame) => stands_at(at, frame),
-        _ => false,
+    match remarks.get(number) {
+        Some(remark) => same_place(remark.at, place),
+        None => false,
     }
 }

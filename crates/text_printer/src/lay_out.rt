@@ -1,7 +1,7 @@
 //! Pieces written one after another, with the blanks that they need.
 use crate::mark_text::mark_text;
 use std::alloc::{AllocError, Global};
-use text_characters::begins_line_end;
+use text_comments::{goes_to_line_end, has_line_end};
 use text_lexer::{Mark, TemplatePart};
 use text_pieces::{Gap, Piece};
 
@@ -85,25 +85,6 @@ fn last_of_number(text: &str) -> Last {
         }
     }
     Last::Digits
-}
-
-/// Whether a comment goes to the end of its line.
-fn goes_to_line_end(comment: &[u8]) -> bool {
-    comment.starts_with(b"//") || comment.starts_with(b"<!--") || comment.starts_with(b"-->")
-}
-
-fn has_line_end(comment: &[u8]) -> bool {
-    for at in 0..comment.len() {
-        if begins_line_end(&comment[at..]) {
-            return true;
-        }
-    }
-    false
-}
-
-/// Whether a line ends in a comment, or has to end behind it.
-pub fn ends_line(comment: &[u8]) -> bool {
-    goes_to_line_end(comment) || has_line_end(comment)
 }
 
 impl<'a> Writer<'a> {

@@ -7,8 +7,8 @@ use Rattle.text_commented.proofs.fit.put_among.Goals as goal
 pub pieces-preserved : goal.pieces-preserved
 pieces-preserved c = λ more now after.
     let l = c.pieces in
-    one_piece c.args.given.remarks.now (replicate (length c.args.given.remarks.now) false) (map piece_view c.args.pieces.now) c.args.pieces.now l.i _ l.put.items.items _
-    (map item_view c.put_behind.new.self.items.items) more l.put.used.items c.put_behind.new.self.used.items now (omega arith) refl c.in_ok-put_behind.ensures after l.invariant
+    one_piece c.args.given.remarks.now (replicate (length c.args.given.remarks.now) false) (map piece_view c.args.pieces.now) c.args.pieces.now l.i _ l.put.items.items _ _
+    (map item_view c.put_behind.new.self.items.items) more l.put.used.items c.put_behind.new.self.used.items now (omega arith) refl c.in_ok-push.ensures.items c.in_ok-put_behind.ensures after l.invariant
 
 pub returns : goal.returns
 returns c =
