@@ -5,7 +5,8 @@ declaration and an export list. The fixer takes tokens away (pairs, what a seque
 """
 import following
 import scoping
-from lawbook import Bad, D, fixed, has_types, law
+from headline_laws import nameless
+from lawbook import Bad, D, declared_ids, fixed, has_types, kind, law, normal_form
 from naming_rows import with_hygiene
 from text_kept_laws import clean_source, is_source, renamed, text_source
 
@@ -95,6 +96,26 @@ def are_named(ps, qs):
 
 
 # ---- laws
+def unnamed(t):
+    """the pieces with one name for all, and without what is said of how what stands before ends"""
+    return list(D.all.text_kept_pieces_laws.Unnamed.unnamed(following.pieces(D.all, t)))
+
+
+@law(text_source)
+def names_alone_differ(t):
+    """a tree has the pieces that it has with one text for all identifiers, but for names"""
+    return unnamed(t) == unnamed(nameless(t)) or Bad('others in', nameless(t))
+
+
+@law(clean_source)
+def forms_have_the_same_pieces(t):
+    """the normal form of a chain's answer has the pieces of the program's, but for names"""
+    if not is_source(t):
+        return None
+    before, after = normal_form(t), normal_form(fixed(with_hygiene(scoping.resolved(D.all, t, 1, 2))))
+    return unnamed(before) == unnamed(after) or Bad('pieces of', after, 'and', before)
+
+
 @law(text_source)
 def stripping_takes_tokens_away(t):
     """the tokens of a stripped tree that fits its place are some of the tree's, in their order"""
@@ -156,6 +177,70 @@ def token_fault(t):
 def chained_tokens(t):
     """a chain's answer has the tokens of the program but for bound names and what is written out, pairs, blocks, and what a sequence drops"""
     return (token_fault(t) or True) if is_source(t) else None
+
+
+# ---- piece by piece
+SET, LEFT = ('punctuator', 'LeftParen'), ('punctuator', 'RightParen')
+
+
+def opened(count, token, pair):
+    """how many of a pair are open behind a token that is one of the two; None for another, or where none was open"""
+    count += {pair[0]: 1, pair[1]: -1}.get(token, -1000)
+    return count if count >= 0 else None
+
+
+def piece_steps(ps, qs, bound, state):
+    """from so many pieces of both lists, with so many parentheses and braces that are set or left out and still open, and exported declarations
+    whose lists are still to come, to the next"""
+    i, j, set_, left, braces, lists = state
+    if i < len(ps) and j < len(qs) and (ps[i] == qs[j] or is_name(ps[i]) and is_name(qs[j]) and ps[i][1] in bound):
+        yield i + 1, j + 1, set_, left, braces, lists
+    if i < len(ps) and is_name(ps[i]) and ps[i][1] in bound and written_out(ps[i], qs, j):
+        yield i + 1, j + written_out(ps[i], qs, j), set_, left, braces, lists
+    if i < len(ps) and opened(left, ps[i], (SET, LEFT)) is not None:
+        yield i + 1, j, set_, opened(left, ps[i], (SET, LEFT)), braces, lists
+    if j < len(qs) and opened(set_, qs[j], (SET, LEFT)) is not None:
+        yield i, j + 1, opened(set_, qs[j], (SET, LEFT)), left, braces, lists
+    if j < len(qs) and opened(braces, qs[j], (OPEN, CLOSE)) is not None:
+        yield i, j + 1, set_, left, opened(braces, qs[j], (OPEN, CLOSE)), lists
+    if i < len(ps) and ps[i] == EXPORT:
+        yield i + 1, j, set_, left, braces, lists + 1
+    behind = export_list(qs, j) if lists else None
+    if behind:
+        yield i, behind, set_, left, braces, lists - 1
+
+
+def are_same_pieces(ps, qs, bound):
+    """the second tokens are the first, but for bound names, pairs that are set or left out, blocks, and what is written out"""
+    seen, states = set(), [(0, 0, 0, 0, 0, 0)]
+    while states:
+        state = states.pop()
+        if state == (len(ps), len(qs), 0, 0, 0, 0):
+            return True
+        if state not in seen:
+            seen.add(state)
+            states.extend(piece_steps(ps, qs, bound, state))
+    return False
+
+
+def chained_piece_by_piece(t, premise):
+    if not is_source(t) or not premise(t):
+        return None
+    resolved = scoping.resolved(D.all, t, 1, 2)
+    bound = {sym for sym, ctxt in declared_ids(resolved)}
+    answer = fixed(with_hygiene(resolved))
+    return are_same_pieces(tokens(t), tokens(answer), bound) or Bad('others in', answer)
+
+
+def has_empty_member(t):
+    return following.HasNode(lambda node: node[0] == 'Tree' and node[1] == 'Class' and any(kind(m) == 'EmptyStmt' for m in node[2][2][1]), t)
+
+
+@law(clean_source)
+def chained_pieces(t):
+    """where there is no sequence and no empty class member, a chain's answer has the program's tokens piece by piece, but for bound names, pairs,
+    blocks, exported declarations, and what is written out"""
+    return chained_piece_by_piece(t, lambda t: not trees_with_sequences(t) and not has_empty_member(t))
 
 
 @law(clean_source)

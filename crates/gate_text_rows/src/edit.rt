@@ -10,7 +10,7 @@ use text_source::read_text;
 const BETWEEN: &[u8] = b"\n====\n";
 
 // What stands before the line that is between two texts, and what behind it.
-fn two_texts(text: &[u8]) -> Option<(&[u8], &[u8])> {
+pub(crate) fn two_texts(text: &[u8]) -> Option<(&[u8], &[u8])> {
     for at in 0..text.len() {
         let (first, rest) = text.split_at(at);
         if let Some(second) = rest.strip_prefix(BETWEEN) {

@@ -1,10 +1,11 @@
-//! What the gate asks of JavaScript texts: rows of `read_text`, and of `print_text` and `edit_text` above it. With arguments it runs a work that is
+//! What the gate asks of JavaScript texts: rows of `read_text`, and of `print_text`, `print_text_with_comments` and `edit_text` above it. With arguments it runs a work that is
 //! refused memory (`refuse`). It is a library below its program, so that what was proved of it is kept.
 //!
 //! Standard input has rows. A row begins with its words; then come the lines of a text, each behind `> `, and those of what is
 //! wanted, each behind `= `. Of two texts a line `> ====` stands between. In a text `⟨0D⟩` is the byte 13. Empty lines, and those that begin with `#`, are for people.
 #![tactic(auto)]
 
+mod commented;
 mod edit;
 mod levels;
 mod mutants;

@@ -1,4 +1,5 @@
 //! The rows of standard input.
+use crate::commented::{commented, set};
 use crate::edit::edit;
 use crate::levels::levels;
 use crate::mutants::mutants;
@@ -71,6 +72,8 @@ pub(crate) fn answer(alloc: Global, asked: Asked, text: &[u8]) -> Result<String>
     match asked.task {
         Task::Read => read(alloc, asked, text),
         Task::Print(layout) => print(alloc, asked, layout, text),
+        Task::Commented(layout) => commented(alloc, asked, layout, text),
+        Task::Set => set(alloc, asked, text),
         Task::Edit => edit(alloc, asked, text),
         Task::Cuts => cuts(alloc, asked, text),
         Task::Shifts => shifts(alloc, asked, text),

@@ -92,7 +92,7 @@ pub(crate) fn shifts(alloc: Global, asked: Asked, text: &[u8]) -> Result<String>
             if shift_at(&mut tree, number, shift).is_some() {
                 return Ok(format!(in alloc; "{number} spans")?);
             }
-            if are_spans_of(alloc, asked.goal, &tree, text)? {
+            if are_spans_of(asked.goal, &tree, text) {
                 return Ok(format!(in alloc; "span {number} may be another")?);
             }
         }

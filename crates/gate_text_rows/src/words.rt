@@ -13,6 +13,10 @@ pub(crate) enum Task {
     Read,
     /// The text of the tree.
     Print(Layout),
+    /// The text of the tree with the text's comments.
+    Commented(Layout),
+    /// The text of the first text's tree with comments that are given with their places.
+    Set,
     /// The first of two texts edited to be the other's, but for its layout.
     Edit,
     /// What is answered to each beginning of the text, in numbers.
@@ -59,6 +63,9 @@ pub(crate) fn parse_words(words: &str) -> Option<Asked> {
         "read" => Task::Read,
         "print" => Task::Print(Layout::Lines),
         "compact" => Task::Print(Layout::Compact),
+        "commented" => Task::Commented(Layout::Lines),
+        "dense" => Task::Commented(Layout::Compact),
+        "set" => Task::Set,
         "edit" => Task::Edit,
         "cuts" => Task::Cuts,
         "shifts" => Task::Shifts,

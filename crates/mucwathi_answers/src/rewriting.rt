@@ -43,12 +43,7 @@ fn order_for(task: &Rewriting<'_>, goal: Goal) -> Order
     }
 }
 
-fn list_of(
-    alloc: Global,
-    prefix: &str,
-    text: &[u8],
-    changes: &[Change],
-) -> Result<Answer, RunFault>
+fn list_of(alloc: Global, prefix: &str, text: &[u8], changes: &[Change]) -> Result<Answer, RunFault>
     ensures { MatchResult result (λ a. IsWell a × (a.out.items ≡ changes_listed prefix.now text.now changes.now)) IsMemoryFault }
 {
     match list_renamed(alloc, prefix, text, changes) {

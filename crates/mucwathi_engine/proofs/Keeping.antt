@@ -10,33 +10,46 @@ use Rattle.swc_base_covers.specs.Covered as covers
 use Rattle.swc_base_rename_substitution.specs.declared.config.Config.{Config}
 use Rattle.swc_ecma_transforms_base_laws.specs.Sources.{IsSource}
 use Rattle.text_parser.specs.declared.programs.Goal.{Goal}
-use Rattle.text_source.specs.Texts.{class_of}
+use Rattle.text_source.specs.Texts.{class_of, slot_of}
+use Rattle.text_kept_namings_laws.specs.Laws.{NamesAreUtf8}
+use Rattle.text_kept_chain_laws.specs.Laws.{HasTexts}
 use Rattle.mucwathi_settings.specs.declared.command.Settings.{Settings}
 use Rattle.mucwathi_order.specs.declared.order.Order.{Order}
-use Rattle.mucwathi_passes.specs.Passes.{config_of}
+use Rattle.mucwathi_passes.specs.Passes.{Makes, config_of}
 use Rattle.mucwathi_faults.specs.declared.fault.RunFault.{RunFault}
 use Rattle.mucwathi_faults.specs.declared.fault.RunFault.TheVariants.{NotKept, NotWritten, Refused, Text}
 use Rattle.mucwathi_faults.proofs.Programs.{is_program}
-use Rattle.mucwathi_laws.specs.Promises.{IsCovered, PromisesAreKept, TargetsAreSpared}
-use Rattle.mucwathi_commands.specs.Faults.{IsRunFault}
+use Rattle.mucwathi_laws.specs.Promises.{IsCovered, PromisesAreKept, TargetsAreSpared, TextsAreKept}
+use Rattle.mucwathi_commands.specs.Faults.{IsRunFault, IsUnwritten}
 use Rattle.mucwathi_commands.specs.Looks.{IsCoverTold, IsUncovered, TellsCause, cause_in}
-use Rattle.mucwathi_commands.specs.Written.{IsRewritten}
+use Rattle.mucwathi_commands.specs.Written.{IsReadAs, IsRewritten}
 use Rattle.mucwathi_commands.specs.declared.cover.CoverGap.{CoverGap}
-use Rattle.mucwathi_engine.specs.Headline.{IsPromised, IsPromisedFault, IsToldToBePromised}
+use Rattle.mucwathi_engine.specs.Headline.{IsPromised, IsPromisedFault, IsToldToBePromised, IsUnwrittenThough}
 
-module _ (keeps : PromisesAreKept) (spares : TargetsAreSpared) (order : Order) (text : List ℕ) where
+module _ (keeps : PromisesAreKept) (spares : TargetsAreSpared) (texts : TextsAreKept) (order : Order) (text : List ℕ) where
+  -- what is read has what is kept
+  had : (t : Node) → IsReadAs order.goal t text → HasTexts (slot_of order.goal) t
+  had t read = record { fits = read.1.fits; shaped = read.1.shaped; spelled = read.1.spelled }
+
+  kept_texts : (t u : Node) → IsReadAs order.goal t text → Makes order.command order.settings t u → NamesAreUtf8 t → HasTexts (slot_of order.goal) u
+  kept_texts t u read made utf8 = texts order.command order.settings (slot_of order.goal) t u (is_program order.goal) utf8 made (had t read)
+
+  unwritten : IsUnwritten order text → IsUnwrittenThough order text
+  unwritten h = record { unwritten = h; texts = kept_texts h.source h.answer h.read h.made }
+
   written : (out : List ℕ) → IsRewritten order text out → IsPromised order text out
   written out h = record {
     rewritten = h;
     kept = keeps order.command order.settings (slot.One (content.Node (class_of order.goal))) h.source h.answer (is_program order.goal) h.read.0.fits h.made;
+    texts = kept_texts h.source h.answer h.read h.made;
   }
 
   refused : (f : RunFault) → IsRunFault order text f → IsPromisedFault order text f
   refused (Refused e) (inl none) = inl none
   refused (Refused e) (inr h) = inr (h, spares order.command order.settings (slot.One (content.Node (class_of order.goal))) h.source e (is_program order.goal) h.read.0.fits h.refused)
   refused (Text f) h = h
-  refused NotWritten h = h
-  refused NotKept h = h
+  refused NotWritten h = unwritten h
+  refused NotKept h = unwritten h
 
   pub promised : {Z : Type 0} → (r : Result (Vec ℕ Z) RunFault) → MatchResult r (λ out. IsRewritten order text out.items) (IsRunFault order text) → MatchResult r (λ out. IsPromised order text out.items) (IsPromisedFault order text)
   promised (Ok out) h = written out.items h

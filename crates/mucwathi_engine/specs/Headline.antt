@@ -2,26 +2,38 @@
 use Rattle.std.specs.Prelude.{◌≡◌, ◌⊎◌, ℕ, List, Option, None}
 use Rattle.swc_tree_marks.specs.declared.error.PassError.TheVariants as refusal
 use Rattle.text_parser.specs.declared.programs.Goal.{Goal}
+use Rattle.text_source.specs.Texts.{Tells, slot_of}
+use Rattle.text_kept_namings_laws.specs.Laws.{NamesAreUtf8}
+use Rattle.text_kept_chain_laws.specs.Laws.{HasTexts}
 use Rattle.mucwathi_settings.specs.declared.command.Settings.{Settings}
 use Rattle.mucwathi_order.specs.declared.order.Order.{Order}
 use Rattle.mucwathi_faults.specs.declared.fault.RunFault.{RunFault}
-use Rattle.mucwathi_faults.specs.declared.fault.RunFault.TheVariants.{Refused}
+use Rattle.mucwathi_faults.specs.declared.fault.RunFault.TheVariants.{NotKept, NotWritten, Refused, Text}
 use Rattle.mucwathi_laws.specs.Promises.{IsCovered, Keeps, SparesTargets}
-use Rattle.mucwathi_commands.specs.Faults.{IsRunFault}
+use Rattle.mucwathi_commands.specs.Faults.{IsUnwritten}
 use Rattle.mucwathi_commands.specs.Looks.{IsCoverTold}
 use Rattle.mucwathi_commands.specs.Written.{IsRefusedText, IsRewritten}
 use Rattle.mucwathi_commands.specs.declared.cover.CoverGap.{CoverGap}
 
 -- What was read is the text of a source, and what is written that of an answer, which the command makes of the source: of a program
--- that gets its names anew, the same program but for the names that it binds.
+-- that gets its names anew, the same program but for the names that it binds. The answer's productions have their lengths, and its leaves
+-- are tokens of their kinds.
 pub record IsPromised (order : Order) (text out : List ℕ) : Type 0 where
   pub rewritten : IsRewritten order text out
   pub kept : Keeps order.command order.settings rewritten.source rewritten.answer
+  pub texts : NamesAreUtf8 rewritten.source → HasTexts (slot_of order.goal) rewritten.answer
 
--- the fault tells of the text, and where a source was refused, targets were spared
+-- An answer is not written, though its productions have their lengths, and its leaves are tokens of their kinds.
+pub record IsUnwrittenThough (order : Order) (text : List ℕ) : Type 0 where
+  pub unwritten : IsUnwritten order text
+  pub texts : NamesAreUtf8 unwritten.source → HasTexts (slot_of order.goal) unwritten.answer
+
+-- the fault tells of the text; where a source was refused, targets were spared, and where an answer is not written, no length and no leaf is to blame
 abbrev pub IsPromisedFault : Order → List ℕ → RunFault → Type 0
 IsPromisedFault order text (Refused e) = (e ≡ refusal.NoMemory) ⊎ ((refused : IsRefusedText order text e) × SparesTargets order.command order.settings refused.source e)
-IsPromisedFault order text f = IsRunFault order text f
+IsPromisedFault order text (Text f) = Tells text f
+IsPromisedFault order text NotWritten = IsUnwrittenThough order text
+IsPromisedFault order text NotKept = IsUnwrittenThough order text
 
 -- it is told whether the program of a text is covered, and one of which that is told is one of which the promises are kept
 pub record IsToldToBePromised (goal : Goal) (s : Settings) (text : List ℕ) (gap : Option CoverGap) : Type 0 where

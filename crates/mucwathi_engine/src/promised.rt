@@ -5,7 +5,7 @@ ghost use Rattle.mucwathi_engine.specs.Headline.{IsPromised, IsPromisedFault, Is
 
 use mucwathi_commands::CoverGap;
 use mucwathi_faults::RunFault;
-use mucwathi_laws::{promises_are_kept, targets_are_spared};
+use mucwathi_laws::{promises_are_kept, targets_are_spared, texts_are_kept};
 use mucwathi_order::{Goal, Order, Settings};
 use std::alloc::Global;
 
@@ -13,7 +13,9 @@ use std::alloc::Global;
 ///
 /// Where names are given anew, by `Chain`, `Mangle` and `Hygiene`, that is the same program but for the names that it binds, and by the first
 /// two the grammar derives it: of a module, and of a plain script, without early errors of names, that can be written down, in which
-/// nothing reads names and where classes don't keep theirs. `cover_text` says whether a text is one.
+/// nothing reads names and where classes don't keep theirs. `cover_text` says whether a text is one. Of each text whose names are in UTF-8
+/// the answer's productions have their lengths, and its leaves are tokens of their kinds. A chain and mangling change no token but names,
+/// once all is written out and parentheses are off (`normal_form`).
 ///
 /// # Errors
 ///
@@ -23,6 +25,7 @@ pub fn rewrite_text(alloc: Global, order: &Order, text: &[u8]) -> Result<Vec<u8>
 {
     promises_are_kept();
     targets_are_spared();
+    texts_are_kept();
     mucwathi_commands::rewrite_text(alloc, order, text)
 }
 

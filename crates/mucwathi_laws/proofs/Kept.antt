@@ -19,6 +19,7 @@ use Rattle.swc_base_rename_errors_laws.proofs.Programs.{goal_open}
 use Rattle.swc_base_rename_hygiene_laws.specs.Laws.{HygieneStaysFitting}
 use Rattle.swc_ecma_transforms_base_laws.specs.Headline.{ChainingKeepsForms, ChainingKeepsSources, KeepsItsForm, KeepsItsSource}
 use Rattle.swc_ecma_transforms_base_laws.specs.Sources.{IsSource, ResolvedSourcesHaveTheirForm}
+use Rattle.text_kept_pieces_laws.specs.Laws.{NamesAloneDiffer}
 use Rattle.mucwathi_settings.specs.declared.command.Command.{Command}
 use Rattle.mucwathi_settings.specs.declared.command.Command.TheVariants as command
 use Rattle.mucwathi_settings.specs.declared.command.Settings.{Settings}
@@ -35,7 +36,7 @@ module _ (sources : ChainingKeepsSources) (resolving : ResolvedSourcesHaveTheirF
       let promised = sources (config_of s) (recorded (pairs u)) goal 1 2 own_table is.table t is.resolved u is_program fits covered.0 covered.1 knows_free is.is_resolved is.hygienic in
       subst (λ (form : Node). AlphaVariants (normal_form t) form) (stays (recorded (pairs u)) u goal fits_apart) promised.0.alpha
 
-module _ (forms : ChainingKeepsForms) (sources : ChainingKeepsSources) (short_forms : MangledSourcesKeepForms) (short_sources : MangledSourcesAreKept) (fixing : AnswersKeepPromises) (resolving : ResolvedSourcesHaveTheirForm) (fitting : HygieneStaysFitting) (stays : NormalFormStays) (s : Settings) (goal : Slot) (is_program : IsTrue (is_goal goal)) (t u : Node) (fits : Fits t goal) where
+module _ (forms : ChainingKeepsForms) (sources : ChainingKeepsSources) (short_forms : MangledSourcesKeepForms) (short_sources : MangledSourcesAreKept) (fixing : AnswersKeepPromises) (resolving : ResolvedSourcesHaveTheirForm) (fitting : HygieneStaysFitting) (stays : NormalFormStays) (names : NamesAloneDiffer) (s : Settings) (goal : Slot) (is_program : IsTrue (is_goal goal)) (t u : Node) (fits : Fits t goal) where
   chained_form : (p : IsRenamedAndPaired (IsApart s) t u) → IsSource (config_of s) t → KeepsItsForm t u
   unfolding answer_to
   chained_form p source =
@@ -65,15 +66,15 @@ module _ (forms : ChainingKeepsForms) (sources : ChainingKeepsSources) (short_fo
   )
 
   kept : (c : Command) → Makes c s t u → Keeps c s t u
-  kept command.Chain p = record { same = chained p; form = chained_form p }
-  kept command.Mangle p = record { same = mangled p; form = mangled_form p }
+  kept command.Chain p = record { same = chained p; form = chained_form p; tokens = λ source. names (normal_form t) (normal_form u) (chained_form p source).spans }
+  kept command.Mangle p = record { same = mangled p; form = mangled_form p; tokens = λ source. names (normal_form t) (normal_form u) (mangled_form p source).spans }
   kept command.Hygiene p = apart sources resolving fitting stays s goal is_program t u fits p
   kept command.Fix p = subst (λ (u : Node). Promises t u) (sym p.1) (fixing t goal (goal_open goal is_program) fits)
   kept command.Unparen p = tt
 
-pub promises_are_kept : ChainingKeepsForms → ChainingKeepsSources → MangledSourcesKeepForms → MangledSourcesAreKept → AnswersKeepPromises → ResolvedSourcesHaveTheirForm → HygieneStaysFitting → NormalFormStays → PromisesAreKept
-promises_are_kept forms sources short_forms short_sources fixing resolving fitting stays c s goal t u is_program fits made =
-    kept forms sources short_forms short_sources fixing resolving fitting stays s goal is_program t u fits c made
+pub promises_are_kept : ChainingKeepsForms → ChainingKeepsSources → MangledSourcesKeepForms → MangledSourcesAreKept → AnswersKeepPromises → ResolvedSourcesHaveTheirForm → HygieneStaysFitting → NormalFormStays → NamesAloneDiffer → PromisesAreKept
+promises_are_kept forms sources short_forms short_sources fixing resolving fitting stays names c s goal t u is_program fits made =
+    kept forms sources short_forms short_sources fixing resolving fitting stays names s goal is_program t u fits c made
 
 no_bare_target : (a : Bool) → a ≡ true → a ≡ false → ⊥
 no_bare_target true h e = absurd (cc)

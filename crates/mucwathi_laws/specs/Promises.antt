@@ -11,6 +11,11 @@ use Rattle.swc_base_alpha_laws.specs.Alpha.{AlphaEquivalent}
 use Rattle.swc_base_fixer.specs.Promises.{Promises}
 use Rattle.swc_ecma_transforms_base_laws.specs.Headline.{KeepsItsForm, KeepsItsSource}
 use Rattle.swc_ecma_transforms_base_laws.specs.Sources.{IsSource}
+use Rattle.swc_tree_grammar.specs.Normal.{normal_form}
+use Rattle.text_pieces.specs.Pieces.{pieces}
+use Rattle.text_kept_pieces_laws.specs.Unnamed.{SameButNames}
+use Rattle.text_kept_namings_laws.specs.Laws.{NamesAreUtf8}
+use Rattle.text_kept_chain_laws.specs.Laws.{HasTexts}
 use Rattle.mucwathi_settings.specs.declared.command.Command.{Command}
 use Rattle.mucwathi_settings.specs.declared.command.Command.TheVariants as command
 use Rattle.mucwathi_settings.specs.declared.command.Settings.{Settings}
@@ -29,6 +34,8 @@ IsSameProgram source answer = (table : Table) × KeepsItsSource 1 2 own_table ta
 pub record KeepsProgram (s : Settings) (source answer : Node) : Type 0 where
   pub same : IsCovered s source → IsSameProgram source answer
   pub form : IsSource (config_of s) source → KeepsItsForm source answer
+  -- both with all written out have the same tokens, but for names
+  pub tokens : IsSource (config_of s) source → SameButNames (pieces (normal_form source)) (pieces (normal_form answer))
 
 -- what is promised of an answer beside that the command makes it
 abbrev pub Keeps : Command → Settings → Node → Node → Type 0
@@ -50,3 +57,7 @@ SparesTargets _ s source e = Unit {0}
 
 abbrev pub TargetsAreSpared : Type 0
 TargetsAreSpared = (c : Command) (s : Settings) (goal : Slot) (source : Node) (e : PassError) → IsTrue (is_goal goal) → Fits source goal → IsRefusal c s source e → SparesTargets c s source e
+
+-- whatever the command, productions keep their lengths, and leaves and names what they have to be, so that the answer can be written
+abbrev pub TextsAreKept : Type 0
+TextsAreKept = (c : Command) (s : Settings) (goal : Slot) (source answer : Node) → IsTrue (is_goal goal) → NamesAreUtf8 source → Makes c s source answer → HasTexts goal source → HasTexts goal answer

@@ -1,7 +1,7 @@
 //! What the laws of the passes say of what a command makes.
 //!
 //! Each is the contract of a function that does nothing but call the laws that it rests on.
-ghost use Rattle.mucwathi_laws.specs.Promises.{PromisesAreKept, TargetsAreSpared};
+ghost use Rattle.mucwathi_laws.specs.Promises.{PromisesAreKept, TargetsAreSpared, TextsAreKept};
 
 use swc_base_fixer::answers_keep_promises;
 use swc_base_fixer_laws::normal_form_stays;
@@ -10,6 +10,10 @@ use swc_base_rename_hygiene_laws::hygiene_stays_fitting;
 use swc_ecma_transforms_base_laws::{
     chaining_keeps_forms, chaining_keeps_sources, resolved_sources_have_their_form,
 };
+use text_kept_chain_laws::{
+    fixer_keeps_texts, hygiene_keeps_texts, short_names_keep_texts, unparen_keeps_texts,
+};
+use text_kept_pieces_laws::names_alone_differ;
 
 /// What a command makes of a program has all that is promised of it.
 pub fn promises_are_kept()
@@ -23,6 +27,7 @@ pub fn promises_are_kept()
     resolved_sources_have_their_form();
     hygiene_stays_fitting();
     normal_form_stays();
+    names_alone_differ();
 }
 
 /// Where it is refused, targets are spared.
@@ -31,4 +36,14 @@ pub fn targets_are_spared()
 {
     chaining_keeps_forms();
     mangled_sources_keep_forms();
+}
+
+/// What it makes can be written as text, where the program can.
+pub fn texts_are_kept()
+    ensures { TextsAreKept }
+{
+    hygiene_keeps_texts();
+    short_names_keep_texts();
+    fixer_keeps_texts();
+    unparen_keeps_texts();
 }

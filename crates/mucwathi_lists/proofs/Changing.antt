@@ -9,6 +9,10 @@ use Rattle.std.specs.Ordering.{is_eq, nat_cmp}
 use Rattle.mucwathi_lists.specs.declared.changes.Occurrence.{Occurrence}
 use Rattle.mucwathi_lists.specs.Changed.{HasTexts, Placed, or_else, seen, text_at}
 
+-- in the place of an identifier that is not there
+abbrev pub no_occurrence : Occurrence
+no_occurrence = record { lo = 0; text = record { ref_ptr = (0, 0); now = [] } }
+
 same_number : (a b : ℕ) → is_eq (nat_cmp a b) ≡ nat_eq a b
 same_number a b = grind (arith, nat_tests)
 
@@ -30,11 +34,11 @@ texts_push ss lo text old new h updates place =
 pub texts_none : (texts : BTreeMap ℕ (Bor (List ℕ))) → texts.entries ≡ [] → HasTexts [] texts
 texts_none texts empty place = ap (λ es. option_map (λ (t : Bor (List ℕ)). t.now) (lookup (is_at (nat_cmp place)) es)) empty
 
-pub texts_step : (olds : List Occurrence) (i : ℕ) (o : Occurrence) (old new : BTreeMap ℕ (Bor (List ℕ))) → i < length olds → o ≡ get_or olds i o → HasTexts (map seen (take i olds)) old → Updates nat_cmp old new o.lo (Some o.text)
+pub texts_step : (olds : List Occurrence) (i : ℕ) (d o : Occurrence) (old new : BTreeMap ℕ (Bor (List ℕ))) → i < length olds → o ≡ get_or olds i d → HasTexts (map seen (take i olds)) old → Updates nat_cmp old new o.lo (Some o.text)
     → HasTexts (map seen (take (i + 1) olds)) new
-texts_step olds i o old new below is h updates =
+texts_step olds i d o old new below is h updates =
     let more : map seen (take (i + 1) olds) ≡ map seen (take i olds) ++ seen o ∷ [] =
-    ap (map seen) (take_more olds i o below) ∙ map-append seen (take i olds) (get_or olds i o ∷ []) ∙ ap (λ (x : Occurrence). map seen (take i olds) ++ seen x ∷ []) (sym is) in
+    ap (map seen) (take_more olds i d below) ∙ map-append seen (take i olds) (get_or olds i d ∷ []) ∙ ap (λ (x : Occurrence). map seen (take i olds) ++ seen x ∷ []) (sym is) in
     subst (λ ss. HasTexts ss new) (sym more) (texts_push (map seen (take i olds)) o.lo o.text old new h updates)
 
 pub texts_end : (olds : List Occurrence) (i : ℕ) (texts : BTreeMap ℕ (Bor (List ℕ))) → length olds ≤ i → HasTexts (map seen (take i olds)) texts → HasTexts (map seen olds) texts

@@ -44,11 +44,11 @@ pub changes_step : (prefix text : List ℕ) (cs : List Change) (i : ℕ) (c : Ch
 changes_step prefix text cs i c old new below is added h =
     changes_push prefix text (take i cs) c old new h added ∙ ap (changes_listed prefix text) (ap (λ (x : Change). take i cs ++ x ∷ []) is ∙ sym (take_more cs i c below))
 
-pub told_step : (olds : List Placed) (news : List Occurrence) (i : ℕ) (o : Occurrence) (old new : List Renamed) → i < length news → o ≡ get_or news i o → new ≡ old ++ changed olds (seen o) → old ≡ all_changed olds (map seen (take i news))
+pub told_step : (olds : List Placed) (news : List Occurrence) (i : ℕ) (d o : Occurrence) (old new : List Renamed) → i < length news → o ≡ get_or news i d → new ≡ old ++ changed olds (seen o) → old ≡ all_changed olds (map seen (take i news))
     → new ≡ all_changed olds (map seen (take (i + 1) news))
-told_step olds news i o old new below is added h =
+told_step olds news i d o old new below is added h =
     let more : map seen (take (i + 1) news) ≡ map seen (take i news) ++ seen o ∷ [] =
-    ap (map seen) (take_more news i o below) ∙ map-append seen (take i news) (get_or news i o ∷ []) ∙ ap (λ (x : Occurrence). map seen (take i news) ++ seen x ∷ []) (sym is) in
+    ap (map seen) (take_more news i d below) ∙ map-append seen (take i news) (get_or news i d ∷ []) ∙ ap (λ (x : Occurrence). map seen (take i news) ++ seen x ∷ []) (sym is) in
     added ∙ ap (λ l. l ++ changed olds (seen o)) h ∙ sym (ap (all_changed olds) more ∙ all_push olds (map seen (take i news)) (seen o))
 
 -- what is told of one name more

@@ -1,4 +1,4 @@
-mod Mapping
+mod Joined
 mod Naming
 mod Spotting
 mod Telling

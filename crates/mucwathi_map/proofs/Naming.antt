@@ -12,6 +12,9 @@ use Rattle.mucwathi_mappings.specs.Segments.{text_of}
 use Rattle.mucwathi_map.specs.declared.spots.Spot.{Spot}
 use Rattle.mucwathi_map.specs.Spots.{HasNames, Notes, Stood, name_at, names_in, old_name, other_than, seen}
 
+-- in the place of a spot that is not there
+abbrev pub no_spot : Spot
+no_spot = record { lo = 0; name = None }
 
 same_number : (a b : ℕ) → is_eq (nat_cmp a b) ≡ nat_eq a b
 same_number a b = grind (arith, nat_tests)
@@ -54,10 +57,10 @@ notes_none s names is place =
 pub no_names : (names : BTreeMap ℕ (Bor (List ℕ))) → names.entries ≡ [] → HasNames [] names
 no_names names empty place = ap (λ es. option_map text_of (lookup (is_at (nat_cmp place)) es)) empty
 
-pub names_step : (spots : List Spot) (i : ℕ) (s : Spot) (old new : BTreeMap ℕ (Bor (List ℕ))) → i < length spots → s ≡ get_or spots i s → HasNames (map seen (take i spots)) old → Notes (seen s) old new → HasNames (map seen (take (i + 1) spots)) new
-names_step spots i s old new below is h notes place =
+pub names_step : (spots : List Spot) (i : ℕ) (d s : Spot) (old new : BTreeMap ℕ (Bor (List ℕ))) → i < length spots → s ≡ get_or spots i d → HasNames (map seen (take i spots)) old → Notes (seen s) old new → HasNames (map seen (take (i + 1) spots)) new
+names_step spots i d s old new below is h notes place =
     let more : map seen (take (i + 1) spots) ≡ map seen (take i spots) ++ seen s ∷ [] =
-    map_more seen spots i s below ∙ ap (λ (x : Spot). map seen (take i spots) ++ seen x ∷ []) (sym is) in
+    map_more seen spots i d below ∙ ap (λ (x : Spot). map seen (take i spots) ++ seen x ∷ []) (sym is) in
     notes place ∙ ap (λ o. option_or (here (seen s) place) o) (h place) ∙ sym (name_push (map seen (take i spots)) (seen s) place) ∙ ap (λ l. name_at l place) (sym more)
 
 pub names_all : (spots : List Spot) (i : ℕ) (names : BTreeMap ℕ (Bor (List ℕ))) → length spots ≤ i → HasNames (map seen (take i spots)) names → HasNames (map seen spots) names

@@ -44,7 +44,13 @@ fn map_of(
     }
     let olds = names_by_place(alloc, sources.as_slice())?;
     let mapped = mapped_of(alloc, &olds, news, outs)?;
-    let map = map_text(alloc, texts.name, texts.read, texts.written, mapped.as_slice())?;
+    let map = map_text(
+        alloc,
+        texts.name,
+        texts.read,
+        texts.written,
+        mapped.as_slice(),
+    )?;
     Ok(Some(map))
 }
 

@@ -1,7 +1,7 @@
 //! What is told of each node that is written.
 ghost use Rattle.std.specs.BTreeMap.{get};
 ghost use Rattle.std.specs.Ordering.{nat_cmp};
-ghost use Rattle.std.specs.Prelude.{◌≡◌, ◌||◌, ◌++◌, IfOk, OnOk, length, map, nat_eq, option_map};
+ghost use Rattle.std.specs.Prelude.{◌≡◌, ◌-◌, ◌||◌, ◌++◌, IfOk, OnOk, length, map, nat_eq, option_map};
 ghost use Rattle.std.specs.Str.{bytes_eq};
 ghost use Rattle.mucwathi_mappings.specs.Segments.{text_of};
 ghost use Rattle.mucwathi_map.specs.Spots.{HasNames, Notes, all_told, names_in, old_name as old_name_of, seen, told, told_of};
@@ -70,6 +70,13 @@ fn is_nowhere(one: u32, other: u32) -> bool
     one == 0 || other == 0
 }
 
+// How many bytes are before what begins there.
+fn bytes_before(lo: u32) -> usize
+    ensures { result ≡ lo - 1 }
+{
+    lo.saturating_sub(1) as usize
+}
+
 // Adds a node of what is written, if it stands there, for one that stood in the source.
 fn add_node<'a>(
     olds: &BTreeMap<u32, &'a str>,
@@ -82,10 +89,12 @@ fn add_node<'a>(
     if is_nowhere(new.lo, written.lo) {
         return Ok(());
     }
+    let read = bytes_before(new.lo);
+    let out = bytes_before(written.lo);
     let old = old_name(olds, new);
     mapped.push(Mapped {
-        read: new.lo.saturating_sub(1) as usize,
-        written: written.lo.saturating_sub(1) as usize,
+        read,
+        written: out,
         old,
     })?;
     Ok(())

@@ -1,7 +1,7 @@
 -- Places one after another.
-use Rattle.std.proofs.Common.{◌≡◌, ℕ, zero, suc, ◌≤◌, ◌<◌, List, [], ◌∷◌, ◌++◌, Option, Some, Bor, All, get_or, length, map, min, arith, subst, sym, ◌∙◌, length-map}
+use Rattle.std.proofs.Common.{◌≡◌, ℕ, zero, suc, ◌≤◌, ◌<◌, List, [], ◌∷◌, ◌++◌, Option, Some, Bor, All, get_or, length, map, min, arith, subst, sym, ◌∙◌}
 use Rattle.std.proofs.lemmas.Bool.Decides.{nat_tests}
-use Rattle.std.proofs.lemmas.List.{map_push}
+use Rattle.std.proofs.lemmas.List.{length-map, map_push}
 use Rattle.std.proofs.lemmas.List.Elements.{All-cons, All-contains, All-nil, Contains-push}
 use Rattle.std.proofs.lemmas.Map.Iter.{btree_map_turn, rest_so_far}
 use Rattle.std.specs.BTreeMap.{BTreeMap, IsOrdered}

@@ -1,7 +1,7 @@
 -- One node more.
-use Rattle.std.proofs.Common.{◌≡◌, ℕ, zero, suc, ◌+◌, ◌<◌, ◌≤◌, true, false, cond, List, [], ◌∷◌, ◌++◌, Option, Some, None, Bor, get_or, length, map, take, nat_eq, refl, sym, ap, ◌∙◌, subst, arith, length-map}
+use Rattle.std.proofs.Common.{◌≡◌, ℕ, zero, suc, ◌+◌, ◌<◌, ◌≤◌, true, false, cond, List, [], ◌∷◌, ◌++◌, Option, Some, None, Bor, get_or, length, map, take, nat_eq, refl, sym, ap, ◌∙◌, subst, arith}
 use Rattle.std.proofs.lemmas.Bool.Decides.{nat_tests}
-use Rattle.std.proofs.lemmas.List.{append-nil, map-append, map_push, take_all, take_more}
+use Rattle.std.proofs.lemmas.List.{append-nil, length-map, map-append, map_push, take_all, take_more}
 use Rattle.std.specs.BTreeMap.{BTreeMap, Updates, get, is_at}
 use Rattle.std.specs.Map.{lookup}
 use Rattle.std.specs.Ordering.{is_eq, nat_cmp}
@@ -9,6 +9,13 @@ use Rattle.std.specs.Prelude.{slice_get}
 use Rattle.mucwathi_mappings.specs.declared.segments.Mapped.{Mapped}
 use Rattle.mucwathi_mappings.specs.declared.segments.Segment.{Segment}
 use Rattle.mucwathi_mappings.specs.Segments.{AreSegments, GoesOn, HasLast, IsNumberOf, IsSegment, last_at, or_else, text_of}
+
+-- in the place of what is not there
+abbrev pub no_node : Mapped
+no_node = record { read = 0; written = 0; old = None }
+
+abbrev pub no_segment : Segment
+no_segment = record { written = 0; line = 0; column = 0; name = None }
 
 -- ---- names
 
@@ -51,12 +58,12 @@ segment_number names old given n is h = subst (λ o. IsNumberOf names o (Some n)
 pub no_number : (names : List (List ℕ)) (old : Option (Bor (List ℕ))) → old ≡ None → IsNumberOf names old None
 no_number names old is = let none : IsNumberOf names None None = refl in subst (λ o. IsNumberOf names o None) (sym is) none
 
-segments_kept : {ms : List Mapped} {ss : List Segment} (source : List ℕ) (xs ys : List (List ℕ)) → AreSegments source xs ms ss → AreSegments source (xs ++ ys) ms ss
+segments_kept : (source : List ℕ) (xs ys : List (List ℕ)) {ms : List Mapped} {ss : List Segment} → AreSegments source xs ms ss → AreSegments source (xs ++ ys) ms ss
 segments_kept source xs ys AreSegments.none = AreSegments.none
 segments_kept source xs ys (AreSegments.one_more m s ms ss is more) =
     AreSegments.one_more m s ms ss (record { written = is.written; line_is = is.line_is; column_is = is.column_is; named = number_kept xs ys m.old s.name is.named }) (segments_kept source xs ys more)
 
-segments_push : {ms : List Mapped} {ss : List Segment} (source : List ℕ) (xs : List (List ℕ)) (m : Mapped) (s : Segment) → AreSegments source xs ms ss → IsSegment source xs m s → AreSegments source xs (ms ++ m ∷ []) (ss ++ s ∷ [])
+segments_push : (source : List ℕ) (xs : List (List ℕ)) {ms : List Mapped} {ss : List Segment} (m : Mapped) (s : Segment) → AreSegments source xs ms ss → IsSegment source xs m s → AreSegments source xs (ms ++ m ∷ []) (ss ++ s ∷ [])
 segments_push source xs m s AreSegments.none is = AreSegments.one_more m s [] [] is AreSegments.none
 segments_push source xs m s (AreSegments.one_more n t ms ss first more) is = AreSegments.one_more n t (ms ++ m ∷ []) (ss ++ s ∷ []) first (segments_push source xs m s more is)
 
@@ -69,10 +76,10 @@ segments_more source old new m s ms ss on h is =
 pub segments_none : (source : List ℕ) (names : List (List ℕ)) (ss : List Segment) → ss ≡ [] → AreSegments source names [] ss
 segments_none source names ss empty = subst (AreSegments source names []) (sym empty) AreSegments.none
 
-pub segments_step : (source : List ℕ) (mapped : List Mapped) (i : ℕ) (m : Mapped) (s : Segment) (old new : List (Bor (List ℕ))) (ss all : List Segment) → i < length mapped → m ≡ get_or mapped i m → GoesOn old new
+pub segments_step : (source : List ℕ) (mapped : List Mapped) (i : ℕ) (d m : Mapped) (s : Segment) (old new : List (Bor (List ℕ))) (ss all : List Segment) → i < length mapped → m ≡ get_or mapped i d → GoesOn old new
     → IsSegment source (map text_of new) m s → all ≡ ss ++ s ∷ [] → AreSegments source (map text_of old) (take i mapped) ss → AreSegments source (map text_of new) (take (i + 1) mapped) all
-segments_step source mapped i m s old new ss all below is on one added h =
-    subst (λ l. AreSegments source (map text_of new) l all) (ap (λ (x : Mapped). take i mapped ++ x ∷ []) is ∙ sym (take_more mapped i m below))
+segments_step source mapped i d m s old new ss all below is on one added h =
+    subst (λ l. AreSegments source (map text_of new) l all) (ap (λ (x : Mapped). take i mapped ++ x ∷ []) is ∙ sym (take_more mapped i d below))
     (subst (AreSegments source (map text_of new) (take i mapped ++ m ∷ [])) (sym added) (segments_more source old new m s (take i mapped) ss on h one))
 
 pub segments_all : (source : List ℕ) (names : List (List ℕ)) (mapped : List Mapped) (i : ℕ) (ss : List Segment) → length mapped ≤ i → AreSegments source names (take i mapped) ss → AreSegments source names mapped ss
@@ -100,9 +107,9 @@ places_push ss s old new h updates place =
 pub places_none : (places : BTreeMap ℕ Segment) → places.entries ≡ [] → HasLast [] places
 places_none places empty place = ap (lookup (is_at (nat_cmp place))) empty
 
-pub places_step : (ss : List Segment) (i : ℕ) (s : Segment) (old new : BTreeMap ℕ Segment) → i < length ss → s ≡ get_or ss i s → HasLast (take i ss) old → Updates nat_cmp old new s.written (Some s) → HasLast (take (i + 1) ss) new
-places_step ss i s old new below is h updates =
-    subst (λ l. HasLast l new) (ap (λ (x : Segment). take i ss ++ x ∷ []) is ∙ sym (take_more ss i s below)) (places_push (take i ss) s old new h updates)
+pub places_step : (ss : List Segment) (i : ℕ) (d s : Segment) (old new : BTreeMap ℕ Segment) → i < length ss → s ≡ get_or ss i d → HasLast (take i ss) old → Updates nat_cmp old new s.written (Some s) → HasLast (take (i + 1) ss) new
+places_step ss i d s old new below is h updates =
+    subst (λ l. HasLast l new) (ap (λ (x : Segment). take i ss ++ x ∷ []) is ∙ sym (take_more ss i d below)) (places_push (take i ss) s old new h updates)
 
 pub places_all : (ss : List Segment) (i : ℕ) (places : BTreeMap ℕ Segment) → length ss ≤ i → HasLast (take i ss) places → HasLast ss places
 places_all ss i places ended h = subst (λ l. HasLast l places) (take_all i ss ended) h

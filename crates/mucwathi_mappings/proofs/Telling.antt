@@ -60,9 +60,9 @@ continues_both t there far es us old mid new one other = record {
   text = one.text ++ other.text;
   whole = other.whole ∙ ap (λ (l : List ℕ). l ++ other.text) one.whole ∙ append_assoc old one.text other.text;
   goes_on = λ vs rest h.
-  let all : AreMappings t (es ++ (us ++ vs)) (one.text ++ (other.text ++ rest)) = one.goes_on (us ++ vs) (other.text ++ rest) (other.goes_on vs rest h) in
-  subst (λ l. AreMappings t l ((one.text ++ other.text) ++ rest)) (sym (append_assoc es us vs))
-  (subst (λ l. AreMappings t (es ++ (us ++ vs)) l) (sym (append_assoc one.text other.text rest)) all);
+      let all : AreMappings t (es ++ (us ++ vs)) (one.text ++ (other.text ++ rest)) = one.goes_on (us ++ vs) (other.text ++ rest) (other.goes_on vs rest h) in
+      subst (λ l. AreMappings t l ((one.text ++ other.text) ++ rest)) (sym (append_assoc es us vs))
+      (subst (λ l. AreMappings t (es ++ (us ++ vs)) l) (sym (append_assoc one.text other.text rest)) all);
 }
 
 -- behind a line end

@@ -66,7 +66,7 @@ entry_of text (place, s) = record {
   column = column text (min place (length text));
   source_line = s.line;
   source_column = s.column;
-  name = s.name
+  name = s.name;
 }
 
 -- the mappings of places, which rise, were added

@@ -136,13 +136,7 @@ fn mark_before(text: &[u8], marks: &[Mark], end: usize) -> Mark
     ensures low { result.at ≤ end }
 {
     match marks.get(end / STRIDE) {
-        Some(mark) => {
-            if mark.at <= end {
-                *mark
-            } else {
-                FIRST
-            }
-        }
+        Some(mark) => { if mark.at <= end { *mark } else { FIRST } }
         None => FIRST,
     }
 }

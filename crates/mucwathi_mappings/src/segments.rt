@@ -31,10 +31,7 @@ pub(crate) struct Segment {
     pub name: Option<usize>,
 }
 
-fn number_of<'a>(
-    old: Option<&'a str>,
-    names: &mut Names<'a>,
-) -> Result<Option<usize>, AllocError>
+fn number_of<'a>(old: Option<&'a str>, names: &mut Names<'a>) -> Result<Option<usize>, AllocError>
     ensures { IfOk result (λ n. GoesOn names.old.texts.items names.new.texts.items × IsNumberOf (map text_of names.new.texts.items) old.entry n) }
 {
     match old {

@@ -128,7 +128,7 @@ fn signs_in(alloc: Global, goal: Goal, depth: u32, text: &[u8]) -> Result<Vec<Fo
 }
 
 // The envelope of a tree, with the marks of signs on its names.
-fn marked(alloc: Global, signs: &[Sign], tree: Node) -> Result<Envelope, AllocError> {
+fn program_of(alloc: Global, signs: &[Sign], tree: Node) -> Result<Envelope, AllocError> {
     let globals = table_of(alloc, signs)?;
     let tree = with_marks(signs, tree)?;
     Ok(envelope_of(globals, tree))
@@ -147,7 +147,7 @@ fn give_cut(
 {
     let Cut { text: plain, signs } = cut;
     match read_text(alloc, goal, depth, plain.as_slice()) {
-        Ok(tree) => match marked(alloc, signs.as_slice(), tree) {
+        Ok(tree) => match program_of(alloc, signs.as_slice(), tree) {
             Ok(program) => Ok(Marked {
                 text: plain,
                 program,

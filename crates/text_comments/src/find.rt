@@ -12,7 +12,8 @@ use swc_tree_node::Node;
 use text_characters::{begins_line_end, is_space, point};
 use text_follow::{ending_behind, fresh_behind, goal_of, take};
 use text_lexer::{Comments, Goal, Skip, skip_blank, skip_piece, token_at};
-use text_pieces::{Ending, Piece, pieces};
+use text_pieces::{Ending, Piece};
+use text_walk::pieces;
 
 /// Where what is left of a text begins.
 fn position(whole: &[u8], rest: &[u8]) -> BytePos
@@ -22,7 +23,8 @@ fn position(whole: &[u8], rest: &[u8]) -> BytePos
     1 + whole.len().saturating_sub(rest.len()) as u32
 }
 
-fn is_comment(text: &[u8]) -> bool
+/// Whether what is skipped at the front of a text is a comment, and no white space and no line end.
+pub fn is_comment(text: &[u8]) -> bool
     ensures { result ≡ spec.is_comment text.now }
 {
     !begins_line_end(text) && !is_space(point(text))
@@ -30,9 +32,9 @@ fn is_comment(text: &[u8]) -> bool
 
 /// A text, and which comments it may have.
 #[derive(Clone, Copy)]
-struct Source<'t> {
-    comments: Comments,
-    whole: &'t [u8],
+pub struct Source<'t> {
+    pub comments: Comments,
+    pub whole: &'t [u8],
 }
 
 /// The tokens that blanks stand between.
@@ -110,7 +112,11 @@ fn end_before(whole: &[u8], fresh: bool, text: &[u8]) -> BytePos
 }
 
 /// Adds the comments before the next token.
-fn add_before_token(
+///
+/// # Errors
+///
+/// Where memory is refused.
+pub fn add_before_token(
     source: Source<'_>,
     fresh: bool,
     text: &[u8],
@@ -138,7 +144,11 @@ fn behind_token(comments: Comments, goal: Goal, fresh: bool, text: &[u8]) -> &[u
 }
 
 /// Adds the comments before the tokens of a piece.
-fn add_before_tokens(
+///
+/// # Errors
+///
+/// Where memory is refused.
+pub fn add_before_tokens(
     source: Source<'_>,
     goal: Goal,
     fresh: bool,

@@ -3,6 +3,8 @@
 
 mod comment;
 mod find;
+mod line;
 
 pub use comment::{Comment, CommentsFault};
-pub use find::find_comments;
+pub use find::{Source, add_before_token, add_before_tokens, find_comments, is_comment};
+pub use line::{ends_line, goes_to_line_end, has_line_end, is_one_comment};

@@ -14,7 +14,8 @@ use std::alloc::Global;
 use swc_tree_node::Node;
 use text_follow::follows;
 use text_lexer::Comments;
-use text_pieces::{Piece, pieces};
+use text_pieces::Piece;
+use text_walk::pieces;
 
 fn is_text_of(comments: Comments, text: &[u8], pieces: &[Piece<'_>]) -> bool
     ensures { IsTrue result → Follows comments true (map piece_view pieces.now) text.now }

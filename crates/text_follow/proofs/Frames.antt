@@ -1,29 +1,23 @@
 -- One piece more, where frames are looked at.
-use Rattle.std.proofs.Common.{◌≡◌, ◌∷◌, ℕ, Bool, ◌<◌, ◌≤◌, ◌+◌, true, List, [], length, map, drop, get_or, subst, sym}
-use Rattle.std.proofs.lemmas.List.{drop_more, drop_all}
+use Rattle.std.proofs.Common.{◌≡◌, ◌∷◌, ℕ, Bool, true, List, [], length, subst}
 use Rattle.text_follow.specs.Endings.{ending_behind}
 use Rattle.text_follow.specs.Follows.{Follows, FollowsFrom, Takes, fresh_behind}
+use Rattle.text_follow.specs.Readers.{Leads}
 use Rattle.text_follow.specs.Stands.{IsSo, Stands, StandsFrom}
+use Rattle.text_follow.specs.declared.stand.Place.{Place}
 use Rattle.text_lexer.specs.declared.blank.Comments.{Comments}
 use Rattle.text_pieces.specs.declared.item.Ending.{Ending}
 use Rattle.text_pieces.specs.declared.item.Ending.TheVariants as ending
-use Rattle.text_pieces.specs.declared.piece.Piece as code
 use Rattle.text_pieces.specs.Frames.{without_frames}
-use Rattle.text_pieces.specs.Tokens.{Piece, attribute, big_integer, closes, ends, frame, gap, hashbang, here, may_braces, may_comma, may_from, name, never, number, parameter, piece_view, private_name, punctuator, quoted, regex, template, word}
+use Rattle.text_pieces.specs.Tokens.{Piece, attribute, big_integer, closes, ends, frame, gap, hashbang, here, may_braces, may_comma, may_from, name, never, number, parameter, private_name, punctuator, quoted, regex, template, word}
 
-pub one_more : (n : ℕ) (c : Comments) (soft fresh next_fresh : Bool) (e next_e : Ending) (ps : List code.Piece) (i : ℕ) (d : code.Piece) (text rest : List ℕ) → i < length ps
-    → IsSo n c fresh (piece_view (get_or ps i d)) text → Takes c soft fresh e (piece_view (get_or ps i d)) text rest
-    → next_fresh ≡ fresh_behind fresh (piece_view (get_or ps i d)) → next_e ≡ ending_behind e (piece_view (get_or ps i d))
-    → StandsFrom n c soft next_fresh next_e (map piece_view (drop (i + 1) ps)) rest
-    → StandsFrom n c soft fresh e (map piece_view (drop i ps)) text
-one_more n c soft fresh next_fresh e next_e ps i d text rest within so takes fresh_is e_is after =
-    let later : StandsFrom n c soft (fresh_behind fresh (piece_view (get_or ps i d))) (ending_behind e (piece_view (get_or ps i d))) (map piece_view (drop (i + 1) ps)) rest =
-    subst (λ f. StandsFrom n c soft f (ending_behind e (piece_view (get_or ps i d))) (map piece_view (drop (i + 1) ps)) rest) fresh_is
-    (subst (λ g. StandsFrom n c soft next_fresh g (map piece_view (drop (i + 1) ps)) rest) e_is after) in
-    subst (λ l. StandsFrom n c soft fresh e (map piece_view l) text) (sym (drop_more ps i d within)) (so, rest, takes, later)
-
-pub at_end : (n : ℕ) (c : Comments) (soft fresh : Bool) (e : Ending) (ps : List code.Piece) (i : ℕ) (text : List ℕ) → length ps ≤ i → StandsFrom n c soft fresh e [] text → StandsFrom n c soft fresh e (map piece_view (drop i ps)) text
-at_end n c soft fresh e ps i text past h = subst (λ l. StandsFrom n c soft fresh e (map piece_view l) text) (sym (drop_all i ps past)) h
+pub leads_past : (n : ℕ) (c : Comments) (soft : Bool) (p q : Place) (x : Piece) → IsSo n c p.fresh x p.rest.now → Takes c soft p.fresh p.ending x p.rest.now q.rest.now
+    → q.fresh ≡ fresh_behind p.fresh x → q.ending ≡ ending_behind p.ending x → Leads n c soft p (x ∷ []) q
+leads_past n c soft p q x so takes fresh_is e_is qs after =
+    let later : StandsFrom n c soft (fresh_behind p.fresh x) (ending_behind p.ending x) qs q.rest.now =
+    subst (λ f. StandsFrom n c soft f (ending_behind p.ending x) qs q.rest.now) fresh_is
+    (subst (λ g. StandsFrom n c soft q.fresh g qs q.rest.now) e_is after) in
+    (so, q.rest.now, takes, later)
 
 -- the tokens between frames are those that a text follows
 tokens_from : (n : ℕ) (c : Comments) (soft fresh : Bool) (e : Ending) (ps : List Piece) (text : List ℕ) → StandsFrom n c soft fresh e ps text → FollowsFrom c soft fresh e (without_frames ps) text

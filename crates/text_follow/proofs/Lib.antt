@@ -1,3 +1,4 @@
 pub mod Frames
 pub mod Raw
+pub mod Readers
 pub mod Steps

@@ -1,3 +1,4 @@
 pub mod Endings
 pub mod Follows
 pub mod Stands
+pub mod Readers

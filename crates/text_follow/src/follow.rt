@@ -7,6 +7,7 @@ ghost use Rattle.text_lexer.specs.declared.token.Goal.TheVariants as goal;
 ghost use Rattle.text_pieces.specs.Tokens.{attribute, parameter, piece_view};
 
 use crate::ending::{ending_behind, goes_on, is_loop};
+use crate::plain::take_plain;
 use crate::spell::{goal_of, spells};
 use text_characters::byte_at;
 use text_lexer::{Comments, Goal, Mark, skip_blank, token_at};
@@ -282,9 +283,8 @@ fn take_here(
     }
 }
 
-/// What is left behind a piece, if the text begins with it, where what stands before ends thus (`ending`), or nothing does
-/// (`fresh`).
-pub fn take<'a>(
+// The same of any piece, whatever its first bytes are.
+fn take_any<'a>(
     comments: Comments,
     soft: bool,
     fresh: bool,
@@ -314,6 +314,25 @@ pub fn take<'a>(
         | Piece::Template(_, _, _)
         | Piece::Regex(_, _)
         | Piece::Hashbang(_) => read(comments, fresh, text, piece),
+    }
+}
+
+/// What is left behind a piece, if the text begins with it, where what stands before ends thus (`ending`), or nothing does
+/// (`fresh`).
+#[inline]
+pub fn take<'a>(
+    comments: Comments,
+    soft: bool,
+    fresh: bool,
+    ending: Ending,
+    text: &'a [u8],
+    piece: Piece<'_>,
+) -> Option<&'a [u8]>
+    ensures { IfSome result (λ rest. Takes comments soft fresh ending (piece_view piece.entry) text.now rest.now) }
+{
+    match take_plain(comments, soft, fresh, ending, text, piece) {
+        Some(rest) => Some(rest),
+        None => take_any(comments, soft, fresh, ending, text, piece),
     }
 }
 

@@ -22,7 +22,7 @@ pub fn goal_of(piece: Piece<'_>) -> Goal
     }
 }
 
-fn same_mark(mark: Mark, wanted: Mark) -> bool
+pub(crate) fn same_mark(mark: Mark, wanted: Mark) -> bool
     ensures { IsTrue result → mark ≡ wanted }
 {
     mark == wanted
@@ -34,7 +34,7 @@ fn same_part(part: TemplatePart, wanted: TemplatePart) -> bool
     part == wanted
 }
 
-fn same(one: &[u8], other: &[u8]) -> bool
+pub(crate) fn same(one: &[u8], other: &[u8]) -> bool
     ensures { IsTrue result → one.now ≡ other.now }
 {
     one == other

@@ -1,10 +1,10 @@
 //! A text held against the frames of a tree's nodes.
-ghost use Rattle.std.specs.Prelude.{◌≡◌, ◌+◌, map, IfSome, IsTrue};
+ghost use Rattle.std.specs.Prelude.{◌≡◌, ◌+◌, ◌∷◌, [], IfSome, IsTrue};
 ghost use Rattle.text_follow.specs.Endings as spec;
-ghost use Rattle.text_follow.specs.Follows.{Follows, Takes};
+ghost use Rattle.text_follow.specs.Follows.{Takes};
 ghost use Rattle.text_follow.specs.Follows.{fresh_behind as is_fresh_behind};
-ghost use Rattle.text_follow.specs.Stands.{BeginsAt, HasName, IsAt, IsSo, Says, Stands};
-ghost use Rattle.text_pieces.specs.Frames.{without_frames};
+ghost use Rattle.text_follow.specs.Readers.{IsFront, IsKnown, IsOver, ReadsOn};
+ghost use Rattle.text_follow.specs.Stands.{BeginsAt, HasName, IsAt, IsSo, Says};
 ghost use Rattle.text_pieces.specs.Tokens.{named, piece_view};
 
 use crate::ending::ending_behind;
@@ -39,8 +39,7 @@ fn before_next(
     fresh: bool,
     text: &[u8],
 ) -> Option<usize>
-    requires { IfSome known (λ before. BeginsAt whole comments fresh text.now (before + 1)) }
-    ensures { IfSome result (λ before. BeginsAt whole comments fresh text.now (before + 1)) }
+    ensures { IfSome known (λ before. BeginsAt whole comments fresh text.now (before + 1)) → IfSome result (λ before. BeginsAt whole comments fresh text.now (before + 1)) }
 {
     match known {
         Some(before) => Some(before),
@@ -57,8 +56,7 @@ fn begins_behind(
     text: &[u8],
     place: usize,
 ) -> bool
-    requires { IfSome known (λ before. BeginsAt whole comments fresh text.now (before + 1)) }
-    ensures { IsTrue result → BeginsAt whole comments fresh text.now place }
+    ensures { IfSome known (λ before. BeginsAt whole comments fresh text.now (before + 1)) → IsTrue result → BeginsAt whole comments fresh text.now place }
 {
     match known {
         Some(before) => 0 < place && place - 1 == before,
@@ -139,12 +137,11 @@ struct Place<'t> {
 }
 
 fn begin<'t>(whole: usize, comments: Comments, place: Place<'t>, at: usize) -> Option<Place<'t>>
-    requires { IfSome place.known (λ before. BeginsAt whole comments place.fresh place.rest.now (before + 1)) }
-    ensures begins { IfSome result (λ next. BeginsAt whole comments place.entry.fresh place.entry.rest.now at) }
+    ensures begins { IsKnown whole comments place.entry → IfSome result (λ next. BeginsAt whole comments place.entry.fresh place.entry.rest.now at) }
     ensures rest { IfSome result (λ next. next.rest.now ≡ place.entry.rest.now) }
     ensures fresh { IfSome result (λ next. next.fresh ≡ place.entry.fresh) }
     ensures ending { IfSome result (λ next. next.ending ≡ place.entry.ending) }
-    ensures known { IfSome result (λ next. IfSome next.known (λ before. BeginsAt whole comments next.fresh next.rest.now (before + 1))) }
+    ensures known { IsKnown whole comments place.entry → IfSome result (IsKnown whole comments) }
 {
     let known = before_next(place.known, whole, comments, place.fresh, place.rest);
     if !begins_behind(known, whole, comments, place.fresh, place.rest, at) {
@@ -169,7 +166,7 @@ fn pass<'t>(
     ensures takes { IfSome result (λ next. Takes comments soft place.entry.fresh place.entry.ending (piece_view piece.entry) place.entry.rest.now next.rest.now) }
     ensures fresh { IfSome result (λ next. next.fresh ≡ is_fresh_behind place.entry.fresh (piece_view piece.entry)) }
     ensures ending { IfSome result (λ next. next.ending ≡ spec.ending_behind place.entry.ending (piece_view piece.entry)) }
-    ensures known { IfSome result (λ next. IfSome next.known (λ before. BeginsAt whole comments next.fresh next.rest.now (before + 1))) }
+    ensures known { IfSome result (IsKnown whole comments) }
 {
     if !is_so(whole, comments, place.fresh, place.rest, piece) {
         return None;
@@ -190,12 +187,11 @@ fn step<'t>(
     place: Place<'t>,
     piece: Piece<'_>,
 ) -> Option<Place<'t>>
-    requires { IfSome place.known (λ before. BeginsAt whole comments place.fresh place.rest.now (before + 1)) }
-    ensures so { IfSome result (λ next. IsSo whole comments place.entry.fresh (piece_view piece.entry) place.entry.rest.now) }
+    ensures so { IsKnown whole comments place.entry → IfSome result (λ next. IsSo whole comments place.entry.fresh (piece_view piece.entry) place.entry.rest.now) }
     ensures takes { IfSome result (λ next. Takes comments soft place.entry.fresh place.entry.ending (piece_view piece.entry) place.entry.rest.now next.rest.now) }
     ensures fresh { IfSome result (λ next. next.fresh ≡ is_fresh_behind place.entry.fresh (piece_view piece.entry)) }
     ensures ending { IfSome result (λ next. next.ending ≡ spec.ending_behind place.entry.ending (piece_view piece.entry)) }
-    ensures known { IfSome result (λ next. IfSome next.known (λ before. BeginsAt whole comments next.fresh next.rest.now (before + 1))) }
+    ensures known { IsKnown whole comments place.entry → IfSome result (IsKnown whole comments) }
 {
     match piece {
         Piece::Frame(Frame::Begins(at)) => begin(whole, comments, place, at),
@@ -203,33 +199,53 @@ fn step<'t>(
     }
 }
 
-#[tactic(auto, using(crate::proofs::Frames::one_more, crate::proofs::Frames::at_end))]
-fn stand(comments: Comments, soft: bool, text: &[u8], pieces: &[Piece<'_>]) -> bool
-    ensures { IsTrue result → Stands comments soft (map piece_view pieces.now) text.now }
-{
-    let mut place = Place {
-        rest: text,
-        fresh: true,
-        ending: Ending::Closed,
-        known: None,
-    };
-    for i in 0..pieces.len() {
-        match step(text.len(), comments, soft, place, pieces[i]) {
-            Some(next) => place = next,
-            None => return false,
-        }
-    }
-    match skip_blank(comments, place.fresh, place.rest) {
-        Some((_, end)) => end.is_empty(),
-        None => false,
-    }
+/// A text that is held against pieces, one after another.
+#[derive(Clone, Copy)]
+pub struct Reader<'t> {
+    whole: usize,
+    comments: Comments,
+    soft: bool,
+    place: Place<'t>,
 }
 
-/// Whether a text is written with these pieces, as `follows` has it, and each frame among them says what is so.
-#[tactic(auto, using(crate::proofs::Frames::tokens_follow))]
-pub fn frames_stand(comments: Comments, soft: bool, text: &[u8], pieces: &[Piece<'_>]) -> bool
-    ensures frames { IsTrue result → Stands comments soft (map piece_view pieces.now) text.now }
-    ensures tokens { IsTrue result → Follows comments soft (without_frames (map piece_view pieces.now)) text.now }
-{
-    stand(comments, soft, text, pieces)
+impl<'t> Reader<'t> {
+    /// Of a text of which nothing is read yet; `soft`: where what a tree doesn't tell may be there or not.
+    pub fn new(comments: Comments, soft: bool, text: &'t [u8]) -> Reader<'t>
+        ensures { IsFront comments soft text.now result }
+    {
+        Reader {
+            whole: text.len(),
+            comments,
+            soft,
+            place: Place {
+                rest: text,
+                fresh: true,
+                ending: Ending::Closed,
+                known: None,
+            },
+        }
+    }
+
+    /// Reads on past a piece, if the text goes on with it; of a frame, if what it says is so.
+    pub fn read_on(&mut self, piece: Piece<'_>) -> bool
+        ensures { IsTrue result → ReadsOn self.old (piece_view piece.entry ∷ []) self.new }
+    {
+        match step(self.whole, self.comments, self.soft, self.place, piece) {
+            Some(next) => {
+                self.place = next;
+                true
+            }
+            None => false,
+        }
+    }
+
+    /// Whether no token is left.
+    pub fn is_over(&self) -> bool
+        ensures { IsTrue result → IsOver self.now }
+    {
+        match skip_blank(self.comments, self.place.fresh, self.place.rest) {
+            Some((_, end)) => end.is_empty(),
+            None => false,
+        }
+    }
 }

@@ -138,6 +138,7 @@ fn other_blank(comments: Comments, fresh: bool, text: &[u8]) -> Option<(bool, &[
 
 /// What is left behind white space, line terminators and comments, and whether a line has ended among them, or begun with
 /// the text (`fresh`). `None` where a comment is not closed.
+#[inline]
 #[tactic(auto, using(crate::proofs::Ascii::blank_stop, std::proofs::lemmas::Grind::common_steps))]
 pub fn skip_blank(comments: Comments, fresh: bool, text: &[u8]) -> Option<(bool, &[u8])>
     ensures value { option_map (λ p. (p.0, p.1.now)) result ≡ spec.blank comments fresh text.now }

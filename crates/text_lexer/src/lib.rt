@@ -12,5 +12,6 @@ mod token;
 
 pub use blank::{Comments, Skip, skip_blank, skip_piece};
 pub use mark::{Mark, spelling};
+pub use plain::{plain_mark, plain_name};
 pub use sign::token_at;
 pub use token::{Fault, Goal, TemplatePart, Token};

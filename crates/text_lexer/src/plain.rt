@@ -42,9 +42,9 @@ fn plain_parts(text: &[u8]) -> usize
     text.iter().take_while(|byte| is_plain_part(**byte)).count()
 }
 
-/// How many bytes the name has that a text begins with, where all its characters are plain; else 0.
+/// How many bytes the name has that a text begins with, where all its characters are plain, each one byte and no escape; else 0.
 #[inline]
-pub(crate) fn plain_name(goal: Goal, text: &[u8]) -> usize
+pub fn plain_name(goal: Goal, text: &[u8]) -> usize
     ensures value { 0 < result → token_at goal text.now ≡ Ok (name (take result text.now), drop result text.now) }
     ensures within { result ≤ length text.now }
 {
@@ -81,7 +81,7 @@ fn lone_mark(goal: Goal, byte: u8, next: u8) -> Option<Mark>
 
 /// The punctuator of one byte that a text begins with, where the byte behind it tells that it is none that is longer.
 #[inline]
-pub(crate) fn plain_mark(goal: Goal, text: &[u8]) -> Option<Mark>
+pub fn plain_mark(goal: Goal, text: &[u8]) -> Option<Mark>
     ensures value { IfSome result (λ mark. token_at goal text.now ≡ Ok (punctuator mark, drop 1 text.now)) }
     ensures some { IfSome result (λ _. 0 < length text.now) }
 {

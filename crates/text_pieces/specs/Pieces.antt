@@ -11,8 +11,8 @@ use Rattle.text_pieces.specs.declared.item.Item.TheVariants as item
 use Rattle.text_pieces.specs.declared.piece.Gap.TheVariants as line
 use Rattle.text_lexer.specs.declared.token.TemplatePart.{TemplatePart}
 use Rattle.text_lexer.specs.declared.token.TemplatePart.TheVariants as part
-use Rattle.text_pieces.specs.declared.walk.Many.{Many}
-use Rattle.text_pieces.specs.declared.walk.Many.TheVariants as many
+use Rattle.text_pieces.specs.declared.item.Many.{Many}
+use Rattle.text_pieces.specs.declared.item.Many.TheVariants as many
 use Rattle.text_pieces.specs.Forms.{form_pieces, piece_of_word, when, word_piece}
 use Rattle.text_pieces.specs.Layouts.{apart_layout_of, layout_of}
 use Rattle.text_pieces.specs.Frames.{first_span, framed_name, framing, framing_text, in_frames, span_at}

@@ -128,3 +128,14 @@ pub enum Item {
     /// What no text is written with.
     Never,
 }
+
+/// How the items of a list are written.
+#[derive(Clone, Copy)]
+pub enum Many {
+    /// With commas between them.
+    List,
+    /// As the names of an import or export.
+    Specifiers,
+    /// Between the texts of a template.
+    Template,
+}

@@ -19,11 +19,11 @@ bent t b h e = ((λ n. absurd (cc)), (λ p. absurd (p.straight (h.0 e))))
 pub unworded : (t : Node) (b : Bool) → IsTrue b ↔ Worded t → b ≡ false → IsTrue false ↔ IsPinned t
 unworded t b h e = ((λ n. absurd (cc)), (λ p. never b (h.1 p.worded) e))
 
--- all of them
-module _ (t : Node) (a w : Bool) (astray : IsTrue a ↔ HasNode is_astray t) (words : IsTrue w ↔ Worded t) (straight : a ≡ false) (worded : w ≡ true) where
-  is_straight : HasNode is_astray t → ⊥
-  is_straight n = never a (astray.1 n) straight
+pub straight_by : (t : Node) (b : Bool) → IsTrue b ↔ HasNode is_astray t → b ≡ false → HasNode is_astray t → ⊥
+straight_by t b h e n = never b (h.1 n) e
 
+-- the others
+module _ (t : Node) (w : Bool) (words : IsTrue w ↔ Worded t) (is_straight : HasNode is_astray t → ⊥) (worded : w ≡ true) where
   is_worded : Worded t
   is_worded = words.0 worded
 

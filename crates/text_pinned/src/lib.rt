@@ -13,4 +13,4 @@ mod words;
 
 pub use astray::Astray;
 pub use lax::Lax;
-pub use pinned::is_pinned;
+pub use pinned::{is_pinned, is_pinned_if_straight};

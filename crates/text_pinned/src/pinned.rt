@@ -39,6 +39,18 @@ fn can_be_written(tree: &Node) -> bool
     is_writable(tree)
 }
 
+/// Whether a tree in which no node is astray, as `Astray` has it, is the one that its tokens say.
+///
+/// It takes no memory; the time is in step with the size of the tree.
+pub fn is_pinned_if_straight(tree: &Node) -> bool
+    ensures { (HasNode spec.is_astray tree.now → ⊥) → (s : Slot) → Fits tree.now s → IsTrue result ↔ IsPinned tree.now }
+{
+    if !has_its_words(tree) {
+        return false;
+    }
+    can_be_written(tree) || has_lax(tree)
+}
+
 /// Whether a tree is the one that its tokens say, where the grammar alone leaves a choice: patterns are read as patterns, operators are
 /// grouped to the left, chains ask something, `yield` and `await` are what they have to be, and what is no sloppy code can be written down.
 ///
@@ -49,8 +61,5 @@ pub fn is_pinned(tree: &Node) -> bool
     if has_astray(tree) {
         return false;
     }
-    if !has_its_words(tree) {
-        return false;
-    }
-    can_be_written(tree) || has_lax(tree)
+    is_pinned_if_straight(tree)
 }

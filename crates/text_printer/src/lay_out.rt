@@ -1,6 +1,7 @@
 //! Pieces written one after another, with the blanks that they need.
 use crate::mark_text::mark_text;
 use std::alloc::{AllocError, Global};
+use text_comments::{goes_to_line_end, has_line_end};
 use text_lexer::{Mark, TemplatePart};
 use text_pieces::{Gap, Piece};
 
@@ -20,6 +21,10 @@ enum Last {
     Nothing,
     /// What goes on with no other token.
     Closed,
+    /// A comment that a line end has to stand behind.
+    OpenComment,
+    /// Any other comment.
+    Comment,
     /// A part of a name.
     Name,
     /// A number that goes on with a dot.
@@ -30,8 +35,9 @@ enum Last {
     Less,
 }
 
+/// Pieces and comments laid out one after another. Nothing is promised of the text: whoever wants that it has them holds it against them.
 #[derive(Drop)]
-struct Writer {
+pub struct Writer<'a> {
     out: Vec<u8>,
     layout: Layout,
     last: Last,
@@ -40,6 +46,8 @@ struct Writer {
     line: bool,
     /// Lines are further in, and nothing has been written there.
     opened: bool,
+    /// Comments that stand behind the next parameter.
+    held: Vec<&'a [u8]>,
 }
 
 fn is_name_byte(byte: u8) -> bool {
@@ -50,6 +58,7 @@ fn is_name_byte(byte: u8) -> bool {
 fn joins(last: Last, byte: u8) -> bool {
     match last {
         Last::Nothing | Last::Closed => false,
+        Last::OpenComment | Last::Comment => true,
         Last::Name => is_name_byte(byte),
         Last::Digits => is_name_byte(byte) || byte == b'.',
         Last::Plus => byte == b'+',
@@ -78,7 +87,20 @@ fn last_of_number(text: &str) -> Last {
     Last::Digits
 }
 
-impl Writer {
+impl<'a> Writer<'a> {
+    /// A writer of an empty text.
+    pub fn new(alloc: Global, layout: Layout) -> Writer<'a> {
+        Writer {
+            out: Vec::new(alloc),
+            layout,
+            last: Last::Nothing,
+            depth: 0,
+            line: false,
+            opened: false,
+            held: Vec::new(alloc),
+        }
+    }
+
     fn begin_line(&mut self) -> Result<(), AllocError> {
         if self.last != Last::Nothing {
             self.out.push(b'\n')?;
@@ -95,10 +117,70 @@ impl Writer {
         if self.line && self.layout == Layout::Lines {
             self.begin_line()?;
         } else if joins(self.last, byte) {
-            self.out.push(b' ')?;
+            self.out.push(if self.last == Last::OpenComment {
+                b'\n'
+            } else {
+                b' '
+            })?;
         }
         self.line = false;
         self.opened = false;
+        Ok(())
+    }
+
+    /// What goes before a comment.
+    fn begin_comment(&mut self, text: &[u8]) -> Result<(), AllocError> {
+        let is_laid_out = self.layout == Layout::Lines;
+        if self.line && is_laid_out {
+            self.begin_line()
+        } else if self.last == Last::Nothing {
+            Ok(())
+        } else if self.last == Last::OpenComment || text.starts_with(b"-->") {
+            Ok(self.out.push(b'\n')?)
+        } else if is_laid_out || self.last == Last::Slash || !text.starts_with(b"/") {
+            Ok(self.out.push(b' ')?)
+        } else {
+            Ok(())
+        }
+    }
+
+    /// Puts a comment behind what is written. A line end stands behind one that goes to the end of its line.
+    ///
+    /// # Errors
+    ///
+    /// Where memory is refused.
+    pub fn comment(&mut self, text: &[u8]) -> Result<(), AllocError> {
+        let begins_line = self.last == Last::Nothing || self.line;
+        self.begin_comment(text)?;
+        self.out.extend_from_slice(text)?;
+        let is_open = goes_to_line_end(text);
+        self.last = match self.layout {
+            _ if is_open => Last::OpenComment,
+            Layout::Lines => Last::Comment,
+            Layout::Compact => Last::Closed,
+        };
+        self.line = is_open || begins_line && has_line_end(text);
+        self.opened = false;
+        Ok(())
+    }
+
+    /// Holds a comment until the next parameter is written, to stand behind it in its parentheses.
+    ///
+    /// # Errors
+    ///
+    /// Where memory is refused.
+    pub fn hold(&mut self, text: &'a [u8]) -> Result<(), AllocError> {
+        self.held.push(text)?;
+        Ok(())
+    }
+
+    fn release(&mut self) -> Result<(), AllocError> {
+        for at in 0..self.held.len() {
+            if let Some(text) = self.held.get(at).copied() {
+                self.comment(text)?;
+            }
+        }
+        self.held.clear();
         Ok(())
     }
 
@@ -168,6 +250,7 @@ impl Writer {
     fn parameter(&mut self, name: &str) -> Result<(), AllocError> {
         self.mark(Mark::LeftParen)?;
         self.token(name, Last::Name)?;
+        self.release()?;
         self.mark(Mark::RightParen)
     }
 
@@ -192,7 +275,12 @@ impl Writer {
         }
     }
 
-    fn piece(&mut self, piece: Piece<'_>) -> Result<(), AllocError> {
+    /// Puts a piece behind what is written, with the blanks that it needs.
+    ///
+    /// # Errors
+    ///
+    /// Where memory is refused.
+    pub fn piece(&mut self, piece: Piece<'_>) -> Result<(), AllocError> {
         match piece {
             Piece::Word(text) | Piece::Name(text) | Piece::BigInt(text) => self.token(
                 text,
@@ -222,6 +310,25 @@ impl Writer {
             | Piece::Never => Ok(()),
         }
     }
+
+    /// The text, whose last line ends if it is laid out in lines.
+    ///
+    /// # Errors
+    ///
+    /// Where memory is refused.
+    pub fn finish(self) -> Result<Vec<u8>, AllocError> {
+        let Writer {
+            mut out,
+            layout,
+            last,
+            ..
+        } = self;
+        let ends = layout == Layout::Lines && last != Last::Nothing;
+        if ends || last == Last::OpenComment {
+            out.push(b'\n')?;
+        }
+        Ok(out)
+    }
 }
 
 /// The pieces, laid out. Nothing is promised of the text: whoever wants that it has the pieces holds it against them.
@@ -230,20 +337,9 @@ pub fn text_of_pieces(
     layout: Layout,
     pieces: &[Piece<'_>],
 ) -> Result<Vec<u8>, AllocError> {
-    let mut writer = Writer {
-        out: Vec::new(alloc),
-        layout,
-        last: Last::Nothing,
-        depth: 0,
-        line: false,
-        opened: false,
-    };
+    let mut writer = Writer::new(alloc, layout);
     for piece in pieces {
         writer.piece(*piece)?;
     }
-    if writer.layout == Layout::Lines && writer.last != Last::Nothing {
-        writer.out.push(b'\n')?;
-    }
-    let Writer { out, .. } = writer;
-    Ok(out)
+    writer.finish()
 }

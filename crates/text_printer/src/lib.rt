@@ -5,5 +5,5 @@ mod lay_out;
 mod mark_text;
 mod print;
 
-pub use lay_out::{Layout, text_of_pieces};
+pub use lay_out::{Layout, Writer, text_of_pieces};
 pub use print::{PrintFault, print_text};

@@ -9,7 +9,8 @@ use std::alloc::{AllocError, Global};
 use swc_tree_node::Node;
 use text_follow::follows;
 use text_lexer::Comments;
-use text_pieces::{Piece, pieces};
+use text_pieces::Piece;
+use text_walk::pieces;
 
 /// Why a tree is not written.
 #[derive(Clone, Copy, Debug, PartialEq, Eq)]

@@ -3,6 +3,7 @@
 
 mod located;
 mod read;
+mod sound;
 
 pub use located::{Located, locate};
 pub use read::{MOST_BYTES, are_spans_of, is_text_of, read_text};

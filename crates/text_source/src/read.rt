@@ -5,28 +5,30 @@ ghost use Rattle.swc_tree_node.specs.declared.node.Node.{out-Node};
 ghost use Rattle.swc_tree_node.specs.declared.slot.Content.TheVariants as content;
 ghost use Rattle.swc_tree_node.specs.declared.slot.Slot.TheVariants as slot;
 ghost use Rattle.swc_tree_node.specs.Fits.{Fits};
+ghost use Rattle.swc_tree_walk.specs.Nodes.{HasNode};
 ghost use Rattle.text_checks.specs.Checked.{IsWellFormed};
 ghost use Rattle.text_follow.specs.Follows.{Follows};
 ghost use Rattle.text_follow.specs.Stands.{Stands};
-ghost use Rattle.text_pieces.specs.Frames.{first_span as span_of_first, without_frames};
+ghost use Rattle.text_pieces.specs.Frames.{first_span as span_of_first};
+ghost use Rattle.text_pieces.specs.Pieces.{framed_pieces, pieces as tokens_of};
 ghost use Rattle.text_pieces.specs.Tokens.{piece_view};
-ghost use Rattle.text_pinned.specs.Pinned.{IsPinned};
+ghost use Rattle.text_pinned.specs.Pinned.{IsPinned, is_astray};
 ghost use Rattle.text_reader.specs.declared.fault.TextFault.TheVariants as fault;
 ghost use Rattle.text_source.specs.Texts as spec;
 ghost use Rattle.text_source.specs.Texts.{IsTextOf, IsWhole, SpansAreOf, Tells, most_bytes};
 ghost use Rattle.text_spans.specs.Leaves.{LeavesStand};
 
+use crate::sound::is_formed;
 use std::alloc::{AllocError, Global};
 use std::str;
 use swc_tree_node::{Class, Content, Node, Slot};
-use text_checks::check_tree;
-use text_follow::{follows, frames_stand};
+use text_follow::follows;
 use text_lexer::Comments;
 use text_parser::{Goal, TextFault, parse};
-use text_pieces::{Piece, first_span, framed_pieces, pieces};
-use text_pinned::is_pinned;
-use text_spans::leaves_stand;
+use text_pieces::Piece;
+use text_pinned::is_pinned_if_straight;
 use text_table::fits;
+use text_walk::{first_span, pieces, tree_stands};
 
 /// As many bytes as a text may have: the places in a tree go up to 2 ^ 32 - 1, and begin with 1.
 pub const MOST_BYTES: usize = 4_294_967_293;
@@ -61,22 +63,13 @@ fn stands(goal: Goal, tree: &Node) -> bool
     fits(tree, slot_of(goal))
 }
 
-// Whether a text can have the tree at all: the table, lengths, leaves and the grammar.
-fn is_formed(goal: Goal, tree: &Node) -> bool
-    ensures { IsTrue result → IsWellFormed (spec.slot_of goal) tree.now }
-{
-    match check_tree(slot_of(goal), tree) {
-        Ok(()) => true,
-        Err(_) => false,
-    }
-}
-
 // Whether it is the one that its tokens say, where the grammar leaves a choice.
 fn is_exact(goal: Goal, tree: &Node) -> bool
-    requires { Fits tree.now (spec.slot_of goal) }
+    requires straight { HasNode is_astray tree.now → ⊥ }
+    requires fits { Fits tree.now (spec.slot_of goal) }
     ensures { IsTrue result → IsPinned tree.now }
 {
-    is_pinned(tree)
+    is_pinned_if_straight(tree)
 }
 
 fn is_written(goal: Goal, text: &[u8], pieces: &[Piece<'_>]) -> bool
@@ -139,29 +132,21 @@ fn is_whole(tree: &Node, text: &[u8]) -> bool
     }
 }
 
-fn is_framed(goal: Goal, text: &[u8], pieces: &[Piece<'_>]) -> bool
-    ensures frames { IsTrue result → Stands (spec.comments_of goal) true (map piece_view pieces.now) text.now }
-    ensures tokens { IsTrue result → Follows (spec.comments_of goal) true (without_frames (map piece_view pieces.now)) text.now }
+// Whether it has the tree's tokens, and each node stands where its span says.
+fn has_tokens_in_frames(goal: Goal, tree: &Node, text: &[u8]) -> bool
+    ensures frames { IsTrue result → Stands (spec.comments_of goal) true (framed_pieces tree.now) text.now }
+    ensures tokens { IsTrue result → Follows (spec.comments_of goal) true (tokens_of tree.now) text.now }
 {
-    frames_stand(comments_of(goal), true, text, pieces)
+    tree_stands(comments_of(goal), true, text, tree)
 }
 
 /// Whether the spans of a tree, which is read as a module or a script, are those of a text: a yes says that they are.
 ///
-/// The time is in step with the text and the tree; the recursion is as deep as the tree.
-///
-/// # Errors
-///
-/// Where memory is refused.
-pub fn are_spans_of(alloc: Global, goal: Goal, tree: &Node, text: &[u8]) -> Result<bool, AllocError>
-    ensures { IfOk result (λ yes. IsTrue yes → SpansAreOf goal tree.now text.now) }
+/// It takes no memory; the time is in step with the text and the tree, and the recursion is as deep as the tree.
+pub fn are_spans_of(goal: Goal, tree: &Node, text: &[u8]) -> bool
+    ensures { IsTrue result → SpansAreOf goal tree.now text.now }
 {
-    let found = framed_pieces(alloc, tree)?;
-    if is_whole(tree, text) && is_framed(goal, text, &found) {
-        Ok(true)
-    } else {
-        Ok(false)
-    }
+    is_whole(tree, text) && has_tokens_in_frames(goal, tree, text)
 }
 
 // A place that the parser tells, as one of the text.
@@ -213,31 +198,19 @@ fn of_parser(said: TextFault, text: &[u8]) -> TextFault
     }
 }
 
-// Whether leaves stand where they say.
-fn stand(tree: &Node, text: &[u8]) -> bool
-    ensures { IsTrue result → LeavesStand text.now tree.now }
-{
-    leaves_stand(tree, text)
-}
-
 // Whether a text in UTF-8 is that of a tree that fits, whose nodes stand where their spans say.
-fn has_nodes(alloc: Global, goal: Goal, tree: &Node, text: &[u8]) -> Result<bool, AllocError>
+fn has_nodes(goal: Goal, tree: &Node, text: &[u8]) -> bool
     requires utf8 { IsUtf8 text.now }
     requires fits { Fits tree.now (spec.slot_of goal) }
-    ensures tree { IfOk result (λ yes. IsTrue yes → IsTextOf goal tree.now text.now) }
-    ensures spans { IfOk result (λ yes. IsTrue yes → SpansAreOf goal tree.now text.now) }
+    ensures tree { IsTrue result → IsTextOf goal tree.now text.now }
+    ensures spans { IsTrue result → SpansAreOf goal tree.now text.now }
 {
-    let found = framed_pieces(alloc, tree)?;
-    if is_whole(tree, text) && is_framed(goal, text, &found) {
-        Ok(true)
-    } else {
-        Ok(false)
-    }
+    is_whole(tree, text) && has_tokens_in_frames(goal, tree, text)
 }
 
 // What was read, if it is a program, and what the text says.
 #[tactic(auto, using(crate::proofs::Formed::fits_of))]
-fn held(alloc: Global, goal: Goal, tree: Node, text: &[u8]) -> Result<Node, TextFault>
+fn held(goal: Goal, tree: Node, text: &[u8]) -> Result<Node, TextFault>
     requires { IsUtf8 text.now }
     ensures tree { IfOk result (λ read. IsTextOf goal read text.now) }
     ensures formed { IfOk result (IsWellFormed (spec.slot_of goal)) }
@@ -246,22 +219,16 @@ fn held(alloc: Global, goal: Goal, tree: Node, text: &[u8]) -> Result<Node, Text
     ensures spans { IfOk result (λ tree. SpansAreOf goal tree text.now) }
     ensures refusal { IfErr result (Tells text.now) }
 {
-    if !is_formed(goal, &tree) {
+    if !is_formed(slot_of(goal), &tree, text) {
         return Err(TextFault::NotTheText);
     }
     if !is_exact(goal, &tree) {
         return Err(TextFault::NotTheText);
     }
-    match has_nodes(alloc, goal, &tree, text) {
-        Ok(is_said) => {
-            if is_said && stand(&tree, text) {
-                Ok(tree)
-            } else {
-                Err(TextFault::NotTheText)
-            }
-        }
-        Err(_) => Err(TextFault::NoMemory),
+    if !has_nodes(goal, &tree, text) {
+        return Err(TextFault::NotTheText);
     }
+    Ok(tree)
 }
 
 fn read_utf8(alloc: Global, goal: Goal, depth: u32, text: &[u8]) -> Result<Node, TextFault>
@@ -274,7 +241,7 @@ fn read_utf8(alloc: Global, goal: Goal, depth: u32, text: &[u8]) -> Result<Node,
     ensures refusal { IfErr result (Tells text.now) }
 {
     match parse(alloc, goal, depth, text) {
-        Ok(tree) => held(alloc, goal, tree, text),
+        Ok(tree) => held(goal, tree, text),
         Err(said) => Err(of_parser(said, text)),
     }
 }

@@ -4,4 +4,4 @@
 mod leaf;
 mod stand;
 
-pub use stand::leaves_stand;
+pub use stand::{Misplaced, leaves_stand};

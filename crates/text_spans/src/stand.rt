@@ -6,10 +6,10 @@ use crate::leaf::{is_misplaced, name_stands};
 use swc_tree_node::Node;
 use swc_tree_walk::{Finder, has_node};
 
-// Looks for leaves that stand elsewhere in a text than they say.
+/// Looks for leaves that stand elsewhere in a text than they say.
 #[derive(Clone, Copy)]
-struct Misplaced<'t> {
-    text: &'t [u8],
+pub struct Misplaced<'t> {
+    pub text: &'t [u8],
 }
 
 impl Finder for Misplaced<'_> {

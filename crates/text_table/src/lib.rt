@@ -2,5 +2,7 @@
 #![tactic(auto)]
 
 mod table;
+mod without;
 
 pub use table::fits;
+pub use without::fits_without;

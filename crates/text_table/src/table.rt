@@ -20,7 +20,7 @@ fn number_of_word(word: Word) -> usize
     word as usize
 }
 
-fn belongs(kind: Kind, class: Class) -> bool
+pub(crate) fn belongs(kind: Kind, class: Class) -> bool
     ensures { result ≡ spec.belongs kind class }
 {
     let number = number_of(kind);
@@ -38,7 +38,7 @@ fn is_among(word: Word, words: WordClass) -> bool
         .any(|other| number == number_of_word(*other))
 }
 
-fn single(slot: Slot) -> Option<Content>
+pub(crate) fn single(slot: Slot) -> Option<Content>
     ensures { result ≡ spec.single slot }
 {
     match slot {
@@ -126,7 +126,7 @@ fn all_fit(nodes: &[Node], slot: Slot) -> bool
 }
 
 #[cycle(fits)]
-fn list_fits(nodes: &[Node], slot: Slot) -> bool
+pub(crate) fn list_fits(nodes: &[Node], slot: Slot) -> bool
     ensures { result ≡ spec.list_fits (map spec.fits nodes.now) slot }
 {
     match slot {
@@ -166,7 +166,7 @@ fn fields_fit(kind: Kind, fields: &[Node]) -> bool
 
 // What stands in a field of the table.
 #[tactic(auto, using(crate::proofs::Fitting::slot_of))]
-fn slot_at(places: &[Field], i: usize) -> Slot
+pub(crate) fn slot_at(places: &[Field], i: usize) -> Slot
     requires { i < length places.now }
     ensures { slice_get (map (λ f. f.slot) places.now) i ≡ Some result }
 {

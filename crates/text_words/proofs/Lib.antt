@@ -2,3 +2,4 @@ pub mod Bytes
 pub mod Begun
 pub mod Regexes
 pub mod Templates
+pub mod Letters

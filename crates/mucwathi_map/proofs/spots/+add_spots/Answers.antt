@@ -11,9 +11,9 @@ add_spots-returns-in-List t c =
 
 pub add_spots-returns-in-Tree : goal.add_spots-returns-in-Tree
 add_spots-returns-in-Tree t c =
-    let is = c.in-Tree.is ∙ ap (λ ts. Tree c.in-Tree.kind ts) (sym c.as_slice-in-Tree.ensures) in
+    let is = c.in-Tree.is ∙ ap (λ ts. Tree c.in-Tree.field-0 ts) (sym c.as_slice-in-Tree.ensures) in
     subst (λ l. OnOk c.add_spots_of-in-Tree.result (map seen c.add_spots_of-in-Tree.new.found.items ≡ map seen c.args.found.now.items ++ l))
-    (sym (spots_of_tree c.args.node.now c.in-Tree.kind c.as_slice-in-Tree.result.now is)) c.add_spots_of-in-Tree.ensures
+    (sym (spots_of_tree c.args.node.now c.in-Tree.field-0 c.as_slice-in-Tree.result.now is)) c.add_spots_of-in-Tree.ensures
 
 pub add_spots_of-loop-i-preserved : goal.add_spots_of-loop-i-preserved
 add_spots_of-loop-i-preserved t c =

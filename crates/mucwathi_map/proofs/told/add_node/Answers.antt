@@ -1,7 +1,6 @@
-use Rattle.std.proofs.Common.{List, ◌++◌, ◌∷◌, [], map, ap, sym, ◌∙◌, ◌-◌, ◌×◌}
-use Rattle.std.proofs.lemmas.List.{map_push}
+use Rattle.std.proofs.Common.{map, sym, ◌∙◌}
 use Rattle.mucwathi_map.specs.Spots.{names_in, seen, told}
-use Rattle.mucwathi_map.proofs.Telling.{node_told, nowhere_told}
+use Rattle.mucwathi_map.proofs.Telling.{node_added, nowhere_told}
 use Rattle.mucwathi_map.proofs.told.add_node.Goals as goal
 
 pub returns-then-is_nowhere : goal.returns-then-is_nowhere
@@ -10,5 +9,5 @@ returns-then-is_nowhere c =
 
 pub returns : goal.returns
 returns c =
-    node_told (names_in c.args.olds.now) (seen c.args.new.now) (seen c.args.written.now) (map told c.args.mapped.now.items) (map told c.push.new.self.items) (sym c.is_nowhere.ensures ∙ c.if-is_nowhere.false)
-    (ap (map told) c.in_ok-push.ensures.items ∙ map_push told c.args.mapped.now.items _ ∙ ap (λ o. map told c.args.mapped.now.items ++ (c.args.new.now.lo - 1, c.args.written.now.lo - 1, o) ∷ []) c.old_name-old.ensures)
+    node_added (names_in c.args.olds.now) c.args.new.now c.args.written.now (record { read = c.bytes_before-read.result; written = c.bytes_before-out.result; old = c.old_name-old.result }) c.args.mapped.now.items c.push.new.self.items
+    (sym c.is_nowhere.ensures ∙ c.if-is_nowhere.false) c.bytes_before-read.ensures c.bytes_before-out.ensures c.old_name-old.ensures c.in_ok-push.ensures.items

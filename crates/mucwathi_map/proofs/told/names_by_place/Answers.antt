@@ -1,5 +1,5 @@
-use Rattle.std.proofs.Common.{arith}
-use Rattle.mucwathi_map.proofs.Naming.{names_all, names_step, no_names}
+use Rattle.std.proofs.Common.{get_or, refl, arith}
+use Rattle.mucwathi_map.proofs.Naming.{names_all, names_step, no_names, no_spot}
 use Rattle.mucwathi_map.proofs.told.names_by_place.Goals as goal
 
 pub loop-spot-init : goal.loop-spot-init
@@ -7,7 +7,7 @@ loop-spot-init c = no_names c.new-names.result c.new-names.ensures.empty
 
 pub loop-spot-preserved : goal.loop-spot-preserved
 loop-spot-preserved c =
-    names_step c.args.spots.now c.loop-spot.spot-index c.spot-item.result c.loop-spot.names c.note.new.names c.loop-spot-test.true c.spot-item.is c.loop-spot.invariant c.in_ok-note.ensures
+    names_step c.args.spots.now c.loop-spot.spot-index no_spot (get_or c.args.spots.now c.loop-spot.spot-index no_spot) c.loop-spot.names c.note.new.names c.loop-spot-test.true refl c.loop-spot.invariant c.in_ok-note.ensures
 
 pub returns : goal.returns
 returns c = names_all c.args.spots.now c.loop-spot.spot-index c.loop-spot.names (omega arith) c.loop-spot.invariant

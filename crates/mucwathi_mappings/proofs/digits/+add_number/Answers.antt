@@ -3,8 +3,8 @@ use Rattle.std.proofs.lemmas.Result.{on_ok_weaker}
 use Rattle.mucwathi_mappings.proofs.Telling.{number_last, number_more}
 use Rattle.mucwathi_mappings.proofs.digits.+add_number.Goals as goal
 
-pub returns-in_ok-push : goal.returns-in_ok-push
-returns-in_ok-push t c =
+pub returns-then-number-lt32 : goal.returns-then-number-lt32
+returns-then-number-lt32 t c =
     number_last c.args.number c.args.out.now.items c.push.new.self.items c.if-number-lt32.true (c.in_ok-push.ensures.items ∙ ap (λ (d : ℕ). c.args.out.now.items ++ d ∷ []) c.digit.ensures)
 
 pub returns : goal.returns

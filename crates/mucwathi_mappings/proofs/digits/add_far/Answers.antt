@@ -3,8 +3,8 @@ use Rattle.std.proofs.lemmas.Result.{on_ok_weaker}
 use Rattle.mucwathi_mappings.proofs.Telling.{far_last, far_more}
 use Rattle.mucwathi_mappings.proofs.digits.add_far.Goals as goal
 
-pub returns-in_ok-push : goal.returns-in_ok-push
-returns-in_ok-push c =
+pub returns-then-far-lt16 : goal.returns-then-far-lt16
+returns-then-far-lt16 c =
     far_last c.args.far c.args.back _ c.args.out.now.items c.push.new.self.items c.if-far-lt16.true c.requires refl (c.in_ok-push.ensures.items ∙ ap (λ (d : ℕ). c.args.out.now.items ++ d ∷ []) c.digit.ensures)
 
 pub returns : goal.returns

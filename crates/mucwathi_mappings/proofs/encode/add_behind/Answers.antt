@@ -10,6 +10,6 @@ add_entry-requires c = c.in_ok-here.ensures.1
 
 pub returns : goal.returns
 returns c =
-    IfOk-weaker c.add_entry.result (λ (t : Told). Continues c.in_ok-here.here (c.args.entry ∷ []) c.go_to_line-here.new.out.items c.add_entry.new.out.items t × (t.line ≡ c.args.entry.line))
+    IfOk-weaker c.add_entry.result (λ (t : Told). Continues c.in_ok-here.here (c.args.entry ∷ []) c.go_to_line.new.out.items c.add_entry.new.out.items t × (t.line ≡ c.args.entry.line))
     (λ (t : Told). Continues c.args.told (c.args.entry ∷ []) c.args.out.now.items c.add_entry.new.out.items t × (t.line ≡ c.args.entry.line))
-    (λ t h. (continues_both c.args.told c.in_ok-here.here t [] (c.args.entry ∷ []) c.args.out.now.items c.go_to_line-here.new.out.items c.add_entry.new.out.items c.in_ok-here.ensures.0 h.0, h.1)) c.add_entry.ensures
+    (λ t h. (continues_both c.args.told c.in_ok-here.here t [] (c.args.entry ∷ []) c.args.out.now.items c.go_to_line.new.out.items c.add_entry.new.out.items c.in_ok-here.ensures.0 h.0, h.1)) c.add_entry.ensures

@@ -19,7 +19,7 @@ add_behind-requires c =
 
 pub loop-place-preserved : goal.loop-place-preserved
 loop-place-preserved c = (
-  mappings_step c.args.text.now c.loop-place.yielded (c.in-Some.place, c.in-Some.segment) c.entry_at-entry.result c.loop-place.told c.in_ok-told.told c.args.out.now.items c.loop-place.out.items c.add_behind-told.new.out.items
+  mappings_step c.args.text.now c.loop-place.yielded (c.in-Some.place, c.in-Some.segment) c.entry_at-entry.result c.loop-place.told c.in_ok-told.told c.args.out.now.items c.loop-place.out.items c.add_behind.new.out.items
       c.entry_at-entry.ensures c.loop-place.invariant.0 c.in_ok-told.ensures.0,
   reaches_step c.args.text.now c.loop-place.yielded (c.in-Some.place, c.in-Some.segment) c.in_ok-told.told.line (c.in_ok-told.ensures.1 ∙ ap (λ (e : Entry). e.line) c.entry_at-entry.ensures),
 )

@@ -1,4 +1,4 @@
-use Rattle.std.proofs.Common.{arith, List, ◌++◌, ap, ◌∙◌, subst, sym}
+use Rattle.std.proofs.Common.{arith, ℕ, List, ◌++◌, ap, ◌∙◌, subst, sym}
 use Rattle.std.proofs.lemmas.List.{take_rest}
 use Rattle.mucwathi_signs.specs.Signed.{IsMarked}
 use Rattle.mucwathi_signs.proofs.Cutting.{cut_all, cut_none}

@@ -1,0 +1,5 @@
+pub mod Ends
+pub mod Listed
+pub mod Puts
+pub mod Sets
+pub mod Steps

@@ -1,0 +1,3 @@
+pub mod Unnamed
+pub mod Paired
+pub mod Laws

@@ -1,0 +1,4 @@
+pub mod Paths
+pub mod Units
+pub mod Named
+pub mod Whole

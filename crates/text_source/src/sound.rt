@@ -1,0 +1,75 @@
+//! Whether a text can have a tree, and the tree's leaves stand in it where they say.
+ghost use Rattle.std.specs.Prelude.{IsTrue};
+ghost use Rattle.swc_tree_grammar.specs.Grammar.{FitsGrammar};
+ghost use Rattle.swc_tree_node.specs.Fits.{Fits};
+ghost use Rattle.swc_tree_walk.specs.Nodes.{HasNode};
+ghost use Rattle.text_checks.specs.Checked.{IsWellFormed};
+ghost use Rattle.text_grammar.specs.Shaped.{Shaped};
+ghost use Rattle.text_pinned.specs.Pinned.{is_astray};
+ghost use Rattle.text_spans.specs.Leaves.{LeavesStand};
+ghost use Rattle.text_spelling.specs.Spelled.{Spelled};
+
+use swc_tree_node::{Node, Slot};
+use swc_tree_walk::Finder;
+use text_derives::derives;
+use text_grammar::Misshapen;
+use text_pinned::Astray;
+use text_spans::Misplaced;
+use text_spelling::Misspelled;
+use text_table::fits_without;
+
+// Looks for what four checks look for.
+#[derive(Clone, Copy)]
+struct Amiss<'t> {
+    text: &'t [u8],
+}
+
+impl Finder for Amiss<'_> {
+    ghost use Rattle.text_source.specs.Amiss as spec;
+
+    ghost is_sought = { λ looks node. spec.is_amiss looks.text.now node };
+
+    fn is_sought(&self, node: &Node) -> bool {
+        match node {
+            Node::List(_) | Node::Identifier(..) | Node::Tree(..) => {
+                Misshapen.is_sought(node)
+                    || (Misspelled.is_sought(node)
+                        || (Misplaced { text: self.text }.is_sought(node)
+                            || Astray.is_sought(node)))
+            }
+            _ => false,
+        }
+    }
+}
+
+// Whether each node stands where it may by the table, lengths are those of productions, leaves are tokens, these stand where they
+// say, and no node is astray.
+fn is_sound(slot: Slot, tree: &Node, text: &[u8]) -> bool
+    ensures fits { IsTrue result → Fits tree.now slot }
+    ensures shaped { IsTrue result → Shaped tree.now }
+    ensures spelled { IsTrue result → Spelled tree.now }
+    ensures leaves { IsTrue result → LeavesStand text.now tree.now }
+    ensures straight { IsTrue result → HasNode is_astray tree.now → ⊥ }
+{
+    let looks = Amiss { text };
+    fits_without(&looks, tree, slot)
+}
+
+fn is_derived(tree: &Node) -> bool
+    ensures { IsTrue result → FitsGrammar tree.now }
+{
+    derives(tree)
+}
+
+/// Whether a text can have a tree: the table, lengths, leaves and the grammar; and whether its leaves stand there, and no node is
+/// astray.
+pub(crate) fn is_formed(slot: Slot, tree: &Node, text: &[u8]) -> bool
+    ensures formed { IsTrue result → IsWellFormed slot tree.now }
+    ensures leaves { IsTrue result → LeavesStand text.now tree.now }
+    ensures straight { IsTrue result → HasNode is_astray tree.now → ⊥ }
+{
+    if !is_sound(slot, tree, text) {
+        return false;
+    }
+    is_derived(tree)
+}

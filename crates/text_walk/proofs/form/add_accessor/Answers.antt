@@ -1,0 +1,10 @@
+use Rattle.std.proofs.Common.{◌≡◌, [], rules}
+use Rattle.swc_tree_node.specs.declared.node.Node.{out-Node}
+use Rattle.text_pieces.specs.Forms.{accessor}
+use Rattle.text_walk.proofs.Sinks.{stays}
+use Rattle.text_walk.proofs.form.add_accessor.Goals as goal
+
+pub returns-in_default : goal.returns-in_default
+returns-in_default c =
+    let none : accessor (out-Node c.args.node.now) ≡ [] = search rules in
+    rw none (stays c.args.found.now)
