@@ -123,10 +123,7 @@ fn with_settings<'a>(alloc: Global, parser: Parser<'a>) -> Result<Parser<'a>, Al
     )
     .conflicts_with("list")?
     .conflicts_with("source-map")?;
-    parser
-        .arg(classes)?
-        .arg(eval)?
-        .arg(apart(told(explain)?)?)
+    parser.arg(classes)?.arg(eval)?.arg(apart(told(explain)?)?)
 }
 
 fn with_top<'a>(alloc: Global, parser: Parser<'a>) -> Result<Parser<'a>, AllocError> {
