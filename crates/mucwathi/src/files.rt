@@ -5,6 +5,29 @@ use std::io::{Read, Write};
 use std::path::Path;
 use std::{fs, io};
 
+/// Why a file is not written.
+#[derive(Debug, Drop)]
+pub(crate) struct Unwritten {
+    /// The file that stands in the way, if one does.
+    pub stands: Option<String>,
+    pub error: io::Error,
+}
+
+impl From<io::Error> for Unwritten {
+    fn from(error: io::Error) -> Unwritten {
+        Unwritten {
+            stands: None,
+            error,
+        }
+    }
+}
+
+impl From<AllocError> for Unwritten {
+    fn from(refused: AllocError) -> Unwritten {
+        Unwritten::from(io::Error::from(refused))
+    }
+}
+
 /// What a file holds, or standard input where none is named.
 pub(crate) fn read(rt: &HostRuntime, file: Option<&str>) -> io::Result<Vec<u8>> {
     let mut text = Vec::new(rt.alloc());
@@ -38,10 +61,24 @@ fn replace(rt: &HostRuntime, new: &str, path: &str) -> io::Result<()> {
     fs::rename(rt, new, path)
 }
 
+// Why there is no new file.
+fn not_created(new: String, error: io::Error) -> Unwritten {
+    if error.kind() != io::ErrorKind::AlreadyExists {
+        return Unwritten::from(error);
+    }
+    Unwritten {
+        stands: Some(new),
+        error,
+    }
+}
+
 // Writes the whole of a file to a new one beside it, which then takes its place.
-fn write_beside(rt: &HostRuntime, path: &str, out: &[u8]) -> io::Result<()> {
+fn write_beside(rt: &HostRuntime, path: &str, out: &[u8]) -> Result<(), Unwritten> {
     let new = beside(rt, path)?;
-    let mut file = File::create_new(rt, new.as_str())?;
+    let mut file = match File::create_new(rt, new.as_str()) {
+        Ok(file) => file,
+        Err(error) => return Err(not_created(new, error)),
+    };
     let done = match fill(&mut file, out) {
         Ok(()) => replace(rt, new.as_str(), path),
         Err(error) => Err(error),
@@ -49,11 +86,12 @@ fn write_beside(rt: &HostRuntime, path: &str, out: &[u8]) -> io::Result<()> {
     if done.is_err() {
         let _ = fs::remove_file(rt, new.as_str());
     }
-    done
+    done?;
+    Ok(())
 }
 
 /// Writes the whole of a file, or nothing: a fault leaves the old one. A link stays one.
-pub(crate) fn write_whole(rt: &HostRuntime, path: &str, out: &[u8]) -> io::Result<()> {
+pub(crate) fn write_whole(rt: &HostRuntime, path: &str, out: &[u8]) -> Result<(), Unwritten> {
     match fs::canonicalize(rt, path) {
         Ok(real) => write_beside(rt, real.to_string_lossy(), out),
         Err(_) => write_beside(rt, path, out),
@@ -66,7 +104,12 @@ pub(crate) fn last_name(path: &str) -> &str {
 }
 
 /// Writes a file of the same name into a folder, whole as well.
-pub(crate) fn write_into(rt: &HostRuntime, folder: &str, path: &str, out: &[u8]) -> io::Result<()> {
+pub(crate) fn write_into(
+    rt: &HostRuntime,
+    folder: &str,
+    path: &str,
+    out: &[u8],
+) -> Result<(), Unwritten> {
     let alloc = rt.alloc();
     let name = last_name(path);
     let to = format!(in alloc; "{folder}/{name}")?;

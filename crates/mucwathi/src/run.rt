@@ -1,5 +1,5 @@
 //! Tasks done.
-use crate::files::{last_name, read, tell, write_into, write_out, write_whole};
+use crate::files::{Unwritten, last_name, read, tell, write_into, write_out, write_whole};
 use mucwathi_answers::{
     Answer, Named, answer_given, answer_judging, answer_names, answer_resolving, answer_rewriting,
     answer_showing, answer_tree,
@@ -41,13 +41,23 @@ fn give(rt: &HostRuntime, name: &str, answer: Result<Answer, AllocError>) -> u8 
     }
 }
 
+fn put_out(rt: &HostRuntime, out: &[u8]) -> Result<(), Unwritten> {
+    write_out(rt, out)?;
+    Ok(())
+}
+
 // Where an answer goes that is not told but written.
-fn put(rt: &HostRuntime, target: Target<'_>, file: Option<&str>, out: &[u8]) -> io::Result<()> {
+fn put(
+    rt: &HostRuntime,
+    target: Target<'_>,
+    file: Option<&str>,
+    out: &[u8],
+) -> Result<(), Unwritten> {
     let Some(path) = file else {
-        return write_out(rt, out);
+        return put_out(rt, out);
     };
     match target {
-        Target::Output => write_out(rt, out),
+        Target::Output => put_out(rt, out),
         Target::Place => write_whole(rt, path, out),
         Target::Folder(folder) => write_into(rt, folder, path, out),
     }
@@ -62,10 +72,19 @@ fn place_of<'a>(target: Target<'a>, name: &'a str) -> &'a str {
     }
 }
 
+// Tells that a place is not written to, or the file that stands in the way.
+fn tell_unwritten(rt: &HostRuntime, place: &str, fault: &Unwritten) -> u8 {
+    let name = match &fault.stands {
+        Some(path) => path.as_str(),
+        None => place,
+    };
+    tell_failure(rt, name, "not written", &fault.error)
+}
+
 fn put_map(rt: &HostRuntime, path: &str, map: &[u8]) -> u8 {
     match write_whole(rt, path, map) {
         Ok(()) => 0,
-        Err(error) => tell_failure(rt, path, "not written", &error),
+        Err(fault) => tell_unwritten(rt, path, &fault),
     }
 }
 
@@ -94,8 +113,8 @@ fn rewrite_one(rt: &HostRuntime, task: &Rewriting<'_>, prefix: &str, file: Optio
     if answer.status != 0 {
         return answer.status;
     }
-    if let Err(error) = put(rt, task.target, file, answer.out.as_slice()) {
-        return tell_failure(rt, place_of(task.target, name), "not written", &error);
+    if let Err(fault) = put(rt, task.target, file, answer.out.as_slice()) {
+        return tell_unwritten(rt, place_of(task.target, name), &fault);
     }
     match task.map {
         Some(path) => put_map(rt, path, answer.map.as_slice()),

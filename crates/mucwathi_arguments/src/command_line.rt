@@ -64,6 +64,7 @@ fn with_target<'a>(alloc: Global, parser: Parser<'a>) -> Result<Parser<'a>, Allo
         "list",
         "Tell which names would be given anew: line:column old new",
     );
+    let list = told(list)?;
     let map = Arg::new(alloc, "source-map")
         .long("source-map")
         .value_name("MAP")
@@ -94,6 +95,11 @@ fn with_forms<'a>(alloc: Global, parser: Parser<'a>) -> Result<Parser<'a>, Alloc
     parser.arg(marks)?.arg(from)?.arg(json)
 }
 
+// What is told in the place of an answer goes nowhere.
+fn told<'a>(option: Arg<'a>) -> Result<Arg<'a>, AllocError> {
+    option.conflicts_with("in-place")?.conflicts_with("out")
+}
+
 // What these don't go with: `json` and `from-json` tell nothing of layout and places, `marks` none of places.
 fn apart<'a>(option: Arg<'a>) -> Result<Arg<'a>, AllocError> {
     option
@@ -117,7 +123,7 @@ fn with_settings<'a>(alloc: Global, parser: Parser<'a>) -> Result<Parser<'a>, Al
     )
     .conflicts_with("list")?
     .conflicts_with("source-map")?;
-    parser.arg(classes)?.arg(eval)?.arg(apart(explain)?)
+    parser.arg(classes)?.arg(eval)?.arg(apart(told(explain)?)?)
 }
 
 fn with_top<'a>(alloc: Global, parser: Parser<'a>) -> Result<Parser<'a>, AllocError> {

@@ -64,7 +64,13 @@ pub fn tell_fault(alloc: Global, of: Named<'_>, fault: &RunFault) -> Result<Vec<
     match fault {
         RunFault::Text(fault) => tell_text_fault(alloc, of, fault),
         RunFault::Refused(error) => tell_refusal(alloc, of.name, *error),
-        RunFault::NotWritten => tell_line(alloc, &[of.name, ": refused: the answer has no text"]),
+        RunFault::NotWritten => tell_line(
+            alloc,
+            &[
+                of.name,
+                ": refused: the answer has no text, or none that is read again",
+            ],
+        ),
         RunFault::NotKept => tell_line(
             alloc,
             &[

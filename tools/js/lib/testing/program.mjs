@@ -64,7 +64,7 @@ const FILES = {
   }),
   '--in-place leaves what lies beside a file': inFolder((folder, text) => {
     writeFileSync(join(folder, 'a.js.mucwathi-new'), 'kept');
-    expect(run(folder, ['chain', '--in-place', 'a.js']), 4, { stderr: /^a\.js: not written: / });
+    expect(run(folder, ['chain', '--in-place', 'a.js']), 4, { stderr: /^\S*\/a\.js\.mucwathi-new: not written: / });
     assert.equal(text('a.js'), SOURCE);
     assert.equal(text('a.js.mucwathi-new'), 'kept');
   }),
