@@ -23,6 +23,7 @@ use Rattle.mucwathi_commands.specs.Faults.{IsRunFault, IsUnwritten}
 use Rattle.mucwathi_commands.specs.Looks.{IsCoverTold, IsUncovered, TellsCause, cause_in}
 use Rattle.mucwathi_commands.specs.Written.{IsReadAs, IsRewritten}
 use Rattle.mucwathi_commands.specs.declared.cover.CoverGap.{CoverGap}
+use Rattle.mucwathi_commands.specs.declared.write.RewrittenText.{RewrittenText}
 use Rattle.mucwathi_engine.specs.Headline.{IsPromised, IsPromisedFault, IsToldToBePromised, IsUnwrittenThough}
 
 module _ (keeps : PromisesAreKept) (spares : TargetsAreSpared) (texts : TextsAreKept) (order : Order) (text : List ℕ) where
@@ -53,6 +54,10 @@ module _ (keeps : PromisesAreKept) (spares : TargetsAreSpared) (texts : TextsAre
   pub promised : {Z : Type 0} → (r : Result (Vec ℕ Z) RunFault) → MatchResult r (λ out. IsRewritten order text out.items) (IsRunFault order text) → MatchResult r (λ out. IsPromised order text out.items) (IsPromisedFault order text)
   promised (Ok out) h = written out.items h
   promised (Err f) h = refused f h
+
+  pub promised_too : (r : Result RewrittenText RunFault) → MatchResult r (λ made. IsRewritten order text made.out.items) (IsRunFault order text) → MatchResult r (λ made. IsPromised order text made.out.items) (IsPromisedFault order text)
+  promised_too (Ok made) h = written made.out.items h
+  promised_too (Err f) h = refused f h
 
 source_of : (config : Config) (t : Node) → covers.IsCovered config t → IsSource config t × IsPlainIfScript t
 source_of config t h = (record { clean = h.clean; fair = h.fair; writable = h.writable; plain = record { renames_classes = h.renames_classes; unread = h.unread } }, h.plain)

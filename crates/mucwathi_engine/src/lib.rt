@@ -5,4 +5,4 @@
 
 mod promised;
 
-pub use promised::{cover_text, rewrite_text};
+pub use promised::{cover_text, rewrite_text, rewrite_with_comments};

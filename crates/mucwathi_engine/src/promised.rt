@@ -3,7 +3,7 @@ ghost use Rattle.std.specs.Prelude.{MatchResult};
 ghost use Rattle.mucwathi_commands.specs.Looks.{IsUncovered};
 ghost use Rattle.mucwathi_engine.specs.Headline.{IsPromised, IsPromisedFault, IsToldToBePromised};
 
-use mucwathi_commands::CoverGap;
+use mucwathi_commands::{CoverGap, RewrittenText};
 use mucwathi_faults::RunFault;
 use mucwathi_laws::{promises_are_kept, targets_are_spared, texts_are_kept};
 use mucwathi_order::{Goal, Order, Settings};
@@ -27,6 +27,25 @@ pub fn rewrite_text(alloc: Global, order: &Order, text: &[u8]) -> Result<Vec<u8>
     targets_are_spared();
     texts_are_kept();
     mucwathi_commands::rewrite_text(alloc, order, text)
+}
+
+/// The same with comments set again where it is written anew, as `mucwathi` has it: `rewrite_with_comments` of `mucwathi_commands`, which
+/// tells those that are lost.
+///
+/// # Errors
+///
+/// Those of `rewrite_text`.
+pub fn rewrite_with_comments(
+    alloc: Global,
+    order: &Order,
+    text: &[u8],
+) -> Result<RewrittenText, RunFault>
+    ensures { MatchResult result (λ made. IsPromised order.now text.now made.out.items) (IsPromisedFault order.now text.now) }
+{
+    promises_are_kept();
+    targets_are_spared();
+    texts_are_kept();
+    mucwathi_commands::rewrite_with_comments(alloc, order, text)
 }
 
 /// What keeps a text from what is promised: `cover_text` of `mucwathi_commands`. If it says none, the text is one of which the promises are
