@@ -1,8 +1,10 @@
 //! The text of a tree, with comments.
-ghost use Rattle.std.specs.Prelude.{false, length, map, replicate, IfOk, IsTrue, OnOk};
-ghost use Rattle.text_commented.specs.Commented.{IsCommented, IsSet, IsWrittenWith, PutsAmong, item_view};
+ghost use Rattle.std.specs.List.{All};
+ghost use Rattle.std.specs.Prelude.{◌≡◌, false, length, map, replicate, slice_get, IfOk, IsTrue, OnOk};
+ghost use Rattle.text_commented.specs.Commented.{IsCommented, IsSet, PutsAmong, item_view};
+ghost use Rattle.text_commented.specs.Why.{IsTold};
 ghost use Rattle.text_follow.specs.Follows.{Follows};
-ghost use Rattle.text_pieces.specs.Pieces.{pieces as pieces_of};
+ghost use Rattle.text_pieces.specs.Pieces.{framed_pieces as framed_of, pieces as pieces_of};
 ghost use Rattle.text_pieces.specs.Tokens.{piece_view};
 
 use crate::check::is_set;
@@ -130,27 +132,40 @@ fn put_of<'a>(
     Ok(put)
 }
 
-// The same of the pieces of a tree.
-fn print_among(
+// The same of the pieces of a tree, of which there may be more than of all else: they are not kept.
+fn put_in<'a>(
     alloc: Global,
     comments: Comments,
-    layout: Layout,
+    tree: &'a Node,
+    remarks: &[Remark<'_>],
+) -> Result<Put<'a>, AllocError>
+    ensures { IfOk result (λ put. PutsAmong remarks.now (replicate (length remarks.now) false) (framed_of tree.now) (map item_view put.items.items) put.used.items) }
+{
+    let found = framed_pieces(alloc, tree)?;
+    let framed = found.as_slice();
+    let put = put_of(alloc, comments, remarks, framed)?;
+    Ok(put)
+}
+
+// Why comments are left, by the pieces of a tree, made anew if any is.
+fn left_in(
+    alloc: Global,
+    comments: Comments,
     tree: &Node,
     remarks: &[Remark<'_>],
-    framed: &[Piece<'_>],
-) -> Result<Printed, SetFault>
-    ensures { IfOk result (λ out. IsWrittenWith comments (pieces_of tree.now) (map piece_view framed.now) remarks.now out.text.items out.left.items) }
+    numbers: &[usize],
+) -> Result<Vec<Left>, SetFault>
+    ensures each { IfOk result (λ left. map (λ l. l.number) left.items ≡ numbers.now) }
+    ensures told { IfOk result (λ left. All (λ l. IsTold comments (framed_of tree.now) (slice_get remarks.now l.number) l.why) left.items) }
 {
-    let put = put_of(alloc, comments, remarks, framed)?;
-    let items = put.items.as_slice();
-    let text = text_of_items(alloc, layout, remarks, items)?;
-    let bytes = text.as_slice();
-    check(alloc, comments, tree, remarks, items, bytes)?;
-    let used = put.used.as_slice();
-    let numbers = numbers_left(alloc, used)?;
-    let each = numbers.as_slice();
-    let left = left_of(alloc, comments, remarks, each, framed)?;
-    Ok(Printed { text, left })
+    let count = numbers.len();
+    if count == 0 {
+        return Ok(Vec::new(alloc));
+    }
+    let found = framed_pieces(alloc, tree)?;
+    let framed = found.as_slice();
+    let left = left_of(alloc, comments, remarks, numbers, framed)?;
+    Ok(left)
 }
 
 /// A text that is written with the tokens of a tree, in UTF-8, and with comments: each is written once, before the first node that begins
@@ -169,8 +184,14 @@ pub fn print_text_with_comments(
 ) -> Result<Printed, SetFault>
     ensures { IfOk result (λ out. IsCommented comments tree.now remarks.now out.text.items out.left.items) }
 {
-    let found = framed_pieces(alloc, tree)?;
-    let framed = found.as_slice();
-    let printed = print_among(alloc, comments, layout, tree, remarks, framed)?;
-    Ok(printed)
+    let put = put_in(alloc, comments, tree, remarks)?;
+    let items = put.items.as_slice();
+    let text = text_of_items(alloc, layout, remarks, items)?;
+    let bytes = text.as_slice();
+    check(alloc, comments, tree, remarks, items, bytes)?;
+    let used = put.used.as_slice();
+    let numbers = numbers_left(alloc, used)?;
+    let each = numbers.as_slice();
+    let left = left_in(alloc, comments, tree, remarks, each)?;
+    Ok(Printed { text, left })
 }

@@ -1,11 +1,12 @@
-use Rattle.std.proofs.Common.{map, ap, subst, ◌∙◌}
-use Rattle.text_pieces.specs.Pieces.{pieces}
-use Rattle.text_pieces.specs.Tokens.{piece_view}
-use Rattle.text_commented.specs.Commented.{IsWrittenWith}
+use Rattle.std.proofs.Common.{map, ◌∙◌}
+use Rattle.text_commented.specs.Commented.{item_view}
 use Rattle.text_commented.proofs.print.print_text_with_comments.Goals as goal
 
 pub returns : goal.returns
 returns c =
-    let printed = c.in_ok-printed.printed in
-    subst (λ ps. IsWrittenWith c.args.comments (pieces c.args.tree.now) ps c.args.remarks.now printed.text.items printed.left.items)
-    (ap (λ l. map piece_view l) c.as_slice-framed.ensures.value ∙ c.in_ok-found.ensures.frames) c.in_ok-printed.ensures
+    let put = c.in_ok-put.put in
+    let follows = rw c.as_slice-bytes.ensures.value at c.in_ok-check.ensures.follows in
+    let set = rw (c.as_slice-bytes.ensures.value, c.as_slice-items.ensures.value) at c.in_ok-check.ensures.set in
+    let numbers = rw c.as_slice-used.ensures.value at c.in_ok-numbers.ensures in
+    let each = rw c.as_slice-each.ensures.value at c.in_ok-left.ensures.each in
+    record { follows = follows; set = (put.used.items, map item_view put.items.items, c.in_ok-put.ensures, set, each ∙ numbers); told = c.in_ok-left.ensures.told }
