@@ -1,4 +1,5 @@
 mod Contexts
 mod Covered
 mod Judged
+mod Losing
 pub mod Rewritten

@@ -19,12 +19,13 @@ use Rattle.mucwathi_faults.specs.declared.fault.RunFault.{RunFault}
 use Rattle.mucwathi_faults.specs.declared.fault.RunFault.TheVariants.{NotKept, NotWritten, Refused, Text}
 use Rattle.mucwathi_faults.proofs.Programs.{is_program}
 use Rattle.mucwathi_laws.specs.Promises.{IsCovered, PromisesAreKept, TargetsAreSpared, TextsAreKept}
+use Rattle.mucwathi_commands.specs.Comments.{IsRewrittenWith}
 use Rattle.mucwathi_commands.specs.Faults.{IsRunFault, IsUnwritten}
 use Rattle.mucwathi_commands.specs.Looks.{IsCoverTold, IsUncovered, TellsCause, cause_in}
 use Rattle.mucwathi_commands.specs.Written.{IsReadAs, IsRewritten}
 use Rattle.mucwathi_commands.specs.declared.cover.CoverGap.{CoverGap}
 use Rattle.mucwathi_commands.specs.declared.write.RewrittenText.{RewrittenText}
-use Rattle.mucwathi_engine.specs.Headline.{IsPromised, IsPromisedFault, IsToldToBePromised, IsUnwrittenThough}
+use Rattle.mucwathi_engine.specs.Headline.{IsPromised, IsPromisedFault, IsPromisedWith, IsToldToBePromised, IsUnwrittenThough}
 
 module _ (keeps : PromisesAreKept) (spares : TargetsAreSpared) (texts : TextsAreKept) (order : Order) (text : List ℕ) where
   -- what is read has what is kept
@@ -55,8 +56,10 @@ module _ (keeps : PromisesAreKept) (spares : TargetsAreSpared) (texts : TextsAre
   promised (Ok out) h = written out.items h
   promised (Err f) h = refused f h
 
-  pub promised_too : (r : Result RewrittenText RunFault) → MatchResult r (λ made. IsRewritten order text made.out.items) (IsRunFault order text) → MatchResult r (λ made. IsPromised order text made.out.items) (IsPromisedFault order text)
-  promised_too (Ok made) h = written made.out.items h
+  pub promised_too : (r : Result RewrittenText RunFault) → MatchResult r (λ made. IsRewrittenWith order text made.out.items made.lost.items) (IsRunFault order text)
+      → MatchResult r (λ made. IsPromisedWith order text made.out.items made.lost.items) (IsPromisedFault order text)
+  unfolding written
+  promised_too (Ok made) h = record { promised = written made.out.items h.rewritten; tells = h.tells }
   promised_too (Err f) h = refused f h
 
 source_of : (config : Config) (t : Node) → covers.IsCovered config t → IsSource config t × IsPlainIfScript t

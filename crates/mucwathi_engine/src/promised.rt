@@ -1,7 +1,7 @@
 //! Texts rewritten, and told to be covered, by the laws of the passes.
 ghost use Rattle.std.specs.Prelude.{MatchResult};
 ghost use Rattle.mucwathi_commands.specs.Looks.{IsUncovered};
-ghost use Rattle.mucwathi_engine.specs.Headline.{IsPromised, IsPromisedFault, IsToldToBePromised};
+ghost use Rattle.mucwathi_engine.specs.Headline.{IsPromised, IsPromisedFault, IsPromisedWith, IsToldToBePromised};
 
 use mucwathi_commands::{CoverGap, RewrittenText};
 use mucwathi_faults::RunFault;
@@ -29,8 +29,8 @@ pub fn rewrite_text(alloc: Global, order: &Order, text: &[u8]) -> Result<Vec<u8>
     mucwathi_commands::rewrite_text(alloc, order, text)
 }
 
-/// The same with comments set again where it is written anew, as `mucwathi` has it: `rewrite_with_comments` of `mucwathi_commands`, which
-/// tells those that are lost.
+/// The same with comments set again where it is written anew, as `mucwathi` has it: `rewrite_with_comments` of `mucwathi_commands`. Each is
+/// written once, at one of the nodes round which it stood, or told as lost.
 ///
 /// # Errors
 ///
@@ -40,7 +40,7 @@ pub fn rewrite_with_comments(
     order: &Order,
     text: &[u8],
 ) -> Result<RewrittenText, RunFault>
-    ensures { MatchResult result (λ made. IsPromised order.now text.now made.out.items) (IsPromisedFault order.now text.now) }
+    ensures { MatchResult result (λ made. IsPromisedWith order.now text.now made.out.items made.lost.items) (IsPromisedFault order.now text.now) }
 {
     promises_are_kept();
     targets_are_spared();

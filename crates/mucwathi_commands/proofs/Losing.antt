@@ -1,0 +1,13 @@
+-- One comment more that is lost.
+use Rattle.std.proofs.Common.{◌≡◌, ℕ, ◌+◌, ◌<◌, List, [], ◌∷◌, ◌++◌, length, map, take, get_or, sym, ap, ◌∙◌}
+use Rattle.std.proofs.lemmas.List.{map-append, take_more}
+use Rattle.text_comments.specs.declared.comment.Comment.{Comment}
+use Rattle.text_commented.specs.declared.left.Left.{Left}
+use Rattle.mucwathi_commands.specs.Comments.{bytes_before_left}
+
+pub lost_step : (ks : List Comment) (ls : List Left) (i : ℕ) (d l : Left) (old new : List ℕ) (at : ℕ) → i < length ls → l ≡ get_or ls i d → at ≡ bytes_before_left ks l → new ≡ old ++ at ∷ []
+    → old ≡ map (bytes_before_left ks) (take i ls) → new ≡ map (bytes_before_left ks) (take (i + 1) ls)
+lost_step ks ls i d l old new at below is told added h =
+    let more : map (bytes_before_left ks) (take (i + 1) ls) ≡ map (bytes_before_left ks) (take i ls) ++ bytes_before_left ks l ∷ [] =
+    ap (map (bytes_before_left ks)) (take_more ls i d below) ∙ map-append (bytes_before_left ks) (take i ls) (get_or ls i d ∷ []) ∙ ap (λ (x : Left). map (bytes_before_left ks) (take i ls) ++ bytes_before_left ks x ∷ []) (sym is) in
+    added ∙ ap (λ (n : ℕ). old ++ n ∷ []) told ∙ ap (λ (m : List ℕ). m ++ bytes_before_left ks l ∷ []) h ∙ sym more
