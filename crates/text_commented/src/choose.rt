@@ -173,8 +173,7 @@ pub fn remarks_of<'t>(
 {
     let found = framed_pieces(alloc, tree)?;
     let pieces = found.as_slice();
-    let sites = sites_of(alloc, false, pieces)?;
-    let tight = sites_of(alloc, true, pieces)?;
-    let remarks = remarks_by(alloc, text, comments, &sites, &tight)?;
+    let sites = sites_of(alloc, pieces)?;
+    let remarks = remarks_by(alloc, text, comments, &sites.all, &sites.tight)?;
     Ok(remarks)
 }

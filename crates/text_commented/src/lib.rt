@@ -16,4 +16,4 @@ pub use choose::remarks_of;
 pub use fault::SetFault;
 pub use left::{Left, Why};
 pub use print::{Printed, print_text_with_comments};
-pub use remark::{At, Item, Remark};
+pub use remark::{At, Remark};

@@ -8,4 +8,4 @@ use Rattle.text_commented.proofs.choose.remarks_of.Goals as goal
 pub returns : goal.returns
 returns c =
     c.in_ok-remarks.ensures (all_places (framed_pieces c.args.tree.now))
-    (subst (λ ps. IsSites c.in_ok-sites.sites (all_places ps)) (ap (λ l. map piece_view l) c.as_slice-pieces.ensures.value ∙ c.in_ok-found.ensures.frames) c.in_ok-sites.ensures)
+    (subst (λ ps. IsSites c.in_ok-sites.sites.all (all_places ps)) (ap (λ l. map piece_view l) c.as_slice-pieces.ensures.value ∙ c.in_ok-found.ensures.frames) c.in_ok-sites.ensures.all)
