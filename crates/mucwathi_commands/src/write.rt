@@ -11,7 +11,7 @@ use mucwathi_order::Goal;
 use std::alloc::{AllocError, Global};
 use swc_tree_marks::PassError;
 use swc_tree_node::Node;
-use text_commented::{Left, SetFault, print_text_with_comments, remarks_of};
+use text_commented::{Left, SetFault, print_text_with_those_of};
 use text_comments::{Comment, CommentsFault, find_comments};
 use text_edit::{EditFault, edit_text};
 use text_lexer::Comments;
@@ -97,8 +97,8 @@ fn print_set(
 ) -> Result<RewrittenText, SetFault>
     ensures { IfOk result (λ made. Follows (texts.comments_of goal) false (pieces_of answer.now) made.out.items) }
 {
-    let remarks = remarks_of(alloc, text, answer, comments)?;
-    let printed = print_text_with_comments(alloc, comments_of(goal), layout, answer, &remarks)?;
+    let kind = comments_of(goal);
+    let printed = print_text_with_those_of(alloc, kind, layout, answer, text, comments)?;
     let lost = lost_among(alloc, comments, &printed.left)?;
     Ok(RewrittenText {
         out: printed.text,

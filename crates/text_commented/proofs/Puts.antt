@@ -5,7 +5,7 @@ use Rattle.std.specs.List.{slice_get}
 use Rattle.text_commented.specs.declared.remark.At.{At}
 use Rattle.text_commented.specs.declared.remark.Placed as placed_code
 use Rattle.text_commented.specs.declared.remark.Remark.{Remark}
-use Rattle.text_commented.specs.Commented.{ArePut, ArePutAt, Item, PutsAmong, Stands, remark, token}
+use Rattle.text_commented.specs.Commented.{ArePut, PutsAmong, Stands, remark, token}
 use Rattle.text_commented.specs.Places.{places}
 use Rattle.text_commented.specs.Steps.{IsBehind, Placed, PutsAt, PutsBehind, PutsFrom, behind_all, merged, placed_at, placed_view}
 use Rattle.text_pieces.specs.declared.piece.Piece as code

@@ -2,7 +2,8 @@
 use Rattle.std.proofs.Common.{◌≡◌, ℕ, ◌+◌, ◌-◌, ◌<◌, ◌≤◌, Bool, true, false, Some, List, [], ◌∷◌, ◌++◌, length, map, take, drop, get_or, refl, sym, ap, subst, arith, ◌∙◌}
 use Rattle.std.specs.Borrow.{Bor}
 use Rattle.std.specs.List.{slice_get}
-use Rattle.std.proofs.lemmas.List.{append_assoc, append-nil, drop_more, drop_all, drop-drop, drop-map, map-append, take-append-drop, take-map}
+use Rattle.std.proofs.lemmas.List.{append-nil, drop_more, drop_all, drop-drop, drop-map, map-append, take-append-drop, take-map}
+use Rattle.swc_tree_node.specs.declared.node.Node.{Node}
 use Rattle.text_comments.specs.declared.comment.Comment.{Comment}
 use Rattle.text_lexer.specs.declared.blank.Comments.{Comments}
 use Rattle.text_follow.specs.Endings.{ending_behind}
@@ -11,10 +12,12 @@ use Rattle.text_pieces.specs.declared.item.Ending.{Ending}
 use Rattle.text_pieces.specs.declared.item.Ending.TheVariants as ending
 use Rattle.text_pieces.specs.declared.piece.Piece as code
 use Rattle.text_pieces.specs.Frames.{without_frames}
+use Rattle.text_pieces.specs.Pieces.{framed_pieces, pieces}
 use Rattle.text_pieces.specs.Tokens.{Piece, frame, piece_view}
-use Rattle.text_commented.specs.Commented.{IsSet, IsSetFrom, Item, Meets, due_behind, remark, token, written}
+use Rattle.text_commented.specs.Commented.{IsCommented, IsSet, IsSetFrom, IsWrittenWith, Item, Meets, due_behind, remark, token, written}
 use Rattle.text_commented.specs.Steps.{GoesOn, Placed, Steps, merged, placed_view}
 use Rattle.text_commented.specs.declared.check.Walk.{Walk}
+use Rattle.text_commented.specs.declared.left.Left.{Left}
 use Rattle.text_commented.specs.declared.remark.Placed as placed_code
 use Rattle.text_commented.specs.declared.remark.Remark.{Remark}
 
@@ -26,7 +29,7 @@ pieces_of (remark n ∷ items) = pieces_of items
 
 set_follows : (c : Comments) (whole : List ℕ) (rs : List Remark) (fresh : Bool) (e : Ending) (due : List (List ℕ)) (items : List Item) (text : List ℕ) → IsSetFrom c whole rs fresh e due items text
     → FollowsFrom c false fresh e (pieces_of items) text
-set_follows c whole rs fresh e due [] text (ended, blank, written) = (ended, blank)
+set_follows c whole rs fresh e due [] text (ended, behind, found) = (ended, behind)
 set_follows c whole rs fresh e due (remark n ∷ items) text (r, is, after) = set_follows c whole rs fresh e (due ++ r.text.now ∷ []) items text after
 set_follows c whole rs fresh e due (token p ∷ items) text (rest, takes, meets, after) =
     (rest, takes, set_follows c whole rs (fresh_behind fresh p) (ending_behind e p) (due_behind text rest due) items rest after)
@@ -87,19 +90,19 @@ pub one_placed : (c : Comments) (whole : List ℕ) (rs : List Remark) (ps here :
     → at ≤ (get_or placed i d).before → here ≡ take ((get_or placed i d).before - at) (drop at ps) → Steps c whole rs (map token (map piece_view here)) s t → Steps c whole rs (remark (get_or placed i d).number ∷ []) t r
     → GoesOn c whole rs r (merged (get_or placed i d).before (map piece_view (drop (get_or placed i d).before ps)) (map placed_view (drop (i + 1) placed)))
     → GoesOn c whole rs s (merged at (map piece_view (drop at ps)) (map placed_view (drop i placed)))
-one_placed c whole rs ps here placed i d at s t r within rises is passed expected after =
+one_placed c whole rs ps here placed i d at s t r within rises is first then after =
     let one = get_or placed i d in
     let more = map placed_view (drop (i + 1) placed) in
     let items = merged one.before (map piece_view (drop one.before ps)) more in
-    let behind : GoesOn c whole rs s (map token (map piece_view here) ++ remark one.number ∷ items) = passed (remark one.number ∷ items) (expected items after) in
+    let behind : GoesOn c whole rs s (map token (map piece_view here) ++ remark one.number ∷ items) = first (remark one.number ∷ items) (then items after) in
     subst (λ l. GoesOn c whole rs s (merged at (map piece_view (drop at ps)) (map placed_view l))) (sym (drop_more placed i d within))
     (subst (λ l. GoesOn c whole rs s l) (merged_more ps here at one.before one.number more rises is) behind)
 
 -- no comment is left
 pub all_placed : (c : Comments) (whole : List ℕ) (rs : List Remark) (ps here : List code.Piece) (placed : List placed_code.Placed) (i at : ℕ) (s t : Walk) → length placed ≤ i → here ≡ drop at ps
     → Steps c whole rs (map token (map piece_view here)) s t → GoesOn c whole rs t [] → GoesOn c whole rs s (merged at (map piece_view (drop at ps)) (map placed_view (drop i placed)))
-all_placed c whole rs ps here placed i at s t none is passed end =
-    let those : GoesOn c whole rs s (map token (map piece_view here)) = subst (λ l. GoesOn c whole rs s l) (append-nil (map token (map piece_view here))) (passed [] end) in
+all_placed c whole rs ps here placed i at s t none is first end =
+    let those : GoesOn c whole rs s (map token (map piece_view here)) = subst (λ l. GoesOn c whole rs s l) (append-nil (map token (map piece_view here))) (first [] end) in
     subst (λ l. GoesOn c whole rs s (merged at (map piece_view (drop at ps)) (map placed_view l))) (sym (drop_all i placed none))
     (subst (λ l. GoesOn c whole rs s (map token (map piece_view l))) is those)
 
@@ -131,3 +134,11 @@ passed c whole rs s t p rest takes meets is_rest fresh ending due = λ more afte
     let at_fresh = subst (λ (f : Bool). IsSetFrom c whole rs f t.ending (map (λ d. d.now) t.due.items) more rest) fresh at_rest in
     let at_ending = subst (λ (e : Ending). IsSetFrom c whole rs (fresh_behind s.fresh p) e (map (λ d. d.now) t.due.items) more rest) ending at_fresh in
     (rest, takes, meets, subst (λ l. IsSetFrom c whole rs (fresh_behind s.fresh p) (ending_behind s.ending p) l more rest) due at_ending)
+
+-- what is written with some pieces is so with those that these are
+pub written_with : (c : Comments) (t : Node) (rs : List Remark) (ps found : List code.Piece) (text : List ℕ) (left : List Left) → ps ≡ found → map piece_view found ≡ framed_pieces t → without_frames (map piece_view found) ≡ pieces t
+    → IsWrittenWith c (without_frames (map piece_view ps)) (map piece_view ps) rs text left → IsCommented c t rs text left
+written_with c t rs ps found text left same frames tokens is =
+    let all = ap (λ l. map piece_view l) same in
+    subst (λ l. IsWrittenWith c l (framed_pieces t) rs text left) (ap without_frames all ∙ tokens)
+    (subst (λ l. IsWrittenWith c (without_frames (map piece_view ps)) l rs text left) (all ∙ frames) is)
