@@ -15,7 +15,7 @@ use mucwathi_order::Goal;
 use std::alloc::{AllocError, Global};
 use swc_tree_marks::PassError;
 use swc_tree_node::Node;
-use text_commented::{Left, SetFault, print_text_with_comments, remarks_of};
+use text_commented::{Left, SetFault, print_text_with_those_of};
 use text_comments::{Comment, CommentsFault, find_comments};
 use text_edit::{EditFault, edit_text};
 use text_lexer::Comments;
@@ -116,9 +116,8 @@ fn print_set(
     ensures written { IfOk result (λ made. Follows (texts.comments_of goal) false (pieces_of answer.now) made.out.items) }
     ensures again { (source : Node) → HasComments (texts.comments_of goal) (pieces_of source) text.now comments.now → IfOk result (λ made. AreWrittenAgain (texts.comments_of goal) source answer.now text.now made.out.items made.lost.items) }
 {
-    let remarks = remarks_of(alloc, text, answer, comments)?;
-    let set = remarks.as_slice();
-    let printed = print_text_with_comments(alloc, comments_of(goal), Layout::Lines, answer, set)?;
+    let rules = comments_of(goal);
+    let printed = print_text_with_those_of(alloc, rules, Layout::Lines, answer, text, comments)?;
     let left = printed.left.as_slice();
     let lost = lost_among(alloc, comments, left)?;
     Ok(RewrittenText {
