@@ -116,8 +116,8 @@ fn print_set(
     ensures written { IfOk result (λ made. Follows (texts.comments_of goal) false (pieces_of answer.now) made.out.items) }
     ensures again { (source : Node) → HasComments (texts.comments_of goal) (pieces_of source) text.now comments.now → IfOk result (λ made. AreWrittenAgain (texts.comments_of goal) source answer.now text.now made.out.items made.lost.items) }
 {
-    let rules = comments_of(goal);
-    let printed = print_text_with_those_of(alloc, rules, Layout::Lines, answer, text, comments)?;
+    let kind = comments_of(goal);
+    let printed = print_text_with_those_of(alloc, kind, Layout::Lines, answer, text, comments)?;
     let left = printed.left.as_slice();
     let lost = lost_among(alloc, comments, left)?;
     Ok(RewrittenText {

@@ -13,7 +13,7 @@ pub returns : goal.returns
 returns c =
     let printed = c.in_ok-printed.printed in
     let Set = λ (comments : Comments). (rs : List Remark) × AreChosen c.args.text.now (all_places (framed_pieces c.args.answer.now)) c.args.comments.now rs × IsCommented comments c.args.answer.now rs printed.text.items printed.left.items in
-    let set = subst Set c.comments_of-rules.ensures c.in_ok-printed.ensures in
+    let set = subst Set c.comments_of-kind.ensures c.in_ok-printed.ensures in
     record {
       written = set.2.follows;
       again = λ source found. record {
