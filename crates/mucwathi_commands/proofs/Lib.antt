@@ -1,5 +1,5 @@
 mod Contexts
 mod Covered
 mod Judged
-mod Losing
+mod More
 pub mod Rewritten

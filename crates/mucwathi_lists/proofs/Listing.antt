@@ -66,6 +66,10 @@ lost_push : (name text ats : List ℕ) (at : ℕ) (old new : List ℕ) → old �
 lost_push name text ats at old new h k =
     k ∙ ap (λ (l : List ℕ). l ++ lost_line name text at) h ∙ sym (lost_append name text ats (at ∷ []) ∙ ap (λ (l : List ℕ). lost_listed name text ats ++ l) (append-nil (lost_line name text at)))
 
-pub lost_step : (name text ats : List ℕ) (i at : ℕ) (old new : List ℕ) → i < length ats → at ≡ get_or ats i at → new ≡ old ++ lost_line name text at → old ≡ lost_listed name text (take i ats) → new ≡ lost_listed name text (take (i + 1) ats)
-lost_step name text ats i at old new below is added h =
-    lost_push name text (take i ats) at old new h added ∙ ap (lost_listed name text) (ap (λ (x : ℕ). take i ats ++ x ∷ []) is ∙ sym (take_more ats i at below))
+pub lost_step : (name text ats : List ℕ) (i d at : ℕ) (old new : List ℕ) → i < length ats → at ≡ get_or ats i d → new ≡ old ++ lost_line name text at → old ≡ lost_listed name text (take i ats) → new ≡ lost_listed name text (take (i + 1) ats)
+lost_step name text ats i d at old new below is added h =
+    lost_push name text (take i ats) at old new h added ∙ ap (lost_listed name text) (ap (λ (x : ℕ). take i ats ++ x ∷ []) is ∙ sym (take_more ats i d below))
+
+pub lost_joined : (old name place tail a b c d new : List ℕ) → a ≡ old ++ name → b ≡ a ++ 58 ∷ [] → c ≡ b ++ place → d ≡ c ++ tail → new ≡ d ++ 10 ∷ [] → new ≡ old ++ (name ++ 58 ∷ place ++ tail ++ 10 ∷ [])
+lost_joined old name place tail a b c d new one two three four five =
+    five ∙ ap (λ (l : List ℕ). l ++ 10 ∷ []) (four ∙ ap (λ (l : List ℕ). l ++ tail) (three ∙ ap (λ (l : List ℕ). l ++ place) (two ∙ ap (λ (l : List ℕ). l ++ 58 ∷ []) one))) ∙ simp append_assoc

@@ -1,7 +1,7 @@
 use Rattle.std.proofs.Common.{get_or, map, refl, ap, ◌∙◌, arith}
 use Rattle.std.proofs.lemmas.List.{take_all}
 use Rattle.mucwathi_commands.specs.Comments.{bytes_before_left}
-use Rattle.mucwathi_commands.proofs.Losing.{lost_step}
+use Rattle.mucwathi_commands.proofs.More.{lost_step}
 use Rattle.mucwathi_commands.proofs.write.lost_among.Goals as goal
 
 pub loop-each-preserved : goal.loop-each-preserved
