@@ -136,12 +136,7 @@ impl<'t, 'r> Walk<'t, 'r> {
     }
 
     // Goes behind a piece, if the text goes on with it and has just the comments before it that are due.
-    fn pass(
-        &mut self,
-        alloc: Global,
-        source: Source<'_>,
-        piece: Piece<'_>,
-    ) -> Result<(), SetFault>
+    fn pass(&mut self, alloc: Global, source: Source<'_>, piece: Piece<'_>) -> Result<(), SetFault>
         requires { length source.whole.now < 2 ^ 32 - 1 }
         ensures { OnOk result ((rs : List Remark) → Steps source.entry.comments source.entry.whole.now rs (token (piece_view piece.entry) ∷ []) self.old self.new) }
     {
