@@ -167,13 +167,12 @@ fn push<'t>(list: &mut Vec<Piece<'t>>, piece: Piece<'t>) -> Result<(), AllocErro
     Ok(())
 }
 
-/// The same pieces by their texts, which `texts_of` answers for them; nothing where the texts are others.
-pub(crate) fn pieces_again<'t>(
+fn all_again<'t>(
     alloc: Global,
     texts: &'t str,
-    pieces: Vec<Piece<'_>>,
+    pieces: &[Piece<'_>],
 ) -> Result<Option<Vec<Piece<'t>>>, AllocError>
-    ensures { IfOk result (λ made. IfSome made (λ list. map piece_view list.items ≡ map piece_view pieces.items)) }
+    ensures { IfOk result (λ made. IfSome made (λ list. map piece_view list.items ≡ map piece_view pieces.now)) }
 {
     let mut list = Vec::with_capacity(alloc, pieces.len())?;
     let mut rest = texts;
@@ -185,4 +184,16 @@ pub(crate) fn pieces_again<'t>(
         rest = others;
     }
     Ok(Some(list))
+}
+
+/// The same pieces by their texts, which `texts_of` answers for them; nothing where the texts are others.
+pub(crate) fn pieces_again<'t>(
+    alloc: Global,
+    texts: &'t str,
+    pieces: Vec<Piece<'_>>,
+) -> Result<Option<Vec<Piece<'t>>>, AllocError>
+    ensures { IfOk result (λ made. IfSome made (λ list. map piece_view list.items ≡ map piece_view pieces.entry.items)) }
+{
+    let found = pieces.as_slice();
+    all_again(alloc, texts, found)
 }

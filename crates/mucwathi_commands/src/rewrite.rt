@@ -77,6 +77,24 @@ fn rewrite_compact(
     }
 }
 
+// What a command makes of a program, written anew.
+fn rewrite_anew(
+    alloc: Global,
+    order: &Order,
+    layout: Layout,
+    text: &[u8],
+    source: Node,
+) -> Result<RewrittenText, RunFault>
+    requires read { IsReadAs order.now.goal source text.now }
+    requires anew { layout_of order.now.style ≡ Some layout }
+    ensures { MatchResult result (λ made. IsRewrittenWith order.now text.now made.out.items made.lost.items) (IsRunFault order.now text.now) }
+{
+    match layout {
+        Layout::Lines => rewrite_in_lines(alloc, order, text, source),
+        Layout::Compact => rewrite_compact(alloc, order, text, source),
+    }
+}
+
 // What a command makes of a program, with the layout and the comments of its text, which has these pieces.
 fn rewrite_from(
     alloc: Global,
@@ -150,8 +168,7 @@ fn rewrite_source(
     ensures { MatchResult result (λ made. IsRewrittenWith order.now text.now made.out.items made.lost.items) (IsRunFault order.now text.now) }
 {
     match order.style.layout() {
-        Some(Layout::Lines) => rewrite_in_lines(alloc, order, text, source),
-        Some(Layout::Compact) => rewrite_compact(alloc, order, text, source),
+        Some(layout) => rewrite_anew(alloc, order, layout, text, source),
         None => rewrite_in_place(alloc, order, text, source),
     }
 }

@@ -93,11 +93,7 @@ fn add(lost: &mut Vec<usize>, at: usize) -> Result<(), AllocError>
 }
 
 // The same of each.
-fn lost_among(
-    alloc: Global,
-    comments: &[Comment],
-    left: &[Left],
-) -> Result<Vec<usize>, AllocError>
+fn lost_among(alloc: Global, comments: &[Comment], left: &[Left]) -> Result<Vec<usize>, AllocError>
     ensures { IfOk result (λ lost. lost.items ≡ map (spec.bytes_before_left comments.now) left.now) }
 {
     let mut lost = Vec::new(alloc);
@@ -202,12 +198,12 @@ pub fn edit(
     }
 }
 
-fn edit_from<'a>(
+fn edit_from(
     alloc: Global,
     goal: Goal,
     text: &[u8],
-    before: &[Piece<'a>],
-    answer: &'a Node,
+    before: &[Piece<'_>],
+    answer: &Node,
 ) -> Result<Vec<u8>, RunFault>
     ensures kept { (source : Node) → map piece_view before.now ≡ pieces_of source → IfOk result (λ out. IsKept (texts.comments_of goal) source answer.now text.now out.items) }
     ensures fault { IfErr result IsWriteFault }
@@ -224,12 +220,12 @@ fn edit_from<'a>(
 /// # Errors
 ///
 /// Those of `edit`.
-pub(crate) fn edit_by<'a>(
+pub(crate) fn edit_by(
     alloc: Global,
     goal: Goal,
     text: &[u8],
-    before: &Option<Vec<Piece<'a>>>,
-    answer: &'a Node,
+    before: &Option<Vec<Piece<'_>>>,
+    answer: &Node,
 ) -> Result<Vec<u8>, RunFault>
     ensures kept { (source : Node) → IfSome before.now (λ old. map piece_view old.items ≡ pieces_of source) → IfOk result (λ out. IsKept (texts.comments_of goal) source answer.now text.now out.items) }
     ensures fault { IfErr result IsWriteFault }
