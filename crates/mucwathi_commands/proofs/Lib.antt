@@ -1,4 +1,3 @@
-mod Contexts
 mod Covered
 mod Judged
 mod More

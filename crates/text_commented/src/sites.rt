@@ -140,14 +140,14 @@ impl Sites {
         }
     }
 
-    /// Where the last node stops that does so at a place or before.
+    /// Where the last node stops that does so at a place or before; those that stand nowhere, as passes make them, have 0.
     pub(crate) fn last_stop(&self, limit: BytePos) -> Option<BytePos>
         ensures { (all : List At) → IsSites self.now all → IfSome result (IsLastStop all limit) }
     {
         let Some(place) = last_of(&self.stopped, limit as usize) else {
             return None;
         };
-        if place > u32::MAX as usize {
+        if place == 0 || place > u32::MAX as usize {
             return None;
         }
         Some(place as u32)
@@ -160,7 +160,7 @@ impl Sites {
         let Some(place) = last_of(&self.begun, limit as usize) else {
             return None;
         };
-        if place > u32::MAX as usize {
+        if place == 0 || place > u32::MAX as usize {
             return None;
         }
         Some(place as u32)

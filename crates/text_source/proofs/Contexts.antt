@@ -6,7 +6,7 @@ use Rattle.swc_tree_scoping.specs.declared.places.Place.{Place}
 use Rattle.swc_tree_scoping.specs.Places.{Path, child, given, place_at, place_below, program_place}
 use Rattle.swc_tree_scoping.specs.WellScoped.{IsClean}
 use Rattle.swc_tree_walk.specs.Nodes.{HasNode, node_at}
-use Rattle.swc_base_covers.specs.Causes.{has_context, has_marks}
+use Rattle.text_source.specs.Amiss.{has_marks, is_marked}
 
 of_some : {A : Type 0} (a b : A) → Some a ≡ Some b → a ≡ b
 of_some a b h = cc
@@ -24,5 +24,5 @@ marks_of : (ctxt : List ℕ) → (IsTrue (has_marks ctxt) → ⊥) → ctxt ≡ 
 marks_of [] h = refl
 marks_of (m ∷ marks) h = absurd (h refl)
 
-pub clean_without : (t : Node) → ¬ HasNode has_context t → IsClean t
-clean_without t none p w k i there = marks_of i.ctxt (λ h. none (p, Identifier k i, node_of p program_place w t (Identifier k i) there, subst (λ y. IsTrue (has_context y)) (sym (outs-Identifier k i)) h))
+pub clean_without : (t : Node) → ¬ HasNode is_marked t → IsClean t
+clean_without t none p w k i there = marks_of i.ctxt (λ h. none (p, Identifier k i, node_of p program_place w t (Identifier k i) there, subst (λ y. IsTrue (is_marked y)) (sym (outs-Identifier k i)) h))
