@@ -1,5 +1,6 @@
 pub mod Seen
 pub mod Rows
+pub mod Then
 pub mod Anew
 pub mod Numbers
 pub mod Bound

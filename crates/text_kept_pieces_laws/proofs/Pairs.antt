@@ -1,6 +1,6 @@
 -- Pieces of a tree that gets pairs of parentheses.
-use Rattle.std.proofs.Common.{◌≡◌, ℕ, zero, suc, Bool, true, false, IsTrue, Option, Some, None, List, [], ◌∷◌, ◌++◌, rules, refl, sym, ap, ◌∙◌, subst, nat_eq}
-use Rattle.std.specs.Prelude.{codes, is_some, not, ◌&&◌, ◌||◌}
+use Rattle.std.proofs.Common.{◌≡◌, ℕ, zero, suc, Bool, true, false, IsTrue, Option, None, List, [], ◌∷◌, ◌++◌, rules, refl, sym, ap, ◌∙◌, subst, nat_eq}
+use Rattle.std.specs.Prelude.{codes, is_some, not, ◌&&◌}
 use Rattle.std.specs.List.{list_all}
 use Rattle.std.specs.Cmp.Lexicographic.{pointwise}
 use Rattle.std.proofs.lemmas.Slice.Eq.{bytes_eq-Decides}
@@ -33,8 +33,9 @@ use Rattle.text_pieces.specs.Tokens.{Piece, closes, name, punctuator}
 use Rattle.text_walk.proofs.Walked.{tree_pieces}
 use Rattle.text_kept_pieces_laws.specs.Paired.{WithPairs}
 use Rattle.text_kept_pieces_laws.specs.Paired.WithPairs.{same, join, after, around}
-use Rattle.text_kept_pieces_laws.proofs.Seen.{Pairwise, Seen, by_forms, pairwise_then, seen_then, text_of_name, text_of_tree}
-use Rattle.text_kept_pieces_laws.proofs.Rows.{AllKept, Each', Kept, Lists, is_own, kept_same, layout_free, list_kept, lone_pieces, tree_kept, tree_step}
+use Rattle.text_kept_pieces_laws.proofs.Seen.{Pairwise, Seen, by_forms, text_of_name, text_of_tree}
+use Rattle.text_kept_pieces_laws.proofs.Rows.{AllKept, Each', Kept, is_own, kept_same, layout_free, list_kept, lone_pieces, tree_kept, tree_step}
+use Rattle.text_kept_pieces_laws.proofs.Then.{kept_then}
 
 -- ---- the relation
 
@@ -47,43 +48,6 @@ equal ps qs e = subst (R ps) e (same ps)
 -- two lists of pieces of which each is what is written otherwise
 moved : (ps qs rs ss : List Piece) → ps ≡ rs → qs ≡ ss → R rs ss → R ps qs
 moved ps qs rs ss e f h = subst (λ (l : List Piece). R l qs) (sym e) (subst (R rs) (sym f) h)
-
-lists_then : (pss qss rss : List (List Piece)) → Lists R pss qss → Lists R qss rss → Lists R pss rss
-lists_then [] [] [] c d = tt
-lists_then (ps ∷ pss) (qs ∷ qss) (rs ∷ rss) c d = (after ps qs rs c.0 d.0, lists_then pss qss rss c.1 d.1)
-lists_then [] [] (rs ∷ rss) c d = absurd d
-lists_then [] (qs ∷ qss) rss c d = absurd c
-lists_then (ps ∷ pss) [] rss c d = absurd c
-lists_then (ps ∷ pss) (qs ∷ qss) [] c d = absurd d
-
-each_then : (x y z : Option (List Node × List (List Piece))) → Each' R x y → Each' R y z → Each' R x z
-each_then (Some x) (Some y) (Some z) c d = (pairwise_then x.0 y.0 z.0 c.0 d.0, lists_then x.1 y.1 z.1 c.1 d.1)
-each_then None None None c d = tt
-each_then (Some x) (Some y) None c d = absurd d
-each_then (Some x) None z c d = absurd c
-each_then None (Some y) z c d = absurd c
-each_then None None (Some z) c d = absurd d
-
-own_same : (t u : Node) → Seen t u → is_own (out-Node t) ≡ is_own (out-Node u)
-own_same t u s = ap (λ b. b || is_expression_statement (out-Node t)) s.declaration ∙ ap (λ b. is_declaration (out-Node u) || b) s.expression
-
-kept_then : (wide : Bool) (t u v : Node) → Kept R wide t u → Kept R wide u v → Kept R wide t v
-kept_then wide t u v c d = record {
-  looks = record {
-    seen = seen_then t u v c.looks.seen d.looks.seen;
-    items = pairwise_then (items_of (out-Node t)) (items_of (out-Node u)) (items_of (out-Node v)) c.looks.items d.looks.items;
-    function = λ o n. c.looks.function o n ∙ d.looks.function o n;
-    only = c.looks.only ∙ d.looks.only;
-    lone = after _ _ _ c.looks.lone d.looks.lone;
-    let_ends = after _ _ _ c.looks.let_ends d.looks.let_ends;
-  };
-  stands = record {
-    of_pieces = after _ _ _ c.stands.of_pieces d.stands.of_pieces;
-    of_each = each_then _ _ _ c.stands.of_each d.stands.of_each;
-  };
-  within = λ o. after _ _ _ (c.within o) (d.within o);
-  apart = λ own. after _ _ _ (c.apart own) (d.apart (λ o. sym (own_same t u c.looks.seen) ∙ own o));
-}
 
 -- ---- an expression and a pair
 
@@ -231,8 +195,8 @@ around_kept wide r k ts u w can h = record {
     seen = seen_pair k ts us can;
     items = none_items _ _ (no_items k ts) (no_items kind.ParenExpr us);
     function = λ o n. never (sym w ∙ o);
-    only = ap (λ l. is_some (only_name l)) (no_items k ts) ∙ sym (ap (λ l. is_some (only_name l)) (no_items kind.ParenExpr us));
-    lone = moved _ _ _ _ (ap (λ l. lone_pieces (only_name l)) (no_items k ts)) (ap (λ l. lone_pieces (only_name l)) (no_items kind.ParenExpr us)) (same []);
+    only = λ o. ap (λ l. is_some (only_name l)) (no_items k ts) ∙ sym (ap (λ l. is_some (only_name l)) (no_items kind.ParenExpr us));
+    lone = λ o. moved _ _ _ _ (ap (λ l. lone_pieces (only_name l)) (no_items k ts)) (ap (λ l. lone_pieces (only_name l)) (no_items kind.ParenExpr us)) (same []);
     let_ends = moved _ _ _ _ (ap (λ x. when (is_let x) (closes ending.Let)) (outs-Tree k ts)) (ap (λ x. when (is_let x) (closes ending.Let)) (outs-Tree kind.ParenExpr us)) (same []);
   };
   stands = record {
@@ -259,8 +223,8 @@ named_kept r k i h = record {
     seen = seen_async k i us;
     items = none_items _ _ (ap items_of (outs-Identifier k i)) (no_items kind.ParenExpr us);
     function = λ o n. never o;
-    only = ap (λ x. is_some (lone_name x)) (outs-Identifier k i) ∙ sym (ap (λ x. is_some (lone_name x)) (outs-Tree kind.ParenExpr us));
-    lone = moved _ _ _ _ (ap (λ x. lone_pieces (lone_name x)) (outs-Identifier k i)) (ap (λ x. lone_pieces (lone_name x)) (outs-Tree kind.ParenExpr us)) (same []);
+    only = λ o. ap (λ x. is_some (lone_name x)) (outs-Identifier k i) ∙ sym (ap (λ x. is_some (lone_name x)) (outs-Tree kind.ParenExpr us));
+    lone = λ o. moved _ _ _ _ (ap (λ x. lone_pieces (lone_name x)) (outs-Identifier k i)) (ap (λ x. lone_pieces (lone_name x)) (outs-Tree kind.ParenExpr us)) (same []);
     let_ends = moved _ _ _ _ (ap (λ x. when (is_let x) (closes ending.Let)) (outs-Identifier k i) ∙ ap (λ b. when b (closes ending.Let)) (async_no_let i.sym async)) (ap (λ x. when (is_let x) (closes ending.Let)) (outs-Tree kind.ParenExpr us)) (same []);
   };
   stands = record {
@@ -368,7 +332,7 @@ both_parts false b h = never (sym h)
 mutual
   pub set_kept : {s : Slot} {t u : Node} → Sets s t u → is_fair s ≡ true → Kept R (takes_pair s) t u
   set_kept (unchanged {s} t) f = kept_same R same join (takes_pair s) t
-  set_kept (further {s} {t} {u} {v} c d) f = kept_then (takes_pair s) t u v (set_kept c f) (set_kept d f)
+  set_kept (further {s} {t} {u} {v} c d) f = kept_then R after (takes_pair s) t u v (set_kept c f) (set_kept d f)
   set_kept (enclosed {s} r t u p q d) f =
       let w = paired t q in
       let inner : R (written_with false t) (written_with false u) = (set_kept d refl).stands.of_pieces in
@@ -377,7 +341,7 @@ mutual
   set_kept (of_name r k i c) f = named_kept r k i c
   set_kept (of_items {s} ts us d) f =
       let e : only_name ts ≡ only_name us = only_set d (no_head (is_head (item s)) f) in
-      list_kept R same join (λ n. takes_pair (item s)) (takes_pair s) ts us (ap is_some e) (equal (lone_pieces (only_name ts)) (lone_pieces (only_name us)) (ap lone_pieces e)) (items_kept d (items_fair s))
+      list_kept R same join (λ n. takes_pair (item s)) (takes_pair s) ts us (λ o. ap is_some e) (λ o. equal (lone_pieces (only_name ts)) (lone_pieces (only_name us)) (ap lone_pieces e)) (items_kept d (items_fair s))
   set_kept (of_tree {s} k ts us e d) f = tree_kept R same join (wide_at (slots_of k)) (takes_pair s) k ts us (whole_free k) (apart_free k) (fields_kept d (fields_fair k))
 
   items_kept : {s : Slot} {ts us : List Node} → AllSet s ts us → is_fair s ≡ true → AllKept R (λ n. takes_pair s) ts us
