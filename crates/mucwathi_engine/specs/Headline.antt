@@ -9,7 +9,7 @@ use Rattle.mucwathi_settings.specs.declared.command.Settings.{Settings}
 use Rattle.mucwathi_order.specs.declared.order.Order.{Order}
 use Rattle.mucwathi_faults.specs.declared.fault.RunFault.{RunFault}
 use Rattle.mucwathi_faults.specs.declared.fault.RunFault.TheVariants.{NotKept, NotWritten, Refused, Text}
-use Rattle.mucwathi_laws.specs.Promises.{IsCovered, Keeps, SparesTargets}
+use Rattle.mucwathi_laws.specs.Promises.{IsCovered, Keeps, KeepsTokens, SparesTargets}
 use Rattle.mucwathi_commands.specs.Faults.{IsUnwritten}
 use Rattle.mucwathi_commands.specs.Looks.{IsCoverTold}
 use Rattle.mucwathi_commands.specs.Written.{IsRefusedText, IsRewritten}
@@ -21,6 +21,7 @@ use Rattle.mucwathi_commands.specs.declared.cover.CoverGap.{CoverGap}
 pub record IsPromised (order : Order) (text out : List ℕ) : Type 0 where
   pub rewritten : IsRewritten order text out
   pub kept : Keeps order.command order.settings rewritten.source rewritten.answer
+  pub tokens : KeepsTokens order.command order.settings rewritten.source rewritten.answer
   pub texts : NamesAreUtf8 rewritten.source → HasTexts (slot_of order.goal) rewritten.answer
 
 -- An answer is not written, though its productions have their lengths, and its leaves are tokens of their kinds.

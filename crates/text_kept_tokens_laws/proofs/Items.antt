@@ -1,5 +1,5 @@
 -- Pieces of what is written out: keys, names of imports and exports, blocks, and exported declarations.
-use Rattle.std.proofs.Common.{◌≡◌, ℕ, Bool, true, false, not, Some, None, Option, List, [], ◌∷◌, ◌++◌, map, append-nil, append_assoc, codes, nat_eq, rules, refl, sym, ap, ◌∙◌, subst}
+use Rattle.std.proofs.Common.{◌≡◌, ℕ, Bool, true, false, Some, None, Option, List, [], ◌∷◌, ◌++◌, map, append-nil, append_assoc, codes, nat_eq, rules, refl, sym, ap, ◌∙◌, subst}
 use Rattle.std.specs.Prelude.{if◌then◌else◌}
 use Rattle.std.specs.List.{flat_map}
 use Rattle.std.specs.Cmp.Lexicographic.{pointwise}

@@ -29,7 +29,7 @@ use Rattle.text_pieces.specs.declared.keyword.Keyword.TheVariants as keyword
 use Rattle.text_pieces.specs.Forms.{form_pieces, word_piece}
 use Rattle.text_pieces.specs.Layouts.{apart_layout_of, layout_of}
 use Rattle.text_pieces.specs.Leaves.{bound_name, is_set}
-use Rattle.text_pieces.specs.Pieces.{lines, written, written_with}
+use Rattle.text_pieces.specs.Pieces.{lines, written_with}
 use Rattle.text_pieces.specs.Tokens.{Piece, punctuator}
 use Rattle.text_walk.proofs.Walked.{list_pieces, tree_pieces}
 use Rattle.text_kept_pieces_laws.proofs.Rows.{AllKept, Kept, layout_free, list_kept, tree_kept}
