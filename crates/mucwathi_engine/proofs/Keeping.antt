@@ -18,7 +18,7 @@ use Rattle.mucwathi_passes.specs.Passes.{Makes, config_of}
 use Rattle.mucwathi_faults.specs.declared.fault.RunFault.{RunFault}
 use Rattle.mucwathi_faults.specs.declared.fault.RunFault.TheVariants.{NotKept, NotWritten, Refused, Text}
 use Rattle.mucwathi_faults.proofs.Programs.{is_program}
-use Rattle.mucwathi_laws.specs.Promises.{IsCovered, PromisesAreKept, TargetsAreSpared, TextsAreKept}
+use Rattle.mucwathi_laws.specs.Promises.{IsCovered, PromisesAreKept, TargetsAreSpared, TextsAreKept, TokensAreKept}
 use Rattle.mucwathi_commands.specs.Comments.{IsRewrittenWith}
 use Rattle.mucwathi_commands.specs.Faults.{IsRunFault, IsUnwritten}
 use Rattle.mucwathi_commands.specs.Looks.{IsCoverTold, IsUncovered, TellsCause, cause_in}
@@ -27,7 +27,7 @@ use Rattle.mucwathi_commands.specs.declared.cover.CoverGap.{CoverGap}
 use Rattle.mucwathi_commands.specs.declared.write.RewrittenText.{RewrittenText}
 use Rattle.mucwathi_engine.specs.Headline.{IsPromised, IsPromisedFault, IsPromisedWith, IsToldToBePromised, IsUnwrittenThough}
 
-module _ (keeps : PromisesAreKept) (spares : TargetsAreSpared) (texts : TextsAreKept) (order : Order) (text : List ℕ) where
+module _ (keeps : PromisesAreKept) (spares : TargetsAreSpared) (texts : TextsAreKept) (tokens : TokensAreKept) (order : Order) (text : List ℕ) where
   -- what is read has what is kept
   had : (t : Node) → IsReadAs order.goal t text → HasTexts (slot_of order.goal) t
   had t read = record { fits = read.1.fits; shaped = read.1.shaped; spelled = read.1.spelled }
@@ -42,6 +42,7 @@ module _ (keeps : PromisesAreKept) (spares : TargetsAreSpared) (texts : TextsAre
   written out h = record {
     rewritten = h;
     kept = keeps order.command order.settings (slot.One (content.Node (class_of order.goal))) h.source h.answer (is_program order.goal) h.read.0.fits h.made;
+    tokens = tokens order.command order.settings (slot_of order.goal) h.source h.answer (is_program order.goal) (had h.source h.read) h.made;
     texts = kept_texts h.source h.answer h.read h.made;
   }
 

@@ -10,7 +10,7 @@ use Rattle.mucwathi_order.specs.declared.order.Order.{Order}
 use Rattle.mucwathi_order.specs.Styles.{layout_of}
 use Rattle.mucwathi_faults.specs.declared.fault.RunFault.{RunFault}
 use Rattle.mucwathi_faults.specs.declared.fault.RunFault.TheVariants.{NotKept, NotWritten, Refused, Text}
-use Rattle.mucwathi_laws.specs.Promises.{IsCovered, Keeps, SparesTargets}
+use Rattle.mucwathi_laws.specs.Promises.{IsCovered, Keeps, KeepsTokens, SparesTargets}
 use Rattle.mucwathi_commands.specs.Comments.{TellsLost}
 use Rattle.mucwathi_commands.specs.Faults.{IsUnwritten}
 use Rattle.mucwathi_commands.specs.Looks.{IsCoverTold}
@@ -23,6 +23,7 @@ use Rattle.mucwathi_commands.specs.declared.cover.CoverGap.{CoverGap}
 pub record IsPromised (order : Order) (text out : List ℕ) : Type 0 where
   pub rewritten : IsRewritten order text out
   pub kept : Keeps order.command order.settings rewritten.source rewritten.answer
+  pub tokens : KeepsTokens order.command order.settings rewritten.source rewritten.answer
   pub texts : NamesAreUtf8 rewritten.source → HasTexts (slot_of order.goal) rewritten.answer
 
 -- ... and those comments of it are told that are lost

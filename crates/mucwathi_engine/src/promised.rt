@@ -5,7 +5,7 @@ ghost use Rattle.mucwathi_engine.specs.Headline.{IsPromised, IsPromisedFault, Is
 
 use mucwathi_commands::{CoverGap, RewrittenText};
 use mucwathi_faults::RunFault;
-use mucwathi_laws::{promises_are_kept, targets_are_spared, texts_are_kept};
+use mucwathi_laws::{promises_are_kept, targets_are_spared, texts_are_kept, tokens_are_kept};
 use mucwathi_order::{Goal, Order, Settings};
 use std::alloc::Global;
 
@@ -15,7 +15,8 @@ use std::alloc::Global;
 /// two the grammar derives it: of a module, and of a plain script, without early errors of names, that can be written down, in which
 /// nothing reads names and where classes don't keep theirs. `cover_text` says whether a text is one. Of each text whose names are in UTF-8
 /// the answer's productions have their lengths, and its leaves are tokens of their kinds. A chain and mangling change no token but names
-/// that the program binds, once all is written out and parentheses are off (`normal_form`).
+/// that the program binds, once all is written out and parentheses are off (`normal_form`): of a source of which stripping takes off pairs
+/// alone, the answer has its tokens but for such names, pairs, blocks and what is written out (`KeepsTokens`).
 ///
 /// # Errors
 ///
@@ -26,6 +27,7 @@ pub fn rewrite_text(alloc: Global, order: &Order, text: &[u8]) -> Result<Vec<u8>
     promises_are_kept();
     targets_are_spared();
     texts_are_kept();
+    tokens_are_kept();
     mucwathi_commands::rewrite_text(alloc, order, text)
 }
 
@@ -45,6 +47,7 @@ pub fn rewrite_with_comments(
     promises_are_kept();
     targets_are_spared();
     texts_are_kept();
+    tokens_are_kept();
     mucwathi_commands::rewrite_with_comments(alloc, order, text)
 }
 
