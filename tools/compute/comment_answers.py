@@ -220,8 +220,8 @@ def begins_line(text, k):
 
 
 def chosen(text, k, all_of):
-    """where a comment stands that may stand anywhere"""
-    stops, begins = [n for form, n in all_of if form == 'Trails'], [n for form, n in all_of if form == 'Leads']
+    """where a comment stands that may stand anywhere; what was made stands at 0, which is no place"""
+    stops, begins = [n for form, n in all_of if form == 'Trails' and n], [n for form, n in all_of if form == 'Leads' and n]
     if k.trails in stops and not (k.leads in begins and begins_line(text, k)):
         return 'Trails', k.trails
     if k.leads in begins:
@@ -237,7 +237,7 @@ def remark_by_rules(gaps, text, k):
     body = bytes(text)[k.span.lo - 1:k.span.hi - 1]
     at = chosen(text, k, [place for places, _ in gaps for place in places])
     if at and ends_line(body) and any(at in places for places, tight in gaps if tight):
-        before = [n for places, _ in gaps for form, n in places if form == 'Leads' and n <= k.trails]
+        before = [n for places, _ in gaps for form, n in places if form == 'Leads' and 0 < n <= k.trails]
         at = ('Leads', max(before)) if before else None
     return Rec(text=tuple(body), at=at or ('Leads', k.leads))
 
@@ -266,8 +266,9 @@ def shown_places(gaps):
 
 class Program:
     """a tree with the places of a text, as it is or as a chain leaves it"""
-    def __init__(self, random, size):
-        t = leafy_program(random, size)
+    source_of = staticmethod(leafy_program)
+
+    def __init__(self, random, t):
         self.is_one = t is not None and not has_types(t) and following.IsWellFormed(D.all, t)
         if self.is_one:
             self.text = texts.written(random, t, random.pick([texts.PLAIN, texts.LOOSE]))
@@ -278,8 +279,8 @@ class Program:
 
 class Written(Program):
     """a tree that is written with comments: the text, and those that are left"""
-    def __init__(self, random, size):
-        super().__init__(random, size)
+    def __init__(self, random, t):
+        super().__init__(random, t)
         self.remarks = remarks_for(random, self.gaps, 1 + random.below(3)) if self.is_one else ()
         self.is_one = self.is_one and following.IsWellFormed(D.all, self.tree)
 
@@ -301,8 +302,8 @@ class Written(Program):
 
 class Chosen(Program):
     """the comments of a text, and where each is to stand in the tree that was made of it"""
-    def __init__(self, random, size):
-        super().__init__(random, size)
+    def __init__(self, random, t):
+        super().__init__(random, t)
         if self.is_one:
             self.found = [Rec(span=Rec(lo=lo, hi=hi), trails=trails, leads=leads) for lo, hi, trails, leads in comments(self.source, self.text)]
             self.is_one = bool(self.found)
@@ -320,8 +321,8 @@ class Chosen(Program):
         return commented.AreChosen(D.all, self.text, [place for places, _ in self.gaps for place in places], self.found, answer)
 
     def show(self, answer):
-        right = ', '.join('%s %d' % r.at for r in self.right())
-        return '%r, places %s: %s and not %s' % (bytes(self.text).decode(), shown_places(self.gaps), ', '.join('%s %d' % r.at for r in answer), right)
+        others = [(n, one.at, right.at) for n, (one, right) in enumerate(zip(answer, self.right())) if one != right]
+        return '%r, places %s: %s' % (bytes(self.text).decode(), shown_places(self.gaps), ', '.join('comment %d %s %d and not %s %d' % (n, *one, *right) for n, one, right in others))
 
 
 def remarks_for(random, gaps, count):

@@ -1,4 +1,6 @@
 """Answers of `list_changes`, `source_map` and `give_marked` by the rules in words, not by their definitions, and wrong answers beside them."""
+import copy
+
 import following
 import js
 import placed
@@ -7,6 +9,7 @@ import text_kept_laws
 import texts
 import told
 import trees
+import units
 from antt_values import Rec
 from lawbook import D, fixed, has_types, is_writable
 from naming_rows import with_hygiene
@@ -41,9 +44,10 @@ def grouped(t):
 
 class Made:
     """a text of a program, what a command makes of it, and a text of that"""
-    def __init__(self, random, size):
-        t = clean_source(random, size)
-        self.is_one = t is not None and is_writable(t) and following.IsWellFormed(D.all, t) and following.IsPinned(D.all, t)
+    source_of = staticmethod(clean_source)
+
+    def __init__(self, random, t):
+        self.is_one = t is not None and is_writable(t) and following.IsWellFormed(D.all, t) and following.IsPinned(D.all, t) and not units.HasEval(D.all, t)
         if not self.is_one:
             return
         self.text = texts.written(random, t, random.pick([texts.PLAIN, texts.LOOSE]))
@@ -57,6 +61,20 @@ class Made:
             self.is_one = following.IsTextOf(D.all, written, self.out)
         if self.is_one:
             self.written, self.size = placed.with_spans(written, self.out), trees.size(t)
+            self.others = list(self.read_with_marks())
+
+    def read_with_marks(self):
+        """the same with a mark on one of its names: that a tree which is read has none is said nowhere"""
+        for path, node in trees.paths(self.source):
+            if node[0] == 'Identifier':
+                other = copy.copy(self)
+                other.source = trees.put(self.source, path, ('Identifier', node[1], Rec(span=node[2].span, ctxt=(9,), sym=node[2].sym)))
+                other.answer = COMMANDS[self.command](other.source)
+                yield other
+
+    def holds(self, answer):
+        """for one of the trees that may have been read"""
+        return any(case.holds_of_tree(answer) for case in [self] + self.others)
 
     def shown(self):
         return '%s of %s: %r becomes %r' % (self.command, self.source[1].lower(), bytes(self.text).decode(), bytes(self.out).decode())
@@ -71,9 +89,10 @@ class Mapped(Made):
         return map_by_rules(self, NAME)
 
     def wrong(self):
-        return wrong_maps(self, NAME)
+        yield from wrong_maps(self, NAME)
+        yield from (('names read with marks', map_by_rules(case, NAME)) for case in self.others)
 
-    def holds(self, answer):
+    def holds_of_tree(self, answer):
         return told.IsMap(D.all, self.source, self.answer, self.written, NAME, self.text, self.out, answer)
 
     def show(self, answer):
@@ -86,9 +105,10 @@ class Listed(Made):
         return tuple(list_by_rules(self))
 
     def wrong(self):
-        return wrong_lists(self)
+        yield from wrong_lists(self)
+        yield from (('names read with marks', tuple(list_by_rules(case))) for case in self.others)
 
-    def holds(self, answer):
+    def holds_of_tree(self, answer):
         return told.HasChanges(D.all, self.source, self.answer, self.text, answer)
 
     def show(self, answer):
@@ -255,8 +275,9 @@ def with_signs(t, text):
 
 class Given:
     """a text with marks behind its names, and in a comment: the text without them, and the program with them"""
-    def __init__(self, random, size):
-        t = clean_source(random, size)
+    source_of = staticmethod(clean_source)
+
+    def __init__(self, random, t):
         self.is_one = t is not None and following.IsWellFormed(D.all, t) and following.IsPinned(D.all, t)
         if self.is_one:
             self.plain = texts.written(random, t, texts.PLAIN) + random.pick([(), (), tuple(b' /* a#2 */')])

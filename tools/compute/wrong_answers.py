@@ -33,7 +33,7 @@ def tried(call, options):
     """the answers of a call on so many inputs; whether each right one passes"""
     random, end, made, refused, kinds = random_trees.Random(options.seed), time.time() + options.seconds, 0, [], {}
     while made < options.cases and time.time() < end:
-        case = CALLS[call](random, 2 + random.below(options.biggest))
+        case = CALLS[call](random, CALLS[call].source_of(random, 2 + random.below(options.biggest)))
         if not case.is_one:
             continue
         made += 1
