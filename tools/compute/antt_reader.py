@@ -18,7 +18,7 @@ TOKEN = re.compile(r'(?P<space>\s+)|(?P<text>"(?:[^"\\]|\\.)*")|(?P<name>%s(?:\.
                    r'|(?P<sign>∷|\+\+|&&|\|\||==|→|\[\]|[^\s\w])' % (NAME, NAME))
 WORDS = {'then', 'else', 'in', 'if', 'let', 'where', 'of', 'case', 'do', 'with'}
 # which operators stand side by side without parentheses, the loosest first; all else is refused
-LEVELS = [['||'], ['&&'], ['∷', '++'], ['==', '<'], ['+', '-'], ['*', '%'], ['^']]
+LEVELS = [['||'], ['&&'], ['∷', '++'], ['==', '<'], ['+', '-'], ['*', '/', '%'], ['^']]
 
 
 def tokens(text, line, path):
@@ -137,11 +137,11 @@ class Parser:
         if not here:
             return self.grouped(items, level + 1)
         used = {items[i] for i in here}
-        if len(used) > 1 and used not in ({'∷', '++'}, {'+', '-'}, {'*', '%'}) or len(here) > 1 and used & {'==', '<', '^'}:
+        if len(used) > 1 and used not in ({'∷', '++'}, {'+', '-'}, {'*', '%'}, {'*', '/'}) or len(here) > 1 and used & {'==', '<', '^'}:
             self.fail('operators without parentheses (%s)' % ' '.join(sorted(used)))
         if level < 2 and {items[i] for i in range(1, len(items), 2)} & {'∷', '++'}:
             self.fail('a list beside `&&` or `||`')
-        if used & {'-', '%'}:                             # these group to the left
+        if used & {'-', '/', '%'}:                             # these group to the left
             i = here[-1]
             return ('operator', items[i], self.grouped(items[:i], level), self.grouped(items[i + 1:], level + 1))
         i = here[0]                                       # all others to the right

@@ -113,7 +113,7 @@ STANDARD = {
     'to_ascii_lowercase': (1, '(lambda c: c + 32 if 64 < c < 91 else c)({0})'),
     'digit_value': (1, '(lambda c: int(chr(c), 36) if c < 128 and chr(c).isalnum() else 36)({0})'),
     'digits_value': (2, '(lambda b, ds: sum(int(chr(c), 36) * b ** i for i, c in enumerate(ds[::-1])))({0}, {1})'),
-    'decimal': (1, 'tuple(str({0}).encode())'),
+    'decimal': (1, 'tuple(str({0}).encode())'), 'string_bytes': (1, '{0}'),
     'starts_with': (3, '(lambda xs, ys: xs[:len(ys)] == ys)({1}, {2})'), 'suffix_len': (2, 'prefix_len({0}, {1}[::-1])'),
     'Some': (1, '({0},)'), 'Ok': (1, "('Ok', {0})"), 'Err': (1, "('Err', {0})"),
     'slice_index': (2, '(lambda xs, i: xs[i] if i < len(xs) else 0)({0}, {1})'), 'option_to_list': (1, '({0} or ())'), 'option_copied': (1, '{0}'),
@@ -129,6 +129,6 @@ OTHER_LIBRARIES = ('lib.Utf8', 'Rattle.ucd_derived.specs.Binary')
 STANDARD_TYPES = {'ℕ', 'Bool', 'List', 'Option', 'Result'}
 OPERATORS = {
     '||': '({0} or {1})', '&&': '({0} and {1})', '∷': '(({0},) + {1})', '++': '({0} + {1})', '==': '({0} == {1})',
-    '<': '({0} < {1})', '+': '({0} + {1})', '-': 'max(0, {0} - {1})', '*': '({0} * {1})', '%': '({0} % {1})', '^': '({0} ** {1})'}
+    '<': '({0} < {1})', '+': '({0} + {1})', '-': 'max(0, {0} - {1})', '*': '({0} * {1})', '/': '({0} // {1})', '%': '({0} % {1})', '^': '({0} ** {1})'}
 CALLED = {name: globals()[name] for name in (
     'Rec', 'updated', 'map_node', 'fold_node', 'pointwise', 'flat_map', 'find', 'position', 'prefix_len', 'slice_set', 'is_scalar', 'no_clause')}

@@ -19,17 +19,19 @@ trees meet a premise, write a source that meets it more often. Trees that every 
 laws.py. To see that a law can fail at all, break a definition in a copy of `crates` and run it there.
 """
 import antt2py
+import commented
 import following
 import js
 import naming
 import scoping
 import random_trees
 import renaming
+import told
 import trees
 import units
 from trees import at, paths
 
-CRATES = ['swc_tree_node', 'swc_tree_grammar', 'swc_tree_scoping', 'swc_base_rename_substitution', 'swc_base_rename_analysis', 'swc_base_rename_analysis_laws', 'swc_base_rename_naming', 'swc_base_rename_units', 'swc_tree_ext', 'swc_tree_marks', 'swc_tree_renaming', 'swc_tree_sites', 'swc_tree_sites_written', 'swc_tree_sites_scripts', 'swc_tree_exports_laws', 'swc_base_rename_settled_laws', 'swc_base_tables_injection', 'swc_base_tables_laws', 'swc_tree_walk', 'swc_base_rename_laws', 'swc_base_alpha_laws', 'swc_base_alpha', 'swc_base_plain_numbers', 'swc_base_plain_form', *following.CRATES]
+CRATES = ['swc_tree_node', 'swc_tree_grammar', 'swc_tree_scoping', 'swc_base_rename_substitution', 'swc_base_rename_analysis', 'swc_base_rename_analysis_laws', 'swc_base_rename_naming', 'swc_base_rename_units', 'swc_tree_ext', 'swc_tree_marks', 'swc_tree_renaming', 'swc_tree_sites', 'swc_tree_sites_written', 'swc_tree_sites_scripts', 'swc_tree_exports_laws', 'swc_base_rename_settled_laws', 'swc_base_tables_injection', 'swc_base_tables_laws', 'swc_tree_walk', 'swc_base_rename_laws', 'swc_base_alpha_laws', 'swc_base_alpha', 'swc_base_plain_numbers', 'swc_base_plain_form', *following.CRATES, *commented.CRATES, *told.CRATES]
 
 
 class Definitions:
@@ -48,7 +50,7 @@ def load(checkout):
     D.injection = D.all.swc_base_tables_injection
     D.substitution, D.ext, D.marks = D.all.swc_base_rename_substitution, D.all.swc_tree_ext, D.all.swc_tree_marks
     random_trees.setup(D.all)
-    return [name for made in (scoping, naming, units, renaming, following) for name in made.check_sources(checkout)]
+    return [name for made in (scoping, naming, units, renaming, following, commented, told) for name in made.check_sources(checkout)]
 
 
 def definition(*paths):

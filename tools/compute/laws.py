@@ -39,9 +39,10 @@ import text_edit_laws
 import text_kept_laws
 import text_laws
 import text_token_laws
+import told_laws
 import units_laws
 
-MODULES = (alpha_laws, grammar_laws, headline_laws, injection_laws, kept_laws, lawful_laws, naming_laws, scoping_laws, script_laws, settled_laws, sites_laws, substitution_laws, text_edit_laws, text_kept_laws, text_laws, text_token_laws, units_laws)
+MODULES = (alpha_laws, grammar_laws, headline_laws, injection_laws, kept_laws, lawful_laws, naming_laws, scoping_laws, script_laws, settled_laws, sites_laws, substitution_laws, text_edit_laws, text_kept_laws, text_laws, text_token_laws, told_laws, units_laws)
 # texts that every law tries first, as modules and as scripts
 WRITTEN = [
     '#x, y;', '`${#x}`;', 'export var a#1, a#2;', 'export var { a, b: a };', 'let?.[x];', 'let[x];', '((let[x])) = 1;', '(a?.b).c; a?.b.c;',

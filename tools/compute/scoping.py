@@ -77,7 +77,8 @@ IN_BLOCKS = {'BlockFunction', 'SloppyFunction'}
 
 
 def digests(checkout, crate, functions, passed_over):
-    """of each relation of a crate, and of some functions, a digest of its text, without comments and white space, but for some modules"""
+    """of each relation of a crate, and of some functions and types, a digest of its text, without comments and white space, but for some modules and
+    names"""
     found = {}
     root = os.path.join(checkout, 'crates', crate, 'specs')
     for path in sorted(glob.glob(os.path.join(root, '*.antt'))):
@@ -88,10 +89,10 @@ def digests(checkout, crate, functions, passed_over):
         with open(path, encoding='utf-8') as file:
             items = [' '.join(text.split()) for _, text in blocks(file.read())]
         relations = [name for name, why in module.skipped.items() if why == 'a relation']
-        for name in relations + [name for name in functions if name in module.definitions]:
-            text = '\n'.join(item for item in items if re.match(r'((pub|abbrev|record) )*%s\b' % re.escape(name), item))
+        for name in relations + [name for name in functions if name in module.definitions or module.skipped.get(name, '') is None]:
+            text = '\n'.join(item for item in items if re.match(r'((pub|abbrev|record|data) )*%s\b' % re.escape(name), item))
             found[name] = hashlib.sha256(text.encode()).hexdigest()[:12]
-    return found
+    return {name: digest for name, digest in found.items() if name not in passed_over}
 
 
 def check_relations(checkout, crate, sources, functions, made, passed_over=()):

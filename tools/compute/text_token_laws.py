@@ -5,8 +5,10 @@ declaration and an export list. The fixer takes tokens away (pairs, what a seque
 """
 import following
 import scoping
+import trees
+from grammar_laws import is_same
 from headline_laws import nameless
-from lawbook import Bad, D, declared_ids, fixed, has_types, kind, law, normal_form
+from lawbook import Bad, D, declared_ids, fixed, has_types, identity, is_writable, kind, law, normal_form
 from naming_rows import with_hygiene
 from text_kept_laws import clean_source, is_source, renamed, text_source
 
@@ -107,6 +109,52 @@ def names_alone_differ(t):
     return unnamed(t) == unnamed(nameless(t)) or Bad('others in', nameless(t))
 
 
+def same_piece(names, p, q):
+    """what `SamePiece` says: the same piece, or another name for one that is bound"""
+    return p == q or following.word(p) == following.word(q) and following.word(p) in ('name', 'parameter') and p[1] in names
+
+
+def are_same_but_bound(names, ps, qs):
+    """what `SameButBound` says"""
+    ps, qs = (D.all.text_kept_pieces_laws.Bound.unended(some) for some in (ps, qs))
+    return len(ps) == len(qs) and all(same_piece(names, p, q) for p, q in zip(ps, qs))
+
+
+def named_otherwise(t):
+    """trees with other texts for some names, or another chosen for each that is declared"""
+    bound = {identity(i) for i in D.grammar.Same.declared_names(t)}
+    yield trees.with_identifiers(lambda i: (i.sym + tuple(b'1'), i.ctxt) if identity(i) in bound else identity(i), t)
+    yield trees.with_identifiers(lambda i: (tuple(b'n'), ()) if identity(i) in bound else identity(i), t)
+    yield trees.with_identifiers(lambda i: (tuple(b'b' if i.sym == tuple(b'a') else b'a'), i.ctxt), t)
+    yield renamed(t)
+    yield fixed(with_hygiene(scoping.resolved(D.all, t, 1, 2)))
+
+
+@law(text_source)
+def bound_names_alone_differ(t):
+    """programs that have one normal form but for the names that the first one binds have, with all written out, the same pieces but for these"""
+    found = [u for u in named_otherwise(t) if is_same(t, u)]
+    names = {i.sym for i in D.grammar.Same.declared_names(t)}
+    before = following.pieces(D.all, normal_form(t))
+    for u in found:
+        if not are_same_but_bound(names, before, following.pieces(D.all, normal_form(u))):
+            return Bad('others in', u)
+    return True if found else None
+
+
+def forms_agree(t, keeps):
+    """the normal forms of a tree and of what it becomes with new names have the same pieces but for these"""
+    return unnamed(normal_form(t)) == unnamed(normal_form(renamed(t, keeps=keeps)))
+
+
+@law(text_source)
+def new_names_keep_pieces(t):
+    """with all written out, a writable program and what it becomes with new names have the same pieces but for these"""
+    if has_types(t) or not is_writable(t):
+        return None
+    return forms_agree(t, False) or Bad('others in', renamed(t))
+
+
 @law(clean_source)
 def forms_have_the_same_pieces(t):
     """the normal form of a chain's answer has the pieces of the program's, but for names"""
@@ -141,6 +189,33 @@ def due_pairs_add_parentheses(t):
         return None
     answer = D.grammar.Due.with_due_pairs(lambda span: span, t)
     return adds_only(tokens(t), tokens(answer), 'LeftParen', 'RightParen') or Bad('others in', answer)
+
+
+def are_with_pairs(ps, qs):
+    """what `WithPairs` says: the second pieces are the first with parentheses more that go together"""
+    seen, left = set(), [(0, 0, 0)]
+    while left:
+        i, j, count = state = left.pop()
+        if state == (len(ps), len(qs), 0):
+            return True
+        if state in seen or count is None:
+            continue
+        seen.add(state)
+        if i < len(ps) and j < len(qs) and ps[i] == qs[j]:
+            left.append((i + 1, j + 1, count))
+        if j < len(qs):
+            left.append((i, j + 1, opened(count, qs[j], (SET, LEFT))))
+    return False
+
+
+def has_its_pairs(t):
+    return are_with_pairs(following.pieces(D.all, t), following.pieces(D.all, D.grammar.Due.with_due_pairs(lambda span: span, t)))
+
+
+@law(text_source)
+def pairs_alone_are_set(t):
+    """with its due pairs a program that fits its place has its pieces, and pairs of parentheses round some of them"""
+    return None if has_types(t) or not following.Fits(D.all, t) else has_its_pairs(t) or Bad('others in', t)
 
 
 @law(text_source)

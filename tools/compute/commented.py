@@ -1,0 +1,126 @@
+"""The relations of comments that are written with a tree as decision procedures, transcribed by hand: what a text with comments may be, and at which
+node a comment of a text may stand.
+
+Each function has the name of its definition. A remark is a record of its text and of where it stands, `('Leads', n)` or `('Trails', n)`, what is
+left is its number with the reason. Where a definition says that there are items, `ways` gives all that there are.
+"""
+import scoping
+from following import Follows, Takes, pieces
+
+CRATES = ('text_commented',)
+SOURCES = {
+    'text_commented': {'AreChosen': 'ddc80b52a8e0', 'ArePut': '9e9be39596e5', 'ArePutAt': 'bda888f9b8e8', 'IsChosen': '25f4d9f84ed3',
+        'IsCommented': '97d7b6341340', 'IsFirstBegun': '7a9c7c4987de', 'IsLastBegun': '8fff2c458fdd', 'IsLastStop': 'f2831dcc781a',
+        'IsSet': '348b6a908217', 'IsSetFrom': '76852b1b1127', 'IsTold': 'e50550636fb9', 'IsWhy': '14002ee75696', 'IsWrittenWith': 'aac75ce10f5f',
+        'Meets': 'e74465c2e240', 'PutsAmong': 'fb4dbcbcca49', 'Stands': 'e2ddfcc48d66'},
+}
+# these say how the code goes on and keeps places, and nothing of texts that the others don't
+PASSED_OVER = ('Steps', 'IsFirst', 'IsLast', 'IsSites')
+
+
+def check_sources(checkout):
+    return [name for crate, sources in SOURCES.items() for name in scoping.check_relations(checkout, crate, sources, (), 'commented.py', PASSED_OVER)]
+
+
+# ---- Sites, Chosen
+def Contains(places, a):
+    return a in places
+
+
+def IsLastStop(places, limit, n):
+    stops = [m for form, m in places if form == 'Trails' and m <= limit]
+    return bool(stops) and n == max(stops)
+
+
+def IsLastBegun(places, limit, n):
+    begun = [m for form, m in places if form == 'Leads' and m <= limit]
+    return bool(begun) and n == max(begun)
+
+
+def IsFirstBegun(places, limit, n):
+    begun = [m for form, m in places if form == 'Leads' and limit <= m]
+    return bool(begun) and n == min(begun)
+
+
+def IsChosen(places, k, at):
+    form, n = at
+    if form == 'Leads':
+        return n == k.leads or IsFirstBegun(places, k.leads, n) or IsLastBegun(places, k.trails, n)
+    return n == k.leads + 1 or IsLastStop(places, k.trails, n)
+
+
+def AreChosen(D, text, places, comments, remarks):
+    return len(comments) == len(remarks) and all(
+        r.text == D.text_commented.Commented.written(text, k) and IsChosen(places, k, r.at) for k, r in zip(comments, remarks))
+
+
+# ---- Why
+def IsWhy(D, c, framed, r, why):
+    if why == 'NoPlace':
+        return not Contains(D.text_commented.Places.all_places(framed), r.at)
+    if why == 'NoLineEnd':
+        return D.text_comments.Lines.ends_line(r.text) and Contains(D.text_commented.Places.tight_places(framed), r.at)
+    return why == 'NoComment' and not D.text_comments.Lines.is_one_comment(c, r.text)
+
+
+def IsTold(D, c, framed, r, why):
+    return r is not None and IsWhy(D, c, framed, r, why)
+
+
+# ---- Commented
+def Stands(r, a):
+    return r is not None and r.at == a
+
+
+def due_in(D, c, framed, text):
+    """between the tokens of a text, from its beginning to its end, the places of frames there and the comments that are due; None where the text has
+    not these pieces. It is what `Meets` and the end of `IsSetFrom` say, whatever is put."""
+    fresh, e, rest, here, found, made = True, 'Closed', text, [], [], D.text_comments.Comments
+    for p in framed:
+        rests = Takes(D, c, False, (fresh, e), p, rest)
+        if not rests:
+            return None
+        if len(rests[0]) < len(rest):
+            comments = made.before_tokens(len(rest), c, D.text_follow.Follows.goal_of(p), text, fresh, rest, rests[0])
+            found.append((here, [D.text_commented.Commented.written(text, k) for k in comments]))
+            here = []
+        here = here + list(D.text_commented.Places.places(p))
+        fresh, e, rest = D.text_follow.Follows.fresh_behind(fresh, p), D.text_follow.Endings.ending_behind(e, p), rests[0]
+    left = D.text_lexer.Blanks.blank(c, fresh, rest)
+    if left is None or left[0][1] != ():
+        return None
+    return found + [(here, [D.text_commented.Commented.written(text, k) for k in made.before_token(c, text, fresh, rest)])]
+
+
+def ArePutAt(rs, places, due, may):
+    """the numbers that are put at one place after another, where their texts are those that are due and they are of some; `ArePut` says that those of
+    one frame rise"""
+    ways = {((), 0, -1)}                              # what is put, at which place the next may be, and the number there before it
+    for text in due:
+        ways = {(put + (n,), i, n) for put, at, last in ways for i in range(at, len(places)) for n in may
+                if n not in put and (i > at or n > last) and Stands(rs[n], places[i]) and rs[n].text == text}
+    return sorted({put for put, _, _ in ways})
+
+
+def PutsAmong(rs, gaps, may):
+    """all that is put, gap for gap, of some numbers, each once"""
+    ways = [((), frozenset(may))]
+    for places, due in gaps:
+        ways = [(put + (ns,), left - set(ns)) for put, left in ways for ns in ArePutAt(rs, places, due, left)]
+    return ways
+
+
+def IsSet(D, c, framed, rs, text, used):
+    """the text is written with just these remarks"""
+    gaps = due_in(D, c, framed, text)
+    if gaps is None or sum(len(due) for _, due in gaps) != len(used):
+        return False
+    return bool(PutsAmong(rs, gaps, used))
+
+
+def IsCommented(D, c, t, rs, text, left):
+    framed, numbers = D.text_pieces.Pieces.framed_pieces(t), [n for n, _ in left]
+    if numbers != sorted(set(numbers)) or any(n >= len(rs) for n in numbers):
+        return False
+    used = [n for n in range(len(rs)) if n not in numbers]
+    return Follows(D, c, False, pieces(D, t), text) and IsSet(D, c, framed, rs, text, used) and all(IsTold(D, c, framed, rs[n], why) for n, why in left)

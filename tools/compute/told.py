@@ -1,0 +1,160 @@
+"""The relations of what `mucwathi` tells of a text as decision procedures, transcribed by hand: source maps, the names that are given anew, and texts
+with marks behind their names.
+
+Each function has the name of its definition. What a definition says that there is (a source, what a command makes of it, the tree of what was
+written) is given, as other definitions say which there are; what is left open beside that is looked for.
+"""
+import re
+
+import scoping
+from antt_values import Rec
+from following import IsPinned, IsTextOf, IsWellFormed, SpansAreOf
+
+CRATES = ('mucwathi_lists', 'mucwathi_looks', 'mucwathi_mappings', 'mucwathi_map', 'mucwathi_signs', 'mucwathi_marked')
+SOURCES = {
+    'mucwathi_looks': {'HasChanges': '79f95166a24b'},
+    'mucwathi_mappings': {'AreMappings': 'e103a6213ca5', 'AreSegments': '175366c78c3d', 'HasLast': '14bfd54e0f97', 'IsEntry': '21ec95e5a3ed', 'IsMapOf': '2acf7da733dc',
+        'IsName': '852d64fead21', 'IsNumber': '40d289b7be41', 'IsNumberOf': '6a95f14d7bd2', 'IsSegment': 'cd732e232bb1'},
+    'mucwathi_map': {'IsMap': '3b2ecb8ba51c', 'TellsNodes': '6514536d3367', 'TellsWritten': '8054aafdf384'},
+    'mucwathi_signs': {'IsMarked': 'cf9e2dfe4299'},
+    'mucwathi_marked': {'IsGiven': '3fea3dafa131'},
+    'mucwathi_commands': {'IsReadAs': '9951f17856bd'},
+}
+TYPES = ('AreMappings', 'AreSegments', 'IsMarked', 'IsNumber')
+# these say how the code keeps names and places, or belong to other calls
+PASSED_OVER = ('Looks', 'Marked', 'Names', 'Trees', 'Cut', 'Faults', 'Judged', 'AddsMappings', 'AddsName', 'AddsNumber', 'AddsWay', 'Continues', 'GoesOn', 'HasNames',
+               'IsKept', 'IsMark', 'IsNoneOrMap', 'IsPosition', 'IsPut', 'IsRefusedFor', 'IsRefusedText', 'IsRewritten', 'IsSigned', 'IsWantOfMemory', 'IsWritten', 'Notes')
+
+
+def check_sources(checkout):
+    return [name for crate, sources in SOURCES.items() for name in scoping.check_relations(checkout, crate, sources, TYPES, 'told.py', PASSED_OVER)]
+
+
+# ---- mucwathi_commands
+def IsReadAs(D, t, text):
+    return IsTextOf(D, t, text) and IsWellFormed(D, t) and IsPinned(D, t)
+
+
+# ---- mucwathi_looks
+def HasChanges(D, source, answer, text, changes):
+    return IsReadAs(D, source, text) and SpansAreOf(D, source, text) and changes == D.mucwathi_looks.Changes.changes_between(source, answer)
+
+
+# ---- mucwathi_mappings
+def IsNumber(D, n):
+    """the digits that a number has"""
+    digit = D.mucwathi_mappings.Numbers.digit
+    return (digit(n),) if n < 32 else (digit(n % 32 + 32),) + IsNumber(D, n // 32)
+
+
+def IsName(D, last, name):
+    return () if name is None else IsNumber(D, D.mucwathi_mappings.Numbers.way(last, name[0]))
+
+
+def IsEntry(D, t, e):
+    """what is written for an entry"""
+    way = D.mucwathi_mappings.Numbers.way
+    return IsNumber(D, way(t.column, e.column)) + (65,) + IsNumber(D, way(t.source_line, e.source_line)) \
+        + IsNumber(D, way(t.source_column, e.source_column)) + IsName(D, t.name, e.name)
+
+
+def AreMappings(D, t, entries, text):
+    M = D.mucwathi_mappings.Mappings
+    while True:
+        if text[:1] == (59,):
+            t, text = M.line_behind(t), text[1:]
+        elif not entries:
+            return text == ()
+        else:
+            one = M.comma(t.begun) + IsEntry(D, t, entries[0])
+            if entries[0].line != t.line or text[:len(one)] != one:
+                return False
+            t, entries, text = M.entry_behind(t, entries[0]), entries[1:], text[len(one):]
+
+
+def IsNumberOf(names, old):
+    """the numbers that a name may have"""
+    return [None] if old is None else [(n,) for n, name in enumerate(names) if name == old[0]]
+
+
+def IsSegment(D, source, names, m):
+    """what may be told of a node; `AreSegments` says so of one after another"""
+    read, P = min(m.read, len(source)), D.mucwathi_mappings.Positions
+    return [Rec(written=m.written, line=P.line(source, read), column=P.column(source, read), name=name) for name in IsNumberOf(names, m.old)]
+
+
+def HasLast(segments):
+    """the places in their order, each with what is told of the last node there"""
+    last = {options[0].written: options for options in segments}
+    return sorted(last.items())
+
+
+PARTS = re.compile(rb'(\{"version":3,"sources":\[(".*")\],"names":\[(.*)\],"mappings":")([A-Za-z0-9+/,;]*)"\}\n', re.S)
+QUOTED = re.compile(rb'"((?:[^"\\\x00-\x1f]|\\["\\]|\\u00[01][0-9a-f])*)"')
+
+
+def unquoted(body):
+    return tuple(re.sub(rb'\\(u00(..)|.)', lambda found: bytes([int(found.group(2), 16)]) if found.group(2) else found.group(1), body))
+
+
+def IsMapOf(D, name, read, written, mapped, out):
+    """the names and the mappings are looked for in what is written; which number a name has where it stands twice, by trying all"""
+    parts, Q = PARTS.fullmatch(bytes(out)), D.mucwathi_mappings.Quoted
+    if not parts or tuple(parts.group(2)) != Q.quoted(name):
+        return False
+    names = tuple(unquoted(found.group(1)) for found in QUOTED.finditer(parts.group(3)))
+    segments = [IsSegment(D, read, names, m) for m in mapped]
+    if tuple(parts.group(3)) != Q.quoted_all(names) or not all(segments):
+        return False
+    ways = [()]
+    for place, options in HasLast(segments):
+        ways = [way + (D.mucwathi_mappings.Mappings.entry_of(written, (place, s)),) for way in ways for s in options][:64]
+    return any(AreMappings(D, D.mucwathi_mappings.Mappings.start, way, tuple(parts.group(4))) for way in ways)
+
+
+# ---- mucwathi_map
+def TellsNodes(D, name, text, out, source, answer, written, found):
+    S = D.mucwathi_map.Spots
+    news, outs = S.spots(answer), S.spots(written)
+    if len(news) != len(outs):
+        return False
+    olds = S.spots(source)
+    told = S.all_told(lambda place: S.name_at(olds, place), news, outs)
+    return IsMapOf(D, name, text, out, [Rec(read=a, written=b, old=old) for a, b, old in told], found)
+
+
+def TellsWritten(D, name, text, out, source, answer, written, found):
+    return IsTextOf(D, written, out) and SpansAreOf(D, written, out) and TellsNodes(D, name, text, out, source, answer, written, found)
+
+
+def IsMap(D, source, answer, written, name, text, out, found):
+    return IsReadAs(D, source, text) and SpansAreOf(D, source, text) and TellsWritten(D, name, text, out, source, answer, written, found)
+
+
+# ---- mucwathi_signs, mucwathi_marked
+SIGN = re.compile(rb'#(0|[1-9][0-9]*)(\.(0|[1-9][0-9]*))*')
+
+
+def IsMarked(text, out):
+    """all ways to write signs into a text so that it is another: each sign with its place and its marks"""
+    ways = {(0, 0): [()]}
+    for j in range(len(out) + 1):
+        for i in range(min(j, len(text)) + 1):
+            for way in ways.get((i, j), ()):
+                if text[i:i + 1] == out[j:j + 1] and i < len(text):
+                    ways.setdefault((i + 1, j + 1), []).append(way)
+                for sign in signs_at(bytes(out[j:])):
+                    marks = tuple(int(part) for part in sign[1:].split(b'.'))
+                    ways.setdefault((i, j + len(sign)), []).append(way + ((i, marks),))
+    return ways.get((len(text), len(out)), [])
+
+
+def signs_at(text):
+    """the signs that a text begins with: all that the longest begins with"""
+    found = SIGN.match(text)
+    return [sign for end in range(2, found.end() + 1 if found else 0) for sign in [text[:end]] if SIGN.fullmatch(sign)]
+
+
+def IsGiven(D, source, text, plain):
+    """of what is answered the text alone: the definition says nothing of the program"""
+    return bool(IsMarked(plain, text)) and IsTextOf(D, source, plain)
