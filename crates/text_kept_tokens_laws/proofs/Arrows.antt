@@ -18,10 +18,10 @@ use Rattle.text_pieces.specs.Pieces.{items_pieces, lone_piece, with_commas, writ
 use Rattle.text_pieces.specs.Tokens.{Piece, here, may_comma, name, parameter, punctuator}
 use Rattle.text_walk.proofs.Walked.{each_items, tree_pieces}
 use Rattle.text_kept_pieces_laws.proofs.Rows.{AllKept, Kept, kept_same, list_kept, lone_pieces, tree_kept}
+use Rattle.text_kept_pieces_laws.proofs.Plain.{name_pieces, plain_tree}
 use Rattle.text_kept_tokens_laws.specs.Written.{in_pair}
 use Rattle.text_kept_tokens_laws.specs.Written.AsWritten.{join, lone}
-use Rattle.text_kept_tokens_laws.proofs.Steps.{R, before, behind, equal, even, stated}
-use Rattle.text_kept_tokens_laws.proofs.Plain.{name_pieces, plain_kept, plain_tree}
+use Rattle.text_kept_tokens_laws.proofs.Steps.{R, before, behind, equal, even, plain_kept, stated}
 use Rattle.text_kept_tokens_laws.proofs.Items.{W, still}
 use Rattle.text_kept_tokens_laws.proofs.Unpairing.{renamed}
 

@@ -29,10 +29,10 @@ use Rattle.text_pieces.specs.Pieces.{Written, chosen, lines, quoted_piece, writt
 use Rattle.text_pieces.specs.Tokens.{Piece, gap, name, never as no_piece, punctuator, quoted, word}
 use Rattle.text_walk.proofs.Walked.{list_pieces, tree_pieces}
 use Rattle.text_kept_pieces_laws.proofs.Rows.{Kept, kept_same}
+use Rattle.text_kept_pieces_laws.proofs.Plain.{name_pieces, never, plain_name, plain_tree}
 use Rattle.text_kept_tokens_laws.specs.Written.{in_braces}
 use Rattle.text_kept_tokens_laws.specs.Written.AsWritten.{after, again as twice, block, computed, join, keyed, listed, same}
-use Rattle.text_kept_tokens_laws.proofs.Steps.{R, before, behind, equal, even, never, stated}
-use Rattle.text_kept_tokens_laws.proofs.Plain.{name_pieces, plain_kept, plain_name, plain_tree}
+use Rattle.text_kept_tokens_laws.proofs.Steps.{R, before, behind, equal, even, plain_kept, stated}
 
 abbrev pub W : Node → List Piece
 W t = written_with false t

@@ -1,5 +1,4 @@
 pub mod Steps
-pub mod Plain
 pub mod Places
 pub mod Unpairing
 pub mod Items

@@ -20,8 +20,9 @@ use Rattle.swc_base_fixer_laws.proofs.SetsRows.{items_open}
 use Rattle.text_pieces.specs.Layouts.{apart_layout_of, layout_of}
 use Rattle.text_pieces.specs.Leaves.{bound_name, only_name}
 use Rattle.text_kept_pieces_laws.proofs.Rows.{AllKept, Kept, kept_same, layout_free, list_kept, lone_pieces, tree_kept}
+use Rattle.text_kept_pieces_laws.proofs.Plain.{never}
 use Rattle.text_kept_tokens_laws.specs.Written.AsWritten.{join}
-use Rattle.text_kept_tokens_laws.proofs.Steps.{R, equal, even, never}
+use Rattle.text_kept_tokens_laws.proofs.Steps.{R, equal, even}
 
 -- places of which layouts ask no more than of most: of functions, classes, blocks, parts of chains and the parameters of an arrow they do
 abbrev pub wide : Slot → Bool

@@ -21,12 +21,12 @@ use Rattle.text_pieces.specs.Leaves.{bound_name}
 use Rattle.text_pieces.specs.Pieces.{written_with}
 use Rattle.text_walk.proofs.Walked.{tree_pieces}
 use Rattle.text_kept_pieces_laws.proofs.Rows.{Kept, kept_same, tree_kept}
+use Rattle.text_kept_pieces_laws.proofs.Plain.{Plain, is_seen, is_specifier, name_pieces, never, plain_name, plain_tree}
 use Rattle.text_kept_pieces_laws.proofs.Then.{kept_then}
 use Rattle.text_kept_tokens_laws.specs.Unpaired.{unpair_step, unpaired}
 use Rattle.text_kept_tokens_laws.specs.Written.{in_pair}
 use Rattle.text_kept_tokens_laws.specs.Written.AsWritten.{after, join, pair}
-use Rattle.text_kept_tokens_laws.proofs.Steps.{R, equal, even, never, stated}
-use Rattle.text_kept_tokens_laws.proofs.Plain.{Plain, is_seen, is_specifier, name_pieces, plain_kept, plain_name, plain_tree}
+use Rattle.text_kept_tokens_laws.proofs.Steps.{R, equal, even, plain_kept, stated}
 use Rattle.text_kept_tokens_laws.proofs.Places.{Stays, leaf_stays, list_none, list_stays, below_kept, tree_none, tree_stays, wide, wide_there}
 
 abbrev an_expression : Slot

@@ -33,10 +33,10 @@ use Rattle.text_pieces.specs.Pieces.{lines, written_with}
 use Rattle.text_pieces.specs.Tokens.{Piece, punctuator}
 use Rattle.text_walk.proofs.Walked.{list_pieces, tree_pieces}
 use Rattle.text_kept_pieces_laws.proofs.Rows.{AllKept, Kept, layout_free, list_kept, tree_kept}
+use Rattle.text_kept_pieces_laws.proofs.Plain.{never, plain_tree}
 use Rattle.text_kept_pieces_laws.proofs.Then.{kept_then}
 use Rattle.text_kept_tokens_laws.specs.Written.AsWritten.{after, join}
-use Rattle.text_kept_tokens_laws.proofs.Steps.{R, before, behind, even, never, stated}
-use Rattle.text_kept_tokens_laws.proofs.Plain.{plain_kept, plain_tree}
+use Rattle.text_kept_tokens_laws.proofs.Steps.{R, before, behind, even, plain_kept, stated}
 use Rattle.text_kept_tokens_laws.proofs.Places.{Stays, below_kept, is_narrow, leaf_stays, list_stays, tree_stays, wide, wide_there}
 use Rattle.text_kept_tokens_laws.proofs.Items.{Single, W, branch, export_kept, import_kept, key_kept, lines_split, name_single, opened_kept, property_kept, still, string_single}
 use Rattle.text_kept_tokens_laws.proofs.Arrows.{arrow_kept, pattern_kept, patterns_kept}

@@ -1,5 +1,5 @@
 -- Nodes of which a layout sees no more than that they stand there, as it does of most.
-use Rattle.std.proofs.Common.{◌≡◌, Bool, true, false, None, List, [], ◌∷◌, ◌||◌, rules, refl, sym, ap, ◌∙◌}
+use Rattle.std.proofs.Common.{◌≡◌, Bool, true, false, None, List, [], ◌∷◌, ◌++◌, ◌||◌, rules, refl, sym, ap, ◌∙◌}
 use Rattle.swc_tree_marks.specs.declared.ident.Ident.{Ident}
 use Rattle.swc_tree_node.specs.declared.kind.Kind.{Kind}
 use Rattle.swc_tree_node.specs.declared.kind.Kind.TheVariants as kind
@@ -9,15 +9,13 @@ use Rattle.swc_tree_node.specs.declared.node.Node.TheVariants.{outs-Identifier, 
 use Rattle.swc_tree_node.specs.Parts.{text_of}
 use Rattle.text_lexer.specs.declared.token.TemplatePart.{TemplatePart}
 use Rattle.text_pieces.specs.declared.item.Ending.TheVariants as ending
-use Rattle.text_pieces.specs.Forms.{accessor, attribute, attributes, ending_of_attributes, ending_of_key, meta}
+use Rattle.text_pieces.specs.Forms.{accessor, attribute, attributes, ending_of_attributes, ending_of_key, meta, when}
 use Rattle.text_pieces.specs.Leaves.{is_block, is_computed, is_declaration, is_default, is_empty_list, is_expression_statement, is_hole, is_let, is_named, is_rest, is_set, items_of, takes_comma}
 use Rattle.text_pieces.specs.Pieces.{Written, template_piece, written, written_step, written_with}
 use Rattle.text_pieces.specs.Tokens as token
-use Rattle.text_pieces.specs.Tokens.{name}
+use Rattle.text_pieces.specs.Tokens.{Piece, closes, name}
 use Rattle.text_kept_pieces_laws.proofs.Seen.{Seen, text_of_name, text_of_tree}
 use Rattle.text_kept_pieces_laws.proofs.Rows.{Kept, is_own, none_each, none_items, tree_step}
-use Rattle.text_kept_tokens_laws.specs.Written.AsWritten.{join}
-use Rattle.text_kept_tokens_laws.proofs.Steps.{R, even, let_ends, never}
 
 -- `named` says whether the node is a name in braces
 pub record Plain (named : Bool) (t : Node) : Type 0 where
@@ -69,21 +67,25 @@ seen_plain b t u p q = record {
 no_own : (b : Bool) (t : Node) → Plain b t → is_own (out-Node t) ≡ false
 no_own b t p = ap (λ c. c || is_expression_statement (out-Node t)) p.declaration ∙ p.expression
 
+pub never : {A : Type 0} → true ≡ false → A
+never h = absurd (cc)
+
 -- where the place asks for no more one stands for another
-pub plain_kept : (b : Bool) (t u : Node) → Plain b t → Plain b u → R (written_with false t) (written_with false u) → Kept R true t u
-plain_kept b t u p q h = record {
-  looks = record {
-    seen = seen_plain b t u p q;
-    items = none_items R even join _ _ p.items q.items;
-    function = λ o n. never o;
-    only = λ o. never o;
-    lone = λ o. never o;
-    let_ends = let_ends (is_let (out-Node t)) (is_let (out-Node u));
-  };
-  stands = record { of_pieces = h; of_each = none_each R even join _ _ p.each q.each };
-  within = λ o. never o;
-  apart = λ own. never (sym (own refl) ∙ no_own b t p);
-}
+module _ (R : List Piece → List Piece → Type 0) (same : (ps : List Piece) → R ps ps) (join : (ps qs rs ss : List Piece) → R ps qs → R rs ss → R (ps ++ rs) (qs ++ ss)) where
+  pub plain_kept : (b : Bool) (t u : Node) → Plain b t → Plain b u → R (when (is_let (out-Node t)) (closes ending.Let)) (when (is_let (out-Node u)) (closes ending.Let)) → R (written_with false t) (written_with false u) → Kept R true t u
+  plain_kept b t u p q ends h = record {
+    looks = record {
+      seen = seen_plain b t u p q;
+      items = none_items R same join _ _ p.items q.items;
+      function = λ o n. never o;
+      only = λ o. never o;
+      lone = λ o. never o;
+      let_ends = ends;
+    };
+    stands = record { of_pieces = h; of_each = none_each R same join _ _ p.each q.each };
+    within = λ o. never o;
+    apart = λ own. never (sym (own refl) ∙ no_own b t p);
+  }
 
 -- ---- trees
 
