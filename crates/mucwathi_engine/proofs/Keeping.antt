@@ -10,7 +10,6 @@ use Rattle.swc_base_rename_substitution.specs.declared.config.Config.{Config}
 use Rattle.swc_ecma_transforms_base_laws.specs.Sources.{IsSource}
 use Rattle.text_parser.specs.declared.programs.Goal.{Goal}
 use Rattle.text_source.specs.Texts.{class_of, slot_of}
-use Rattle.text_kept_namings_laws.specs.Laws.{NamesAreUtf8}
 use Rattle.text_kept_chain_laws.specs.Laws.{HasTexts}
 use Rattle.mucwathi_settings.specs.declared.command.Settings.{Settings}
 use Rattle.mucwathi_order.specs.declared.order.Order.{Order}
@@ -32,8 +31,8 @@ module _ (keeps : PromisesAreKept) (spares : TargetsAreSpared) (texts : TextsAre
   had : (t : Node) → IsReadAs order.goal t text → HasTexts (slot_of order.goal) t
   had t read = record { fits = read.1.fits; shaped = read.1.shaped; spelled = read.1.spelled }
 
-  kept_texts : (t u : Node) → IsReadAs order.goal t text → Makes order.command order.settings t u → NamesAreUtf8 t → HasTexts (slot_of order.goal) u
-  kept_texts t u read made utf8 = texts order.command order.settings (slot_of order.goal) t u (is_program order.goal) utf8 made (had t read)
+  kept_texts : (t u : Node) → IsReadAs order.goal t text → Makes order.command order.settings t u → HasTexts (slot_of order.goal) u
+  kept_texts t u read made = texts order.command order.settings (slot_of order.goal) t u (is_program order.goal) made (had t read)
 
   unwritten : IsUnwritten order text → IsUnwrittenThough order text
   unwritten h = record { unwritten = h; texts = kept_texts h.source h.answer h.read h.made }
