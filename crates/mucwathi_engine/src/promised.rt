@@ -15,8 +15,8 @@ use std::alloc::Global;
 /// two the grammar derives it: of a module, and of a plain script, without early errors of names, that can be written down, in which
 /// nothing reads names and where classes don't keep theirs. `cover_text` says whether a text is one. Of each text the answer's productions
 /// have their lengths, and its leaves are tokens of their kinds. A chain and mangling change no token but names that the program binds, once
-/// all is written out and parentheses are off (`normal_form`): of a source of which stripping takes off pairs alone, the answer has its
-/// tokens but for such names, pairs, blocks and what is written out (`KeepsTokens`).
+/// all is written out and parentheses are off (`normal_form`): the answer has the tokens of a source but for such names, pairs, blocks, what
+/// is written out, and what does nothing (`KeepsTokens`).
 ///
 /// # Errors
 ///

@@ -41,7 +41,7 @@ pub record Plain (named : Bool) (t : Node) : Type 0 where
   pub items : items_of (out-Node t) ≡ []
   pub each : (written false t).each ≡ None
 
-seen_plain : (b : Bool) (t u : Node) → Plain b t → Plain b u → Seen t u
+pub seen_plain : (b : Bool) (t u : Node) → Plain b t → Plain b u → Seen t u
 seen_plain b t u p q = record {
   set = p.set ∙ sym q.set;
   hole = p.hole ∙ sym q.hole;

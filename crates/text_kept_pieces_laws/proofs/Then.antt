@@ -43,3 +43,25 @@ module _ (R : List Piece → List Piece → Type 0) (after : (ps qs rs : List Pi
     within = λ o. after _ _ _ (c.within o) (d.within o);
     apart = λ own. after _ _ _ (c.apart own) (d.apart (λ o. sym (own_same t u c.looks.seen) ∙ own o));
   }
+
+-- what holds by one relation holds by one that follows from it
+module _ (R S : List Piece → List Piece → Type 0) (to : (ps qs : List Piece) → R ps qs → S ps qs) where
+  lists_as : (pss qss : List (List Piece)) → Lists R pss qss → Lists S pss qss
+  lists_as [] [] c = tt
+  lists_as (ps ∷ pss) (qs ∷ qss) c = (to ps qs c.0, lists_as pss qss c.1)
+  lists_as [] (qs ∷ qss) c = absurd c
+  lists_as (ps ∷ pss) [] c = absurd c
+
+  each_as : (x y : Option (List Node × List (List Piece))) → Each' R x y → Each' S x y
+  each_as (Some x) (Some y) c = (c.0, lists_as x.1 y.1 c.1)
+  each_as None None c = tt
+  each_as (Some x) None c = absurd c
+  each_as None (Some y) c = absurd c
+
+  pub kept_as : (wide : Bool) (t u : Node) → Kept R wide t u → Kept S wide t u
+  kept_as wide t u c = record {
+    looks = record { seen = c.looks.seen; items = c.looks.items; function = c.looks.function; only = c.looks.only; lone = λ o. to _ _ (c.looks.lone o); let_ends = to _ _ c.looks.let_ends };
+    stands = record { of_pieces = to _ _ c.stands.of_pieces; of_each = each_as _ _ c.stands.of_each };
+    within = λ o. to _ _ (c.within o);
+    apart = λ own. to _ _ (c.apart own);
+  }

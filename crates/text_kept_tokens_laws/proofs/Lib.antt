@@ -4,4 +4,5 @@ pub mod Unpairing
 pub mod Items
 pub mod Arrows
 pub mod Writing
+pub mod Stripping
 pub mod Whole

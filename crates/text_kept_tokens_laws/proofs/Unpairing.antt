@@ -27,14 +27,14 @@ use Rattle.text_kept_tokens_laws.specs.Unpaired.{unpair_step, unpaired}
 use Rattle.text_kept_tokens_laws.specs.Written.{in_pair}
 use Rattle.text_kept_tokens_laws.specs.Written.AsWritten.{after, join, pair}
 use Rattle.text_kept_tokens_laws.proofs.Steps.{R, equal, even, plain_kept, stated}
-use Rattle.text_kept_tokens_laws.proofs.Places.{Stays, leaf_stays, list_none, list_stays, below_kept, tree_none, tree_stays, wide, wide_there}
+use Rattle.text_kept_tokens_laws.proofs.Places.{Any, Holds, all_below, all_leaf, all_list, all_tree, list_none, tree_none, wide, wide_there}
 
-abbrev an_expression : Slot
+abbrev pub an_expression : Slot
 an_expression = slot.One (content.Node class.Expr)
 
 -- ---- expressions
 
-abbrev Expression : Node → Type 0
+abbrev pub Expression : Node → Type 0
 Expression t = Plain false t × (bound_name (out-Node t) ≡ None)
 
 misfit : {A : Type 0} (t : Node) → fits t an_expression ≡ false → Fits t an_expression → A
@@ -62,7 +62,7 @@ unbound : (k : Kind) (i : Ident) → belongs k class.Expr ≡ true → bound_nam
 unbound kind.BindingIdent i h = never (sym h)
 unbound k i h = refl
 
-expression : (t : Node) → Fits t an_expression → Expression t
+pub expression : (t : Node) → Fits t an_expression → Expression t
 expression t = by_children (λ t. Fits t an_expression → Expression t) (
   λ h. misfit Absent (fits-Absent an_expression) h,
   λ x h. misfit (Flag x) (fits-Flag x an_expression) h,
@@ -113,8 +113,8 @@ tree_bound kind.ParenExpr ts l s h = pair_bound ts l s h
 tree_bound kind.AssignExpr ts l s h = let (us, is) = assigned (map unpaired ts) in both_none (Tree kind.AssignExpr ts) (Tree kind.AssignExpr us) (tree_none kind.AssignExpr ts) (unpaired_tree kind.AssignExpr ts ∙ is) (tree_none kind.AssignExpr us)
 tree_bound k ts l s h = both_none (Tree k ts) (Tree k (map unpaired ts)) (tree_none k ts) (unpaired_tree k ts ∙ rolls-Tree k (map unpaired ts)) (tree_none k (map unpaired ts))
 
-pub bound : (t : Node) (s : Slot) → Fits t s → bound_name (out-Node t) ≡ bound_name (out-Node (unpaired t))
-bound t = by_children (λ t. (s : Slot) → Fits t s → bound_name (out-Node t) ≡ bound_name (out-Node (unpaired t))) (
+unpaired_bound : (t : Node) (s : Slot) → Fits t s → bound_name (out-Node t) ≡ bound_name (out-Node (unpaired t))
+unpaired_bound t = by_children (λ t. (s : Slot) → Fits t s → bound_name (out-Node t) ≡ bound_name (out-Node (unpaired t))) (
   λ s h. same_bound Absent (search (rules, the_lemmas)),
   λ x s h. same_bound (Flag x) (search (rules, the_lemmas)),
   λ w s h. same_bound (Word w) (search (rules, the_lemmas)),
@@ -125,8 +125,11 @@ bound t = by_children (λ t. (s : Slot) → Fits t s → bound_name (out-Node t)
     (λ ts l s h. both_none (Many ts) (Many (map unpaired ts)) (list_none ts) (unpaired_list ts) (list_none (map unpaired ts)))
     tree_bound t
 
-abbrev pub Holds : Node → Type 0
-Holds t = Stays unpaired bound t
+pub bound : (t : Node) (s : Slot) → Any t → Fits t s → bound_name (out-Node t) ≡ bound_name (out-Node (unpaired t))
+bound t s q h = unpaired_bound t s h
+
+abbrev pub Stays : Node → Type 0
+Stays t = Holds unpaired bound t
 
 -- ---- targets
 
@@ -155,54 +158,54 @@ target_kept t = by (out-Node t) refl
 pair_pieces : (a e : Node) → written_with false (Tree kind.ParenExpr (a ∷ e ∷ [])) ≡ in_pair (written_with false e)
 pair_pieces a e = tree_pieces false kind.ParenExpr (a ∷ e ∷ [])
 
-pair_off : (a e : Node) → Plain false e → Kept R true (Tree kind.ParenExpr (a ∷ e ∷ [])) e
+pub pair_off : (a e : Node) → Plain false e → Kept R true (Tree kind.ParenExpr (a ∷ e ∷ [])) e
 pair_off a e p =
     plain_kept false (Tree kind.ParenExpr (a ∷ e ∷ [])) e (plain_tree kind.ParenExpr (a ∷ e ∷ []) refl) p
     (stated (written_with false (Tree kind.ParenExpr (a ∷ e ∷ []))) (written_with false e) (in_pair (written_with false e)) (written_with false e) (pair_pieces a e) refl (pair (written_with false e)))
 
-pair_kept : (ts : List Node) → Each Holds ts → Holds (Tree kind.ParenExpr ts)
-pair_kept (a ∷ e ∷ []) l s h =
+pair_kept : (ts : List Node) → Each Stays ts → Stays (Tree kind.ParenExpr ts)
+pair_kept (a ∷ e ∷ []) l s q h =
     let ts : List Node = a ∷ e ∷ [] in
     let f : Fits e an_expression = (tree_open kind.ParenExpr ts s h).4.1.0 in
-    let all : Kept R true (Tree kind.ParenExpr ts) (unpaired e) = kept_then R after true (Tree kind.ParenExpr ts) e (unpaired e) (pair_off a e (expression e f).0) (l.1.0 an_expression f) in
+    let all : Kept R true (Tree kind.ParenExpr ts) (unpaired e) = kept_then R after true (Tree kind.ParenExpr ts) e (unpaired e) (pair_off a e (expression e f).0) (l.1.0 an_expression tt f) in
     subst (λ (w : Bool). Kept R w (Tree kind.ParenExpr ts) (unpaired (Tree kind.ParenExpr ts))) (sym (wide_there kind.ParenExpr ts s refl h)) (subst (Kept R true (Tree kind.ParenExpr ts)) (sym (unpaired_tree kind.ParenExpr ts)) all)
-pair_kept [] l s h = absurd ((tree_open kind.ParenExpr [] s h).4)
-pair_kept (a ∷ []) l s h = absurd ((tree_open kind.ParenExpr (a ∷ []) s h).4.1)
-pair_kept (a ∷ e ∷ c ∷ ts) l s h = absurd ((tree_open kind.ParenExpr (a ∷ e ∷ c ∷ ts) s h).4.1.1)
+pair_kept [] l s q h = absurd ((tree_open kind.ParenExpr [] s h).4)
+pair_kept (a ∷ []) l s q h = absurd ((tree_open kind.ParenExpr (a ∷ []) s h).4.1)
+pair_kept (a ∷ e ∷ c ∷ ts) l s q h = absurd ((tree_open kind.ParenExpr (a ∷ e ∷ c ∷ ts) s h).4.1.1)
 
 -- ---- assignments
 
-assigned_kept : (w : Bool) (a o t v : Node) → Kept R w (Tree kind.AssignExpr (a ∷ o ∷ t ∷ v ∷ [])) (Tree kind.AssignExpr (a ∷ o ∷ target t ∷ v ∷ []))
+pub assigned_kept : (w : Bool) (a o t v : Node) → Kept R w (Tree kind.AssignExpr (a ∷ o ∷ t ∷ v ∷ [])) (Tree kind.AssignExpr (a ∷ o ∷ target t ∷ v ∷ []))
 assigned_kept w a o t v =
     tree_kept R even join (λ n. true) w kind.AssignExpr (a ∷ o ∷ t ∷ v ∷ []) (a ∷ o ∷ target t ∷ v ∷ []) refl refl
     (kept_same R even join true a, (kept_same R even join true o, (target_kept t, (kept_same R even join true v, tt))))
 
-assignment_kept : (ts : List Node) → Each Holds ts → Holds (Tree kind.AssignExpr ts)
-assignment_kept (a ∷ o ∷ t ∷ v ∷ []) l s h =
+assignment_kept : (ts : List Node) → Each Stays ts → Stays (Tree kind.AssignExpr ts)
+assignment_kept (a ∷ o ∷ t ∷ v ∷ []) l s q h =
     let ts : List Node = a ∷ o ∷ t ∷ v ∷ [] in
     subst (Kept R (wide s) (Tree kind.AssignExpr ts)) (sym (unpaired_tree kind.AssignExpr ts))
     (kept_then R after (wide s) (Tree kind.AssignExpr ts) (Tree kind.AssignExpr (map unpaired ts)) (Tree kind.AssignExpr (unpaired a ∷ unpaired o ∷ target (unpaired t) ∷ unpaired v ∷ []))
-    (below_kept unpaired bound s kind.AssignExpr ts l h) (assigned_kept (wide s) (unpaired a) (unpaired o) (unpaired t) (unpaired v)))
-assignment_kept [] l s h = absurd ((tree_open kind.AssignExpr [] s h).4)
-assignment_kept (a ∷ []) l s h = absurd ((tree_open kind.AssignExpr (a ∷ []) s h).4.1)
-assignment_kept (a ∷ o ∷ []) l s h = absurd ((tree_open kind.AssignExpr (a ∷ o ∷ []) s h).4.1.1)
-assignment_kept (a ∷ o ∷ t ∷ []) l s h = absurd ((tree_open kind.AssignExpr (a ∷ o ∷ t ∷ []) s h).4.1.1.1)
-assignment_kept (a ∷ o ∷ t ∷ v ∷ w ∷ ts) l s h = absurd ((tree_open kind.AssignExpr (a ∷ o ∷ t ∷ v ∷ w ∷ ts) s h).4.1.1.1.1)
+    (all_below unpaired bound s kind.AssignExpr ts l h) (assigned_kept (wide s) (unpaired a) (unpaired o) (unpaired t) (unpaired v)))
+assignment_kept [] l s q h = absurd ((tree_open kind.AssignExpr [] s h).4)
+assignment_kept (a ∷ []) l s q h = absurd ((tree_open kind.AssignExpr (a ∷ []) s h).4.1)
+assignment_kept (a ∷ o ∷ []) l s q h = absurd ((tree_open kind.AssignExpr (a ∷ o ∷ []) s h).4.1.1)
+assignment_kept (a ∷ o ∷ t ∷ []) l s q h = absurd ((tree_open kind.AssignExpr (a ∷ o ∷ t ∷ []) s h).4.1.1.1)
+assignment_kept (a ∷ o ∷ t ∷ v ∷ w ∷ ts) l s q h = absurd ((tree_open kind.AssignExpr (a ∷ o ∷ t ∷ v ∷ w ∷ ts) s h).4.1.1.1.1)
 
 -- ---- each node
 
-each_tree : (k : Kind) (ts : List Node) → Each Holds ts → Holds (Tree k ts)
+each_tree : (k : Kind) (ts : List Node) → Each Stays ts → Stays (Tree k ts)
 each_tree kind.ParenExpr ts l = pair_kept ts l
 each_tree kind.AssignExpr ts l = assignment_kept ts l
-each_tree k ts l = tree_stays unpaired bound k ts (unpaired_tree k ts ∙ rolls-Tree k (map unpaired ts)) l
+each_tree k ts l = all_tree unpaired bound k ts (unpaired_tree k ts ∙ rolls-Tree k (map unpaired ts)) l
 
-pub unpaired_kept : (t : Node) → Holds t
-unpaired_kept t = by_children Holds (
-  leaf_stays unpaired bound Absent (search (rules, the_lemmas)),
-  λ x. leaf_stays unpaired bound (Flag x) (search (rules, the_lemmas)),
-  λ w. leaf_stays unpaired bound (Word w) (search (rules, the_lemmas)),
-  λ x. leaf_stays unpaired bound (Text x) (search (rules, the_lemmas)),
-  λ r. leaf_stays unpaired bound (Span r) (search (rules, the_lemmas)),
-  λ k i. leaf_stays unpaired bound (Identifier k i) (search (rules, the_lemmas)),
+pub unpaired_kept : (t : Node) → Stays t
+unpaired_kept t = by_children Stays (
+  all_leaf unpaired bound Absent (search (rules, the_lemmas)),
+  λ x. all_leaf unpaired bound (Flag x) (search (rules, the_lemmas)),
+  λ w. all_leaf unpaired bound (Word w) (search (rules, the_lemmas)),
+  λ x. all_leaf unpaired bound (Text x) (search (rules, the_lemmas)),
+  λ r. all_leaf unpaired bound (Span r) (search (rules, the_lemmas)),
+  λ k i. all_leaf unpaired bound (Identifier k i) (search (rules, the_lemmas)),
 )
-    (λ ts l. list_stays unpaired bound ts (unpaired_list ts) l) each_tree t
+    (λ ts l. all_list unpaired bound ts (unpaired_list ts) l) each_tree t

@@ -37,15 +37,15 @@ use Rattle.text_kept_pieces_laws.proofs.Plain.{never, plain_tree}
 use Rattle.text_kept_pieces_laws.proofs.Then.{kept_then}
 use Rattle.text_kept_tokens_laws.specs.Written.AsWritten.{after, join}
 use Rattle.text_kept_tokens_laws.proofs.Steps.{R, before, behind, even, plain_kept, stated}
-use Rattle.text_kept_tokens_laws.proofs.Places.{Stays, below_kept, is_narrow, leaf_stays, list_stays, tree_stays, wide, wide_there}
+use Rattle.text_kept_tokens_laws.proofs.Places.{Any, Holds, all_below, all_leaf, all_list, all_tree, is_narrow, wide, wide_there}
 use Rattle.text_kept_tokens_laws.proofs.Items.{Single, W, branch, export_kept, import_kept, key_kept, lines_split, name_single, opened_kept, property_kept, still, string_single}
 use Rattle.text_kept_tokens_laws.proofs.Arrows.{arrow_kept, pattern_kept, patterns_kept}
 
-pub bound : (t : Node) (s : Slot) → Fits t s → bound_name (out-Node t) ≡ bound_name (out-Node (written_out t))
-bound t s h = sym (written_looks bound_name None (λ k ts. refl) (λ ts. refl) t)
+pub bound : (t : Node) (s : Slot) → Any t → Fits t s → bound_name (out-Node t) ≡ bound_name (out-Node (written_out t))
+bound t s q h = sym (written_looks bound_name None (λ k ts. refl) (λ ts. refl) t)
 
-abbrev pub Holds : Node → Type 0
-Holds t = Stays written_out bound t
+abbrev pub Stays : Node → Type 0
+Stays t = Holds written_out bound t
 
 -- what a step makes of a node of a kind whose fields are written out
 abbrev Steps : Kind → List Node → Type 0
@@ -325,15 +325,15 @@ module_step a e b f =
 
 -- ---- each node
 
-written_kept : (k : Kind) (ts : List Node) → is_narrow k ≡ false → Each Holds ts → (FieldsFit (slots_of k) ts → Steps k ts) → Holds (Tree k ts)
-written_kept k ts n l g s h =
+written_kept : (k : Kind) (ts : List Node) → is_narrow k ≡ false → Each Stays ts → (FieldsFit (slots_of k) ts → Steps k ts) → Stays (Tree k ts)
+written_kept k ts n l g s q h =
     let w : wide s ≡ true = wide_there k ts s n h in
-    let below : Kept R true (Tree k ts) (Tree k (map written_out ts)) = subst (λ (w : Bool). Kept R w (Tree k ts) (Tree k (map written_out ts))) w (below_kept written_out bound s k ts l h) in
+    let below : Kept R true (Tree k ts) (Tree k (map written_out ts)) = subst (λ (w : Bool). Kept R w (Tree k ts) (Tree k (map written_out ts))) w (all_below written_out bound s k ts l h) in
     let all : Kept R true (Tree k ts) (written_step (Node-F.Tree k (map written_out ts)))
     = kept_then R after true (Tree k ts) (Tree k (map written_out ts)) (written_step (Node-F.Tree k (map written_out ts))) below (g (tree_open k ts s h).4) in
     subst (λ (w : Bool). Kept R w (Tree k ts) (written_out (Tree k ts))) (sym w) (subst (Kept R true (Tree k ts)) (sym (written_tree k ts)) all)
 
-each_tree : (k : Kind) (ts : List Node) → Each Holds ts → Holds (Tree k ts)
+each_tree : (k : Kind) (ts : List Node) → Each Stays ts → Stays (Tree k ts)
 each_tree kind.IfStmt ts l = written_kept kind.IfStmt ts refl l (λ f. four (Steps kind.IfStmt) _ _ _ _ if_step ts f)
 each_tree kind.ObjectLit ts l = written_kept kind.ObjectLit ts refl l (λ f. two (Steps kind.ObjectLit) _ _ object_step ts f)
 each_tree kind.AssignPatProp ts l = written_kept kind.AssignPatProp ts refl l (λ f. three (Steps kind.AssignPatProp) _ _ _ key_step ts f)
@@ -351,15 +351,15 @@ each_tree kind.ForOfStmt ts l = written_kept kind.ForOfStmt ts refl l (λ f. fiv
 each_tree kind.ImportNamedSpecifier ts l = written_kept kind.ImportNamedSpecifier ts refl l (λ f. three (Steps kind.ImportNamedSpecifier) _ _ _ import_step ts f)
 each_tree kind.NamedExport ts l = written_kept kind.NamedExport ts refl l (λ f. four (Steps kind.NamedExport) _ _ _ _ export_step ts f)
 each_tree kind.Module ts l = written_kept kind.Module ts refl l (λ f. three (Steps kind.Module) _ _ _ module_step ts f)
-each_tree k ts l = tree_stays written_out bound k ts (written_tree k ts ∙ rolls-Tree k (map written_out ts)) l
+each_tree k ts l = all_tree written_out bound k ts (written_tree k ts ∙ rolls-Tree k (map written_out ts)) l
 
-pub written_out_kept : (t : Node) → Holds t
-written_out_kept t = by_children Holds (
-  leaf_stays written_out bound Absent (search (rules, the_lemmas)),
-  λ x. leaf_stays written_out bound (Flag x) (search (rules, the_lemmas)),
-  λ w. leaf_stays written_out bound (Word w) (search (rules, the_lemmas)),
-  λ x. leaf_stays written_out bound (Text x) (search (rules, the_lemmas)),
-  λ r. leaf_stays written_out bound (Span r) (search (rules, the_lemmas)),
-  λ k i. leaf_stays written_out bound (Identifier k i) (written_name k i),
+pub written_out_kept : (t : Node) → Stays t
+written_out_kept t = by_children Stays (
+  all_leaf written_out bound Absent (search (rules, the_lemmas)),
+  λ x. all_leaf written_out bound (Flag x) (search (rules, the_lemmas)),
+  λ w. all_leaf written_out bound (Word w) (search (rules, the_lemmas)),
+  λ x. all_leaf written_out bound (Text x) (search (rules, the_lemmas)),
+  λ r. all_leaf written_out bound (Span r) (search (rules, the_lemmas)),
+  λ k i. all_leaf written_out bound (Identifier k i) (written_name k i),
 )
-    (λ ts l. list_stays written_out bound ts (written_list ts) l) each_tree t
+    (λ ts l. all_list written_out bound ts (written_list ts) l) each_tree t

@@ -3,7 +3,7 @@
 //! `specs/Laws.antt` states the laws. Each is the contract of a function that does nothing, so that it is proved.
 #![tactic(auto)]
 
-ghost use Rattle.text_kept_tokens_laws.specs.Laws.{AnswersKeepTokens, ChainsKeepTokens, NormalFormsKeepTokens, UnpairingKeepsTokens, WritingOutKeepsTokens};
+ghost use Rattle.text_kept_tokens_laws.specs.Laws.{AnswersKeepTokens, ChainsKeepTokens, NormalFormsKeepTokens, StrippingKeepsTokens, UnpairingKeepsTokens, WritingOutKeepsTokens};
 
 /// Written out, a tree has its tokens, and what is written out.
 pub fn writing_out_keeps_tokens()
@@ -15,7 +15,12 @@ pub fn unpairing_keeps_tokens()
     ensures { UnpairingKeepsTokens }
 {}
 
-/// A program and its normal form have the same tokens, where the fixer takes off pairs alone.
+/// Stripped, it has its tokens but for those and what does nothing.
+pub fn stripping_keeps_tokens()
+    ensures { StrippingKeepsTokens }
+{}
+
+/// So have a program and its normal form the same tokens.
 pub fn normal_forms_keep_tokens()
     ensures { NormalFormsKeepTokens }
 {}
