@@ -52,10 +52,11 @@ def odd_names(random, size):
 def misfits(random, size):
     """trees some of whose nodes stand where they don't fit, with marks on some names"""
     if random.chance(0.1):
-        name = ('Identifier', 'BindingIdent', js.REC(span=SPAN[1], ctxt=(random.below(3),), sym=js.codes('a')))
-        export = tree('ExportDecl', SPAN, tree('VarDecl', SPAN, ('Word', 'Var'), ('List', (tree('VarDeclarator', SPAN, name, ABSENT),))))
+        bound, free = (('Identifier', its, js.REC(span=SPAN[1], ctxt=(mark,), sym=js.codes('xy'))) for its, mark in (('BindingIdent', 1), ('Ident', 2)))
+        export = tree('ExportDecl', SPAN, tree('VarDecl', SPAN, ('Word', 'Var'), ('List', (tree('VarDeclarator', SPAN, bound, ABSENT),))))
         texts = [tree('TplElement', SPAN, ('Flag', last), ('Text', js.codes('')), ('Text', js.codes(''))) for last in (False, True)]
-        return with_marks(random, script(random.pick([tree('Tpl', SPAN, ('List', (export,)), ('List', tuple(texts))), tree('ArrayLit', SPAN, ('List', (export, export)))])))
+        made = random.pick([tree('Tpl', SPAN, ('List', (export,)), ('List', tuple(texts))), tree('ArrayLit', SPAN, ('List', (export, export)))])
+        return script(random.pick([made, tree('BinExpr', SPAN, ('Word', 'Plus'), made, free)]))
     t = unfitting(random, size)
     return t and with_marks(random, t)
 
