@@ -83,6 +83,13 @@ def slice_set(items, i, item):
     return items[:i] + (item,) + items[i + 1:] if i < len(items) else items
 
 
+def is_utf8(text):
+    try:
+        return bytes(text).decode() is not None
+    except UnicodeDecodeError:
+        return False
+
+
 def is_scalar(c):
     return c < 0x110000 and not 0xD800 <= c < 0xE000
 
@@ -118,7 +125,7 @@ STANDARD = {
     'Some': (1, '({0},)'), 'Ok': (1, "('Ok', {0})"), 'Err': (1, "('Err', {0})"),
     'slice_index': (2, '(lambda xs, i: xs[i] if i < len(xs) else 0)({0}, {1})'), 'option_to_list': (1, '({0} or ())'), 'option_copied': (1, '{0}'),
     'is_ascii_digit': (1, '(48 <= {0} <= 57)'), 'is_ascii_hexdigit': (1, '(lambda c: 48 <= c <= 57 or 65 <= c <= 70 or 97 <= c <= 102)({0})'),
-    'is_ascii_alphabetic': (1, '(lambda c: 65 <= c <= 90 or 97 <= c <= 122)({0})'), 'encode_utf8': (1, 'tuple(chr({0}).encode())'),
+    'is_ascii_alphabetic': (1, '(lambda c: 65 <= c <= 90 or 97 <= c <= 122)({0})'), 'encode_utf8': (1, 'tuple(chr({0}).encode())'), 'is_utf8': (1, 'is_utf8({0})'),
     # of other crates than ours; names by what Python knows of Unicode
     'scalar': (1, 'is_scalar({0})'), 'is_id_start': (1, '(is_scalar({0}) and chr({0}).isidentifier())'),
     'is_id_continue': (1, "(is_scalar({0}) and ('a' + chr({0})).isidentifier())"),
@@ -131,4 +138,4 @@ OPERATORS = {
     '||': '({0} or {1})', '&&': '({0} and {1})', '∷': '(({0},) + {1})', '++': '({0} + {1})', '==': '({0} == {1})',
     '<': '({0} < {1})', '+': '({0} + {1})', '-': 'max(0, {0} - {1})', '*': '({0} * {1})', '/': '({0} // {1})', '%': '({0} % {1})', '^': '({0} ** {1})'}
 CALLED = {name: globals()[name] for name in (
-    'Rec', 'updated', 'map_node', 'fold_node', 'pointwise', 'flat_map', 'find', 'position', 'prefix_len', 'slice_set', 'is_scalar', 'no_clause')}
+    'Rec', 'updated', 'map_node', 'fold_node', 'pointwise', 'flat_map', 'find', 'position', 'prefix_len', 'slice_set', 'is_scalar', 'is_utf8', 'no_clause')}

@@ -8,7 +8,8 @@ import trees
 from antt_values import Rec
 
 CRATES = ('text_characters', 'text_strings', 'text_values', 'text_lexer', 'text_words', 'text_pieces', 'text_follow', 'text_grammar',
-          'text_spelling', 'text_reader', 'text_source', 'text_spans', 'text_derives', 'text_checks', 'text_pinned', 'text_comments', 'text_edit', 'text_places', 'text_kept_pieces_laws')
+          'text_spelling', 'text_reader', 'text_source', 'text_spans', 'text_derives', 'text_checks', 'text_pinned', 'text_comments', 'text_edit', 'text_places', 'text_kept_pieces_laws',
+          'text_kept_tokens_laws')
 # the relations that this was made from, by crate, by digests of their texts, as in scoping.py
 SOURCES = {
     'text_follow': {'Follows': 'd864ea92f49a', 'FollowsFrom': '3fa5f2a378d6', 'InParens': 'fde49c9e6b45', 'IsCooked': '2b1e5a733852',

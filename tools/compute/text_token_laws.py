@@ -334,3 +334,132 @@ def idle_free_tokens(t):
 
 def trees_with_sequences(t):
     return following.HasNode(lambda node: node[0] == 'Tree' and node[1] == 'SeqExpr', t)
+
+
+# ---- with all written out
+BETWEEN = ('closes', 'gap')
+
+
+def taken(t):
+    """the pieces of a tree, but for what is said between two tokens"""
+    return [p for p in following.pieces(D.all, t) if following.word(p) not in BETWEEN]
+
+
+def computed_key(p):
+    return [BRACKETS[0], ('quoted', p[1], None), BRACKETS[1], COLON, p]
+
+
+def listed(qs, j):
+    """behind an export list of names that begins at a place; None where none does"""
+    if qs[j:j + 2] != [EXPORT, OPEN]:
+        return None
+    j += 2
+    while j < len(qs) and is_name(qs[j]) and qs[j + 1:j + 3] == [AS, qs[j]]:
+        j += 4 if qs[j + 3:j + 4] == [COMMA] else 3
+    if qs[j:j + 1] == ['may_comma']:
+        j += 1
+    return j + 2 if qs[j:j + 2] == [CLOSE, 'ends'] else None
+
+
+def becoming(p, qs, j):
+    """how many tokens from a place on one may stand for, written out"""
+    if qs[j:j + 3] == [p, AS, p]:
+        yield 3
+    if is_name(p):
+        if qs[j:j + 3] == [p, COLON, p]:
+            yield 3
+        if p[1] == PROTO and qs[j:j + 5] == computed_key(p):
+            yield 5
+
+
+def as_written(ps, qs, state):
+    """from so many pieces of both lists, with what is left out or still to come, to the next, by the steps of `AsWritten`"""
+    i, j, left = state
+    p, last = ps[i] if i < len(ps) else None, left[-1:]
+    if p is not None:
+        if j < len(qs) and p == qs[j]:
+            yield i + 1, j + 1, left
+        for more in becoming(p, qs, j):
+            yield i + 1, j + more, left
+        if p in (SET, OPEN, EXPORT):
+            yield i + 1, j, left + (p,)
+        if (p, last) in ((LEFT, (SET,)), (CLOSE, (OPEN,))):
+            yield i + 1, j, left[:-1]
+        if p == SET and ps[i + 2:i + 4] == ['may_comma', LEFT] and j < len(qs) and qs[j] == ('parameter', ps[i + 1][1]):
+            yield i + 4, j + 1, left
+    behind = listed(qs, j) if last == (EXPORT,) else None
+    if behind:
+        yield i, behind, left[:-1]
+
+
+def AsWritten(ps, qs):
+    seen, states = set(), [(0, 0, ())]
+    while states:
+        state = states.pop()
+        if state == (len(ps), len(qs), ()):
+            return True
+        if state not in seen:
+            seen.add(state)
+            states.extend(reversed(list(as_written(ps, qs, state))))
+    return False
+
+
+def unpaired(t):
+    return D.all.text_kept_tokens_laws.Unpaired.unpaired(t)
+
+
+def loses_pairs_alone(t):
+    return D.grammar.Stripped.stripped(t) == unpaired(t)
+
+
+def is_bare(t):
+    return D.grammar.Targets.all_bare(t)
+
+
+def is_fitting(t):
+    return not has_types(t) and following.Fits(D.all, t)
+
+
+def written_as(t, answer):
+    return AsWritten(taken(t), taken(answer)) or Bad('others in', answer)
+
+
+@law(text_source)
+def writing_out_keeps_tokens(t):
+    """a tree that fits its place, written out, has its tokens and what is written out"""
+    return written_as(t, D.grammar.Normal.written_out(t)) if is_fitting(t) else None
+
+
+@law(text_source)
+def unpairing_keeps_tokens(t):
+    """without its pairs a tree that fits its place has its other tokens"""
+    return written_as(t, unpaired(t)) if is_fitting(t) else None
+
+
+@law(text_source)
+def normal_forms_keep_tokens(t):
+    """so has the normal form, where targets can stand bare and stripping takes off pairs alone"""
+    return written_as(t, normal_form(t)) if is_fitting(t) and is_bare(t) and loses_pairs_alone(t) else None
+
+
+@law(text_source)
+def answers_keep_tokens(t):
+    """the fixer's answer to a tree that fits its place and whose targets can stand bare has the tokens of its normal form, and pairs and blocks"""
+    return written_as(fixed(t), normal_form(fixed(t))) if is_fitting(t) and is_bare(t) else None
+
+
+def same_as_written(t, answer):
+    """both have, with all written out, the same tokens but for names that are bound"""
+    first, second = ([p for p in taken(normal_form(u))] for u in (t, answer))
+    bound = {i.sym for i in D.grammar.Same.declared_names(t)}
+    kept = len(first) == len(second) and all(p == q or following.word(p) == following.word(q) in ('name', 'parameter') and p[1] in bound for p, q in zip(first, second))
+    return kept and AsWritten(taken(t), first) and AsWritten(taken(answer), second)
+
+
+@law(clean_source)
+def chains_keep_tokens(t):
+    """a source of which the fixer takes off pairs alone, and what a chain answers, have with all written out the same tokens but for bound names"""
+    if not is_source(t) or not loses_pairs_alone(t):
+        return None
+    answer = fixed(with_hygiene(scoping.resolved(D.all, t, 1, 2)))
+    return same_as_written(t, answer) or Bad('others in', answer)

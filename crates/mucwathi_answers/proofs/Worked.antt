@@ -8,13 +8,12 @@ use Rattle.text_reader.specs.declared.fault.TextFault.TheVariants as text
 use Rattle.mucwathi_arguments.specs.declared.task.Rewriting.{Rewriting}
 use Rattle.mucwathi_commands.specs.Faults.{IsRunFault}
 use Rattle.mucwathi_commands.specs.Looks.{IsUncovered}
-use Rattle.mucwathi_commands.specs.Written.{IsRewritten}
 use Rattle.mucwathi_faults.specs.declared.fault.RunFault.{RunFault}
 use Rattle.mucwathi_faults.specs.declared.fault.RunFault.TheVariants as running
 use Rattle.mucwathi_order.specs.declared.order.Order.{Order}
 use Rattle.mucwathi_report.specs.declared.reports.Named.{Named}
 use Rattle.mucwathi_report.specs.Status.{run_status, text_status}
-use Rattle.mucwathi_answers.specs.Answers.{HasList, HasMap, IsAnswered, IsAsked, IsAskedOfTwo, IsFaultTold, IsGoalOf, IsMemoryFault, IsTold, IsWell, IsWorked, goal_asked, order_for}
+use Rattle.mucwathi_answers.specs.Answers.{HasList, IsAnswered, IsAsked, IsAskedOfTwo, IsFaultTold, IsGoalOf, IsMemoryFault, IsTold, IsWell, IsWorked, IsWrittenOut, goal_asked, order_for}
 use Rattle.mucwathi_answers.specs.declared.answer.Answer.{Answer}
 
 -- ---- goals
@@ -64,15 +63,14 @@ module _ (task : Rewriting) (prefix : List ℕ) (of : Named) where
   listed g (Err f) order is asked lists fault = record { goal = g; asked = asked; told = subst (λ order. IsRunFault order of.text.now f) is fault }
 
   pub worked : (g : Goal) (r : Result Answer RunFault) (order : Order) → order ≡ order_for task g → IsAsked task.goal of g → task.lists ≡ false
-      → MatchResult r (λ a. IsWell a × IsRewritten order of.text.now a.out.items × HasMap task.map order of a.out.items a.map.items) (IsRunFault order of.text.now) → MatchResult r (IsWorked task prefix of) (IsTold task of)
+      → MatchResult r (λ a. IsWell a × IsWrittenOut order task.map of a) (IsRunFault order of.text.now) → MatchResult r (IsWorked task prefix of) (IsTold task of)
   worked g (Ok a) order is asked none h = record {
     listed = λ lists explains. absurd (cc);
     well = h.0;
     made = λ lists explains. record {
       goal = g;
       asked = asked;
-      rewritten = subst (λ order. IsRewritten order of.text.now a.out.items) is h.1;
-      mapped = subst (λ order. HasMap task.map order of a.out.items a.map.items) is h.2;
+      written = subst (λ order. IsWrittenOut order task.map of a) is h.1;
     };
   }
   worked g (Err f) order is asked none h = record { goal = g; asked = asked; told = subst (λ order. IsRunFault order of.text.now f) is h }

@@ -10,7 +10,7 @@ use Rattle.mucwathi_settings.specs.declared.command.Settings.{Settings}
 use Rattle.mucwathi_order.specs.declared.order.Order.{Order}
 use Rattle.mucwathi_arguments.specs.declared.task.Judging.{Judging}
 use Rattle.mucwathi_arguments.specs.declared.task.Rewriting.{Rewriting}
-use Rattle.mucwathi_commands.specs.Written.{IsRewritten}
+use Rattle.mucwathi_commands.specs.Comments.{IsRewrittenWith}
 use Rattle.mucwathi_commands.specs.Faults.{IsRunFault}
 use Rattle.mucwathi_commands.specs.Judged.{IsJudgeFault, IsJudged}
 use Rattle.mucwathi_commands.specs.declared.judge.Rules.{Rules}
@@ -20,7 +20,7 @@ use Rattle.mucwathi_faults.specs.declared.fault.RunFault.{RunFault}
 use Rattle.mucwathi_faults.specs.declared.fault.RunFault.TheVariants.{Refused}
 use Rattle.mucwathi_lists.specs.declared.changes.Change.{Change}
 use Rattle.mucwathi_lists.specs.declared.lists.FreeName.{FreeName}
-use Rattle.mucwathi_lists.specs.Listed.{changes_listed, names_listed}
+use Rattle.mucwathi_lists.specs.Listed.{changes_listed, lost_listed, names_listed}
 use Rattle.mucwathi_looks.specs.Changes.{HasChanges}
 use Rattle.mucwathi_looks.specs.Looks.{IsUnlooked}
 use Rattle.mucwathi_looks.specs.Marked.{HasSigns}
@@ -86,12 +86,18 @@ abbrev pub HasMap : Option (Bor (List ℕ)) → Order → Named → List ℕ →
 HasMap None order of out map = Unit {0}
 HasMap (Some path) order of out map = IsMap order of.name.now of.text.now out map
 
--- what is written for a text is what was asked for, and so is its map
-pub record IsMade (task : Rewriting) (of : Named) (out map : List ℕ) : Type 0 where
+-- what is written is what was ordered, those comments are told that are lost, each in its line, and the map is that of what is written
+pub record IsWrittenOut (order : Order) (path : Option (Bor (List ℕ))) (of : Named) (a : Answer) : Type 0 where
+  pub lost : List ℕ
+  pub rewritten : IsRewrittenWith order of.text.now a.out.items lost
+  pub told : a.told.items ≡ lost_listed of.name.now of.text.now lost
+  pub mapped : HasMap path order of a.out.items a.map.items
+
+-- ... as what the text is read
+pub record IsMade (task : Rewriting) (of : Named) (a : Answer) : Type 0 where
   pub goal : Goal
   pub asked : IsAsked task.goal of goal
-  pub rewritten : IsRewritten (order_for task goal) of.text.now out
-  pub mapped : HasMap task.map (order_for task goal) of out map
+  pub written : IsWrittenOut (order_for task goal) task.map of a
 
 -- a list has the names that are given anew in a text, each in its line
 pub record HasList (order : Order) (prefix text out : List ℕ) : Type 0 where
@@ -108,7 +114,7 @@ pub record IsListed (task : Rewriting) (prefix : List ℕ) (of : Named) (out : L
 -- all is well, and so it is where nothing else is told in its place
 pub record IsWorked (task : Rewriting) (prefix : List ℕ) (of : Named) (a : Answer) : Type 0 where
   pub well : IsWell a
-  pub made : task.lists ≡ false → task.explains ≡ false → IsMade task of a.out.items a.map.items
+  pub made : task.lists ≡ false → task.explains ≡ false → IsMade task of a
   pub listed : task.lists ≡ true → task.explains ≡ false → IsListed task prefix of a.out.items
 
 -- a fault tells of the text, as what it is read

@@ -1,10 +1,10 @@
 //! What is made of a text.
-ghost use Rattle.std.specs.Prelude.{◌≡◌, None, IfOk, MatchResult};
+ghost use Rattle.std.specs.Prelude.{◌≡◌, ℕ, List, None, IfOk, MatchResult};
 ghost use Rattle.text_parser.specs.declared.programs.Goal.TheVariants as kinds;
 ghost use Rattle.mucwathi_commands.specs.Faults.{IsRunFault};
-ghost use Rattle.mucwathi_commands.specs.Written.{IsRewritten};
-ghost use Rattle.mucwathi_lists.specs.Listed.{changes_listed};
-ghost use Rattle.mucwathi_answers.specs.Answers.{HasList, HasMap, IsAnswered, IsAsked, IsMemoryFault, IsTold, IsWell, IsWorked, goal_asked as is_asked, keeps_top, order_for as order_of};
+ghost use Rattle.mucwathi_commands.specs.Comments.{IsRewrittenWith};
+ghost use Rattle.mucwathi_lists.specs.Listed.{changes_listed, lost_listed};
+ghost use Rattle.mucwathi_answers.specs.Answers.{HasList, HasMap, IsAnswered, IsAsked, IsMemoryFault, IsTold, IsWell, IsWorked, IsWrittenOut, goal_asked as is_asked, keeps_top, order_for as order_of};
 
 use crate::answer::{Answer, DEPTH};
 use crate::goals::{further, goal_asked, may_be_module};
@@ -108,8 +108,8 @@ fn with_map(
     out: Vec<u8>,
     told: Vec<u8>,
 ) -> Result<Answer, RunFault>
-    requires { IsRewritten order.now of.text.now out.items }
-    ensures { MatchResult result (λ a. IsWell a × IsRewritten order.now of.entry.text.now a.out.items × HasMap task.now.map order.now of.entry a.out.items a.map.items) (IsRunFault order.now of.entry.text.now) }
+    requires { (lost : List ℕ) × IsRewrittenWith order.now of.text.now out.items lost × (told.items ≡ lost_listed of.name.now of.text.now lost) }
+    ensures { MatchResult result (λ a. IsWell a × IsWrittenOut order.now task.now.map of.entry a) (IsRunFault order.now of.entry.text.now) }
 {
     match map_for(alloc, task, order, of, out.as_slice()) {
         Ok(map) => Ok(Answer {
@@ -129,11 +129,12 @@ fn with_told(
     of: Named<'_>,
     made: RewrittenText,
 ) -> Result<Answer, RunFault>
-    requires { IsRewritten order.now of.text.now made.out.items }
-    ensures { MatchResult result (λ a. IsWell a × IsRewritten order.now of.entry.text.now a.out.items × HasMap task.now.map order.now of.entry a.out.items a.map.items) (IsRunFault order.now of.entry.text.now) }
+    requires { IsRewrittenWith order.now of.text.now made.out.items made.lost.items }
+    ensures { MatchResult result (λ a. IsWell a × IsWrittenOut order.now task.now.map of.entry a) (IsRunFault order.now of.entry.text.now) }
 {
     let RewrittenText { out, lost } = made;
-    match tell_lost(alloc, of.name, of.text, &lost) {
+    let places = lost.as_slice();
+    match tell_lost(alloc, of.name, of.text, places) {
         Ok(told) => with_map(alloc, task, order, of, out, told),
         Err(_) => Err(RunFault::Refused(PassError::NoMemory)),
     }
@@ -145,7 +146,7 @@ fn rewrite(
     order: &Order,
     of: Named<'_>,
 ) -> Result<Answer, RunFault>
-    ensures { MatchResult result (λ a. IsWell a × IsRewritten order.now of.entry.text.now a.out.items × HasMap task.now.map order.now of.entry a.out.items a.map.items) (IsRunFault order.now of.entry.text.now) }
+    ensures { MatchResult result (λ a. IsWell a × IsWrittenOut order.now task.now.map of.entry a) (IsRunFault order.now of.entry.text.now) }
 {
     match rewrite_with_comments(alloc, order, of.text) {
         Ok(made) => with_told(alloc, task, order, of, made),
@@ -230,7 +231,7 @@ fn answer(
 
 /// What is made of a text, or told of it; each line of a list begins with the prefix.
 ///
-/// With status 0, and where nothing is told in its place, what is written is what was asked for (`IsRewritten` of `mucwathi_commands`). With
+/// With status 0, and where nothing is told in its place, what is written is what was asked for (`IsRewrittenWith` of `mucwathi_commands`). With
 /// another nothing is written, and the status is that of a fault, which tells of the text.
 pub fn answer_rewriting(
     alloc: Global,

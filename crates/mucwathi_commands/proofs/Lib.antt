@@ -1,4 +1,4 @@
-mod Contexts
 mod Covered
 mod Judged
+mod More
 pub mod Rewritten

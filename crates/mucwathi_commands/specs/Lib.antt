@@ -1,3 +1,4 @@
+pub mod Comments
 pub mod Written
 pub mod Faults
 pub mod Judged

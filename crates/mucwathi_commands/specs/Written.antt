@@ -4,6 +4,7 @@ use Rattle.std.specs.Cmp.Lexicographic.{pointwise}
 use Rattle.swc_tree_marks.specs.declared.error.PassError.{PassError}
 use Rattle.swc_tree_marks.specs.declared.error.PassError.TheVariants as refusal
 use Rattle.swc_tree_node.specs.declared.node.Node.{Node}
+use Rattle.swc_tree_scoping.specs.WellScoped.{IsClean}
 use Rattle.text_edit.specs.Alike.{alike}
 use Rattle.text_edit.specs.Edits.{IsEdited, IsRenamed}
 use Rattle.text_follow.specs.Follows.{Follows}
@@ -18,10 +19,10 @@ use Rattle.mucwathi_order.specs.declared.order.Style.{Style}
 use Rattle.mucwathi_order.specs.declared.order.Style.TheVariants as style
 use Rattle.mucwathi_passes.specs.Passes.{IsRefusal, Makes}
 
--- A text is read as a tree: its tokens are the tree's, the grammar derives the tree as it stands, and where that leaves a choice, it is
--- pinned.
+-- A text is read as a tree: its tokens are the tree's, the grammar derives the tree as it stands, where that leaves a choice, it is
+-- pinned, and no identifier has a context.
 abbrev pub IsReadAs : Goal → Node → List ℕ → Type 0
-IsReadAs g t text = IsTextOf g t text × IsWellFormed (slot_of g) t × IsPinned t
+IsReadAs g t text = IsTextOf g t text × IsWellFormed (slot_of g) t × IsPinned t × IsClean t
 
 -- The layout of a source's text is kept: what is written has the tokens of the answer; what stands between two tokens that stay next to
 -- each other stays too; where the two trees have the same tokens it is the source's text, and where they differ in names alone, so do the

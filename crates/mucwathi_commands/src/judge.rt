@@ -1,9 +1,6 @@
 //! Two texts compared.
 ghost use Rattle.std.specs.Prelude.{◌≡◌, ℕ, List, IsTrue, IfOk, MatchResult};
 ghost use Rattle.swc_base_alpha.specs.Verdict.{IsCleanProgram, IsJudgeRefusal, TellsWhy, word_in};
-ghost use Rattle.swc_base_covers.specs.Causes.{has_marks};
-ghost use Rattle.swc_tree_scoping.specs.WellScoped.{IsClean};
-ghost use Rattle.mucwathi_commands.specs.Written.{IsReadAs};
 ghost use Rattle.mucwathi_commands.specs.Judged.{IsAfterFault, IsBeforeFault, IsJudgeFault, IsJudged, IsRead, IsUnread, IsUnsaid, as_compared, why_in};
 
 use crate::places::bytes_before;
@@ -12,9 +9,8 @@ use mucwathi_order::Goal;
 use std::alloc::Global;
 use swc_base_alpha::{Cause, Why, why_different};
 use swc_base_plain_form::plain_form;
-use swc_tree_marks::{Mark, NoMemory, PassError};
+use swc_tree_marks::{NoMemory, PassError};
 use swc_tree_node::Node;
-use swc_tree_walk::{Finder, has_node};
 use text_source::{TextFault, read_text};
 
 /// A text, and as what it is read.
@@ -45,49 +41,6 @@ pub struct TextDifference {
     pub after: usize,
 }
 
-// Looks for an identifier that has a context, which no text has.
-struct Marked;
-
-impl Finder for Marked {
-    ghost use Rattle.swc_base_covers.specs.Causes.{has_context};
-
-    ghost is_sought = { λ _ node. has_context node };
-
-    fn is_sought(&self, node: &Node) -> bool {
-        match node {
-            Node::Identifier(_, ident) => has_any(ident.get().ctxt.marks()),
-            _ => false,
-        }
-    }
-}
-
-fn has_any(marks: &[Mark]) -> bool
-    ensures { result ≡ has_marks marks.now }
-{
-    match marks {
-        [] => false,
-        [_first, _rest @ ..] => true,
-    }
-}
-
-fn is_clean(tree: &Node) -> bool
-    ensures { IsTrue result → IsClean tree.now }
-{
-    !has_node(&Marked, tree)
-}
-
-// What was read, if no identifier of it has a context.
-fn held(given: &NamedText<'_>, tree: Node) -> Result<Node, TextFault>
-    requires { IsReadAs given.now.goal tree given.now.text.now }
-    ensures { MatchResult result (IsRead given.now.goal given.now.text.now) (IsUnread given.now.text.now) }
-{
-    if is_clean(&tree) {
-        Ok(tree)
-    } else {
-        Err(TextFault::NotTheText)
-    }
-}
-
 // Why the first of two texts is not read.
 fn before_fault(fault: TextFault) -> JudgeFault
     ensures { (bytes : List ℕ) → IsUnread bytes fault → IsBeforeFault bytes result }
@@ -113,7 +66,7 @@ fn read(alloc: Global, depth: u32, given: &NamedText<'_>) -> Result<Node, TextFa
     ensures { MatchResult result (IsRead given.now.goal given.now.text.now) (IsUnread given.now.text.now) }
 {
     match read_text(alloc, given.goal, depth, given.text) {
-        Ok(tree) => held(given, tree),
+        Ok(tree) => Ok(tree),
         Err(fault) => Err(fault),
     }
 }

@@ -1,8 +1,13 @@
 //! Trees written as texts.
-ghost use Rattle.std.specs.Prelude.{◌≡◌, false, IfOk, IfErr};
+ghost use Rattle.std.specs.Prelude.{◌≡◌, ◌++◌, ◌∷◌, [], false, map, IfOk, IfErr, IfSome, OnOk};
+ghost use Rattle.swc_tree_node.specs.declared.node.Node.{Node};
+ghost use Rattle.text_comments.specs.Comments.{HasComments};
 ghost use Rattle.text_follow.specs.Follows.{Follows};
 ghost use Rattle.text_pieces.specs.Pieces.{pieces as pieces_of};
+ghost use Rattle.text_pieces.specs.Tokens.{piece_view};
 ghost use Rattle.text_source.specs.Texts as texts;
+ghost use Rattle.mucwathi_commands.specs.Comments as spec;
+ghost use Rattle.mucwathi_commands.specs.Comments.{AreWrittenAgain};
 ghost use Rattle.mucwathi_commands.specs.Faults.{IsWriteFault};
 ghost use Rattle.mucwathi_commands.specs.Written.{IsKept};
 
@@ -11,10 +16,11 @@ use mucwathi_order::Goal;
 use std::alloc::{AllocError, Global};
 use swc_tree_marks::PassError;
 use swc_tree_node::Node;
-use text_commented::{Left, SetFault, print_text_with_comments, remarks_of};
+use text_commented::{Left, SetFault, print_text_with_those_of};
 use text_comments::{Comment, CommentsFault, find_comments};
-use text_edit::{EditFault, edit_text};
+use text_edit::{EditFault, edit_text, edit_text_from};
 use text_lexer::Comments;
+use text_pieces::Piece;
 use text_printer::{Layout, PrintFault, print_text};
 
 /// What is written for a text, and how many bytes are before each comment of the text that is not in it.
@@ -49,7 +55,7 @@ pub fn print(alloc: Global, goal: Goal, layout: Layout, answer: &Node) -> Result
     }
 }
 
-/// The comments of a source's text, where the layout has any: none where they are not found, which never happens.
+/// The comments of a source's text: none where they are not found, which never happens.
 ///
 /// # Errors
 ///
@@ -57,13 +63,11 @@ pub fn print(alloc: Global, goal: Goal, layout: Layout, answer: &Node) -> Result
 pub(crate) fn comments_in(
     alloc: Global,
     goal: Goal,
-    layout: Layout,
     text: &[u8],
     source: &Node,
-) -> Result<Option<Vec<Comment>>, AllocError> {
-    if layout == Layout::Compact {
-        return Ok(Some(Vec::new(alloc)));
-    }
+) -> Result<Option<Vec<Comment>>, AllocError>
+    ensures { IfOk result (λ found. IfSome found (λ comments. HasComments (texts.comments_of goal) (pieces_of source.now) text.now comments.items)) }
+{
     match find_comments(alloc, comments_of(goal), text, source) {
         Ok(found) => Ok(Some(found)),
         Err(CommentsFault::NoMemory) => Err(AllocError),
@@ -71,17 +75,30 @@ pub(crate) fn comments_in(
     }
 }
 
-// How many bytes are before each comment that is left.
-fn lost_among(
-    alloc: Global,
-    comments: &[Comment],
-    left: &[Left],
-) -> Result<Vec<usize>, AllocError> {
+// How many bytes are before a comment that is left.
+fn bytes_before(comments: &[Comment], left: Left) -> usize
+    ensures { result ≡ spec.bytes_before_left comments.now left }
+{
+    match comments.get(left.number) {
+        Some(comment) => comment.span.lo.saturating_sub(1) as usize,
+        None => 0,
+    }
+}
+
+fn add(lost: &mut Vec<usize>, at: usize) -> Result<(), AllocError>
+    ensures { OnOk result (lost.new.items ≡ lost.old.items ++ at ∷ []) }
+{
+    lost.push(at)?;
+    Ok(())
+}
+
+// The same of each.
+fn lost_among(alloc: Global, comments: &[Comment], left: &[Left]) -> Result<Vec<usize>, AllocError>
+    ensures { IfOk result (λ lost. lost.items ≡ map (spec.bytes_before_left comments.now) left.now) }
+{
     let mut lost = Vec::new(alloc);
     for each in left {
-        if let Some(comment) = comments.get(each.number) {
-            lost.push(comment.span.lo.saturating_sub(1) as usize)?;
-        }
+        add(&mut lost, bytes_before(comments, *each))?;
     }
     Ok(lost)
 }
@@ -90,16 +107,17 @@ fn lost_among(
 fn print_set(
     alloc: Global,
     goal: Goal,
-    layout: Layout,
     text: &[u8],
     comments: &[Comment],
     answer: &Node,
 ) -> Result<RewrittenText, SetFault>
-    ensures { IfOk result (λ made. Follows (texts.comments_of goal) false (pieces_of answer.now) made.out.items) }
+    ensures written { IfOk result (λ made. Follows (texts.comments_of goal) false (pieces_of answer.now) made.out.items) }
+    ensures again { (source : Node) → HasComments (texts.comments_of goal) (pieces_of source) text.now comments.now → IfOk result (λ made. AreWrittenAgain (texts.comments_of goal) source answer.now text.now made.out.items made.lost.items) }
 {
-    let remarks = remarks_of(alloc, text, answer, comments)?;
-    let printed = print_text_with_comments(alloc, comments_of(goal), layout, answer, &remarks)?;
-    let lost = lost_among(alloc, comments, &printed.left)?;
+    let kind = comments_of(goal);
+    let printed = print_text_with_those_of(alloc, kind, Layout::Lines, answer, text, comments)?;
+    let left = printed.left.as_slice();
+    let lost = lost_among(alloc, comments, left)?;
     Ok(RewrittenText {
         out: printed.text,
         lost,
@@ -114,21 +132,19 @@ fn print_set(
 pub(crate) fn print_with(
     alloc: Global,
     goal: Goal,
-    layout: Layout,
     text: &[u8],
     comments: &Option<Vec<Comment>>,
     answer: &Node,
 ) -> Result<RewrittenText, RunFault>
     ensures written { IfOk result (λ made. Follows (texts.comments_of goal) false (pieces_of answer.now) made.out.items) }
+    ensures again { (source : Node) → IfSome comments.now (λ ks. HasComments (texts.comments_of goal) (pieces_of source) text.now ks.items) → IfOk result (λ made. AreWrittenAgain (texts.comments_of goal) source answer.now text.now made.out.items made.lost.items) }
     ensures fault { IfErr result IsWriteFault }
 {
     let Some(comments) = comments else {
         return Err(RunFault::NotWritten);
     };
-    if comments.is_empty() {
-        return print_bare(alloc, goal, layout, answer);
-    }
-    match print_set(alloc, goal, layout, text, comments, answer) {
+    let found = comments.as_slice();
+    match print_set(alloc, goal, text, found, answer) {
         Ok(made) => Ok(made),
         Err(SetFault::NoMemory) => Err(RunFault::Refused(PassError::NoMemory)),
         Err(SetFault::NotSpelled | SetFault::NotSet | SetFault::TooLong) => {
@@ -137,17 +153,21 @@ pub(crate) fn print_with(
     }
 }
 
-// The same where the source's text has no comments.
-fn print_bare(
+/// The text of an answer in few bytes, without comments.
+///
+/// # Errors
+///
+/// `NotWritten` where it has no text; `Refused` where memory is.
+pub(crate) fn print_compact(
     alloc: Global,
     goal: Goal,
-    layout: Layout,
     answer: &Node,
 ) -> Result<RewrittenText, RunFault>
     ensures written { IfOk result (λ made. Follows (texts.comments_of goal) false (pieces_of answer.now) made.out.items) }
+    ensures none { IfOk result (λ made. made.lost.items ≡ []) }
     ensures fault { IfErr result IsWriteFault }
 {
-    match print(alloc, goal, layout, answer) {
+    match print(alloc, goal, Layout::Compact, answer) {
         Ok(out) => Ok(RewrittenText {
             out,
             lost: Vec::new(alloc),
@@ -175,5 +195,43 @@ pub fn edit(
         Ok(out) => Ok(out),
         Err(EditFault::NoMemory) => Err(RunFault::Refused(PassError::NoMemory)),
         Err(EditFault::OtherText | EditFault::NotTheText) => Err(RunFault::NotKept),
+    }
+}
+
+fn edit_from(
+    alloc: Global,
+    goal: Goal,
+    text: &[u8],
+    before: &[Piece<'_>],
+    answer: &Node,
+) -> Result<Vec<u8>, RunFault>
+    ensures kept { (source : Node) → map piece_view before.now ≡ pieces_of source → IfOk result (λ out. IsKept (texts.comments_of goal) source answer.now text.now out.items) }
+    ensures fault { IfErr result IsWriteFault }
+{
+    match edit_text_from(alloc, comments_of(goal), text, before, answer) {
+        Ok(out) => Ok(out),
+        Err(EditFault::NoMemory) => Err(RunFault::Refused(PassError::NoMemory)),
+        Err(EditFault::OtherText | EditFault::NotTheText) => Err(RunFault::NotKept),
+    }
+}
+
+/// The same where the pieces of the source's text are at hand; where they are not, the layout is not kept.
+///
+/// # Errors
+///
+/// Those of `edit`.
+pub(crate) fn edit_by(
+    alloc: Global,
+    goal: Goal,
+    text: &[u8],
+    before: &Option<Vec<Piece<'_>>>,
+    answer: &Node,
+) -> Result<Vec<u8>, RunFault>
+    ensures kept { (source : Node) → IfSome before.now (λ old. map piece_view old.items ≡ pieces_of source) → IfOk result (λ out. IsKept (texts.comments_of goal) source answer.now text.now out.items) }
+    ensures fault { IfErr result IsWriteFault }
+{
+    match before {
+        Some(old) => edit_from(alloc, goal, text, old.as_slice(), answer),
+        None => Err(RunFault::NotKept),
     }
 }

@@ -10,7 +10,6 @@ use Rattle.swc_base_rename_substitution.specs.declared.config.Config.{Config}
 use Rattle.swc_ecma_transforms_base_laws.specs.Sources.{IsSource}
 use Rattle.text_parser.specs.declared.programs.Goal.{Goal}
 use Rattle.text_source.specs.Texts.{class_of, slot_of}
-use Rattle.text_kept_namings_laws.specs.Laws.{NamesAreUtf8}
 use Rattle.text_kept_chain_laws.specs.Laws.{HasTexts}
 use Rattle.mucwathi_settings.specs.declared.command.Settings.{Settings}
 use Rattle.mucwathi_order.specs.declared.order.Order.{Order}
@@ -18,21 +17,22 @@ use Rattle.mucwathi_passes.specs.Passes.{Makes, config_of}
 use Rattle.mucwathi_faults.specs.declared.fault.RunFault.{RunFault}
 use Rattle.mucwathi_faults.specs.declared.fault.RunFault.TheVariants.{NotKept, NotWritten, Refused, Text}
 use Rattle.mucwathi_faults.proofs.Programs.{is_program}
-use Rattle.mucwathi_laws.specs.Promises.{IsCovered, PromisesAreKept, TargetsAreSpared, TextsAreKept}
+use Rattle.mucwathi_laws.specs.Promises.{IsCovered, PromisesAreKept, TargetsAreSpared, TextsAreKept, TokensAreKept}
+use Rattle.mucwathi_commands.specs.Comments.{IsRewrittenWith}
 use Rattle.mucwathi_commands.specs.Faults.{IsRunFault, IsUnwritten}
 use Rattle.mucwathi_commands.specs.Looks.{IsCoverTold, IsUncovered, TellsCause, cause_in}
 use Rattle.mucwathi_commands.specs.Written.{IsReadAs, IsRewritten}
 use Rattle.mucwathi_commands.specs.declared.cover.CoverGap.{CoverGap}
 use Rattle.mucwathi_commands.specs.declared.write.RewrittenText.{RewrittenText}
-use Rattle.mucwathi_engine.specs.Headline.{IsPromised, IsPromisedFault, IsToldToBePromised, IsUnwrittenThough}
+use Rattle.mucwathi_engine.specs.Headline.{IsPromised, IsPromisedFault, IsPromisedWith, IsToldToBePromised, IsUnwrittenThough}
 
-module _ (keeps : PromisesAreKept) (spares : TargetsAreSpared) (texts : TextsAreKept) (order : Order) (text : List ℕ) where
+module _ (keeps : PromisesAreKept) (spares : TargetsAreSpared) (texts : TextsAreKept) (tokens : TokensAreKept) (order : Order) (text : List ℕ) where
   -- what is read has what is kept
   had : (t : Node) → IsReadAs order.goal t text → HasTexts (slot_of order.goal) t
   had t read = record { fits = read.1.fits; shaped = read.1.shaped; spelled = read.1.spelled }
 
-  kept_texts : (t u : Node) → IsReadAs order.goal t text → Makes order.command order.settings t u → NamesAreUtf8 t → HasTexts (slot_of order.goal) u
-  kept_texts t u read made utf8 = texts order.command order.settings (slot_of order.goal) t u (is_program order.goal) utf8 made (had t read)
+  kept_texts : (t u : Node) → IsReadAs order.goal t text → Makes order.command order.settings t u → HasTexts (slot_of order.goal) u
+  kept_texts t u read made = texts order.command order.settings (slot_of order.goal) t u (is_program order.goal) made (had t read)
 
   unwritten : IsUnwritten order text → IsUnwrittenThough order text
   unwritten h = record { unwritten = h; texts = kept_texts h.source h.answer h.read h.made }
@@ -41,6 +41,7 @@ module _ (keeps : PromisesAreKept) (spares : TargetsAreSpared) (texts : TextsAre
   written out h = record {
     rewritten = h;
     kept = keeps order.command order.settings (slot.One (content.Node (class_of order.goal))) h.source h.answer (is_program order.goal) h.read.0.fits h.made;
+    tokens = tokens order.command order.settings (slot_of order.goal) h.source h.answer (is_program order.goal) (had h.source h.read) h.made;
     texts = kept_texts h.source h.answer h.read h.made;
   }
 
@@ -55,8 +56,10 @@ module _ (keeps : PromisesAreKept) (spares : TargetsAreSpared) (texts : TextsAre
   promised (Ok out) h = written out.items h
   promised (Err f) h = refused f h
 
-  pub promised_too : (r : Result RewrittenText RunFault) → MatchResult r (λ made. IsRewritten order text made.out.items) (IsRunFault order text) → MatchResult r (λ made. IsPromised order text made.out.items) (IsPromisedFault order text)
-  promised_too (Ok made) h = written made.out.items h
+  pub promised_too : (r : Result RewrittenText RunFault) → MatchResult r (λ made. IsRewrittenWith order text made.out.items made.lost.items) (IsRunFault order text)
+      → MatchResult r (λ made. IsPromisedWith order text made.out.items made.lost.items) (IsPromisedFault order text)
+  unfolding written
+  promised_too (Ok made) h = record { promised = written made.out.items h.rewritten; tells = h.tells }
   promised_too (Err f) h = refused f h
 
 source_of : (config : Config) (t : Node) → covers.IsCovered config t → IsSource config t × IsPlainIfScript t

@@ -2,14 +2,15 @@
 use Rattle.std.specs.Prelude.{◌≡◌, ◌⊎◌, ℕ, List, Option, None}
 use Rattle.swc_tree_marks.specs.declared.error.PassError.TheVariants as refusal
 use Rattle.text_parser.specs.declared.programs.Goal.{Goal}
-use Rattle.text_source.specs.Texts.{Tells, slot_of}
-use Rattle.text_kept_namings_laws.specs.Laws.{NamesAreUtf8}
+use Rattle.text_source.specs.Texts.{Tells, comments_of, slot_of}
 use Rattle.text_kept_chain_laws.specs.Laws.{HasTexts}
 use Rattle.mucwathi_settings.specs.declared.command.Settings.{Settings}
 use Rattle.mucwathi_order.specs.declared.order.Order.{Order}
+use Rattle.mucwathi_order.specs.Styles.{layout_of}
 use Rattle.mucwathi_faults.specs.declared.fault.RunFault.{RunFault}
 use Rattle.mucwathi_faults.specs.declared.fault.RunFault.TheVariants.{NotKept, NotWritten, Refused, Text}
-use Rattle.mucwathi_laws.specs.Promises.{IsCovered, Keeps, SparesTargets}
+use Rattle.mucwathi_laws.specs.Promises.{IsCovered, Keeps, KeepsTokens, SparesTargets}
+use Rattle.mucwathi_commands.specs.Comments.{TellsLost}
 use Rattle.mucwathi_commands.specs.Faults.{IsUnwritten}
 use Rattle.mucwathi_commands.specs.Looks.{IsCoverTold}
 use Rattle.mucwathi_commands.specs.Written.{IsRefusedText, IsRewritten}
@@ -21,12 +22,18 @@ use Rattle.mucwathi_commands.specs.declared.cover.CoverGap.{CoverGap}
 pub record IsPromised (order : Order) (text out : List ℕ) : Type 0 where
   pub rewritten : IsRewritten order text out
   pub kept : Keeps order.command order.settings rewritten.source rewritten.answer
-  pub texts : NamesAreUtf8 rewritten.source → HasTexts (slot_of order.goal) rewritten.answer
+  pub tokens : KeepsTokens order.command order.settings rewritten.source rewritten.answer
+  pub texts : HasTexts (slot_of order.goal) rewritten.answer
+
+-- ... and those comments of it are told that are lost
+pub record IsPromisedWith (order : Order) (text out lost : List ℕ) : Type 0 where
+  pub promised : IsPromised order text out
+  pub tells : TellsLost (layout_of order.style) (comments_of order.goal) promised.rewritten.source promised.rewritten.answer text out lost
 
 -- An answer is not written, though its productions have their lengths, and its leaves are tokens of their kinds.
 pub record IsUnwrittenThough (order : Order) (text : List ℕ) : Type 0 where
   pub unwritten : IsUnwritten order text
-  pub texts : NamesAreUtf8 unwritten.source → HasTexts (slot_of order.goal) unwritten.answer
+  pub texts : HasTexts (slot_of order.goal) unwritten.answer
 
 -- the fault tells of the text; where a source was refused, targets were spared, and where an answer is not written, no length and no leaf is to blame
 abbrev pub IsPromisedFault : Order → List ℕ → RunFault → Type 0

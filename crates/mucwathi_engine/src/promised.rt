@@ -1,11 +1,11 @@
 //! Texts rewritten, and told to be covered, by the laws of the passes.
 ghost use Rattle.std.specs.Prelude.{MatchResult};
 ghost use Rattle.mucwathi_commands.specs.Looks.{IsUncovered};
-ghost use Rattle.mucwathi_engine.specs.Headline.{IsPromised, IsPromisedFault, IsToldToBePromised};
+ghost use Rattle.mucwathi_engine.specs.Headline.{IsPromised, IsPromisedFault, IsPromisedWith, IsToldToBePromised};
 
 use mucwathi_commands::{CoverGap, RewrittenText};
 use mucwathi_faults::RunFault;
-use mucwathi_laws::{promises_are_kept, targets_are_spared, texts_are_kept};
+use mucwathi_laws::{promises_are_kept, targets_are_spared, texts_are_kept, tokens_are_kept};
 use mucwathi_order::{Goal, Order, Settings};
 use std::alloc::Global;
 
@@ -13,9 +13,10 @@ use std::alloc::Global;
 ///
 /// Where names are given anew, by `Chain`, `Mangle` and `Hygiene`, that is the same program but for the names that it binds, and by the first
 /// two the grammar derives it: of a module, and of a plain script, without early errors of names, that can be written down, in which
-/// nothing reads names and where classes don't keep theirs. `cover_text` says whether a text is one. Of each text whose names are in UTF-8
-/// the answer's productions have their lengths, and its leaves are tokens of their kinds. A chain and mangling change no token but names
-/// that the program binds, once all is written out and parentheses are off (`normal_form`).
+/// nothing reads names and where classes don't keep theirs. `cover_text` says whether a text is one. Of each text the answer's productions
+/// have their lengths, and its leaves are tokens of their kinds. A chain and mangling change no token but names that the program binds, once
+/// all is written out and parentheses are off (`normal_form`): of a source of which stripping takes off pairs alone, the answer has its
+/// tokens but for such names, pairs, blocks and what is written out (`KeepsTokens`).
 ///
 /// # Errors
 ///
@@ -26,11 +27,12 @@ pub fn rewrite_text(alloc: Global, order: &Order, text: &[u8]) -> Result<Vec<u8>
     promises_are_kept();
     targets_are_spared();
     texts_are_kept();
+    tokens_are_kept();
     mucwathi_commands::rewrite_text(alloc, order, text)
 }
 
-/// The same with comments set again where it is written anew, as `mucwathi` has it: `rewrite_with_comments` of `mucwathi_commands`, which
-/// tells those that are lost.
+/// The same with comments set again where it is written anew, as `mucwathi` has it: `rewrite_with_comments` of `mucwathi_commands`. Each is
+/// written once, at one of the nodes round which it stood, or told as lost.
 ///
 /// # Errors
 ///
@@ -40,11 +42,12 @@ pub fn rewrite_with_comments(
     order: &Order,
     text: &[u8],
 ) -> Result<RewrittenText, RunFault>
-    ensures { MatchResult result (λ made. IsPromised order.now text.now made.out.items) (IsPromisedFault order.now text.now) }
+    ensures { MatchResult result (λ made. IsPromisedWith order.now text.now made.out.items made.lost.items) (IsPromisedFault order.now text.now) }
 {
     promises_are_kept();
     targets_are_spared();
     texts_are_kept();
+    tokens_are_kept();
     mucwathi_commands::rewrite_with_comments(alloc, order, text)
 }
 

@@ -11,7 +11,6 @@ use Rattle.swc_tree_grammar.specs.Pairs.{pairs}
 use Rattle.swc_base_fixer_program.specs.Answers.{answer_to}
 use Rattle.swc_base_rename_errors_laws.proofs.Programs.{goal_open}
 use Rattle.swc_base_rename_substitution.specs.Room.{has_room}
-use Rattle.text_kept_namings_laws.specs.Laws.{NamesAreUtf8}
 use Rattle.text_kept_chain_laws.specs.Laws.{FixerKeepsTexts, HasTexts, HygieneKeepsTexts, ShortNamesKeepTexts, UnparenKeepsTexts}
 use Rattle.mucwathi_settings.specs.declared.command.Command.{Command}
 use Rattle.mucwathi_settings.specs.declared.command.Command.TheVariants as command
@@ -25,8 +24,8 @@ goal_room (slot.One (content.Node class.Script)) g = refl
 goal_room _ g = absurd (cc)
 
 module _ (hygiene : HygieneKeepsTexts) (short : ShortNamesKeepTexts) (fixer : FixerKeepsTexts) (unparen : UnparenKeepsTexts) (s : Settings) (goal : Slot) (is_program : IsTrue (is_goal goal)) where
-  apart : (t u : Node) → NamesAreUtf8 t → IsApart s t u → HasTexts goal t → HasTexts goal u
-  apart t u utf8 is h = hygiene (config_of s) goal 1 2 own_table is.table t is.resolved u (goal_room goal is_program) utf8 is.is_resolved is.hygienic h
+  apart : (t u : Node) → IsApart s t u → HasTexts goal t → HasTexts goal u
+  apart t u is h = hygiene (config_of s) goal 1 2 own_table is.table t is.resolved u (goal_room goal is_program) is.is_resolved is.hygienic h
 
   shortened : (t u : Node) → IsShort s t u → HasTexts goal t → HasTexts goal u
   shortened t u is h = short (config_of s) s.keep_top goal 1 2 own_table is.table t is.resolved u (goal_room goal is_program) is.is_resolved is.mangled h
@@ -38,12 +37,12 @@ module _ (hygiene : HygieneKeepsTexts) (short : ShortNamesKeepTexts) (fixer : Fi
   bared : (t u : Node) → IsBared t u → HasTexts goal t → HasTexts goal u
   bared t u (bare, is) h = subst (HasTexts goal) (sym is) (unparen t goal (goal_open goal is_program) bare h)
 
-  kept : (c : Command) (t u : Node) → NamesAreUtf8 t → Makes c s t u → HasTexts goal t → HasTexts goal u
-  kept command.Chain t u utf8 p h = paired p.renamed u p.paired (apart t p.renamed utf8 p.is_renamed h)
-  kept command.Mangle t u utf8 p h = paired p.renamed u p.paired (shortened t p.renamed p.is_renamed h)
-  kept command.Hygiene t u utf8 p h = apart t u utf8 p h
-  kept command.Fix t u utf8 p h = paired t u p h
-  kept command.Unparen t u utf8 p h = bared t u p h
+  kept : (c : Command) (t u : Node) → Makes c s t u → HasTexts goal t → HasTexts goal u
+  kept command.Chain t u p h = paired p.renamed u p.paired (apart t p.renamed p.is_renamed h)
+  kept command.Mangle t u p h = paired p.renamed u p.paired (shortened t p.renamed p.is_renamed h)
+  kept command.Hygiene t u p h = apart t u p h
+  kept command.Fix t u p h = paired t u p h
+  kept command.Unparen t u p h = bared t u p h
 
 pub texts_are_kept : HygieneKeepsTexts → ShortNamesKeepTexts → FixerKeepsTexts → UnparenKeepsTexts → TextsAreKept
-texts_are_kept hygiene short fixer unparen c s goal t u is_program utf8 made h = kept hygiene short fixer unparen s goal is_program c t u utf8 made h
+texts_are_kept hygiene short fixer unparen c s goal t u is_program made h = kept hygiene short fixer unparen s goal is_program c t u made h

@@ -15,8 +15,9 @@ use Rattle.swc_tree_grammar.specs.Normal.{normal_form}
 use Rattle.swc_tree_grammar.specs.Same.{declared_names}
 use Rattle.text_pieces.specs.Pieces.{pieces}
 use Rattle.text_kept_pieces_laws.specs.Bound.{SameButBound}
-use Rattle.text_kept_namings_laws.specs.Laws.{NamesAreUtf8}
 use Rattle.text_kept_chain_laws.specs.Laws.{HasTexts}
+use Rattle.text_kept_tokens_laws.specs.Unpaired.{LosesPairsAlone}
+use Rattle.text_kept_tokens_laws.specs.Written.{SameAsWritten}
 use Rattle.mucwathi_settings.specs.declared.command.Command.{Command}
 use Rattle.mucwathi_settings.specs.declared.command.Command.TheVariants as command
 use Rattle.mucwathi_settings.specs.declared.command.Settings.{Settings}
@@ -61,4 +62,14 @@ TargetsAreSpared = (c : Command) (s : Settings) (goal : Slot) (source : Node) (e
 
 -- whatever the command, productions keep their lengths, and leaves and names what they have to be, so that the answer can be written
 abbrev pub TextsAreKept : Type 0
-TextsAreKept = (c : Command) (s : Settings) (goal : Slot) (source answer : Node) → IsTrue (is_goal goal) → NamesAreUtf8 source → Makes c s source answer → HasTexts goal source → HasTexts goal answer
+TextsAreKept = (c : Command) (s : Settings) (goal : Slot) (source answer : Node) → IsTrue (is_goal goal) → Makes c s source answer → HasTexts goal source → HasTexts goal answer
+
+-- of a source, of which stripping takes off pairs alone: what comes out has the tokens of what went in, but for names that the program binds, pairs
+-- of parentheses, blocks, and what is written out
+abbrev pub KeepsTokens : Command → Settings → Node → Node → Type 0
+KeepsTokens command.Chain s source answer = IsSource (config_of s) source → LosesPairsAlone source → SameAsWritten (declared_names source) (pieces source) (pieces answer)
+KeepsTokens command.Mangle s source answer = IsSource (config_of s) source → LosesPairsAlone source → SameAsWritten (declared_names source) (pieces source) (pieces answer)
+KeepsTokens c s source answer = Unit {0}
+
+abbrev pub TokensAreKept : Type 0
+TokensAreKept = (c : Command) (s : Settings) (goal : Slot) (source answer : Node) → IsTrue (is_goal goal) → HasTexts goal source → Makes c s source answer → KeepsTokens c s source answer

@@ -1,10 +1,10 @@
 //! What the laws of the passes say of what a command makes.
 //!
 //! Each is the contract of a function that does nothing but call the laws that it rests on.
-ghost use Rattle.mucwathi_laws.specs.Promises.{PromisesAreKept, TargetsAreSpared, TextsAreKept};
+ghost use Rattle.mucwathi_laws.specs.Promises.{PromisesAreKept, TargetsAreSpared, TextsAreKept, TokensAreKept};
 
 use swc_base_fixer::answers_keep_promises;
-use swc_base_fixer_laws::normal_form_stays;
+use swc_base_fixer_laws::{normal_form_stays, targets_stand_bare};
 use swc_base_mangle_laws::{mangled_sources_are_kept, mangled_sources_keep_forms};
 use swc_base_rename_hygiene_laws::hygiene_stays_fitting;
 use swc_ecma_transforms_base_laws::{
@@ -14,6 +14,7 @@ use text_kept_chain_laws::{
     fixer_keeps_texts, hygiene_keeps_texts, short_names_keep_texts, unparen_keeps_texts,
 };
 use text_kept_pieces_laws::bound_names_alone_differ;
+use text_kept_tokens_laws::chains_keep_tokens;
 
 /// What a command makes of a program has all that is promised of it.
 pub fn promises_are_kept()
@@ -46,4 +47,17 @@ pub fn texts_are_kept()
     short_names_keep_texts();
     fixer_keeps_texts();
     unparen_keeps_texts();
+}
+
+/// What it makes has the tokens of a source but for what `KeepsTokens` says.
+pub fn tokens_are_kept()
+    ensures { TokensAreKept }
+{
+    chaining_keeps_forms();
+    mangled_sources_keep_forms();
+    resolved_sources_have_their_form();
+    hygiene_stays_fitting();
+    short_names_keep_texts();
+    targets_stand_bare();
+    chains_keep_tokens();
 }

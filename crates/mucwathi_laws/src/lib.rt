@@ -3,4 +3,4 @@
 
 mod laws;
 
-pub use laws::{promises_are_kept, targets_are_spared, texts_are_kept};
+pub use laws::{promises_are_kept, targets_are_spared, texts_are_kept, tokens_are_kept};

@@ -5,7 +5,7 @@ use Rattle.mucwathi_lists.specs.declared.changes.Change.{Change}
 use Rattle.mucwathi_lists.specs.declared.changes.Occurrence.{Occurrence}
 use Rattle.mucwathi_lists.specs.declared.lists.FreeName.{FreeName}
 use Rattle.mucwathi_lists.specs.Changed.{Placed, Renamed, all_changed, changed, seen}
-use Rattle.mucwathi_lists.specs.Listed.{change_line, changes_listed, name_line, names_listed}
+use Rattle.mucwathi_lists.specs.Listed.{change_line, changes_listed, lost_line, lost_listed, name_line, names_listed}
 
 names_append : (text : List ℕ) (a b : List FreeName) → names_listed text (a ++ b) ≡ names_listed text a ++ names_listed text b
 names_append text [] b = refl
@@ -56,3 +56,20 @@ pub change_joined : (old prefix place a b c x y d e new : List ℕ) → a ≡ ol
     → new ≡ old ++ (prefix ++ place ++ 32 ∷ x ++ 32 ∷ y ++ 10 ∷ [])
 change_joined old prefix place a b c x y d e new one two three four five f six seven =
     seven ∙ ap (λ (l : List ℕ). l ++ 10 ∷ []) (six ∙ ap (λ (l : List ℕ). l ++ y) (five ∙ ap (λ (l : List ℕ). l ++ 32 ∷ []) (four ∙ ap (λ (l : List ℕ). l ++ x) (three ∙ ap (λ (l : List ℕ). l ++ 32 ∷ []) (two ∙ ap (λ (l : List ℕ). l ++ place) one))))) ∙ simp append_assoc
+
+lost_append : (name text a b : List ℕ) → lost_listed name text (a ++ b) ≡ lost_listed name text a ++ lost_listed name text b
+lost_append name text [] b = refl
+lost_append name text (at ∷ more) b =
+    ap (λ (l : List ℕ). lost_line name text at ++ l) (lost_append name text more b) ∙ sym (append_assoc (lost_line name text at) (lost_listed name text more) (lost_listed name text b))
+
+lost_push : (name text ats : List ℕ) (at : ℕ) (old new : List ℕ) → old ≡ lost_listed name text ats → new ≡ old ++ lost_line name text at → new ≡ lost_listed name text (ats ++ at ∷ [])
+lost_push name text ats at old new h k =
+    k ∙ ap (λ (l : List ℕ). l ++ lost_line name text at) h ∙ sym (lost_append name text ats (at ∷ []) ∙ ap (λ (l : List ℕ). lost_listed name text ats ++ l) (append-nil (lost_line name text at)))
+
+pub lost_step : (name text ats : List ℕ) (i d at : ℕ) (old new : List ℕ) → i < length ats → at ≡ get_or ats i d → new ≡ old ++ lost_line name text at → old ≡ lost_listed name text (take i ats) → new ≡ lost_listed name text (take (i + 1) ats)
+lost_step name text ats i d at old new below is added h =
+    lost_push name text (take i ats) at old new h added ∙ ap (lost_listed name text) (ap (λ (x : ℕ). take i ats ++ x ∷ []) is ∙ sym (take_more ats i d below))
+
+pub lost_joined : (old name place tail a b c d new : List ℕ) → a ≡ old ++ name → b ≡ a ++ 58 ∷ [] → c ≡ b ++ place → d ≡ c ++ tail → new ≡ d ++ 10 ∷ [] → new ≡ old ++ (name ++ 58 ∷ place ++ tail ++ 10 ∷ [])
+lost_joined old name place tail a b c d new one two three four five =
+    five ∙ ap (λ (l : List ℕ). l ++ 10 ∷ []) (four ∙ ap (λ (l : List ℕ). l ++ tail) (three ∙ ap (λ (l : List ℕ). l ++ place) (two ∙ ap (λ (l : List ℕ). l ++ 58 ∷ []) one))) ∙ simp append_assoc

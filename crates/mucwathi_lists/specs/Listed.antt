@@ -1,5 +1,5 @@
 -- Lists of names.
-use Rattle.std.specs.Prelude.{ℕ, List, [], ◌∷◌, ◌++◌, length, min, decimal, string_bytes}
+use Rattle.std.specs.Prelude.{ℕ, List, [], ◌∷◌, ◌++◌, length, min, codes, decimal, string_bytes}
 use Rattle.text_places.specs.Places.{line, column}
 use Rattle.mucwathi_lists.specs.declared.changes.Change.{Change}
 use Rattle.mucwathi_lists.specs.declared.lists.FreeName.{FreeName}
@@ -25,3 +25,12 @@ change_line prefix text c = prefix ++ place_text text c.at ++ 32 ∷ string_byte
 abbrev pub changes_listed : List ℕ → List ℕ → List Change → List ℕ
 changes_listed prefix text [] = []
 changes_listed prefix text (c ∷ cs) = change_line prefix text c ++ changes_listed prefix text cs
+
+-- `a.js:2:7: this comment is not written`, with a line end
+abbrev pub lost_line : List ℕ → List ℕ → ℕ → List ℕ
+lost_line name text at = name ++ 58 ∷ place_text text at ++ codes ": this comment is not written" ++ 10 ∷ []
+
+-- comments that are not written, each in its line, in order
+abbrev pub lost_listed : List ℕ → List ℕ → List ℕ → List ℕ
+lost_listed name text [] = []
+lost_listed name text (at ∷ more) = lost_line name text at ++ lost_listed name text more

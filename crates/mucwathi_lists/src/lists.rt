@@ -1,7 +1,7 @@
 //! Lists of names and of comments, one a line.
 ghost use Rattle.std.specs.Prelude.{◌≡◌, ◌++◌, IfOk, OnOk};
 ghost use Rattle.mucwathi_lists.specs.Cursors.{IsIn};
-ghost use Rattle.mucwathi_lists.specs.Listed.{change_line, changes_listed, name_line, names_listed, place_text};
+ghost use Rattle.mucwathi_lists.specs.Listed.{change_line, changes_listed, lost_line, lost_listed, name_line, names_listed, place_text};
 
 use crate::changes::Change;
 use crate::cursor::Cursor;
@@ -112,12 +112,14 @@ fn add_lost(
     out: &mut Vec<u8>,
 ) -> Result<(), AllocError>
     requires { IsIn text.now cursor.old }
-    ensures { IsIn text.now cursor.new }
+    ensures added { OnOk result (out.new.items ≡ out.old.items ++ lost_line name.now text.now at) }
+    ensures kept { IsIn text.now cursor.new }
 {
     out.extend_from_slice(name.as_bytes())?;
     out.push(b':')?;
     add_place(alloc, text, at, cursor, out)?;
-    out.extend_from_slice(b": this comment is not written\n")?;
+    out.extend_from_slice(": this comment is not written".as_bytes())?;
+    out.push(b'\n')?;
     Ok(())
 }
 
@@ -127,7 +129,9 @@ pub fn tell_lost(
     name: &str,
     text: &[u8],
     lost: &[usize],
-) -> Result<Vec<u8>, AllocError> {
+) -> Result<Vec<u8>, AllocError>
+    ensures { IfOk result (λ out. out.items ≡ lost_listed name.now text.now lost.now) }
+{
     let mut out = Vec::new(alloc);
     let mut cursor = Cursor::new(text);
     for at in lost {

@@ -1,5 +1,5 @@
 -- Pieces one after another, and whether a line may end before them.
-use Rattle.std.proofs.Common.{◌≡◌, ℕ, ◌<◌, ◌≤◌, ◌+◌, ◌&&◌, ◌||◌, not, Bool, true, false, List, [], ◌∷◌, length, map, drop, get_or, refl, ap, ◌∙◌}
+use Rattle.std.proofs.Common.{◌≡◌, ℕ, ◌<◌, ◌≤◌, ◌+◌, ◌&&◌, ◌||◌, not, true, false, List, ◌∷◌, length, map, drop, get_or, refl, ap, ◌∙◌}
 use Rattle.std.proofs.lemmas.List.{drop_more, drop_all}
 use Rattle.text_commented.specs.Places.{is_here, is_token, may_end_line}
 use Rattle.text_pieces.specs.declared.piece.Piece as code

@@ -3,7 +3,7 @@ use Rattle.std.proofs.Common.{◌≡◌, ◌↔◌, ℕ, zero, suc, ◌+◌, ◌
 use Rattle.std.proofs.lemmas.Bool.{cases_lt}
 use Rattle.std.proofs.lemmas.List.{append_assoc, append-nil, drop_more, drop_all, get_or_default}
 use Rattle.std.proofs.lemmas.List.Sorted.{Contains-permutation, IsPermutation-sym, searched}
-use Rattle.std.specs.List.Sorted.{IsBinarySearchResult, IsNonDecreasing, IsPermutation}
+use Rattle.std.specs.List.Sorted.{IsBinarySearchResult, IsNonDecreasing}
 use Rattle.std.specs.Ordering.{nat_cmp}
 use Rattle.std.specs.Result.{is_ok}
 use Rattle.text_commented.specs.Places.{line_behind, places, places_from}
@@ -127,17 +127,19 @@ has_trails s all p b are listed =
       λ among. so.1 (Contains-permutation (trails_in all) s.stopped.items p are.stopped (trails_to all p among)),
     )
 
-pub last_stops : (s : Sites) (all : List At) (limit n : ℕ) → IsSites s all → (IsNonDecreasing s.stopped.items → IsLast s.stopped.items limit n) → IsLastStop all limit n
-last_stops s all limit n are last =
+pub last_stops : (s : Sites) (all : List At) (limit n : ℕ) → IsSites s all → (IsNonDecreasing s.stopped.items → IsLast s.stopped.items limit n) → 0 < n → IsLastStop all limit n
+last_stops s all limit n are last some =
     let (within, here, none) = last are.stopped_rise in (
+      some,
       within,
       trails_from all n (Contains-permutation s.stopped.items (trails_in all) n (IsPermutation-sym (trails_in all) s.stopped.items are.stopped) here),
       λ m above no_more among. none m above no_more (Contains-permutation (trails_in all) s.stopped.items m are.stopped (trails_to all m among)),
     )
 
-pub last_begins : (s : Sites) (all : List At) (limit n : ℕ) → IsSites s all → (IsNonDecreasing s.begun.items → IsLast s.begun.items limit n) → IsLastBegun all limit n
-last_begins s all limit n are last =
+pub last_begins : (s : Sites) (all : List At) (limit n : ℕ) → IsSites s all → (IsNonDecreasing s.begun.items → IsLast s.begun.items limit n) → 0 < n → IsLastBegun all limit n
+last_begins s all limit n are last some =
     let (within, here, none) = last are.begun_rise in (
+      some,
       within,
       leads_from all n (Contains-permutation s.begun.items (leads_in all) n (IsPermutation-sym (leads_in all) s.begun.items are.begun) here),
       λ m above no_more among. none m above no_more (Contains-permutation (leads_in all) s.begun.items m are.begun (leads_to all m among)),

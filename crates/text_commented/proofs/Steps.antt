@@ -1,6 +1,6 @@
 -- One more of a list.
 use Rattle.std.proofs.Common.{◌≡◌, ℕ, ◌+◌, ◌<◌, ◌≤◌, Bool, true, false, List, [], ◌∷◌, ◌++◌, length, map, drop, get_or, refl, sym, ap, subst, ◌∙◌, arith}
-use Rattle.std.proofs.lemmas.List.{append_assoc, append-nil, drop_more, drop_all, map-append}
+use Rattle.std.proofs.lemmas.List.{append_assoc, drop_more, drop_all, map-append}
 use Rattle.std.specs.Prelude.{if◌then◌else◌}
 use Rattle.text_comments.specs.declared.comment.Comment.{Comment}
 use Rattle.text_commented.specs.Chosen.{AreChosen, IsChosen}

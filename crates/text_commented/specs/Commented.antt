@@ -7,7 +7,7 @@ use Rattle.text_lexer.specs.Blanks.{blank}
 use Rattle.text_pieces.specs.declared.item.Ending.{Ending}
 use Rattle.text_pieces.specs.declared.item.Ending.TheVariants as ending
 use Rattle.text_pieces.specs.Pieces.{framed_pieces, pieces}
-use Rattle.text_pieces.specs.Tokens.{Piece, piece_view}
+use Rattle.text_pieces.specs.Tokens.{Piece}
 use Rattle.text_follow.specs.Endings.{ending_behind}
 use Rattle.text_follow.specs.Follows.{Follows, Takes, fresh_behind, goal_of}
 use Rattle.text_comments.specs.Comments.{before_token, before_tokens}
@@ -17,17 +17,11 @@ use Rattle.text_commented.specs.Why.{IsTold}
 use Rattle.text_commented.specs.declared.left.Left.{Left}
 use Rattle.text_commented.specs.declared.remark.At.{At}
 use Rattle.text_commented.specs.declared.remark.Remark.{Remark}
-use Rattle.text_commented.specs.declared.remark.Item as code
-use Rattle.text_commented.specs.declared.remark.Item.TheVariants as codes_of
 
 -- a piece of a tree, or a comment by its number among those given
 pub data Item : Type 0 where
   token : Piece → Item
   remark : ℕ → Item
-
-abbrev pub item_view : code.Item → Item
-item_view (codes_of.Piece p) = token (piece_view p)
-item_view (codes_of.Comment n) = remark n
 
 abbrev pub Stands : Option Remark → At → Type 0
 Stands None a = ⊥

@@ -1,6 +1,5 @@
 -- Where comments may stand among the pieces of a tree.
-use Rattle.std.specs.Prelude.{ℕ, Bool, true, false, not, ◌&&◌, ◌||◌, List, [], ◌∷◌, ◌++◌, if◌then◌else◌}
-use Rattle.swc_tree_marks.specs.declared.span.Span.{Span}
+use Rattle.std.specs.Prelude.{Bool, true, false, not, ◌&&◌, ◌||◌, List, [], ◌∷◌, ◌++◌, if◌then◌else◌}
 use Rattle.text_pieces.specs.Tokens.{Frame, Piece, begins, closes, frame, gap, here, may_braces, may_comma, may_from, named, stops}
 use Rattle.text_commented.specs.declared.remark.At.{At}
 use Rattle.text_commented.specs.declared.remark.At.TheVariants as stand

@@ -30,12 +30,12 @@ IsLast xs limit n = (n ≤ limit) × Contains xs n × ((m : ℕ) → n < m → m
 abbrev pub IsFirst : List ℕ → ℕ → ℕ → Type 0
 IsFirst xs limit n = (limit ≤ n) × Contains xs n × ((m : ℕ) → limit ≤ m → m < n → ¬ Contains xs m)
 
--- where the last node stops, or begins, that does so at a place or before, and where the first begins at it or behind
+-- where the last node stops, or begins, that does so at a place or before, and where the first begins at it or behind; 0 is no place
 abbrev pub IsLastStop : List At → ℕ → ℕ → Type 0
-IsLastStop all limit n = (n ≤ limit) × Contains all (stand.Trails n) × ((m : ℕ) → n < m → m ≤ limit → ¬ Contains all (stand.Trails m))
+IsLastStop all limit n = (0 < n) × (n ≤ limit) × Contains all (stand.Trails n) × ((m : ℕ) → n < m → m ≤ limit → ¬ Contains all (stand.Trails m))
 
 abbrev pub IsLastBegun : List At → ℕ → ℕ → Type 0
-IsLastBegun all limit n = (n ≤ limit) × Contains all (stand.Leads n) × ((m : ℕ) → n < m → m ≤ limit → ¬ Contains all (stand.Leads m))
+IsLastBegun all limit n = (0 < n) × (n ≤ limit) × Contains all (stand.Leads n) × ((m : ℕ) → n < m → m ≤ limit → ¬ Contains all (stand.Leads m))
 
 abbrev pub IsFirstBegun : List At → ℕ → ℕ → Type 0
 IsFirstBegun all limit n = (limit ≤ n) × Contains all (stand.Leads n) × ((m : ℕ) → limit ≤ m → m < n → ¬ Contains all (stand.Leads m))

@@ -1,39 +1,61 @@
--- Steps of the walks over pieces and over items.
-use Rattle.std.specs.Prelude.{◌≡◌, ℕ, ◌+◌, Bool, List, [], ◌∷◌, ◌++◌, map}
+-- Steps of the walks over pieces, and over a text.
+use Rattle.std.specs.Prelude.{◌≡◌, ℕ, ◌+◌, ◌-◌, ◌≤◌, Bool, List, [], ◌∷◌, ◌++◌, drop, map, take}
 use Rattle.text_lexer.specs.declared.blank.Comments.{Comments}
-use Rattle.text_commented.specs.Commented.{ArePut, ArePutAt, IsSetFrom, Item, remark}
+use Rattle.text_pieces.specs.Tokens.{Piece}
+use Rattle.text_commented.specs.Commented.{ArePut, ArePutAt, IsSetFrom, Item, remark, token}
 use Rattle.text_commented.specs.declared.check.Walk.{Walk}
 use Rattle.text_commented.specs.declared.remark.At.{At}
+use Rattle.text_commented.specs.declared.remark.Placed as code
 use Rattle.text_commented.specs.declared.remark.Remark.{Remark}
+
+-- a comment that is put among pieces: how many of these are before it, and its number
+abbrev pub Placed : Type 0
+Placed = ℕ × ℕ
+
+abbrev pub placed_view : code.Placed → Placed
+placed_view p = (p.before, p.number)
+
+abbrev pub placed_at : ℕ → ℕ → Placed
+placed_at before n = (before, n)
+
+-- the pieces from a place on that so many are before, and comments among them
+abbrev pub merged : ℕ → List Piece → List Placed → List Item
+merged at ps [] = map token ps
+merged at ps (r ∷ more) = map token (take (r.0 - at) ps) ++ remark r.1 ∷ merged r.0 (drop (r.0 - at) ps) more
+
+-- the first of these has no fewer pieces before it
+abbrev pub IsBehind : ℕ → List Placed → Type 0
+IsBehind at [] = Unit {0}
+IsBehind at (r ∷ more) = at ≤ r.0
 
 -- from which number on those go on that are put at a place behind some
 abbrev pub behind_all : ℕ → List ℕ → ℕ
 behind_all from [] = from
 behind_all from (n ∷ ns) = behind_all (n + 1) ns
 
--- some are put at a place, and behind the items that are made; others there go on from a number
-pub record PutsFrom (rs : List Remark) (a : At) (from : ℕ) (used : List Bool) (items : List Item) (now : List Bool) (made : List Item) (to : ℕ) : Type 0 where
+-- some are put at a place behind so many pieces, and behind those that were put; others there go on from a number
+pub record PutsFrom (rs : List Remark) (a : At) (before from : ℕ) (used : List Bool) (placed : List Placed) (now : List Bool) (made : List Placed) (to : ℕ) : Type 0 where
   pub numbers : List ℕ
-  pub is : made ≡ items ++ map remark numbers
+  pub is : made ≡ placed ++ map (placed_at before) numbers
   pub are : ArePut rs a from used numbers now
   pub next : behind_all from numbers ≡ to
 
 -- all that are put at a place
-pub record PutsAt (rs : List Remark) (a : At) (used : List Bool) (items : List Item) (now : List Bool) (made : List Item) : Type 0 where
+pub record PutsAt (rs : List Remark) (a : At) (before : ℕ) (used : List Bool) (placed : List Placed) (now : List Bool) (made : List Placed) : Type 0 where
   pub numbers : List ℕ
-  pub is : made ≡ items ++ map remark numbers
+  pub is : made ≡ placed ++ map (placed_at before) numbers
   pub are : ArePut rs a 0 used numbers now
 
 -- all that are put at some places
-pub record PutsBehind (rs : List Remark) (places : List At) (used : List Bool) (items : List Item) (now : List Bool) (made : List Item) : Type 0 where
-  pub put : List Item
-  pub is : made ≡ items ++ put
-  pub are : ArePutAt rs places used put now
+pub record PutsBehind (rs : List Remark) (places : List At) (before : ℕ) (used : List Bool) (placed : List Placed) (now : List Bool) (made : List Placed) : Type 0 where
+  pub numbers : List ℕ
+  pub is : made ≡ placed ++ map (placed_at before) numbers
+  pub are : ArePutAt rs places used (map remark numbers) now
 
 -- from where the walk is on, a text is written with these items
 abbrev pub GoesOn : Comments → List ℕ → List Remark → Walk → List Item → Type 0
 GoesOn c whole rs s items = IsSetFrom c whole rs s.fresh s.ending (map (λ d. d.now) s.due.items) items s.rest.now
 
--- behind an item the text goes on with others: so it does with that one and them
-abbrev pub Steps : Comments → List ℕ → List Remark → Item → Walk → Walk → Type 0
-Steps c whole rs item s t = (more : List Item) → GoesOn c whole rs t more → GoesOn c whole rs s (item ∷ more)
+-- behind items the text goes on with others: so it does with those and them
+abbrev pub Steps : Comments → List ℕ → List Remark → List Item → Walk → Walk → Type 0
+Steps c whole rs items s t = (more : List Item) → GoesOn c whole rs t more → GoesOn c whole rs s (items ++ more)

@@ -1,5 +1,5 @@
 -- Why comments are left.
-use Rattle.std.specs.Prelude.{◌≡◌, ℕ, true, false, List, Option, Some, None}
+use Rattle.std.specs.Prelude.{◌≡◌, true, false, List, Option, Some, None}
 use Rattle.std.specs.List.{Contains}
 use Rattle.text_comments.specs.Lines.{ends_line, is_one_comment}
 use Rattle.text_lexer.specs.declared.blank.Comments.{Comments}

@@ -1,15 +1,16 @@
 //! A text held against pieces with comments among them.
-ghost use Rattle.std.specs.Prelude.{◌≡◌, ℕ, ◌-◌, ◌^◌, ◌<◌, Bool, List, [], Some, length, map, IfOk, IsTrue};
+ghost use Rattle.std.specs.Prelude.{◌≡◌, ℕ, ◌-◌, ◌^◌, ◌<◌, Bool, List, [], ◌∷◌, ◌++◌, Some, length, map, IfOk, IsTrue, OnOk};
 ghost use Rattle.text_comments.specs.Comments.{before_token, before_tokens};
-ghost use Rattle.text_commented.specs.Commented.{IsSet, Meets, due_behind, item_view, remark, token, written};
-ghost use Rattle.text_commented.specs.Steps.{GoesOn, Steps};
+ghost use Rattle.text_commented.specs.Commented.{IsSet, Meets, due_behind, remark, token, written};
+ghost use Rattle.text_commented.specs.Steps.{GoesOn, Steps, merged, placed_view};
 ghost use Rattle.text_commented.specs.declared.remark.Remark.{Remark};
 ghost use Rattle.text_lexer.specs.Blanks.{blank};
 ghost use Rattle.text_lexer.specs.declared.blank.Comments.{Comments};
 ghost use Rattle.text_pieces.specs.Tokens.{piece_view};
 
 use crate::choose::text_of;
-use crate::remark::{Item, Remark, remark_at};
+use crate::fault::SetFault;
+use crate::remark::{Placed, Remark, remark_at};
 use std::alloc::{AllocError, Global};
 use text_comments::{Comment, Source, add_before_token, add_before_tokens};
 use text_follow::{ending_behind, fresh_behind, goal_of, take};
@@ -95,6 +96,13 @@ fn is_at_end(comments: Comments, fresh: bool, text: &[u8]) -> bool
     }
 }
 
+fn add_due<'r>(due: &mut Vec<&'r [u8]>, text: &'r [u8]) -> Result<(), AllocError>
+    ensures { OnOk result (due.new.items ≡ due.old.items ++ text.entry ∷ []) }
+{
+    due.push(text)?;
+    Ok(())
+}
+
 impl<'t, 'r> Walk<'t, 'r> {
     // Whether the comments before a piece are those that are due, where it is written with a token.
     fn meets(
@@ -128,86 +136,79 @@ impl<'t, 'r> Walk<'t, 'r> {
     }
 
     // Goes behind a piece, if the text goes on with it and has just the comments before it that are due.
-    fn pass(
-        &mut self,
-        alloc: Global,
-        source: Source<'_>,
-        piece: Piece<'_>,
-    ) -> Result<bool, AllocError>
+    fn pass(&mut self, alloc: Global, source: Source<'_>, piece: Piece<'_>) -> Result<(), SetFault>
         requires { length source.whole.now < 2 ^ 32 - 1 }
-        ensures { IfOk result (λ on. IsTrue on → (rs : List Remark) → Steps source.entry.comments source.entry.whole.now rs (token (piece_view piece.entry)) self.old self.new) }
+        ensures { OnOk result ((rs : List Remark) → Steps source.entry.comments source.entry.whole.now rs (token (piece_view piece.entry) ∷ []) self.old self.new) }
     {
         let (fresh, ending, text) = (self.fresh, self.ending, self.rest);
         let Some(rest) = take(source.comments, false, fresh, ending, text, piece) else {
-            return Ok(false);
+            return Err(SetFault::NotSpelled);
         };
         let is_met = self.meets(alloc, source, piece, rest)?;
         if !is_met {
-            return Ok(false);
+            return Err(SetFault::NotSet);
         }
         self.settle(rest);
         self.rest = rest;
         self.fresh = fresh_behind(fresh, piece);
         self.ending = ending_behind(ending, piece);
-        Ok(true)
+        Ok(())
     }
 
-    // Takes a comment for one that is due.
-    fn expect(&mut self, remarks: &[Remark<'r>], number: usize) -> Result<bool, AllocError>
-        ensures { IfOk result (λ on. IsTrue on → (c : Comments) (whole : List ℕ) → Steps c whole remarks.now (remark number) self.old self.new) }
-    {
-        let Some(remark) = remark_at(remarks, number) else {
-            return Ok(false);
-        };
-        self.due.push(remark.text)?;
-        Ok(true)
-    }
-
-    // Goes behind an item.
-    fn step(
+    // The same of some pieces, one after another.
+    fn pass_all(
         &mut self,
         alloc: Global,
         source: Source<'_>,
-        remarks: &[Remark<'r>],
-        item: Item<'_>,
-    ) -> Result<bool, AllocError>
+        pieces: &[Piece<'_>],
+    ) -> Result<(), SetFault>
         requires { length source.whole.now < 2 ^ 32 - 1 }
-        ensures { IfOk result (λ on. IsTrue on → Steps source.entry.comments source.entry.whole.now remarks.now (item_view item.entry) self.old self.new) }
+        ensures { OnOk result ((rs : List Remark) → Steps source.entry.comments source.entry.whole.now rs (map token (map piece_view pieces.now)) self.old self.new) }
     {
-        match item {
-            Item::Piece(piece) => {
-                let passed = self.pass(alloc, source, piece)?;
-                Ok(passed)
-            }
-            Item::Comment(number) => {
-                let expected = self.expect(remarks, number)?;
-                Ok(expected)
-            }
+        'pieces: for i in 0..pieces.len() {
+            self.pass(alloc, source, pieces[i])?;
         }
+        Ok(())
     }
 
-    // Whether the text ends behind the comments that are due.
-    fn ends(&self, alloc: Global, source: Source<'_>) -> Result<bool, AllocError>
+    // Takes a comment for one that is due.
+    fn expect(&mut self, remarks: &[Remark<'r>], number: usize) -> Result<(), SetFault>
+        ensures { OnOk result ((c : Comments) (whole : List ℕ) → Steps c whole remarks.now (remark number ∷ []) self.old self.new) }
+    {
+        let Some(remark) = remark_at(remarks, number) else {
+            return Err(SetFault::NotSet);
+        };
+        add_due(&mut self.due, remark.text)?;
+        Ok(())
+    }
+
+    // The text ends behind the comments that are due.
+    fn end(&self, alloc: Global, source: Source<'_>) -> Result<(), SetFault>
         requires { length source.whole.now < 2 ^ 32 - 1 }
-        ensures { IfOk result (λ end. IsTrue end → (rs : List Remark) → GoesOn source.entry.comments source.entry.whole.now rs self.now []) }
+        ensures { OnOk result ((rs : List Remark) → GoesOn source.entry.comments source.entry.whole.now rs self.now []) }
     {
         if !is_at_end(source.comments, self.fresh, self.rest) {
-            return Ok(false);
+            return Err(SetFault::NotSpelled);
         }
         let found = comments_before(alloc, source, self.fresh, self.rest)?;
-        Ok(are_written(source.whole, &found, &self.due))
+        let are = are_written(source.whole, &found, &self.due);
+        if !are {
+            return Err(SetFault::NotSet);
+        }
+        Ok(())
     }
 }
 
-/// Whether a text is written with these items, and with no other comment.
-pub(crate) fn is_set(
+/// Holds a text against pieces with comments among them: it is written with these, and with no other comment.
+pub(crate) fn hold(
     alloc: Global,
     source: Source<'_>,
     remarks: &[Remark<'_>],
-    items: &[Item<'_>],
-) -> Result<bool, AllocError>
+    pieces: &[Piece<'_>],
+    placed: &[Placed],
+) -> Result<(), SetFault>
     requires { length source.whole.now < 2 ^ 32 - 1 }
-    ensures { IfOk result (λ set. IsTrue set → IsSet source.entry.comments remarks.now (map item_view items.now) source.entry.whole.now) }
+    ensures { OnOk result (IsSet source.entry.comments remarks.now (merged 0 (map piece_view pieces.now) (map placed_view placed.now)) source.entry.whole.now) }
 {
     let mut walk = Walk {
         rest: source.whole,
@@ -215,12 +216,17 @@ pub(crate) fn is_set(
         ending: Ending::Closed,
         due: Vec::new(alloc),
     };
-    'items: for i in 0..items.len() {
-        let goes_on = walk.step(alloc, source, remarks, items[i])?;
-        if !goes_on {
-            return Ok(false);
+    let mut at = 0;
+    'placed: for i in 0..placed.len() {
+        let before = placed[i].before;
+        if before < at || pieces.len() < before {
+            return Err(SetFault::NotSet);
         }
+        walk.pass_all(alloc, source, &pieces[at..before])?;
+        walk.expect(remarks, placed[i].number)?;
+        at = before;
     }
-    let ends = walk.ends(alloc, source)?;
-    Ok(ends)
+    walk.pass_all(alloc, source, &pieces[at..])?;
+    walk.end(alloc, source)?;
+    Ok(())
 }

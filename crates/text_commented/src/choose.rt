@@ -1,17 +1,19 @@
 //! At which of the nodes round it a comment of a text stands.
-ghost use Rattle.std.specs.Prelude.{◌≡◌, List, IfOk, IfSome};
+ghost use Rattle.std.specs.Prelude.{◌≡◌, List, map, IfOk, IfSome};
 ghost use Rattle.text_commented.specs.Chosen.{AreChosen, IsChosen};
 ghost use Rattle.text_commented.specs.Commented.{written};
 ghost use Rattle.text_commented.specs.Places.{all_places};
 ghost use Rattle.text_commented.specs.Sites.{IsSites};
 ghost use Rattle.text_commented.specs.declared.remark.At.{At};
 ghost use Rattle.text_pieces.specs.Pieces.{framed_pieces as pieces_of};
+ghost use Rattle.text_pieces.specs.Tokens.{piece_view};
 
 use crate::remark::{At, Remark};
 use crate::sites::{Sites, sites_of};
 use std::alloc::{AllocError, Global};
 use swc_tree_node::Node;
 use text_comments::{Comment, ends_line, has_line_end};
+use text_pieces::Piece;
 use text_walk::framed_pieces;
 
 // Whether a line ends between a comment and the token before it.
@@ -155,6 +157,20 @@ fn remarks_by<'t>(
     Ok(remarks)
 }
 
+/// The comments of a text as they are to be written among the pieces of a tree.
+pub(crate) fn remarks_among<'t>(
+    alloc: Global,
+    text: &'t [u8],
+    pieces: &[Piece<'_>],
+    comments: &[Comment],
+) -> Result<Vec<Remark<'t>>, AllocError>
+    ensures { IfOk result (λ remarks. AreChosen text.now (all_places (map piece_view pieces.now)) comments.now remarks.items) }
+{
+    let sites = sites_of(alloc, pieces)?;
+    let remarks = remarks_by(alloc, text, comments, &sites.all, &sites.tight)?;
+    Ok(remarks)
+}
+
 /// The comments of a text as they are to be written; `tree` is that of the text, or what passes made of it. A comment in the line of
 /// what stands before it trails that, and leads what stands behind it else, where a node stops or begins there. Where neither does, it
 /// stands behind what closes right behind it, as in `{ /* none */ }`, else at the nearest that stops before it or begins behind it;
@@ -173,8 +189,6 @@ pub fn remarks_of<'t>(
 {
     let found = framed_pieces(alloc, tree)?;
     let pieces = found.as_slice();
-    let sites = sites_of(alloc, false, pieces)?;
-    let tight = sites_of(alloc, true, pieces)?;
-    let remarks = remarks_by(alloc, text, comments, &sites, &tight)?;
+    let remarks = remarks_among(alloc, text, pieces, comments)?;
     Ok(remarks)
 }

@@ -1,13 +1,13 @@
 //! Comments put among the pieces of a tree.
 ghost use Rattle.std.specs.Prelude.{◌≡◌, Some, false, length, map, replicate, slice_get, IsTrue, IfOk, OnOk};
-ghost use Rattle.text_commented.specs.Commented.{PutsAmong, item_view};
+ghost use Rattle.text_commented.specs.Commented.{PutsAmong};
 ghost use Rattle.text_commented.specs.Places.{places, places_at};
-ghost use Rattle.text_commented.specs.Steps.{PutsAt, PutsBehind, PutsFrom};
+ghost use Rattle.text_commented.specs.Steps.{PutsAt, PutsBehind, PutsFrom, merged, placed_view};
 ghost use Rattle.text_pieces.specs.Tokens.{frame_view, piece_view};
 
 use crate::frames::{Places, key_of};
 use crate::lines::{line_behind, may_end_line};
-use crate::remark::{At, Item, Remark, stands_at};
+use crate::remark::{At, Placed, Remark, stands_at};
 use std::alloc::{AllocError, Global};
 use text_comments::{ends_line, is_one_comment};
 use text_lexer::Comments;
@@ -22,10 +22,21 @@ pub(crate) struct Given<'g, 'r> {
     pub(crate) order: &'g [(u64, usize)],
 }
 
-/// Which comments have been put, and what is made.
+/// Behind which pieces comments are put.
+#[derive(Clone, Copy)]
+struct Spot {
+    /// How many these are.
+    before: usize,
+    /// A line may end there.
+    line: bool,
+    /// It is in the parentheses that are written round the next parameter.
+    inside: bool,
+}
+
+/// The comments that have been put, and which these are.
 #[derive(Drop)]
-pub(crate) struct Put<'a> {
-    pub(crate) items: Vec<Item<'a>>,
+pub(crate) struct Put {
+    pub(crate) placed: Vec<Placed>,
     pub(crate) used: Vec<bool>,
     pub(crate) places: Places,
 }
@@ -41,11 +52,6 @@ pub(crate) fn order_of(
     }
     order.sort()?;
     Ok(order)
-}
-
-// How many stand before a place.
-fn count_before(order: &[(u64, usize)], key: u64) -> usize {
-    order.partition_point(|row| row.0 < key)
 }
 
 // Whether a comment has not been put yet.
@@ -68,18 +74,18 @@ fn may_stand(given: Given<'_, '_>, line: bool, number: usize) -> bool {
     }
 }
 
-impl<'a> Put<'a> {
+impl Put {
     // Puts a comment at a place, if it stands there, may, and has not been put; others there go on from the number that is answered.
     #[tactic(auto, using(crate::proofs::Puts::none_from, crate::proofs::Puts::one_from, std::proofs::lemmas::Grind::common_steps))]
     fn put(
         &mut self,
         given: Given<'_, '_>,
-        line: bool,
+        spot: Spot,
         place: At,
         from: usize,
         number: usize,
     ) -> Result<usize, AllocError>
-        ensures { IfOk result (λ to. PutsFrom given.entry.remarks.now place from self.old.used.items (map item_view self.old.items.items) self.new.used.items (map item_view self.new.items.items) to) }
+        ensures { IfOk result (λ to. PutsFrom given.entry.remarks.now place spot.before from self.old.used.items (map placed_view self.old.placed.items) self.new.used.items (map placed_view self.new.placed.items) to) }
     {
         let len = self.used.len();
         if number < from || len <= number {
@@ -91,27 +97,32 @@ impl<'a> Put<'a> {
         if !stands_at(given.remarks, number, place) {
             return Ok(from);
         }
-        if !may_stand(given, line, number) {
+        if !may_stand(given, spot.line, number) {
             return Ok(from);
         }
-        self.items.push(Item::Comment(number))?;
+        self.placed.push(Placed {
+            before: spot.before,
+            number,
+            inside: spot.inside,
+        })?;
         self.used[number] = true;
         Ok(number + 1)
     }
 
     // Puts all comments that stand at a place.
     #[tactic(auto, using(crate::proofs::Puts::none_from))]
-    fn put_at(&mut self, given: Given<'_, '_>, line: bool, place: At) -> Result<(), AllocError>
-        ensures { OnOk result (PutsAt given.entry.remarks.now place self.old.used.items (map item_view self.old.items.items) self.new.used.items (map item_view self.new.items.items)) }
+    fn put_at(&mut self, given: Given<'_, '_>, spot: Spot, place: At) -> Result<(), AllocError>
+        ensures { OnOk result (PutsAt given.entry.remarks.now place spot.before self.old.used.items (map placed_view self.old.placed.items) self.new.used.items (map placed_view self.new.placed.items)) }
     {
         let key = key_of(place);
         let mut from = 0;
-        'order: for i in count_before(given.order, key)..given.order.len() {
+        let first = self.places.count_before(key);
+        'order: for i in first..given.order.len() {
             let (there, number) = given.order[i];
             if there != key {
                 return Ok(());
             }
-            let next = self.put(given, line, place, from, number)?;
+            let next = self.put(given, spot, place, from, number)?;
             from = next;
         }
         Ok(())
@@ -119,62 +130,67 @@ impl<'a> Put<'a> {
 
     // The same where a node stops, if none behind it stops there too.
     #[tactic(auto, using(crate::proofs::Puts::none_there))]
-    fn put_last(&mut self, given: Given<'_, '_>, line: bool, place: At) -> Result<(), AllocError>
-        ensures { OnOk result (PutsAt given.entry.remarks.now place self.old.used.items (map item_view self.old.items.items) self.new.used.items (map item_view self.new.items.items)) }
+    fn put_last(&mut self, given: Given<'_, '_>, spot: Spot, place: At) -> Result<(), AllocError>
+        ensures { OnOk result (PutsAt given.entry.remarks.now place spot.before self.old.used.items (map placed_view self.old.placed.items) self.new.used.items (map placed_view self.new.placed.items)) }
     {
         if self.places.pass_last(place) {
-            self.put_at(given, line, place)
+            self.put_at(given, spot, place)
         } else {
             Ok(())
         }
     }
 
     #[tactic(auto, using(crate::proofs::Puts::none_there))]
-    fn put_begun(&mut self, given: Given<'_, '_>, line: bool, here: usize) -> Result<(), AllocError>
-        ensures { OnOk result (PutsAt given.entry.remarks.now (At.Leads here) self.old.used.items (map item_view self.old.items.items) self.new.used.items (map item_view self.new.items.items)) }
+    fn put_begun(&mut self, given: Given<'_, '_>, spot: Spot, here: usize) -> Result<(), AllocError>
+        ensures { OnOk result (PutsAt given.entry.remarks.now (At.Leads here) spot.before self.old.used.items (map placed_view self.old.placed.items) self.new.used.items (map placed_view self.new.placed.items)) }
     {
         if here > u32::MAX as usize {
             return Ok(());
         }
-        self.put_at(given, line, At::Leads(here as u32))
+        self.put_at(given, spot, At::Leads(here as u32))
     }
 
     #[tactic(auto, using(crate::proofs::Puts::none_there))]
     fn put_stopped(
         &mut self,
         given: Given<'_, '_>,
-        line: bool,
+        spot: Spot,
         here: usize,
     ) -> Result<(), AllocError>
-        ensures { OnOk result (PutsAt given.entry.remarks.now (At.Trails here) self.old.used.items (map item_view self.old.items.items) self.new.used.items (map item_view self.new.items.items)) }
+        ensures { OnOk result (PutsAt given.entry.remarks.now (At.Trails here) spot.before self.old.used.items (map placed_view self.old.placed.items) self.new.used.items (map placed_view self.new.placed.items)) }
     {
         if here > u32::MAX as usize {
             return Ok(());
         }
-        self.put_last(given, line, At::Trails(here as u32))
+        self.put_last(given, spot, At::Trails(here as u32))
     }
 
     // Puts all comments that stand at a frame.
     fn put_at_frame(
         &mut self,
         given: Given<'_, '_>,
-        line: bool,
+        spot: Spot,
         frame: Frame<'_>,
     ) -> Result<(), AllocError>
-        ensures { OnOk result (PutsBehind given.entry.remarks.now (places_at (frame_view frame.entry)) self.old.used.items (map item_view self.old.items.items) self.new.used.items (map item_view self.new.items.items)) }
+        ensures { OnOk result (PutsBehind given.entry.remarks.now (places_at (frame_view frame.entry)) spot.before self.old.used.items (map placed_view self.old.placed.items) self.new.used.items (map placed_view self.new.placed.items)) }
     {
         match frame {
             Frame::Begins(here) => {
-                self.put_begun(given, line, here)?;
+                self.put_begun(given, spot, here)?;
                 Ok(())
             }
             Frame::Stops(here) => {
-                self.put_stopped(given, line, here)?;
+                self.put_stopped(given, spot, here)?;
                 Ok(())
             }
             Frame::Named(_, span) => {
-                self.put_at(given, line, At::Leads(span.lo))?;
-                self.put_last(given, true, At::Trails(span.hi))?;
+                let inside = Spot {
+                    before: spot.before,
+                    line: true,
+                    inside: true,
+                };
+                self.put_at(given, spot, At::Leads(span.lo))?;
+                self.put_last(given, inside, At::Trails(span.hi))?;
                 Ok(())
             }
         }
@@ -185,29 +201,29 @@ impl<'a> Put<'a> {
     fn put_behind(
         &mut self,
         given: Given<'_, '_>,
-        line: bool,
+        spot: Spot,
         piece: Piece<'_>,
     ) -> Result<(), AllocError>
-        ensures { OnOk result (PutsBehind given.entry.remarks.now (places (piece_view piece.entry)) self.old.used.items (map item_view self.old.items.items) self.new.used.items (map item_view self.new.items.items)) }
+        ensures { OnOk result (PutsBehind given.entry.remarks.now (places (piece_view piece.entry)) spot.before self.old.used.items (map placed_view self.old.placed.items) self.new.used.items (map placed_view self.new.placed.items)) }
     {
         match piece {
-            Piece::Frame(frame) => self.put_at_frame(given, line, frame),
+            Piece::Frame(frame) => self.put_at_frame(given, spot, frame),
             _ => Ok(()),
         }
     }
 }
 
-/// The pieces in their order, and comments among them.
-pub(crate) fn put_among<'a>(
+/// Comments put among pieces.
+pub(crate) fn put_among(
     alloc: Global,
     given: Given<'_, '_>,
     places: Places,
-    pieces: &[Piece<'a>],
-) -> Result<Put<'a>, AllocError>
-    ensures { IfOk result (λ put. PutsAmong given.entry.remarks.now (replicate (length given.entry.remarks.now) false) (map piece_view pieces.now) (map item_view put.items.items) put.used.items) }
+    pieces: &[Piece<'_>],
+) -> Result<Put, AllocError>
+    ensures { IfOk result (λ put. PutsAmong given.entry.remarks.now (replicate (length given.entry.remarks.now) false) (map piece_view pieces.now) (merged 0 (map piece_view pieces.now) (map placed_view put.placed.items)) put.used.items) }
 {
     let mut put = Put {
-        items: Vec::new(alloc),
+        placed: Vec::new(alloc),
         used: Vec::new(alloc),
         places,
     };
@@ -215,8 +231,12 @@ pub(crate) fn put_among<'a>(
     let mut line = may_end_line(pieces);
     'pieces: for i in 0..pieces.len() {
         line = line_behind(line, pieces[i], &pieces[i + 1..]);
-        put.items.push(Item::Piece(pieces[i]))?;
-        put.put_behind(given, line, pieces[i])?;
+        let spot = Spot {
+            before: i + 1,
+            line,
+            inside: false,
+        };
+        put.put_behind(given, spot, pieces[i])?;
     }
     Ok(put)
 }

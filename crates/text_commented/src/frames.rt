@@ -19,18 +19,49 @@ pub(crate) struct Places {
     keys: Vec<u64>,
     nodes: Vec<usize>,
     passed: Vec<usize>,
+    // How many keys are before the one that was looked for last: frames stand in order, and the next is most often near.
+    near: usize,
+}
+
+fn is_less(keys: &[u64], index: usize, key: u64) -> bool {
+    match keys.get(index) {
+        Some(each) => *each < key,
+        None => false,
+    }
+}
+
+fn is_key(keys: &[u64], index: usize, key: u64) -> bool {
+    match keys.get(index) {
+        Some(each) => *each == key,
+        None => false,
+    }
+}
+
+// Whether just so many keys are less than one.
+fn is_near(keys: &[u64], near: usize, key: u64) -> bool {
+    (near == 0 || is_less(keys, near - 1, key)) && !is_less(keys, near, key)
 }
 
 impl Places {
-    fn index_of(&self, at: At) -> Option<usize>
-        ensures nodes { IfSome result (λ index. index < length self.now.nodes.items) }
-        ensures passed { IfSome result (λ index. index < length self.now.passed.items) }
+    /// How many places are before one.
+    pub(crate) fn count_before(&mut self, key: u64) -> usize {
+        if !is_near(&self.keys, self.near, key) {
+            self.near = self.keys.partition_point(|each| *each < key);
+        }
+        self.near
+    }
+
+    fn index_of(&mut self, at: At) -> Option<usize>
+        ensures nodes { IfSome result (λ index. index < length self.new.nodes.items) }
+        ensures passed { IfSome result (λ index. index < length self.new.passed.items) }
     {
         let key = key_of(at);
-        match self.keys.binary_search(&key) {
-            Ok(index) if index < self.nodes.len() && index < self.passed.len() => Some(index),
-            _ => None,
+        let index = self.count_before(key);
+        let is_there = is_key(&self.keys, index, key);
+        if !is_there || self.nodes.len() <= index || self.passed.len() <= index {
+            return None;
         }
+        Some(index)
     }
 
     fn note(&mut self, at: At) {
@@ -72,6 +103,7 @@ impl Places {
             keys,
             nodes,
             passed,
+            near: 0,
         };
         for piece in pieces {
             if let Piece::Frame(frame) = *piece {

@@ -133,8 +133,7 @@ pub(crate) fn left_of(
     if count == 0 {
         return Ok(Vec::new(alloc));
     }
-    let all = sites_of(alloc, false, pieces)?;
-    let tight = sites_of(alloc, true, pieces)?;
-    let left = left_by(alloc, comments, remarks, numbers, &all, &tight)?;
+    let sites = sites_of(alloc, pieces)?;
+    let left = left_by(alloc, comments, remarks, numbers, &sites.all, &sites.tight)?;
     Ok(left)
 }

@@ -15,5 +15,5 @@ mod sites;
 pub use choose::remarks_of;
 pub use fault::SetFault;
 pub use left::{Left, Why};
-pub use print::{Printed, print_text_with_comments};
-pub use remark::{At, Item, Remark};
+pub use print::{Printed, print_text_with_comments, print_text_with_those_of};
+pub use remark::{At, Remark};

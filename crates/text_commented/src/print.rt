@@ -1,26 +1,29 @@
 //! The text of a tree, with comments.
-ghost use Rattle.std.specs.List.{All};
-ghost use Rattle.std.specs.Prelude.{◌≡◌, false, length, map, replicate, slice_get, IfOk, IsTrue, OnOk};
-ghost use Rattle.text_commented.specs.Commented.{IsCommented, IsSet, PutsAmong, item_view};
-ghost use Rattle.text_commented.specs.Why.{IsTold};
+ghost use Rattle.std.specs.Prelude.{List, false, length, map, replicate, IfOk, OnOk};
+ghost use Rattle.text_commented.specs.Chosen.{AreChosen};
+ghost use Rattle.text_commented.specs.Commented.{IsCommented, IsSet, IsWrittenWith, PutsAmong};
+ghost use Rattle.text_commented.specs.Places.{all_places};
+ghost use Rattle.text_commented.specs.Steps.{merged, placed_view};
+ghost use Rattle.text_commented.specs.declared.remark.Remark.{Remark};
 ghost use Rattle.text_follow.specs.Follows.{Follows};
-ghost use Rattle.text_pieces.specs.Pieces.{framed_pieces as framed_of, pieces as pieces_of};
+ghost use Rattle.text_pieces.specs.Frames.{without_frames};
+ghost use Rattle.text_pieces.specs.Pieces.{framed_pieces as framed_of};
 ghost use Rattle.text_pieces.specs.Tokens.{piece_view};
 
-use crate::check::is_set;
+use crate::check::hold;
+use crate::choose::remarks_among;
 use crate::fault::SetFault;
 use crate::fit::{Given, Put, order_of, put_among};
 use crate::frames::{Places, key_of};
 use crate::left::{Left, left_of, numbers_left};
-use crate::remark::{At, Item, Remark};
+use crate::remark::{Placed, Remark};
 use std::alloc::{AllocError, Global};
 use swc_tree_node::Node;
-use text_comments::Source;
-use text_follow::follows;
+use text_comments::{Comment, Source};
 use text_lexer::Comments;
-use text_pieces::{Frame, Piece};
+use text_pieces::Piece;
 use text_printer::{Layout, Writer};
-use text_walk::{framed_pieces, pieces};
+use text_walk::framed_pieces;
 
 /// A text that is written, and the comments that are not in it.
 #[derive(Drop)]
@@ -29,74 +32,80 @@ pub struct Printed {
     pub left: Vec<Left>,
 }
 
-fn is_named(piece: Piece<'_>) -> bool {
-    matches!(piece, Piece::Frame(Frame::Named(_, _)))
+fn write_pieces(writer: &mut Writer<'_>, pieces: &[Piece<'_>]) -> Result<(), AllocError> {
+    for piece in pieces {
+        writer.piece(*piece)?;
+    }
+    Ok(())
 }
 
-// The items, laid out. A comment that trails a parameter without parentheses stands in those that are written round it.
-fn text_of_items(
+// Pieces, and comments among them, laid out. What trails a parameter without parentheses stands in those that are written round it.
+fn text_of(
     alloc: Global,
     layout: Layout,
     remarks: &[Remark<'_>],
-    items: &[Item<'_>],
+    pieces: &[Piece<'_>],
+    placed: &[Placed],
 ) -> Result<Vec<u8>, AllocError> {
     let mut writer = Writer::new(alloc, layout);
-    let mut named = false;
-    for item in items {
-        match *item {
-            Item::Piece(piece) => {
-                writer.piece(piece)?;
-                named = is_named(piece);
-            }
-            Item::Comment(number) => match remarks.get(number) {
-                Some(remark) => {
-                    if named && matches!(remark.at, At::Trails(_)) {
-                        writer.hold(remark.text)?;
-                    } else {
-                        writer.comment(remark.text)?;
-                    }
+    let mut at = 0;
+    for each in placed {
+        write_pieces(&mut writer, pieces.get(at..each.before).unwrap_or(&[]))?;
+        at = each.before;
+        match remarks.get(each.number) {
+            Some(remark) => {
+                if each.inside {
+                    writer.hold(remark.text)?;
+                } else {
+                    writer.comment(remark.text)?;
                 }
-                None => (),
-            },
+            }
+            None => (),
         }
     }
+    write_pieces(&mut writer, pieces.get(at..).unwrap_or(&[]))?;
     writer.finish()
 }
 
-fn follows_strictly(comments: Comments, text: &[u8], pieces: &[Piece<'_>]) -> bool
-    ensures { IsTrue result → Follows comments false (map piece_view pieces.now) text.now }
-{
-    follows(comments, false, text, pieces)
-}
-
-// Whether a text has the tokens and the items.
+// Whether a text has the pieces, and comments among them.
 fn check(
     alloc: Global,
     comments: Comments,
-    tree: &Node,
     remarks: &[Remark<'_>],
-    items: &[Item<'_>],
+    pieces: &[Piece<'_>],
+    placed: &[Placed],
     text: &[u8],
 ) -> Result<(), SetFault>
-    ensures follows { OnOk result (Follows comments false (pieces_of tree.now) text.now) }
-    ensures set { OnOk result (IsSet comments remarks.now (map item_view items.now) text.now) }
+    ensures follows { OnOk result (Follows comments false (without_frames (map piece_view pieces.now)) text.now) }
+    ensures set { OnOk result (IsSet comments remarks.now (merged 0 (map piece_view pieces.now) (map placed_view placed.now)) text.now) }
 {
     if text.len() >= u32::MAX as usize {
         return Err(SetFault::TooLong);
-    }
-    let found = pieces(alloc, tree)?;
-    if !follows_strictly(comments, text, &found) {
-        return Err(SetFault::NotSpelled);
     }
     let source = Source {
         comments,
         whole: text,
     };
-    let is_so = is_set(alloc, source, remarks, items)?;
-    if !is_so {
-        return Err(SetFault::NotSet);
-    }
+    hold(alloc, source, remarks, pieces, placed)?;
     Ok(())
+}
+
+// The text of pieces, with comments that are put among them.
+fn text_with(
+    alloc: Global,
+    comments: Comments,
+    layout: Layout,
+    remarks: &[Remark<'_>],
+    pieces: &[Piece<'_>],
+    placed: &[Placed],
+) -> Result<Vec<u8>, SetFault>
+    ensures follows { IfOk result (λ text. Follows comments false (without_frames (map piece_view pieces.now)) text.items) }
+    ensures set { IfOk result (λ text. IsSet comments remarks.now (merged 0 (map piece_view pieces.now) (map placed_view placed.now)) text.items) }
+{
+    let text = text_of(alloc, layout, remarks, pieces, placed)?;
+    let bytes = text.as_slice();
+    check(alloc, comments, remarks, pieces, placed, bytes)?;
+    Ok(text)
 }
 
 // Where the comments stand, held against the frames of a tree.
@@ -112,14 +121,14 @@ fn places_of(
     Places::among(alloc, keys, pieces)
 }
 
-// The pieces in their order, and comments among them.
-fn put_of<'a>(
+// Comments put among pieces.
+fn put_of(
     alloc: Global,
     comments: Comments,
     remarks: &[Remark<'_>],
-    pieces: &[Piece<'a>],
-) -> Result<Put<'a>, AllocError>
-    ensures { IfOk result (λ put. PutsAmong remarks.now (replicate (length remarks.now) false) (map piece_view pieces.now) (map item_view put.items.items) put.used.items) }
+    pieces: &[Piece<'_>],
+) -> Result<Put, AllocError>
+    ensures { IfOk result (λ put. PutsAmong remarks.now (replicate (length remarks.now) false) (map piece_view pieces.now) (merged 0 (map piece_view pieces.now) (map placed_view put.placed.items)) put.used.items) }
 {
     let places = places_of(alloc, remarks, pieces)?;
     let order = order_of(alloc, remarks)?;
@@ -132,40 +141,24 @@ fn put_of<'a>(
     Ok(put)
 }
 
-// The same of the pieces of a tree, of which there may be more than of all else: they are not kept.
-fn put_in<'a>(
+// The text of pieces with comments among them, and those that are left.
+fn print_among(
     alloc: Global,
     comments: Comments,
-    tree: &'a Node,
+    layout: Layout,
     remarks: &[Remark<'_>],
-) -> Result<Put<'a>, AllocError>
-    ensures { IfOk result (λ put. PutsAmong remarks.now (replicate (length remarks.now) false) (framed_of tree.now) (map item_view put.items.items) put.used.items) }
+    pieces: &[Piece<'_>],
+) -> Result<Printed, SetFault>
+    ensures { IfOk result (λ out. IsWrittenWith comments (without_frames (map piece_view pieces.now)) (map piece_view pieces.now) remarks.now out.text.items out.left.items) }
 {
-    let found = framed_pieces(alloc, tree)?;
-    let framed = found.as_slice();
-    let put = put_of(alloc, comments, remarks, framed)?;
-    Ok(put)
-}
-
-// Why comments are left, by the pieces of a tree, made anew if any is.
-fn left_in(
-    alloc: Global,
-    comments: Comments,
-    tree: &Node,
-    remarks: &[Remark<'_>],
-    numbers: &[usize],
-) -> Result<Vec<Left>, SetFault>
-    ensures each { IfOk result (λ left. map (λ l. l.number) left.items ≡ numbers.now) }
-    ensures told { IfOk result (λ left. All (λ l. IsTold comments (framed_of tree.now) (slice_get remarks.now l.number) l.why) left.items) }
-{
-    let count = numbers.len();
-    if count == 0 {
-        return Ok(Vec::new(alloc));
-    }
-    let found = framed_pieces(alloc, tree)?;
-    let framed = found.as_slice();
-    let left = left_of(alloc, comments, remarks, numbers, framed)?;
-    Ok(left)
+    let put = put_of(alloc, comments, remarks, pieces)?;
+    let placed = put.placed.as_slice();
+    let text = text_with(alloc, comments, layout, remarks, pieces, placed)?;
+    let used = put.used.as_slice();
+    let numbers = numbers_left(alloc, used)?;
+    let each = numbers.as_slice();
+    let left = left_of(alloc, comments, remarks, each, pieces)?;
+    Ok(Printed { text, left })
 }
 
 /// A text that is written with the tokens of a tree, in UTF-8, and with comments: each is written once, before the first node that begins
@@ -184,14 +177,32 @@ pub fn print_text_with_comments(
 ) -> Result<Printed, SetFault>
     ensures { IfOk result (λ out. IsCommented comments tree.now remarks.now out.text.items out.left.items) }
 {
-    let put = put_in(alloc, comments, tree, remarks)?;
-    let items = put.items.as_slice();
-    let text = text_of_items(alloc, layout, remarks, items)?;
-    let bytes = text.as_slice();
-    check(alloc, comments, tree, remarks, items, bytes)?;
-    let used = put.used.as_slice();
-    let numbers = numbers_left(alloc, used)?;
-    let each = numbers.as_slice();
-    let left = left_in(alloc, comments, tree, remarks, each)?;
-    Ok(Printed { text, left })
+    let found = framed_pieces(alloc, tree)?;
+    let pieces = found.as_slice();
+    let printed = print_among(alloc, comments, layout, remarks, pieces)?;
+    Ok(printed)
+}
+
+/// `print_text_with_comments` of what `remarks_of` answers, in less time than both take: the comments that are left are told by their
+/// numbers among those of the text.
+///
+/// # Errors
+///
+/// Those of `print_text_with_comments`.
+pub fn print_text_with_those_of(
+    alloc: Global,
+    comments: Comments,
+    layout: Layout,
+    tree: &Node,
+    text: &[u8],
+    found: &[Comment],
+) -> Result<Printed, SetFault>
+    ensures { IfOk result (λ out. (rs : List Remark) × AreChosen text.now (all_places (framed_of tree.now)) found.now rs × IsCommented comments tree.now rs out.text.items out.left.items) }
+{
+    let list = framed_pieces(alloc, tree)?;
+    let pieces = list.as_slice();
+    let chosen = remarks_among(alloc, text, pieces, found)?;
+    let remarks = chosen.as_slice();
+    let printed = print_among(alloc, comments, layout, remarks, pieces)?;
+    Ok(printed)
 }

@@ -3,7 +3,6 @@ ghost use Rattle.std.specs.Prelude.{◌≡◌, Some, slice_get, IfSome, IsTrue};
 ghost use Rattle.text_commented.specs.Commented.{Stands};
 
 use swc_tree_marks::BytePos;
-use text_pieces::Piece;
 
 /// Where a comment stands, in bytes from 1, as passes move it.
 #[derive(Clone, Copy, Debug, PartialEq, Eq)]
@@ -21,11 +20,15 @@ pub struct Remark<'r> {
     pub at: At,
 }
 
-/// What a text is written with: a piece of its tree, or a comment, by its number among those given.
+/// A comment that is put among the pieces of a tree.
 #[derive(Clone, Copy)]
-pub enum Item<'a> {
-    Piece(Piece<'a>),
-    Comment(usize),
+pub(crate) struct Placed {
+    /// How many of these are before it.
+    pub(crate) before: usize,
+    /// Its number among those given.
+    pub(crate) number: usize,
+    /// It stands in the parentheses that are written round the parameter behind it.
+    pub(crate) inside: bool,
 }
 
 fn same_place(one: At, other: At) -> bool

@@ -1,8 +1,8 @@
 //! Where the nodes of a tree begin and stop.
-ghost use Rattle.std.specs.Prelude.{◌≡◌, ◌↔◌, ◌&&◌, ◌++◌, [], List, map, IfOk, IfSome, IsTrue, OnOk, if◌then◌else◌};
+ghost use Rattle.std.specs.Prelude.{◌≡◌, ◌↔◌, ◌++◌, [], List, map, IfOk, IfSome, IsTrue, OnOk, if◌then◌else◌};
 ghost use Rattle.std.specs.List.{Contains};
 ghost use Rattle.std.specs.List.Sorted.{IsNonDecreasing, IsPermutation};
-ghost use Rattle.text_commented.specs.Places.{places as places_of, places_among, places_at};
+ghost use Rattle.text_commented.specs.Places.{all_places, places as places_of, places_at, tight_places};
 ghost use Rattle.text_commented.specs.Sites.{IsFirst, IsFirstBegun, IsLast, IsLastBegun, IsLastStop, IsSites, leads_in, trails_in};
 ghost use Rattle.text_commented.specs.declared.remark.At.{At};
 ghost use Rattle.text_pieces.specs.Tokens.{frame_view, piece_view};
@@ -65,13 +65,17 @@ fn first_of(sorted: &[usize], limit: usize) -> Option<usize>
     }
 }
 
-fn both(one: bool, other: bool) -> bool
-    ensures { result ≡ (one && other) }
-{
-    one && other
-}
-
 impl Sites {
+    fn new(alloc: Global) -> Sites
+        ensures begun { result.begun.items ≡ [] }
+        ensures stopped { result.stopped.items ≡ [] }
+    {
+        Sites {
+            begun: Vec::new(alloc),
+            stopped: Vec::new(alloc),
+        }
+    }
+
     #[tactic(auto, using(crate::proofs::Listed::nothing_added))]
     fn add_frame(&mut self, frame: Frame<'_>) -> Result<(), AllocError>
         ensures begun { OnOk result (self.new.begun.items ≡ self.old.begun.items ++ leads_in (places_at (frame_view frame.entry))) }
@@ -136,14 +140,14 @@ impl Sites {
         }
     }
 
-    /// Where the last node stops that does so at a place or before.
+    /// Where the last node stops that does so at a place or before; those that stand nowhere, as passes make them, have 0.
     pub(crate) fn last_stop(&self, limit: BytePos) -> Option<BytePos>
         ensures { (all : List At) → IsSites self.now all → IfSome result (IsLastStop all limit) }
     {
         let Some(place) = last_of(&self.stopped, limit as usize) else {
             return None;
         };
-        if place > u32::MAX as usize {
+        if place == 0 || place > u32::MAX as usize {
             return None;
         }
         Some(place as u32)
@@ -156,7 +160,7 @@ impl Sites {
         let Some(place) = last_of(&self.begun, limit as usize) else {
             return None;
         };
-        if place > u32::MAX as usize {
+        if place == 0 || place > u32::MAX as usize {
             return None;
         }
         Some(place as u32)
@@ -176,24 +180,27 @@ impl Sites {
     }
 }
 
-/// The places behind pieces: all of them, or (`tight`) those alone between tokens between which no line may end.
-pub(crate) fn sites_of(
-    alloc: Global,
-    tight: bool,
-    pieces: &[Piece<'_>],
-) -> Result<Sites, AllocError>
-    ensures { IfOk result (λ sites. IsSites sites (places_among tight (map piece_view pieces.now))) }
+/// The places behind pieces: all of them, and those between tokens between which no line may end.
+#[derive(Drop)]
+pub(crate) struct BothSites {
+    pub(crate) all: Sites,
+    pub(crate) tight: Sites,
+}
+
+/// The places behind pieces.
+pub(crate) fn sites_of(alloc: Global, pieces: &[Piece<'_>]) -> Result<BothSites, AllocError>
+    ensures all { IfOk result (λ both. IsSites both.all (all_places (map piece_view pieces.now))) }
+    ensures tight { IfOk result (λ both. IsSites both.tight (tight_places (map piece_view pieces.now))) }
 {
-    let mut sites = Sites {
-        begun: Vec::new(alloc),
-        stopped: Vec::new(alloc),
-    };
+    let mut all = Sites::new(alloc);
+    let mut tight = Sites::new(alloc);
     let mut line = may_end_line(pieces);
     'pieces: for i in 0..pieces.len() {
         line = line_behind(line, pieces[i], &pieces[i + 1..]);
-        let over = both(tight, line);
-        sites.add(over, pieces[i])?;
+        all.add(false, pieces[i])?;
+        tight.add(line, pieces[i])?;
     }
-    let sites = sites.ordered()?;
-    Ok(sites)
+    let all = all.ordered()?;
+    let tight = tight.ordered()?;
+    Ok(BothSites { all, tight })
 }

@@ -43,15 +43,40 @@ fn edit_pieces<'p, 'a>(
     apply(alloc, comments, text, before, after)
 }
 
-/// The text of a tree, edited to be that of another tree. What stands between two pieces that both have stays as it is: blanks
-/// and comments too; where the trees differ in names alone, so do the texts. What is written is held against the tree before
-/// it is given.
+/// The text of some pieces, edited to be that of a tree. What stands between two pieces that both have stays as it is: blanks and comments
+/// too; where they differ in names alone, so do the texts. What is written is held against the tree before it is given.
 ///
 /// # Errors
 ///
-/// `OtherText` where the text is not that of the tree before, `NotTheText` where the answer were not that of the tree
-/// after, `NoMemory` where memory is refused.
+/// `OtherText` where the text is not that of the pieces before, `NotTheText` where the answer were not that of the tree after, `NoMemory`
+/// where memory is refused.
 #[tactic(auto, using(crate::proofs::Names::renamed))]
+pub fn edit_text_from<'a>(
+    alloc: Global,
+    comments: Comments,
+    text: &[u8],
+    before: &[Piece<'a>],
+    after: &'a Node,
+) -> Result<Vec<u8>, EditFault>
+    ensures follows { IfOk result (λ out. Follows comments true (pieces_of after.now) out.items) }
+    ensures same { map piece_view before.now ≡ pieces_of after.now → IfOk result (λ out. out.items ≡ text.now) }
+    ensures names { pointwise alike (map piece_view before.now) (pieces_of after.now) ≡ true → IfOk result (λ out. IsRenamed comments (map piece_view before.now) (pieces_of after.now) text.now out.items) }
+    ensures edited { IfOk result (λ out. IsEdited comments (map piece_view before.now) (pieces_of after.now) text.now out.items) }
+{
+    let new = pieces(alloc, after)?;
+    let out = edit_pieces(alloc, comments, text, before, &new)?;
+    if is_text_of(comments, &out, &new) {
+        Ok(out)
+    } else {
+        Err(EditFault::NotTheText)
+    }
+}
+
+/// The text of a tree, edited to be that of another tree: `edit_text_from` its pieces.
+///
+/// # Errors
+///
+/// Those of `edit_text_from`.
 pub fn edit_text<'a>(
     alloc: Global,
     comments: Comments,
@@ -64,12 +89,7 @@ pub fn edit_text<'a>(
     ensures names { pointwise alike (pieces_of before.now) (pieces_of after.now) ≡ true → IfOk result (λ out. IsRenamed comments (pieces_of before.now) (pieces_of after.now) text.now out.items) }
     ensures edited { IfOk result (λ out. IsEdited comments (pieces_of before.now) (pieces_of after.now) text.now out.items) }
 {
-    let old = pieces(alloc, before)?;
-    let new = pieces(alloc, after)?;
-    let out = edit_pieces(alloc, comments, text, &old, &new)?;
-    if is_text_of(comments, &out, &new) {
-        Ok(out)
-    } else {
-        Err(EditFault::NotTheText)
-    }
+    let found = pieces(alloc, before)?;
+    let old = found.as_slice();
+    edit_text_from(alloc, comments, text, old, after)
 }

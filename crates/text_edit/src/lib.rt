@@ -10,5 +10,5 @@ mod fault;
 mod guess;
 mod walk;
 
-pub use edit::edit_text;
+pub use edit::{edit_text, edit_text_from};
 pub use fault::EditFault;

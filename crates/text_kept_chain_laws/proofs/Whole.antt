@@ -21,7 +21,7 @@ use Rattle.text_kept_stripping_laws.proofs.Whole.{fixer_shape, fixer_spelling, u
 use Rattle.text_kept_units_laws.proofs.Whole.{any_hygiene, renaming_fits}
 use Rattle.text_kept_mangle_laws.proofs.Whole.{mangling_texts, short_words}
 use Rattle.text_kept_chain_laws.specs.Laws.{ChainKeepsTexts, FixerKeepsTexts, HasTexts, HygieneKeepsTexts, ShortChainKeepsTexts, ShortNamesKeepTexts, UnparenKeepsTexts}
-use Rattle.text_kept_chain_laws.proofs.Contexts.{remarked_fits, remarked_utf8}
+use Rattle.text_kept_chain_laws.proofs.Contexts.{remarked_fits}
 
 -- a program that is resolved
 resolved_texts : (unresolved top : ℕ) (old new : Table) (source resolved : Node) (s : Slot) → Resolved unresolved top old new source resolved → HasTexts s source → HasTexts s resolved
@@ -32,11 +32,10 @@ resolved_texts unresolved top old new source resolved s r h = record {
 }
 
 pub hygiene_texts : HygieneKeepsTexts
-hygiene_texts config s unresolved top old new source resolved middle room utf8 r (given, by, cleared) h =
+hygiene_texts config s unresolved top old new source resolved middle room r (given, by, cleared) h =
     let n = resolved_texts unresolved top old new source resolved s r h in
-    let utf8_resolved = remarked_utf8 r.contexts source resolved r.only_contexts utf8 in
-    let given_fits : Fits given s = renaming_fits hygiene_renaming new config resolved given s room (hygiene_words resolved utf8_resolved n.spelled) n.fits by n.shaped n.spelled in
-    let texts = any_hygiene new config resolved middle s room utf8_resolved n.fits (given, by, cleared) n.shaped n.spelled in
+    let given_fits : Fits given s = renaming_fits hygiene_renaming new config resolved given s room (hygiene_words resolved n.spelled) n.fits by n.shaped n.spelled in
+    let texts = any_hygiene new config resolved middle s room n.fits (given, by, cleared) n.shaped n.spelled in
     record { fits = subst (λ t. Fits t s) (sym cleared) (by_texts_fits given given (λ s room h. h) s room given_fits); shaped = texts.0; spelled = texts.1 }
 
 -- what is shortened stands in its place
@@ -72,8 +71,8 @@ paired_texts place t s open_place bare h = record {
 }
 
 pub chain_texts : ChainKeepsTexts
-chain_texts config place s unresolved top old new source resolved middle room open_place utf8 r hygienic bare h =
-    paired_texts place middle s open_place bare (hygiene_texts config s unresolved top old new source resolved middle room utf8 r hygienic h)
+chain_texts config place s unresolved top old new source resolved middle room open_place r hygienic bare h =
+    paired_texts place middle s open_place bare (hygiene_texts config s unresolved top old new source resolved middle room r hygienic h)
 
 pub short_chain_texts : ShortChainKeepsTexts
 short_chain_texts config keeps_top place s unresolved top old new source resolved middle room open_place r m bare h =

@@ -17,7 +17,6 @@ use Rattle.swc_base_rename_substitution.specs.Room.{has_room}
 use Rattle.swc_base_rename_program.specs.Renamed.{IsHygienic}
 use Rattle.text_grammar.specs.Shaped.{Shaped}
 use Rattle.text_spelling.specs.Spelled.{Spelled}
-use Rattle.text_kept_namings_laws.specs.Laws.{NamesAreUtf8}
 
 -- a tree that stands in its place, whose productions have their lengths, and whose leaves are tokens of their kinds
 pub record HasTexts (s : Slot) (t : Node) : Type 0 where
@@ -25,10 +24,10 @@ pub record HasTexts (s : Slot) (t : Node) : Type 0 where
   pub shaped : Shaped t
   pub spelled : Spelled t
 
--- a program whose identifiers are in UTF-8 still is such once it is resolved and has its names by hygiene; its place is that of a program,
+-- a program still is such once it is resolved and has its names by hygiene; its place is that of a program,
 -- or any other with room for what is written out
 abbrev pub HygieneKeepsTexts : Type 0
-HygieneKeepsTexts = (config : Config) (s : Slot) (unresolved top : ℕ) (old new : Table) (source resolved middle : Node) → IsTrue (has_room s) → NamesAreUtf8 source
+HygieneKeepsTexts = (config : Config) (s : Slot) (unresolved top : ℕ) (old new : Table) (source resolved middle : Node) → IsTrue (has_room s)
     → Resolved unresolved top old new source resolved → IsHygienic new config resolved middle → HasTexts s source → HasTexts s middle
 
 -- so is one with short names
@@ -46,7 +45,7 @@ UnparenKeepsTexts = (t : Node) (s : Slot) → IsTrue (is_open s) → IsTrue (all
 
 -- and what a chain makes of a program, with names by hygiene, or with short ones
 abbrev pub ChainKeepsTexts : Type 0
-ChainKeepsTexts = (config : Config) (place : Places) (s : Slot) (unresolved top : ℕ) (old new : Table) (source resolved middle : Node) → IsTrue (has_room s) → IsTrue (is_open s) → NamesAreUtf8 source
+ChainKeepsTexts = (config : Config) (place : Places) (s : Slot) (unresolved top : ℕ) (old new : Table) (source resolved middle : Node) → IsTrue (has_room s) → IsTrue (is_open s)
     → Resolved unresolved top old new source resolved → IsHygienic new config resolved middle → IsTrue (all_bare middle) → HasTexts s source → HasTexts s (fixed place middle)
 
 abbrev pub ShortChainKeepsTexts : Type 0

@@ -14,7 +14,7 @@ use Rattle.text_words.specs.Words.{is_name, reserved as words}
 use Rattle.swc_tree_grammar.specs.Writable.{begins_name, is_digit, is_identifier_text, is_letter, reserved}
 use Rattle.swc_base_rename_short_texts.specs.ShortTexts.{character, past, place, short_text, text_at_place, withheld}
 use Rattle.text_kept_spelling_laws.specs.Laws.{IsWord}
-use Rattle.text_kept_namings_laws.proofs.Numbered.{name_of}
+use Rattle.text_kept_namings_laws.proofs.Numbered.{name_of, name_of_characters}
 
 -- ---- its characters are below 128
 
@@ -74,7 +74,7 @@ low_name [] low h = absurd (cc)
 low_name (c ∷ cs) low h =
     let small = and_parts (is_low c) (list_all is_low cs) low in
     let parts = and_parts (is_letter c) (list_all (λ c. is_letter c || is_digit c) cs) h in
-    sym (ap is_name (low_encodes (c ∷ cs) low)) ∙ name_of c cs (low_scalars (c ∷ cs) low) (letter_start c small.0 parts.0) (parts_all cs small.1 parts.1)
+    sym (ap is_name (low_encodes (c ∷ cs) low)) ∙ name_of_characters (c ∷ cs) (low_scalars (c ∷ cs) low) (name_of c cs (low_scalars (c ∷ cs) low) (letter_start c small.0 parts.0) (parts_all cs small.1 parts.1))
 
 -- ---- and no reserved word
 

@@ -9,7 +9,8 @@ use Rattle.std.proofs.lemmas.Bool.Decides.{nat_tests}
 use Rattle.std.proofs.lemmas.Fmt.{IsAscii-decimal, decimal_by_steps}
 use Rattle.std.proofs.lemmas.List.Folds.{list_all-append, list_any-append}
 use Rattle.std.proofs.lemmas.Slice.Eq.{bytes_eq-Decides}
-use Rattle.std.proofs.lemmas.Str.{encode_ascii, encodes-append, encodes-IsAscii, length-le-encodes}
+use Rattle.std.specs.Str.{is_utf8}
+use Rattle.std.proofs.lemmas.Str.{IsUtf8-append, IsUtf8-from_ascii, IsUtf8-from_is_utf8, is_utf8-from_IsUtf8, encode_ascii, encodes-append, encodes-IsAscii, length-le-encodes}
 use lib.Dec.{eqb-suc-zero}
 use lib.Utf8.{scalar, scalars}
 use Rattle.text_characters.specs.Characters.{first, is_name_part, is_name_start, point_of}
@@ -25,7 +26,7 @@ use Rattle.text_lexer.specs.Numbers.{begins_number, ends_number, number_at, numb
 use Rattle.text_lexer.specs.Literals.{regex_before, regex_behind, regex_rest, string_before, template_before}
 use Rattle.text_lexer.specs.Lexical.{begins_mark, hash_at, mark_among, sign_at, token_at}
 use Rattle.text_lexer.proofs.Walks.{name_rest_end, name_rest_more, name_rest_stop}
-use Rattle.text_words.specs.Words.{alone, is_name, is_name_token, reserved}
+use Rattle.text_words.specs.Words.{alone, is_name, is_name_token, reads_name, reserved}
 use Rattle.swc_base_rename_naming.specs.Texts.{numbered}
 use Rattle.text_kept_spelling_laws.specs.Laws.{IsWord}
 use Rattle.text_kept_namings_laws.proofs.Characters.{bytes_plain, character}
@@ -106,7 +107,7 @@ plain_by : (b : Bool) (text : List ℕ) → is_name_token (cond b (token.escaped
 plain_by true text h = absurd (cc)
 plain_by false text h = refl
 
-begins_name_of : (text : List ℕ) → is_name text ≡ true → BeginsName text
+begins_name_of : (text : List ℕ) → reads_name text ≡ true → BeginsName text
 unfolding token_at
 begins_name_of text h =
     let n = named_by (length text == 0) (begins_name text) (begins_number text) (number_at text) (sign_at goal.Div text) text (number_none text (number_rest text)) (sign_none text) h in
@@ -125,7 +126,7 @@ is_named_by text rest e h =
     let token : named (up_to text rest) ≡ token.name text = ap named (up_to_end text rest e) ∙ cond-false (has_escape text) _ _ h in
     ap (λ t. is_name_token t && length rest == 0) token ∙ ap (λ l. length l == 0) e
 
-name_of_begins : (c : ℕ) (cs : List ℕ) → BeginsName (c ∷ cs) → is_name (c ∷ cs) ≡ true
+name_of_begins : (c : ℕ) (cs : List ℕ) → BeginsName (c ∷ cs) → reads_name (c ∷ cs) ≡ true
 unfolding token_at
 name_of_begins c cs b =
     ap (λ x. Named (cond x (Ok (token.end, [])) (cond (begins_name (c ∷ cs)) (Ok (name_at (c ∷ cs))) (cond (begins_number (c ∷ cs)) (number_at (c ∷ cs)) (sign_at goal.Div (c ∷ cs)))))) (eqb-suc-zero (length cs))
@@ -223,7 +224,7 @@ parts_plain (d ∷ ds) p =
     and_from (not (d == 92)) (list_all (λ c. not (c == 92)) ds) (ap not (no_backslash false d named.0)) (parts_plain ds named.1)
 
 -- a first character and others make a name
-pub name_of : (c : ℕ) (ds : List ℕ) → scalars (c ∷ ds) ≡ true → is_name_start c ≡ true → are_parts ds ≡ true → is_name (encode_utf8_all (c ∷ ds)) ≡ true
+pub name_of : (c : ℕ) (ds : List ℕ) → scalars (c ∷ ds) ≡ true → is_name_start c ≡ true → are_parts ds ≡ true → reads_name (encode_utf8_all (c ∷ ds)) ≡ true
 name_of c ds s starts p = by (encode_utf8_all (c ∷ ds)) refl
   where
     both : (scalar c ≡ true) × (scalars ds ≡ true)
@@ -239,9 +240,9 @@ name_of c ds s starts p = by (encode_utf8_all (c ∷ ds)) refl
       no_escape = escapes_none (c ∷ ds) s (and_from (not (c == 92)) _ (ap not (no_backslash true c starts)) (parts_plain ds p));
     }
 
-    by : (text : List ℕ) → encode_utf8_all (c ∷ ds) ≡ text → is_name (encode_utf8_all (c ∷ ds)) ≡ true
+    by : (text : List ℕ) → encode_utf8_all (c ∷ ds) ≡ text → reads_name (encode_utf8_all (c ∷ ds)) ≡ true
     by [] e = absurd (left_none c ds e)
-    by (b ∷ bs) e = ap is_name e ∙ name_of_begins b bs (subst BeginsName e facts)
+    by (b ∷ bs) e = ap reads_name e ∙ name_of_begins b bs (subst BeginsName e facts)
 
 -- ---- a number behind it
 
@@ -276,7 +277,7 @@ scalars-append [] ds h g = g
 scalars-append (c ∷ cs) ds h g = let parts = and_parts (scalar c) (scalars cs) h in and_from (scalar c) (scalars (cs ++ ds)) parts.0 (scalars-append cs ds parts.1 g)
 
 -- what a name in UTF-8 is made of
-name_parts : (c : ℕ) (ds : List ℕ) → scalars (c ∷ ds) ≡ true → is_name (encode_utf8_all (c ∷ ds)) ≡ true → (is_name_start c ≡ true) × (are_parts ds ≡ true)
+name_parts : (c : ℕ) (ds : List ℕ) → scalars (c ∷ ds) ≡ true → reads_name (encode_utf8_all (c ∷ ds)) ≡ true → (is_name_start c ≡ true) × (are_parts ds ≡ true)
 name_parts c ds s h =
     let b = begins_name_of (encode_utf8_all (c ∷ ds)) h in
     let both = and_parts (scalar c) (scalars ds) s in
@@ -287,11 +288,11 @@ name_parts c ds s h =
     = sym (ap (name_behind after_parts (encode_utf8_all (c ∷ ds))) (at ∙ ap (λ b. cond b (Some (encode_utf8_all ds)) None) starts)) ∙ b.nothing_left in
     (starts, parts_from (length (encode_utf8_all ds)) ds both.1 plain.1 (omega arith) left)
 
-nothing_named : is_name [] ≡ true → ⊥
+nothing_named : reads_name [] ≡ true → ⊥
 unfolding token_at
 nothing_named h = absurd (cc)
 
-with_digits : (cs : List ℕ) (n : ℕ) → n < 2 ^ 64 → scalars cs ≡ true → is_name (encode_utf8_all cs) ≡ true → is_name (encode_utf8_all cs ++ decimal n) ≡ true
+with_digits : (cs : List ℕ) (n : ℕ) → n < 2 ^ 64 → scalars cs ≡ true → reads_name (encode_utf8_all cs) ≡ true → reads_name (encode_utf8_all cs ++ decimal n) ≡ true
 with_digits [] n within s h = absurd (nothing_named h)
 with_digits (c ∷ ds) n within s h =
     let w = name_parts c ds s h in
@@ -299,7 +300,7 @@ with_digits (c ∷ ds) n within s h =
     let more : scalars (decimal n) ≡ true = scalars_all (decimal n) (all_from is_digit scalar digit_scalar (decimal n) digits) in
     let same : encode_utf8_all (c ∷ ds) ++ decimal n ≡ encode_utf8_all (c ∷ (ds ++ decimal n))
     = ap (λ l. encode_utf8_all (c ∷ ds) ++ l) (sym (encodes-IsAscii (decimal n) (IsAscii-decimal n within))) ∙ sym (encodes-append (c ∷ ds) (decimal n)) in
-    ap is_name same
+    ap reads_name same
     ∙ name_of c (ds ++ decimal n) (scalars-append (c ∷ ds) (decimal n) s more) w.0
     (list_all-append is_name_part ds (decimal n) ∙ and_from _ _ w.1 (all_from is_digit is_name_part digit_part (decimal n) digits))
 
@@ -328,12 +329,23 @@ is_none_of text digit (w ∷ ws) none =
     let others = or_parts (ends_from false w) (list_any (ends_from false) ws) none in
     or_from _ _ (apart text w digit others.0) (is_none_of text digit ws others.1)
 
-pub numbered_word : (text : List ℕ) (n : ℕ) → IsUtf8 text → is_name text ≡ true → n < 2 ^ 64 → numbered text n ≢ text → IsWord (numbered text n)
-numbered_word text n utf8 named within other = by (n == 0) refl
+-- what is read as a name and is in UTF-8 is one
+pub name_of_characters : (cs : List ℕ) → scalars cs ≡ true → reads_name (encode_utf8_all cs) ≡ true → is_name (encode_utf8_all cs) ≡ true
+name_of_characters cs s h = and_from (is_utf8 (encode_utf8_all cs)) (reads_name (encode_utf8_all cs)) (is_utf8-from_IsUtf8 (encode_utf8_all cs) (cs, (s, refl))) h
+
+pub numbered_word : (text : List ℕ) (n : ℕ) → is_name text ≡ true → n < 2 ^ 64 → numbered text n ≢ text → IsWord (numbered text n)
+numbered_word text n named within other = by (n == 0) refl
   where
+    parts : (is_utf8 text ≡ true) × (reads_name text ≡ true)
+    parts = and_parts (is_utf8 text) (reads_name text) named
+
+    utf8 : IsUtf8 text
+    utf8 = IsUtf8-from_is_utf8 text parts.0
+
     by : (b : Bool) → (n == 0) ≡ b → IsWord (numbered text n)
     by true e = absurd (other (cond-true (n == 0) text (text ++ decimal n) e))
     by false e =
         let is : numbered text n ≡ text ++ decimal n = cond-false (n == 0) text (text ++ decimal n) e in
-        let whole : is_name (text ++ decimal n) ≡ true = subst (λ l. is_name (l ++ decimal n) ≡ true) utf8.1.1 (with_digits utf8.0 n within utf8.1.0 (ap is_name utf8.1.1 ∙ named)) in
-        subst IsWord (sym is) (whole, is_none_of (text ++ decimal n) (ends-decimal n within text) reserved refl)
+        let read : reads_name (text ++ decimal n) ≡ true = subst (λ l. reads_name (l ++ decimal n) ≡ true) utf8.1.1 (with_digits utf8.0 n within utf8.1.0 (ap reads_name utf8.1.1 ∙ parts.1)) in
+        let longer : is_utf8 (text ++ decimal n) ≡ true = is_utf8-from_IsUtf8 (text ++ decimal n) (IsUtf8-append text (decimal n) utf8 (IsUtf8-from_ascii (decimal n) (IsAscii-decimal n within))) in
+        subst IsWord (sym is) (and_from (is_utf8 (text ++ decimal n)) (reads_name (text ++ decimal n)) longer read, is_none_of (text ++ decimal n) (ends-decimal n within text) reserved refl)

@@ -63,9 +63,9 @@ below test (i ∷ p) t n e f h = by (λ c g k. below test p c n g k h) (child t 
     by further (Some c) g e = further c e (free_child test t c i g f)
 
 pub hygiene_words : HygieneGivesNewWords
-hygiene_words t utf8 spelled p k i n at within other =
-    numbered_word i.sym n (utf8 p k i at) (named k i (below is_misspelled p t (Identifier k i) at spelled)) within other
+hygiene_words t spelled p k i n at within other =
+    numbered_word i.sym n (named k i (below is_misspelled p t (Identifier k i) at spelled)) within other
 
 pub hygiene_spelling : HygieneKeepsSpelling
-hygiene_spelling table config before after s utf8 fits unread (given, by, cleared) spelled =
-    subst Spelled (sym cleared) ((texts_spelled given).1 (renaming_spelling hygiene_renaming table config before given s (hygiene_words before utf8 spelled) fits unread by spelled))
+hygiene_spelling table config before after s fits unread (given, by, cleared) spelled =
+    subst Spelled (sym cleared) ((texts_spelled given).1 (renaming_spelling hygiene_renaming table config before given s (hygiene_words before spelled) fits unread by spelled))

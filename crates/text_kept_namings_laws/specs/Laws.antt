@@ -1,5 +1,5 @@
 -- What a text asks of a tree stays where a renamer gives names to a program in which nothing reads them.
-use Rattle.std.specs.Prelude.{◌≡◌, ◌≢◌, ◌<◌, ◌^◌, ℕ, Some, IsUtf8}
+use Rattle.std.specs.Prelude.{◌≡◌, ◌≢◌, ◌<◌, ◌^◌, ℕ, Some}
 use Rattle.swc_tree_marks.specs.declared.ident.Ident.{Ident}
 use Rattle.swc_tree_marks.specs.Globals.{Table}
 use Rattle.swc_tree_node.specs.declared.kind.Kind.{Kind}
@@ -19,10 +19,6 @@ use Rattle.text_kept_spelling_laws.specs.Laws.{IsWord}
 abbrev pub GivesNewWords : Renaming → Node → Type 0
 GivesNewWords r t = (p : Path) (k : Kind) (i : Ident) (n : ℕ) → node_at t p ≡ Some (Identifier k i) → n < 2 ^ 64 → r.text (i.sym, i.ctxt) n ≢ i.sym → IsWord (r.text (i.sym, i.ctxt) n)
 
--- each identifier of the tree is in UTF-8
-abbrev pub NamesAreUtf8 : Node → Type 0
-NamesAreUtf8 t = (p : Path) (k : Kind) (i : Ident) → node_at t p ≡ Some (Identifier k i) → IsUtf8 i.sym
-
 -- whatever the renamer, lengths stay
 abbrev pub RenamingKeepsShape : Type 0
 RenamingKeepsShape = (r : Renaming) (table : Table) (config : Config) (before after : Node) (s : Slot) → Fits before s → ¬ IsRead config before → IsRenamedBy table config r before after → Shaped before → Shaped after
@@ -32,12 +28,12 @@ abbrev pub RenamingKeepsSpelling : Type 0
 RenamingKeepsSpelling = (r : Renaming) (table : Table) (config : Config) (before after : Node) (s : Slot) → GivesNewWords r before → Fits before s → ¬ IsRead config before → IsRenamedBy table config r before after
     → Spelled before → Spelled after
 
--- hygiene keeps both, and a number behind a name in UTF-8 makes a name
+-- hygiene keeps both, and a number behind a name makes a name
 abbrev pub HygieneKeepsShape : Type 0
 HygieneKeepsShape = (table : Table) (config : Config) (before after : Node) (s : Slot) → Fits before s → ¬ IsRead config before → IsHygienic table config before after → Shaped before → Shaped after
 
 abbrev pub HygieneGivesNewWords : Type 0
-HygieneGivesNewWords = (t : Node) → NamesAreUtf8 t → Spelled t → GivesNewWords hygiene_renaming t
+HygieneGivesNewWords = (t : Node) → Spelled t → GivesNewWords hygiene_renaming t
 
 abbrev pub HygieneKeepsSpelling : Type 0
-HygieneKeepsSpelling = (table : Table) (config : Config) (before after : Node) (s : Slot) → NamesAreUtf8 before → Fits before s → ¬ IsRead config before → IsHygienic table config before after → Spelled before → Spelled after
+HygieneKeepsSpelling = (table : Table) (config : Config) (before after : Node) (s : Slot) → Fits before s → ¬ IsRead config before → IsHygienic table config before after → Spelled before → Spelled after

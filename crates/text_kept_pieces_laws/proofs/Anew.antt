@@ -86,12 +86,16 @@ seen_span r s = record {
 free_form : (f : Form) → is_free false f ≡ true
 free_form form.Async = refl
 free_form form.Star = refl
+free_form (form.SignUnlessLone m) = refl
+free_form form.CommaUnlessLone = refl
 free_form f = refl
 
 free_item : (i : Item) → item_free (λ n. false) i ≡ true
 free_item (item.Of n f) = free_form f
 free_item (item.Within n) = refl
 free_item (item.Apart n m) = refl
+free_item (item.Lone n) = refl
+free_item (item.Others n) = refl
 free_item i = refl
 
 pub free_layout : (is : List Item) → layout_free (λ n. false) is ≡ true
@@ -118,8 +122,8 @@ module _ (R : List Piece → List Piece → Type 0) (same : (ps : List Piece) �
       seen = seen_name k i j;
       items = none_items R same join _ _ (ap items_of (outs-Identifier k i)) (ap items_of (outs-Identifier k j));
       function = λ o n. ap (is_set_in n) (outs-Identifier k i) ∙ sym (ap (is_set_in n) (outs-Identifier k j));
-      only = ap (λ x. is_some (lone_name x)) (outs-Identifier k i) ∙ sym (ap (λ x. is_some (lone_name x)) (outs-Identifier k j));
-      lone = moved R same join _ _ _ _ (ap (λ x. lone_pieces (lone_name x)) (outs-Identifier k i)) (ap (λ x. lone_pieces (lone_name x)) (outs-Identifier k j)) (same []);
+      only = λ o. ap (λ x. is_some (lone_name x)) (outs-Identifier k i) ∙ sym (ap (λ x. is_some (lone_name x)) (outs-Identifier k j));
+      lone = λ o. moved R same join _ _ _ _ (ap (λ x. lone_pieces (lone_name x)) (outs-Identifier k i)) (ap (λ x. lone_pieces (lone_name x)) (outs-Identifier k j)) (same []);
       let_ends = moved R same join _ _ _ _ (ap (λ x. when (is_let x) (closes ending.Let)) (outs-Identifier k i)) (ap (λ x. when (is_let x) (closes ending.Let)) (outs-Identifier k j)) ends;
     };
     stands = record {
@@ -140,8 +144,8 @@ module _ (R : List Piece → List Piece → Type 0) (same : (ps : List Piece) �
       seen = seen_span r s;
       items = none_items R same join _ _ (ap items_of (outs-Span r)) (ap items_of (outs-Span s));
       function = λ o n. ap (is_set_in n) (outs-Span r) ∙ sym (ap (is_set_in n) (outs-Span s));
-      only = ap (λ x. is_some (lone_name x)) (outs-Span r) ∙ sym (ap (λ x. is_some (lone_name x)) (outs-Span s));
-      lone = moved R same join _ _ _ _ (ap (λ x. lone_pieces (lone_name x)) (outs-Span r)) (ap (λ x. lone_pieces (lone_name x)) (outs-Span s)) (same []);
+      only = λ o. ap (λ x. is_some (lone_name x)) (outs-Span r) ∙ sym (ap (λ x. is_some (lone_name x)) (outs-Span s));
+      lone = λ o. moved R same join _ _ _ _ (ap (λ x. lone_pieces (lone_name x)) (outs-Span r)) (ap (λ x. lone_pieces (lone_name x)) (outs-Span s)) (same []);
       let_ends = moved R same join _ _ _ _ (ap (λ x. when (is_let x) (closes ending.Let)) (outs-Span r)) (ap (λ x. when (is_let x) (closes ending.Let)) (outs-Span s)) (same []);
     };
     stands = record {
@@ -229,5 +233,5 @@ module _ (R : List Piece → List Piece → Type 0) (same : (ps : List Piece) �
       λ s. leaf_kept (Span s) (is.span s),
       λ k i wide. subst (Kept R wide (Identifier k i)) (sym (is.ident k i)) (ident_kept R same join wide k i (g i) (named i) (lets k i)),
     )
-        (λ ts h wide. subst (Kept R wide (Many ts)) (sym (is.list ts)) (list_kept R same join (λ n. false) wide ts (map anew ts) (only_same ts) (only_kept ts) (all_kept ts h)))
+        (λ ts h wide. subst (Kept R wide (Many ts)) (sym (is.list ts)) (list_kept R same join (λ n. false) wide ts (map anew ts) (λ o. only_same ts) (λ o. only_kept ts) (all_kept ts h)))
         (λ k ts h wide. subst (Kept R wide (Tree k ts)) (sym (is.tree k ts)) (tree_kept R same join (λ n. false) wide k ts (map anew ts) (free_layout (layout_of k)) (free_layout (apart_layout_of k)) (all_kept ts h))) t

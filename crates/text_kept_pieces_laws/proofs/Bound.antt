@@ -130,7 +130,7 @@ module _ (names : List Ident) where
 
   list_related : (ts us : List Node) → AllRelated ts us → Related (Many ts) (Many us)
   list_related ts us h = record {
-    kept = λ wide. list_kept R same join (λ n. false) wide ts us (only_same ts us h) (only_kept ts us h) (all_kept ts us h);
+    kept = λ wide. list_kept R same join (λ n. false) wide ts us (λ o. only_same ts us h) (λ o. only_kept ts us h) (all_kept ts us h);
     only = forms_only (Many ts) (Many us) (Node-F.List ts) (Node-F.List us) (outs-List ts) (outs-List us) refl;
     alone = forms_alone (Many ts) (Many us) (Node-F.List ts) (Node-F.List us) (outs-List ts) (outs-List us) tt;
   }

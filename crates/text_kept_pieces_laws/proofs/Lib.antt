@@ -1,5 +1,7 @@
 pub mod Seen
 pub mod Rows
+pub mod Then
+pub mod Plain
 pub mod Anew
 pub mod Numbers
 pub mod Bound

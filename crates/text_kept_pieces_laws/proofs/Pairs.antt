@@ -1,6 +1,6 @@
 -- Pieces of a tree that gets pairs of parentheses.
-use Rattle.std.proofs.Common.{◌≡◌, ℕ, zero, suc, Bool, true, false, IsTrue, Option, Some, None, List, [], ◌∷◌, ◌++◌, rules, refl, sym, ap, ◌∙◌, subst, nat_eq}
-use Rattle.std.specs.Prelude.{codes, is_some, not, ◌&&◌, ◌||◌}
+use Rattle.std.proofs.Common.{◌≡◌, ℕ, zero, suc, Bool, true, false, IsTrue, None, List, [], ◌∷◌, ◌++◌, refl, sym, ap, ◌∙◌, subst, nat_eq}
+use Rattle.std.specs.Prelude.{codes, is_some, not, ◌&&◌}
 use Rattle.std.specs.List.{list_all}
 use Rattle.std.specs.Cmp.Lexicographic.{pointwise}
 use Rattle.std.proofs.lemmas.Slice.Eq.{bytes_eq-Decides}
@@ -12,7 +12,7 @@ use Rattle.swc_tree_node.specs.declared.kind.Class.TheVariants as class
 use Rattle.swc_tree_node.specs.declared.slot.Content.TheVariants as content
 use Rattle.swc_tree_node.specs.declared.slot.Slot.{Slot}
 use Rattle.swc_tree_node.specs.declared.slot.Slot.TheVariants as slot
-use Rattle.swc_tree_node.specs.declared.node.Node.{Node, Span, List as Many, Identifier, Tree, out-Node, the_lemmas}
+use Rattle.swc_tree_node.specs.declared.node.Node.{Node, Span, List as Many, Identifier, Tree, out-Node}
 use Rattle.swc_tree_node.specs.declared.node.Node.TheOpen.{Node-F}
 use Rattle.swc_tree_node.specs.declared.node.Node.TheVariants.{outs-Identifier, outs-List, outs-Tree}
 use Rattle.swc_tree_node.specs.Table.{slots_of}
@@ -23,18 +23,18 @@ use Rattle.swc_base_fixer_laws.specs.Sets.Sets.{same as unchanged, after as furt
 use Rattle.swc_base_fixer_laws.specs.Sets.AllSet.{none, more}
 use Rattle.swc_base_fixer_laws.specs.Sets.FieldsSet.{nil, field}
 use Rattle.text_lexer.specs.declared.mark.Mark.TheVariants as mark
-use Rattle.text_lexer.specs.declared.token.TemplatePart.{TemplatePart}
 use Rattle.text_pieces.specs.declared.item.Ending.TheVariants as ending
-use Rattle.text_pieces.specs.Forms.{accessor, attribute, attributes, ending_of_attributes, ending_of_key, meta, when}
+use Rattle.text_pieces.specs.Forms.{when}
 use Rattle.text_pieces.specs.Layouts.{apart_layout_of, layout_of}
-use Rattle.text_pieces.specs.Leaves.{bound_name, is_block, is_computed, is_declaration, is_default, is_empty_list, is_expression_statement, is_hole, is_let, is_named, is_rest, is_set, items_of, lone_name, only_name, takes_comma}
-use Rattle.text_pieces.specs.Pieces.{Written, template_piece, written, written_step, written_with}
+use Rattle.text_pieces.specs.Leaves.{bound_name, is_let, only_name}
+use Rattle.text_pieces.specs.Pieces.{written, written_with}
 use Rattle.text_pieces.specs.Tokens.{Piece, closes, name, punctuator}
 use Rattle.text_walk.proofs.Walked.{tree_pieces}
 use Rattle.text_kept_pieces_laws.specs.Paired.{WithPairs}
 use Rattle.text_kept_pieces_laws.specs.Paired.WithPairs.{same, join, after, around}
-use Rattle.text_kept_pieces_laws.proofs.Seen.{Pairwise, Seen, by_forms, pairwise_then, seen_then, text_of_name, text_of_tree}
-use Rattle.text_kept_pieces_laws.proofs.Rows.{AllKept, Each', Kept, Lists, is_own, kept_same, layout_free, list_kept, lone_pieces, tree_kept, tree_step}
+use Rattle.text_kept_pieces_laws.proofs.Rows.{AllKept, Kept, kept_same, layout_free, list_kept, lone_pieces, tree_kept}
+use Rattle.text_kept_pieces_laws.proofs.Then.{kept_then}
+use Rattle.text_kept_pieces_laws.proofs.Plain.{Plain, is_seen, is_specifier, name_pieces, never, plain_kept, plain_name, plain_tree}
 
 -- ---- the relation
 
@@ -48,166 +48,26 @@ equal ps qs e = subst (R ps) e (same ps)
 moved : (ps qs rs ss : List Piece) → ps ≡ rs → qs ≡ ss → R rs ss → R ps qs
 moved ps qs rs ss e f h = subst (λ (l : List Piece). R l qs) (sym e) (subst (R rs) (sym f) h)
 
-lists_then : (pss qss rss : List (List Piece)) → Lists R pss qss → Lists R qss rss → Lists R pss rss
-lists_then [] [] [] c d = tt
-lists_then (ps ∷ pss) (qs ∷ qss) (rs ∷ rss) c d = (after ps qs rs c.0 d.0, lists_then pss qss rss c.1 d.1)
-lists_then [] [] (rs ∷ rss) c d = absurd d
-lists_then [] (qs ∷ qss) rss c d = absurd c
-lists_then (ps ∷ pss) [] rss c d = absurd c
-lists_then (ps ∷ pss) (qs ∷ qss) [] c d = absurd d
-
-each_then : (x y z : Option (List Node × List (List Piece))) → Each' R x y → Each' R y z → Each' R x z
-each_then (Some x) (Some y) (Some z) c d = (pairwise_then x.0 y.0 z.0 c.0 d.0, lists_then x.1 y.1 z.1 c.1 d.1)
-each_then None None None c d = tt
-each_then (Some x) (Some y) None c d = absurd d
-each_then (Some x) None z c d = absurd c
-each_then None (Some y) z c d = absurd c
-each_then None None (Some z) c d = absurd d
-
-own_same : (t u : Node) → Seen t u → is_own (out-Node t) ≡ is_own (out-Node u)
-own_same t u s = ap (λ b. b || is_expression_statement (out-Node t)) s.declaration ∙ ap (λ b. is_declaration (out-Node u) || b) s.expression
-
-kept_then : (wide : Bool) (t u v : Node) → Kept R wide t u → Kept R wide u v → Kept R wide t v
-kept_then wide t u v c d = record {
-  looks = record {
-    seen = seen_then t u v c.looks.seen d.looks.seen;
-    items = pairwise_then (items_of (out-Node t)) (items_of (out-Node u)) (items_of (out-Node v)) c.looks.items d.looks.items;
-    function = λ o n. c.looks.function o n ∙ d.looks.function o n;
-    only = c.looks.only ∙ d.looks.only;
-    lone = after _ _ _ c.looks.lone d.looks.lone;
-    let_ends = after _ _ _ c.looks.let_ends d.looks.let_ends;
-  };
-  stands = record {
-    of_pieces = after _ _ _ c.stands.of_pieces d.stands.of_pieces;
-    of_each = each_then _ _ _ c.stands.of_each d.stands.of_each;
-  };
-  within = λ o. after _ _ _ (c.within o) (d.within o);
-  apart = λ own. after _ _ _ (c.apart own) (d.apart (λ o. sym (own_same t u c.looks.seen) ∙ own o));
-}
-
 -- ---- an expression and a pair
 
-never : {A : Type 0} → true ≡ false → A
-never h = absurd (cc)
+-- of the kinds that take a pair no more is seen than of a pair
+unseen : (k : Kind) → can_pair k ≡ true → is_seen k ≡ false
+unseen kind.RestPat h = never (sym h)
+unseen kind.ImportDefaultSpecifier h = never (sym h)
+unseen kind.VarDecl h = never (sym h)
+unseen kind.UsingDecl h = never (sym h)
+unseen kind.ExprStmt h = never (sym h)
+unseen kind.ComputedPropName h = never (sym h)
+unseen kind.BlockStmt h = never (sym h)
+unseen kind.IdentName h = never (sym h)
+unseen kind.TplElement h = never (sym h)
+unseen kind.Param h = never (sym h)
+unseen k h = refl
 
--- what is seen of an expression is seen of a pair
-abbrev Row : {X : Type 0} → Kind → List Node → List Node → (Node-F Node → X) → Type 0
-Row k ts us g = g (Node-F.Tree k ts) ≡ g (Node-F.Tree kind.ParenExpr us)
-
-record Plain (k : Kind) (ts us : List Node) : Type 0 where
-  rest : Row k ts us is_rest
-  default : Row k ts us is_default
-  braced : Row k ts us is_named
-  declaration : Row k ts us is_declaration
-  expression : Row k ts us is_expression_statement
-  computed : Row k ts us is_computed
-  block : Row k ts us is_block
-  key : Row k ts us ending_of_key
-  part : (p : TemplatePart) → Row k ts us (template_piece p)
-  comma : Row k ts us takes_comma
-  own : is_own (Node-F.Tree k ts) ≡ false
-
--- kinds that are seen otherwise than a pair
-abbrev is_odd : Kind → Bool
-is_odd kind.RestPat = true
-is_odd kind.ImportDefaultSpecifier = true
-is_odd kind.ImportNamedSpecifier = true
-is_odd kind.ExportNamedSpecifier = true
-is_odd kind.VarDecl = true
-is_odd kind.UsingDecl = true
-is_odd kind.ExprStmt = true
-is_odd kind.ComputedPropName = true
-is_odd kind.BlockStmt = true
-is_odd kind.IdentName = true
-is_odd kind.TplElement = true
-is_odd kind.Param = true
-is_odd _ = false
-
-not_odd : (k : Kind) → can_pair k ≡ true → is_odd k ≡ false
-not_odd kind.RestPat h = never (sym h)
-not_odd kind.ImportDefaultSpecifier h = never (sym h)
-not_odd kind.ImportNamedSpecifier h = never (sym h)
-not_odd kind.ExportNamedSpecifier h = never (sym h)
-not_odd kind.VarDecl h = never (sym h)
-not_odd kind.UsingDecl h = never (sym h)
-not_odd kind.ExprStmt h = never (sym h)
-not_odd kind.ComputedPropName h = never (sym h)
-not_odd kind.BlockStmt h = never (sym h)
-not_odd kind.IdentName h = never (sym h)
-not_odd kind.TplElement h = never (sym h)
-not_odd kind.Param h = never (sym h)
-not_odd k h = refl
-
-plain_rows : (k : Kind) (ts us : List Node) → is_odd k ≡ false → Plain k ts us
-plain_rows kind.RestPat ts us h = never h
-plain_rows kind.ImportDefaultSpecifier ts us h = never h
-plain_rows kind.ImportNamedSpecifier ts us h = never h
-plain_rows kind.ExportNamedSpecifier ts us h = never h
-plain_rows kind.VarDecl ts us h = never h
-plain_rows kind.UsingDecl ts us h = never h
-plain_rows kind.ExprStmt ts us h = never h
-plain_rows kind.ComputedPropName ts us h = never h
-plain_rows kind.BlockStmt ts us h = never h
-plain_rows kind.IdentName ts us h = never h
-plain_rows kind.TplElement ts us h = never h
-plain_rows kind.Param ts us h = never h
-plain_rows k ts us h = record { rest = refl; default = refl; braced = refl; declaration = refl; expression = refl; computed = refl; block = refl; key = refl; part = λ p. refl; comma = refl; own = refl }
-
-seen_pair : (k : Kind) (ts us : List Node) → can_pair k ≡ true → Seen (Tree k ts) (Tree kind.ParenExpr us)
-seen_pair k ts us can = record {
-  set = by is_set refl;
-  hole = by is_hole refl;
-  rest = by is_rest rows.rest;
-  default = by is_default rows.default;
-  named = by is_named rows.braced;
-  declaration = by is_declaration rows.declaration;
-  expression = by is_expression_statement rows.expression;
-  computed = by is_computed rows.computed;
-  block = by is_block rows.block;
-  access = by accessor refl;
-  metas = by meta refl;
-  from = by ending_of_attributes refl;
-  key = by ending_of_key rows.key;
-  text = text_of_tree k ts ∙ sym (text_of_tree kind.ParenExpr us);
-  part = λ p. by (template_piece p) (rows.part p);
-  comma = by takes_comma rows.comma;
-  pair = by attribute refl;
-  list = by is_empty_list refl;
-  others = by attributes refl;
-}
-  where
-    rows : Plain k ts us
-    rows = plain_rows k ts us (not_odd k can)
-
-    by : {X : Type 0} (g : Node-F Node → X) → g (Node-F.Tree k ts) ≡ g (Node-F.Tree kind.ParenExpr us) → g (out-Node (Tree k ts)) ≡ g (out-Node (Tree kind.ParenExpr us))
-    by g e = by_forms g (Tree k ts) (Tree kind.ParenExpr us) (Node-F.Tree k ts) (Node-F.Tree kind.ParenExpr us) (outs-Tree k ts) (outs-Tree kind.ParenExpr us) e
-
--- a name is seen as a pair
-seen_async : (k : Kind) (i : Ident) (us : List Node) → Seen (Identifier k i) (Tree kind.ParenExpr us)
-seen_async k i us = record {
-  set = by is_set refl;
-  hole = by is_hole refl;
-  rest = by is_rest refl;
-  default = by is_default refl;
-  named = by is_named refl;
-  declaration = by is_declaration refl;
-  expression = by is_expression_statement refl;
-  computed = by is_computed refl;
-  block = by is_block refl;
-  access = by accessor refl;
-  metas = by meta refl;
-  from = by ending_of_attributes refl;
-  key = by ending_of_key refl;
-  text = text_of_name k i ∙ sym (text_of_tree kind.ParenExpr us);
-  part = λ p. by (template_piece p) refl;
-  comma = by takes_comma refl;
-  pair = by attribute refl;
-  list = by is_empty_list refl;
-  others = by attributes refl;
-}
-  where
-    by : {X : Type 0} (g : Node-F Node → X) → g (Node-F.Identifier k i) ≡ g (Node-F.Tree kind.ParenExpr us) → g (out-Node (Identifier k i)) ≡ g (out-Node (Tree kind.ParenExpr us))
-    by g e = by_forms g (Identifier k i) (Tree kind.ParenExpr us) (Node-F.Identifier k i) (Node-F.Tree kind.ParenExpr us) (outs-Identifier k i) (outs-Tree kind.ParenExpr us) e
+unnamed : (k : Kind) → can_pair k ≡ true → is_specifier k ≡ false
+unnamed kind.ImportNamedSpecifier h = never (sym h)
+unnamed kind.ExportNamedSpecifier h = never (sym h)
+unnamed k h = refl
 
 -- what a pair is written with
 abbrev in_pair : List Piece → List Piece
@@ -216,66 +76,28 @@ in_pair ps = punctuator mark.LeftParen ∷ ps ++ punctuator mark.RightParen ∷ 
 pair_pieces : (r : Range) (u : Node) → written_with false (Tree kind.ParenExpr (Span r ∷ u ∷ [])) ≡ in_pair (written_with false u)
 pair_pieces r u = tree_pieces false kind.ParenExpr (Span r ∷ u ∷ [])
 
-no_items : (k : Kind) (ts : List Node) → items_of (out-Node (Tree k ts)) ≡ []
-no_items k ts = ap items_of (outs-Tree k ts)
-
-none_each : (x y : Option (List Node × List (List Piece))) → x ≡ None → y ≡ None → Each' R x y
-none_each x y e f = subst (λ x. Each' R x y) (sym e) (subst (Each' R None) (sym f) tt)
-
-none_items : (ts us : List Node) → ts ≡ [] → us ≡ [] → Pairwise ts us
-none_items ts us e f = subst (λ ts. Pairwise ts us) (sym e) (subst (Pairwise []) (sym f) tt)
+ends_none : (k : Kind) (ts : List Node) → when (is_let (out-Node (Tree k ts))) (closes ending.Let) ≡ []
+ends_none k ts = ap (λ x. when (is_let x) (closes ending.Let)) (outs-Tree k ts)
 
 around_kept : (wide : Bool) (r : Range) (k : Kind) (ts : List Node) (u : Node) → wide ≡ true → can_pair k ≡ true → R (written_with false (Tree k ts)) (written_with false u) → Kept R wide (Tree k ts) (Tree kind.ParenExpr (Span r ∷ u ∷ []))
-around_kept wide r k ts u w can h = record {
-  looks = record {
-    seen = seen_pair k ts us can;
-    items = none_items _ _ (no_items k ts) (no_items kind.ParenExpr us);
-    function = λ o n. never (sym w ∙ o);
-    only = ap (λ l. is_some (only_name l)) (no_items k ts) ∙ sym (ap (λ l. is_some (only_name l)) (no_items kind.ParenExpr us));
-    lone = moved _ _ _ _ (ap (λ l. lone_pieces (only_name l)) (no_items k ts)) (ap (λ l. lone_pieces (only_name l)) (no_items kind.ParenExpr us)) (same []);
-    let_ends = moved _ _ _ _ (ap (λ x. when (is_let x) (closes ending.Let)) (outs-Tree k ts)) (ap (λ x. when (is_let x) (closes ending.Let)) (outs-Tree kind.ParenExpr us)) (same []);
-  };
-  stands = record {
-    of_pieces = moved _ _ _ _ refl (pair_pieces r u) (around (written_with false (Tree k ts)) (written_with false u) h);
-    of_each = none_each _ _ (ap (λ (w : Written). w.each) (tree_step k ts)) (ap (λ (w : Written). w.each) (tree_step kind.ParenExpr us));
-  };
-  within = λ o. never (sym w ∙ o);
-  apart = λ own. never (sym (own w) ∙ ap is_own (outs-Tree k ts) ∙ (plain_rows k ts us (not_odd k can)).own);
-}
-  where
-    us : List Node
-    us = Span r ∷ u ∷ []
+around_kept wide r k ts u w can h =
+    let us : List Node = Span r ∷ u ∷ [] in
+    subst (λ (w : Bool). Kept R w (Tree k ts) (Tree kind.ParenExpr us)) (sym w)
+    (plain_kept R same join false (Tree k ts) (Tree kind.ParenExpr us) (subst (λ b. Plain b (Tree k ts)) (unnamed k can) (plain_tree k ts (unseen k can))) (plain_tree kind.ParenExpr us refl)
+    (moved _ _ _ _ (ends_none k ts) (ends_none kind.ParenExpr us) (same []))
+    (moved _ _ _ _ refl (pair_pieces r u) (around (written_with false (Tree k ts)) (written_with false u) h)))
 
 -- `async` is another name than `let`
 async_no_let : (a : List ℕ) → pointwise nat_eq a (codes "async") ≡ true → pointwise nat_eq a (codes "let") ≡ false
 async_no_let a h = ap (λ a. pointwise nat_eq a (codes "let")) ((bytes_eq-Decides a (codes "async")).0 h)
 
-name_step : (k : Kind) (i : Ident) → written false (Identifier k i) ≡ written_step false (Node-F.Identifier k i)
-name_step k i = search (rules, the_lemmas)
-
 named_kept : (r : Range) (k : Kind) (i : Ident) → IsTrue (is_async_name (Identifier kind.Ident i)) → Kept R true (Identifier k i) (Tree kind.ParenExpr (Span r ∷ Identifier kind.Ident i ∷ []))
-named_kept r k i h = record {
-  looks = record {
-    seen = seen_async k i us;
-    items = none_items _ _ (ap items_of (outs-Identifier k i)) (no_items kind.ParenExpr us);
-    function = λ o n. never o;
-    only = ap (λ x. is_some (lone_name x)) (outs-Identifier k i) ∙ sym (ap (λ x. is_some (lone_name x)) (outs-Tree kind.ParenExpr us));
-    lone = moved _ _ _ _ (ap (λ x. lone_pieces (lone_name x)) (outs-Identifier k i)) (ap (λ x. lone_pieces (lone_name x)) (outs-Tree kind.ParenExpr us)) (same []);
-    let_ends = moved _ _ _ _ (ap (λ x. when (is_let x) (closes ending.Let)) (outs-Identifier k i) ∙ ap (λ b. when b (closes ending.Let)) (async_no_let i.sym async)) (ap (λ x. when (is_let x) (closes ending.Let)) (outs-Tree kind.ParenExpr us)) (same []);
-  };
-  stands = record {
-    of_pieces = moved _ _ _ _ (ap (λ (w : Written). w.pieces) (name_step k i)) (pair_pieces r (Identifier kind.Ident i) ∙ ap (λ (w : Written). in_pair w.pieces) (name_step kind.Ident i)) (around (name i.sym ∷ []) (name i.sym ∷ []) (same (name i.sym ∷ [])));
-    of_each = none_each _ _ (ap (λ (w : Written). w.each) (name_step k i)) (ap (λ (w : Written). w.each) (tree_step kind.ParenExpr us));
-  };
-  within = λ o. never o;
-  apart = λ own. never (sym (own refl) ∙ ap is_own (outs-Identifier k i));
-}
-  where
-    us : List Node
-    us = Span r ∷ Identifier kind.Ident i ∷ []
-
-    async : pointwise nat_eq i.sym (codes "async") ≡ true
-    async = sym (ap async_in (outs-Identifier kind.Ident i)) ∙ h
+named_kept r k i h =
+    let us : List Node = Span r ∷ Identifier kind.Ident i ∷ [] in
+    let async : pointwise nat_eq i.sym (codes "async") ≡ true = sym (ap async_in (outs-Identifier kind.Ident i)) ∙ h in
+    plain_kept R same join false (Identifier k i) (Tree kind.ParenExpr us) (plain_name k i) (plain_tree kind.ParenExpr us refl)
+    (moved _ _ _ _ (ap (λ x. when (is_let x) (closes ending.Let)) (outs-Identifier k i) ∙ ap (λ b. when b (closes ending.Let)) (async_no_let i.sym async)) (ends_none kind.ParenExpr us) (same []))
+    (moved _ _ _ _ (name_pieces k i) (pair_pieces r (Identifier kind.Ident i) ∙ ap in_pair (name_pieces kind.Ident i)) (around (name i.sym ∷ []) (name i.sym ∷ []) (same (name i.sym ∷ []))))
 
 -- ---- places
 
@@ -368,7 +190,7 @@ both_parts false b h = never (sym h)
 mutual
   pub set_kept : {s : Slot} {t u : Node} → Sets s t u → is_fair s ≡ true → Kept R (takes_pair s) t u
   set_kept (unchanged {s} t) f = kept_same R same join (takes_pair s) t
-  set_kept (further {s} {t} {u} {v} c d) f = kept_then (takes_pair s) t u v (set_kept c f) (set_kept d f)
+  set_kept (further {s} {t} {u} {v} c d) f = kept_then R after (takes_pair s) t u v (set_kept c f) (set_kept d f)
   set_kept (enclosed {s} r t u p q d) f =
       let w = paired t q in
       let inner : R (written_with false t) (written_with false u) = (set_kept d refl).stands.of_pieces in
@@ -377,7 +199,7 @@ mutual
   set_kept (of_name r k i c) f = named_kept r k i c
   set_kept (of_items {s} ts us d) f =
       let e : only_name ts ≡ only_name us = only_set d (no_head (is_head (item s)) f) in
-      list_kept R same join (λ n. takes_pair (item s)) (takes_pair s) ts us (ap is_some e) (equal (lone_pieces (only_name ts)) (lone_pieces (only_name us)) (ap lone_pieces e)) (items_kept d (items_fair s))
+      list_kept R same join (λ n. takes_pair (item s)) (takes_pair s) ts us (λ o. ap is_some e) (λ o. equal (lone_pieces (only_name ts)) (lone_pieces (only_name us)) (ap lone_pieces e)) (items_kept d (items_fair s))
   set_kept (of_tree {s} k ts us e d) f = tree_kept R same join (wide_at (slots_of k)) (takes_pair s) k ts us (whole_free k) (apart_free k) (fields_kept d (fields_fair k))
 
   items_kept : {s : Slot} {ts us : List Node} → AllSet s ts us → is_fair s ≡ true → AllKept R (λ n. takes_pair s) ts us

@@ -65,8 +65,8 @@ pub record Looks (R : List Piece → List Piece → Type 0) (wide : Bool) (t u :
   pub seen : Seen t u
   pub items : Pairwise (items_of (out-Node t)) (items_of (out-Node u))
   pub function : wide ≡ false → (n : ℕ) → is_set_in n (out-Node t) ≡ is_set_in n (out-Node u)
-  pub only : is_some (lone_name (out-Node t)) ≡ is_some (lone_name (out-Node u))
-  pub lone : R (lone_pieces (lone_name (out-Node t))) (lone_pieces (lone_name (out-Node u)))
+  pub only : wide ≡ false → is_some (lone_name (out-Node t)) ≡ is_some (lone_name (out-Node u))
+  pub lone : wide ≡ false → R (lone_pieces (lone_name (out-Node t))) (lone_pieces (lone_name (out-Node u)))
   pub let_ends : R (when (is_let (out-Node t)) (closes ending.Let)) (when (is_let (out-Node u)) (closes ending.Let))
 
 -- what its parent may write something of, wherever it stands
@@ -89,12 +89,16 @@ AllKept R wide _ _ = ⊥
 abbrev pub is_free : Bool → Form → Bool
 is_free wide form.Async = not wide
 is_free wide form.Star = not wide
+is_free wide (form.SignUnlessLone m) = not wide
+is_free wide form.CommaUnlessLone = not wide
 is_free wide f = true
 
 abbrev pub item_free : (ℕ → Bool) → Item → Bool
 item_free wide (item.Of n f) = is_free (wide n) f
 item_free wide (item.Within n) = not (wide n)
 item_free wide (item.Apart n m) = not (wide m)
+item_free wide (item.Lone n) = not (wide n)
+item_free wide (item.Others n) = not (wide n)
 item_free wide i = true
 
 abbrev pub layout_free : (ℕ → Bool) → List Item → Bool
@@ -215,11 +219,11 @@ module _ (R : List Piece → List Piece → Type 0) (same : (ps : List Piece) �
   set_kept wide (Some t) None h = absurd h
   set_kept wide None (Some u) h = absurd h
 
-  lone_kept : (wide : Bool) (t u : Option Node) → BothLook R wide t u → is_lone_of t ≡ is_lone_of u
-  lone_kept wide (Some t) (Some u) h = h.only
-  lone_kept wide None None h = refl
-  lone_kept wide (Some t) None h = absurd h
-  lone_kept wide None (Some u) h = absurd h
+  lone_kept : (wide : Bool) (t u : Option Node) → wide ≡ false → BothLook R wide t u → is_lone_of t ≡ is_lone_of u
+  lone_kept wide (Some t) (Some u) o h = h.only o
+  lone_kept wide None None o h = refl
+  lone_kept wide (Some t) None o h = absurd h
+  lone_kept wide None (Some u) o h = absurd h
 
   text_kept : (wide : Bool) (t u : Option Node) → BothLook R wide t u → text_in t ≡ text_in u
   text_kept wide (Some t) (Some u) h = h.seen.text
@@ -258,7 +262,7 @@ module _ (R : List Piece → List Piece → Type 0) (same : (ps : List Piece) �
 
     form_kept : (f : Form) → is_free wide f ≡ true → R (form_pieces f t) (form_pieces f u)
     form_kept (form.SignIf m) q = whens _ _ (punctuator m) h.seen.set
-    form_kept (form.SignUnlessLone m) q = whens _ _ (punctuator m) (ap not h.only)
+    form_kept (form.SignUnlessLone m) q = whens _ _ (punctuator m) (ap not (h.only (closed_off wide q)))
     form_kept (form.WordIf k) q = whens _ _ (word_piece k) h.seen.set
     form_kept (form.WordUnless k) q = whens _ _ (word_piece k) (ap not h.seen.set)
     form_kept (form.WordIfAny k) q = whens _ _ (word_piece k) (some_seen (items_of (out-Node t)) (items_of (out-Node u)) h.items)
@@ -266,7 +270,7 @@ module _ (R : List Piece → List Piece → Type 0) (same : (ps : List Piece) �
     form_kept form.HereUnless q = whens _ _ here (ap not h.seen.set)
     form_kept (form.EndingUnless e) q = whens _ _ (closes e) (ap not h.seen.set)
     form_kept form.Comma q = whens _ _ may_comma commas_same
-    form_kept form.CommaUnlessLone q = whens _ _ may_comma (ap (λ b. b && not (is_some (lone_name (out-Node t)))) commas_same ∙ ap (λ b. takes_comma_behind (out-Node u) && not b) h.only)
+    form_kept form.CommaUnlessLone q = whens _ _ may_comma (ap (λ b. b && not (is_some (lone_name (out-Node t)))) commas_same ∙ ap (λ b. takes_comma_behind (out-Node u) && not b) (h.only (closed_off wide q)))
     form_kept form.Hole q = whens _ _ (punctuator mark.Comma) (holes_seen (items_of (out-Node t)) (items_of (out-Node u)) h.items)
     form_kept form.Dot q = whens _ _ (punctuator mark.Dot) (ap not h.seen.computed)
     form_kept form.Accessor q = equal _ _ h.seen.access
@@ -299,13 +303,13 @@ module _ (R : List Piece → List Piece → Type 0) (same : (ps : List Piece) �
   lone_of (Some a) t = refl
   lone_of None t = refl
 
-  lone_in_kept : (wide : Bool) (t u : Option Node) → BothLook R wide t u → R (lone_in false t) (lone_in false u)
-  lone_in_kept wide (Some t) (Some u) h =
+  lone_in_kept : (wide : Bool) (t u : Option Node) → wide ≡ false → BothLook R wide t u → R (lone_in false t) (lone_in false u)
+  lone_in_kept wide (Some t) (Some u) o h =
       subst (λ (l : List Piece). R l (lone_in false (Some u))) (sym (lone_of (lone_name (out-Node t)) t))
-      (subst (λ (l : List Piece). R (lone_pieces (lone_name (out-Node t))) l) (sym (lone_of (lone_name (out-Node u)) u)) h.lone)
-  lone_in_kept wide None None h = same []
-  lone_in_kept wide (Some t) None h = absurd h
-  lone_in_kept wide None (Some u) h = absurd h
+      (subst (λ (l : List Piece). R (lone_pieces (lone_name (out-Node t))) l) (sym (lone_of (lone_name (out-Node u)) u)) (h.lone o))
+  lone_in_kept wide None None o h = same []
+  lone_in_kept wide (Some t) None o h = absurd h
+  lone_in_kept wide None (Some u) o h = absurd h
 
   -- ---- what its parent may have apart
 
@@ -426,7 +430,7 @@ module _ (R : List Piece → List Piece → Type 0) (same : (ps : List Piece) �
     item_kept (item.Within n) q = within_at wide ts us h n (closed_off (wide n) q)
     item_kept (item.At n m) q = part_there m
     item_kept (item.Dots n) q = dots_kept (is_set_at ts n) (is_set_at us n) (set_there n)
-    item_kept (item.Lone n) q = lone_in_kept (wide n) (slice_get ts n) (slice_get us n) (look_at wide ts us h n)
+    item_kept (item.Lone n) q = lone_in_kept (wide n) (slice_get ts n) (slice_get us n) (closed_off (wide n) q) (look_at wide ts us h n)
     item_kept (item.Head n) q = head_at wide ts us h n
     item_kept (item.Body n) q = body_at wide ts us h n
     item_kept (item.Apart n m) q = apart_kept wide ts us h (is_set_at ts n) (is_set_at us n) m (set_there n) (closed_off (wide m) q)
@@ -435,7 +439,7 @@ module _ (R : List Piece → List Piece → Type 0) (same : (ps : List Piece) �
     item_kept (item.List n) q = list_there many.List n
     item_kept (item.Others n) q =
         others_kept (is_lone_at ts n) (is_lone_at us n) (each_in (slice_get (map (written false) ts) n)) (each_in (slice_get (map (written false) us) n))
-        (lone_kept (wide n) (slice_get ts n) (slice_get us n) (look_at wide ts us h n)) (each_there n)
+        (lone_kept (wide n) (slice_get ts n) (slice_get us n) (closed_off (wide n) q) (look_at wide ts us h n)) (each_there n)
     item_kept (item.Specifiers n) q = list_there many.Specifiers n
     item_kept (item.Template n m) q =
         many_kept many.Template (items_at ts n) (items_at us n) (each_in (slice_get (map (written false) ts) m)) (each_in (slice_get (map (written false) us) m)) (texts_kept wide ts us h n) (each_there m)
@@ -477,15 +481,15 @@ module _ (R : List Piece → List Piece → Type 0) (same : (ps : List Piece) �
   pub none_items : (ts us : List Node) → ts ≡ [] → us ≡ [] → Pairwise ts us
   none_items ts us e f = subst (λ ts. Pairwise ts us) (sym e) (subst (Pairwise []) (sym f) tt)
 
-  -- a list of items whose one name is written as the other's
-  pub list_kept : (wide : ℕ → Bool) (place : Bool) (ts us : List Node) → is_some (only_name ts) ≡ is_some (only_name us) → R (lone_pieces (only_name ts)) (lone_pieces (only_name us)) → AllKept R wide ts us → Kept R place (Many ts) (Many us)
+  -- a list of items whose one name, where its place asks for that, is written as the other's
+  pub list_kept : (wide : ℕ → Bool) (place : Bool) (ts us : List Node) → (place ≡ false → is_some (only_name ts) ≡ is_some (only_name us)) → (place ≡ false → R (lone_pieces (only_name ts)) (lone_pieces (only_name us))) → AllKept R wide ts us → Kept R place (Many ts) (Many us)
   list_kept wide place ts us only lone h = record {
     looks = record {
       seen = seen_list ts us s;
       items = subst (λ l. Pairwise l (items_of (out-Node (Many us)))) (sym (items_are ts)) (subst (Pairwise ts) (sym (items_are us)) s);
       function = λ o n. ap (is_set_in n) (outs-List ts) ∙ sym (ap (is_set_in n) (outs-List us));
-      only = ap (λ l. is_some (only_name l)) (items_are ts) ∙ only ∙ sym (ap (λ l. is_some (only_name l)) (items_are us));
-      lone = moved _ _ _ _ (ap (λ l. lone_pieces (only_name l)) (items_are ts)) (ap (λ l. lone_pieces (only_name l)) (items_are us)) lone;
+      only = λ o. ap (λ l. is_some (only_name l)) (items_are ts) ∙ only o ∙ sym (ap (λ l. is_some (only_name l)) (items_are us));
+      lone = λ o. moved _ _ _ _ (ap (λ l. lone_pieces (only_name l)) (items_are ts)) (ap (λ l. lone_pieces (only_name l)) (items_are us)) (lone o);
       let_ends = moved _ _ _ _ (ap (λ x. when (is_let x) (closes ending.Let)) (outs-List ts)) (ap (λ x. when (is_let x) (closes ending.Let)) (outs-List us)) (same []);
     };
     stands = record {
@@ -509,8 +513,8 @@ module _ (R : List Piece → List Piece → Type 0) (same : (ps : List Piece) �
       seen = seen_tree ts us s k;
       items = none_items _ _ (no_items k ts) (no_items k us);
       function = λ o n. function_row ts us s k n;
-      only = ap (λ l. is_some (only_name l)) (no_items k ts) ∙ sym (ap (λ l. is_some (only_name l)) (no_items k us));
-      lone = moved _ _ _ _ (ap (λ l. lone_pieces (only_name l)) (no_items k ts)) (ap (λ l. lone_pieces (only_name l)) (no_items k us)) (same []);
+      only = λ o. ap (λ l. is_some (only_name l)) (no_items k ts) ∙ sym (ap (λ l. is_some (only_name l)) (no_items k us));
+      lone = λ o. moved _ _ _ _ (ap (λ l. lone_pieces (only_name l)) (no_items k ts)) (ap (λ l. lone_pieces (only_name l)) (no_items k us)) (same []);
       let_ends = moved _ _ _ _ (ap (λ x. when (is_let x) (closes ending.Let)) (outs-Tree k ts)) (ap (λ x. when (is_let x) (closes ending.Let)) (outs-Tree k us)) (same []);
     };
     stands = record {
@@ -534,7 +538,7 @@ module _ (R : List Piece → List Piece → Type 0) (same : (ps : List Piece) �
 
   pub kept_same : (wide : Bool) (t : Node) → Kept R wide t t
   kept_same wide t = record {
-    looks = record { seen = seen_same t; items = pairwise_same (items_of (out-Node t)); function = λ o n. refl; only = refl; lone = same (lone_pieces (lone_name (out-Node t))); let_ends = same (when (is_let (out-Node t)) (closes ending.Let)) };
+    looks = record { seen = seen_same t; items = pairwise_same (items_of (out-Node t)); function = λ o n. refl; only = λ o. refl; lone = λ o. same (lone_pieces (lone_name (out-Node t))); let_ends = same (when (is_let (out-Node t)) (closes ending.Let)) };
     stands = record { of_pieces = same (written false t).pieces; of_each = each_same (written false t).each };
     within = λ o. same (written false t).within;
     apart = λ own. same (written false t).apart;

@@ -82,6 +82,6 @@ renaming_fits r table config before after s room gives fitting renamed shaped sp
     by false e = absurd (either_way r table config before after s room gives renamed ((shaped, spelled), fitting) (λ sound. seen_never (sym sound.1 ∙ e)))
 
 pub any_hygiene : AnyHygieneKeepsTexts
-any_hygiene table config before after s room utf8 fitting (given, by, cleared) shaped spelled =
-    let texts = any_renaming hygiene_renaming table config before given s room (hygiene_words before utf8 spelled) fitting by shaped spelled in
+any_hygiene table config before after s room fitting (given, by, cleared) shaped spelled =
+    let texts = any_renaming hygiene_renaming table config before given s room (hygiene_words before spelled) fitting by shaped spelled in
     (subst Shaped (sym cleared) ((texts_shaped given).1 texts.0), subst Spelled (sym cleared) ((texts_spelled given).1 texts.1))

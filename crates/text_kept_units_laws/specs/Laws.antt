@@ -10,7 +10,7 @@ use Rattle.swc_base_rename_analysis.specs.Named.{Renaming}
 use Rattle.swc_base_rename_program.specs.Renamed.{IsHygienic, IsRenamedBy}
 use Rattle.text_grammar.specs.Shaped.{Shaped}
 use Rattle.text_spelling.specs.Spelled.{Spelled}
-use Rattle.text_kept_namings_laws.specs.Laws.{GivesNewWords, NamesAreUtf8}
+use Rattle.text_kept_namings_laws.specs.Laws.{GivesNewWords}
 
 -- a tree that is shaped and spelled still is, in a place with room for what is written out, as programs have, where the new texts are names
 abbrev pub AnyRenamingKeepsTexts : Type 0
@@ -19,5 +19,5 @@ AnyRenamingKeepsTexts = (r : Renaming) (table : Table) (config : Config) (before
 
 -- so is what hygiene makes of it, where its identifiers are in UTF-8
 abbrev pub AnyHygieneKeepsTexts : Type 0
-AnyHygieneKeepsTexts = (table : Table) (config : Config) (before after : Node) (s : Slot) → IsTrue (has_room s) → NamesAreUtf8 before → Fits before s → IsHygienic table config before after
+AnyHygieneKeepsTexts = (table : Table) (config : Config) (before after : Node) (s : Slot) → IsTrue (has_room s) → Fits before s → IsHygienic table config before after
     → Shaped before → Spelled before → Shaped after × Spelled after

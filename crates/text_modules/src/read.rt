@@ -2,6 +2,7 @@
 ghost use Rattle.std.specs.Prelude.{◌≡◌, ◌<◌, ◌≤◌, length, Err, IfErr, IfOk, IsUtf8};
 ghost use Rattle.std.specs.Str.Lossy.{utf8_valid_len};
 ghost use Rattle.swc_tree_modules.specs.Nodes.{module_node, script_node};
+ghost use Rattle.swc_tree_scoping.specs.WellScoped.{IsClean};
 ghost use Rattle.text_checks.specs.Checked.{IsWellFormed};
 ghost use Rattle.text_parser.specs.declared.programs.Goal.TheVariants as goal;
 ghost use Rattle.text_pinned.specs.Pinned.{IsPinned};
@@ -23,6 +24,7 @@ pub fn read_module(alloc: Global, depth: u32, text: &[u8]) -> Result<Module, Tex
     ensures formed { IfOk result (λ read. IsWellFormed (slot_of goal.Module) (module_node read)) }
     ensures pinned { IfOk result (λ read. IsPinned (module_node read)) }
     ensures leaves { IfOk result (λ read. LeavesStand text.now (module_node read)) }
+    ensures clean { IfOk result (λ read. IsClean (module_node read)) }
     ensures spans { IfOk result (λ read. SpansAreOf goal.Module (module_node read) text.now) }
     ensures refusal { IfErr result (Tells text.now) }
     ensures too_long { most_bytes < length text.now → result ≡ Err fault.TooLong }
@@ -44,6 +46,7 @@ pub fn read_script(alloc: Global, depth: u32, text: &[u8]) -> Result<Script, Tex
     ensures formed { IfOk result (λ read. IsWellFormed (slot_of goal.Script) (script_node read)) }
     ensures pinned { IfOk result (λ read. IsPinned (script_node read)) }
     ensures leaves { IfOk result (λ read. LeavesStand text.now (script_node read)) }
+    ensures clean { IfOk result (λ read. IsClean (script_node read)) }
     ensures spans { IfOk result (λ read. SpansAreOf goal.Script (script_node read) text.now) }
     ensures refusal { IfErr result (Tells text.now) }
     ensures too_long { most_bytes < length text.now → result ≡ Err fault.TooLong }

@@ -1,4 +1,4 @@
--- What a tree that is well formed has, and what one walk for four faults finds.
+-- What a tree that is well formed has, and what one walk for five faults finds.
 use Rattle.std.proofs.Common.{◌||◌, List, ℕ}
 use Rattle.std.proofs.lemmas.Bool.{or_left, or_right}
 use Rattle.swc_tree_node.specs.declared.node.Node.{Node, out-Node}
@@ -8,7 +8,7 @@ use Rattle.swc_tree_walk.specs.Nodes.{HasNode}
 use Rattle.text_checks.specs.Checked.{IsWellFormed}
 use Rattle.text_grammar.specs.Shaped.{is_misshapen}
 use Rattle.text_pinned.specs.Pinned.{is_astray}
-use Rattle.text_source.specs.Amiss.{is_amiss}
+use Rattle.text_source.specs.Amiss.{is_amiss, is_marked}
 use Rattle.text_spans.specs.Leaves.{is_misplaced}
 use Rattle.text_spelling.specs.Spelled.{is_misspelled}
 
@@ -27,4 +27,8 @@ among_third text t (p, n, at, is) =
 
 pub among_fourth : (text : List ℕ) (t : Node) → HasNode is_astray t → HasNode (is_amiss text) t
 among_fourth text t (p, n, at, is) =
-    (p, n, at, or_right (is_misshapen (out-Node n)) _ (or_right (is_misspelled (out-Node n)) _ (or_right (is_misplaced text (out-Node n)) (is_astray (out-Node n)) is)))
+    (p, n, at, or_right (is_misshapen (out-Node n)) _ (or_right (is_misspelled (out-Node n)) _ (or_right (is_misplaced text (out-Node n)) _ (or_left (is_astray (out-Node n)) _ is))))
+
+pub among_fifth : (text : List ℕ) (t : Node) → HasNode is_marked t → HasNode (is_amiss text) t
+among_fifth text t (p, n, at, is) =
+    (p, n, at, or_right (is_misshapen (out-Node n)) _ (or_right (is_misspelled (out-Node n)) _ (or_right (is_misplaced text (out-Node n)) _ (or_right (is_astray (out-Node n)) (is_marked (out-Node n)) is))))

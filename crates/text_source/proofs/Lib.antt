@@ -1,1 +1,2 @@
+mod Contexts
 pub mod Formed

@@ -5,6 +5,7 @@ ghost use Rattle.swc_tree_node.specs.declared.node.Node.{out-Node};
 ghost use Rattle.swc_tree_node.specs.declared.slot.Content.TheVariants as content;
 ghost use Rattle.swc_tree_node.specs.declared.slot.Slot.TheVariants as slot;
 ghost use Rattle.swc_tree_node.specs.Fits.{Fits};
+ghost use Rattle.swc_tree_scoping.specs.WellScoped.{IsClean};
 ghost use Rattle.swc_tree_walk.specs.Nodes.{HasNode};
 ghost use Rattle.text_checks.specs.Checked.{IsWellFormed};
 ghost use Rattle.text_follow.specs.Follows.{Follows};
@@ -216,6 +217,7 @@ fn held(goal: Goal, tree: Node, text: &[u8]) -> Result<Node, TextFault>
     ensures formed { IfOk result (IsWellFormed (spec.slot_of goal)) }
     ensures pinned { IfOk result IsPinned }
     ensures leaves { IfOk result (LeavesStand text.now) }
+    ensures clean { IfOk result IsClean }
     ensures spans { IfOk result (λ tree. SpansAreOf goal tree text.now) }
     ensures refusal { IfErr result (Tells text.now) }
 {
@@ -237,6 +239,7 @@ fn read_utf8(alloc: Global, goal: Goal, depth: u32, text: &[u8]) -> Result<Node,
     ensures formed { IfOk result (IsWellFormed (spec.slot_of goal)) }
     ensures pinned { IfOk result IsPinned }
     ensures leaves { IfOk result (LeavesStand text.now) }
+    ensures clean { IfOk result IsClean }
     ensures spans { IfOk result (λ tree. SpansAreOf goal tree text.now) }
     ensures refusal { IfErr result (Tells text.now) }
 {
@@ -253,7 +256,8 @@ fn read_utf8(alloc: Global, goal: Goal, depth: u32, text: &[u8]) -> Result<Node,
 ///
 /// What is answered is what the text says: its tokens are those of the tree, one after another, and nothing else stands there
 /// but blanks, comments, and what no tree tells; and the grammar derives the tree as it stands, which is pinned where the grammar leaves
-/// a choice. Each node's span goes from its first token to its last, and names, keys, numbers and strings are spelled so there.
+/// a choice. Each node's span goes from its first token to its last, and names, keys, numbers and strings are spelled so there. No
+/// identifier has a context.
 ///
 /// # Errors
 ///
@@ -265,6 +269,7 @@ pub fn read_text(alloc: Global, goal: Goal, depth: u32, text: &[u8]) -> Result<N
     ensures formed { IfOk result (IsWellFormed (spec.slot_of goal)) }
     ensures pinned { IfOk result IsPinned }
     ensures leaves { IfOk result (LeavesStand text.now) }
+    ensures clean { IfOk result IsClean }
     ensures spans { IfOk result (λ tree. SpansAreOf goal tree text.now) }
     ensures refusal { IfErr result (Tells text.now) }
     ensures too_long { most_bytes < length text.now → result ≡ Err fault.TooLong }

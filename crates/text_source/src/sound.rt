@@ -1,14 +1,18 @@
 //! Whether a text can have a tree, and the tree's leaves stand in it where they say.
-ghost use Rattle.std.specs.Prelude.{IsTrue};
+ghost use Rattle.std.specs.Prelude.{◌≡◌, IsTrue};
 ghost use Rattle.swc_tree_grammar.specs.Grammar.{FitsGrammar};
 ghost use Rattle.swc_tree_node.specs.Fits.{Fits};
+ghost use Rattle.swc_tree_node.specs.declared.node.Node.{out-Node};
+ghost use Rattle.swc_tree_scoping.specs.WellScoped.{IsClean};
 ghost use Rattle.swc_tree_walk.specs.Nodes.{HasNode};
 ghost use Rattle.text_checks.specs.Checked.{IsWellFormed};
 ghost use Rattle.text_grammar.specs.Shaped.{Shaped};
 ghost use Rattle.text_pinned.specs.Pinned.{is_astray};
+ghost use Rattle.text_source.specs.Amiss as spec;
 ghost use Rattle.text_spans.specs.Leaves.{LeavesStand};
 ghost use Rattle.text_spelling.specs.Spelled.{Spelled};
 
+use swc_tree_marks::Mark;
 use swc_tree_node::{Node, Slot};
 use swc_tree_walk::Finder;
 use text_derives::derives;
@@ -18,7 +22,26 @@ use text_spans::Misplaced;
 use text_spelling::Misspelled;
 use text_table::fits_without;
 
-// Looks for what four checks look for.
+fn has_marks(marks: &[Mark]) -> bool
+    ensures { result ≡ spec.has_marks marks.now }
+{
+    match marks {
+        [] => false,
+        [_first, _rest @ ..] => true,
+    }
+}
+
+// Whether a node is an identifier that has a context.
+fn is_marked(node: &Node) -> bool
+    ensures { result ≡ spec.is_marked (out-Node node.now) }
+{
+    match node {
+        Node::Identifier(_, ident) => has_marks(ident.get().ctxt.marks()),
+        _ => false,
+    }
+}
+
+// Looks for what five checks look for.
 #[derive(Clone, Copy)]
 struct Amiss<'t> {
     text: &'t [u8],
@@ -35,7 +58,7 @@ impl Finder for Amiss<'_> {
                 Misshapen.is_sought(node)
                     || (Misspelled.is_sought(node)
                         || (Misplaced { text: self.text }.is_sought(node)
-                            || Astray.is_sought(node)))
+                            || (Astray.is_sought(node) || is_marked(node))))
             }
             _ => false,
         }
@@ -43,13 +66,14 @@ impl Finder for Amiss<'_> {
 }
 
 // Whether each node stands where it may by the table, lengths are those of productions, leaves are tokens, these stand where they
-// say, and no node is astray.
+// say, no node is astray, and no identifier has a context.
 fn is_sound(slot: Slot, tree: &Node, text: &[u8]) -> bool
     ensures fits { IsTrue result → Fits tree.now slot }
     ensures shaped { IsTrue result → Shaped tree.now }
     ensures spelled { IsTrue result → Spelled tree.now }
     ensures leaves { IsTrue result → LeavesStand text.now tree.now }
     ensures straight { IsTrue result → HasNode is_astray tree.now → ⊥ }
+    ensures clean { IsTrue result → IsClean tree.now }
 {
     let looks = Amiss { text };
     fits_without(&looks, tree, slot)
@@ -61,12 +85,13 @@ fn is_derived(tree: &Node) -> bool
     derives(tree)
 }
 
-/// Whether a text can have a tree: the table, lengths, leaves and the grammar; and whether its leaves stand there, and no node is
-/// astray.
+/// Whether a text can have a tree: the table, lengths, leaves and the grammar; and whether its leaves stand there, no node is astray,
+/// and no identifier has a context.
 pub(crate) fn is_formed(slot: Slot, tree: &Node, text: &[u8]) -> bool
     ensures formed { IsTrue result → IsWellFormed slot tree.now }
     ensures leaves { IsTrue result → LeavesStand text.now tree.now }
     ensures straight { IsTrue result → HasNode is_astray tree.now → ⊥ }
+    ensures clean { IsTrue result → IsClean tree.now }
 {
     if !is_sound(slot, tree, text) {
         return false;

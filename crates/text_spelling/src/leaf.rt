@@ -26,7 +26,7 @@ fn is_no_name(node: &Node) -> bool
     ensures { result ≡ spec.fails words.is_name (text_of node.now) }
 {
     match node.as_text() {
-        Some(text) => !is_name(text.as_bytes()),
+        Some(text) => !is_name(text),
         None => true,
     }
 }
@@ -138,7 +138,7 @@ pub fn is_bad_leaf(node: &Node) -> bool
     ensures { result ≡ spec.is_bad_leaf (out-Node node.now) }
 {
     match node {
-        Node::Identifier(_, ident) => !is_name(ident.get().sym.as_str().as_bytes()),
+        Node::Identifier(_, ident) => !is_name(ident.get().sym.as_str()),
         Node::Tree(kind, fields) => is_bad_tree(*kind, fields.as_slice()),
         _ => false,
     }

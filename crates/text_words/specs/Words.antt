@@ -2,6 +2,7 @@
 use Rattle.std.specs.Prelude.{ℕ, Bool, true, false, not, ◌&&◌, ◌==◌, List, [], ◌∷◌, ◌++◌, length, codes, nat_eq, Option, Some, None, is_some, Result, Ok, Err, bytes_eq}
 use Rattle.std.specs.List.{list_any}
 use Rattle.std.specs.Cmp.Lexicographic.{pointwise}
+use Rattle.std.specs.Str.{is_utf8}
 use Rattle.text_strings.specs.declared.escape.Reading.TheVariants as reading
 use Rattle.text_values.specs.Values.{cooked, is_value, template_raw, units}
 use Rattle.text_lexer.specs.declared.token.Fault.{Fault}
@@ -51,9 +52,13 @@ abbrev pub is_template_token : Option (List ℕ) → List ℕ → Token → Bool
 is_template_token value raw (token.template part a) = bytes_eq (template_raw a) raw && is_cooked a value
 is_template_token value raw _ = false
 
--- a name, with no escape in it (12.7); it may be a word of the language
+-- what is read as a name, with no escape in it (12.7); it may be a word of the language
+abbrev pub reads_name : List ℕ → Bool
+reads_name text = alone is_name_token (token_at goal.Div text)
+
+-- such a text in UTF-8
 abbrev pub is_name : List ℕ → Bool
-is_name text = alone is_name_token (token_at goal.Div text)
+is_name text = is_utf8 text && reads_name text
 
 -- a number, and a big integer (12.9.3)
 abbrev pub is_number : List ℕ → Bool

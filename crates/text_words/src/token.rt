@@ -46,14 +46,21 @@ fn is_string_token(value: &[u8], token: Token<'_>) -> bool
     }
 }
 
-/// Whether a text is a name, with no escape in it; it may be a word of the language.
-pub fn is_name(text: &[u8]) -> bool
-    ensures { result ≡ spec.is_name text.now }
+// Whether bytes are read as a name.
+fn reads_name(text: &[u8]) -> bool
+    ensures { result ≡ spec.reads_name text.now }
 {
     match token_at(Goal::Div, text) {
         Ok((token, rest)) => is_name_token(token) && rest.is_empty(),
         Err(_) => false,
     }
+}
+
+/// Whether a text is a name, with no escape in it; it may be a word of the language.
+pub fn is_name(text: &str) -> bool
+    ensures { result ≡ spec.is_name text.now }
+{
+    reads_name(text.as_bytes())
 }
 
 /// Whether a text is a number, as it is written.

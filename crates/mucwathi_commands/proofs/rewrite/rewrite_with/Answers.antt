@@ -1,3 +1,4 @@
+use Rattle.text_printer.specs.declared.lay_out.Layout.TheVariants as layout
 use Rattle.mucwathi_faults.proofs.Programs.{opens}
 use Rattle.mucwathi_commands.proofs.Rewritten.{printed, refused}
 use Rattle.mucwathi_commands.proofs.rewrite.rewrite_with.Goals as goal
@@ -7,8 +8,8 @@ make-requires c = opens c.args.order.now.goal c.args.source c.requires.read.0.fi
 
 pub returns-in-Ok : goal.returns-in-Ok
 returns-in-Ok c =
-    printed c.args.order.now c.args.text.now c.args.source c.requires.read c.in-Ok.answer c.in-Ok.ensures c.args.layout c.requires.anew c.print_with.result
-    c.print_with.ensures.written c.print_with.ensures.fault
+    printed c.args.order.now c.args.text.now c.args.source c.requires.read c.in-Ok.answer c.in-Ok.ensures layout.Lines c.requires.anew c.print_with.result
+    c.print_with.ensures.written (c.print_with.ensures.again c.args.source c.requires.found) c.print_with.ensures.fault
 
 pub returns-in-Err : goal.returns-in-Err
 returns-in-Err c = refused c.args.order.now c.args.text.now c.args.source c.requires.read c.in-Err.error c.in-Err.ensures

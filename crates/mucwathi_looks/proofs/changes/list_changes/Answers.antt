@@ -4,7 +4,7 @@ use Rattle.mucwathi_commands.proofs.Rewritten.{unread}
 use Rattle.mucwathi_looks.proofs.changes.list_changes.Goals as goal
 
 pub changes_in-requires-clause-read : goal.changes_in-requires-clause-read
-changes_in-requires-clause-read c = (c.in-Ok.ensures.tree, c.in-Ok.ensures.formed, c.in-Ok.ensures.pinned)
+changes_in-requires-clause-read c = (c.in-Ok.ensures.tree, c.in-Ok.ensures.formed, c.in-Ok.ensures.pinned, c.in-Ok.ensures.clean)
 
 pub changes_in-requires-clause-stands : goal.changes_in-requires-clause-stands
 changes_in-requires-clause-stands c = c.in-Ok.ensures.spans

@@ -4,7 +4,7 @@ use Rattle.mucwathi_commands.proofs.Rewritten.{unread}
 use Rattle.mucwathi_map.proofs.mapping.source_map.Goals as goal
 
 pub map_source-requires-clause-read : goal.map_source-requires-clause-read
-map_source-requires-clause-read c = (c.in-Ok.ensures.tree, c.in-Ok.ensures.formed, c.in-Ok.ensures.pinned)
+map_source-requires-clause-read c = (c.in-Ok.ensures.tree, c.in-Ok.ensures.formed, c.in-Ok.ensures.pinned, c.in-Ok.ensures.clean)
 
 pub map_source-requires-clause-stands : goal.map_source-requires-clause-stands
 map_source-requires-clause-stands c = c.in-Ok.ensures.spans

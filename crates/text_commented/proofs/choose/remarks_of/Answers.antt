@@ -1,11 +1,10 @@
 use Rattle.std.proofs.Common.{map, ap, subst, ◌∙◌}
-use Rattle.text_pieces.specs.Pieces.{framed_pieces}
 use Rattle.text_pieces.specs.Tokens.{piece_view}
+use Rattle.text_commented.specs.Chosen.{AreChosen}
 use Rattle.text_commented.specs.Places.{all_places}
-use Rattle.text_commented.specs.Sites.{IsSites}
 use Rattle.text_commented.proofs.choose.remarks_of.Goals as goal
 
 pub returns : goal.returns
 returns c =
-    c.in_ok-remarks.ensures (all_places (framed_pieces c.args.tree.now))
-    (subst (λ ps. IsSites c.in_ok-sites.sites (all_places ps)) (ap (λ l. map piece_view l) c.as_slice-pieces.ensures.value ∙ c.in_ok-found.ensures.frames) c.in_ok-sites.ensures)
+    subst (λ ps. AreChosen c.args.text.now (all_places ps) c.args.comments.now c.in_ok-remarks.remarks.items)
+    (ap (λ l. map piece_view l) c.as_slice-pieces.ensures.value ∙ c.in_ok-found.ensures.frames) c.in_ok-remarks.ensures

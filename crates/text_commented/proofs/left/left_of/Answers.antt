@@ -5,5 +5,5 @@ use Rattle.text_commented.proofs.left.left_of.Goals as goal
 pub returns : goal.returns
 returns c = record {
   each = c.in_ok-left.ensures.each;
-  told = c.in_ok-left.ensures.told (map piece_view c.args.pieces.now) c.in_ok-all.ensures c.in_ok-tight.ensures;
+  told = c.in_ok-left.ensures.told (map piece_view c.args.pieces.now) c.in_ok-sites.ensures.all c.in_ok-sites.ensures.tight;
 }

@@ -1,5 +1,0 @@
-use Rattle.std.proofs.Common.{inl, refl}
-use Rattle.mucwathi_commands.proofs.rewrite.rewrite_anew.Goals as goal
-
-pub returns-in-Err : goal.returns-in-Err
-returns-in-Err c = inl refl

@@ -1,0 +1,3 @@
+pub mod Unpaired
+pub mod Written
+pub mod Laws
