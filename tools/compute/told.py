@@ -18,11 +18,11 @@ SOURCES = {
     'mucwathi_map': {'IsMap': '3b2ecb8ba51c', 'TellsNodes': '6514536d3367', 'TellsWritten': '8054aafdf384'},
     'mucwathi_signs': {'IsMarked': 'cf9e2dfe4299'},
     'mucwathi_marked': {'IsGiven': '3fea3dafa131'},
-    'mucwathi_commands': {'IsReadAs': '9951f17856bd'},
+    'mucwathi_commands': {'IsReadAs': '78fddd8f22fb'},
 }
 TYPES = ('AreMappings', 'AreSegments', 'IsMarked', 'IsNumber')
 # these say how the code keeps names and places, or belong to other calls
-PASSED_OVER = ('Looks', 'Marked', 'Names', 'Trees', 'Cut', 'Faults', 'Judged', 'AddsMappings', 'AddsName', 'AddsNumber', 'AddsWay', 'Continues',
+PASSED_OVER = ('Looks', 'Marked', 'Names', 'Trees', 'Cut', 'Comments', 'Faults', 'Judged', 'AddsMappings', 'AddsName', 'AddsNumber', 'AddsWay', 'Continues',
                'GoesOn', 'HasNames', 'IsKept', 'IsMark', 'IsNoneOrMap', 'IsPosition', 'IsPut', 'IsRefusedFor', 'IsRefusedText', 'IsRewritten',
                'IsSigned', 'IsWantOfMemory', 'IsWritten', 'Notes')
 
@@ -33,7 +33,7 @@ def check_sources(checkout):
 
 # ---- mucwathi_commands
 def IsReadAs(D, t, text):
-    return IsTextOf(D, t, text) and IsWellFormed(D, t) and IsPinned(D, t)
+    return IsTextOf(D, t, text) and IsWellFormed(D, t) and IsPinned(D, t) and scoping.IsClean(D, t)
 
 
 # ---- mucwathi_looks

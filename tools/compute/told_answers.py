@@ -64,7 +64,7 @@ class Made:
             self.others = list(self.read_with_marks())
 
     def read_with_marks(self):
-        """the same with a mark on one of its names: that a tree which is read has none is said nowhere"""
+        """the same with a mark on one of its names, which a tree that is read has not"""
         for path, node in trees.paths(self.source):
             if node[0] == 'Identifier':
                 other = copy.copy(self)
