@@ -242,15 +242,20 @@ def remark_by_rules(gaps, text, k):
     return Rec(text=tuple(body), at=at or ('Leads', k.leads))
 
 
+def kind_of_place(here, there):
+    """where a comment goes by one place, and by another: a gap and a place in it, or why it is left"""
+    if isinstance(there, str):
+        return 'one of no node' if there == 'NoPlace' else 'left'
+    return 'between the same tokens' if not isinstance(here, str) and there[0] == here[0] else 'between other tokens'
+
+
 def wrong_places(c, gaps, k, right):
     """(kind, at) of other places for a comment"""
     places = {place for places, _ in gaps for place in places}
     here = spot_of(c, gaps, right)
     for at in sorted(places | {(form, n) for form in ('Leads', 'Trails') for n in (k.leads, k.trails, k.leads + 1)}):
-        there = spot_of(c, gaps, Rec(text=right.text, at=at))
         if at != right.at:
-            kind = 'one of no node' if there == 'NoPlace' else 'left' if isinstance(there, str) else 'between the same tokens' if not isinstance(here, str) and there[0] == here[0] else 'between other tokens'
-            yield 'another place, ' + kind, at
+            yield 'another place, ' + kind_of_place(here, spot_of(c, gaps, Rec(text=right.text, at=at))), at
 
 
 # ---- cases
@@ -322,7 +327,8 @@ class Chosen(Program):
 
     def show(self, answer):
         others = [(n, one.at, right.at) for n, (one, right) in enumerate(zip(answer, self.right())) if one != right]
-        return '%r, places %s: %s' % (bytes(self.text).decode(), shown_places(self.gaps), ', '.join('comment %d %s %d and not %s %d' % (n, *one, *right) for n, one, right in others))
+        rows = ', '.join('comment %d %s %d and not %s %d' % (n, *one, *right) for n, one, right in others)
+        return '%r, places %s: %s' % (bytes(self.text).decode(), shown_places(self.gaps), rows)
 
 
 def remarks_for(random, gaps, count):

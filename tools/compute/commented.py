@@ -10,7 +10,7 @@ from following import Follows, Takes, pieces
 CRATES = ('text_commented',)
 SOURCES = {
     'text_commented': {'AreChosen': 'ddc80b52a8e0', 'ArePut': '9e9be39596e5', 'ArePutAt': 'bda888f9b8e8', 'IsChosen': '25f4d9f84ed3',
-        'IsCommented': '97d7b6341340', 'IsFirstBegun': '7a9c7c4987de', 'IsLastBegun': '8fff2c458fdd', 'IsLastStop': 'f2831dcc781a',
+        'IsCommented': '97d7b6341340', 'IsFirstBegun': '7a9c7c4987de', 'IsLastBegun': '1fb2990fb367', 'IsLastStop': '68d2d5c6717b',
         'IsSet': '348b6a908217', 'IsSetFrom': '76852b1b1127', 'IsTold': 'e50550636fb9', 'IsWhy': '14002ee75696', 'IsWrittenWith': 'aac75ce10f5f',
         'Meets': 'e74465c2e240', 'PutsAmong': 'fb4dbcbcca49', 'Stands': 'e2ddfcc48d66'},
 }
@@ -28,12 +28,12 @@ def Contains(places, a):
 
 
 def IsLastStop(places, limit, n):
-    stops = [m for form, m in places if form == 'Trails' and m <= limit]
+    stops = [m for form, m in places if form == 'Trails' and 0 < m <= limit]
     return bool(stops) and n == max(stops)
 
 
 def IsLastBegun(places, limit, n):
-    begun = [m for form, m in places if form == 'Leads' and m <= limit]
+    begun = [m for form, m in places if form == 'Leads' and 0 < m <= limit]
     return bool(begun) and n == max(begun)
 
 

@@ -40,22 +40,14 @@ def with_marks(random, t):
     return trees.with_identifiers(lambda i: (i.sym, (random.pick([2, 3]),) if random.chance(0.3) else i.ctxt), t)
 
 
-ODD = [(195, 97), (195,), (97, 195), (225, 128), (97, 240, 144), (206, 177, 206), (240, 144, 128)]
-
-
-def odd_names(random, size):
-    """programs with names that are not in UTF-8"""
-    t, odd = kept.text_source(random, size), random.pick(ODD)
-    return t and with_marks(random, trees.with_identifiers(lambda i: (odd if i.sym == js.codes('a') else i.sym, i.ctxt), t))
-
-
 def misfits(random, size):
     """trees some of whose nodes stand where they don't fit, with marks on some names"""
     if random.chance(0.1):
-        name = ('Identifier', 'BindingIdent', js.REC(span=SPAN[1], ctxt=(random.below(3),), sym=js.codes('a')))
-        export = tree('ExportDecl', SPAN, tree('VarDecl', SPAN, ('Word', 'Var'), ('List', (tree('VarDeclarator', SPAN, name, ABSENT),))))
+        bound, free = (('Identifier', its, js.REC(span=SPAN[1], ctxt=(mark,), sym=js.codes('xy'))) for its, mark in (('BindingIdent', 1), ('Ident', 2)))
+        export = tree('ExportDecl', SPAN, tree('VarDecl', SPAN, ('Word', 'Var'), ('List', (tree('VarDeclarator', SPAN, bound, ABSENT),))))
         texts = [tree('TplElement', SPAN, ('Flag', last), ('Text', js.codes('')), ('Text', js.codes(''))) for last in (False, True)]
-        return with_marks(random, script(random.pick([tree('Tpl', SPAN, ('List', (export,)), ('List', tuple(texts))), tree('ArrayLit', SPAN, ('List', (export, export)))])))
+        made = random.pick([tree('Tpl', SPAN, ('List', (export,)), ('List', tuple(texts))), tree('ArrayLit', SPAN, ('List', (export, export)))])
+        return script(random.pick([made, tree('BinExpr', SPAN, ('Word', 'Plus'), made, free)]))
     t = unfitting(random, size)
     return t and with_marks(random, t)
 
@@ -80,18 +72,11 @@ def place_of(t):
 
 
 
-def are_utf8(t):
-    try:
-        return all(bytes(node[2].sym).decode() is not None for _, node in trees.paths(t) if node[0] == 'Identifier')
-    except UnicodeDecodeError:
-        return False
-
-
 PREMISES = {
     'it fits its place': lambda t: D.node.Fits.fits(t, place_of(t)), 'a program': lambda t: t[1] in ('Module', 'Script'),
     'shaped': lambda t: Shaped(D.all, t), 'spelled': lambda t: Spelled(D.all, t), 'writable': lambda t: D.grammar.Writable.is_writable(t),
     'derived as it stands': lambda t: FitsGrammar(D.all, t), 'clean': lambda t: scoping.IsClean(D.all, t),
-    'no early error of names': lambda t: scoping.NoEarlyErrorOfNames(D.all, t), 'names in UTF-8': are_utf8,
+    'no early error of names': lambda t: scoping.NoEarlyErrorOfNames(D.all, t),
     'the place has room': lambda t: D.substitution.Room.has_room(place_of(t)), 'the place takes pairs': lambda t: D.grammar.Places.is_open(place_of(t)),
     'targets can stand bare': lambda t: D.grammar.Targets.all_bare(t), 'no sequence': lambda t: not tokens.trees_with_sequences(t),
     'no empty member': lambda t: not tokens.has_empty_member(t), 'nothing reads names': lambda t: not units.HasEval(D.all, t)}
@@ -148,7 +133,7 @@ TEXTS = ('it fits its place', 'shaped', 'spelled')
 SOURCE = TEXTS + ('derived as it stands', 'writable', 'clean', 'no early error of names')
 ROOM, PAIRS, BARE = 'the place has room', 'the place takes pairs', 'targets can stand bare'
 # where trees come from for which a premise fails
-WITHOUT = {'it fits its place': misfits, 'a program': part, ROOM: part, PAIRS: part, BARE: unassignable, 'names in UTF-8': odd_names}
+WITHOUT = {'it fits its place': misfits, 'a program': part, ROOM: part, PAIRS: part, BARE: unassignable}
 
 
 def due(t):
@@ -157,8 +142,8 @@ def due(t):
 
 # a law: its premises, and what holds of a tree
 LAWS = {
-    'HygieneKeepsTexts': ((ROOM, 'names in UTF-8') + TEXTS, each_has(hygienic)),
-    'AnyHygieneKeepsTexts': ((ROOM, 'names in UTF-8') + TEXTS, each_has(hygienic, False)),
+    'HygieneKeepsTexts': ((ROOM,) + TEXTS, each_has(hygienic)),
+    'AnyHygieneKeepsTexts': ((ROOM,) + TEXTS, each_has(hygienic, False)),
     'ShortNamesKeepTexts': ((ROOM,) + TEXTS, each_has(short)),
     'ManglingKeepsTexts': ((ROOM,) + TEXTS, each_has(short, False)),
     'FixerKeepsTexts': ((PAIRS, BARE) + TEXTS, each_has(lambda t: [fixed(t)])),
@@ -169,7 +154,7 @@ LAWS = {
     'UnparenKeepsSpelling': ((BARE, 'it fits its place', 'spelled'), lambda t: Spelled(D.all, unparened(t))),
     'DuePairsKeepShape': (('it fits its place', 'shaped'), lambda t: Shaped(D.all, due(t))),
     'DuePairsKeepSpelling': (('it fits its place', 'spelled'), lambda t: Spelled(D.all, due(t))),
-    'ChainKeepsTexts': ((ROOM, PAIRS, 'names in UTF-8', BARE) + TEXTS, each_has(lambda t: map(fixed, hygienic(t)))),
+    'ChainKeepsTexts': ((ROOM, PAIRS, BARE) + TEXTS, each_has(lambda t: map(fixed, hygienic(t)))),
     'ShortChainKeepsTexts': ((ROOM, PAIRS, BARE) + TEXTS, each_has(lambda t: map(fixed, short(t)))),
     'NewNamesKeepPieces': (('a program', 'it fits its place', 'writable'), lambda t: tokens.forms_agree(t, False)),
     'NewNamesKeepPieces, classes keep names': (('a program', 'it fits its place', 'writable'), lambda t: tokens.forms_agree(t, True)),

@@ -13,17 +13,18 @@ from following import IsPinned, IsTextOf, IsWellFormed, SpansAreOf
 CRATES = ('mucwathi_lists', 'mucwathi_looks', 'mucwathi_mappings', 'mucwathi_map', 'mucwathi_signs', 'mucwathi_marked')
 SOURCES = {
     'mucwathi_looks': {'HasChanges': '79f95166a24b'},
-    'mucwathi_mappings': {'AreMappings': 'e103a6213ca5', 'AreSegments': '175366c78c3d', 'HasLast': '14bfd54e0f97', 'IsEntry': '21ec95e5a3ed', 'IsMapOf': '2acf7da733dc',
-        'IsName': '852d64fead21', 'IsNumber': '40d289b7be41', 'IsNumberOf': '6a95f14d7bd2', 'IsSegment': 'cd732e232bb1'},
+    'mucwathi_mappings': {'AreMappings': 'e103a6213ca5', 'AreSegments': '175366c78c3d', 'HasLast': '14bfd54e0f97', 'IsEntry': '21ec95e5a3ed',
+        'IsMapOf': '2acf7da733dc', 'IsName': '852d64fead21', 'IsNumber': '40d289b7be41', 'IsNumberOf': '6a95f14d7bd2', 'IsSegment': 'cd732e232bb1'},
     'mucwathi_map': {'IsMap': '3b2ecb8ba51c', 'TellsNodes': '6514536d3367', 'TellsWritten': '8054aafdf384'},
     'mucwathi_signs': {'IsMarked': 'cf9e2dfe4299'},
     'mucwathi_marked': {'IsGiven': '3fea3dafa131'},
-    'mucwathi_commands': {'IsReadAs': '9951f17856bd'},
+    'mucwathi_commands': {'IsReadAs': '78fddd8f22fb'},
 }
 TYPES = ('AreMappings', 'AreSegments', 'IsMarked', 'IsNumber')
 # these say how the code keeps names and places, or belong to other calls
-PASSED_OVER = ('Looks', 'Marked', 'Names', 'Trees', 'Cut', 'Faults', 'Judged', 'AddsMappings', 'AddsName', 'AddsNumber', 'AddsWay', 'Continues', 'GoesOn', 'HasNames',
-               'IsKept', 'IsMark', 'IsNoneOrMap', 'IsPosition', 'IsPut', 'IsRefusedFor', 'IsRefusedText', 'IsRewritten', 'IsSigned', 'IsWantOfMemory', 'IsWritten', 'Notes')
+PASSED_OVER = ('Looks', 'Marked', 'Names', 'Trees', 'Cut', 'Comments', 'Faults', 'Judged', 'AddsMappings', 'AddsName', 'AddsNumber', 'AddsWay', 'Continues',
+               'GoesOn', 'HasNames', 'IsKept', 'IsMark', 'IsNoneOrMap', 'IsPosition', 'IsPut', 'IsRefusedFor', 'IsRefusedText', 'IsRewritten',
+               'IsSigned', 'IsWantOfMemory', 'IsWritten', 'Notes')
 
 
 def check_sources(checkout):
@@ -32,7 +33,7 @@ def check_sources(checkout):
 
 # ---- mucwathi_commands
 def IsReadAs(D, t, text):
-    return IsTextOf(D, t, text) and IsWellFormed(D, t) and IsPinned(D, t)
+    return IsTextOf(D, t, text) and IsWellFormed(D, t) and IsPinned(D, t) and scoping.IsClean(D, t)
 
 
 # ---- mucwathi_looks

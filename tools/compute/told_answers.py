@@ -64,7 +64,7 @@ class Made:
             self.others = list(self.read_with_marks())
 
     def read_with_marks(self):
-        """the same with a mark on one of its names: that a tree which is read has none is said nowhere"""
+        """the same with a mark on one of its names, which a tree that is read has not"""
         for path, node in trees.paths(self.source):
             if node[0] == 'Identifier':
                 other = copy.copy(self)
@@ -306,7 +306,8 @@ def wrong_given(case):
         if node[0] != 'Identifier':
             continue
         i = node[2]
-        for kind, ctxt in (('a mark left out', i.ctxt[:-1]), ('another mark', i.ctxt[:-1] + (9,)), ('a mark too many', i.ctxt + (9,)), ('marks in another order', i.ctxt[::-1])):
+        for kind, ctxt in (('a mark left out', i.ctxt[:-1]), ('another mark', i.ctxt[:-1] + (9,)), ('a mark too many', i.ctxt + (9,)),
+                           ('marks in another order', i.ctxt[::-1])):
             if ctxt != i.ctxt:
                 yield kind, (case.plain, trees.put(t, path, ('Identifier', node[1], Rec(span=i.span, ctxt=ctxt, sym=i.sym))))
         yield 'another name', (case.plain, trees.put(t, path, ('Identifier', node[1], Rec(span=i.span, ctxt=i.ctxt, sym=i.sym + (99,)))))
