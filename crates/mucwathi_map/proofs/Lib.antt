@@ -1,3 +1,4 @@
+mod Beside
 mod Joined
 mod Naming
 mod Spotting

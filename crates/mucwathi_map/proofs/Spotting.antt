@@ -1,13 +1,13 @@
 -- Where nodes stand, by the form of a tree, and one node after another.
-use Rattle.std.proofs.Common.{◌≡◌, ℕ, ◌+◌, ◌<◌, ◌≤◌, List, [], ◌∷◌, ◌++◌, Some, None, map, take, length, get_or, refl, sym, ap, ◌∙◌, rules}
-use Rattle.std.proofs.lemmas.List.{flat_map_more, take_all, take_more}
+use Rattle.std.proofs.Common.{◌≡◌, ℕ, ◌+◌, ◌<◌, ◌≤◌, List, [], ◌∷◌, ◌++◌, Some, None, drop, map, take, length, get_or, refl, sym, ap, ◌∙◌, rules}
+use Rattle.std.proofs.lemmas.List.{drop-map, flat_map_more, take_all, take_more}
 use Rattle.std.specs.List.{flat_map}
 use Rattle.swc_tree_marks.specs.declared.ident.Ident.{Ident}
 use Rattle.swc_tree_marks.specs.declared.span.Span.{Span}
 use Rattle.swc_tree_node.specs.declared.kind.Kind.{Kind}
 use Rattle.swc_tree_node.specs.declared.node.Node.{Node, List as Many, Tree, the_lemmas}
 use Rattle.swc_tree_node.specs.declared.node.Node.TheOpen.{Node-F}
-use Rattle.mucwathi_map.specs.Spots.{Stood, spots, spots_step}
+use Rattle.mucwathi_map.specs.Spots.{Stood, spots, spots_step, untold}
 
 all_mapped : (ts : List Node) → flat_map (λ (l : List Stood). l) (map spots ts) ≡ flat_map spots ts
 all_mapped [] = refl
@@ -19,8 +19,9 @@ step_of_tree k ts = search (rules, the_lemmas)
 step_of_list : (ts : List Node) → spots (Many ts) ≡ spots_step (Node-F.List (map spots ts))
 step_of_list ts = search (rules, the_lemmas)
 
-pub spots_of_tree : (t : Node) (k : Kind) (ts : List Node) → t ≡ Tree k ts → spots t ≡ flat_map spots ts
-spots_of_tree t k ts is = ap spots is ∙ step_of_tree k ts ∙ all_mapped ts
+pub spots_of_tree : (t : Node) (k : Kind) (ts : List Node) → t ≡ Tree k ts → spots t ≡ flat_map spots (drop (untold k) ts)
+spots_of_tree t k ts is =
+    ap spots is ∙ step_of_tree k ts ∙ ap (flat_map (λ (l : List Stood). l)) (drop-map spots (untold k) ts) ∙ all_mapped (drop (untold k) ts)
 
 pub spots_of_list : (t : Node) (ts : List Node) → t ≡ Many ts → spots t ≡ flat_map spots ts
 spots_of_list t ts is = ap spots is ∙ step_of_list ts ∙ all_mapped ts

@@ -1,26 +1,27 @@
 -- The source map of what was written for a text.
-use Rattle.std.specs.Prelude.{◌≡◌, ℕ, List, Option, Some, None, Vec, length, map as each}
+use Rattle.std.specs.Prelude.{◌≡◌, ℕ, List, Option, Some, None, Vec, map as each}
 use Rattle.swc_tree_node.specs.declared.node.Node.{Node}
-use Rattle.text_source.specs.Texts.{IsTextOf, SpansAreOf}
+use Rattle.text_source.specs.Texts.{SpansAreOf}
 use Rattle.mucwathi_order.specs.declared.order.Order.{Order}
 use Rattle.mucwathi_passes.specs.Passes.{Makes}
 use Rattle.mucwathi_commands.specs.Written.{IsReadAs}
 use Rattle.mucwathi_mappings.specs.declared.segments.Mapped.{Mapped}
 use Rattle.mucwathi_mappings.specs.Maps.{IsMapOf}
 use Rattle.mucwathi_map.specs.declared.mapping.Texts.{Texts}
-use Rattle.mucwathi_map.specs.Spots.{all_told, name_at, spots, told}
+use Rattle.mucwathi_map.specs.Spots.{all_told, name_at, names, spots, told}
 
--- it tells of the nodes of an answer and of those that were written for it, one beside another
+-- it tells of the nodes of an answer and of those that were written for it, one beside another: as many, and each identifier beside one
+-- of its text
 pub record TellsNodes (name text out : List ℕ) (source answer written : Node) (map : List ℕ) : Type 0 where
   pub nodes : List Mapped
-  pub aligned : length (spots answer) ≡ length (spots written)
+  pub named : names (spots answer) ≡ names (spots written)
   pub are : each told nodes ≡ all_told (name_at (spots source)) (spots answer) (spots written)
   pub whole : IsMapOf name text out nodes map
 
 -- what was written is read again, and where its nodes stand is told
 pub record TellsWritten (order : Order) (name text out : List ℕ) (source answer : Node) (map : List ℕ) : Type 0 where
   pub written : Node
-  pub again : IsTextOf order.goal written out
+  pub again : IsReadAs order.goal written out
   pub stands : SpansAreOf order.goal written out
   pub tells : TellsNodes name text out source answer written map
 

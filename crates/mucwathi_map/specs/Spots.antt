@@ -4,8 +4,10 @@ use Rattle.std.specs.BTreeMap.{BTreeMap, get}
 use Rattle.std.specs.List.{flat_map}
 use Rattle.std.specs.Option.{option_or}
 use Rattle.std.specs.Ordering.{nat_cmp}
-use Rattle.std.specs.Prelude.{◌≡◌, ℕ, ◌-◌, ◌||◌, List, [], ◌∷◌, ◌++◌, Option, Some, None, nat_eq, option_map, if◌then◌else◌}
+use Rattle.std.specs.Prelude.{◌≡◌, ℕ, ◌-◌, ◌||◌, List, [], ◌∷◌, ◌++◌, Option, Some, None, drop, map as each, nat_eq, option_map, if◌then◌else◌}
 use Rattle.std.specs.Str.{bytes_eq}
+use Rattle.swc_tree_node.specs.declared.kind.Kind.{Kind}
+use Rattle.swc_tree_node.specs.declared.kind.Kind.TheVariants as kind
 use Rattle.swc_tree_node.specs.declared.node.Node.{Node, fold-Node}
 use Rattle.swc_tree_node.specs.declared.node.Node.TheOpen.{Node-F}
 use Rattle.mucwathi_mappings.specs.declared.segments.Mapped.{Mapped}
@@ -19,16 +21,26 @@ Stood = ℕ × Option (List ℕ)
 abbrev pub seen : Spot → Stood
 seen s = (s.lo, option_map text_of s.name)
 
+-- how many of a node's fields tell nothing: the span of a binary operation, which begins with its left side, so that the spots of
+-- `a || b || c` are the same however it is grouped
+abbrev pub untold : Kind → ℕ
+untold kind.BinExpr = 1
+untold k = 0
+
 abbrev pub spots_step : Node-F (List Stood) → List Stood
 spots_step (Node-F.Identifier k i) = (i.span.lo, Some i.sym) ∷ []
 spots_step (Node-F.Span s) = (s.lo, None) ∷ []
 spots_step (Node-F.List below) = flat_map (λ l. l) below
-spots_step (Node-F.Tree k below) = flat_map (λ l. l) below
+spots_step (Node-F.Tree k below) = flat_map (λ l. l) (drop (untold k) below)
 spots_step _ = []
 
 -- the spans of a tree and its identifiers, each before what is below it
 abbrev pub spots : Node → List Stood
 spots = fold-Node (List Stood) spots_step
+
+-- which of them are identifiers, and of what texts
+abbrev pub names : List Stood → List (Option (List ℕ))
+names = each (λ (s : Stood). s.1)
 
 -- the name that stands at a place: that of the last identifier there
 abbrev pub name_at : List Stood → ℕ → Option (List ℕ)

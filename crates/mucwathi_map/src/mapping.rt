@@ -5,7 +5,7 @@ ghost use Rattle.mucwathi_commands.specs.Faults.{IsRunFault, IsWriteFault};
 ghost use Rattle.mucwathi_commands.specs.Written.{IsReadAs};
 ghost use Rattle.mucwathi_map.specs.Map.{IsMap, IsNoneOrMap, TellsNodes, TellsWritten};
 
-use crate::spots::spots_of;
+use crate::spots::{same_names, spots_of};
 use crate::told::{mapped_of, names_by_place};
 use mucwathi_faults::RunFault;
 use mucwathi_mappings::map_text;
@@ -24,7 +24,7 @@ struct Texts<'a> {
     written: &'a [u8],
 }
 
-// The map of a source's answer and of what was written for it, node by node; none if they differ in how many these are.
+// The map of a source's answer and of what was written for it, node by node; none if they differ in how many these are, or in a name.
 fn map_of(
     alloc: Global,
     texts: Texts<'_>,
@@ -39,7 +39,7 @@ fn map_of(
     let writes = spots_of(alloc, written)?;
     let news = answers.as_slice();
     let outs = writes.as_slice();
-    if news.len() != outs.len() {
+    if !same_names(news, outs) {
         return Ok(None);
     }
     let olds = names_by_place(alloc, sources.as_slice())?;
@@ -129,7 +129,7 @@ fn map_source(
 ///
 /// # Errors
 ///
-/// Those of `rewrite_text`; `NotWritten` where what was written is not read again, node by node.
+/// Those of `rewrite_text`; `NotWritten` where what was written is not read again, node by node and name by name.
 pub fn source_map(
     alloc: Global,
     order: &Order,

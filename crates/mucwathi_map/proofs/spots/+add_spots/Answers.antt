@@ -1,6 +1,7 @@
 use Rattle.std.proofs.Common.{◌≡◌, ◌++◌, OnOk, map, sym, ap, ◌∙◌, subst, arith}
+use Rattle.std.specs.List.{flat_map}
 use Rattle.swc_tree_node.specs.declared.node.Node.{List as Many, Tree}
-use Rattle.mucwathi_map.specs.Spots.{seen}
+use Rattle.mucwathi_map.specs.Spots.{seen, spots}
 use Rattle.mucwathi_map.proofs.Spotting.{spots_all, spots_more, spots_of_list, spots_of_tree}
 use Rattle.mucwathi_map.proofs.spots.+add_spots.Goals as goal
 
@@ -11,9 +12,9 @@ add_spots-returns-in-List t c =
 
 pub add_spots-returns-in-Tree : goal.add_spots-returns-in-Tree
 add_spots-returns-in-Tree t c =
-    let is = c.in-Tree.is ∙ ap (λ ts. Tree c.in-Tree.field-0 ts) (sym c.as_slice-in-Tree.ensures) in
+    let is = c.in-Tree.is ∙ ap (λ ts. Tree c.in-Tree.kind ts) (sym c.as_slice-in-Tree.ensures) in
     subst (λ l. OnOk c.add_spots_of-in-Tree.result (map seen c.add_spots_of-in-Tree.new.found.items ≡ map seen c.args.found.now.items ++ l))
-    (sym (spots_of_tree c.args.node.now c.in-Tree.field-0 c.as_slice-in-Tree.result.now is)) c.add_spots_of-in-Tree.ensures
+    (ap (flat_map spots) c.told_fields.ensures ∙ sym (spots_of_tree c.args.node.now c.in-Tree.kind c.as_slice-in-Tree.result.now is)) c.add_spots_of-in-Tree.ensures
 
 pub add_spots_of-loop-i-preserved : goal.add_spots_of-loop-i-preserved
 add_spots_of-loop-i-preserved t c =
