@@ -42,12 +42,17 @@ def grouped(t):
     return t
 
 
+def may_be_read(t):
+    """a tree as a text is read"""
+    return t is not None and following.IsWellFormed(D.all, t) and following.IsPinned(D.all, t) and scoping.IsClean(D.all, t)
+
+
 class Made:
     """a text of a program, what a command makes of it, and a text of that"""
     source_of = staticmethod(clean_source)
 
     def __init__(self, random, t):
-        self.is_one = t is not None and is_writable(t) and following.IsWellFormed(D.all, t) and following.IsPinned(D.all, t) and not units.HasEval(D.all, t)
+        self.is_one = may_be_read(t) and is_writable(t) and not units.HasEval(D.all, t)
         if not self.is_one:
             return
         self.text = texts.written(random, t, random.pick([texts.PLAIN, texts.LOOSE]))
@@ -278,7 +283,7 @@ class Given:
     source_of = staticmethod(clean_source)
 
     def __init__(self, random, t):
-        self.is_one = t is not None and following.IsWellFormed(D.all, t) and following.IsPinned(D.all, t)
+        self.is_one = may_be_read(t)
         if self.is_one:
             self.plain = texts.written(random, t, texts.PLAIN) + random.pick([(), (), tuple(b' /* a#2 */')])
             self.tree, self.size = marked_tree(random, placed.with_spans(t, self.plain)), trees.size(t)
