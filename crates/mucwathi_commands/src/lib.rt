@@ -3,7 +3,6 @@
 //! `specs/Written.antt` says what: `IsRewritten`.
 #![tactic(auto)]
 
-mod apart;
 mod cover;
 mod judge;
 mod places;

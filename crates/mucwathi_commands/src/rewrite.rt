@@ -1,8 +1,7 @@
 //! From text to text.
-ghost use Rattle.std.specs.Prelude.{◌≡◌, Some, None, map, IfSome, MatchResult};
+ghost use Rattle.std.specs.Prelude.{◌≡◌, Some, None, IfSome, MatchResult};
 ghost use Rattle.text_comments.specs.Comments.{HasComments};
 ghost use Rattle.text_pieces.specs.Pieces.{pieces};
-ghost use Rattle.text_pieces.specs.Tokens.{piece_view};
 ghost use Rattle.text_printer.specs.declared.lay_out.Layout.TheVariants as layouts;
 ghost use Rattle.text_source.specs.Texts.{comments_of};
 ghost use Rattle.mucwathi_order.specs.Styles.{layout_of};
@@ -10,8 +9,7 @@ ghost use Rattle.mucwathi_commands.specs.Comments.{IsRewrittenWith};
 ghost use Rattle.mucwathi_commands.specs.Faults.{IsRunFault};
 ghost use Rattle.mucwathi_commands.specs.Written.{IsReadAs, IsRewritten};
 
-use crate::apart::{pieces_again, texts_of};
-use crate::write::{RewrittenText, comments_in, edit_by, print_compact, print_with};
+use crate::write::{RewrittenText, comments_in, edit, print_compact, print_with};
 use mucwathi_faults::RunFault;
 use mucwathi_order::Order;
 use mucwathi_passes::make;
@@ -19,10 +17,8 @@ use std::alloc::Global;
 use swc_tree_marks::PassError;
 use swc_tree_node::Node;
 use text_comments::Comment;
-use text_pieces::Piece;
 use text_printer::Layout;
 use text_source::read_text;
-use text_walk::pieces as pieces_in;
 
 // What a command makes of a program, written anew with comments of its text.
 fn rewrite_with(
@@ -95,21 +91,21 @@ fn rewrite_anew(
     }
 }
 
-// What a command makes of a program, with the layout and the comments of its text, which has these pieces.
-fn rewrite_from(
+// What a command makes of a copy of a program, with the layout and the comments of its text.
+fn rewrite_copy(
     alloc: Global,
     order: &Order,
     text: &[u8],
-    before: &Option<Vec<Piece<'_>>>,
-    source: Node,
+    source: &Node,
+    copy: Node,
 ) -> Result<Vec<u8>, RunFault>
-    requires read { IsReadAs order.now.goal source text.now }
-    requires pieces { IfSome before.now (λ old. map piece_view old.items ≡ pieces source) }
+    requires read { IsReadAs order.now.goal source.now text.now }
+    requires same { copy ≡ source.now }
     requires kept { layout_of order.now.style ≡ None }
     ensures { MatchResult result (λ out. IsRewritten order.now text.now out.items) (IsRunFault order.now text.now) }
 {
-    match make(alloc, order.command, &order.settings, source) {
-        Ok(answer) => edit_by(alloc, order.goal, text, before, &answer),
+    match make(alloc, order.command, &order.settings, copy) {
+        Ok(answer) => edit(alloc, order.goal, text, source, &answer),
         Err(error) => Err(RunFault::Refused(error)),
     }
 }
@@ -119,22 +115,16 @@ fn rewrite_kept(
     alloc: Global,
     order: &Order,
     text: &[u8],
-    source: Node,
+    source: &Node,
 ) -> Result<Vec<u8>, RunFault>
-    requires read { IsReadAs order.now.goal source text.now }
+    requires read { IsReadAs order.now.goal source.now text.now }
     requires kept { layout_of order.now.style ≡ None }
     ensures { MatchResult result (λ out. IsRewritten order.now text.now out.items) (IsRunFault order.now text.now) }
 {
-    let Ok(found) = pieces_in(alloc, &source) else {
-        return Err(RunFault::Refused(PassError::NoMemory));
-    };
-    let Ok(texts) = texts_of(alloc, &found) else {
-        return Err(RunFault::Refused(PassError::NoMemory));
-    };
-    let Ok(before) = pieces_again(alloc, texts.as_str(), found) else {
-        return Err(RunFault::Refused(PassError::NoMemory));
-    };
-    rewrite_from(alloc, order, text, &before, source)
+    match source.clone() {
+        Ok(copy) => rewrite_copy(alloc, order, text, source, copy),
+        Err(_) => Err(RunFault::Refused(PassError::NoMemory)),
+    }
 }
 
 // The same, and that no comment is lost.
@@ -142,9 +132,9 @@ fn rewrite_in_place(
     alloc: Global,
     order: &Order,
     text: &[u8],
-    source: Node,
+    source: &Node,
 ) -> Result<RewrittenText, RunFault>
-    requires read { IsReadAs order.now.goal source text.now }
+    requires read { IsReadAs order.now.goal source.now text.now }
     requires kept { layout_of order.now.style ≡ None }
     ensures { MatchResult result (λ made. IsRewrittenWith order.now text.now made.out.items made.lost.items) (IsRunFault order.now text.now) }
 {
@@ -169,7 +159,7 @@ fn rewrite_source(
 {
     match order.style.layout() {
         Some(layout) => rewrite_anew(alloc, order, layout, text, source),
-        None => rewrite_in_place(alloc, order, text, source),
+        None => rewrite_in_place(alloc, order, text, &source),
     }
 }
 
