@@ -50,7 +50,7 @@ impl Source {
         let mut numbers = HashMap::new(alloc);
         for (number, id) in ids.into_iter().enumerate() {
             names.push(id.0.clone()?)?;
-            numbers.insert(id, Text::from_string(format!(in alloc; "{number}")?))?;
+            numbers.insert(id, Text::from_string(alloc, format!(in alloc; "{number}")?)?)?;
         }
         let mut globals = Globals::from_table(alloc, envelope.globals.table())?;
         rename(&numbers).visit_mut_module(alloc, &mut globals, &mut template)?;
@@ -69,7 +69,7 @@ impl Source {
         let mut names = Vec::with_capacity(alloc, self.names.len())?;
         for name in &self.names {
             let number = 10_000 + self.random.next() % 90_000;
-            names.push(Text::from_string(format!(in alloc; "{name}{number}")?))?;
+            names.push(Text::from_string(alloc, format!(in alloc; "{name}{number}")?)?)?;
         }
         Ok(names)
     }

@@ -72,9 +72,9 @@ impl<const MANGLES: bool, const RESETS: bool> Renamer for Numbered<MANGLES, RESE
     fn new_name_for(&self, alloc: Global, _orig: &Id, n: &mut usize) -> Result<JsWord, PassError> {
         let next = n.checked_add(1).ok_or(PassError::CounterSpent)?;
         let count = *n;
-        let name = format!(in alloc; "v{count}")?;
+        let name = Text::from_string(alloc, format!(in alloc; "v{count}")?)?;
         *n = next;
-        Ok(Text::from_string(name))
+        Ok(name)
     }
 
     ghost differ = { λ _ _ m n. differ-decimal (codes "v") m n };

@@ -23,7 +23,7 @@ fn identifier(alloc: Global, kind: Kind, text: String, mark: u32) -> Option<Node
     let ident = Ident {
         span: DUMMY_SP,
         ctxt,
-        sym: Text::from_string(text),
+        sym: Text::from_string(alloc, text).ok()?,
     };
     Some(Node::Identifier(kind, Boxed::new(alloc, ident).ok()?))
 }
@@ -33,7 +33,7 @@ pub fn id_of(alloc: Global, number: u32, mark: u32) -> Option<Id> {
     let mut ctxt = SyntaxContext::empty(alloc);
     ctxt.apply_mark(Mark::from_u32(mark)).ok()?;
     Some((
-        Text::from_string(format!(in alloc; "a{number}x").ok()?),
+        Text::from_string(alloc, format!(in alloc; "a{number}x").ok()?).ok()?,
         ctxt,
     ))
 }

@@ -15,7 +15,7 @@ fn add_text(
     if !texts.contains_key(&id) {
         let count = texts.len();
         let text = format!(in alloc; "v{count}")?;
-        texts.insert(id, Text::from_string(text))?;
+        texts.insert(id, Text::from_string(alloc, text)?)?;
     }
     Ok(())
 }

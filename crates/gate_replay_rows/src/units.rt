@@ -21,11 +21,28 @@ fn changes(alloc: Global) -> Option<bool> {
     Some(is_changed && list.is_empty() && list.get(0).is_none())
 }
 
-// A text given back as a string.
+// A text made of a string and given back as one.
+fn gives_one_back(alloc: Global, text: &str) -> Option<bool> {
+    let copy = Text::new(alloc, text).ok()?.clone().ok()?;
+    let made = Text::from_string(alloc, String::from_str(alloc, text).ok()?).ok()?;
+    let is_same = made == copy && copy.as_str() == text;
+    Some(is_same && made.into_string(alloc).ok()?.as_str() == text)
+}
+
+// Texts about as long as those that take no memory.
 fn gives_back(alloc: Global) -> Option<bool> {
-    let text = Text::new(alloc, "caf\u{e9}").ok()?;
-    let copy = text.clone().ok()?;
-    Some(text == copy && text.into_string().as_str() == copy.as_str())
+    let mut text = String::new(alloc);
+    for _ in 0..50 {
+        if !gives_one_back(alloc, text.as_str())? {
+            return Some(false);
+        }
+        text.push_str("\u{e9}").ok()?;
+        if !gives_one_back(alloc, text.as_str())? {
+            return Some(false);
+        }
+        text.push_str("a").ok()?;
+    }
+    Some(Text::empty().as_str().is_empty())
 }
 
 // The first characters of names of 32 that the library's hash can't tell apart, whatever the last eight

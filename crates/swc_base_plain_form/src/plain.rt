@@ -107,7 +107,7 @@ fn make_number_plain(alloc: Global, node: &mut Node) -> Result<(), NoMemory>
 {
     if let Some(text) = node.as_text() {
         let plain = plain_number(alloc, text)?;
-        *node = Node::Text(Text::from_string(plain));
+        *node = Node::Text(Text::from_string(alloc, plain)?);
     }
     Ok(())
 }
@@ -117,7 +117,7 @@ fn make_big_plain(alloc: Global, node: &mut Node) -> Result<(), NoMemory>
 {
     if let Some(text) = node.as_text() {
         let plain = plain_big(alloc, text)?;
-        *node = Node::Text(Text::from_string(plain));
+        *node = Node::Text(Text::from_string(alloc, plain)?);
     }
     Ok(())
 }

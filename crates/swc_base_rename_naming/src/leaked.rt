@@ -121,7 +121,7 @@ impl Leaked {
         }
         let mut places = places_of(alloc, asked, &self.holders, text.as_str())?;
         add_all(asked.positions(id), &mut places)?;
-        self.places.insert(text.clone()?.into_string(), places)?;
+        self.places.insert(String::from_str(alloc, text.as_str())?, places)?;
         Ok(())
     }
 

@@ -14,6 +14,7 @@ use swc_tree_marks::{JsWord, NoMemory};
 /// program choose names that all collide.
 #[derive(Drop)]
 struct IdsByText {
+    alloc: Global,
     ids: BTreeMap<String, Vec<usize>>,
 }
 
@@ -22,6 +23,7 @@ impl IdsByText {
         ensures { (x : List ℕ) → ids_held result x ≡ [] }
     {
         IdsByText {
+            alloc,
             ids: BTreeMap::new(alloc),
         }
     }
@@ -40,7 +42,7 @@ impl IdsByText {
         ensures pushed { OnOk result (IsGiven text id self.old self.new) }
         ensures refused { OnErr result (IsAsBefore self.old self.new) }
     {
-        give(&mut self.ids, text.into_string(), id)?;
+        give(&mut self.ids, text.into_string(self.alloc)?, id)?;
         Ok(())
     }
 }

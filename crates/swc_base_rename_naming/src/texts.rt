@@ -17,5 +17,5 @@ pub fn numbered(alloc: Global, text: &str, n: usize) -> Result<JsWord, AllocErro
     if n == 0 {
         return Text::new(alloc, text);
     }
-    Ok(Text::from_string(format!(in alloc; "{text}{n}")?))
+    Text::from_string(alloc, format!(in alloc; "{text}{n}")?)
 }

@@ -161,5 +161,5 @@ pub fn short_text(alloc: Global, n: usize) -> Result<JsWord, AllocError>
 {
     let mut text = String::new(alloc);
     push_text(&mut text, LONGEST, past(&WITHHELD, n))?;
-    Ok(Text::from_string(text))
+    Text::from_string(alloc, text)
 }

@@ -18,7 +18,7 @@ fn take_id(alloc: Global, ident: &mut Ident) -> Id
     ensures id { result ≡ id_of ident.old }
     ensures span { ident.new.span ≡ ident.old.span }
 {
-    let sym = mem::replace(&mut ident.sym, Text::from_string(String::new(alloc)));
+    let sym = mem::replace(&mut ident.sym, Text::empty());
     let ctxt = mem::replace(&mut ident.ctxt, SyntaxContext::empty(alloc));
     (sym, ctxt)
 }

@@ -52,7 +52,7 @@ impl Seen {
         let (text, context) = id;
         let mut contexts = self.take(alloc, text.as_str());
         contexts.push(context)?;
-        self.contexts.insert(text.into_string(), contexts)?;
+        self.contexts.insert(text.into_string(alloc)?, contexts)?;
         Ok(())
     }
 }

@@ -20,7 +20,7 @@ fn name_of(alloc: Global, mark: Mark, span: Span, helper: Helper) -> Result<Iden
 {
     let mut text = String::from_str(alloc, "_")?;
     text.push_str(helper.name())?;
-    let sym = Text::from_string(text);
+    let sym = Text::from_string(alloc, text)?;
     let mut ctxt = SyntaxContext::empty(alloc);
     ctxt.apply_mark(mark)?;
     Ok(Ident { span, ctxt, sym })

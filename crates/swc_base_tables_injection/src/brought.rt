@@ -29,7 +29,7 @@ fn joined(alloc: Global, front: &str, back: &str) -> Result<Text, NoMemory>
 {
     let mut text = String::from_str(alloc, front)?;
     text.push_str(back)?;
-    Ok(Text::from_string(text))
+    Ok(Text::from_string(alloc, text)?)
 }
 
 // The name of a helper in the program.

@@ -7,6 +7,7 @@
 
 mod boxed;
 mod items;
+mod short;
 mod text;
 
 pub use boxed::Boxed;

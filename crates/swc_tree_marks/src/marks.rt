@@ -5,6 +5,7 @@ ghost use Rattle.swc_tree_marks.specs.Listed.{listed};
 use crate::mark::Mark;
 use std::alloc::{AllocError, Global};
 use std::{fmt, slice};
+use swc_tree_items::Boxed;
 
 /// Marks in a row, the oldest first.
 ///
@@ -13,17 +14,18 @@ use std::{fmt, slice};
 pub(crate) enum Marks {
     None(Global),
     One(Global, Mark),
-    Several(Vec<Mark>),
+    /// Behind a box, so that what nearly all identifiers have is small.
+    Several(Boxed<Vec<Mark>>),
 }
 
 // Two marks in a row.
-fn two(alloc: Global, first: Mark, second: Mark) -> Result<Vec<Mark>, AllocError>
-    ensures { IfOk result (λ marks. marks.items ≡ first ∷ second ∷ []) }
+fn two(alloc: Global, first: Mark, second: Mark) -> Result<Marks, AllocError>
+    ensures { IfOk result (λ marks. listed marks ≡ first ∷ second ∷ []) }
 {
     let mut marks = Vec::with_capacity(alloc, 2)?;
     marks.push(first)?;
     marks.push(second)?;
-    Ok(marks)
+    Ok(Marks::Several(Boxed::new(alloc, marks)?))
 }
 
 impl Marks {
@@ -33,7 +35,7 @@ impl Marks {
         match self {
             Marks::None(_) => &[],
             Marks::One(_, mark) => slice::from_ref(mark),
-            Marks::Several(marks) => marks.as_slice(),
+            Marks::Several(marks) => marks.get().as_slice(),
         }
     }
 
@@ -48,11 +50,11 @@ impl Marks {
                 Ok(())
             }
             Marks::One(alloc, first) => {
-                *self = Marks::Several(two(*alloc, *first, mark)?);
+                *self = two(*alloc, *first, mark)?;
                 Ok(())
             }
             Marks::Several(marks) => {
-                marks.push(mark)?;
+                marks.get_mut().push(mark)?;
                 Ok(())
             }
         }

@@ -1,0 +1,6 @@
+use Rattle.std.proofs.Common.{rules}
+use Rattle.std.proofs.lemmas.Str.{IsUtf8-had}
+use Rattle.swc_tree_items.proofs.short.ShortText.as_str.Goals as goal
+
+pub from_utf8_unchecked-requires : goal.from_utf8_unchecked-requires
+from_utf8_unchecked-requires c = rw c.from.ensures (IsUtf8-had _ c.self.invariant.1)
