@@ -14,4 +14,8 @@ mod rule;
 mod sound;
 mod statements;
 
+pub use ask::{Ask, Look, Row, look_at};
+pub use names::is_sound_name;
+pub use round::Round;
+pub use rule::{Rule, rule_of};
 pub use sound::keeps_rules;
