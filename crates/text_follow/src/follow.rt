@@ -3,7 +3,7 @@ ghost use Rattle.std.specs.Prelude.{◌≡◌, true, map, IsTrue, IfSome};
 ghost use Rattle.text_follow.specs.Follows.{Follows, InParens, MayInsert, Reads, ReadsAttribute, ReadsHashbang, ReadsThree, Takes, fresh_behind};
 ghost use Rattle.text_follow.specs.Follows as spec;
 ghost use Rattle.text_lexer.specs.Lexical.{token_at as token_there};
-ghost use Rattle.text_lexer.specs.Tokens as token;
+ghost use Rattle.text_lexer.specs.Tokens as tokens;
 ghost use Rattle.text_lexer.specs.Tokens.{token_view};
 ghost use Rattle.text_lexer.specs.declared.token.Goal.TheVariants as goal;
 ghost use Rattle.text_pieces.specs.Tokens.{attribute, parameter, piece_view};
@@ -286,7 +286,7 @@ fn take_here(
 }
 
 fn same_hashbang(token: Token<'_>, wanted: &str) -> bool
-    ensures { IsTrue result → token_view token.entry ≡ token.hashbang wanted.now }
+    ensures { IsTrue result → token_view token.entry ≡ tokens.hashbang wanted.now }
 {
     match token {
         Token::Hashbang(line) => same(line, wanted.as_bytes()),
