@@ -1,0 +1,5 @@
+pub mod Each
+mod Writing
+mod Grammar
+mod Words
+mod Node
