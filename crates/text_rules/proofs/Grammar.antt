@@ -1,24 +1,17 @@
 -- What is derived of a node, by what its rule says.
-use Rattle.std.proofs.Common.{◌≡◌, ℕ, zero, suc, Bool, true, false, not, ◌&&◌, List, [], ◌∷◌, refl, sym, ap, ◌∙◌}
+use Rattle.std.proofs.Common.{◌≡◌, true, not, List, sym, ap, ◌∙◌}
 use Rattle.swc_tree_node.specs.declared.kind.Kind.{Kind}
 use Rattle.swc_tree_node.specs.declared.node.Node.{Node, List as Many, Tree}
 use Rattle.swc_tree_node.specs.declared.node.Node.TheOpen.{Node-F}
-use Rattle.text_derives.specs.declared.ask.Ask.{Ask}
 use Rattle.text_derives.specs.declared.ask.Ask.TheVariants as ask
 use Rattle.text_derives.specs.declared.ask.Look.{Look}
 use Rattle.text_derives.specs.declared.ask.Row.TheVariants as row
 use Rattle.text_derives.specs.declared.rule.Rule.{Rule}
-use Rattle.text_derives.specs.Asks.{meets, seen}
-use Rattle.text_derives.specs.Judged.{all_meet, derived}
+use Rattle.text_derives.specs.Asks.{seen}
+use Rattle.text_derives.specs.Judged.{derived}
 use Rattle.text_derives.specs.Rules.{rule, rule_of}
 use Rattle.text_derives.proofs.Judged.{derived_of_list, derived_of_tree, seen_below}
 use Rattle.text_rules.specs.Asked.{is_derived}
-use Rattle.text_rules.proofs.Each.{EachFrom}
-
--- each child meets what is asked of it
-pub all_kept : (asks : ℕ → Ask) (ts : List Node) → EachFrom (λ j t. meets (asks j) t (derived t) ≡ true) zero ts → all_meet asks ts ≡ true
-all_kept asks [] e = refl
-all_kept asks (t ∷ ts) e = ap (λ b. b && all_meet (λ i. asks (suc i)) ts) e.0 ∙ all_kept (λ i. asks (suc i)) ts e.1
 
 pub of_items : (l : Look) (ts : List Node) → l.met ≡ true → l.goes_on ≡ true → is_derived (rule (not l.in_chain) (row.Each (ask.Derived l.context))) ts ≡ true → seen l (derived (Many ts)) ≡ true
 of_items l ts met on kept = seen_below l (derived (Many ts)) met on ∙ derived_of_list ts l.in_chain l.context ∙ kept

@@ -1,4 +1,3 @@
-pub mod Each
 mod Writing
 mod Grammar
 mod Words

@@ -1,5 +1,6 @@
 -- What is asked of a node holds, by its form; and what follows of a whole program.
-use Rattle.std.proofs.Common.{◌≡◌, ℕ, zero, Bool, true, false, not, ◌&&◌, ◌||◌, IsTrue, List, rules, refl, sym, ap, ◌∙◌}
+use Rattle.std.proofs.Common.{◌≡◌, ℕ, ◌+◌, Bool, true, false, not, ◌&&◌, ◌||◌, IsTrue, List, Some, take, rules, refl, sym, ap, ◌∙◌}
+use Rattle.std.specs.List.{slice_get}
 use Rattle.swc_tree_marks.specs.declared.ident.Ident.{Ident}
 use Rattle.swc_tree_node.specs.declared.kind.Kind.{Kind}
 use Rattle.swc_tree_node.specs.declared.node.Node.{Node, Identifier, the_lemmas}
@@ -9,25 +10,22 @@ use Rattle.swc_tree_grammar.specs.Grammar.{FitsGrammar}
 use Rattle.swc_tree_grammar.specs.Writable.{Writable}
 use Rattle.swc_base_writable.proofs.Law.{agrees}
 use Rattle.swc_base_writable_rules.specs.declared.round.Round.{Round}
-use Rattle.swc_base_writable_rules.specs.Judged.{sounds}
+use Rattle.swc_base_writable_rules.specs.Judged.{all_meet as all_sound, sounds}
 use Rattle.swc_base_writable_rules.specs.Rounds.{sloppy}
-use Rattle.swc_base_writable_rules.specs.Asks.{seen as seen_sound}
-use Rattle.swc_base_writable_rules.proofs.Judged.{sounds_of_name}
+use Rattle.swc_base_writable_rules.specs.Asks.{ask_at as sound_at, seen as seen_sound}
+use Rattle.swc_base_writable_rules.proofs.Judged.{met_next as sound_next, sounds_of_name}
 use Rattle.text_derives.specs.declared.context.Context.{Context}
-use Rattle.text_derives.specs.Asks.{seen as seen_derived}
+use Rattle.text_derives.specs.Asks.{ask_at as derived_at, seen as seen_derived}
 use Rattle.text_derives.specs.Contexts.{whole}
-use Rattle.text_derives.specs.Judged.{derived}
+use Rattle.text_derives.specs.Judged.{all_meet as all_derived, derived}
+use Rattle.text_derives.proofs.Judged.{met_next as derived_next}
 use Rattle.text_derives.proofs.Law.{decides}
 use Rattle.text_pinned.specs.declared.words.Words.{Words}
-use Rattle.text_pinned.specs.Words.{Worded, fits, is_name, meets as meets_words}
-use Rattle.text_pinned.proofs.Read.{fits_of_name}
+use Rattle.text_pinned.specs.Words.{Worded, all_meet as all_worded, ask_at as worded_at, fits, is_name, meets as meets_words}
+use Rattle.text_pinned.proofs.Read.{fits_of_name, met_next as worded_next}
 use Rattle.text_rules.specs.declared.asked.Asked.{Asked}
 use Rattle.text_rules.specs.declared.asked.Rules.{Rules}
 use Rattle.text_rules.specs.Asked.{AreKept, Holds, IsAsAsked, IsMet, leaf_derives, leaf_sounds, name_sounds, of_program}
-use Rattle.text_rules.proofs.Each.{EachFrom, mapped}
-use Rattle.text_rules.proofs.Writing as writing
-use Rattle.text_rules.proofs.Grammar as grammar
-use Rattle.text_rules.proofs.Words as words
 
 -- ---- leaves
 
@@ -55,11 +53,26 @@ name_holds a t k i x is same e = record {
 
 -- ---- several nodes
 
-pub each_kept : (rules : Rules) (ts : List Node) → rules.writing.holds ≡ true → rules.grammar.holds ≡ true → rules.words.holds ≡ true → EachFrom (IsMet rules) zero ts → AreKept rules ts
-each_kept rules ts s d f e = record {
-  writing = ap (λ b. b && _) s ∙ writing.all_kept _ ts (mapped (IsMet rules) _ ts (λ j t m. m.writing) e);
-  grammar = ap (λ b. b && _) d ∙ grammar.all_kept _ ts (mapped (IsMet rules) _ ts (λ j t m. m.grammar) e);
-  words = ap (λ b. b && _) f ∙ words.all_kept _ ts (mapped (IsMet rules) _ ts (λ j t m. m.words) e);
+pub record AllMet (rules : Rules) (ts : List Node) : Type 0 where
+  pub writing : all_sound (sound_at rules.writing.row) ts ≡ true
+  pub grammar : all_derived (derived_at rules.grammar.row) ts ≡ true
+  pub words : all_worded (worded_at rules.words) ts ≡ true
+
+pub none_yet : (rules : Rules) (ts : List Node) → AllMet rules (take 0 ts)
+none_yet rules ts = record { writing = refl; grammar = refl; words = refl }
+
+pub one_more : (rules : Rules) (ts : List Node) (i : ℕ) (c : Node) → slice_get ts i ≡ Some c → AllMet rules (take i ts) → IsMet rules i c → AllMet rules (take (i + 1) ts)
+one_more rules ts i c here before now = record {
+  writing = sound_next (sound_at rules.writing.row) ts i c here before.writing now.writing;
+  grammar = derived_next (derived_at rules.grammar.row) ts i c here before.grammar now.grammar;
+  words = worded_next (worded_at rules.words) ts i c here before.words now.words;
+}
+
+pub all_kept : (rules : Rules) (ts us : List Node) → us ≡ ts → rules.writing.holds ≡ true → rules.grammar.holds ≡ true → rules.words.holds ≡ true → AllMet rules us → AreKept rules ts
+all_kept rules ts us is s d f e = record {
+  writing = ap (λ b. b && all_sound (sound_at rules.writing.row) ts) s ∙ ap (all_sound (sound_at rules.writing.row)) (sym is) ∙ e.writing;
+  grammar = ap (λ b. b && all_derived (derived_at rules.grammar.row) ts) d ∙ ap (all_derived (derived_at rules.grammar.row)) (sym is) ∙ e.grammar;
+  words = ap (λ b. b && all_worded (worded_at rules.words) ts) f ∙ ap (all_worded (worded_at rules.words)) (sym is) ∙ e.words;
 }
 
 -- ---- a program

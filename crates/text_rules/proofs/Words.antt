@@ -1,19 +1,13 @@
 -- Whether words are what they have to be in a node, by what its rule says.
-use Rattle.std.proofs.Common.{◌≡◌, ℕ, zero, suc, Bool, true, false, not, ◌&&◌, List, [], ◌∷◌, refl, sym, ap, ◌∙◌}
+use Rattle.std.proofs.Common.{◌≡◌, true, List, sym, ap, ◌∙◌}
 use Rattle.swc_tree_node.specs.declared.kind.Kind.{Kind}
 use Rattle.swc_tree_node.specs.declared.node.Node.{Node, List as Many, Tree}
 use Rattle.swc_tree_node.specs.declared.node.Node.TheOpen.{Node-F}
 use Rattle.text_pinned.specs.declared.words.Ask.{Ask}
 use Rattle.text_pinned.specs.declared.words.Rule.{Rule}
-use Rattle.text_pinned.specs.Words.{all_meet, ask_at, fits, meets, rule_of, throughout}
+use Rattle.text_pinned.specs.Words.{fits, meets, rule_of, throughout}
 use Rattle.text_pinned.proofs.Read.{fits_of_list, fits_of_tree, met_below}
 use Rattle.text_rules.specs.Asked.{is_worded}
-use Rattle.text_rules.proofs.Each.{EachFrom}
-
--- each child meets what is asked of it
-pub all_kept : (asks : ℕ → Ask) (ts : List Node) → EachFrom (λ j t. meets (asks j) (fits t) ≡ true) zero ts → all_meet asks ts ≡ true
-all_kept asks [] e = refl
-all_kept asks (t ∷ ts) e = ap (λ b. b && all_meet (λ i. asks (suc i)) ts) e.0 ∙ all_kept (λ i. asks (suc i)) ts e.1
 
 pub of_items : (a : Ask) (ts : List Node) (r : Rule) → a.asks ≡ true → r ≡ throughout a.words → is_worded r ts ≡ true → meets a (fits (Many ts)) ≡ true
 of_items a ts r on is kept = met_below a (fits (Many ts)) on ∙ fits_of_list ts a.words ∙ ap (λ (r : Rule). is_worded r ts) (sym is) ∙ kept

@@ -1,24 +1,17 @@
 -- What is sound of a node, by what its rule says.
-use Rattle.std.proofs.Common.{◌≡◌, ℕ, zero, suc, Bool, true, false, not, ◌&&◌, List, [], ◌∷◌, refl, sym, ap, ◌∙◌}
+use Rattle.std.proofs.Common.{◌≡◌, true, not, List, sym, ap, ◌∙◌}
 use Rattle.swc_tree_node.specs.declared.kind.Kind.{Kind}
 use Rattle.swc_tree_node.specs.declared.node.Node.{Node, List as Many, Tree}
 use Rattle.swc_tree_node.specs.declared.node.Node.TheOpen.{Node-F}
-use Rattle.swc_base_writable_rules.specs.declared.ask.Ask.{Ask}
 use Rattle.swc_base_writable_rules.specs.declared.ask.Ask.TheVariants as ask
 use Rattle.swc_base_writable_rules.specs.declared.ask.Look.{Look}
 use Rattle.swc_base_writable_rules.specs.declared.ask.Row.TheVariants as row
 use Rattle.swc_base_writable_rules.specs.declared.rule.Rule.{Rule}
-use Rattle.swc_base_writable_rules.specs.Asks.{meets, seen}
-use Rattle.swc_base_writable_rules.specs.Judged.{all_meet, sounds}
+use Rattle.swc_base_writable_rules.specs.Asks.{seen}
+use Rattle.swc_base_writable_rules.specs.Judged.{sounds}
 use Rattle.swc_base_writable_rules.specs.Rules.{rule, rule_of}
 use Rattle.swc_base_writable_rules.proofs.Judged.{seen_below, sounds_of_list, sounds_of_tree}
 use Rattle.text_rules.specs.Asked.{is_sound}
-use Rattle.text_rules.proofs.Each.{EachFrom}
-
--- each child meets what is asked of it
-pub all_kept : (asks : ℕ → Ask) (ts : List Node) → EachFrom (λ j t. meets (asks j) t (sounds t) ≡ true) zero ts → all_meet asks ts ≡ true
-all_kept asks [] e = refl
-all_kept asks (t ∷ ts) e = ap (λ b. b && all_meet (λ i. asks (suc i)) ts) e.0 ∙ all_kept (λ i. asks (suc i)) ts e.1
 
 pub of_items : (l : Look) (ts : List Node) → l.met ≡ true → l.goes_on ≡ true → is_sound (rule (not l.in_head) (row.Each (ask.Part l.round))) ts ≡ true → seen l (sounds (Many ts)) ≡ true
 of_items l ts met on kept = seen_below l (sounds (Many ts)) met on ∙ sounds_of_list ts l.in_head l.round ∙ kept

@@ -107,7 +107,7 @@ pub fn is_as_asked(node: &Node, asked: Asked) -> bool
     }
 }
 
-// Whether rules hold, and each of several nodes is as they ask, from the last to the first: so they lie in memory where a tree was read.
+// Whether rules hold, and each of several nodes is as they ask.
 #[cycle(walk)]
 fn are_kept(rules: &Rules, nodes: &[Node]) -> bool
     ensures { IsTrue result → AreKept rules.now nodes.now }
@@ -115,7 +115,7 @@ fn are_kept(rules: &Rules, nodes: &[Node]) -> bool
     if !hold(rules) {
         return false;
     }
-    for i in (0..nodes.len()).rev() {
+    for i in 0..nodes.len() {
         let node = &nodes[i];
         if !is_as_asked(node, asked_at(rules, i, node)) {
             return false;
