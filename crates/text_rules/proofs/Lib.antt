@@ -1,4 +1,4 @@
-mod Writing
-mod Grammar
-mod Words
+mod Sound
+mod Derived
+mod Worded
 mod Node

@@ -1,7 +1,7 @@
 use Rattle.swc_tree_node.specs.declared.node.Node.{Tree}
 use Rattle.text_derives.specs.Judged.{derived}
 use Rattle.text_derives.proofs.Judged.{seen_met}
-use Rattle.text_rules.proofs.Grammar.{of_fields}
+use Rattle.text_rules.proofs.Derived.{of_fields}
 use Rattle.text_rules.proofs.grammar.rule_of_tree.Goals as goal
 
 pub returns-then-look : goal.returns-then-look

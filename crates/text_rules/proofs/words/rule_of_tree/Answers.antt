@@ -1,7 +1,7 @@
 use Rattle.swc_tree_node.specs.declared.node.Node.{Tree}
 use Rattle.text_pinned.specs.Words.{fits}
 use Rattle.text_pinned.proofs.Read.{met_unasked}
-use Rattle.text_rules.proofs.Words.{of_fields}
+use Rattle.text_rules.proofs.Worded.{of_fields}
 use Rattle.text_rules.proofs.words.rule_of_tree.Goals as goal
 
 pub returns-then-ask : goal.returns-then-ask

@@ -1,7 +1,7 @@
 use Rattle.swc_tree_node.specs.declared.node.Node.{List as Many}
 use Rattle.swc_base_writable_rules.specs.Judged.{sounds}
 use Rattle.swc_base_writable_rules.proofs.Judged.{seen_met}
-use Rattle.text_rules.proofs.Writing.{of_items}
+use Rattle.text_rules.proofs.Sound.{of_items}
 use Rattle.text_rules.proofs.writing.rule_of_list.Goals as goal
 
 pub returns-then-look : goal.returns-then-look
