@@ -14,5 +14,9 @@ mod level;
 mod rule;
 mod start;
 
+pub use ask::{Ask, Look, Row, look_at};
+pub use context::Context;
+pub use demand::Demand;
 pub use grammar::derives;
+pub use rule::{Rule, rule_of};
 pub use start::begins_with_let_bracket;

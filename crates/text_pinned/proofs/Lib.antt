@@ -1,3 +1,3 @@
 mod Fields
-mod Read
+pub mod Read
 mod Steps

@@ -14,3 +14,4 @@ mod words;
 pub use astray::Astray;
 pub use lax::Lax;
 pub use pinned::{is_pinned, is_pinned_if_straight};
+pub use words::{Ask, Rule, Words, ask_at, is_name, rule_of, throughout};

@@ -35,8 +35,8 @@ fn operators(yields: bool, awaits: bool) -> Words
     Words { yields, awaits }
 }
 
-// Whether a name is no operator.
-fn is_name(text: &str, words: Words) -> bool
+/// Whether a name is no operator.
+pub fn is_name(text: &str, words: Words) -> bool
     ensures { result ≡ spec.is_name text.now words }
 {
     !(words.yields && text == "yield") && !(words.awaits && text == "await")
@@ -73,8 +73,8 @@ fn ruled(holds: bool, second: Ask, others: Ask) -> Rule
     }
 }
 
-// The same words in all fields.
-fn throughout(words: Words) -> Rule
+/// The same words in all fields.
+pub fn throughout(words: Words) -> Rule
     ensures { result ≡ spec.throughout words }
 {
     ruled(true, asked(words), asked(words))
@@ -138,7 +138,8 @@ fn unasked() -> Rule
     ruled(true, nothing(), nothing())
 }
 
-fn rule_of(kind: Kind, fields: &[Node], words: Words) -> Rule
+/// What is asked of a tree where these words are operators.
+pub fn rule_of(kind: Kind, fields: &[Node], words: Words) -> Rule
     ensures { result ≡ spec.rule_of words (Node-F.Tree kind fields.now) }
 {
     match kind {
@@ -151,8 +152,8 @@ fn rule_of(kind: Kind, fields: &[Node], words: Words) -> Rule
     }
 }
 
-// What is asked of the field of a number.
-fn ask_at(rule: Rule, index: usize) -> Ask
+/// What is asked of the field of a number.
+pub fn ask_at(rule: Rule, index: usize) -> Ask
     ensures { result ≡ spec.ask_at rule index }
 {
     if index == 1 { rule.second } else { rule.others }

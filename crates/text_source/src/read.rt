@@ -6,14 +6,13 @@ ghost use Rattle.swc_tree_node.specs.declared.slot.Content.TheVariants as conten
 ghost use Rattle.swc_tree_node.specs.declared.slot.Slot.TheVariants as slot;
 ghost use Rattle.swc_tree_node.specs.Fits.{Fits};
 ghost use Rattle.swc_tree_scoping.specs.WellScoped.{IsClean};
-ghost use Rattle.swc_tree_walk.specs.Nodes.{HasNode};
 ghost use Rattle.text_checks.specs.Checked.{IsWellFormed};
 ghost use Rattle.text_follow.specs.Follows.{Follows};
 ghost use Rattle.text_follow.specs.Stands.{Stands};
 ghost use Rattle.text_pieces.specs.Frames.{first_span as span_of_first};
 ghost use Rattle.text_pieces.specs.Pieces.{framed_pieces, pieces as tokens_of};
 ghost use Rattle.text_pieces.specs.Tokens.{piece_view};
-ghost use Rattle.text_pinned.specs.Pinned.{IsPinned, is_astray};
+ghost use Rattle.text_pinned.specs.Pinned.{IsPinned};
 ghost use Rattle.text_reader.specs.declared.fault.TextFault.TheVariants as fault;
 ghost use Rattle.text_source.specs.Texts as spec;
 ghost use Rattle.text_source.specs.Texts.{IsTextOf, IsWhole, SpansAreOf, Tells, most_bytes};
@@ -27,7 +26,6 @@ use text_follow::follows;
 use text_lexer::Comments;
 use text_parser::{Goal, TextFault, parse};
 use text_pieces::Piece;
-use text_pinned::is_pinned_if_straight;
 use text_table::fits;
 use text_walk::{first_span, pieces, tree_stands};
 
@@ -62,15 +60,6 @@ fn stands(goal: Goal, tree: &Node) -> bool
     ensures { IsTrue result → Fits tree.now (spec.slot_of goal) }
 {
     fits(tree, slot_of(goal))
-}
-
-// Whether it is the one that its tokens say, where the grammar leaves a choice.
-fn is_exact(goal: Goal, tree: &Node) -> bool
-    requires straight { HasNode is_astray tree.now → ⊥ }
-    requires fits { Fits tree.now (spec.slot_of goal) }
-    ensures { IsTrue result → IsPinned tree.now }
-{
-    is_pinned_if_straight(tree)
 }
 
 fn is_written(goal: Goal, text: &[u8], pieces: &[Piece<'_>]) -> bool
@@ -222,9 +211,6 @@ fn held(goal: Goal, tree: Node, text: &[u8]) -> Result<Node, TextFault>
     ensures refusal { IfErr result (Tells text.now) }
 {
     if !is_formed(slot_of(goal), &tree, text) {
-        return Err(TextFault::NotTheText);
-    }
-    if !is_exact(goal, &tree) {
         return Err(TextFault::NotTheText);
     }
     if !has_nodes(goal, &tree, text) {

@@ -7,7 +7,7 @@ ghost use Rattle.swc_tree_scoping.specs.WellScoped.{IsClean};
 ghost use Rattle.swc_tree_walk.specs.Nodes.{HasNode};
 ghost use Rattle.text_checks.specs.Checked.{IsWellFormed};
 ghost use Rattle.text_grammar.specs.Shaped.{Shaped};
-ghost use Rattle.text_pinned.specs.Pinned.{is_astray};
+ghost use Rattle.text_pinned.specs.Pinned.{IsPinned, is_astray};
 ghost use Rattle.text_source.specs.Amiss as spec;
 ghost use Rattle.text_spans.specs.Leaves.{LeavesStand};
 ghost use Rattle.text_spelling.specs.Spelled.{Spelled};
@@ -17,7 +17,8 @@ use swc_tree_node::{Node, Slot};
 use swc_tree_walk::Finder;
 use text_derives::derives;
 use text_grammar::Misshapen;
-use text_pinned::Astray;
+use text_pinned::{Astray, is_pinned_if_straight};
+use text_rules::keeps_all_rules;
 use text_spans::Misplaced;
 use text_spelling::Misspelled;
 use text_table::fits_without;
@@ -85,10 +86,43 @@ fn is_derived(tree: &Node) -> bool
     derives(tree)
 }
 
-/// Whether a text can have a tree: the table, lengths, leaves and the grammar; and whether its leaves stand there, no node is astray,
-/// and no identifier has a context.
+// Whether it is the one that its tokens say, where the grammar leaves a choice.
+fn is_exact(slot: Slot, tree: &Node) -> bool
+    requires straight { HasNode is_astray tree.now → ⊥ }
+    requires fits { Fits tree.now slot }
+    ensures { IsTrue result → IsPinned tree.now }
+{
+    is_pinned_if_straight(tree)
+}
+
+// The same of a tree that keeps the rules of all code, by one walk.
+fn keeps_rules(slot: Slot, tree: &Node) -> bool
+    requires straight { HasNode is_astray tree.now → ⊥ }
+    requires fits { Fits tree.now slot }
+    ensures derived { IsTrue result → FitsGrammar tree.now }
+    ensures pinned { IsTrue result → IsPinned tree.now }
+{
+    keeps_all_rules(tree)
+}
+
+// Whether the grammar derives a tree, and it is the one that its tokens say. What only sloppy code has takes more walks than one.
+fn is_program(slot: Slot, tree: &Node) -> bool
+    requires straight { HasNode is_astray tree.now → ⊥ }
+    requires fits { Fits tree.now slot }
+    ensures derived { IsTrue result → FitsGrammar tree.now }
+    ensures pinned { IsTrue result → IsPinned tree.now }
+{
+    if keeps_rules(slot, tree) {
+        return true;
+    }
+    is_derived(tree) && is_exact(slot, tree)
+}
+
+/// Whether a text can have a tree: the table, lengths, leaves and the grammar, where it leaves a choice the tokens; and whether its leaves
+/// stand there, and no identifier has a context.
 pub(crate) fn is_formed(slot: Slot, tree: &Node, text: &[u8]) -> bool
     ensures formed { IsTrue result → IsWellFormed slot tree.now }
+    ensures pinned { IsTrue result → IsPinned tree.now }
     ensures leaves { IsTrue result → LeavesStand text.now tree.now }
     ensures straight { IsTrue result → HasNode is_astray tree.now → ⊥ }
     ensures clean { IsTrue result → IsClean tree.now }
@@ -96,5 +130,5 @@ pub(crate) fn is_formed(slot: Slot, tree: &Node, text: &[u8]) -> bool
     if !is_sound(slot, tree, text) {
         return false;
     }
-    is_derived(tree)
+    is_program(slot, tree)
 }

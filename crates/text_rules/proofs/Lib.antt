@@ -1,0 +1,4 @@
+mod Sound
+mod Derived
+mod Worded
+mod Node
