@@ -2,6 +2,7 @@
 #![tactic(auto)]
 
 mod command_line;
+mod offers;
 mod task;
 mod version;
 
