@@ -39,19 +39,68 @@ def IsLastBegun(places, limit, n):
 
 def IsFirstBegun(places, limit, n):
     begun = [m for form, m in places if form == 'Leads' and limit <= m]
-    return bool(begun) and n == min(begun)
+    return n < 2 ** 32 and bool(begun) and n == min(begun)
 
 
-def IsChosen(places, k, at):
+def StopsBefore(places, k):
+    return 0 < k.trails and Contains(places, ('Trails', k.trails))
+
+
+def BeginsBehind(places, k):
+    return Contains(places, ('Leads', k.leads))
+
+
+def ClosesBehind(places, k):
+    return k.leads + 1 < 2 ** 32 and Contains(places, ('Trails', k.leads + 1))
+
+
+def IsAlone(places, k):
+    return not StopsBefore(places, k) and not BeginsBehind(places, k)
+
+
+def stops_before(places, k):
+    """each n for which `IsLastStop` holds"""
+    return [n for n in {n for form, n in places if form == 'Trails'} if IsLastStop(places, k.trails, n)]
+
+
+def begins_behind(places, k):
+    return [n for n in {n for form, n in places if form == 'Leads'} if IsFirstBegun(places, k.leads, n)]
+
+
+def IsNearest(places, k, at):
     form, n = at
-    if form == 'Leads':
-        return n == k.leads or IsFirstBegun(places, k.leads, n) or IsLastBegun(places, k.trails, n)
-    return n == k.leads + 1 or IsLastStop(places, k.trails, n)
+    if form == 'Trails':
+        return IsLastStop(places, k.trails, n) and all(max(0, k.trails - n) <= max(0, m - k.leads) for m in begins_behind(places, k))
+    return IsFirstBegun(places, k.leads, n) and all(max(0, n - k.leads) < max(0, k.trails - m) for m in stops_before(places, k))
 
 
-def AreChosen(D, text, places, comments, remarks):
+def IsFound(D, text, places, k, at):
+    line = D.text_commented.Chosen.begins_line(text, k)
+    if at == ('Trails', k.trails) and StopsBefore(places, k) and not (BeginsBehind(places, k) and line):
+        return True
+    if at == ('Leads', k.leads) and BeginsBehind(places, k) and (not StopsBefore(places, k) or line):
+        return True
+    if at == ('Trails', k.leads + 1) and IsAlone(places, k) and ClosesBehind(places, k):
+        return True
+    return IsAlone(places, k) and not ClosesBehind(places, k) and IsNearest(places, k, at)
+
+
+def IsCaught(D, text, tight, k, at):
+    return D.text_comments.Lines.ends_line(D.text_commented.Commented.written(text, k)) and Contains(tight, at)
+
+
+def IsChosen(D, text, places, tight, k, at):
+    found = [a for a in set(places) | {('Leads', k.leads), ('Trails', k.trails), ('Trails', k.leads + 1)} if IsFound(D, text, places, k, a)]
+    caught, begun = [a for a in found if IsCaught(D, text, tight, k, a)], [n for form, n in places if form == 'Leads' and IsLastBegun(places, k.trails, n)]
+    if at in found and at not in caught or caught and at[0] == 'Leads' and at[1] in begun:
+        return True
+    return at == ('Leads', k.leads) and (not found or bool(caught) and not begun)
+
+
+def AreChosen(D, text, framed, comments, remarks):
+    places, tight = D.text_commented.Places.all_places(framed), D.text_commented.Places.tight_places(framed)
     return len(comments) == len(remarks) and all(
-        r.text == D.text_commented.Commented.written(text, k) and IsChosen(places, k, r.at) for k, r in zip(comments, remarks))
+        r.text == D.text_commented.Commented.written(text, k) and IsChosen(D, text, places, tight, k, r.at) for k, r in zip(comments, remarks))
 
 
 # ---- Why

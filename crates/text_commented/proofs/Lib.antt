@@ -1,3 +1,4 @@
+pub mod Chosen
 pub mod Ends
 pub mod Listed
 pub mod Puts

@@ -50,9 +50,13 @@ abbrev pub not_put : ℕ → List Bool → List ℕ
 not_put n [] = []
 not_put n (u ∷ us) = if u then not_put (n + 1) us else n ∷ not_put (n + 1) us
 
--- a comment of a text as it is written there; places are in bytes from 1
+-- what stands in a text from one place to another; places are in bytes from 1
+abbrev pub part : List ℕ → ℕ → ℕ → List ℕ
+part whole from to = take (to - from) (drop (from - 1) whole)
+
+-- a comment of a text as it is written there
 abbrev pub written : List ℕ → Comment → List ℕ
-written whole k = take (k.span.hi - k.span.lo) (drop (k.span.lo - 1) whole)
+written whole k = part whole k.span.lo k.span.hi
 
 -- Behind a token none of the comments before it is due any more; a piece without one leaves them due.
 abbrev pub due_behind : List ℕ → List ℕ → List (List ℕ) → List (List ℕ)

@@ -2,7 +2,6 @@
 ghost use Rattle.std.specs.Prelude.{List, false, length, map, replicate, IfOk, OnOk};
 ghost use Rattle.text_commented.specs.Chosen.{AreChosen};
 ghost use Rattle.text_commented.specs.Commented.{IsCommented, IsSet, IsWrittenWith, PutsAmong};
-ghost use Rattle.text_commented.specs.Places.{all_places};
 ghost use Rattle.text_commented.specs.Steps.{merged, placed_view};
 ghost use Rattle.text_commented.specs.declared.remark.Remark.{Remark};
 ghost use Rattle.text_follow.specs.Follows.{Follows};
@@ -197,7 +196,7 @@ pub fn print_text_with_those_of(
     text: &[u8],
     found: &[Comment],
 ) -> Result<Printed, SetFault>
-    ensures { IfOk result (λ out. (rs : List Remark) × AreChosen text.now (all_places (framed_of tree.now)) found.now rs × IsCommented comments tree.now rs out.text.items out.left.items) }
+    ensures { IfOk result (λ out. (rs : List Remark) × AreChosen text.now (framed_of tree.now) found.now rs × IsCommented comments tree.now rs out.text.items out.left.items) }
 {
     let list = framed_pieces(alloc, tree)?;
     let pieces = list.as_slice();
