@@ -50,7 +50,10 @@ impl Source {
         let mut numbers = HashMap::new(alloc);
         for (number, id) in ids.into_iter().enumerate() {
             names.push(id.0.clone()?)?;
-            numbers.insert(id, Text::from_string(alloc, format!(in alloc; "{number}")?)?)?;
+            numbers.insert(
+                id,
+                Text::from_string(alloc, format!(in alloc; "{number}")?)?,
+            )?;
         }
         let mut globals = Globals::from_table(alloc, envelope.globals.table())?;
         rename(&numbers).visit_mut_module(alloc, &mut globals, &mut template)?;

@@ -1,5 +1,6 @@
 -- What was read, made and written, in one.
-use Rattle.std.proofs.Common.{◌≡◌, false, ℕ, List, [], Some, None, inl, inr, refl, sym, subst, Result, Ok, Err, IfOk, IfErr, MatchResult}
+use Rattle.std.proofs.Common.{◌≡◌, true, false, ℕ, List, [], Some, None, inl, inr, refl, sym, ap, subst, ◌∙◌, Result, Ok, Err, IfOk, IfErr, MatchResult}
+use Rattle.std.specs.Cmp.Lexicographic.{pointwise}
 use Rattle.std.specs.Prelude.{Vec}
 use Rattle.swc_tree_marks.specs.declared.error.PassError.{PassError}
 use Rattle.swc_tree_marks.specs.declared.error.PassError.TheVariants as refusal
@@ -9,7 +10,10 @@ use Rattle.text_reader.specs.declared.fault.TextFault.{TextFault}
 use Rattle.text_reader.specs.declared.fault.TextFault.TheVariants as text
 use Rattle.text_follow.specs.Follows.{Follows}
 use Rattle.text_lexer.specs.declared.blank.Comments.{Comments}
+use Rattle.text_edit.specs.Alike.{alike}
+use Rattle.text_edit.specs.Edits.{IsEdited, IsRenamed}
 use Rattle.text_pieces.specs.Pieces.{pieces}
+use Rattle.text_pieces.specs.Tokens.{Piece}
 use Rattle.text_source.specs.Texts.{Tells, comments_of}
 use Rattle.mucwathi_order.specs.declared.order.Order.{Order}
 use Rattle.mucwathi_order.specs.declared.order.Style.{Style}
@@ -24,6 +28,16 @@ use Rattle.mucwathi_commands.specs.Faults.{IsRunFault, IsWriteFault}
 use Rattle.mucwathi_commands.specs.declared.write.RewrittenText.{RewrittenText}
 use Rattle.mucwathi_commands.specs.Looks.{IsUncovered}
 use Rattle.mucwathi_commands.specs.Written.{IsKept, IsReadAs, IsRewritten, IsWritten}
+
+-- what is edited from pieces, of the source that has them
+pub kept_from : (c : Comments) (source answer : Node) (text out : List ℕ) (ps : List Piece) → ps ≡ pieces source → Follows c true (pieces answer) out → (ps ≡ pieces answer → out ≡ text)
+    → (pointwise alike ps (pieces answer) ≡ true → IsRenamed c ps (pieces answer) text out) → IsEdited c ps (pieces answer) text out → IsKept c source answer text out
+kept_from c source answer text out ps is follows same names edited = record {
+  follows = follows;
+  edited = subst (λ qs. IsEdited c qs (pieces answer) text out) is edited;
+  same = λ h. same (is ∙ h);
+  names = λ h. subst (λ qs. IsRenamed c qs (pieces answer) text out) is (names (ap (λ qs. pointwise alike qs (pieces answer)) is ∙ h));
+}
 
 -- what is written strictly, where it is laid out anew
 pub anew : (s : Style) (l : Layout) (c : Comments) (source answer : Node) (bytes out : List ℕ) → layout_of s ≡ Some l → Follows c false (pieces answer) out → IsWritten s c source answer bytes out

@@ -3,6 +3,7 @@
 //! `specs/Written.antt` says what: `IsRewritten`.
 #![tactic(auto)]
 
+mod apart;
 mod cover;
 mod judge;
 mod places;

@@ -1,7 +1,8 @@
 //! From text to text.
-ghost use Rattle.std.specs.Prelude.{◌≡◌, Some, None, IfSome, MatchResult};
+ghost use Rattle.std.specs.Prelude.{◌≡◌, Some, None, map, IfSome, MatchResult};
 ghost use Rattle.text_comments.specs.Comments.{HasComments};
 ghost use Rattle.text_pieces.specs.Pieces.{pieces};
+ghost use Rattle.text_pieces.specs.Tokens.{piece_view};
 ghost use Rattle.text_printer.specs.declared.lay_out.Layout.TheVariants as layouts;
 ghost use Rattle.text_source.specs.Texts.{comments_of};
 ghost use Rattle.mucwathi_order.specs.Styles.{layout_of};
@@ -9,7 +10,8 @@ ghost use Rattle.mucwathi_commands.specs.Comments.{IsRewrittenWith};
 ghost use Rattle.mucwathi_commands.specs.Faults.{IsRunFault};
 ghost use Rattle.mucwathi_commands.specs.Written.{IsReadAs, IsRewritten};
 
-use crate::write::{RewrittenText, comments_in, edit, print_compact, print_with};
+use crate::apart::{pieces_again, texts_of};
+use crate::write::{RewrittenText, comments_in, edit_by, print_compact, print_with};
 use mucwathi_faults::RunFault;
 use mucwathi_order::Order;
 use mucwathi_passes::make;
@@ -17,8 +19,10 @@ use std::alloc::Global;
 use swc_tree_marks::PassError;
 use swc_tree_node::Node;
 use text_comments::Comment;
+use text_pieces::Piece;
 use text_printer::Layout;
-use text_source::read_text;
+use text_source::read_text_in_order;
+use text_walk::pieces as pieces_in;
 
 // What a command makes of a program, written anew with comments of its text.
 fn rewrite_with(
@@ -91,21 +95,21 @@ fn rewrite_anew(
     }
 }
 
-// What a command makes of a copy of a program, with the layout and the comments of its text.
-fn rewrite_copy(
+// What a command makes of a program, with the layout and the comments of its text, which has these pieces.
+fn rewrite_from(
     alloc: Global,
     order: &Order,
     text: &[u8],
-    source: &Node,
-    copy: Node,
+    before: &Option<Vec<Piece<'_>>>,
+    source: Node,
 ) -> Result<Vec<u8>, RunFault>
-    requires read { IsReadAs order.now.goal source.now text.now }
-    requires same { copy ≡ source.now }
+    requires read { IsReadAs order.now.goal source text.now }
+    requires pieces { IfSome before.now (λ old. map piece_view old.items ≡ pieces source) }
     requires kept { layout_of order.now.style ≡ None }
     ensures { MatchResult result (λ out. IsRewritten order.now text.now out.items) (IsRunFault order.now text.now) }
 {
-    match make(alloc, order.command, &order.settings, copy) {
-        Ok(answer) => edit(alloc, order.goal, text, source, &answer),
+    match make(alloc, order.command, &order.settings, source) {
+        Ok(answer) => edit_by(alloc, order.goal, text, before, &answer),
         Err(error) => Err(RunFault::Refused(error)),
     }
 }
@@ -115,16 +119,22 @@ fn rewrite_kept(
     alloc: Global,
     order: &Order,
     text: &[u8],
-    source: &Node,
+    source: Node,
 ) -> Result<Vec<u8>, RunFault>
-    requires read { IsReadAs order.now.goal source.now text.now }
+    requires read { IsReadAs order.now.goal source text.now }
     requires kept { layout_of order.now.style ≡ None }
     ensures { MatchResult result (λ out. IsRewritten order.now text.now out.items) (IsRunFault order.now text.now) }
 {
-    match source.clone() {
-        Ok(copy) => rewrite_copy(alloc, order, text, source, copy),
-        Err(_) => Err(RunFault::Refused(PassError::NoMemory)),
-    }
+    let Ok(found) = pieces_in(alloc, &source) else {
+        return Err(RunFault::Refused(PassError::NoMemory));
+    };
+    let Ok(texts) = texts_of(alloc, &found) else {
+        return Err(RunFault::Refused(PassError::NoMemory));
+    };
+    let Ok(before) = pieces_again(alloc, texts.as_str(), found) else {
+        return Err(RunFault::Refused(PassError::NoMemory));
+    };
+    rewrite_from(alloc, order, text, &before, source)
 }
 
 // The same, and that no comment is lost.
@@ -132,9 +142,9 @@ fn rewrite_in_place(
     alloc: Global,
     order: &Order,
     text: &[u8],
-    source: &Node,
+    source: Node,
 ) -> Result<RewrittenText, RunFault>
-    requires read { IsReadAs order.now.goal source.now text.now }
+    requires read { IsReadAs order.now.goal source text.now }
     requires kept { layout_of order.now.style ≡ None }
     ensures { MatchResult result (λ made. IsRewrittenWith order.now text.now made.out.items made.lost.items) (IsRunFault order.now text.now) }
 {
@@ -159,7 +169,7 @@ fn rewrite_source(
 {
     match order.style.layout() {
         Some(layout) => rewrite_anew(alloc, order, layout, text, source),
-        None => rewrite_in_place(alloc, order, text, &source),
+        None => rewrite_in_place(alloc, order, text, source),
     }
 }
 
@@ -176,7 +186,7 @@ pub fn rewrite_with_comments(
 ) -> Result<RewrittenText, RunFault>
     ensures { MatchResult result (λ made. IsRewrittenWith order.now text.now made.out.items made.lost.items) (IsRunFault order.now text.now) }
 {
-    match read_text(alloc, order.goal, order.depth, text) {
+    match read_text_in_order(alloc, order.goal, order.depth, text) {
         Ok(source) => rewrite_source(alloc, order, text, source),
         Err(fault) => Err(RunFault::of_text(fault)),
     }

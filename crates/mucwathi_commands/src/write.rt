@@ -4,6 +4,7 @@ ghost use Rattle.swc_tree_node.specs.declared.node.Node.{Node};
 ghost use Rattle.text_comments.specs.Comments.{HasComments};
 ghost use Rattle.text_follow.specs.Follows.{Follows};
 ghost use Rattle.text_pieces.specs.Pieces.{pieces as pieces_of};
+ghost use Rattle.text_pieces.specs.Tokens.{piece_view};
 ghost use Rattle.text_source.specs.Texts as texts;
 ghost use Rattle.mucwathi_commands.specs.Comments as spec;
 ghost use Rattle.mucwathi_commands.specs.Comments.{AreWrittenAgain};
@@ -17,8 +18,9 @@ use swc_tree_marks::PassError;
 use swc_tree_node::Node;
 use text_commented::{Left, SetFault, print_text_with_those_of};
 use text_comments::{Comment, CommentsFault, find_comments};
-use text_edit::{EditFault, edit_text};
+use text_edit::{EditFault, edit_text, edit_text_from};
 use text_lexer::Comments;
+use text_pieces::Piece;
 use text_printer::{Layout, PrintFault, print_text};
 
 /// What is written for a text, and how many bytes are before each comment of the text that is not in it.
@@ -193,5 +195,43 @@ pub fn edit(
         Ok(out) => Ok(out),
         Err(EditFault::NoMemory) => Err(RunFault::Refused(PassError::NoMemory)),
         Err(EditFault::OtherText | EditFault::NotTheText) => Err(RunFault::NotKept),
+    }
+}
+
+fn edit_from(
+    alloc: Global,
+    goal: Goal,
+    text: &[u8],
+    before: &[Piece<'_>],
+    answer: &Node,
+) -> Result<Vec<u8>, RunFault>
+    ensures kept { (source : Node) → map piece_view before.now ≡ pieces_of source → IfOk result (λ out. IsKept (texts.comments_of goal) source answer.now text.now out.items) }
+    ensures fault { IfErr result IsWriteFault }
+{
+    match edit_text_from(alloc, comments_of(goal), text, before, answer) {
+        Ok(out) => Ok(out),
+        Err(EditFault::NoMemory) => Err(RunFault::Refused(PassError::NoMemory)),
+        Err(EditFault::OtherText | EditFault::NotTheText) => Err(RunFault::NotKept),
+    }
+}
+
+/// The same where the pieces of the source's text are at hand; where they are not, the layout is not kept.
+///
+/// # Errors
+///
+/// Those of `edit`.
+pub(crate) fn edit_by(
+    alloc: Global,
+    goal: Goal,
+    text: &[u8],
+    before: &Option<Vec<Piece<'_>>>,
+    answer: &Node,
+) -> Result<Vec<u8>, RunFault>
+    ensures kept { (source : Node) → IfSome before.now (λ old. map piece_view old.items ≡ pieces_of source) → IfOk result (λ out. IsKept (texts.comments_of goal) source answer.now text.now out.items) }
+    ensures fault { IfErr result IsWriteFault }
+{
+    match before {
+        Some(old) => edit_from(alloc, goal, text, old.as_slice(), answer),
+        None => Err(RunFault::NotKept),
     }
 }

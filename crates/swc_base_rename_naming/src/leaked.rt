@@ -121,7 +121,8 @@ impl Leaked {
         }
         let mut places = places_of(alloc, asked, &self.holders, text.as_str())?;
         add_all(asked.positions(id), &mut places)?;
-        self.places.insert(String::from_str(alloc, text.as_str())?, places)?;
+        let key = String::from_str(alloc, text.as_str())?;
+        self.places.insert(key, places)?;
         Ok(())
     }
 

@@ -65,7 +65,8 @@ impl Tried {
         ensures { OnOk result ((s : ℕ) (x : List ℕ) → tried_at self.new s x ≡ (if scope == s then (if bytes_eq text x then counter else tried_at self.old s x) else 0)) }
     {
         self.enter(alloc, scope);
-        self.counters.insert(text.into_string(alloc)?, counter)?;
+        let key = text.into_string(alloc)?;
+        self.counters.insert(key, counter)?;
         Ok(())
     }
 }

@@ -52,7 +52,8 @@ impl Seen {
         let (text, context) = id;
         let mut contexts = self.take(alloc, text.as_str());
         contexts.push(context)?;
-        self.contexts.insert(text.into_string(alloc)?, contexts)?;
+        let key = text.into_string(alloc)?;
+        self.contexts.insert(key, contexts)?;
         Ok(())
     }
 }

@@ -90,6 +90,10 @@ ReadsAttribute c fresh text key value rest =
     ReadsThree c fresh text (name key) (punctuator mark.Colon) (quoted value None) rest
     ⊎ ReadsThree c fresh text (quoted key None) (punctuator mark.Colon) (quoted value None) rest
 
+-- `#!` begins the text, with no blank before it (12.5)
+abbrev pub ReadsHashbang : Bool → List ℕ → List ℕ → List ℕ → Type 0
+ReadsHashbang fresh text a rest = (fresh ≡ true) × (token_at goal.HashbangOrRegExp text ≡ Ok (token.hashbang a, rest))
+
 -- `soft` says that what a tree doesn't tell may be there or not: semicolons, commas behind a last item, parentheses round one
 -- parameter, the braces of an import of nothing
 abbrev pub Takes : Comments → Bool → Bool → Ending → Piece → List ℕ → List ℕ → Type 0
@@ -101,6 +105,7 @@ Takes c soft fresh e may_braces text rest =
     ((soft ≡ true) × ReadsThree c fresh text (punctuator mark.Comma) (punctuator mark.LeftBrace) (punctuator mark.RightBrace) rest) ⊎ (rest ≡ text)
 Takes c soft fresh e (parameter a) text rest = InParens c soft fresh text a rest ⊎ ((soft ≡ true) × Reads c fresh text (name a) rest)
 Takes c soft fresh e (attribute key value) text rest = ReadsAttribute c fresh text key value rest
+Takes c soft fresh e (hashbang a) text rest = ReadsHashbang fresh text a rest
 Takes c soft fresh e here text rest = ((next : List ℕ) × (blank c fresh text ≡ Some (false, next))) × (rest ≡ text)
 Takes c soft fresh e (closes f) text rest = rest ≡ text
 Takes c soft fresh e (gap g) text rest = rest ≡ text

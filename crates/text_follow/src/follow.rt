@@ -1,16 +1,18 @@
 //! A text held against the pieces of a tree.
 ghost use Rattle.std.specs.Prelude.{◌≡◌, true, map, IsTrue, IfSome};
-ghost use Rattle.text_follow.specs.Follows.{Follows, InParens, MayInsert, Reads, ReadsAttribute, ReadsThree, Takes, fresh_behind};
+ghost use Rattle.text_follow.specs.Follows.{Follows, InParens, MayInsert, Reads, ReadsAttribute, ReadsHashbang, ReadsThree, Takes, fresh_behind};
 ghost use Rattle.text_follow.specs.Follows as spec;
 ghost use Rattle.text_lexer.specs.Lexical.{token_at as token_there};
+ghost use Rattle.text_lexer.specs.Tokens as tokens;
+ghost use Rattle.text_lexer.specs.Tokens.{token_view};
 ghost use Rattle.text_lexer.specs.declared.token.Goal.TheVariants as goal;
 ghost use Rattle.text_pieces.specs.Tokens.{attribute, parameter, piece_view};
 
 use crate::ending::{ending_behind, goes_on, is_loop};
 use crate::plain::take_plain;
-use crate::spell::{goal_of, spells};
+use crate::spell::{goal_of, same, spells};
 use text_characters::byte_at;
-use text_lexer::{Comments, Goal, Mark, skip_blank, token_at};
+use text_lexer::{Comments, Goal, Mark, Token, skip_blank, token_at};
 use text_pieces::{Ending, Piece};
 
 // What is left behind a token, if the text begins with it.
@@ -283,6 +285,33 @@ fn take_here(
     }
 }
 
+fn same_hashbang(token: Token<'_>, wanted: &str) -> bool
+    ensures { IsTrue result → token_view token.entry ≡ tokens.hashbang wanted.now }
+{
+    match token {
+        Token::Hashbang(line) => same(line, wanted.as_bytes()),
+        _ => false,
+    }
+}
+
+fn take_hashbang<'a>(fresh: bool, text: &'a [u8], wanted: &str) -> Option<&'a [u8]>
+    ensures { IfSome result (λ rest. ReadsHashbang fresh text.now wanted.now rest.now) }
+{
+    if !fresh {
+        return None;
+    }
+    match token_at(Goal::HashbangOrRegExp, text) {
+        Ok((token, rest)) => {
+            if same_hashbang(token, wanted) {
+                Some(rest)
+            } else {
+                None
+            }
+        }
+        Err(_) => None,
+    }
+}
+
 // The same of any piece, whatever its first bytes are.
 fn take_any<'a>(
     comments: Comments,
@@ -312,8 +341,8 @@ fn take_any<'a>(
         | Piece::BigInt(_)
         | Piece::Quoted(_, _)
         | Piece::Template(_, _, _)
-        | Piece::Regex(_, _)
-        | Piece::Hashbang(_) => read(comments, fresh, text, piece),
+        | Piece::Regex(_, _) => read(comments, fresh, text, piece),
+        Piece::Hashbang(line) => take_hashbang(fresh, text, line),
     }
 }
 

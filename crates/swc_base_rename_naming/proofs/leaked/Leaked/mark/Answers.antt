@@ -36,7 +36,7 @@ returns-clause-marked g c =
     = λ p. c.in_ok-add_all-2.ensures p
     ∙ ap (λ b. b || list_any (λ q. q == p) c.positions-2.result.now) (c.in_ok-places.ensures p ∙ ap (λ t. list_any (is_at positions p) (ids_of was.holders t)) c.as_str-3.ensures)
     ∙ ap (λ qs. list_any (is_at positions p) (ids_of was.holders text) || list_any (λ q. q == p) qs) c.positions-2.ensures in
-    let key = c.into_string.result in
+    let key = c.in_ok-key.key in
     let named : string_bytes key ≡ text = search rules in
     let mid = c.get_mut.follows.lender-at-none in
     let same : mid ≡ was.places = search rules in

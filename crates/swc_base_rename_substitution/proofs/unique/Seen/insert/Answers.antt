@@ -14,4 +14,4 @@ returns c = λ x. (
     (c.take-contexts.ensures.taken ∙ ap (contexts_of before) c.as_str.ensures)
     c.in_ok-push.ensures.ok
     (c.take-contexts.ensures.left x.0 ∙ ap (λ t. if bytes_eq t x.0 then None else get_by_text before x.0) c.as_str.ensures)
-    (btree_map_updates_text _ left c.insert.new.self (Some c.push.new.self) c.in_ok-insert.ensures.updates x.0 ∙ ap (λ t. if bytes_eq t x.0 then Some c.push.new.self else get_by_text left x.0) c.into_string.ensures))
+    (btree_map_updates_text _ left c.insert.new.self (Some c.push.new.self) c.in_ok-insert.ensures.updates x.0 ∙ ap (λ t. if bytes_eq t x.0 then Some c.push.new.self else get_by_text left x.0) c.in_ok-key.ensures))
