@@ -9,17 +9,21 @@ from following import Follows, Takes, pieces
 
 CRATES = ('text_commented',)
 SOURCES = {
-    'text_commented': {'AreChosen': 'ddc80b52a8e0', 'ArePut': '9e9be39596e5', 'ArePutAt': 'bda888f9b8e8', 'IsChosen': '25f4d9f84ed3',
-        'IsCommented': '97d7b6341340', 'IsFirstBegun': '7a9c7c4987de', 'IsLastBegun': '1fb2990fb367', 'IsLastStop': '68d2d5c6717b',
-        'IsSet': '348b6a908217', 'IsSetFrom': '76852b1b1127', 'IsTold': 'e50550636fb9', 'IsWhy': '14002ee75696', 'IsWrittenWith': 'aac75ce10f5f',
-        'Meets': 'e74465c2e240', 'PutsAmong': 'fb4dbcbcca49', 'Stands': 'e2ddfcc48d66'},
+    'text_commented': {'AreChosen': 'bd7678409abe', 'ArePut': '9e9be39596e5', 'ArePutAt': 'bda888f9b8e8', 'BeginsBehind': '973646837275',
+        'ClosesBehind': '208977b3defb', 'ComesBefore': 'c2457d2ad3e5', 'IsAlone': 'bfee79845bd7', 'IsCaught': 'fa0b26da1b2f',
+        'IsChosen': '1827bfdc1685', 'IsCommented': '97d7b6341340', 'IsFirstBegun': '1b032331396c', 'IsFound': 'a6343bfa93d7',
+        'IsLastBegun': '1fb2990fb367', 'IsLastStop': '68d2d5c6717b', 'IsNearest': 'b5e0ee0b5f86', 'IsSet': '348b6a908217',
+        'IsSetFrom': '76852b1b1127', 'IsTold': 'e50550636fb9', 'IsWhy': 'ee358334adc2', 'IsWrittenWith': '77a9da7e344c',
+        'KeepsOrder': '447ee156d176', 'Meets': 'e74465c2e240', 'PutsAmong': 'fb4dbcbcca49', 'Stands': 'e2ddfcc48d66',
+        'StopsBefore': '49253112f4d6'},
 }
+TYPES = ('IsChosen', 'IsFound')
 # these say how the code goes on and keeps places, and nothing of texts that the others don't
 PASSED_OVER = ('Steps', 'IsFirst', 'IsLast', 'IsSites')
 
 
 def check_sources(checkout):
-    return [name for crate, sources in SOURCES.items() for name in scoping.check_relations(checkout, crate, sources, (), 'commented.py', PASSED_OVER)]
+    return [name for crate, sources in SOURCES.items() for name in scoping.check_relations(checkout, crate, sources, TYPES, 'commented.py', PASSED_OVER)]
 
 
 # ---- Sites, Chosen
@@ -105,11 +109,12 @@ def AreChosen(D, text, framed, comments, remarks):
 
 # ---- Why
 def IsWhy(D, c, framed, r, why):
+    is_one = D.text_comments.Lines.is_one_comment(c, r.text)
     if why == 'NoPlace':
-        return not Contains(D.text_commented.Places.all_places(framed), r.at)
+        return is_one and not Contains(D.text_commented.Places.all_places(framed), r.at)
     if why == 'NoLineEnd':
-        return D.text_comments.Lines.ends_line(r.text) and Contains(D.text_commented.Places.tight_places(framed), r.at)
-    return why == 'NoComment' and not D.text_comments.Lines.is_one_comment(c, r.text)
+        return is_one and D.text_comments.Lines.ends_line(r.text) and Contains(D.text_commented.Places.tight_places(framed), r.at)
+    return why == 'NoComment' and not is_one
 
 
 def IsTold(D, c, framed, r, why):
@@ -122,9 +127,10 @@ def Stands(r, a):
 
 
 def due_in(D, c, framed, text):
-    """between the tokens of a text, from its beginning to its end, the places of frames there and the comments that are due; None where the text has
-    not these pieces. It is what `Meets` and the end of `IsSetFrom` say, whatever is put."""
-    fresh, e, rest, here, found, made = True, 'Closed', text, [], [], D.text_comments.Comments
+    """between the tokens of a text, from its beginning to its end, the places of frames there, each with how many tokens that are always written
+    come before, and the comments that are due; None where the text has not these pieces. It is what `Meets` and the end of `IsSetFrom` say,
+    whatever is put."""
+    fresh, e, rest, here, found, made, passed = True, 'Closed', text, [], [], D.text_comments.Comments, 0
     for p in framed:
         rests = Takes(D, c, False, (fresh, e), p, rest)
         if not rests:
@@ -133,7 +139,8 @@ def due_in(D, c, framed, text):
             comments = made.before_tokens(len(rest), c, D.text_follow.Follows.goal_of(p), text, fresh, rest, rests[0])
             found.append((here, [D.text_commented.Commented.written(text, k) for k in comments]))
             here = []
-        here = here + list(D.text_commented.Places.places(p))
+        passed += D.text_commented.Places.is_token(p)
+        here = here + [(place, passed) for place in D.text_commented.Places.places(p)]
         fresh, e, rest = D.text_follow.Follows.fresh_behind(fresh, p), D.text_follow.Endings.ending_behind(e, p), rests[0]
     left = D.text_lexer.Blanks.blank(c, fresh, rest)
     if left is None or left[0][1] != ():
@@ -141,13 +148,18 @@ def due_in(D, c, framed, text):
     return found + [(here, [D.text_commented.Commented.written(text, k) for k in made.before_token(c, text, fresh, rest)])]
 
 
+def KeepsOrder(rs, put):
+    """those that are put at one place behind as many tokens rise; `ComesBefore` says so of two"""
+    return all(n < m or here != there or not Stands(rs[m], rs[n].at) for i, (m, there) in enumerate(put) for n, here in put[:i])
+
+
 def ArePutAt(rs, places, due, may):
-    """the numbers that are put at one place after another, where their texts are those that are due and they are of some; `ArePut` says that those of
-    one frame rise"""
+    """the numbers that are put at one place after another, each with how many tokens come before, where their texts are those that are due and they
+    are of some; `ArePut` says that those of one frame rise"""
     ways = {((), 0, -1)}                              # what is put, at which place the next may be, and the number there before it
     for text in due:
-        ways = {(put + (n,), i, n) for put, at, last in ways for i in range(at, len(places)) for n in may
-                if n not in put and (i > at or n > last) and Stands(rs[n], places[i]) and rs[n].text == text}
+        ways = {(put + ((n, places[i][1]),), i, n) for put, at, last in ways for i in range(at, len(places)) for n in may
+                if n not in [m for m, _ in put] and (i > at or n > last) and Stands(rs[n], places[i][0]) and rs[n].text == text}
     return sorted({put for put, _, _ in ways})
 
 
@@ -155,7 +167,7 @@ def PutsAmong(rs, gaps, may):
     """all that is put, gap for gap, of some numbers, each once"""
     ways = [((), frozenset(may))]
     for places, due in gaps:
-        ways = [(put + (ns,), left - set(ns)) for put, left in ways for ns in ArePutAt(rs, places, due, left)]
+        ways = [(put + ns, left - {n for n, _ in ns}) for put, left in ways for ns in ArePutAt(rs, places, due, left)]
     return ways
 
 
@@ -164,7 +176,7 @@ def IsSet(D, c, framed, rs, text, used):
     gaps = due_in(D, c, framed, text)
     if gaps is None or sum(len(due) for _, due in gaps) != len(used):
         return False
-    return bool(PutsAmong(rs, gaps, used))
+    return any(KeepsOrder(rs, put) for put, _ in PutsAmong(rs, gaps, used))
 
 
 def IsCommented(D, c, t, rs, text, left):

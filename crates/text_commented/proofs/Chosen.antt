@@ -10,7 +10,7 @@ use Rattle.text_commented.proofs.Listed.{never}
 
 -- a test that fails says that it is not so
 pub refuted : (b : Bool) (P : Type 0) → IsTrue b ↔ P → b ≡ false → ¬ P
-refuted b P so no p = never b (so.1 p) no
+refuted b P so fails p = never b (so.1 p) fails
 
 -- there is one last that stops, and one first that begins
 stops_last : (all : List At) (limit m n : ℕ) → IsLastStop all limit m → IsLastStop all limit n → m ≡ n
@@ -46,7 +46,7 @@ none_nearest all k stops begins (stand.Trails n) is = stops n is.0
 none_nearest all k stops begins (stand.Leads n) is = begins n is.0
 
 not_found : (text : List ℕ) (all : List At) (k : Comment) (a : At) → IsAlone all k → ¬ ClosesBehind all k → ¬ IsNearest all k a → IsFound text all k a → ⊥
-not_found text all k a alone unclosed far (behind stops no is) = alone.0 stops
+not_found text all k a alone unclosed far (behind stops apart is) = alone.0 stops
 not_found text all k a alone unclosed far (before begins so is) = alone.1 begins
 not_found text all k a alone unclosed far (within apart closes is) = unclosed closes
 not_found text all k a alone unclosed far (near apart other is) = far is

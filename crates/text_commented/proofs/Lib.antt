@@ -1,7 +1,7 @@
 pub mod Chosen
 pub mod Ends
 pub mod Listed
-pub mod Order
+pub mod InOrder
 pub mod Puts
 pub mod Sets
 pub mod Steps

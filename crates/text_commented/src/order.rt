@@ -7,9 +7,18 @@ ghost use Rattle.text_commented.specs.Steps.{Covers, GoesBehind, merged, placed_
 ghost use Rattle.text_pieces.specs.Tokens.{piece_view};
 
 use crate::lines::is_token;
-use crate::remark::{Placed, Remark, remark_at, same_place, stands_at};
+use crate::remark::{At, Placed, Remark, remark_at, same_place, stands_at};
 use std::alloc::{AllocError, Global};
 use text_pieces::Piece;
+
+fn are_apart(one: At, other: At) -> bool
+    ensures { IsTrue result → ¬ (one ≡ other) }
+{
+    if same_place(one, other) {
+        return false;
+    }
+    true
+}
 
 // Whether a comment is given before another, if both stand at one place.
 fn comes_before(remarks: &[Remark<'_>], one: usize, other: usize) -> bool
@@ -19,7 +28,7 @@ fn comes_before(remarks: &[Remark<'_>], one: usize, other: usize) -> bool
         return true;
     }
     match (remark_at(remarks, one), remark_at(remarks, other)) {
-        (Some(remark), Some(another)) => !same_place(remark.at, another.at),
+        (Some(remark), Some(another)) => are_apart(remark.at, another.at),
         _ => false,
     }
 }
@@ -49,18 +58,30 @@ fn goes_behind(remarks: &[Remark<'_>], one: usize, other: usize) -> bool
     }
 }
 
-// Takes the last of some comments away, if one that is added goes behind it.
-fn make_room(remarks: &[Remark<'_>], near: &mut Vec<usize>, number: usize) -> Result<(), AllocError>
-    ensures { OnOk result ((those : List ℕ) → Covers remarks.now near.old.items those → Covers remarks.now (near.new.items ++ number ∷ []) (number ∷ those)) }
+// Puts the last of some comments back, unless one that is added goes behind it.
+fn put_back(
+    remarks: &[Remark<'_>],
+    near: &mut Vec<usize>,
+    last: usize,
+    number: usize,
+) -> Result<(), AllocError>
+    ensures { OnOk result ((those : List ℕ) → Covers remarks.now (near.old.items ++ last ∷ []) those → Covers remarks.now (near.new.items ++ number ∷ []) (number ∷ those)) }
 {
-    let Some(last) = near.pop() else {
-        return Ok(());
-    };
     if goes_behind(remarks, last, number) {
         return Ok(());
     }
     near.push(last)?;
     Ok(())
+}
+
+// Takes the last of some comments away, if one that is added goes behind it.
+fn make_room(remarks: &[Remark<'_>], near: &mut Vec<usize>, number: usize) -> Result<(), AllocError>
+    ensures { OnOk result ((those : List ℕ) → Covers remarks.now near.old.items those → Covers remarks.now (near.new.items ++ number ∷ []) (number ∷ those)) }
+{
+    match near.pop() {
+        Some(last) => put_back(remarks, near, last, number),
+        None => Ok(()),
+    }
 }
 
 // Adds a comment to those behind the last token, of which the last of each row at one place are kept.

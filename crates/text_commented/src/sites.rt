@@ -147,7 +147,10 @@ impl Sites {
         let Some(place) = last_of(&self.stopped, limit as usize) else {
             return None;
         };
-        if place == 0 || place > u32::MAX as usize {
+        if place == 0 {
+            return None;
+        }
+        if place > u32::MAX as usize {
             return None;
         }
         Some(place as u32)
@@ -160,7 +163,10 @@ impl Sites {
         let Some(place) = last_of(&self.begun, limit as usize) else {
             return None;
         };
-        if place == 0 || place > u32::MAX as usize {
+        if place == 0 {
+            return None;
+        }
+        if place > u32::MAX as usize {
             return None;
         }
         Some(place as u32)

@@ -1,5 +1,5 @@
 use Rattle.std.proofs.Common.{arith}
-use Rattle.text_commented.proofs.Order.{goes_there}
+use Rattle.text_commented.proofs.InOrder.{goes_there}
 use Rattle.text_commented.proofs.order.goes_behind.Goals as goal
 
 pub returns-in-Some : goal.returns-in-Some

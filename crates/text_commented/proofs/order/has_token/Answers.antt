@@ -1,5 +1,5 @@
 use Rattle.std.proofs.Common.{sym, ◌∙◌, arith}
-use Rattle.text_commented.proofs.Order.{none_is_left, one_is_none, one_is_token}
+use Rattle.text_commented.proofs.InOrder.{none_is_left, one_is_none, one_is_token}
 use Rattle.text_commented.proofs.order.has_token.Goals as goal
 
 pub returns-then-is_token : goal.returns-then-is_token

@@ -1,9 +1,9 @@
 use Rattle.std.proofs.Common.{[], refl, arith}
-use Rattle.text_commented.proofs.Order.{all_kept, nothing_covered, one_kept}
+use Rattle.text_commented.proofs.InOrder.{all_kept, none_covered, one_kept}
 use Rattle.text_commented.proofs.order.keeps_order.Goals as goal
 
 pub placed-init : goal.placed-init
-placed-init c = λ keeps. keeps [] (nothing_covered c.args.remarks.now)
+placed-init c = λ keeps. keeps [] (none_covered c.args.remarks.now c.new-near.result.items)
 
 pub placed-preserved : goal.placed-preserved
 placed-preserved c = λ after.

@@ -1,5 +1,5 @@
 -- Comments of one place, in their order between two tokens.
-use Rattle.std.proofs.Common.{◌≡◌, ℕ, zero, suc, ◌+◌, ◌-◌, ◌<◌, ◌≤◌, ◌||◌, not, Bool, true, false, List, [], ◌∷◌, ◌++◌, Some, IsTrue, Contains, inl, inr, if◌then◌else◌, length, map, take, drop, get_or, slice_get, refl, sym, ap, subst, ◌∙◌, arith}
+use Rattle.std.proofs.Common.{◌≡◌, ℕ, zero, suc, ◌+◌, ◌-◌, ◌<◌, ◌≤◌, ◌||◌, Bool, true, false, List, [], ◌∷◌, ◌++◌, Some, Result, Ok, Err, OnOk, Contains, inl, inr, if◌then◌else◌, length, map, take, drop, get_or, slice_get, refl, sym, ap, subst, ◌∙◌, arith}
 use Rattle.std.proofs.lemmas.List.{append-nil, drop_more, drop_all}
 use Rattle.std.proofs.lemmas.List.Elements.{Contains-append_left, Contains-push, Contains-push_cases}
 use Rattle.std.specs.List.{list_any}
@@ -32,11 +32,8 @@ covered_before rs others near n covers come m among = λ a one other.
     let less : k < n = come k here a (behind.1 a one) other in
     omega arith
 
-none_covered : (rs : List Remark) (others : List ℕ) → Covers rs others []
+pub none_covered : (rs : List Remark) (others : List ℕ) → Covers rs others []
 none_covered rs others m (k, within, is) = absurd (omega arith)
-
-pub nothing_covered : (rs : List Remark) → Covers rs [] []
-nothing_covered rs = none_covered rs []
 
 goes_behind_itself : (rs : List Remark) (m n : ℕ) → n ≡ m → GoesBehind rs m n
 goes_behind_itself rs m n is = (omega arith, λ a stands. subst (λ x. Stands (slice_get rs x) a) (sym is) stands)
@@ -49,24 +46,30 @@ covers_more rs others near n covers m (suc k, within, is) =
     (o, Contains-append_left others (n ∷ []) o here, behind)
 
 then_behind : (rs : List Remark) (m o last n : ℕ) → last ≡ o → GoesBehind rs m o → GoesBehind rs last n → GoesBehind rs m n
-then_behind rs m o last n same first then =
+then_behind rs m o last n same first later =
     let one : m ≤ o = first.0 in
-    let two : last ≤ n = then.0 in
-    (omega arith, λ a stands. then.1 a (subst (λ x. Stands (slice_get rs x) a) (sym same) (first.1 a stands)))
+    let two : last ≤ n = later.0 in
+    (omega arith, λ a stands. later.1 a (subst (λ x. Stands (slice_get rs x) a) (sym same) (first.1 a stands)))
 
 covers_by : (rs : List Remark) (front : List ℕ) (last n m o : ℕ) → GoesBehind rs last n → GoesBehind rs m o → Contains (front ++ last ∷ []) o → (k : ℕ) × Contains (front ++ n ∷ []) k × GoesBehind rs m k
-covers_by rs front last n m o then behind here =
+covers_by rs front last n m o later behind here =
     elim (Contains-push_cases front last o here) [
       | inl before ↦ (o, Contains-append_left front (n ∷ []) o before, behind)
-      | inr same ↦ (n, Contains-push front n, then_behind rs m o last n same behind then)
+      | inr same ↦ (n, Contains-push front n, then_behind rs m o last n same behind later)
     ]
 
 -- ... in place of one that it goes behind
 pub covers_instead : (rs : List Remark) (front near : List ℕ) (last n : ℕ) → Covers rs (front ++ last ∷ []) near → GoesBehind rs last n → Covers rs (front ++ n ∷ []) (n ∷ near)
-covers_instead rs front near last n covers then m (zero, within, is) = (n, Contains-push front n, goes_behind_itself rs m n is)
-covers_instead rs front near last n covers then m (suc k, within, is) =
+covers_instead rs front near last n covers later m (zero, within, is) = (n, Contains-push front n, goes_behind_itself rs m n is)
+covers_instead rs front near last n covers later m (suc k, within, is) =
     let (o, here, behind) = covers m (k, omega arith, is) in
-    covers_by rs front last n m o then behind here
+    covers_by rs front last n m o later behind here
+
+-- ... once that is taken away
+pub room_made : {T E : Type 0} (rs : List Remark) (old given made : List ℕ) (n : ℕ) (r : Result T E) → old ≡ given
+    → OnOk r ((those : List ℕ) → Covers rs given those → Covers rs (made ++ n ∷ []) (n ∷ those)) → OnOk r ((those : List ℕ) → Covers rs old those → Covers rs (made ++ n ∷ []) (n ∷ those))
+room_made rs old given made n (Ok done) is made_so = λ those covers. made_so those (subst (λ l. Covers rs l those) is covers)
+room_made rs old given made n (Err e) is made_so = tt
 
 covers_past : (rs : List Remark) (b : Bool) (others now near : List ℕ) → now ≡ (if b then [] else others) → Covers rs others near → Covers rs now (if b then [] else near)
 covers_past rs true others now near is covers = none_covered rs now
