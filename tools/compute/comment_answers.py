@@ -323,7 +323,7 @@ class Chosen(Program):
                 yield kind, right[:i] + (Rec(text=right[i].text, at=at),) + right[i + 1:]
 
     def holds(self, answer):
-        return commented.AreChosen(D.all, self.text, [place for places, _ in self.gaps for place in places], self.found, answer)
+        return commented.AreChosen(D.all, self.text, D.all.text_pieces.Pieces.framed_pieces(self.tree), self.found, answer)
 
     def show(self, answer):
         others = [(n, one.at, right.at) for n, (one, right) in enumerate(zip(answer, self.right())) if one != right]

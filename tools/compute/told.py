@@ -13,17 +13,17 @@ from following import IsPinned, IsTextOf, IsWellFormed, SpansAreOf
 CRATES = ('mucwathi_lists', 'mucwathi_looks', 'mucwathi_mappings', 'mucwathi_map', 'mucwathi_signs', 'mucwathi_marked')
 SOURCES = {
     'mucwathi_looks': {'HasChanges': '79f95166a24b'},
-    'mucwathi_mappings': {'AreMappings': 'e103a6213ca5', 'AreSegments': '175366c78c3d', 'HasLast': '14bfd54e0f97', 'IsEntry': '21ec95e5a3ed',
+    'mucwathi_mappings': {'AreMappings': 'd977de3438e2', 'AreSegments': '175366c78c3d', 'HasLast': '14bfd54e0f97', 'IsEntry': '21ec95e5a3ed',
         'IsMapOf': '2acf7da733dc', 'IsName': '852d64fead21', 'IsNumber': '40d289b7be41', 'IsNumberOf': '6a95f14d7bd2', 'IsSegment': 'cd732e232bb1'},
-    'mucwathi_map': {'IsMap': '3b2ecb8ba51c', 'TellsNodes': '6514536d3367', 'TellsWritten': '8054aafdf384'},
+    'mucwathi_map': {'IsMap': '3b2ecb8ba51c', 'TellsNodes': '67d22f019ca8', 'TellsWritten': '2d47d7eac5bd'},
     'mucwathi_signs': {'IsMarked': 'cf9e2dfe4299'},
-    'mucwathi_marked': {'IsGiven': '3fea3dafa131'},
+    'mucwathi_marked': {'Rise': '5a3d812840d9', 'HasMarks': '26bb9dbb0c61', 'IsGiven': 'e77d34a0eb50'},
     'mucwathi_commands': {'IsReadAs': '78fddd8f22fb'},
 }
 TYPES = ('AreMappings', 'AreSegments', 'IsMarked', 'IsNumber')
 # these say how the code keeps names and places, or belong to other calls
 PASSED_OVER = ('Looks', 'Marked', 'Names', 'Trees', 'Cut', 'Comments', 'Faults', 'Judged', 'AddsMappings', 'AddsName', 'AddsNumber', 'AddsWay', 'Continues',
-               'GoesOn', 'HasNames', 'IsKept', 'IsMark', 'IsNoneOrMap', 'IsPosition', 'IsPut', 'IsRefusedFor', 'IsRefusedText', 'IsRewritten',
+               'GoesOn', 'GoesToLine', 'HasNames', 'IsKept', 'IsMark', 'IsNoneOrMap', 'IsPosition', 'IsPut', 'IsRefusedFor', 'IsRefusedText', 'IsRewritten',
                'IsSigned', 'IsWantOfMemory', 'IsWritten', 'Notes')
 
 
@@ -62,10 +62,10 @@ def IsEntry(D, t, e):
 def AreMappings(D, t, entries, text):
     M = D.mucwathi_mappings.Mappings
     while True:
+        if not entries:
+            return text == ()
         if text[:1] == (59,):
             t, text = M.line_behind(t), text[1:]
-        elif not entries:
-            return text == ()
         else:
             one = M.comma(t.begun) + IsEntry(D, t, entries[0])
             if entries[0].line != t.line or text[:len(one)] != one:
@@ -117,7 +117,7 @@ def IsMapOf(D, name, read, written, mapped, out):
 def TellsNodes(D, name, text, out, source, answer, written, found):
     S = D.mucwathi_map.Spots
     news, outs = S.spots(answer), S.spots(written)
-    if len(news) != len(outs):
+    if S.names(news) != S.names(outs):
         return False
     olds = S.spots(source)
     told = S.all_told(lambda place: S.name_at(olds, place), news, outs)
@@ -125,7 +125,7 @@ def TellsNodes(D, name, text, out, source, answer, written, found):
 
 
 def TellsWritten(D, name, text, out, source, answer, written, found):
-    return IsTextOf(D, written, out) and SpansAreOf(D, written, out) and TellsNodes(D, name, text, out, source, answer, written, found)
+    return IsReadAs(D, written, out) and SpansAreOf(D, written, out) and TellsNodes(D, name, text, out, source, answer, written, found)
 
 
 def IsMap(D, source, answer, written, name, text, out, found):
@@ -156,6 +156,23 @@ def signs_at(text):
     return [sign for end in range(2, found.end() + 1 if found else 0) for sign in [text[:end]] if SIGN.fullmatch(sign)]
 
 
-def IsGiven(D, source, text, plain):
-    """of what is answered the text alone: the definition says nothing of the program"""
-    return bool(IsMarked(plain, text)) and IsTextOf(D, source, plain)
+def Rise(signs):
+    return all(one < other for (one, _), (other, _) in zip(signs, signs[1:]))
+
+
+def HasMarks(marks, table):
+    numbers = [number for number, _ in table]
+    return numbers == sorted(set(marks)) and 0 not in numbers and all(parent == 0 for _, parent in table)
+
+
+def IsGiven(D, source, text, plain, program, table):
+    """of a source, and of some way to cut signs out"""
+    G = D.mucwathi_marked.Given
+    if not (IsReadAs(D, source, plain) and SpansAreOf(D, source, plain)):
+        return False
+    ends = G.ends(source)
+    for way in IsMarked(plain, text):
+        signs = tuple(Rec(at=at, marks=Rec(items=marks)) for at, marks in way)
+        if Rise(way) and all(at in ends for at, _ in way) and program == G.signed(signs, source) and HasMarks(G.marks_of(signs), table):
+            return True
+    return False

@@ -288,20 +288,33 @@ class Given:
             self.plain = texts.written(random, t, texts.PLAIN) + random.pick([(), (), tuple(b' /* a#2 */')])
             self.tree, self.size = marked_tree(random, placed.with_spans(t, self.plain)), trees.size(t)
             self.text, self.signs = with_signs(self.tree, self.plain)
+            self.table = tuple((mark, 0) for mark in sorted({1, 2, *(mark for _, marks in self.signs for mark in marks)}))
 
     def right(self):
-        return self.plain, self.tree
+        return self.plain, self.tree, self.table
 
     def wrong(self):
-        return wrong_given(self)
+        for kind, (plain, t) in wrong_given(self):
+            yield kind, (plain, t, self.table)
+        for kind, table in wrong_tables(self.table):
+            yield kind, (self.plain, self.tree, table)
 
     def holds(self, answer):
-        plain, t = answer
+        plain, t, table = answer
         source = trees.with_identifiers(lambda i: (i.sym, ()), self.tree if plain == self.plain else t)
-        return told.IsGiven(D.all, source, self.text, plain)
+        return told.IsGiven(D.all, source, self.text, plain, t, table)
 
     def show(self, answer):
         return '%s %r: %r and %s' % (self.tree[1].lower(), bytes(self.text).decode(), bytes(answer[0]).decode(), js.text(answer[1]))
+
+
+def wrong_tables(table):
+    for i, (mark, _) in enumerate(table):
+        yield 'a table without a mark', table[:i] + table[i + 1:]
+        yield 'a table with a mark twice', table[:i] + table[i:i + 1] + table[i:]
+        yield 'a mark below another', table[:i] + ((mark, 1),) + table[i + 1:]
+    yield 'a table with a mark too many', table + ((4000, 0),)
+    yield 'a table in another order', table[::-1]
 
 
 def wrong_given(case):

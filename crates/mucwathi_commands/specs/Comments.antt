@@ -5,7 +5,6 @@ use Rattle.text_comments.specs.Comments.{HasComments}
 use Rattle.text_comments.specs.declared.comment.Comment.{Comment}
 use Rattle.text_commented.specs.Chosen.{AreChosen}
 use Rattle.text_commented.specs.Commented.{IsCommented}
-use Rattle.text_commented.specs.Places.{all_places}
 use Rattle.text_commented.specs.declared.left.Left.{Left}
 use Rattle.text_commented.specs.declared.remark.Remark.{Remark}
 use Rattle.text_lexer.specs.declared.blank.Comments.{Comments}
@@ -25,14 +24,14 @@ bytes_before (Some k) = k.span.lo - 1
 abbrev pub bytes_before_left : List Comment → Left → ℕ
 bytes_before_left ks l = bytes_before (slice_get ks l.number)
 
--- The comments of a source's text are written again among the tokens of an answer, each at one of the nodes round which it stood; of
+-- The comments of a source's text are written again among the tokens of an answer, each at the node at which it stood, or the nearest; of
 -- those that are not, it is told how many bytes are before each.
 pub record AreWrittenAgain (c : Comments) (source answer : Node) (text out lost : List ℕ) : Type 0 where
   pub comments : List Comment
   pub remarks : List Remark
   pub left : List Left
   pub found : HasComments c (pieces source) text comments
-  pub chosen : AreChosen text (all_places (framed_pieces answer)) comments remarks
+  pub chosen : AreChosen text (framed_pieces answer) comments remarks
   pub set : IsCommented c answer remarks out left
   pub told : lost ≡ map (bytes_before_left comments) left
 

@@ -10,7 +10,7 @@ use Rattle.mucwathi_mappings.specs.declared.encode.Entry.{Entry}
 use Rattle.mucwathi_mappings.specs.declared.encode.Told.{Told}
 use Rattle.mucwathi_mappings.specs.declared.positions.Position.{Position}
 use Rattle.mucwathi_mappings.specs.declared.segments.Segment.{Segment}
-use Rattle.mucwathi_mappings.specs.Mappings.{AddsMappings, AddsName, AreMappings, Continues, IsEntry, comma, entry_of, start}
+use Rattle.mucwathi_mappings.specs.Mappings.{AddsMappings, AddsName, AreMappings, Continues, GoesToLine, IsEntry, comma, entry_of, start}
 use Rattle.mucwathi_mappings.specs.Numbers.{AddsNumber, AddsWay, IsNumber, digit, way}
 use Rattle.mucwathi_mappings.specs.Positions.{IsPosition, line}
 
@@ -69,15 +69,26 @@ continues_both t there far es us old mid new one other = record {
 abbrev pub line_told : Told → ℕ → Told
 line_told t n = record { line = n; column = 0; source_line = t.source_line; source_column = t.source_column; name = t.name; begun = false }
 
-continues_line : (t : Told) (n : ℕ) (old new : List ℕ) → t.line ≡ n → new ≡ old ++ 59 ∷ [] → Continues t [] old new (line_told t (n + 1))
-continues_line t n old new is whole = record {
-  text = 59 ∷ [];
-  whole = whole;
-  goes_on = λ us rest h. AreMappings.next_line t us rest (subst (λ k. AreMappings (line_told t (k + 1)) us rest) (sym is) h);
+pub goes_nowhere : (t : Told) (old : List ℕ) → GoesToLine t old old t
+goes_nowhere t old = record { text = []; whole = sym (append-nil old); goes_on = λ e us rest h. h }
+
+-- one line more
+pub goes_further : (t here : Told) (n : ℕ) (old mid new : List ℕ) → GoesToLine t old mid here → here.line ≡ n → new ≡ mid ++ 59 ∷ [] → GoesToLine t old new (line_told here (n + 1))
+goes_further t here n old mid new before is whole = record {
+  text = before.text ++ 59 ∷ [];
+  whole = whole ∙ ap (λ (l : List ℕ). l ++ 59 ∷ []) before.whole ∙ append_assoc old before.text (59 ∷ []);
+  goes_on = λ e us rest h.
+      let next : AreMappings here (e ∷ us) (59 ∷ rest) = AreMappings.next_line here e us rest (subst (λ k. AreMappings (line_told here (k + 1)) (e ∷ us) rest) (sym is) h) in
+      subst (λ l. AreMappings t (e ∷ us) l) (sym (append_assoc before.text (59 ∷ []) rest)) (before.goes_on e us (59 ∷ rest) next);
 }
 
-pub continues_lines : (t here : Told) (n : ℕ) (old mid new : List ℕ) → Continues t [] old mid here → here.line ≡ n → new ≡ mid ++ 59 ∷ [] → Continues t [] old new (line_told here (n + 1))
-continues_lines t here n old mid new before is whole = continues_both t here (line_told here (n + 1)) [] [] old mid new before (continues_line here n mid new is whole)
+-- an entry of that line
+pub continues_there : (t here there : Told) (e : Entry) (old mid new : List ℕ) → GoesToLine t old mid here → Continues here (e ∷ []) mid new there → Continues t (e ∷ []) old new there
+continues_there t here there e old mid new before one = record {
+  text = before.text ++ one.text;
+  whole = one.whole ∙ ap (λ (l : List ℕ). l ++ one.text) before.whole ∙ append_assoc old before.text one.text;
+  goes_on = λ us rest h. subst (λ l. AreMappings t (e ∷ us) l) (sym (append_assoc before.text one.text rest)) (before.goes_on e us (one.text ++ rest) (one.goes_on us rest h));
+}
 
 -- ---- entries
 

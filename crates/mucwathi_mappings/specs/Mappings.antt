@@ -42,10 +42,10 @@ pub record IsEntry (t : Told) (e : Entry) (text : List ℕ) : Type 0 where
   pub name_is : IsName t.name e.name name_way
   pub whole : text ≡ column_way ++ 65 ∷ line_way ++ source_way ++ name_way
 
--- entries, and what is written for them: a semicolon goes to the next line
+-- entries, and what is written for them: where one follows a semicolon goes to the next line
 pub data AreMappings : Told → List Entry → List ℕ → Type 0 where
   ended : (t : Told) → AreMappings t [] []
-  next_line : (t : Told) (es : List Entry) (text : List ℕ) → AreMappings (line_behind t) es text → AreMappings t es (59 ∷ text)
+  next_line : (t : Told) (e : Entry) (es : List Entry) (text : List ℕ) → AreMappings (line_behind t) (e ∷ es) text → AreMappings t (e ∷ es) (59 ∷ text)
   entry : (t : Told) (e : Entry) (es : List Entry) (one text : List ℕ) → e.line ≡ t.line → IsEntry t e one → AreMappings (entry_behind t e) es text → AreMappings t (e ∷ es) (comma t.begun ++ one ++ text)
 
 -- what is written for entries was added, and what follows is told against the last
@@ -53,6 +53,12 @@ pub record Continues (t : Told) (es : List Entry) (old new : List ℕ) (there : 
   pub text : List ℕ
   pub whole : new ≡ old ++ text
   pub goes_on : (us : List Entry) (rest : List ℕ) → AreMappings there us rest → AreMappings t (es ++ us) (text ++ rest)
+
+-- semicolons were added, and where an entry follows it is told against the beginning of a line
+pub record GoesToLine (t : Told) (old new : List ℕ) (there : Told) : Type 0 where
+  pub text : List ℕ
+  pub whole : new ≡ old ++ text
+  pub goes_on : (e : Entry) (us : List Entry) (rest : List ℕ) → AreMappings there (e ∷ us) rest → AreMappings t (e ∷ us) (text ++ rest)
 
 pub record AddsName (last : ℕ) (name : Option ℕ) (old new : List ℕ) : Type 0 where
   pub text : List ℕ

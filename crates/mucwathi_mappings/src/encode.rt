@@ -1,6 +1,6 @@
 //! A source map as JSON.
 ghost use Rattle.std.specs.Prelude.{◌≡◌, ◌≤◌, ◌++◌, [], ◌∷◌, All, IfOk, OnOk, map, unwrap_or};
-ghost use Rattle.mucwathi_mappings.specs.Mappings.{AddsMappings, AddsName, Continues, comma, entry_of};
+ghost use Rattle.mucwathi_mappings.specs.Mappings.{AddsMappings, AddsName, Continues, GoesToLine, comma, entry_of};
 ghost use Rattle.mucwathi_mappings.specs.Maps.{IsMapOf};
 ghost use Rattle.mucwathi_mappings.specs.Positions.{IsMark};
 ghost use Rattle.mucwathi_mappings.specs.Segments.{text_of};
@@ -46,7 +46,7 @@ const START: Told = Told {
 // Goes to a line.
 fn go_to_line(out: &mut Vec<u8>, told: Told, line: usize) -> Result<Told, AllocError>
     requires { told.line ≤ line }
-    ensures { IfOk result (λ t. Continues told [] out.old.items out.new.items t × (t.line ≡ line)) }
+    ensures { IfOk result (λ t. GoesToLine told out.old.items out.new.items t × (t.line ≡ line)) }
 {
     let mut here = told;
     for at in told.line..line {

@@ -1,1 +1,2 @@
-pub mod Others
+pub mod Named
+pub mod Rows

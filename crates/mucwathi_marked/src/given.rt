@@ -1,19 +1,20 @@
 //! Texts read with their marks.
-ghost use Rattle.std.specs.Prelude.{IfOk};
+ghost use Rattle.std.specs.Prelude.{◌≡◌, Contains, IfOk, IsTrue};
+ghost use Rattle.std.specs.List.{All};
 ghost use Rattle.mucwathi_signs.specs.Signed.{IsMarked};
-ghost use Rattle.mucwathi_marked.specs.Given.{IsGiven};
+ghost use Rattle.mucwathi_marked.specs.Given.{HasMarks, IsGiven, Rise, ends, marks_of, signed};
 
+use crate::behind::{are_behind, ends_of, rise};
 use crate::contexts::put_marks;
+use crate::table::table_of;
 use mucwathi_faults::RunFault;
 use mucwathi_given::Envelope;
 use mucwathi_order::Goal;
 use mucwathi_passes::{own_marks, top, unresolved};
 use mucwathi_signs::{Cut, Found, Sign, blank_signs, cut_signs, find_signs};
 use std::alloc::{AllocError, Global};
-use std::collections::BTreeSet;
 use swc_tree_marks::{Globals, NoMemory, PassError};
 use swc_tree_node::Node;
-use swc_tree_walk::sites;
 use text_source::{TextFault, read_text};
 
 /// A program that was read with the marks of its names, and its text without them.
@@ -23,7 +24,10 @@ pub struct Marked {
     pub program: Envelope,
 }
 
-fn envelope_of(globals: Globals, tree: Node) -> Envelope {
+fn envelope_of(globals: Globals, tree: Node) -> Envelope
+    ensures tree { result.tree ≡ tree }
+    ensures globals { result.globals ≡ globals }
+{
     Envelope {
         globals,
         unresolved: unresolved(),
@@ -60,53 +64,24 @@ fn own_globals(alloc: Global) -> Result<Globals, AllocError> {
     }
 }
 
-// The places behind identifiers.
-fn ends_of(alloc: Global, tree: &Node) -> Result<BTreeSet<usize>, AllocError> {
-    let found = sites(alloc, tree)?;
-    let mut ends = BTreeSet::new(alloc);
-    for site in found.as_slice() {
-        ends.insert(site.ident.span.hi.saturating_sub(1) as usize)?;
-    }
-    Ok(ends)
-}
-
 // Of what looks like signs that which stands behind identifiers.
 fn behind_names(
     alloc: Global,
     found: Vec<Found>,
-    ends: &BTreeSet<usize>,
+    ends: &[usize],
 ) -> Result<Vec<Found>, AllocError> {
     let mut signs = Vec::new(alloc);
     for sign in found {
-        if ends.contains(&sign.from) {
+        if ends.binary_search(&sign.from).is_ok() {
             signs.push(sign)?;
         }
     }
     Ok(signs)
 }
 
-// The table of the marks of signs, and of the two that a text is resolved with, each below the root.
-fn table_of(alloc: Global, signs: &[Sign]) -> Result<Globals, AllocError> {
-    let mut numbers = BTreeSet::new(alloc);
-    numbers.insert(unresolved().as_u32())?;
-    numbers.insert(top().as_u32())?;
-    for sign in signs {
-        for mark in sign.marks.as_slice() {
-            numbers.insert(*mark)?;
-        }
-    }
-    let mut rows = Vec::new(alloc);
-    for number in numbers.iter() {
-        rows.push((*number, 0))?;
-    }
-    match Globals::from_table(alloc, rows.as_slice()) {
-        Ok(globals) => Ok(globals),
-        // Numbers of a set rise, so memory was refused.
-        Err(_) => Err(AllocError),
-    }
-}
-
-fn with_marks(signs: &[Sign], tree: Node) -> Result<Node, AllocError> {
+fn with_marks(signs: &[Sign], tree: Node) -> Result<Node, AllocError>
+    ensures { Rise signs.now → IfOk result (λ made. made ≡ signed signs.now tree) }
+{
     let mut marked = tree;
     put_marks(&mut marked, signs)?;
     Ok(marked)
@@ -128,10 +103,43 @@ fn signs_in(alloc: Global, goal: Goal, depth: u32, text: &[u8]) -> Result<Vec<Fo
 }
 
 // The envelope of a tree, with the marks of signs on its names.
-fn program_of(alloc: Global, signs: &[Sign], tree: Node) -> Result<Envelope, AllocError> {
+fn program_of(alloc: Global, signs: &[Sign], tree: Node) -> Result<Envelope, AllocError>
+    ensures tree { Rise signs.now → IfOk result (λ made. made.tree ≡ signed signs.now tree) }
+    ensures marks { IfOk result (λ made. HasMarks (marks_of signs.now) made.globals) }
+{
     let globals = table_of(alloc, signs)?;
     let tree = with_marks(signs, tree)?;
     Ok(envelope_of(globals, tree))
+}
+
+// Whether signs rise, and each stands behind a name.
+fn are_signs(alloc: Global, tree: &Node, signs: &[Sign]) -> Result<bool, AllocError>
+    ensures rise { IfOk result (λ so. IsTrue so → Rise signs.now) }
+    ensures behind { IfOk result (λ so. IsTrue so → All (λ s. Contains (ends tree.now) s.at) signs.now) }
+{
+    if !rise(signs) {
+        return Ok(false);
+    }
+    let places = ends_of(alloc, tree)?;
+    Ok(are_behind(&places, signs))
+}
+
+// The envelope of a tree whose signs rise, and stand behind names.
+fn signed_program(alloc: Global, signs: &[Sign], tree: Node) -> Result<Envelope, RunFault>
+    ensures rise { IfOk result (λ made. Rise signs.now) }
+    ensures behind { IfOk result (λ made. All (λ s. Contains (ends tree) s.at) signs.now) }
+    ensures tree { IfOk result (λ made. made.tree ≡ signed signs.now tree) }
+    ensures marks { IfOk result (λ made. HasMarks (marks_of signs.now) made.globals) }
+{
+    match are_signs(alloc, &tree, signs) {
+        Ok(true) => match program_of(alloc, signs, tree) {
+            Ok(program) => Ok(program),
+            Err(_) => Err(RunFault::Refused(PassError::NoMemory)),
+        },
+        // They were cut out behind names, one after another.
+        Ok(false) => Err(RunFault::Text(TextFault::NotTheText)),
+        Err(_) => Err(RunFault::Refused(PassError::NoMemory)),
+    }
 }
 
 // A program whose signs are cut out of its text, with their marks.
@@ -147,13 +155,13 @@ fn give_cut(
 {
     let Cut { text: plain, signs } = cut;
     match read_text(alloc, goal, depth, plain.as_slice()) {
-        Ok(tree) => match program_of(alloc, signs.as_slice(), tree) {
-            Ok(program) => Ok(Marked {
+        Ok(tree) => {
+            let program = signed_program(alloc, signs.as_slice(), tree)?;
+            Ok(Marked {
                 text: plain,
                 program,
-            }),
-            Err(_) => Err(RunFault::Refused(PassError::NoMemory)),
-        },
+            })
+        }
         Err(TextFault::NoMemory) => Err(RunFault::Refused(PassError::NoMemory)),
         // It was read with blanks.
         Err(_) => Err(RunFault::Text(TextFault::NotTheText)),
@@ -163,8 +171,8 @@ fn give_cut(
 /// A program, with the marks that stand behind its names: `let a#2; { let a#3; a#2.4; }`. Its table has these, and the two that a text is
 /// resolved with.
 ///
-/// With these marks written into it, the text that is left is what was given, and it is the text of a program. What looks like marks in
-/// strings, comments and the like is none, and so are marks that are not written as numbers are: `a#02`.
+/// With these marks written into it, the text that is left is what was given, and it is the text of a program, on whose names they are put.
+/// What looks like marks in strings, comments and the like is none, and so are marks that are not written as numbers are: `a#02`.
 ///
 /// # Errors
 ///

@@ -1,9 +1,11 @@
 //! Texts with marks behind their names, as in `a#2.3`: written, read, and what the commands make of them.
 #![tactic(auto)]
 
+mod behind;
 mod contexts;
 mod given;
 mod resolved;
+mod table;
 mod write;
 
 pub use given::{Marked, give_marked, give_text};

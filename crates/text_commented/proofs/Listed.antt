@@ -1,5 +1,5 @@
 -- Places in two lists.
-use Rattle.std.proofs.Common.{◌≡◌, ◌↔◌, ℕ, zero, suc, ◌+◌, ◌<◌, ◌≤◌, ◌&&◌, Bool, true, false, List, [], ◌∷◌, ◌++◌, Result, Ok, Err, IsTrue, Contains, inl, inr, length, map, drop, get_or, if◌then◌else◌, refl, sym, ap, ◌∙◌, arith}
+use Rattle.std.proofs.Common.{◌≡◌, ◌↔◌, ℕ, zero, suc, ◌+◌, ◌^◌, ◌<◌, ◌≤◌, ◌&&◌, Bool, true, false, List, [], ◌∷◌, ◌++◌, Result, Ok, Err, IsTrue, Contains, inl, inr, length, map, drop, get_or, if◌then◌else◌, refl, sym, ap, ◌∙◌, arith}
 use Rattle.std.proofs.lemmas.Bool.{cases_lt}
 use Rattle.std.proofs.lemmas.List.{append_assoc, append-nil, drop_more, drop_all, get_or_default}
 use Rattle.std.proofs.lemmas.List.Sorted.{Contains-permutation, IsPermutation-sym, searched}
@@ -68,6 +68,23 @@ first_behind xs limit i n position within is rise =
             | inr after ↦ let up : get_or xs i 0 ≤ get_or xs k 0 = rise i k 0 after inside in absurd (omega arith)
           ],
     )
+
+-- none is before the first place, and none behind the last
+pub none_before : (xs : List ℕ) (limit i : ℕ) → IsBinarySearchResult (λ y. nat_cmp y limit) xs (Err i) → i ≡ 0 → IsNonDecreasing xs → (m : ℕ) → m ≤ limit → ¬ Contains xs m
+none_before xs limit i position first rise m low among =
+    let around = searched xs limit (Err i) position (λ a b le inside. rise a b 0 le inside) in
+    let (k, inside, same) = among in
+    let there : get_or xs k 0 ≡ m = get_or_default xs k 0 m inside ∙ same in
+    let over : limit < get_or xs k 0 = around.2 k (omega arith) inside in
+    absurd (omega arith)
+
+pub none_behind : (xs : List ℕ) (limit i : ℕ) → IsBinarySearchResult (λ y. nat_cmp y limit) xs (Err i) → length xs ≤ i → IsNonDecreasing xs → (m : ℕ) → limit ≤ m → ¬ Contains xs m
+none_behind xs limit i position last rise m high among =
+    let around = searched xs limit (Err i) position (λ a b le inside. rise a b 0 le inside) in
+    let (k, inside, same) = among in
+    let there : get_or xs k 0 ≡ m = get_or_default xs k 0 m inside ∙ same in
+    let under : get_or xs k 0 < limit = around.1 k (omega arith) in
+    absurd (omega arith)
 
 pub never : (b : Bool) → b ≡ true → b ≡ false → ⊥
 never b holds fails = cc
@@ -145,13 +162,40 @@ last_begins s all limit n are last some =
       λ m above no_more among. none m above no_more (Contains-permutation (leads_in all) s.begun.items m are.begun (leads_to all m among)),
     )
 
-pub first_begins : (s : Sites) (all : List At) (limit n : ℕ) → IsSites s all → (IsNonDecreasing s.begun.items → IsFirst s.begun.items limit n) → IsFirstBegun all limit n
-first_begins s all limit n are first =
+pub first_begins : (s : Sites) (all : List At) (limit n : ℕ) → IsSites s all → (IsNonDecreasing s.begun.items → IsFirst s.begun.items limit n) → n < 2 ^ 32 → IsFirstBegun all limit n
+first_begins s all limit n are first fits =
     let (within, here, none) = first are.begun_rise in (
       within,
+      fits,
       leads_from all n (Contains-permutation s.begun.items (leads_in all) n (IsPermutation-sym (leads_in all) s.begun.items are.begun) here),
       λ m no_less below among. none m no_less below (Contains-permutation (leads_in all) s.begun.items m are.begun (leads_to all m among)),
     )
+
+-- where the lists have none, no node stops or begins
+pub none_stops : (s : Sites) (all : List At) (limit : ℕ) → IsSites s all → (IsNonDecreasing s.stopped.items → (m : ℕ) → m ≤ limit → ¬ Contains s.stopped.items m) → (n : ℕ) → ¬ IsLastStop all limit n
+none_stops s all limit are none n is = none are.stopped_rise n is.1 (Contains-permutation (trails_in all) s.stopped.items n are.stopped (trails_to all n is.2))
+
+pub none_begins : (s : Sites) (all : List At) (limit : ℕ) → IsSites s all → (IsNonDecreasing s.begun.items → (m : ℕ) → m ≤ limit → ¬ Contains s.begun.items m) → (n : ℕ) → ¬ IsLastBegun all limit n
+none_begins s all limit are none n is = none are.begun_rise n is.1 (Contains-permutation (leads_in all) s.begun.items n are.begun (leads_to all n is.2))
+
+pub none_follows : (s : Sites) (all : List At) (limit : ℕ) → IsSites s all → (IsNonDecreasing s.begun.items → (m : ℕ) → limit ≤ m → ¬ Contains s.begun.items m) → (n : ℕ) → ¬ IsFirstBegun all limit n
+none_follows s all limit are none n is = none are.begun_rise n is.0 (Contains-permutation (leads_in all) s.begun.items n are.begun (leads_to all n is.2))
+
+-- nor where the one that they have is no place
+pub stops_nowhere : (s : Sites) (all : List At) (limit place : ℕ) → IsSites s all → (IsNonDecreasing s.stopped.items → IsLast s.stopped.items limit place) → place ≡ 0 → (n : ℕ) → ¬ IsLastStop all limit n
+stops_nowhere s all limit place are last nowhere n is =
+    let some : 0 < n = is.0 in
+    (last are.stopped_rise).2 n (omega arith) is.1 (Contains-permutation (trails_in all) s.stopped.items n are.stopped (trails_to all n is.2))
+
+pub begins_nowhere : (s : Sites) (all : List At) (limit place : ℕ) → IsSites s all → (IsNonDecreasing s.begun.items → IsLast s.begun.items limit place) → place ≡ 0 → (n : ℕ) → ¬ IsLastBegun all limit n
+begins_nowhere s all limit place are last nowhere n is =
+    let some : 0 < n = is.0 in
+    (last are.begun_rise).2 n (omega arith) is.1 (Contains-permutation (leads_in all) s.begun.items n are.begun (leads_to all n is.2))
+
+pub follows_nowhere : (s : Sites) (all : List At) (limit place : ℕ) → IsSites s all → (IsNonDecreasing s.begun.items → IsFirst s.begun.items limit place) → 2 ^ 32 ≤ place → (n : ℕ) → ¬ IsFirstBegun all limit n
+follows_nowhere s all limit place are first far n is =
+    let fits : n < 2 ^ 32 = is.1 in
+    (first are.begun_rise).2 n is.0 (omega arith) (Contains-permutation (leads_in all) s.begun.items n are.begun (leads_to all n is.2))
 
 -- one piece more
 leads_append : (xs ys : List At) → leads_in (xs ++ ys) ≡ leads_in xs ++ leads_in ys

@@ -78,7 +78,7 @@ other_pieces ps at before rises =
     ap (λ n. map piece_view (drop n ps)) on ∙ ap (λ l. map piece_view l) (sym (drop-drop (before - at) at ps))
     ∙ sym (drop-map piece_view (before - at) (drop at ps))
 
-merged_more : (ps here : List code.Piece) (at before n : ℕ) (more : List Placed) → at ≤ before → here ≡ take (before - at) (drop at ps)
+pub merged_more : (ps here : List code.Piece) (at before n : ℕ) (more : List Placed) → at ≤ before → here ≡ take (before - at) (drop at ps)
     → map token (map piece_view here) ++ remark n ∷ merged before (map piece_view (drop before ps)) more ≡ merged at (map piece_view (drop at ps)) ((before, n) ∷ more)
 merged_more ps here at before n more rises is =
     let rest = map piece_view (drop at ps) in

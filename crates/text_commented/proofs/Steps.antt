@@ -3,10 +3,11 @@ use Rattle.std.proofs.Common.{◌≡◌, ℕ, ◌+◌, ◌<◌, ◌≤◌, Bool,
 use Rattle.std.proofs.lemmas.List.{append_assoc, drop_more, drop_all, map-append}
 use Rattle.std.specs.Prelude.{if◌then◌else◌}
 use Rattle.text_comments.specs.declared.comment.Comment.{Comment}
+use Rattle.text_pieces.specs.Tokens.{Piece}
 use Rattle.text_commented.specs.Chosen.{AreChosen, IsChosen}
 use Rattle.text_commented.specs.Commented.{not_put, written}
 use Rattle.text_commented.specs.declared.left.Left.{Left}
-use Rattle.text_commented.specs.declared.remark.At.{At}
+use Rattle.text_commented.specs.Places.{all_places, tight_places}
 use Rattle.text_commented.specs.declared.remark.Remark.{Remark}
 
 pub not_put_more : (us : List Bool) (i : ℕ) (d : Bool) → i < length us
@@ -41,15 +42,15 @@ left_more ls now l ns i d within is added =
     ∙ ap (λ n. map (λ x. x.number) ls ++ n ∷ drop (i + 1) ns) is ∙ ap (λ m. map (λ x. x.number) ls ++ m) (sym (drop_more ns i d within))
 
 -- one comment more that is chosen a place
-pub chosen_more : (text : List ℕ) (all : List At) (ks : List Comment) (i : ℕ) (d : Comment) (r : Remark) (more : List Remark) → i < length ks → r.text.now ≡ written text (get_or ks i d)
-    → IsChosen all (get_or ks i d) r.at → AreChosen text all (drop (i + 1) ks) more → AreChosen text all (drop i ks) (r ∷ more)
-chosen_more text all ks i d r more within is chosen after = subst (λ l. AreChosen text all l (r ∷ more)) (sym (drop_more ks i d within)) (is, chosen, after)
+pub chosen_more : (text : List ℕ) (ps : List Piece) (ks : List Comment) (i : ℕ) (d : Comment) (r : Remark) (more : List Remark) → i < length ks → r.text.now ≡ written text (get_or ks i d)
+    → IsChosen text (all_places ps) (tight_places ps) (get_or ks i d) r.at → AreChosen text ps (drop (i + 1) ks) more → AreChosen text ps (drop i ks) (r ∷ more)
+chosen_more text ps ks i d r more within is chosen after = subst (λ l. AreChosen text ps l (r ∷ more)) (sym (drop_more ks i d within)) (is, chosen, after)
 
-pub chosen_end : (text : List ℕ) (all : List At) (ks : List Comment) (i : ℕ) → length ks ≤ i → AreChosen text all (drop i ks) []
-chosen_end text all ks i none = subst (λ l. AreChosen text all l []) (sym (drop_all i ks none)) tt
+pub chosen_end : (text : List ℕ) (ps : List Piece) (ks : List Comment) (i : ℕ) → length ks ≤ i → AreChosen text ps (drop i ks) []
+chosen_end text ps ks i none = subst (λ l. AreChosen text ps l []) (sym (drop_all i ks none)) tt
 
-pub remark_more : (text : List ℕ) (all : List At) (ks : List Comment) (i : ℕ) (d : Comment) (made now : List Remark) (r : Remark) (more : List Remark) → i < length ks → now ≡ made ++ r ∷ []
-    → r.text.now ≡ written text (get_or ks i d) → IsChosen all (get_or ks i d) r.at → ((m : List Remark) → AreChosen text all (drop i ks) m → AreChosen text all ks (made ++ m))
-    → AreChosen text all (drop (i + 1) ks) more → AreChosen text all ks (now ++ more)
-remark_more text all ks i d made now r more within added is chosen step after =
-    subst (λ x. AreChosen text all ks x) (sym (ap (λ l. l ++ more) added ∙ append_assoc made (r ∷ []) more)) (step (r ∷ more) (chosen_more text all ks i d r more within is chosen after))
+pub remark_more : (text : List ℕ) (ps : List Piece) (ks : List Comment) (i : ℕ) (d : Comment) (made now : List Remark) (r : Remark) (more : List Remark) → i < length ks → now ≡ made ++ r ∷ []
+    → r.text.now ≡ written text (get_or ks i d) → IsChosen text (all_places ps) (tight_places ps) (get_or ks i d) r.at → ((m : List Remark) → AreChosen text ps (drop i ks) m → AreChosen text ps ks (made ++ m))
+    → AreChosen text ps (drop (i + 1) ks) more → AreChosen text ps ks (now ++ more)
+remark_more text ps ks i d made now r more within added is chosen step after =
+    subst (λ x. AreChosen text ps ks x) (sym (ap (λ l. l ++ more) added ∙ append_assoc made (r ∷ []) more)) (step (r ∷ more) (chosen_more text ps ks i d r more within is chosen after))

@@ -1,5 +1,5 @@
 -- A text that is written with the tokens of a tree, and with comments that stand at its nodes.
-use Rattle.std.specs.List.{All}
+use Rattle.std.specs.List.{All, Contains}
 use Rattle.std.specs.Prelude.{◌≡◌, ℕ, ◌+◌, ◌-◌, ◌<◌, ◌≤◌, Bool, true, false, List, [], ◌∷◌, ◌++◌, length, map, take, drop, replicate, slice_get, slice_set, Option, Some, None, if◌then◌else◌, nat_lt}
 use Rattle.swc_tree_node.specs.declared.node.Node.{Node}
 use Rattle.text_lexer.specs.declared.blank.Comments.{Comments}
@@ -12,7 +12,7 @@ use Rattle.text_follow.specs.Endings.{ending_behind}
 use Rattle.text_follow.specs.Follows.{Follows, Takes, fresh_behind, goal_of}
 use Rattle.text_comments.specs.Comments.{before_token, before_tokens}
 use Rattle.text_comments.specs.declared.comment.Comment.{Comment}
-use Rattle.text_commented.specs.Places.{places}
+use Rattle.text_commented.specs.Places.{is_token, places}
 use Rattle.text_commented.specs.Why.{IsTold}
 use Rattle.text_commented.specs.declared.left.Left.{Left}
 use Rattle.text_commented.specs.declared.remark.At.{At}
@@ -45,14 +45,28 @@ PutsAmong rs used [] items now = (items ≡ []) × (now ≡ used)
 PutsAmong rs used (p ∷ ps) items now =
     (put : List Item) × (next : List Bool) × (others : List Item) × (items ≡ token p ∷ (put ++ others)) × ArePutAt rs (places p) used put next × PutsAmong rs next ps others now
 
+-- of two that stand at one place the first is given first
+abbrev pub ComesBefore : List Remark → ℕ → ℕ → Type 0
+ComesBefore rs m n = (a : At) → Stands (slice_get rs m) a → Stands (slice_get rs n) a → m < n
+
+-- Between two tokens comments of one place stand in their order; `near` are those behind the last token.
+abbrev pub KeepsOrder : List Remark → List ℕ → List Item → Type 0
+KeepsOrder rs near [] = Unit {0}
+KeepsOrder rs near (token p ∷ items) = KeepsOrder rs (if is_token p then [] else near) items
+KeepsOrder rs near (remark n ∷ items) = ((m : ℕ) → Contains near m → ComesBefore rs m n) × KeepsOrder rs (n ∷ near) items
+
 -- the numbers of those that were not put, from n on
 abbrev pub not_put : ℕ → List Bool → List ℕ
 not_put n [] = []
 not_put n (u ∷ us) = if u then not_put (n + 1) us else n ∷ not_put (n + 1) us
 
--- a comment of a text as it is written there; places are in bytes from 1
+-- what stands in a text from one place to another; places are in bytes from 1
+abbrev pub part : List ℕ → ℕ → ℕ → List ℕ
+part whole from to = take (to - from) (drop (from - 1) whole)
+
+-- a comment of a text as it is written there
 abbrev pub written : List ℕ → Comment → List ℕ
-written whole k = take (k.span.hi - k.span.lo) (drop (k.span.lo - 1) whole)
+written whole k = part whole k.span.lo k.span.hi
 
 -- Behind a token none of the comments before it is due any more; a piece without one leaves them due.
 abbrev pub due_behind : List ℕ → List ℕ → List (List ℕ) → List (List ℕ)
@@ -77,10 +91,11 @@ abbrev pub IsSet : Comments → List Remark → List Item → List ℕ → Type 
 IsSet c rs items text = IsSetFrom c text rs true ending.Closed [] items text
 
 -- A text has the tokens of a tree, and comments of those given and no others: each at most once, as it is written, between the tokens
--- round a frame where it stands, those of one place in their order. Just the others are left, and each is told why.
+-- round a frame where it stands, those of one place that stand between the same tokens in their order. Just the others are left, and each
+-- is told why.
 pub record IsWrittenWith (c : Comments) (tokens framed : List Piece) (rs : List Remark) (text : List ℕ) (left : List Left) : Type 0 where
   pub follows : Follows c false tokens text
-  pub set : (used : List Bool) × (items : List Item) × PutsAmong rs (replicate (length rs) false) framed items used × IsSet c rs items text × (map (λ l. l.number) left ≡ not_put 0 used)
+  pub set : (used : List Bool) × (items : List Item) × PutsAmong rs (replicate (length rs) false) framed items used × KeepsOrder rs [] items × IsSet c rs items text × (map (λ l. l.number) left ≡ not_put 0 used)
   pub told : All (λ l. IsTold c framed (slice_get rs l.number) l.why) left
 
 abbrev pub IsCommented : Comments → Node → List Remark → List ℕ → List Left → Type 0

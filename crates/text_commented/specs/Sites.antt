@@ -1,6 +1,6 @@
 -- Places in two lists: where nodes begin, and where they stop.
 use Rattle.std.specs.List.{Contains}
-use Rattle.std.specs.Prelude.{ℕ, ◌<◌, ◌≤◌, List, [], ◌∷◌}
+use Rattle.std.specs.Prelude.{ℕ, ◌^◌, ◌<◌, ◌≤◌, List, [], ◌∷◌}
 use Rattle.std.specs.List.Sorted.{IsNonDecreasing, IsPermutation}
 use Rattle.text_commented.specs.declared.remark.At.{At}
 use Rattle.text_commented.specs.declared.remark.At.TheVariants as stand
@@ -30,7 +30,8 @@ IsLast xs limit n = (n ≤ limit) × Contains xs n × ((m : ℕ) → n < m → m
 abbrev pub IsFirst : List ℕ → ℕ → ℕ → Type 0
 IsFirst xs limit n = (limit ≤ n) × Contains xs n × ((m : ℕ) → limit ≤ m → m < n → ¬ Contains xs m)
 
--- where the last node stops, or begins, that does so at a place or before, and where the first begins at it or behind; 0 is no place
+-- Where the last node stops, or begins, that does so at a place or before, and where the first begins at it or behind. 0 is no place,
+-- and places have 32 bits.
 abbrev pub IsLastStop : List At → ℕ → ℕ → Type 0
 IsLastStop all limit n = (0 < n) × (n ≤ limit) × Contains all (stand.Trails n) × ((m : ℕ) → n < m → m ≤ limit → ¬ Contains all (stand.Trails m))
 
@@ -38,4 +39,4 @@ abbrev pub IsLastBegun : List At → ℕ → ℕ → Type 0
 IsLastBegun all limit n = (0 < n) × (n ≤ limit) × Contains all (stand.Leads n) × ((m : ℕ) → n < m → m ≤ limit → ¬ Contains all (stand.Leads m))
 
 abbrev pub IsFirstBegun : List At → ℕ → ℕ → Type 0
-IsFirstBegun all limit n = (limit ≤ n) × Contains all (stand.Leads n) × ((m : ℕ) → limit ≤ m → m < n → ¬ Contains all (stand.Leads m))
+IsFirstBegun all limit n = (limit ≤ n) × (n < 2 ^ 32) × Contains all (stand.Leads n) × ((m : ℕ) → limit ≤ m → m < n → ¬ Contains all (stand.Leads m))

@@ -1,8 +1,9 @@
 -- Steps of the walks over pieces, and over a text.
-use Rattle.std.specs.Prelude.{◌≡◌, ℕ, ◌+◌, ◌-◌, ◌≤◌, Bool, List, [], ◌∷◌, ◌++◌, drop, map, take}
+use Rattle.std.specs.List.{Contains}
+use Rattle.std.specs.Prelude.{◌≡◌, ℕ, ◌+◌, ◌-◌, ◌≤◌, Bool, List, [], ◌∷◌, ◌++◌, drop, map, slice_get, take}
 use Rattle.text_lexer.specs.declared.blank.Comments.{Comments}
 use Rattle.text_pieces.specs.Tokens.{Piece}
-use Rattle.text_commented.specs.Commented.{ArePut, ArePutAt, IsSetFrom, Item, remark, token}
+use Rattle.text_commented.specs.Commented.{ArePut, ArePutAt, IsSetFrom, Item, KeepsOrder, Stands, remark, token}
 use Rattle.text_commented.specs.declared.check.Walk.{Walk}
 use Rattle.text_commented.specs.declared.remark.At.{At}
 use Rattle.text_commented.specs.declared.remark.Placed as code
@@ -59,3 +60,15 @@ GoesOn c whole rs s items = IsSetFrom c whole rs s.fresh s.ending (map (λ d. d.
 -- behind items the text goes on with others: so it does with those and them
 abbrev pub Steps : Comments → List ℕ → List Remark → List Item → Walk → Walk → Type 0
 Steps c whole rs items s t = (more : List Item) → GoesOn c whole rs t more → GoesOn c whole rs s (items ++ more)
+
+-- a comment is given behind another, or is it, and stands where that does
+abbrev pub GoesBehind : List Remark → ℕ → ℕ → Type 0
+GoesBehind rs m n = (m ≤ n) × ((a : At) → Stands (slice_get rs m) a → Stands (slice_get rs n) a)
+
+-- of each of some comments there is one among others that goes behind it
+abbrev pub Covers : List Remark → List ℕ → List ℕ → Type 0
+Covers rs others near = (m : ℕ) → Contains near m → (n : ℕ) × Contains others n × GoesBehind rs m n
+
+-- behind those that are covered items keep the order
+abbrev pub KeepsOn : List Remark → List ℕ → List Item → Type 0
+KeepsOn rs others items = (near : List ℕ) → Covers rs others near → KeepsOrder rs near items

@@ -9,10 +9,11 @@ use Rattle.text_commented.specs.declared.left.Why.{Why}
 use Rattle.text_commented.specs.declared.left.Why.TheVariants as why
 use Rattle.text_commented.specs.declared.remark.Remark.{Remark}
 
--- No node begins or stops where it stands; it ends a line, and stands between tokens between which none may end; or it is not one comment.
+-- It is not one comment; or it is, and no node begins or stops where it stands; or it ends a line, and stands between tokens between which
+-- none may end.
 abbrev pub IsWhy : Comments → List Piece → Remark → Why → Type 0
-IsWhy c ps r why.NoPlace = ¬ Contains (all_places ps) r.at
-IsWhy c ps r why.NoLineEnd = (ends_line r.text.now ≡ true) × Contains (tight_places ps) r.at
+IsWhy c ps r why.NoPlace = (is_one_comment c r.text.now ≡ true) × ¬ Contains (all_places ps) r.at
+IsWhy c ps r why.NoLineEnd = (is_one_comment c r.text.now ≡ true) × (ends_line r.text.now ≡ true) × Contains (tight_places ps) r.at
 IsWhy c ps r why.NoComment = is_one_comment c r.text.now ≡ false
 
 abbrev pub IsTold : Comments → List Piece → Option Remark → Why → Type 0

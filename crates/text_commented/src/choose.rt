@@ -1,157 +1,178 @@
 //! At which of the nodes round it a comment of a text stands.
-ghost use Rattle.std.specs.Prelude.{◌≡◌, List, map, IfOk, IfSome};
-ghost use Rattle.text_commented.specs.Chosen.{AreChosen, IsChosen};
-ghost use Rattle.text_commented.specs.Commented.{written};
-ghost use Rattle.text_commented.specs.Places.{all_places};
-ghost use Rattle.text_commented.specs.Sites.{IsSites};
+ghost use Rattle.std.specs.Prelude.{◌≡◌, ◌↔◌, ◌+◌, ℕ, List, map, IfOk, IsTrue, MatchOption, if◌then◌else◌};
+ghost use Rattle.std.specs.List.{Contains};
+ghost use Rattle.text_comments.specs.Lines as line_specs;
+ghost use Rattle.text_commented.specs.Chosen as spec;
+ghost use Rattle.text_commented.specs.Chosen.{AreChosen, BeginsBehind, ClosesBehind, IsAlone, IsChosen, IsFound, IsNearest, StopsBefore};
+ghost use Rattle.text_commented.specs.Commented.{part as part_by, written};
+ghost use Rattle.text_commented.specs.Places.{all_places, tight_places};
+ghost use Rattle.text_commented.specs.Sites.{IsFirstBegun, IsLastStop, IsSites};
 ghost use Rattle.text_commented.specs.declared.remark.At.{At};
+ghost use Rattle.text_commented.specs.declared.remark.At.TheVariants as stand;
 ghost use Rattle.text_pieces.specs.Pieces.{framed_pieces as pieces_of};
+ghost use Rattle.text_pieces.specs.Tokens as tokens;
 ghost use Rattle.text_pieces.specs.Tokens.{piece_view};
 
 use crate::remark::{At, Remark};
-use crate::sites::{Sites, sites_of};
+use crate::sites::{BothSites, Sites, sites_of};
 use std::alloc::{AllocError, Global};
+use swc_tree_marks::BytePos;
 use swc_tree_node::Node;
 use text_comments::{Comment, ends_line, has_line_end};
 use text_pieces::Piece;
 use text_walk::framed_pieces;
 
-// Whether a line ends between a comment and the token before it.
-fn begins_line(text: &[u8], comment: Comment) -> bool {
-    let (from, to) = (comment.trails as usize, comment.span.lo as usize);
-    match text.get(from.saturating_sub(1)..to.saturating_sub(1)) {
-        Some(between) => has_line_end(between),
-        None => true,
-    }
-}
-
-// Behind the last node that stops before a comment.
-fn stopped_before(comment: Comment, sites: &Sites) -> Option<At>
-    ensures { (all : List At) → IsSites sites.now all → IfSome result (IsChosen all comment) }
+// What stands in a text from one place to another; places are in bytes from 1.
+fn part(text: &[u8], from: BytePos, to: BytePos) -> &[u8]
+    ensures { result.now ≡ part_by text.now from to }
 {
-    let place = sites.last_stop(comment.trails)?;
-    Some(At::Trails(place))
-}
-
-// Before the first node that begins behind a comment.
-fn begun_behind(comment: Comment, sites: &Sites) -> Option<At>
-    ensures { (all : List At) → IsSites sites.now all → IfSome result (IsChosen all comment) }
-{
-    let place = sites.first_begun(comment.leads)?;
-    Some(At::Leads(place))
-}
-
-// Behind the node that stops behind the byte that is behind a comment.
-fn closed_behind(comment: Comment, sites: &Sites) -> Option<At>
-    ensures { (all : List At) → IfSome result (IsChosen all comment) }
-{
-    let place = comment.leads.checked_add(1)?;
-    if sites.has(At::Trails(place)) {
-        Some(At::Trails(place))
-    } else {
-        None
-    }
-}
-
-// How far a place is from the tokens round a comment.
-fn distance(comment: Comment, place: Option<At>) -> u32 {
-    match place {
-        Some(At::Trails(place)) => comment.trails.saturating_sub(place),
-        Some(At::Leads(place)) => place.saturating_sub(comment.leads),
-        None => u32::MAX,
-    }
-}
-
-// Where a comment stands that no node stops or begins at.
-fn nearest(comment: Comment, sites: &Sites) -> Option<At>
-    ensures { (all : List At) → IsSites sites.now all → IfSome result (IsChosen all comment) }
-{
-    let stopped = stopped_before(comment, sites);
-    let begun = begun_behind(comment, sites);
-    if distance(comment, stopped) <= distance(comment, begun) {
-        stopped
-    } else {
-        begun
-    }
-}
-
-fn chosen(text: &[u8], comment: Comment, sites: &Sites) -> Option<At>
-    ensures { (all : List At) → IsSites sites.now all → IfSome result (IsChosen all comment) }
-{
-    let stopped = stopped_before(comment, sites);
-    let begun = begun_behind(comment, sites);
-    let is_led = begun == Some(At::Leads(comment.leads));
-    let is_trailed = stopped == Some(At::Trails(comment.trails));
-    if is_trailed && !(is_led && begins_line(text, comment)) {
-        return stopped;
-    }
-    if is_led {
-        return begun;
-    }
-    match closed_behind(comment, sites) {
-        Some(place) => Some(place),
-        None => nearest(comment, sites),
-    }
-}
-
-// Before the last node that begins before a comment.
-fn begun_before(comment: Comment, sites: &Sites) -> Option<At>
-    ensures { (all : List At) → IsSites sites.now all → IfSome result (IsChosen all comment) }
-{
-    let place = sites.last_begun(comment.trails)?;
-    Some(At::Leads(place))
-}
-
-// Whether a comment ends a line at a place where none may end.
-fn is_caught(text: &[u8], place: Option<At>, tight: &Sites) -> bool {
-    match place {
-        Some(place) => ends_line(text) && tight.has(place),
-        None => false,
-    }
-}
-
-fn settled(text: &[u8], comment: Comment, sites: &Sites, tight: &Sites) -> Option<At>
-    ensures { (all : List At) → IsSites sites.now all → IfSome result (IsChosen all comment) }
-{
-    let first = chosen(text, comment, sites);
-    if is_caught(text_of(text, comment), first, tight) {
-        return begun_before(comment, sites);
-    }
-    first
-}
-
-fn place_of(text: &[u8], comment: Comment, sites: &Sites, tight: &Sites) -> At
-    ensures { (all : List At) → IsSites sites.now all → IsChosen all comment result }
-{
-    match settled(text, comment, sites, tight) {
-        Some(place) => place,
-        None => At::Leads(comment.leads),
-    }
+    let (from, to) = (from as usize, to as usize);
+    let behind = text.get(from.saturating_sub(1)..).unwrap_or(&[]);
+    behind.get(..to.saturating_sub(from)).unwrap_or(behind)
 }
 
 /// A comment of a text, as it is written there.
 pub(crate) fn text_of(text: &[u8], comment: Comment) -> &[u8]
     ensures { result.now ≡ written text.now comment }
 {
-    let (lo, hi) = (comment.span.lo as usize, comment.span.hi as usize);
-    let behind = text.get(lo.saturating_sub(1)..).unwrap_or(&[]);
-    behind.get(..hi.saturating_sub(lo)).unwrap_or(behind)
+    part(text, comment.span.lo, comment.span.hi)
+}
+
+// Whether a line ends between a comment and the token before it, or the beginning of the text.
+fn begins_line(text: &[u8], comment: Comment) -> bool
+    ensures { result ≡ spec.begins_line text.now comment }
+{
+    let between = part(text, comment.trails.max(1), comment.span.lo);
+    has_line_end(between)
+}
+
+// Whether a node stops with the token before a comment.
+fn stops_before(comment: Comment, sites: &Sites) -> bool
+    ensures { (all : List At) → IsSites sites.now all → (IsTrue result ↔ StopsBefore all comment) }
+{
+    if comment.trails == 0 {
+        return false;
+    }
+    sites.has(At::Trails(comment.trails))
+}
+
+// Whether a node begins with the token behind a comment.
+fn begins_behind(comment: Comment, sites: &Sites) -> bool
+    ensures { (all : List At) → IsSites sites.now all → (IsTrue result ↔ BeginsBehind all comment) }
+{
+    sites.has(At::Leads(comment.leads))
+}
+
+// Where a node stops behind the byte that is behind a comment, if one does.
+fn closed_behind(comment: Comment, sites: &Sites) -> Option<BytePos>
+    ensures { (all : List At) → IsSites sites.now all → MatchOption result (¬ ClosesBehind all comment) (λ place. (place ≡ comment.leads + 1) × ClosesBehind all comment) }
+{
+    let Some(place) = comment.leads.checked_add(1) else {
+        return None;
+    };
+    if sites.has(At::Trails(place)) {
+        Some(place)
+    } else {
+        None
+    }
+}
+
+// Of a node that stops before a comment and one that begins behind it the nearer one.
+fn nearer(comment: Comment, stopped: BytePos, begun: BytePos) -> At
+    ensures { (all : List At) → IsLastStop all comment.trails stopped → IsFirstBegun all comment.leads begun → IsNearest all comment result }
+{
+    if comment.trails.saturating_sub(stopped) <= begun.saturating_sub(comment.leads) {
+        At::Trails(stopped)
+    } else {
+        At::Leads(begun)
+    }
+}
+
+fn nearest(comment: Comment, sites: &Sites) -> Option<At>
+    ensures { (all : List At) → IsSites sites.now all → MatchOption result ((a : At) → ¬ IsNearest all comment a) (IsNearest all comment) }
+{
+    match (
+        sites.last_stop(comment.trails),
+        sites.first_begun(comment.leads),
+    ) {
+        (Some(stopped), Some(begun)) => Some(nearer(comment, stopped, begun)),
+        (Some(stopped), None) => Some(At::Trails(stopped)),
+        (None, Some(begun)) => Some(At::Leads(begun)),
+        (None, None) => None,
+    }
+}
+
+// Where a comment stands that no node stops or begins beside.
+fn found_apart(comment: Comment, sites: &Sites) -> Option<At>
+    ensures { (text : List ℕ) (all : List At) → IsSites sites.now all → IsAlone all comment → MatchOption result ((a : At) → ¬ IsFound text all comment a) (IsFound text all comment) }
+{
+    match closed_behind(comment, sites) {
+        Some(place) => Some(At::Trails(place)),
+        None => nearest(comment, sites),
+    }
+}
+
+// Where a comment stands that a node stops and one begins beside.
+fn found_between(text: &[u8], comment: Comment) -> At
+    ensures { result ≡ (if spec.begins_line text.now comment then stand.Leads comment.leads else stand.Trails comment.trails) }
+{
+    if begins_line(text, comment) {
+        At::Leads(comment.leads)
+    } else {
+        At::Trails(comment.trails)
+    }
+}
+
+// Where a comment stands, if a line may end there.
+fn found_at(text: &[u8], comment: Comment, sites: &Sites) -> Option<At>
+    ensures { (all : List At) → IsSites sites.now all → MatchOption result ((a : At) → ¬ IsFound text.now all comment a) (IsFound text.now all comment) }
+{
+    match (stops_before(comment, sites), begins_behind(comment, sites)) {
+        (true, true) => Some(found_between(text, comment)),
+        (true, false) => Some(At::Trails(comment.trails)),
+        (false, true) => Some(At::Leads(comment.leads)),
+        (false, false) => found_apart(comment, sites),
+    }
+}
+
+// Whether a comment ends a line at a place where none may end.
+fn is_caught(text: &[u8], place: At, tight: &Sites) -> bool
+    ensures { (all : List At) → IsSites tight.now all → (IsTrue result ↔ (IsTrue (line_specs.ends_line text.now) × Contains all place)) }
+{
+    if !ends_line(text) {
+        return false;
+    }
+    tight.has(place)
+}
+
+fn place_of(text: &[u8], comment: Comment, both: &BothSites) -> At
+    ensures { (ps : List tokens.Piece) → IsSites both.now.all (all_places ps) → IsSites both.now.tight (tight_places ps) → IsChosen text.now (all_places ps) (tight_places ps) comment result }
+{
+    let Some(found) = found_at(text, comment, &both.all) else {
+        return At::Leads(comment.leads);
+    };
+    if !is_caught(text_of(text, comment), found, &both.tight) {
+        return found;
+    }
+    match both.all.last_begun(comment.trails) {
+        Some(place) => At::Leads(place),
+        None => At::Leads(comment.leads),
+    }
 }
 
 fn remarks_by<'t>(
     alloc: Global,
     text: &'t [u8],
     comments: &[Comment],
-    sites: &Sites,
-    tight: &Sites,
+    both: &BothSites,
 ) -> Result<Vec<Remark<'t>>, AllocError>
-    ensures { IfOk result (λ remarks. (all : List At) → IsSites sites.now all → AreChosen text.now all comments.now remarks.items) }
+    ensures { IfOk result (λ remarks. (ps : List tokens.Piece) → IsSites both.now.all (all_places ps) → IsSites both.now.tight (tight_places ps) → AreChosen text.now ps comments.now remarks.items) }
 {
     let mut remarks = Vec::new(alloc);
     'comments: for i in 0..comments.len() {
         remarks.push(Remark {
             text: text_of(text, comments[i]),
-            at: place_of(text, comments[i], sites, tight),
+            at: place_of(text, comments[i], both),
         })?;
     }
     Ok(remarks)
@@ -164,10 +185,10 @@ pub(crate) fn remarks_among<'t>(
     pieces: &[Piece<'_>],
     comments: &[Comment],
 ) -> Result<Vec<Remark<'t>>, AllocError>
-    ensures { IfOk result (λ remarks. AreChosen text.now (all_places (map piece_view pieces.now)) comments.now remarks.items) }
+    ensures { IfOk result (λ remarks. AreChosen text.now (map piece_view pieces.now) comments.now remarks.items) }
 {
     let sites = sites_of(alloc, pieces)?;
-    let remarks = remarks_by(alloc, text, comments, &sites.all, &sites.tight)?;
+    let remarks = remarks_by(alloc, text, comments, &sites)?;
     Ok(remarks)
 }
 
@@ -185,7 +206,7 @@ pub fn remarks_of<'t>(
     tree: &Node,
     comments: &[Comment],
 ) -> Result<Vec<Remark<'t>>, AllocError>
-    ensures { IfOk result (λ remarks. AreChosen text.now (all_places (pieces_of tree.now)) comments.now remarks.items) }
+    ensures { IfOk result (λ remarks. AreChosen text.now (pieces_of tree.now) comments.now remarks.items) }
 {
     let found = framed_pieces(alloc, tree)?;
     let pieces = found.as_slice();

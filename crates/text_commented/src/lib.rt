@@ -8,6 +8,7 @@ mod fit;
 mod frames;
 mod left;
 mod lines;
+mod order;
 mod print;
 mod remark;
 mod sites;

@@ -5,8 +5,8 @@ ghost use Rattle.text_pieces.specs.Tokens.{piece_view};
 
 use text_pieces::Piece;
 
-// Whether a piece is written with a token.
-fn is_token(piece: Piece<'_>) -> bool
+/// Whether a piece is written with a token.
+pub(crate) fn is_token(piece: Piece<'_>) -> bool
     ensures { result ≡ spec.is_token (piece_view piece.entry) }
 {
     match piece {

@@ -1,8 +1,7 @@
 //! The text of a tree, with comments.
-ghost use Rattle.std.specs.Prelude.{List, false, length, map, replicate, IfOk, OnOk};
+ghost use Rattle.std.specs.Prelude.{List, [], false, length, map, replicate, IfOk, OnOk};
 ghost use Rattle.text_commented.specs.Chosen.{AreChosen};
-ghost use Rattle.text_commented.specs.Commented.{IsCommented, IsSet, IsWrittenWith, PutsAmong};
-ghost use Rattle.text_commented.specs.Places.{all_places};
+ghost use Rattle.text_commented.specs.Commented.{IsCommented, IsSet, IsWrittenWith, KeepsOrder, PutsAmong};
 ghost use Rattle.text_commented.specs.Steps.{merged, placed_view};
 ghost use Rattle.text_commented.specs.declared.remark.Remark.{Remark};
 ghost use Rattle.text_follow.specs.Follows.{Follows};
@@ -16,6 +15,7 @@ use crate::fault::SetFault;
 use crate::fit::{Given, Put, order_of, put_among};
 use crate::frames::{Places, key_of};
 use crate::left::{Left, left_of, numbers_left};
+use crate::order::keeps_order;
 use crate::remark::{Placed, Remark};
 use std::alloc::{AllocError, Global};
 use swc_tree_node::Node;
@@ -77,6 +77,7 @@ fn check(
     text: &[u8],
 ) -> Result<(), SetFault>
     ensures follows { OnOk result (Follows comments false (without_frames (map piece_view pieces.now)) text.now) }
+    ensures order { OnOk result (KeepsOrder remarks.now [] (merged 0 (map piece_view pieces.now) (map placed_view placed.now))) }
     ensures set { OnOk result (IsSet comments remarks.now (merged 0 (map piece_view pieces.now) (map placed_view placed.now)) text.now) }
 {
     if text.len() >= u32::MAX as usize {
@@ -87,6 +88,10 @@ fn check(
         whole: text,
     };
     hold(alloc, source, remarks, pieces, placed)?;
+    let in_order = keeps_order(alloc, remarks, pieces, placed)?;
+    if !in_order {
+        return Err(SetFault::NotSet);
+    }
     Ok(())
 }
 
@@ -100,6 +105,7 @@ fn text_with(
     placed: &[Placed],
 ) -> Result<Vec<u8>, SetFault>
     ensures follows { IfOk result (λ text. Follows comments false (without_frames (map piece_view pieces.now)) text.items) }
+    ensures order { IfOk result (λ text. KeepsOrder remarks.now [] (merged 0 (map piece_view pieces.now) (map placed_view placed.now))) }
     ensures set { IfOk result (λ text. IsSet comments remarks.now (merged 0 (map piece_view pieces.now) (map placed_view placed.now)) text.items) }
 {
     let text = text_of(alloc, layout, remarks, pieces, placed)?;
@@ -197,7 +203,7 @@ pub fn print_text_with_those_of(
     text: &[u8],
     found: &[Comment],
 ) -> Result<Printed, SetFault>
-    ensures { IfOk result (λ out. (rs : List Remark) × AreChosen text.now (all_places (framed_of tree.now)) found.now rs × IsCommented comments tree.now rs out.text.items out.left.items) }
+    ensures { IfOk result (λ out. (rs : List Remark) × AreChosen text.now (framed_of tree.now) found.now rs × IsCommented comments tree.now rs out.text.items out.left.items) }
 {
     let list = framed_pieces(alloc, tree)?;
     let pieces = list.as_slice();

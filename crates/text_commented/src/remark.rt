@@ -1,5 +1,5 @@
 //! Comments that are to be written.
-ghost use Rattle.std.specs.Prelude.{◌≡◌, Some, slice_get, IfSome, IsTrue};
+ghost use Rattle.std.specs.Prelude.{◌≡◌, ◌↔◌, Some, slice_get, IfSome, IsTrue};
 ghost use Rattle.text_commented.specs.Commented.{Stands};
 
 use swc_tree_marks::BytePos;
@@ -31,8 +31,9 @@ pub(crate) struct Placed {
     pub(crate) inside: bool,
 }
 
-fn same_place(one: At, other: At) -> bool
-    ensures { IsTrue result → one ≡ other }
+/// Whether two places are one.
+pub(crate) fn same_place(one: At, other: At) -> bool
+    ensures { IsTrue result ↔ one ≡ other }
 {
     match one {
         At::Leads(place) => match other {

@@ -1,5 +1,5 @@
 //! Where the nodes of a tree begin and stop.
-ghost use Rattle.std.specs.Prelude.{◌≡◌, ◌↔◌, ◌++◌, [], List, map, IfOk, IfSome, IsTrue, OnOk, if◌then◌else◌};
+ghost use Rattle.std.specs.Prelude.{◌≡◌, ◌↔◌, ◌++◌, [], List, map, ℕ, ◌≤◌, IfOk, IsTrue, MatchOption, OnOk, if◌then◌else◌};
 ghost use Rattle.std.specs.List.{Contains};
 ghost use Rattle.std.specs.List.Sorted.{IsNonDecreasing, IsPermutation};
 ghost use Rattle.text_commented.specs.Places.{all_places, places as places_of, places_at, tight_places};
@@ -37,12 +37,12 @@ fn is_listed(sorted: &[usize], place: usize) -> bool
 
 // The last that is no greater than a number.
 fn last_of(sorted: &[usize], limit: usize) -> Option<usize>
-    ensures { IsNonDecreasing sorted.now → IfSome result (IsLast sorted.now limit) }
+    ensures { IsNonDecreasing sorted.now → MatchOption result ((m : ℕ) → m ≤ limit → ¬ Contains sorted.now m) (IsLast sorted.now limit) }
 {
     match sorted.binary_search(&limit) {
         Ok(_) => Some(limit),
         Err(place) => {
-            if place == 0 || sorted.len() < place {
+            if place == 0 {
                 return None;
             }
             Some(sorted[place - 1])
@@ -52,7 +52,7 @@ fn last_of(sorted: &[usize], limit: usize) -> Option<usize>
 
 // The first that is no smaller than a number.
 fn first_of(sorted: &[usize], limit: usize) -> Option<usize>
-    ensures { IsNonDecreasing sorted.now → IfSome result (IsFirst sorted.now limit) }
+    ensures { IsNonDecreasing sorted.now → MatchOption result ((m : ℕ) → limit ≤ m → ¬ Contains sorted.now m) (IsFirst sorted.now limit) }
 {
     match sorted.binary_search(&limit) {
         Ok(_) => Some(limit),
@@ -142,12 +142,15 @@ impl Sites {
 
     /// Where the last node stops that does so at a place or before; those that stand nowhere, as passes make them, have 0.
     pub(crate) fn last_stop(&self, limit: BytePos) -> Option<BytePos>
-        ensures { (all : List At) → IsSites self.now all → IfSome result (IsLastStop all limit) }
+        ensures { (all : List At) → IsSites self.now all → MatchOption result ((n : ℕ) → ¬ IsLastStop all limit n) (IsLastStop all limit) }
     {
         let Some(place) = last_of(&self.stopped, limit as usize) else {
             return None;
         };
-        if place == 0 || place > u32::MAX as usize {
+        if place == 0 {
+            return None;
+        }
+        if place > u32::MAX as usize {
             return None;
         }
         Some(place as u32)
@@ -155,12 +158,15 @@ impl Sites {
 
     /// Where the last node begins that does so at a place or before.
     pub(crate) fn last_begun(&self, limit: BytePos) -> Option<BytePos>
-        ensures { (all : List At) → IsSites self.now all → IfSome result (IsLastBegun all limit) }
+        ensures { (all : List At) → IsSites self.now all → MatchOption result ((n : ℕ) → ¬ IsLastBegun all limit n) (IsLastBegun all limit) }
     {
         let Some(place) = last_of(&self.begun, limit as usize) else {
             return None;
         };
-        if place == 0 || place > u32::MAX as usize {
+        if place == 0 {
+            return None;
+        }
+        if place > u32::MAX as usize {
             return None;
         }
         Some(place as u32)
@@ -168,7 +174,7 @@ impl Sites {
 
     /// Where the first node begins that does so at a place or behind.
     pub(crate) fn first_begun(&self, limit: BytePos) -> Option<BytePos>
-        ensures { (all : List At) → IsSites self.now all → IfSome result (IsFirstBegun all limit) }
+        ensures { (all : List At) → IsSites self.now all → MatchOption result ((n : ℕ) → ¬ IsFirstBegun all limit n) (IsFirstBegun all limit) }
     {
         let Some(place) = first_of(&self.begun, limit as usize) else {
             return None;

@@ -2,7 +2,6 @@ use Rattle.std.proofs.Common.{◌≡◌, List, map, ap, subst, sym, ◌∙◌}
 use Rattle.text_lexer.specs.declared.blank.Comments.{Comments}
 use Rattle.text_commented.specs.Chosen.{AreChosen}
 use Rattle.text_commented.specs.Commented.{IsCommented}
-use Rattle.text_commented.specs.Places.{all_places}
 use Rattle.text_commented.specs.declared.left.Left.{Left}
 use Rattle.text_commented.specs.declared.remark.Remark.{Remark}
 use Rattle.text_pieces.specs.Pieces.{framed_pieces}
@@ -12,7 +11,7 @@ use Rattle.mucwathi_commands.proofs.write.print_set.Goals as goal
 pub returns : goal.returns
 returns c =
     let printed = c.in_ok-printed.printed in
-    let Set = λ (comments : Comments). (rs : List Remark) × AreChosen c.args.text.now (all_places (framed_pieces c.args.answer.now)) c.args.comments.now rs × IsCommented comments c.args.answer.now rs printed.text.items printed.left.items in
+    let Set = λ (comments : Comments). (rs : List Remark) × AreChosen c.args.text.now (framed_pieces c.args.answer.now) c.args.comments.now rs × IsCommented comments c.args.answer.now rs printed.text.items printed.left.items in
     let set = subst Set c.comments_of-kind.ensures c.in_ok-printed.ensures in
     record {
       written = set.2.follows;

@@ -5,12 +5,12 @@ use Rattle.text_commented.proofs.Steps.{chosen_end, remark_more}
 use Rattle.text_commented.proofs.choose.remarks_by.Goals as goal
 
 pub comments-preserved : goal.comments-preserved
-comments-preserved c = λ all more are after.
+comments-preserved c = λ ps more all tight after.
     let l = c.comments in
-    remark_more c.args.text.now all c.args.comments.now l.i _ l.remarks.items _ _ more (omega arith) c.in_ok-push.ensures.items c.text_of.ensures (c.place_of.ensures all are)
-    (λ m h. l.invariant all m are h) after
+    remark_more c.args.text.now ps c.args.comments.now l.i _ l.remarks.items _ _ more (omega arith) c.in_ok-push.ensures.items c.text_of.ensures (c.place_of.ensures ps all tight)
+    (λ m h. l.invariant ps m all tight h) after
 
 pub returns : goal.returns
-returns c = λ all are.
+returns c = λ ps all tight.
     let l = c.comments in
-    subst (λ x. AreChosen c.args.text.now all c.args.comments.now x) (append-nil l.remarks.items) (l.invariant all [] are (chosen_end c.args.text.now all c.args.comments.now l.i (omega arith)))
+    subst (λ x. AreChosen c.args.text.now ps c.args.comments.now x) (append-nil l.remarks.items) (l.invariant ps [] all tight (chosen_end c.args.text.now ps c.args.comments.now l.i (omega arith)))
