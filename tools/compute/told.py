@@ -17,7 +17,7 @@ SOURCES = {
         'IsMapOf': '2acf7da733dc', 'IsName': '852d64fead21', 'IsNumber': '40d289b7be41', 'IsNumberOf': '6a95f14d7bd2', 'IsSegment': 'cd732e232bb1'},
     'mucwathi_map': {'IsMap': '3b2ecb8ba51c', 'TellsNodes': '67d22f019ca8', 'TellsWritten': '2d47d7eac5bd'},
     'mucwathi_signs': {'IsMarked': 'cf9e2dfe4299'},
-    'mucwathi_marked': {'Rise': '5a3d812840d9', 'HasMarks': '26bb9dbb0c61', 'IsGiven': 'e77d34a0eb50'},
+    'mucwathi_marked': {'Rise': '5a3d812840d9', 'HasMarks': '7737b4f6f2b6', 'IsGiven': 'e77d34a0eb50'},
     'mucwathi_commands': {'IsReadAs': '78fddd8f22fb'},
 }
 TYPES = ('AreMappings', 'AreSegments', 'IsMarked', 'IsNumber')

@@ -23,12 +23,12 @@ marks_of_place (s ∷ ss) (suc i) place d rises within is =
     rw other (marks_of_place ss i place d (rest_rises s ss rises) (omega arith) is)
 
 -- where none is, there are no marks
-pub marks_of_none : (ss : List Sign) (place : ℕ) (d : Sign) → ((k : ℕ) → k < length ss → (get_or ss k d).at ≡ place → ⊥) → marks_at ss place ≡ []
-marks_of_none [] place d none = refl
-marks_of_none (s ∷ ss) place d none =
+pub marks_of_none : (ss : List Sign) (place : ℕ) → ((k : ℕ) (d : Sign) → k < length ss → (get_or ss k d).at ≡ place → ⊥) → marks_at ss place ≡ []
+marks_of_none [] place none = refl
+marks_of_none (s ∷ ss) place none =
     elim (cases_eq s.at place) [
-      | inl is ↦ absurd (none zero (omega arith) is)
-      | inr apart ↦ let other : (s.at == place) ≡ false = ne_eqb s.at place apart in rw other (marks_of_none ss place d (λ k within is. none (suc k) (omega arith) is))
+      | inl is ↦ absurd (none zero s (omega arith) is)
+      | inr apart ↦ let other : (s.at == place) ≡ false = ne_eqb s.at place apart in rw other (marks_of_none ss place (λ k d within is. none (suc k) d (omega arith) is))
     ]
 
 module _ (ss : List Sign) (rises : Rise ss) (place : ℕ) where
@@ -40,11 +40,11 @@ module _ (ss : List Sign) (rises : Rise ss) (place : ℕ) where
       ]
 
   -- what a binary search finds
-  pub found_at : (i : ℕ) (d : Sign) → IsSearchInRange (Ok {E = ℕ} i) (length ss) → IsBinarySearchResult (λ s. nat_cmp s.at place) ss (Ok i) → marks_at ss place ≡ (get_or ss i d).marks.items
+  pub found_at : (i : ℕ) (d : Sign) → i < length ss → IsBinarySearchResult (λ s. nat_cmp s.at place) ss (Ok i) → marks_at ss place ≡ (get_or ss i d).marks.items
   found_at i d within equal = marks_of_place ss i place d rises within (ranked _ place _ (sym (equal d)))
 
-  pub found_nowhere : (i : ℕ) (d : Sign) → IsBinarySearchResult (λ s. nat_cmp s.at place) ss (Err i) → marks_at ss place ≡ []
-  found_nowhere i d parted = marks_of_none ss place d (λ k within is.
+  pub found_nowhere : (i : ℕ) → IsBinarySearchResult (λ s. nat_cmp s.at place) ss (Err i) → marks_at ss place ≡ []
+  found_nowhere i parted = marks_of_none ss place (λ k d within is.
       elim (cases_lt k i) [
         | inl before ↦ let below : (get_or ss k d).at < place = ranked _ place _ (sym ((parted comparisons_rise).0 k d (omega arith) before)) in absurd (omega arith)
         | inr after ↦ let above : place < (get_or ss k d).at = ranked _ place _ (sym ((parted comparisons_rise).1 k d after within)) in absurd (omega arith)
@@ -52,5 +52,5 @@ module _ (ss : List Sign) (rises : Rise ss) (place : ℕ) where
 
 -- a number that a binary search finds is one of those searched
 pub listed : (xs : List ℕ) (x : ℕ) (r : Result ℕ ℕ) → IsSearchInRange r (length xs) → IsBinarySearchResult (λ y. nat_cmp y x) xs r → IsTrue (is_ok r) → Contains xs x
-listed xs x (Ok i) within equal yes = (i, within, ranked _ x _ (sym (equal x)))
-listed xs x (Err i) within parted yes = absurd (cc)
+listed xs x (Ok i) within equal found = (i, within, ranked _ x _ (sym (equal x)))
+listed xs x (Err i) within parted found = absurd (cc)

@@ -2,7 +2,7 @@
 use Rattle.std.proofs.Common.{◌≡◌, ◌↔◌, ℕ, ◌+◌, ◌-◌, ◌<◌, ◌≤◌, List, [], ◌∷◌, ◌++◌, Contains, inl, inr, length, map, take, drop, get_or, refl, sym, ap, subst, ◌∙◌, arith}
 use Rattle.std.specs.List.{All, flat_map}
 use Rattle.std.proofs.lemmas.Bool.{cases_lt}
-use Rattle.std.proofs.lemmas.List.{append_assoc, append-nil, drop_all, drop_more, map-append, take_all, take_more}
+use Rattle.std.proofs.lemmas.List.{append_assoc, append-nil, drop_all, drop_more, get_or_default, map-append, take_all, take_more}
 use Rattle.std.proofs.lemmas.List.Elements.{Contains-append_left, Contains-push, Contains-push_cases}
 use Rattle.std.proofs.lemmas.List.Sorted.{Contains-permutation, IsPermutation-sym}
 use Rattle.std.specs.List.Sorted.{IsPermutation}
@@ -94,10 +94,29 @@ pub has_marks : (ms sorted : List ℕ) (rows table : Table) → IsPermutation ms
 has_marks ms sorted rows table moved below same is rises =
     subst (HasMarks ms) (sym is)
     (record {
-      table = rises;
+      rising = rises;
       below_root = below;
       marks = λ m. (
         λ here. Contains-permutation sorted ms m (IsPermutation-sym ms sorted moved) ((same m).0 here),
         λ there. (same m).1 (Contains-permutation ms sorted m moved there),
       );
     })
+
+-- the two marks that a text is resolved with
+pub two_put : (a b : ℕ) (none one two : List ℕ) → none ≡ [] → one ≡ none ++ a ∷ [] → two ≡ one ++ b ∷ [] → a ≡ 1 → b ≡ 2 → two ≡ 1 ∷ 2 ∷ []
+two_put a b none one two is first second x y = second ∙ ap (λ l. l ++ b ∷ []) (first ∙ ap (λ l. l ++ a ∷ []) is) ∙ ap (λ n. n ∷ b ∷ []) x ∙ ap (λ n. 1 ∷ n ∷ []) y
+
+-- whatever stands where there is no sign
+pub rise_by : (ss : List Sign) (i : ℕ) (d e : Sign) → 1 ≤ i → i < length ss → (get_or ss (i - 1) d).at < (get_or ss i e).at → (f : Sign) → (get_or ss (i - 1) f).at < (get_or ss i f).at
+rise_by ss i d e some within less f =
+    let one = ap (λ (s : Sign). s.at) (get_or_default ss (i - 1) d f (omega arith)) in
+    let other = ap (λ (s : Sign). s.at) (get_or_default ss i e f within) in
+    omega (arith, one, other, less)
+
+pub behind_more : (places : List ℕ) (ss : List Sign) (i : ℕ) (e : Sign) → i < length ss → Contains places (get_or ss i e).at → ((k : ℕ) (d : Sign) → k < i → Contains places (get_or ss k d).at)
+    → (k : ℕ) (d : Sign) → k < i + 1 → Contains places (get_or ss k d).at
+behind_more places ss i e within here before k d below =
+    elim (cases_lt k i) [
+      | inl less ↦ before k d less
+      | inr no_less ↦ let same : k ≡ i = omega arith in subst (λ n. Contains places (get_or ss n d).at) (sym same) (subst (λ (s : Sign). Contains places s.at) (get_or_default ss i e d within) here)
+    ]

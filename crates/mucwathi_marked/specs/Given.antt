@@ -44,7 +44,7 @@ marks_of ss = 1 ∷ 2 ∷ flat_map (λ s. s.marks.items) ss
 
 -- a table has just these marks, each below the root
 pub record HasMarks (ms : List ℕ) (table : Table) : Type 0 where
-  pub table : IsTable table
+  pub rising : IsTable table
   pub below_root : All (λ row. row.1 ≡ 0) table
   pub marks : (m : ℕ) → Contains (numbers table) m ↔ Contains ms m
 

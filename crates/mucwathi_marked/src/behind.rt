@@ -1,5 +1,5 @@
 //! Signs that stand behind the names of a tree.
-ghost use Rattle.std.specs.Prelude.{◌≡◌, Contains, IfOk, IsTrue, OnOk, map};
+ghost use Rattle.std.specs.Prelude.{◌≡◌, ◌<◌, Contains, IfOk, IsTrue, OnOk, map};
 ghost use Rattle.std.specs.List.{All};
 ghost use Rattle.std.specs.List.Sorted.{IsPermutation};
 ghost use Rattle.swc_tree_walk.specs.Sites.{site_of};
@@ -55,12 +55,18 @@ pub(crate) fn are_behind(places: &[usize], signs: &[Sign]) -> bool
     true
 }
 
+fn is_before(one: usize, other: usize) -> bool
+    ensures { IsTrue result → one < other }
+{
+    one < other
+}
+
 /// Whether signs are in the order of the text, no two at one place.
 pub(crate) fn rise(signs: &[Sign]) -> bool
     ensures { IsTrue result → Rise signs.now }
 {
     'signs: for i in 1..signs.len() {
-        if signs[i - 1].at >= signs[i].at {
+        if !is_before(signs[i - 1].at, signs[i].at) {
             return false;
         }
     }

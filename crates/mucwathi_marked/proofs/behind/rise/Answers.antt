@@ -1,5 +1,5 @@
 use Rattle.std.proofs.Common.{arith}
-use Rattle.mucwathi_marked.proofs.Rows.{rise_more}
+use Rattle.mucwathi_marked.proofs.Rows.{rise_by, rise_more}
 use Rattle.mucwathi_marked.proofs.behind.rise.Goals as goal
 
 pub signs-init : goal.signs-init
@@ -10,7 +10,7 @@ signs-preserved c =
     let l = c.signs in
     record {
       some = omega arith;
-      before = rise_more c.args.signs.now l.i l.invariant.some (omega arith) (λ d. omega arith) l.invariant.before;
+      before = rise_more c.args.signs.now l.i l.invariant.some (omega arith) (rise_by c.args.signs.now l.i _ _ l.invariant.some (omega arith) (c.is_before.ensures c.if-not-is_before.false)) l.invariant.before;
     }
 
 pub returns : goal.returns

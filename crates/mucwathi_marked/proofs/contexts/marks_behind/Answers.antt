@@ -11,4 +11,4 @@ returns-in-Ok c = λ rises.
 pub returns-in-Err : goal.returns-in-Err
 returns-in-Err c = λ rises.
     let by_place = c.in-Err.ensures.position (λ s. s.at) (answers_always _ _ _ (λ f a r g called. search rules)) in
-    sym (found_nowhere c.args.signs.now rises c.args.place 0 _ by_place)
+    sym (found_nowhere c.args.signs.now rises c.args.place c.in-Err.field-0 by_place)
