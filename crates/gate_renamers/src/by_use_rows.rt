@@ -5,6 +5,7 @@ use std::collections::HashSet;
 use swc_base_rename_by_use::{TextsByUse, texts_by_use};
 use swc_base_rename_naming::NewTexts;
 use swc_tree_marks::PassError;
+use swc_tree_node::Node;
 
 // Whether the id of a number and the mark 1 has a text at a counter, which goes one up.
 fn gives(
@@ -21,25 +22,50 @@ fn gives(
     Some(text.as_str() == wanted && n == from + 1)
 }
 
-// In `var a0x, a1x; a1x; a1x; a2x;`, where `a2x` is free, the texts are written in `a` and `x` first.
-fn by_use(alloc: Global) -> Option<bool> {
+// `var a0x, a1x; a1x; a1x; a2x;`, where `a2x` is free.
+fn statements(alloc: Global) -> Option<Vec<Node>> {
     let mut statements = Vec::new(alloc);
     statements.push(variables(alloc, &[(0, 1), (1, 1)])?).ok()?;
     for (number, mark) in [(1, 1), (1, 1), (2, 2)] {
         statements.push(reference(alloc, number, mark)?).ok()?;
     }
-    let texts = texts_by_use(alloc, &HashSet::new(alloc), statements.as_slice()).ok()?;
-    let most_used = gives(alloc, &texts, 1, 0, "a")? && gives(alloc, &texts, 1, 1, "b")?;
-    let other = gives(alloc, &texts, 0, 0, "x")?
-        && gives(alloc, &texts, 0, 1, "a")?
-        && gives(alloc, &texts, 0, 23, "w")?
-        && gives(alloc, &texts, 0, 24, "y")?;
-    let free = gives(alloc, &texts, 2, 0, "a")?;
+    Some(statements)
+}
+
+// Ids by number, counters, and their texts.
+const GIVEN: [(u32, usize, &str); 7] = [
+    (1, 0, "a"),
+    (1, 1, "b"),
+    (0, 0, "x"),
+    (0, 1, "a"),
+    (0, 23, "w"),
+    (0, 24, "y"),
+    (2, 0, "a"),
+];
+
+fn are_given(alloc: Global, texts: &TextsByUse) -> Option<bool> {
+    for (number, from, wanted) in GIVEN {
+        if !gives(alloc, texts, number, from, wanted)? {
+            return Some(false);
+        }
+    }
+    Some(true)
+}
+
+// Whether there is no text at the greatest counter, which stays.
+fn is_spent(alloc: Global, texts: &TextsByUse) -> Option<bool> {
     let mut last = usize::MAX;
     let spent = texts
         .new_text(alloc, &id_of(alloc, 1, 1)?, &mut last)
         .err()?;
-    Some(most_used && other && free && spent == PassError::CounterSpent && last == usize::MAX)
+    Some(spent == PassError::CounterSpent && last == usize::MAX)
+}
+
+// In these statements the texts are written in `a` and `x` first.
+fn by_use(alloc: Global) -> Option<bool> {
+    let statements = statements(alloc)?;
+    let texts = texts_by_use(alloc, &HashSet::new(alloc), statements.as_slice()).ok()?;
+    Some(are_given(alloc, &texts)? && is_spent(alloc, &texts)?)
 }
 
 /// Whether what the words name is as it must be; nothing where memory is refused, or the words name nothing.

@@ -117,18 +117,35 @@ pub fn name_of(alloc: Global, helpers: &mut Helpers, helper: Helper) -> Result<I
     }
 }
 
-// The name of `throw` as an expression and as what is called, and whether it is enabled then, on a table with the one mark 1.
-fn names(alloc: Global) -> Option<String> {
+// Helpers of a package on a table with the one mark 1, and the mark made before theirs.
+fn helpers_of_package(alloc: Global) -> Option<(u32, Helpers)> {
     let mut globals = Globals::from_table(alloc, &[(1, 0)]).ok()?;
     let second = Mark::new(&mut globals).ok()?.as_u32();
-    let mut helpers = Helpers::new(&mut globals, true).ok()?;
-    let name = name_of(alloc, &mut helpers, throw()?).ok()?;
-    let called = helper(alloc, &mut helpers, DUMMY_SP, throw()?).ok()?;
+    let helpers = Helpers::new(&mut globals, true).ok()?;
+    Some((second, helpers))
+}
+
+// What is written of a helper's name as an expression.
+fn name_written(alloc: Global, helpers: &mut Helpers, named: Helper) -> Option<String> {
+    let name = name_of(alloc, helpers, named).ok()?;
     let expr = Tree::<class::Expr>::from_identifier(alloc, Kind::Ident, name).ok()?;
-    let expr = write(alloc, expr.node()).ok()?;
-    let called = write(alloc, &called.into_node(alloc).ok()?).ok()?;
-    let is_enabled = helpers.is_enabled(throw()?);
-    let mark = helpers.mark().as_u32();
+    write(alloc, expr.node()).ok()
+}
+
+// What is written of it as what is called.
+fn callee_written(alloc: Global, helpers: &mut Helpers, named: Helper) -> Option<String> {
+    let called = helper(alloc, helpers, DUMMY_SP, named).ok()?;
+    let node = called.into_node(alloc).ok()?;
+    write(alloc, &node).ok()
+}
+
+// The name of `throw` as an expression and as what is called, and whether it is enabled then, on a table with the one mark 1.
+fn names(alloc: Global) -> Option<String> {
+    let (second, mut helpers) = helpers_of_package(alloc)?;
+    let named = throw()?;
+    let expr = name_written(alloc, &mut helpers, named)?;
+    let called = callee_written(alloc, &mut helpers, named)?;
+    let (is_enabled, mark) = (helpers.is_enabled(named), helpers.mark().as_u32());
     format!(in alloc; "{second} {mark} {expr} {called} {is_enabled}").ok()
 }
 
