@@ -14,7 +14,7 @@ CRATES = ('text_characters', 'text_strings', 'text_values', 'text_lexer', 'text_
 SOURCES = {
     'text_follow': {'Follows': 'd864ea92f49a', 'FollowsFrom': '3fa5f2a378d6', 'InParens': 'fde49c9e6b45', 'IsCooked': '2b1e5a733852',
         'IsRaw': '8282b052dca3', 'MayInsert': '912b3b2e3ffc', 'Reads': '2ed50b9397e1', 'ReadsAttribute': '8e7257f40cf1',
-        'ReadsThree': '1406b34520ea', 'ReadsTwo': 'd2fd7be6de7c', 'Spells': 'c00bf1728911', 'StandsFor': '3eecba0cb2cf', 'Takes': '0ffd640bed29',
+        'ReadsThree': '1406b34520ea', 'ReadsTwo': 'd2fd7be6de7c', 'Spells': 'c00bf1728911', 'StandsFor': '3eecba0cb2cf', 'ReadsHashbang': 'e941c3ed4eaa', 'Takes': 'c7d154126ad1',
         'BeginsAt': 'bb01574c70b5', 'HasName': '3dc1b9d3a8e8', 'IsAt': 'c49ad8f95e42', 'IsSo': '3f7bf72fd36f', 'Says': 'fd16f671b5bd',
         'Stands': 'fd88b6fd2e4a', 'StandsFrom': '6115f03617be'},
     'text_source': {'IsPlace': '967ffe0168ea', 'IsTextOf': 'b2ba1f051c39 c4495303a130', 'IsWhole': '1aa3236c5db9', 'SpansAreOf': '5568a235d4a2',
@@ -109,6 +109,13 @@ def ReadsAttribute(D, c, fresh, text, key, value):
     return [rest for first in keys for rest in reads_all(D, c, fresh, text, [first, mark('Colon'), ('quoted', value, None)])]
 
 
+def ReadsHashbang(D, fresh, text, a):
+    if not fresh:
+        return []
+    read = D.text_lexer.Lexical.token_at('HashbangOrRegExp', text)
+    return [read[1][1]] if read[0] == 'Ok' and read[1][0] == ('hashbang', a) else []
+
+
 OPTIONAL = {'may_comma': [mark('Comma')], 'may_from': [mark('LeftBrace'), mark('RightBrace'), ('word', tuple(b'from'))],
             'may_braces': [mark('Comma'), mark('LeftBrace'), mark('RightBrace')]}
 
@@ -124,6 +131,8 @@ def Takes(D, c, soft, before, p, text):
         return InParens(D, c, soft, fresh, text, p[1]) + (Reads(D, c, fresh, text, ('name', p[1])) if soft else [])
     if piece == 'attribute':
         return ReadsAttribute(D, c, fresh, text, p[1], p[2])
+    if piece == 'hashbang':
+        return ReadsHashbang(D, fresh, text, p[1])
     if piece == 'here':
         found = D.text_lexer.Blanks.blank(c, fresh, text)
         return [text] if found is not None and not found[0][0] else []
