@@ -32,11 +32,10 @@ pub struct Printed {
     pub left: Vec<Left>,
 }
 
-fn write_pieces(writer: &mut Writer<'_>, pieces: &[Piece<'_>]) -> Result<(), AllocError> {
+fn write_pieces(writer: &mut Writer<'_>, pieces: &[Piece<'_>]) {
     for piece in pieces {
-        writer.piece(*piece)?;
+        writer.piece(*piece);
     }
-    Ok(())
 }
 
 // Pieces, and comments among them, laid out. What trails a parameter without parentheses stands in those that are written round it.
@@ -50,20 +49,20 @@ fn text_of(
     let mut writer = Writer::new(alloc, layout);
     let mut at = 0;
     for each in placed {
-        write_pieces(&mut writer, pieces.get(at..each.before).unwrap_or(&[]))?;
+        write_pieces(&mut writer, pieces.get(at..each.before).unwrap_or(&[]));
         at = each.before;
         match remarks.get(each.number) {
             Some(remark) => {
                 if each.inside {
-                    writer.hold(remark.text)?;
+                    writer.hold(remark.text);
                 } else {
-                    writer.comment(remark.text)?;
+                    writer.comment(remark.text);
                 }
             }
             None => (),
         }
     }
-    write_pieces(&mut writer, pieces.get(at..).unwrap_or(&[]))?;
+    write_pieces(&mut writer, pieces.get(at..).unwrap_or(&[]));
     writer.finish()
 }
 

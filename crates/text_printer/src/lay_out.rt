@@ -36,9 +36,12 @@ enum Last {
 }
 
 /// Pieces and comments laid out one after another. Nothing is promised of the text: whoever wants that it has them holds it against them.
+/// Where memory is refused it goes on without what had no room, and gives no text in the end.
 #[derive(Drop)]
 pub struct Writer<'a> {
     out: Vec<u8>,
+    /// Memory was refused.
+    refused: bool,
     layout: Layout,
     last: Last,
     depth: usize,
@@ -92,6 +95,7 @@ impl<'a> Writer<'a> {
     pub fn new(alloc: Global, layout: Layout) -> Writer<'a> {
         Writer {
             out: Vec::new(alloc),
+            refused: false,
             layout,
             last: Last::Nothing,
             depth: 0,
@@ -101,58 +105,62 @@ impl<'a> Writer<'a> {
         }
     }
 
-    fn begin_line(&mut self) -> Result<(), AllocError> {
+    fn put(&mut self, bytes: &[u8]) {
+        if self.out.extend_from_slice(bytes).is_err() {
+            self.refused = true;
+        }
+    }
+
+    fn put_byte(&mut self, byte: u8) {
+        if self.out.push(byte).is_err() {
+            self.refused = true;
+        }
+    }
+
+    fn begin_line(&mut self) {
         if self.last != Last::Nothing {
-            self.out.push(b'\n')?;
+            self.put_byte(b'\n');
         }
         for _ in 0..self.depth {
-            self.out.extend_from_slice(b"  ")?;
+            self.put(b"  ");
         }
         self.last = Last::Closed;
-        Ok(())
     }
 
     /// What goes before a token that begins with the byte.
-    fn begin(&mut self, byte: u8) -> Result<(), AllocError> {
+    fn begin(&mut self, byte: u8) {
         if self.line && self.layout == Layout::Lines {
-            self.begin_line()?;
+            self.begin_line();
         } else if joins(self.last, byte) {
-            self.out.push(if self.last == Last::OpenComment {
+            self.put_byte(if self.last == Last::OpenComment {
                 b'\n'
             } else {
                 b' '
-            })?;
+            });
         }
         self.line = false;
         self.opened = false;
-        Ok(())
     }
 
     /// What goes before a comment.
-    fn begin_comment(&mut self, text: &[u8]) -> Result<(), AllocError> {
+    fn begin_comment(&mut self, text: &[u8]) {
         let is_laid_out = self.layout == Layout::Lines;
         if self.line && is_laid_out {
-            self.begin_line()
+            self.begin_line();
         } else if self.last == Last::Nothing {
-            Ok(())
+            return;
         } else if self.last == Last::OpenComment || text.starts_with(b"-->") {
-            Ok(self.out.push(b'\n')?)
+            self.put_byte(b'\n');
         } else if is_laid_out || self.last == Last::Slash || !text.starts_with(b"/") {
-            Ok(self.out.push(b' ')?)
-        } else {
-            Ok(())
+            self.put_byte(b' ');
         }
     }
 
     /// Puts a comment behind what is written. A line end stands behind one that goes to the end of its line.
-    ///
-    /// # Errors
-    ///
-    /// Where memory is refused.
-    pub fn comment(&mut self, text: &[u8]) -> Result<(), AllocError> {
+    pub fn comment(&mut self, text: &[u8]) {
         let begins_line = self.last == Last::Nothing || self.line;
-        self.begin_comment(text)?;
-        self.out.extend_from_slice(text)?;
+        self.begin_comment(text);
+        self.put(text);
         let is_open = goes_to_line_end(text);
         self.last = match self.layout {
             _ if is_open => Last::OpenComment,
@@ -161,103 +169,92 @@ impl<'a> Writer<'a> {
         };
         self.line = is_open || begins_line && has_line_end(text);
         self.opened = false;
-        Ok(())
     }
 
     /// Holds a comment until the next parameter is written, to stand behind it in its parentheses.
-    ///
-    /// # Errors
-    ///
-    /// Where memory is refused.
-    pub fn hold(&mut self, text: &'a [u8]) -> Result<(), AllocError> {
-        self.held.push(text)?;
-        Ok(())
+    pub fn hold(&mut self, text: &'a [u8]) {
+        if self.held.push(text).is_err() {
+            self.refused = true;
+        }
     }
 
-    fn release(&mut self) -> Result<(), AllocError> {
+    fn release(&mut self) {
         for at in 0..self.held.len() {
             if let Some(text) = self.held.get(at).copied() {
-                self.comment(text)?;
+                self.comment(text);
             }
         }
         self.held.clear();
-        Ok(())
     }
 
-    fn token(&mut self, text: &str, last: Last) -> Result<(), AllocError> {
+    fn token(&mut self, text: &str, last: Last) {
         let bytes = text.as_bytes();
-        self.begin(if bytes.is_empty() { b' ' } else { bytes[0] })?;
-        self.out.extend_from_slice(bytes)?;
+        self.begin(if bytes.is_empty() { b' ' } else { bytes[0] });
+        self.put(bytes);
         self.last = last;
-        Ok(())
     }
 
-    fn mark(&mut self, mark: Mark) -> Result<(), AllocError> {
-        self.token(mark_text(mark), last_of_mark(mark))
+    fn mark(&mut self, mark: Mark) {
+        self.token(mark_text(mark), last_of_mark(mark));
     }
 
-    fn private(&mut self, text: &str) -> Result<(), AllocError> {
-        self.token("#", Last::Closed)?;
-        self.out.extend_from_slice(text.as_bytes())?;
+    fn private(&mut self, text: &str) {
+        self.token("#", Last::Closed);
+        self.put(text.as_bytes());
         self.last = Last::Name;
-        Ok(())
     }
 
-    fn quoted(&mut self, value: &str) -> Result<(), AllocError> {
-        self.token("\"", Last::Closed)?;
+    fn quoted(&mut self, value: &str) {
+        self.token("\"", Last::Closed);
         for byte in value.as_bytes() {
             match *byte {
-                b'"' => self.out.extend_from_slice(b"\\\"")?,
-                b'\\' => self.out.extend_from_slice(b"\\\\")?,
-                b'\n' => self.out.extend_from_slice(b"\\n")?,
-                b'\r' => self.out.extend_from_slice(b"\\r")?,
-                other => self.out.push(other)?,
+                b'"' => self.put(b"\\\""),
+                b'\\' => self.put(b"\\\\"),
+                b'\n' => self.put(b"\\n"),
+                b'\r' => self.put(b"\\r"),
+                other => self.put_byte(other),
             }
         }
-        self.out.push(b'"')?;
-        Ok(())
+        self.put_byte(b'"');
     }
 
-    fn template(&mut self, part: TemplatePart, raw: &str) -> Result<(), AllocError> {
+    fn template(&mut self, part: TemplatePart, raw: &str) {
         match part {
-            TemplatePart::Whole | TemplatePart::Head => self.token("`", Last::Closed)?,
-            TemplatePart::Middle | TemplatePart::Tail => self.token("}", Last::Closed)?,
+            TemplatePart::Whole | TemplatePart::Head => self.token("`", Last::Closed),
+            TemplatePart::Middle | TemplatePart::Tail => self.token("}", Last::Closed),
         }
-        self.out.extend_from_slice(raw.as_bytes())?;
+        self.put(raw.as_bytes());
         match part {
-            TemplatePart::Whole | TemplatePart::Tail => self.out.push(b'`')?,
-            TemplatePart::Head | TemplatePart::Middle => self.out.extend_from_slice(b"${")?,
+            TemplatePart::Whole | TemplatePart::Tail => self.put_byte(b'`'),
+            TemplatePart::Head | TemplatePart::Middle => self.put(b"${"),
         }
-        Ok(())
     }
 
-    fn regex(&mut self, pattern: &str, flags: &str) -> Result<(), AllocError> {
-        self.token("/", Last::Name)?;
-        self.out.extend_from_slice(pattern.as_bytes())?;
-        self.out.push(b'/')?;
-        self.out.extend_from_slice(flags.as_bytes())?;
-        Ok(())
+    fn regex(&mut self, pattern: &str, flags: &str) {
+        self.token("/", Last::Name);
+        self.put(pattern.as_bytes());
+        self.put_byte(b'/');
+        self.put(flags.as_bytes());
     }
 
-    fn hashbang(&mut self, text: &str) -> Result<(), AllocError> {
-        self.token("#!", Last::Closed)?;
-        self.out.extend_from_slice(text.as_bytes())?;
-        self.out.push(b'\n')?;
+    fn hashbang(&mut self, text: &str) {
+        self.token("#!", Last::Closed);
+        self.put(text.as_bytes());
+        self.put_byte(b'\n');
         self.last = Last::Nothing;
-        Ok(())
     }
 
-    fn parameter(&mut self, name: &str) -> Result<(), AllocError> {
-        self.mark(Mark::LeftParen)?;
-        self.token(name, Last::Name)?;
-        self.release()?;
-        self.mark(Mark::RightParen)
+    fn parameter(&mut self, name: &str) {
+        self.mark(Mark::LeftParen);
+        self.token(name, Last::Name);
+        self.release();
+        self.mark(Mark::RightParen);
     }
 
-    fn attribute(&mut self, key: &str, value: &str) -> Result<(), AllocError> {
-        self.quoted(key)?;
-        self.mark(Mark::Colon)?;
-        self.quoted(value)
+    fn attribute(&mut self, key: &str, value: &str) {
+        self.quoted(key);
+        self.mark(Mark::Colon);
+        self.quoted(value);
     }
 
     fn gap(&mut self, gap: Gap) {
@@ -276,11 +273,7 @@ impl<'a> Writer<'a> {
     }
 
     /// Puts a piece behind what is written, with the blanks that it needs.
-    ///
-    /// # Errors
-    ///
-    /// Where memory is refused.
-    pub fn piece(&mut self, piece: Piece<'_>) -> Result<(), AllocError> {
+    pub fn piece(&mut self, piece: Piece<'_>) {
         match piece {
             Piece::Word(text) | Piece::Name(text) | Piece::BigInt(text) => self.token(
                 text,
@@ -297,17 +290,14 @@ impl<'a> Writer<'a> {
             Piece::Attribute(key, value) => self.attribute(key, value),
             Piece::Parameter(name) => self.parameter(name),
             Piece::End => self.mark(Mark::Semicolon),
-            Piece::Gap(gap) => {
-                self.gap(gap);
-                Ok(())
-            }
+            Piece::Gap(gap) => self.gap(gap),
             Piece::MayComma
             | Piece::MayFrom
             | Piece::MayBraces
             | Piece::Here
             | Piece::Closes(_)
             | Piece::Frame(_)
-            | Piece::Never => Ok(()),
+            | Piece::Never => (),
         }
     }
 
@@ -315,18 +305,16 @@ impl<'a> Writer<'a> {
     ///
     /// # Errors
     ///
-    /// Where memory is refused.
-    pub fn finish(self) -> Result<Vec<u8>, AllocError> {
-        let Writer {
-            mut out,
-            layout,
-            last,
-            ..
-        } = self;
-        let ends = layout == Layout::Lines && last != Last::Nothing;
-        if ends || last == Last::OpenComment {
-            out.push(b'\n')?;
+    /// Where memory is or was refused.
+    pub fn finish(mut self) -> Result<Vec<u8>, AllocError> {
+        let ends = self.layout == Layout::Lines && self.last != Last::Nothing;
+        if ends || self.last == Last::OpenComment {
+            self.put_byte(b'\n');
         }
+        if self.refused {
+            return Err(AllocError);
+        }
+        let Writer { out, .. } = self;
         Ok(out)
     }
 }
@@ -339,7 +327,7 @@ pub fn text_of_pieces(
 ) -> Result<Vec<u8>, AllocError> {
     let mut writer = Writer::new(alloc, layout);
     for piece in pieces {
-        writer.piece(*piece)?;
+        writer.piece(*piece);
     }
     writer.finish()
 }
