@@ -1,31 +1,35 @@
 //! Expressions, but for what stands next to their operators (ECMA-262, 13.4 to 13.16).
+use crate::keeping::{
+    advance, build, build_with, expect, insert, list, push_absent, push_flag, push_private_name,
+    take, too_deep, unexpected,
+};
 use crate::members::parse_postfix;
 use swc_tree_node::{Kind, Node, Word};
 use text_lexer::{Mark, Token};
 use text_reader::{
-    COMPARISON, Expected, Keyword, LOOSEST, Operator, Parser, Prefix, TextFault, assignment,
-    binary_keyword, binary_mark, prefix_keyword, prefix_mark,
+    COMPARISON, Expected, Keyword, LOOSEST, Operator, Parser, Prefix, assignment, binary_keyword,
+    binary_mark, prefix_keyword, prefix_mark,
 };
 
 /// Expressions with commas between them (13.16).
 #[cycle(parse)]
-pub(crate) fn parse_expression(p: &mut Parser<'_>, depth: u32) -> Result<(), TextFault> {
+pub(crate) fn parse_expression(p: &mut Parser<'_>, depth: u32) {
     if depth == 0 {
-        return Err(p.too_deep());
+        return too_deep(p);
     }
     let (start, before) = (p.start(), p.count());
-    parse_assignment(p, depth - 1)?;
+    parse_assignment(p, depth - 1);
     if !p.is_mark(Mark::Comma) {
-        return Ok(());
+        return;
     }
     for _ in 0..p.len() {
-        if !p.take(Mark::Comma)? {
+        if !take(p, Mark::Comma) {
             break;
         }
-        parse_assignment(p, depth - 1)?;
+        parse_assignment(p, depth - 1);
     }
-    p.list(before)?;
-    p.build(Kind::SeqExpr, start, before)
+    list(p, before);
+    build(p, Kind::SeqExpr, start, before)
 }
 
 fn assignment_here(p: &Parser<'_>) -> Option<Word> {
@@ -37,23 +41,24 @@ fn assignment_here(p: &Parser<'_>) -> Option<Word> {
 
 /// An assignment, an arrow function, a `yield` or a choice (13.15).
 #[cycle(parse)]
-pub(crate) fn parse_assignment(p: &mut Parser<'_>, depth: u32) -> Result<(), TextFault> {
+pub(crate) fn parse_assignment(p: &mut Parser<'_>, depth: u32) {
     if depth == 0 {
-        return Err(p.too_deep());
+        return too_deep(p);
     }
     if p.is_keyword(Keyword::Yield) && p.context.has_yield {
         return parse_yield(p, depth - 1);
     }
     let (start, before) = (p.start(), p.count());
     p.arrow_at = start;
-    parse_conditional(p, depth - 1)?;
+    parse_conditional(p, depth - 1);
     let Some(word) = assignment_here(p) else {
-        return Ok(());
+        return;
     };
-    p.last_to_target(word, depth)?;
-    p.advance()?;
-    parse_assignment(p, depth - 1)?;
-    p.build_with(Kind::AssignExpr, Node::Word(word), start, before)
+    let done = p.last_to_target(word, depth);
+    p.keep(done);
+    advance(p);
+    parse_assignment(p, depth - 1);
+    build_with(p, Kind::AssignExpr, Node::Word(word), start, before)
 }
 
 /// Whether nothing stands behind a `yield` here.
@@ -78,41 +83,41 @@ fn is_bare_yield(p: &Parser<'_>) -> bool {
 
 /// `yield` (15.5).
 #[cycle(parse)]
-fn parse_yield(p: &mut Parser<'_>, depth: u32) -> Result<(), TextFault> {
+fn parse_yield(p: &mut Parser<'_>, depth: u32) {
     if depth == 0 {
-        return Err(p.too_deep());
+        return too_deep(p);
     }
     let (start, before) = (p.start(), p.count());
-    p.advance()?;
+    advance(p);
     if is_bare_yield(p) {
-        p.push_absent()?;
-        p.push_flag(false)?;
+        push_absent(p);
+        push_flag(p, false);
     } else {
-        let delegates = p.take(Mark::Mul)?;
-        parse_assignment(p, depth - 1)?;
-        p.push_flag(delegates)?;
+        let delegates = take(p, Mark::Mul);
+        parse_assignment(p, depth - 1);
+        push_flag(p, delegates);
     }
-    p.build(Kind::YieldExpr, start, before)
+    build(p, Kind::YieldExpr, start, before)
 }
 
 /// A choice by a test (13.14).
 #[cycle(parse)]
-fn parse_conditional(p: &mut Parser<'_>, depth: u32) -> Result<(), TextFault> {
+fn parse_conditional(p: &mut Parser<'_>, depth: u32) {
     if depth == 0 {
-        return Err(p.too_deep());
+        return too_deep(p);
     }
     let (start, before) = (p.start(), p.count());
-    parse_binary(p, depth - 1, LOOSEST)?;
+    parse_binary(p, depth - 1, LOOSEST);
     if !p.is_mark(Mark::Question) || p.is_last(Kind::ArrowExpr) {
-        return Ok(());
+        return;
     }
-    p.advance()?;
+    advance(p);
     let context = p.open();
-    parse_assignment(p, depth - 1)?;
+    parse_assignment(p, depth - 1);
     p.context = context;
-    p.expect(Mark::Colon)?;
-    parse_assignment(p, depth - 1)?;
-    p.build(Kind::CondExpr, start, before)
+    expect(p, Mark::Colon);
+    parse_assignment(p, depth - 1);
+    build(p, Kind::CondExpr, start, before)
 }
 
 fn operator_here(p: &Parser<'_>) -> Option<Operator> {
@@ -158,32 +163,30 @@ fn may_join_last(p: &Parser<'_>, word: Word) -> bool {
 }
 
 /// A private name, which stands before `in` and nowhere else (13.10).
-fn push_private_operand(p: &mut Parser<'_>, raw: &[u8], least: u8) -> Result<(), TextFault> {
+fn push_private_operand(p: &mut Parser<'_>, raw: &[u8], least: u8) {
     if least > COMPARISON {
-        return p.unexpected(Expected::Expression);
+        return unexpected(p, Expected::Expression);
     }
-    p.push_private_name(raw)?;
-    if p.is_keyword(Keyword::In) && p.context.has_in {
-        Ok(())
-    } else {
-        p.unexpected(Expected::Word("in"))
+    push_private_name(p, raw);
+    if !p.is_keyword(Keyword::In) || !p.context.has_in {
+        unexpected(p, Expected::Word("in"));
     }
 }
 
 /// Operands of operators that bind at least so tightly (13.6 to 13.13).
 #[cycle(parse)]
-fn parse_binary(p: &mut Parser<'_>, depth: u32, least: u8) -> Result<(), TextFault> {
+fn parse_binary(p: &mut Parser<'_>, depth: u32, least: u8) {
     if depth == 0 {
-        return Err(p.too_deep());
+        return too_deep(p);
     }
     let (start, before) = (p.start(), p.count());
     if let Token::PrivateName(raw) = p.token() {
-        push_private_operand(p, raw, least)?;
+        push_private_operand(p, raw, least);
     } else {
-        parse_unary(p, depth - 1)?;
+        parse_unary(p, depth - 1);
     }
     if p.is_last(Kind::ArrowExpr) {
-        return Ok(());
+        return;
     }
     for _ in 0..p.len() {
         let Some(operator) = operator_here(p) else {
@@ -193,13 +196,12 @@ fn parse_binary(p: &mut Parser<'_>, depth: u32, least: u8) -> Result<(), TextFau
             break;
         }
         if !may_join_last(p, operator.word) {
-            return p.unexpected(Expected::Mark(Mark::RightParen));
+            return unexpected(p, Expected::Mark(Mark::RightParen));
         }
-        p.advance()?;
-        parse_binary(p, depth - 1, operator.right)?;
-        p.build_with(Kind::BinExpr, Node::Word(operator.word), start, before)?;
+        advance(p);
+        parse_binary(p, depth - 1, operator.right);
+        build_with(p, Kind::BinExpr, Node::Word(operator.word), start, before);
     }
-    Ok(())
 }
 
 fn prefix_here(p: &Parser<'_>) -> Option<Prefix> {
@@ -227,38 +229,40 @@ fn update_here(p: &Parser<'_>) -> Option<Word> {
 
 /// An operand, with the operators before it, or with one behind it (13.4 and 13.5).
 #[cycle(parse)]
-fn parse_unary(p: &mut Parser<'_>, depth: u32) -> Result<(), TextFault> {
+fn parse_unary(p: &mut Parser<'_>, depth: u32) {
     if depth == 0 {
-        return Err(p.too_deep());
+        return too_deep(p);
     }
     let (start, before) = (p.start(), p.count());
     match prefix_here(p) {
         Some(Prefix::Operator(word)) => {
-            p.advance()?;
-            parse_unary(p, depth - 1)?;
-            p.build_with(Kind::UnaryExpr, Node::Word(word), start, before)
+            advance(p);
+            parse_unary(p, depth - 1);
+            build_with(p, Kind::UnaryExpr, Node::Word(word), start, before)
         }
         Some(Prefix::Update(word)) => {
-            p.advance()?;
-            parse_unary(p, depth - 1)?;
-            p.expect_simple_target(depth)?;
-            p.insert(before, Node::Flag(true))?;
-            p.build_with(Kind::UpdateExpr, Node::Word(word), start, before)
+            advance(p);
+            parse_unary(p, depth - 1);
+            let done = p.expect_simple_target(depth);
+            p.keep(done);
+            insert(p, before, Node::Flag(true));
+            build_with(p, Kind::UpdateExpr, Node::Word(word), start, before)
         }
         Some(Prefix::Await) => {
-            p.advance()?;
-            parse_unary(p, depth - 1)?;
-            p.build(Kind::AwaitExpr, start, before)
+            advance(p);
+            parse_unary(p, depth - 1);
+            build(p, Kind::AwaitExpr, start, before)
         }
         None => {
-            parse_postfix(p, depth - 1)?;
+            parse_postfix(p, depth - 1);
             let Some(word) = update_here(p) else {
-                return Ok(());
+                return;
             };
-            p.expect_simple_target(depth)?;
-            p.advance()?;
-            p.insert(before, Node::Flag(false))?;
-            p.build_with(Kind::UpdateExpr, Node::Word(word), start, before)
+            let done = p.expect_simple_target(depth);
+            p.keep(done);
+            advance(p);
+            insert(p, before, Node::Flag(false));
+            build_with(p, Kind::UpdateExpr, Node::Word(word), start, before)
         }
     }
 }

@@ -1,5 +1,9 @@
 //! Functions, what they bind, and classes (ECMA-262, 15).
 use crate::expressions::parse_assignment;
+use crate::keeping::{
+    advance, build, close, end_statement, expect, list, not_read, push, push_absent, push_flag,
+    push_name, take, take_keyword, too_deep, unexpected,
+};
 use crate::members::parse_postfix;
 use crate::objects::{parse_key, take_modifiers};
 use crate::primary::parse_primary;
@@ -19,27 +23,27 @@ pub(crate) fn parse_function(
     is_async: bool,
     kind: Kind,
     hangs: bool,
-) -> Result<(), TextFault> {
+) {
     if depth == 0 {
-        return Err(p.too_deep());
+        return too_deep(p);
     }
     let before = p.count();
-    p.advance()?;
+    advance(p);
     if hangs && p.is_mark(Mark::Mul) {
-        return p.unexpected(Expected::Name);
+        return unexpected(p, Expected::Name);
     }
-    let is_generator = p.take(Mark::Mul)?;
+    let is_generator = take(p, Mark::Mul);
     if kind == Kind::FnExpr && p.is_mark(Mark::LeftParen) {
-        p.push_absent()?;
+        push_absent(p);
     } else if kind == Kind::FnExpr {
         let context = p.open_function(is_async, is_generator);
-        p.push_name(Kind::Ident)?;
+        push_name(p, Kind::Ident);
         p.context = context;
     } else {
-        p.push_name(Kind::Ident)?;
+        push_name(p, Kind::Ident);
     }
-    parse_function_rest(p, depth - 1, start, is_async, is_generator)?;
-    p.close(kind, before)
+    parse_function_rest(p, depth - 1, start, is_async, is_generator);
+    close(p, kind, before)
 }
 
 /// The parameters and the body of a function, which begins at a place.
@@ -50,129 +54,126 @@ pub(crate) fn parse_function_rest(
     start: usize,
     is_async: bool,
     is_generator: bool,
-) -> Result<(), TextFault> {
+) {
     if depth == 0 {
-        return Err(p.too_deep());
+        return too_deep(p);
     }
     let before = p.count();
     let context = p.open_function(is_async, is_generator);
-    parse_parameters(p, depth - 1)?;
+    parse_parameters(p, depth - 1);
     let body = (p.start(), p.count());
-    parse_steps(p, depth - 1, Kind::BlockStmt, BODY, body)?;
-    p.expect_plain_parameters(start)?;
+    parse_steps(p, depth - 1, Kind::BlockStmt, BODY, body);
+    let done = p.expect_plain_parameters(start);
+    p.keep(done);
     p.context = context;
-    p.push_flag(is_generator)?;
-    p.push_flag(is_async)?;
-    p.build(Kind::Function, start, before)
+    push_flag(p, is_generator);
+    push_flag(p, is_async);
+    build(p, Kind::Function, start, before)
 }
 
 /// Parameters in parentheses (15.1).
 #[cycle(parse)]
-fn parse_parameters(p: &mut Parser<'_>, depth: u32) -> Result<(), TextFault> {
+fn parse_parameters(p: &mut Parser<'_>, depth: u32) {
     if depth == 0 {
-        return Err(p.too_deep());
+        return too_deep(p);
     }
-    p.expect(Mark::LeftParen)?;
+    expect(p, Mark::LeftParen);
     let before = p.count();
     for _ in 0..p.len() {
         if p.is_mark(Mark::RightParen) {
             break;
         }
         let (start, parameter) = (p.start(), p.count());
-        let is_rest = p.take(Mark::Dots)?;
-        parse_binding(p, depth - 1, !is_rest)?;
+        let is_rest = take(p, Mark::Dots);
+        parse_binding(p, depth - 1, !is_rest);
         if is_rest {
-            p.build(Kind::RestPat, start, parameter)?;
+            build(p, Kind::RestPat, start, parameter);
         }
-        p.build(Kind::Param, start, parameter)?;
-        if is_rest || !p.take(Mark::Comma)? {
+        build(p, Kind::Param, start, parameter);
+        if is_rest || !take(p, Mark::Comma) {
             break;
         }
     }
     if p.is_mark(Mark::Colon) || p.is_mark(Mark::Question) {
-        return p.not_read(Language::Types);
+        return not_read(p, Language::Types);
     }
-    p.expect(Mark::RightParen)?;
-    p.list(before)
+    expect(p, Mark::RightParen);
+    list(p, before)
 }
 
 /// What a value is bound to, with its default if it may have one (14.3.3).
 #[cycle(parse)]
-pub(crate) fn parse_binding(
-    p: &mut Parser<'_>,
-    depth: u32,
-    has_default: bool,
-) -> Result<(), TextFault> {
+pub(crate) fn parse_binding(p: &mut Parser<'_>, depth: u32, has_default: bool) {
     if depth == 0 {
-        return Err(p.too_deep());
+        return too_deep(p);
     }
     let (start, before) = (p.start(), p.count());
     match p.token() {
         Token::Mark(Mark::LeftBracket | Mark::LeftBrace) => {
-            parse_primary(p, depth - 1)?;
-            p.last_to_binding(depth)?;
+            parse_primary(p, depth - 1);
+            let done = p.last_to_binding(depth);
+            p.keep(done);
         }
-        _ => p.push_name(Kind::BindingIdent)?,
+        _ => push_name(p, Kind::BindingIdent),
     }
-    if !has_default || !p.take(Mark::Assign)? {
-        return Ok(());
+    if !has_default || !take(p, Mark::Assign) {
+        return;
     }
-    parse_assignment(p, depth - 1)?;
-    p.build(Kind::AssignPat, start, before)
+    parse_assignment(p, depth - 1);
+    build(p, Kind::AssignPat, start, before)
 }
 
 /// A class, as a declaration or an expression (15.7).
 #[cycle(parse)]
-pub(crate) fn parse_class(p: &mut Parser<'_>, depth: u32, kind: Kind) -> Result<(), TextFault> {
+pub(crate) fn parse_class(p: &mut Parser<'_>, depth: u32, kind: Kind) {
     if depth == 0 {
-        return Err(p.too_deep());
+        return too_deep(p);
     }
     let (start, before) = (p.start(), p.count());
-    p.advance()?;
+    advance(p);
     let context = p.open();
     p.context.is_strict = true;
     if kind == Kind::ClassDecl || p.is_name() && !p.is_keyword(Keyword::Extends) {
-        p.push_name(Kind::Ident)?;
+        push_name(p, Kind::Ident);
     } else {
-        p.push_absent()?;
+        push_absent(p);
     }
     let class = p.count();
-    if p.take_keyword(Keyword::Extends)? {
-        parse_postfix(p, depth - 1)?;
+    if take_keyword(p, Keyword::Extends) {
+        parse_postfix(p, depth - 1);
     } else {
-        p.push_absent()?;
+        push_absent(p);
     }
-    p.expect(Mark::LeftBrace)?;
+    expect(p, Mark::LeftBrace);
     let members = p.count();
     let mut has_constructor = false;
     for _ in 0..p.len() {
-        if p.is_mark(Mark::RightBrace) {
+        if p.is_mark(Mark::RightBrace) || p.is_refused() {
             break;
         }
         let member = p.start();
-        parse_member(p, depth - 1)?;
-        mind_constructor(p, member, &mut has_constructor)?;
+        parse_member(p, depth - 1);
+        mind_constructor(p, member, &mut has_constructor);
     }
     p.context = context;
-    p.expect(Mark::RightBrace)?;
-    p.list(members)?;
-    p.build(Kind::Class, start, class)?;
-    p.close(kind, before)
+    expect(p, Mark::RightBrace);
+    list(p, members);
+    build(p, Kind::Class, start, class);
+    close(p, kind, before)
 }
 
 /// Sees to it that a class has one constructor at most (15.7.1); where the last member begins is told.
-fn mind_constructor(p: &Parser<'_>, at: usize, has_one: &mut bool) -> Result<(), TextFault> {
+fn mind_constructor(p: &mut Parser<'_>, at: usize, has_one: &mut bool) {
     if !p.is_last(Kind::Constructor) {
-        return Ok(());
+        return;
     }
     if *has_one {
-        return Err(TextFault::Unexpected {
+        p.refuse(TextFault::Unexpected {
             at,
             expected: Expected::Key,
         });
     }
     *has_one = true;
-    Ok(())
 }
 
 /// What `static` is at the beginning of a member.
@@ -184,12 +185,12 @@ enum Static {
 }
 
 /// Goes behind `static` where it is a modifier, and answers what it is.
-fn take_static(p: &mut Parser<'_>) -> Result<Static, TextFault> {
+fn take_static(p: &mut Parser<'_>) -> Static {
     let form = static_here(p);
     if form == Static::Modifier {
-        p.advance()?;
+        advance(p);
     }
-    Ok(form)
+    form
 }
 
 fn static_here(p: &Parser<'_>) -> Static {
@@ -211,24 +212,24 @@ fn static_here(p: &Parser<'_>) -> Static {
 
 /// A member of a class (15.7).
 #[cycle(parse)]
-fn parse_member(p: &mut Parser<'_>, depth: u32) -> Result<(), TextFault> {
+fn parse_member(p: &mut Parser<'_>, depth: u32) {
     if depth == 0 {
-        return Err(p.too_deep());
+        return too_deep(p);
     }
     let (start, before) = (p.start(), p.count());
-    if p.take(Mark::Semicolon)? {
-        return p.build(Kind::EmptyStmt, start, before);
+    if take(p, Mark::Semicolon) {
+        return build(p, Kind::EmptyStmt, start, before);
     }
-    let form = take_static(p)?;
+    let form = take_static(p);
     if form == Static::Block {
         let context = p.open_function(false, false);
-        parse_steps(p, depth - 1, Kind::BlockStmt, STATIC_BODY, (start, before))?;
+        parse_steps(p, depth - 1, Kind::BlockStmt, STATIC_BODY, (start, before));
         p.context = context;
-        return p.build(Kind::StaticBlock, start, before);
+        return build(p, Kind::StaticBlock, start, before);
     }
     let is_static = form == Static::Modifier;
-    let modifiers = take_modifiers(p)?;
-    parse_key(p, depth - 1)?;
+    let modifiers = take_modifiers(p);
+    parse_key(p, depth - 1);
     if p.is_mark(Mark::LeftParen) || !modifiers.is_plain() {
         let method = p.start();
         parse_function_rest(
@@ -237,17 +238,19 @@ fn parse_member(p: &mut Parser<'_>, depth: u32) -> Result<(), TextFault> {
             method,
             modifiers.is_async,
             modifiers.is_generator,
-        )?;
-        return p.build_method(modifiers, is_static, start, before);
+        );
+        let done = p.build_method(modifiers, is_static, start, before);
+        return p.keep(done);
     }
     let context = p.open_function(false, false);
-    if p.take(Mark::Assign)? {
-        parse_assignment(p, depth - 1)?;
+    if take(p, Mark::Assign) {
+        parse_assignment(p, depth - 1);
     } else {
-        p.push_absent()?;
+        push_absent(p);
     }
     p.context = context;
-    p.end_statement()?;
-    p.push(Node::Flag(is_static))?;
-    p.build_field(start, before)
+    end_statement(p);
+    push(p, Node::Flag(is_static));
+    let done = p.build_field(start, before);
+    p.keep(done);
 }

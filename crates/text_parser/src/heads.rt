@@ -1,12 +1,16 @@
 //! Declarations of variables, and loops by `for` (ECMA-262, 14.3 and 14.7).
 use crate::expressions::{parse_assignment, parse_expression};
 use crate::functions::parse_binding;
+use crate::keeping::{
+    advance, build, end_statement, expect, insert, list, not_read, push, push_absent, take,
+    take_keyword, too_deep, unexpected,
+};
 use crate::members::parse_postfix;
 use crate::statements::parse_steps;
 use crate::steps::{FOR, FOR_IN, FOR_OF};
 use swc_tree_node::{Kind, Node, Word};
 use text_lexer::{Mark, Token};
-use text_reader::{Expected, Keyword, Language, Next, Parser, TextFault};
+use text_reader::{Expected, Keyword, Language, Next, Parser};
 
 /// Whether what stands behind `using` on its line is what it declares.
 fn is_used(next: Next<'_>, in_head: bool) -> bool {
@@ -51,7 +55,7 @@ pub(crate) fn declares(p: &Parser<'_>, in_head: bool) -> bool {
 }
 
 /// Makes the word of a declaration or what is said of `using`, goes behind it, and answers what the declaration is.
-fn push_declaring(p: &mut Parser<'_>) -> Result<Kind, TextFault> {
+fn push_declaring(p: &mut Parser<'_>) -> Kind {
     let (kind, second) = match p.keyword() {
         Some(Keyword::Let) => (Kind::VarDecl, Node::Word(Word::Let)),
         Some(Keyword::Const) => (Kind::VarDecl, Node::Word(Word::Const)),
@@ -60,11 +64,11 @@ fn push_declaring(p: &mut Parser<'_>) -> Result<Kind, TextFault> {
         _ => (Kind::VarDecl, Node::Word(Word::Var)),
     };
     if p.is_keyword(Keyword::Await) {
-        p.advance()?;
+        advance(p);
     }
-    p.advance()?;
-    p.push(second)?;
-    Ok(kind)
+    advance(p);
+    push(p, second);
+    kind
 }
 
 /// Whether a declared variable has to have a value here: a pattern, and what can't be assigned to (14.3).
@@ -75,85 +79,85 @@ fn wants_value(p: &Parser<'_>, is_fixed: bool, in_head: bool) -> bool {
 
 /// Variables that one word declares; the head of a `for` has no end of its own.
 #[cycle(parse)]
-pub(crate) fn parse_variables(
-    p: &mut Parser<'_>,
-    depth: u32,
-    in_head: bool,
-) -> Result<(), TextFault> {
+pub(crate) fn parse_variables(p: &mut Parser<'_>, depth: u32, in_head: bool) {
     if depth == 0 {
-        return Err(p.too_deep());
+        return too_deep(p);
     }
     let (start, before) = (p.start(), p.count());
     let is_fixed = !p.is_keyword(Keyword::Var) && !p.is_keyword(Keyword::Let);
-    let kind = push_declaring(p)?;
+    let kind = push_declaring(p);
     let variables = p.count();
     for _ in 0..p.len() {
         let (name, variable) = (p.start(), p.count());
         if kind == Kind::UsingDecl && !p.is_name() {
-            return p.unexpected(Expected::Name);
+            return unexpected(p, Expected::Name);
         }
-        parse_binding(p, depth - 1, false)?;
-        if p.take(Mark::Assign)? {
-            parse_assignment(p, depth - 1)?;
+        parse_binding(p, depth - 1, false);
+        if take(p, Mark::Assign) {
+            parse_assignment(p, depth - 1);
         } else if p.is_mark(Mark::Colon) {
-            return p.not_read(Language::Types);
+            return not_read(p, Language::Types);
         } else if wants_value(p, is_fixed, in_head) {
-            return p.unexpected(Expected::Initializer);
+            return unexpected(p, Expected::Initializer);
         } else {
-            p.push_absent()?;
+            push_absent(p);
         }
-        p.build(Kind::VarDeclarator, name, variable)?;
-        if !p.take(Mark::Comma)? {
+        build(p, Kind::VarDeclarator, name, variable);
+        if !take(p, Mark::Comma) {
             break;
         }
     }
-    p.list(variables)?;
+    list(p, variables);
     if !in_head {
-        p.end_statement()?;
+        end_statement(p);
     }
-    p.build(kind, start, before)
+    build(p, kind, start, before)
 }
 
 /// A `for` statement (14.7.4 and 14.7.5).
 #[cycle(parse)]
-pub(crate) fn parse_for(p: &mut Parser<'_>, depth: u32) -> Result<(), TextFault> {
+pub(crate) fn parse_for(p: &mut Parser<'_>, depth: u32) {
     if depth == 0 {
-        return Err(p.too_deep());
+        return too_deep(p);
     }
     let begun = (p.start(), p.count());
-    p.advance()?;
-    let is_await = p.context.has_await && p.take_keyword(Keyword::Await)?;
-    p.expect(Mark::LeftParen)?;
+    advance(p);
+    let is_await = p.context.has_await && take_keyword(p, Keyword::Await);
+    expect(p, Mark::LeftParen);
     let (begins_let, head) = (p.is_keyword(Keyword::Let), p.start());
     let context = p.context;
     p.context.has_in = false;
-    parse_head(p, depth - 1, is_await)?;
+    parse_head(p, depth - 1, is_await);
     p.context = context;
     if p.is_keyword(Keyword::Of) && p.is_each_head(begins_let) {
-        p.end_head_of(head, is_await)?;
-        p.last_to_head(depth)?;
-        p.insert(begun.1, Node::Flag(is_await))?;
+        let done = p.end_head_of(head, is_await);
+        p.keep(done);
+        let done = p.last_to_head(depth);
+        p.keep(done);
+        insert(p, begun.1, Node::Flag(is_await));
         return parse_steps(p, depth - 1, Kind::ForOfStmt, FOR_OF, begun);
     }
     if is_await {
-        return p.unexpected(Expected::Word("of"));
+        return unexpected(p, Expected::Word("of"));
     }
     if p.is_keyword(Keyword::In) && p.is_each_head(false) && !p.is_last(Kind::UsingDecl) {
-        p.last_to_head(depth)?;
+        let done = p.last_to_head(depth);
+        p.keep(done);
         return parse_steps(p, depth - 1, Kind::ForInStmt, FOR_IN, begun);
     }
-    p.end_head(head)?;
+    let done = p.end_head(head);
+    p.keep(done);
     parse_steps(p, depth - 1, Kind::ForStmt, FOR, begun)
 }
 
 /// What a `for` statement begins with in its parentheses.
 #[cycle(parse)]
-fn parse_head(p: &mut Parser<'_>, depth: u32, is_await: bool) -> Result<(), TextFault> {
+fn parse_head(p: &mut Parser<'_>, depth: u32, is_await: bool) {
     if depth == 0 {
-        return Err(p.too_deep());
+        return too_deep(p);
     }
     if p.is_mark(Mark::Semicolon) {
-        return p.push_absent();
+        return push_absent(p);
     }
     if declares(p, true) {
         return parse_variables(p, depth - 1, true);

@@ -7,6 +7,7 @@
 mod expressions;
 mod functions;
 mod heads;
+mod keeping;
 mod members;
 mod modules;
 mod objects;

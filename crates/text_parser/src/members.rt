@@ -1,9 +1,13 @@
 //! Members, calls, optional chains and `new` (ECMA-262, 13.3).
 use crate::expressions::{parse_assignment, parse_expression};
+use crate::keeping::{
+    advance, build, build_with, close, expect, expect_keyword, list, push, push_absent,
+    push_key_name, push_private_name, take, too_deep, unexpected,
+};
 use crate::primary::{parse_primary, parse_template};
 use swc_tree_node::{Kind, Node, Word};
 use text_lexer::{Mark, Token};
-use text_reader::{Expected, Keyword, Parser, TextFault};
+use text_reader::{Expected, Keyword, Parser};
 
 /// What stands behind an expression.
 #[derive(Clone, Copy, PartialEq, Eq)]
@@ -28,28 +32,22 @@ fn suffix_here(p: &Parser<'_>, calls: bool) -> Option<Suffix> {
 
 /// An operand with its members and calls.
 #[cycle(parse)]
-pub(crate) fn parse_postfix(p: &mut Parser<'_>, depth: u32) -> Result<(), TextFault> {
+pub(crate) fn parse_postfix(p: &mut Parser<'_>, depth: u32) {
     if depth == 0 {
-        return Err(p.too_deep());
+        return too_deep(p);
     }
     let (start, before) = (p.start(), p.count());
-    parse_primary(p, depth - 1)?;
+    parse_primary(p, depth - 1);
     if p.is_last(Kind::ArrowExpr) {
-        return Ok(());
+        return;
     }
     parse_suffixes(p, depth - 1, start, before, true)
 }
 
 #[cycle(parse)]
-fn parse_suffixes(
-    p: &mut Parser<'_>,
-    depth: u32,
-    start: usize,
-    before: usize,
-    calls: bool,
-) -> Result<(), TextFault> {
+fn parse_suffixes(p: &mut Parser<'_>, depth: u32, start: usize, before: usize, calls: bool) {
     if depth == 0 {
-        return Err(p.too_deep());
+        return too_deep(p);
     }
     let mut chained = false;
     for _ in 0..p.len() {
@@ -57,61 +55,54 @@ fn parse_suffixes(
             break;
         };
         chained = chained || suffix == Suffix::Optional;
-        parse_suffix(p, depth - 1, suffix, chained)?;
-        build_suffixed(p, suffix, chained, start, before)?;
+        parse_suffix(p, depth - 1, suffix, chained);
+        build_suffixed(p, suffix, chained, start, before);
     }
     if p.is_at(before, Kind::Super) {
-        p.unexpected(Expected::Mark(Mark::Dot))
-    } else {
-        Ok(())
+        unexpected(p, Expected::Mark(Mark::Dot));
     }
 }
 
 /// What stands behind `?.`.
-fn behind_optional(p: &mut Parser<'_>) -> Result<Suffix, TextFault> {
-    p.advance()?;
+fn behind_optional(p: &mut Parser<'_>) -> Suffix {
+    advance(p);
     match suffix_here(p, true) {
-        Some(Suffix::Computed) => Ok(Suffix::Computed),
-        Some(Suffix::Arguments) => Ok(Suffix::Arguments),
-        _ => Ok(Suffix::Optional),
+        Some(Suffix::Computed) => Suffix::Computed,
+        Some(Suffix::Arguments) => Suffix::Arguments,
+        _ => Suffix::Optional,
     }
 }
 
 /// One thing behind an expression: a key, or a list of arguments, or a template.
 #[cycle(parse)]
-fn parse_suffix(
-    p: &mut Parser<'_>,
-    depth: u32,
-    suffix: Suffix,
-    chained: bool,
-) -> Result<(), TextFault> {
+fn parse_suffix(p: &mut Parser<'_>, depth: u32, suffix: Suffix, chained: bool) {
     if depth == 0 {
-        return Err(p.too_deep());
+        return too_deep(p);
     }
     let suffix = match suffix {
-        Suffix::Optional => behind_optional(p)?,
+        Suffix::Optional => behind_optional(p),
         other => other,
     };
     match suffix {
         Suffix::Arguments => {
-            p.advance()?;
+            advance(p);
             parse_elements(p, depth - 1, Mark::RightParen)
         }
         Suffix::Computed => parse_computed(p, depth - 1, false),
         Suffix::Template if !chained => parse_template(p, depth - 1, true),
-        Suffix::Template => p.unexpected(Expected::Semicolon),
+        Suffix::Template => unexpected(p, Expected::Semicolon),
         Suffix::Member => {
-            p.advance()?;
+            advance(p);
             push_member_name(p)
         }
         Suffix::Optional => push_member_name(p),
     }
 }
 
-fn push_member_name(p: &mut Parser<'_>) -> Result<(), TextFault> {
+fn push_member_name(p: &mut Parser<'_>) {
     match p.token() {
-        Token::PrivateName(raw) => p.push_private_name(raw),
-        _ => p.push_key_name(),
+        Token::PrivateName(raw) => push_private_name(p, raw),
+        _ => push_key_name(p),
     }
 }
 
@@ -131,125 +122,116 @@ fn kind_of_suffixed(p: &Parser<'_>, before: usize, chained: bool) -> Kind {
     }
 }
 
-fn build_suffixed(
-    p: &mut Parser<'_>,
-    suffix: Suffix,
-    chained: bool,
-    start: usize,
-    before: usize,
-) -> Result<(), TextFault> {
+fn build_suffixed(p: &mut Parser<'_>, suffix: Suffix, chained: bool, start: usize, before: usize) {
     let kind = kind_of_suffixed(p, before, chained);
     let is_super = p.is_at(before, Kind::Super);
     if is_super && (chained || kind == Kind::TaggedTpl || p.is_last(Kind::PrivateName)) {
-        return p.unexpected(Expected::Key);
+        return unexpected(p, Expected::Key);
     }
-    p.build(kind, start, before)?;
+    build(p, kind, start, before);
     if chained {
         let optional = suffix == Suffix::Optional;
-        p.build_with(Kind::OptChainExpr, Node::Flag(optional), start, before)?;
+        build_with(p, Kind::OptChainExpr, Node::Flag(optional), start, before);
     }
-    Ok(())
 }
 
 /// An expression in brackets: the key of a member, or one in an object or a class, which has no commas.
 #[cycle(parse)]
-pub(crate) fn parse_computed(
-    p: &mut Parser<'_>,
-    depth: u32,
-    declares: bool,
-) -> Result<(), TextFault> {
+pub(crate) fn parse_computed(p: &mut Parser<'_>, depth: u32, declares: bool) {
     if depth == 0 {
-        return Err(p.too_deep());
+        return too_deep(p);
     }
     let (start, before) = (p.start(), p.count());
-    p.advance()?;
+    advance(p);
     let context = p.open();
-    parse_expression(p, depth - 1)?;
+    parse_expression(p, depth - 1);
     p.context = context;
     if declares && p.is_last(Kind::SeqExpr) {
-        return p.unexpected(Expected::Expression);
+        return unexpected(p, Expected::Expression);
     }
-    p.expect(Mark::RightBracket)?;
-    p.build(Kind::ComputedPropName, start, before)
+    expect(p, Mark::RightBracket);
+    build(p, Kind::ComputedPropName, start, before)
 }
 
 /// Makes the span of the dots that stand here, if some do, and goes behind them: whether they do.
-fn push_dots(p: &mut Parser<'_>) -> Result<bool, TextFault> {
+fn push_dots(p: &mut Parser<'_>) -> bool {
     let start = p.start();
-    let has_dots = p.take(Mark::Dots)?;
+    let has_dots = take(p, Mark::Dots);
     if has_dots {
-        p.push_span(start)?;
+        let done = p.push_span(start);
+        p.keep(done);
     } else {
-        p.push_absent()?;
+        push_absent(p);
     }
-    Ok(has_dots)
+    has_dots
 }
 
 /// The arguments of a call or the elements of an array, up to the punctuator that closes them, and behind it. An
 /// array may lack some.
 #[cycle(parse)]
-pub(crate) fn parse_elements(p: &mut Parser<'_>, depth: u32, close: Mark) -> Result<(), TextFault> {
+pub(crate) fn parse_elements(p: &mut Parser<'_>, depth: u32, closing: Mark) {
     if depth == 0 {
-        return Err(p.too_deep());
+        return too_deep(p);
     }
     let before = p.count();
     let context = p.open();
     for _ in 0..p.len() {
-        if p.is_mark(close) {
+        if p.is_mark(closing) {
             break;
         }
-        if close == Mark::RightBracket && p.is_mark(Mark::Comma) {
-            p.push_absent()?;
-            p.advance()?;
+        if closing == Mark::RightBracket && p.is_mark(Mark::Comma) {
+            push_absent(p);
+            advance(p);
             continue;
         }
         let element = p.count();
-        let has_dots = push_dots(p)?;
-        parse_assignment(p, depth - 1)?;
-        p.close(Kind::ExprOrSpread, element)?;
+        let has_dots = push_dots(p);
+        parse_assignment(p, depth - 1);
+        close(p, Kind::ExprOrSpread, element);
         if has_dots {
-            p.mind_last_comma(close)?;
+            let done = p.mind_last_comma(closing);
+            p.keep(done);
         }
-        if !p.take(Mark::Comma)? {
+        if !take(p, Mark::Comma) {
             break;
         }
     }
     p.context = context;
-    p.expect(close)?;
-    p.list(before)
+    expect(p, closing);
+    list(p, before)
 }
 
 /// `new.target`, behind its dot.
-fn push_new_target(p: &mut Parser<'_>, start: usize) -> Result<(), TextFault> {
+fn push_new_target(p: &mut Parser<'_>, start: usize) {
     let before = p.count();
-    p.expect_keyword(Keyword::Target)?;
-    p.push_word(Word::NewTarget)?;
-    p.build(Kind::MetaPropExpr, start, before)
+    expect_keyword(p, Keyword::Target);
+    push(p, Node::Word(Word::NewTarget));
+    build(p, Kind::MetaPropExpr, start, before)
 }
 
 /// `new`, with arguments or without.
 #[cycle(parse)]
-pub(crate) fn parse_new(p: &mut Parser<'_>, depth: u32) -> Result<(), TextFault> {
+pub(crate) fn parse_new(p: &mut Parser<'_>, depth: u32) {
     if depth == 0 {
-        return Err(p.too_deep());
+        return too_deep(p);
     }
     let (start, before) = (p.start(), p.count());
-    p.advance()?;
-    if p.take(Mark::Dot)? {
+    advance(p);
+    if take(p, Mark::Dot) {
         return push_new_target(p, start);
     }
     let callee = p.start();
-    parse_primary(p, depth - 1)?;
+    parse_primary(p, depth - 1);
     if p.is_last(Kind::CallExpr) {
-        return p.unexpected(Expected::Expression);
+        return unexpected(p, Expected::Expression);
     }
-    parse_suffixes(p, depth - 1, callee, before, false)?;
-    if p.take(Mark::LeftParen)? {
-        parse_elements(p, depth - 1, Mark::RightParen)?;
+    parse_suffixes(p, depth - 1, callee, before, false);
+    if take(p, Mark::LeftParen) {
+        parse_elements(p, depth - 1, Mark::RightParen);
     } else if p.is_mark(Mark::QuestionDot) {
-        return p.unexpected(Expected::Mark(Mark::LeftParen));
+        return unexpected(p, Expected::Mark(Mark::LeftParen));
     } else {
-        p.push_absent()?;
+        push_absent(p);
     }
-    p.build(Kind::NewExpr, start, before)
+    build(p, Kind::NewExpr, start, before)
 }

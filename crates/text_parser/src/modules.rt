@@ -2,6 +2,10 @@
 use crate::expressions::parse_assignment;
 use crate::functions::{parse_class, parse_function};
 use crate::heads::declares;
+use crate::keeping::{
+    advance, build, end_statement, expect, expect_keyword, list, push_absent, push_name,
+    push_string, take, take_keyword, unexpected,
+};
 use crate::statements::parse_statement;
 use crate::steps::Place;
 use swc_tree_node::Kind;
@@ -9,15 +13,15 @@ use text_lexer::{Mark, Token};
 use text_reader::{Expected, Keyword, Parser, TextFault, is_mark};
 
 /// The items of a module, up to the end.
-pub(crate) fn parse_items(p: &mut Parser<'_>, depth: u32) -> Result<(), TextFault> {
+pub(crate) fn parse_items(p: &mut Parser<'_>, depth: u32) {
     let before = p.count();
     for _ in 0..p.len() {
         if p.is_end() {
             break;
         }
-        parse_item(p, depth)?;
+        parse_item(p, depth);
     }
-    p.list(before)
+    list(p, before)
 }
 
 /// Whether an import begins here that is no expression.
@@ -29,31 +33,32 @@ fn begins_import(p: &Parser<'_>) -> bool {
     !is_mark(next, Mark::LeftParen) && !is_mark(next, Mark::Dot)
 }
 
-fn parse_item(p: &mut Parser<'_>, depth: u32) -> Result<(), TextFault> {
+fn parse_item(p: &mut Parser<'_>, depth: u32) {
     let covers = p.covers;
     if begins_import(p) {
         return parse_import(p);
     }
     if p.is_keyword(Keyword::Export) {
-        parse_export(p, depth)?;
-        return p.end_covers(covers);
+        parse_export(p, depth);
+        let done = p.end_covers(covers);
+        return p.keep(done);
     }
     parse_statement(p, depth, Place::Item)
 }
 
 /// An import (16.2.2).
-fn parse_import(p: &mut Parser<'_>) -> Result<(), TextFault> {
+fn parse_import(p: &mut Parser<'_>) {
     let (start, before) = (p.start(), p.count());
-    p.advance()?;
+    advance(p);
     if is_string(p) {
-        p.list(before)?;
+        list(p, before);
     } else {
-        parse_clause(p)?;
-        p.expect_keyword(Keyword::From)?;
+        parse_clause(p);
+        expect_keyword(p, Keyword::From);
     }
-    push_origin(p)?;
-    p.end_statement()?;
-    p.build(Kind::ImportDecl, start, before)
+    push_origin(p);
+    end_statement(p);
+    build(p, Kind::ImportDecl, start, before)
 }
 
 fn is_string(p: &Parser<'_>) -> bool {
@@ -61,39 +66,39 @@ fn is_string(p: &Parser<'_>) -> bool {
 }
 
 /// What an import binds.
-fn parse_clause(p: &mut Parser<'_>) -> Result<(), TextFault> {
+fn parse_clause(p: &mut Parser<'_>) {
     let before = p.count();
     let mut has_more = true;
     if p.is_name() {
         let (start, specifier) = (p.start(), p.count());
-        p.push_name(Kind::Ident)?;
-        p.build(Kind::ImportDefaultSpecifier, start, specifier)?;
-        has_more = p.take(Mark::Comma)?;
+        push_name(p, Kind::Ident);
+        build(p, Kind::ImportDefaultSpecifier, start, specifier);
+        has_more = take(p, Mark::Comma);
     }
     if has_more {
-        parse_imported(p)?;
+        parse_imported(p);
     }
-    p.list(before)
+    list(p, before)
 }
 
-fn parse_imported(p: &mut Parser<'_>) -> Result<(), TextFault> {
+fn parse_imported(p: &mut Parser<'_>) {
     let (start, before) = (p.start(), p.count());
-    if p.take(Mark::Mul)? {
-        p.expect_keyword(Keyword::As)?;
-        p.push_name(Kind::Ident)?;
-        return p.build(Kind::ImportStarAsSpecifier, start, before);
+    if take(p, Mark::Mul) {
+        expect_keyword(p, Keyword::As);
+        push_name(p, Kind::Ident);
+        return build(p, Kind::ImportStarAsSpecifier, start, before);
     }
-    p.expect(Mark::LeftBrace)?;
+    expect(p, Mark::LeftBrace);
     for _ in 0..p.len() {
         if p.is_mark(Mark::RightBrace) {
             break;
         }
-        parse_import_specifier(p)?;
-        if !p.take(Mark::Comma)? {
+        parse_import_specifier(p);
+        if !take(p, Mark::Comma) {
             break;
         }
     }
-    p.expect(Mark::RightBrace)
+    expect(p, Mark::RightBrace)
 }
 
 /// Whether a name here is given another behind it.
@@ -101,80 +106,85 @@ fn is_renamed(p: &Parser<'_>) -> bool {
     p.peek().keyword == Some(Keyword::As)
 }
 
-fn parse_import_specifier(p: &mut Parser<'_>) -> Result<(), TextFault> {
+fn parse_import_specifier(p: &mut Parser<'_>) {
     let (start, before) = (p.start(), p.count());
     if is_renamed(p) {
-        push_module_name(p)?;
-        p.advance()?;
-        p.push_name(Kind::Ident)?;
-        p.swap()?;
+        push_module_name(p);
+        advance(p);
+        push_name(p, Kind::Ident);
+        let done = p.swap();
+        p.keep(done);
     } else {
-        p.push_name(Kind::Ident)?;
-        p.push_absent()?;
+        push_name(p, Kind::Ident);
+        push_absent(p);
     }
-    p.build(Kind::ImportNamedSpecifier, start, before)
+    build(p, Kind::ImportNamedSpecifier, start, before)
 }
 
 /// A name of another module, of any word, or a string (16.2.1).
-fn push_module_name(p: &mut Parser<'_>) -> Result<(), TextFault> {
-    if is_string(p) {
+fn push_module_name(p: &mut Parser<'_>) {
+    let done = if is_string(p) {
         p.push_string()
     } else {
         p.push_any_name()
-    }
+    };
+    p.keep(done);
 }
 
 /// Where an import or an export has its items from, with its attributes.
-fn push_origin(p: &mut Parser<'_>) -> Result<(), TextFault> {
-    p.push_string()?;
-    if !p.take_keyword(Keyword::With)? {
-        return p.push_absent();
+fn push_origin(p: &mut Parser<'_>) {
+    push_string(p);
+    if !take_keyword(p, Keyword::With) {
+        return push_absent(p);
     }
-    p.expect(Mark::LeftBrace)?;
+    expect(p, Mark::LeftBrace);
     let before = p.count();
     for _ in 0..p.len() {
         if p.is_mark(Mark::RightBrace) {
             break;
         }
-        push_attribute(p)?;
-        if !p.take(Mark::Comma)? {
+        push_attribute(p);
+        if !take(p, Mark::Comma) {
             break;
         }
     }
-    p.expect(Mark::RightBrace)?;
-    p.list(before)
+    expect(p, Mark::RightBrace);
+    list(p, before)
 }
 
-fn push_attribute(p: &mut Parser<'_>) -> Result<(), TextFault> {
+fn push_attribute(p: &mut Parser<'_>) {
     let before = p.count();
     if is_string(p) {
-        p.push_string_value()?;
+        let done = p.push_string_value();
+        p.keep(done);
     } else {
-        p.push_key_text()?;
+        let done = p.push_key_text();
+        p.keep(done);
     }
-    p.expect(Mark::Colon)?;
-    p.push_string_value()?;
-    p.list(before)
+    expect(p, Mark::Colon);
+    let done = p.push_string_value();
+    p.keep(done);
+    list(p, before)
 }
 
 /// An export (16.2.3).
-fn parse_export(p: &mut Parser<'_>, depth: u32) -> Result<(), TextFault> {
+fn parse_export(p: &mut Parser<'_>, depth: u32) {
     let (start, before) = (p.start(), p.count());
-    p.advance()?;
-    if p.take_keyword(Keyword::Default)? {
+    advance(p);
+    if take_keyword(p, Keyword::Default) {
         return parse_default(p, depth, start);
     }
-    if p.take(Mark::Mul)? {
+    if take(p, Mark::Mul) {
         return parse_export_all(p, start);
     }
     if p.is_mark(Mark::LeftBrace) {
         return parse_export_list(p, start);
     }
     if !begins_declaration(p) {
-        return p.unexpected(Expected::Statement);
+        return unexpected(p, Expected::Statement);
     }
-    parse_statement(p, depth, Place::Item)?;
-    p.build(Kind::ExportDecl, start, before)
+    parse_statement(p, depth, Place::Item);
+    build(p, Kind::ExportDecl, start, before)
 }
 
 fn begins_declaration(p: &Parser<'_>) -> bool {
@@ -191,90 +201,90 @@ fn begins_async_function(p: &Parser<'_>) -> bool {
     p.is_keyword(Keyword::Async) && !next.ended && next.keyword == Some(Keyword::Function)
 }
 
-fn parse_default(p: &mut Parser<'_>, depth: u32, start: usize) -> Result<(), TextFault> {
+fn parse_default(p: &mut Parser<'_>, depth: u32, start: usize) {
     let (item, before) = (p.start(), p.count());
     let is_async = begins_async_function(p);
     if is_async {
-        p.advance()?;
+        advance(p);
     }
     if p.is_keyword(Keyword::Function) {
-        parse_function(p, depth, item, is_async, Kind::FnExpr, false)?;
-        return p.build(Kind::ExportDefaultDecl, start, before);
+        parse_function(p, depth, item, is_async, Kind::FnExpr, false);
+        return build(p, Kind::ExportDefaultDecl, start, before);
     }
     if p.is_keyword(Keyword::Class) {
-        parse_class(p, depth, Kind::ClassExpr)?;
-        return p.build(Kind::ExportDefaultDecl, start, before);
+        parse_class(p, depth, Kind::ClassExpr);
+        return build(p, Kind::ExportDefaultDecl, start, before);
     }
-    parse_assignment(p, depth)?;
-    p.end_statement()?;
-    p.build(Kind::ExportDefaultExpr, start, before)
+    parse_assignment(p, depth);
+    end_statement(p);
+    build(p, Kind::ExportDefaultExpr, start, before)
 }
 
 /// All that another module exports, or the whole of it under a name, behind the star.
-fn parse_export_all(p: &mut Parser<'_>, start: usize) -> Result<(), TextFault> {
+fn parse_export_all(p: &mut Parser<'_>, start: usize) {
     let before = p.count();
-    let is_named = p.take_keyword(Keyword::As)?;
+    let is_named = take_keyword(p, Keyword::As);
     if is_named {
         let (name, specifier) = (p.start(), p.count());
-        push_module_name(p)?;
-        p.build(Kind::ExportNamespaceSpecifier, name, specifier)?;
-        p.list(before)?;
+        push_module_name(p);
+        build(p, Kind::ExportNamespaceSpecifier, name, specifier);
+        list(p, before);
     }
-    p.expect_keyword(Keyword::From)?;
-    push_origin(p)?;
-    p.end_statement()?;
+    expect_keyword(p, Keyword::From);
+    push_origin(p);
+    end_statement(p);
     let kind = if is_named {
         Kind::NamedExport
     } else {
         Kind::ExportAll
     };
-    p.build(kind, start, before)
+    build(p, kind, start, before)
 }
 
 /// A list of names that are exported, of this module or of another.
-fn parse_export_list(p: &mut Parser<'_>, start: usize) -> Result<(), TextFault> {
+fn parse_export_list(p: &mut Parser<'_>, start: usize) {
     let before = p.count();
-    p.advance()?;
+    advance(p);
     let mut foreign = None;
     for _ in 0..p.len() {
         if p.is_mark(Mark::RightBrace) {
             break;
         }
         let specifier = p.start();
-        if !parse_export_specifier(p)? {
+        if !parse_export_specifier(p) {
             foreign = Some(specifier);
         }
-        if !p.take(Mark::Comma)? {
+        if !take(p, Mark::Comma) {
             break;
         }
     }
-    p.expect(Mark::RightBrace)?;
-    p.list(before)?;
-    if p.take_keyword(Keyword::From)? {
-        push_origin(p)?;
+    expect(p, Mark::RightBrace);
+    list(p, before);
+    if take_keyword(p, Keyword::From) {
+        push_origin(p);
     } else if let Some(at) = foreign {
-        return Err(TextFault::Unexpected {
+        return p.refuse(TextFault::Unexpected {
             at,
             expected: Expected::Name,
         });
     } else {
-        p.push_absent()?;
-        p.push_absent()?;
+        push_absent(p);
+        push_absent(p);
     }
-    p.end_statement()?;
-    p.build(Kind::NamedExport, start, before)
+    end_statement(p);
+    build(p, Kind::NamedExport, start, before)
 }
 
 /// A name that is exported: whether a name of the program may be called so.
-fn parse_export_specifier(p: &mut Parser<'_>) -> Result<bool, TextFault> {
+fn parse_export_specifier(p: &mut Parser<'_>) -> bool {
     let (start, before) = (p.start(), p.count());
-    push_module_name(p)?;
+    push_module_name(p);
     let is_name = p.is_last_name();
-    if p.take_keyword(Keyword::As)? {
-        push_module_name(p)?;
+    if take_keyword(p, Keyword::As) {
+        push_module_name(p);
     } else {
-        p.push_absent()?;
+        push_absent(p);
     }
-    p.build(Kind::ExportNamedSpecifier, start, before)?;
-    Ok(is_name)
+    build(p, Kind::ExportNamedSpecifier, start, before);
+    is_name
 }

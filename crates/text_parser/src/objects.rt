@@ -1,10 +1,14 @@
 //! Objects, and the methods that they share with classes (ECMA-262, 13.2.5 and 15.4).
 use crate::expressions::parse_assignment;
 use crate::functions::parse_function_rest;
+use crate::keeping::{
+    advance, build, close, expect, list, push_key_name, push_leaf, push_name, push_private_name,
+    push_string, take, too_deep, unexpected,
+};
 use crate::members::parse_computed;
 use swc_tree_node::{Kind, Word};
 use text_lexer::{Mark, Token};
-use text_reader::{Expected, Keyword, Modifiers, Next, Parser, TextFault, begins_key, is_mark};
+use text_reader::{Expected, Keyword, Modifiers, Next, Parser, begins_key, is_mark};
 
 /// Whether a word before a key is one of a method's modifiers, by what stands behind it.
 fn modifies(p: &Parser<'_>, next: Next<'_>) -> bool {
@@ -18,7 +22,7 @@ fn modifies(p: &Parser<'_>, next: Next<'_>) -> bool {
 }
 
 /// Goes behind the modifiers of a method.
-pub(crate) fn take_modifiers(p: &mut Parser<'_>) -> Result<Modifiers, TextFault> {
+pub(crate) fn take_modifiers(p: &mut Parser<'_>) -> Modifiers {
     let mut modifiers = Modifiers {
         kind: Word::Method,
         is_async: false,
@@ -30,36 +34,36 @@ pub(crate) fn take_modifiers(p: &mut Parser<'_>) -> Result<Modifiers, TextFault>
             Some(Keyword::Set) => modifiers.kind = Word::Setter,
             _ => modifiers.is_async = true,
         }
-        p.advance()?;
+        advance(p);
     }
     if modifiers.kind == Word::Method {
-        modifiers.is_generator = p.take(Mark::Mul)?;
+        modifiers.is_generator = take(p, Mark::Mul);
     }
-    Ok(modifiers)
+    modifiers
 }
 
 /// An object (13.2.5).
 #[cycle(parse)]
-pub(crate) fn parse_object(p: &mut Parser<'_>, depth: u32) -> Result<(), TextFault> {
+pub(crate) fn parse_object(p: &mut Parser<'_>, depth: u32) {
     if depth == 0 {
-        return Err(p.too_deep());
+        return too_deep(p);
     }
     let (start, before) = (p.start(), p.count());
-    p.advance()?;
+    advance(p);
     let context = p.open();
     for _ in 0..p.len() {
         if p.is_mark(Mark::RightBrace) {
             break;
         }
-        parse_property(p, depth - 1)?;
-        if !p.take(Mark::Comma)? {
+        parse_property(p, depth - 1);
+        if !take(p, Mark::Comma) {
             break;
         }
     }
     p.context = context;
-    p.expect(Mark::RightBrace)?;
-    p.list(before)?;
-    p.build(Kind::ObjectLit, start, before)
+    expect(p, Mark::RightBrace);
+    list(p, before);
+    build(p, Kind::ObjectLit, start, before)
 }
 
 /// Whether a name here stands for a property and its value.
@@ -73,31 +77,34 @@ fn is_shorthand(p: &Parser<'_>) -> bool {
 
 /// A property of an object; a name with a default is one of a pattern.
 #[cycle(parse)]
-fn parse_property(p: &mut Parser<'_>, depth: u32) -> Result<(), TextFault> {
+fn parse_property(p: &mut Parser<'_>, depth: u32) {
     if depth == 0 {
-        return Err(p.too_deep());
+        return too_deep(p);
     }
     let (start, before) = (p.start(), p.count());
-    if p.take(Mark::Dots)? {
-        p.push_span(start)?;
-        parse_assignment(p, depth - 1)?;
-        p.close(Kind::SpreadElement, before)?;
-        return p.mind_last_comma(Mark::RightBrace);
+    if take(p, Mark::Dots) {
+        let done = p.push_span(start);
+        p.keep(done);
+        parse_assignment(p, depth - 1);
+        close(p, Kind::SpreadElement, before);
+        let done = p.mind_last_comma(Mark::RightBrace);
+        return p.keep(done);
     }
     if is_shorthand(p) {
-        p.push_name(Kind::Ident)?;
+        push_name(p, Kind::Ident);
         if !p.is_mark(Mark::Assign) {
-            return Ok(());
+            return;
         }
-        p.begin_cover()?;
-        p.advance()?;
-        parse_assignment(p, depth - 1)?;
-        return p.build(Kind::AssignPatProp, start, before);
+        let done = p.begin_cover();
+        p.keep(done);
+        advance(p);
+        parse_assignment(p, depth - 1);
+        return build(p, Kind::AssignPatProp, start, before);
     }
-    let modifiers = take_modifiers(p)?;
-    parse_key(p, depth - 1)?;
+    let modifiers = take_modifiers(p);
+    parse_key(p, depth - 1);
     if p.is_last(Kind::PrivateName) {
-        return p.unexpected(Expected::Key);
+        return unexpected(p, Expected::Key);
     }
     if p.is_mark(Mark::LeftParen) || !modifiers.is_plain() {
         let method = p.start();
@@ -107,26 +114,27 @@ fn parse_property(p: &mut Parser<'_>, depth: u32) -> Result<(), TextFault> {
             method,
             modifiers.is_async,
             modifiers.is_generator,
-        )?;
-        return p.build_property(modifiers.kind, start, before);
+        );
+        let done = p.build_property(modifiers.kind, start, before);
+        return p.keep(done);
     }
-    p.expect(Mark::Colon)?;
-    parse_assignment(p, depth - 1)?;
-    p.close(Kind::KeyValueProp, before)
+    expect(p, Mark::Colon);
+    parse_assignment(p, depth - 1);
+    close(p, Kind::KeyValueProp, before)
 }
 
 /// The key of a property or of a member (13.2.5).
 #[cycle(parse)]
-pub(crate) fn parse_key(p: &mut Parser<'_>, depth: u32) -> Result<(), TextFault> {
+pub(crate) fn parse_key(p: &mut Parser<'_>, depth: u32) {
     if depth == 0 {
-        return Err(p.too_deep());
+        return too_deep(p);
     }
     match p.token() {
-        Token::Str(_) => p.push_string(),
-        Token::Number(text) => p.push_leaf(Kind::Number, Some(text)),
-        Token::BigInt(text) => p.push_leaf(Kind::BigInt, Some(text)),
-        Token::PrivateName(raw) => p.push_private_name(raw),
+        Token::Str(_) => push_string(p),
+        Token::Number(text) => push_leaf(p, Kind::Number, Some(text)),
+        Token::BigInt(text) => push_leaf(p, Kind::BigInt, Some(text)),
+        Token::PrivateName(raw) => push_private_name(p, raw),
         Token::Mark(Mark::LeftBracket) => parse_computed(p, depth - 1, true),
-        _ => p.push_key_name(),
+        _ => push_key_name(p),
     }
 }

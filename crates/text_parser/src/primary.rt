@@ -1,13 +1,17 @@
 //! Primary expressions and arrow functions (ECMA-262, 13.2 and 15.3).
 use crate::expressions::{parse_assignment, parse_expression};
 use crate::functions::{parse_binding, parse_class, parse_function};
+use crate::keeping::{
+    advance, build, expect, expect_keyword, list, not_read, push, push_bool, push_flag, push_leaf,
+    push_name, push_string, take, too_deep, unexpected,
+};
 use crate::members::{parse_elements, parse_new};
 use crate::objects::parse_object;
 use crate::statements::parse_steps;
 use crate::steps::BODY;
-use swc_tree_node::{Kind, Word};
+use swc_tree_node::{Kind, Node, Word};
 use text_lexer::{Goal, Mark, TemplatePart, Token};
-use text_reader::{Expected, Keyword, Language, Parser, TextFault, is_mark};
+use text_reader::{Expected, Keyword, Language, Parser, is_mark};
 
 /// What a primary expression begins with.
 #[derive(Clone, Copy)]
@@ -56,31 +60,33 @@ fn primary_here(p: &Parser<'_>) -> Primary {
 }
 
 /// A literal, `this` or `super`.
-fn push_primary_leaf(p: &mut Parser<'_>) -> Result<(), TextFault> {
+fn push_primary_leaf(p: &mut Parser<'_>) {
     match p.token() {
-        Token::Number(text) => p.push_leaf(Kind::Number, Some(text)),
-        Token::BigInt(text) => p.push_leaf(Kind::BigInt, Some(text)),
-        Token::Str(_) => p.push_string(),
+        Token::Number(text) => push_leaf(p, Kind::Number, Some(text)),
+        Token::BigInt(text) => push_leaf(p, Kind::BigInt, Some(text)),
+        Token::Str(_) => push_string(p),
         Token::Mark(Mark::Slash | Mark::DivAssign) => {
-            p.reread(Goal::RegExp)?;
-            p.push_regex()
+            let done = p.reread(Goal::RegExp);
+            p.keep(done);
+            let done = p.push_regex();
+            p.keep(done);
         }
-        Token::Mark(Mark::Lt) => p.not_read(Language::Jsx),
+        Token::Mark(Mark::Lt) => not_read(p, Language::Jsx),
         _ => match p.keyword() {
-            Some(Keyword::This) => p.push_leaf(Kind::ThisExpr, None),
-            Some(Keyword::Super) => p.push_leaf(Kind::Super, None),
-            Some(Keyword::Null) => p.push_leaf(Kind::Null, None),
-            Some(Keyword::True) => p.push_bool(true),
-            Some(Keyword::False) => p.push_bool(false),
-            _ => p.unexpected(Expected::Expression),
+            Some(Keyword::This) => push_leaf(p, Kind::ThisExpr, None),
+            Some(Keyword::Super) => push_leaf(p, Kind::Super, None),
+            Some(Keyword::Null) => push_leaf(p, Kind::Null, None),
+            Some(Keyword::True) => push_bool(p, true),
+            Some(Keyword::False) => push_bool(p, false),
+            _ => unexpected(p, Expected::Expression),
         },
     }
 }
 
 #[cycle(parse)]
-pub(crate) fn parse_primary(p: &mut Parser<'_>, depth: u32) -> Result<(), TextFault> {
+pub(crate) fn parse_primary(p: &mut Parser<'_>, depth: u32) {
     if depth == 0 {
-        return Err(p.too_deep());
+        return too_deep(p);
     }
     let (start, before) = (p.start(), p.count());
     match primary_here(p) {
@@ -94,57 +100,54 @@ pub(crate) fn parse_primary(p: &mut Parser<'_>, depth: u32) -> Result<(), TextFa
         Primary::Template => parse_template(p, depth - 1, false),
         Primary::Object => parse_object(p, depth - 1),
         Primary::Array => {
-            p.advance()?;
-            parse_elements(p, depth - 1, Mark::RightBracket)?;
-            p.build(Kind::ArrayLit, start, before)
+            advance(p);
+            parse_elements(p, depth - 1, Mark::RightBracket);
+            build(p, Kind::ArrayLit, start, before)
         }
         Primary::Import => {
-            if push_import(p, start)? {
-                parse_elements(p, depth - 1, Mark::RightParen)?;
-                p.expect_import_arguments()?;
-                p.build(Kind::CallExpr, start, before)
-            } else {
-                Ok(())
+            if push_import(p, start) {
+                parse_elements(p, depth - 1, Mark::RightParen);
+                let done = p.expect_import_arguments();
+                p.keep(done);
+                build(p, Kind::CallExpr, start, before);
             }
         }
     }
 }
 
 /// `import.meta`, or `import` up to its parenthesis, and behind it: whether it is this (13.3.10 and 13.3.12).
-fn push_import(p: &mut Parser<'_>, start: usize) -> Result<bool, TextFault> {
+fn push_import(p: &mut Parser<'_>, start: usize) -> bool {
     let before = p.count();
     if is_mark(p.peek().token, Mark::LeftParen) {
-        p.push_leaf(Kind::Import, None)?;
-        p.advance()?;
-        return Ok(true);
+        push_leaf(p, Kind::Import, None);
+        advance(p);
+        return true;
     }
-    p.advance()?;
-    p.expect(Mark::Dot)?;
+    advance(p);
+    expect(p, Mark::Dot);
     if !p.is_module {
-        p.unexpected(Expected::Expression)?;
+        unexpected(p, Expected::Expression);
     }
-    p.expect_keyword(Keyword::Meta)?;
-    p.push_word(Word::ImportMeta)?;
-    p.build(Kind::MetaPropExpr, start, before)?;
-    Ok(false)
+    expect_keyword(p, Keyword::Meta);
+    push(p, Node::Word(Word::ImportMeta));
+    build(p, Kind::MetaPropExpr, start, before);
+    false
 }
 
 /// A name, or an arrow function of one parameter.
 #[cycle(parse)]
-fn parse_name(p: &mut Parser<'_>, depth: u32) -> Result<(), TextFault> {
+fn parse_name(p: &mut Parser<'_>, depth: u32) {
     if depth == 0 {
-        return Err(p.too_deep());
+        return too_deep(p);
     }
     let (start, before) = (p.start(), p.count());
     if !p.is_name() || !p.may_be_name(p.keyword()) {
-        return p.unexpected(Expected::Expression);
+        return unexpected(p, Expected::Expression);
     }
-    p.push_name(Kind::Ident)?;
+    push_name(p, Kind::Ident);
     if p.arrow_at == start && p.is_arrow() {
-        p.list(before)?;
-        parse_arrow(p, depth - 1, start, before, false)
-    } else {
-        Ok(())
+        list(p, before);
+        parse_arrow(p, depth - 1, start, before, false);
     }
 }
 
@@ -183,35 +186,36 @@ fn async_form(p: &Parser<'_>) -> AsyncForm {
 
 /// What begins with `async`, which may be a name.
 #[cycle(parse)]
-fn parse_async(p: &mut Parser<'_>, depth: u32) -> Result<(), TextFault> {
+fn parse_async(p: &mut Parser<'_>, depth: u32) {
     if depth == 0 {
-        return Err(p.too_deep());
+        return too_deep(p);
     }
     let (start, before) = (p.start(), p.count());
     match async_form(p) {
         AsyncForm::Name => parse_name(p, depth - 1),
         AsyncForm::Function => {
-            p.advance()?;
+            advance(p);
             parse_function(p, depth - 1, start, true, Kind::FnExpr, false)
         }
         AsyncForm::Arrow => {
-            p.advance()?;
-            p.push_name(Kind::Ident)?;
+            advance(p);
+            push_name(p, Kind::Ident);
             if !p.is_arrow() {
-                return p.unexpected(Expected::Mark(Mark::Arrow));
+                return unexpected(p, Expected::Mark(Mark::Arrow));
             }
-            p.list(before)?;
+            list(p, before);
             parse_arrow(p, depth - 1, start, before, true)
         }
         AsyncForm::Parens => {
-            p.push_name(Kind::Ident)?;
-            p.advance()?;
-            parse_elements(p, depth - 1, Mark::RightParen)?;
+            push_name(p, Kind::Ident);
+            advance(p);
+            parse_elements(p, depth - 1, Mark::RightParen);
             if p.is_arrow() {
-                p.drop_before_last()?;
+                let done = p.drop_before_last();
+                p.keep(done);
                 parse_arrow(p, depth - 1, start, before, true)
             } else {
-                p.build(Kind::CallExpr, start, before)
+                build(p, Kind::CallExpr, start, before)
             }
         }
     }
@@ -227,13 +231,13 @@ enum Inside {
 
 /// An expression in parentheses, or an arrow function.
 #[cycle(parse)]
-fn parse_paren(p: &mut Parser<'_>, depth: u32) -> Result<(), TextFault> {
+fn parse_paren(p: &mut Parser<'_>, depth: u32) {
     if depth == 0 {
-        return Err(p.too_deep());
+        return too_deep(p);
     }
     let (start, before) = (p.start(), p.count());
     let may_be_arrow = p.arrow_at == start;
-    p.advance()?;
+    advance(p);
     let (inner, context) = (p.start(), p.open());
     let mut inside = Inside::Parameters;
     for _ in 0..p.len() {
@@ -242,95 +246,91 @@ fn parse_paren(p: &mut Parser<'_>, depth: u32) -> Result<(), TextFault> {
             break;
         }
         inside = Inside::Expressions;
-        parse_assignment(p, depth - 1)?;
-        if !p.take(Mark::Comma)? {
+        parse_assignment(p, depth - 1);
+        if !take(p, Mark::Comma) {
             break;
         }
     }
     if p.is_mark(Mark::Dots) {
         let (dots, rest) = (p.start(), p.count());
-        p.advance()?;
-        parse_binding(p, depth - 1, false)?;
-        p.build(Kind::RestPat, dots, rest)?;
+        advance(p);
+        parse_binding(p, depth - 1, false);
+        build(p, Kind::RestPat, dots, rest);
     }
     p.context = context;
     let end = p.end();
-    p.expect(Mark::RightParen)?;
+    expect(p, Mark::RightParen);
     if may_be_arrow && p.is_arrow() {
-        p.list(before)?;
+        list(p, before);
         parse_arrow(p, depth - 1, start, before, false)
     } else if inside == Inside::Parameters {
-        p.unexpected(Expected::Mark(Mark::Arrow))
+        unexpected(p, Expected::Mark(Mark::Arrow))
     } else {
-        p.build_paren(start, inner, end, before)
+        let done = p.build_paren(start, inner, end, before);
+        p.keep(done);
     }
 }
 
 /// The rest of an arrow function, whose parameters were read as expressions.
 #[cycle(parse)]
-fn parse_arrow(
-    p: &mut Parser<'_>,
-    depth: u32,
-    start: usize,
-    before: usize,
-    is_async: bool,
-) -> Result<(), TextFault> {
+fn parse_arrow(p: &mut Parser<'_>, depth: u32, start: usize, before: usize, is_async: bool) {
     if depth == 0 {
-        return Err(p.too_deep());
+        return too_deep(p);
     }
-    p.last_to_parameters(depth)?;
-    p.advance()?;
+    let done = p.last_to_parameters(depth);
+    p.keep(done);
+    advance(p);
     let context = p.open_function(is_async, false);
     if p.is_mark(Mark::LeftBrace) {
         let body = (p.start(), p.count());
-        parse_steps(p, depth - 1, Kind::BlockStmt, BODY, body)?;
-        p.expect_plain_parameters(start)?;
+        parse_steps(p, depth - 1, Kind::BlockStmt, BODY, body);
+        let done = p.expect_plain_parameters(start);
+        p.keep(done);
     } else {
         p.context.has_in = context.has_in;
-        parse_assignment(p, depth - 1)?;
+        parse_assignment(p, depth - 1);
     }
     p.context = context;
-    p.push_flag(is_async)?;
-    p.build(Kind::ArrowExpr, start, before)
+    push_flag(p, is_async);
+    build(p, Kind::ArrowExpr, start, before)
 }
 
 /// The text of a template that stands here: whether it is the last.
-fn keep_text_here(p: &mut Parser<'_>, is_tagged: bool) -> Result<bool, TextFault> {
+fn keep_text_here(p: &mut Parser<'_>, is_tagged: bool) -> bool {
     let Token::Template(part, body) = p.token() else {
-        p.unexpected(Expected::Mark(Mark::RightBrace))?;
-        return Ok(true);
+        unexpected(p, Expected::Mark(Mark::RightBrace));
+        return true;
     };
     let is_tail = matches!(part, TemplatePart::Whole | TemplatePart::Tail);
-    p.keep_template_text(body, is_tail, is_tagged)?;
-    p.advance()?;
-    Ok(is_tail)
+    let done = p.keep_template_text(body, is_tail, is_tagged);
+    p.keep(done);
+    advance(p);
+    is_tail
 }
 
 /// A template (13.2.8).
 #[cycle(parse)]
-pub(crate) fn parse_template(
-    p: &mut Parser<'_>,
-    depth: u32,
-    is_tagged: bool,
-) -> Result<(), TextFault> {
+pub(crate) fn parse_template(p: &mut Parser<'_>, depth: u32, is_tagged: bool) {
     if depth == 0 {
-        return Err(p.too_deep());
+        return too_deep(p);
     }
     let (start, before) = (p.start(), p.count());
     let texts = p.texts.len();
     let context = p.open();
     for _ in 0..p.len() {
-        if keep_text_here(p, is_tagged)? {
+        if keep_text_here(p, is_tagged) {
             break;
         }
-        parse_expression(p, depth - 1)?;
+        parse_expression(p, depth - 1);
         if !p.is_mark(Mark::RightBrace) {
-            return p.unexpected(Expected::Mark(Mark::RightBrace));
+            return unexpected(p, Expected::Mark(Mark::RightBrace));
         }
-        p.reread(Goal::TemplateTail)?;
+        let done = p.reread(Goal::TemplateTail);
+        p.keep(done);
     }
     p.context = context;
-    p.list(before)?;
-    p.list_texts(texts)?;
-    p.build(Kind::Tpl, start, before)
+    list(p, before);
+    let done = p.list_texts(texts);
+    p.keep(done);
+    build(p, Kind::Tpl, start, before)
 }

@@ -1,4 +1,5 @@
 //! Programs (ECMA-262, 16).
+use crate::keeping::{close, push, push_absent, unexpected};
 use crate::modules::parse_items;
 use crate::statements::parse_run;
 use crate::steps::Run;
@@ -24,31 +25,36 @@ pub fn parse(alloc: Global, goal: Goal, depth: u32, text: &[u8]) -> Result<Node,
         return Err(TextFault::TooLong);
     }
     let mut parser = Parser::new(alloc, text, goal == Goal::Module, depth);
-    parse_program(&mut parser, goal, depth)?;
-    match parser.nodes.pop() {
-        Some(program) => Ok(program),
-        None => Err(TextFault::TooLong),
+    parse_program(&mut parser, goal, depth);
+    match (parser.fault(), parser.nodes.pop()) {
+        (Some(fault), _) => Err(fault),
+        (None, Some(program)) => Ok(program),
+        (None, None) => Err(TextFault::TooLong),
     }
 }
 
-fn parse_program(p: &mut Parser<'_>, goal: Goal, depth: u32) -> Result<(), TextFault> {
-    let shebang = p.take_hashbang()?;
-    p.begin(shebang.is_some())?;
-    p.push(Node::Span(span_of(0, p.len())))?;
+fn parse_program(p: &mut Parser<'_>, goal: Goal, depth: u32) {
+    let shebang = p.take_hashbang();
+    let done = p.begin(shebang.is_some());
+    p.keep(done);
+    push(p, Node::Span(span_of(0, p.len())));
     if goal == Goal::Module {
-        parse_items(p, depth)?;
+        parse_items(p, depth);
     } else {
-        parse_run(p, depth, Run::Script)?;
+        parse_run(p, depth, Run::Script);
     }
     if !p.is_end() {
-        return p.unexpected(Expected::End);
+        return unexpected(p, Expected::End);
     }
     match shebang {
-        Some(line) => p.push_text(line)?,
-        None => p.push_absent()?,
+        Some(line) => {
+            let done = p.push_text(line);
+            p.keep(done);
+        }
+        None => push_absent(p),
     }
     match goal {
-        Goal::Module => p.close(Kind::Module, 0),
-        Goal::Script => p.close(Kind::Script, 0),
+        Goal::Module => close(p, Kind::Module, 0),
+        Goal::Script => close(p, Kind::Script, 0),
     }
 }

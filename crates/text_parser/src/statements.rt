@@ -2,10 +2,14 @@
 use crate::expressions::{parse_assignment, parse_expression};
 use crate::functions::{parse_binding, parse_class, parse_function};
 use crate::heads::{declares, is_let, parse_for, parse_variables};
+use crate::keeping::{
+    advance, build, end_statement, expect, expect_keyword, list, push_absent, push_name, take,
+    take_keyword, too_deep, unexpected,
+};
 use crate::steps::{Place, Run, Step, kind_of_word, steps_of};
 use swc_tree_node::Kind;
 use text_lexer::{Mark, Token};
-use text_reader::{Expected, Keyword, Parser, TextFault, is_mark};
+use text_reader::{Expected, Keyword, Parser, is_mark};
 
 /// What a statement begins with.
 #[derive(Clone, Copy, PartialEq, Eq)]
@@ -75,7 +79,7 @@ fn may_declare(p: &Parser<'_>, place: Place) -> bool {
 
 /// Whether a statement that begins so may stand in a place (14.1). `let` before a line end and no bracket is a name
 /// where no declaration may stand.
-fn placed(p: &Parser<'_>, place: Place) -> Result<Beginning, TextFault> {
+fn placed(p: &mut Parser<'_>, place: Place) -> Beginning {
     let beginning = beginning_here(p);
     let is_listed = place == Place::Item || place == Place::Bare;
     let stands = match beginning {
@@ -85,66 +89,60 @@ fn placed(p: &Parser<'_>, place: Place) -> Result<Beginning, TextFault> {
         _ => true,
     };
     if stands {
-        return Ok(beginning);
+        return beginning;
     }
-    if p.is_keyword(Keyword::Let) && !is_mark(p.peek().token, Mark::LeftBracket) {
-        return Ok(Beginning::Expression);
+    if !p.is_keyword(Keyword::Let) || is_mark(p.peek().token, Mark::LeftBracket) {
+        unexpected(p, Expected::Statement);
     }
-    Err(TextFault::Unexpected {
-        at: p.start(),
-        expected: Expected::Statement,
-    })
+    Beginning::Expression
 }
 
 #[cycle(parse)]
-pub(crate) fn parse_statement(
-    p: &mut Parser<'_>,
-    depth: u32,
-    place: Place,
-) -> Result<(), TextFault> {
+pub(crate) fn parse_statement(p: &mut Parser<'_>, depth: u32, place: Place) {
     if depth == 0 {
-        return Err(p.too_deep());
+        return too_deep(p);
     }
     let (start, before, covers) = (p.start(), p.count(), p.covers);
-    match placed(p, place)? {
+    match placed(p, place) {
         Beginning::Steps(kind) => {
-            parse_steps(p, depth - 1, kind, steps_of(kind), (start, before))?;
+            parse_steps(p, depth - 1, kind, steps_of(kind), (start, before));
         }
-        Beginning::Variables => parse_variables(p, depth - 1, false)?,
+        Beginning::Variables => parse_variables(p, depth - 1, false),
         Beginning::Function => {
             let hangs = place == Place::Branch;
-            parse_function(p, depth - 1, start, false, Kind::FnDecl, hangs)?;
+            parse_function(p, depth - 1, start, false, Kind::FnDecl, hangs);
         }
         Beginning::AsyncFunction => {
-            p.advance()?;
-            parse_function(p, depth - 1, start, true, Kind::FnDecl, false)?;
+            advance(p);
+            parse_function(p, depth - 1, start, true, Kind::FnDecl, false);
         }
-        Beginning::Class => parse_class(p, depth - 1, Kind::ClassDecl)?,
-        Beginning::For => parse_for(p, depth - 1)?,
-        Beginning::Expression => parse_expression_statement(p, depth - 1)?,
+        Beginning::Class => parse_class(p, depth - 1, Kind::ClassDecl),
+        Beginning::For => parse_for(p, depth - 1),
+        Beginning::Expression => parse_expression_statement(p, depth - 1),
     }
-    p.end_covers(covers)
+    let done = p.end_covers(covers);
+    p.keep(done);
 }
 
 /// An expression as a statement, or a statement with a label. The name `let` that is written with an escape does not stand
 /// before what it would declare, since no tree tells the escape.
 #[cycle(parse)]
-fn parse_expression_statement(p: &mut Parser<'_>, depth: u32) -> Result<(), TextFault> {
+fn parse_expression_statement(p: &mut Parser<'_>, depth: u32) {
     if depth == 0 {
-        return Err(p.too_deep());
+        return too_deep(p);
     }
     let (start, before) = (p.start(), p.count());
     if p.is_escaped("let") && is_let(p.peek()) {
-        return p.unexpected(Expected::Statement);
+        return unexpected(p, Expected::Statement);
     }
-    parse_expression(p, depth - 1)?;
+    parse_expression(p, depth - 1);
     if p.is_mark(Mark::Colon) && p.is_last(Kind::Ident) {
-        p.advance()?;
-        parse_statement(p, depth - 1, Place::Branch)?;
-        return p.build(Kind::LabeledStmt, start, before);
+        advance(p);
+        parse_statement(p, depth - 1, Place::Branch);
+        return build(p, Kind::LabeledStmt, start, before);
     }
-    p.end_statement()?;
-    p.build(Kind::ExprStmt, start, before)
+    end_statement(p);
+    build(p, Kind::ExprStmt, start, before)
 }
 
 /// A node of a kind, one step after another; where it begins is told, and behind how many nodes its parts are.
@@ -155,14 +153,14 @@ pub(crate) fn parse_steps(
     kind: Kind,
     steps: &[Step],
     begun: (usize, usize),
-) -> Result<(), TextFault> {
+) {
     if depth == 0 {
-        return Err(p.too_deep());
+        return too_deep(p);
     }
     for step in steps {
-        parse_step(p, depth - 1, *step)?;
+        parse_step(p, depth - 1, *step);
     }
-    p.build(kind, begun.0, begun.1)
+    build(p, kind, begun.0, begun.1)
 }
 
 /// What has to be read for a step, once what stands before it is taken.
@@ -179,47 +177,47 @@ enum Part {
 }
 
 /// What a step wants where it may be left out: nothing where it is, which makes a node that says so.
-fn unless(p: &mut Parser<'_>, is_left_out: bool, part: Part) -> Result<Part, TextFault> {
+fn unless(p: &mut Parser<'_>, is_left_out: bool, part: Part) -> Part {
     if is_left_out {
-        p.push_absent()?;
-        return Ok(Part::Nothing);
+        push_absent(p);
+        return Part::Nothing;
     }
-    Ok(part)
+    part
 }
 
 /// Goes over what a step says of words and punctuators.
-fn take_step(p: &mut Parser<'_>, step: Step) -> Result<Part, TextFault> {
+fn take_step(p: &mut Parser<'_>, step: Step) -> Part {
     match step {
-        Step::Word(keyword) => p.expect_keyword(keyword)?,
-        Step::Mark(mark) => p.expect(mark)?,
-        Step::End => p.end_statement()?,
+        Step::Word(keyword) => expect_keyword(p, keyword),
+        Step::Mark(mark) => expect(p, mark),
+        Step::End => end_statement(p),
         Step::EndOfDo => {
-            p.take(Mark::Semicolon)?;
+            take(p, Mark::Semicolon);
         }
         Step::Here => {
             if p.line_ended() {
-                p.unexpected(Expected::Expression)?;
+                unexpected(p, Expected::Expression);
             }
         }
         Step::OptionalLabel => {
             if p.is_statement_end() {
-                p.push_absent()?;
+                push_absent(p);
             } else {
-                p.push_name(Kind::Ident)?;
+                push_name(p, Kind::Ident);
             }
         }
-        Step::Expression => return Ok(Part::Expression),
-        Step::Assignment => return Ok(Part::Assignment),
-        Step::Statement(place) => return Ok(Part::Statement(place)),
-        Step::Block => return Ok(Part::Node(Kind::BlockStmt)),
-        Step::Run(run) => return Ok(Part::Run(run)),
+        Step::Expression => return Part::Expression,
+        Step::Assignment => return Part::Assignment,
+        Step::Statement(place) => return Part::Statement(place),
+        Step::Block => return Part::Node(Kind::BlockStmt),
+        Step::Run(run) => return Part::Run(run),
         _ => return take_optional(p, step),
     }
-    Ok(Part::Nothing)
+    Part::Nothing
 }
 
 /// The same of what may be left out.
-fn take_optional(p: &mut Parser<'_>, step: Step) -> Result<Part, TextFault> {
+fn take_optional(p: &mut Parser<'_>, step: Step) -> Part {
     match step {
         Step::OptionalExpression => unless(p, p.is_statement_end(), Part::Expression),
         Step::ExpressionUnless(mark) => unless(p, p.is_mark(mark), Part::Expression),
@@ -229,24 +227,24 @@ fn take_optional(p: &mut Parser<'_>, step: Step) -> Result<Part, TextFault> {
             Part::Node(Kind::CatchClause),
         ),
         Step::Else => {
-            let leads = p.take_keyword(Keyword::Else)?;
+            let leads = take_keyword(p, Keyword::Else);
             unless(p, !leads, Part::Statement(Place::Branch))
         }
         Step::Finalizer => {
-            let leads = p.take_keyword(Keyword::Finally)?;
+            let leads = take_keyword(p, Keyword::Finally);
             if !leads && p.is_last_absent() {
-                p.unexpected(Expected::Word("catch"))?;
+                unexpected(p, Expected::Word("catch"));
             }
             unless(p, !leads, Part::Node(Kind::BlockStmt))
         }
         Step::Parameter => {
-            let opens = p.take(Mark::LeftParen)?;
+            let opens = take(p, Mark::LeftParen);
             unless(p, !opens, Part::Binding)
         }
         _ => {
-            let leads = p.take_keyword(Keyword::Case)?;
+            let leads = take_keyword(p, Keyword::Case);
             if !leads {
-                p.expect_keyword(Keyword::Default)?;
+                expect_keyword(p, Keyword::Default);
             }
             unless(p, !leads, Part::Expression)
         }
@@ -255,17 +253,17 @@ fn take_optional(p: &mut Parser<'_>, step: Step) -> Result<Part, TextFault> {
 
 /// One step.
 #[cycle(parse)]
-fn parse_step(p: &mut Parser<'_>, depth: u32, step: Step) -> Result<(), TextFault> {
+fn parse_step(p: &mut Parser<'_>, depth: u32, step: Step) {
     if depth == 0 {
-        return Err(p.too_deep());
+        return too_deep(p);
     }
-    match take_step(p, step)? {
-        Part::Nothing => Ok(()),
+    match take_step(p, step) {
+        Part::Nothing => (),
         Part::Expression => parse_expression(p, depth - 1),
         Part::Assignment => parse_assignment(p, depth - 1),
         Part::Binding => {
-            parse_binding(p, depth - 1, false)?;
-            p.expect(Mark::RightParen)
+            parse_binding(p, depth - 1, false);
+            expect(p, Mark::RightParen)
         }
         Part::Statement(place) => parse_statement(p, depth - 1, place),
         Part::Node(kind) => parse_statement_of(p, depth - 1, kind),
@@ -275,9 +273,9 @@ fn parse_step(p: &mut Parser<'_>, depth: u32, step: Step) -> Result<(), TextFaul
 
 /// A node of a kind that is read step by step.
 #[cycle(parse)]
-fn parse_statement_of(p: &mut Parser<'_>, depth: u32, kind: Kind) -> Result<(), TextFault> {
+fn parse_statement_of(p: &mut Parser<'_>, depth: u32, kind: Kind) {
     if depth == 0 {
-        return Err(p.too_deep());
+        return too_deep(p);
     }
     let begun = (p.start(), p.count());
     parse_steps(p, depth - 1, kind, steps_of(kind), begun)
@@ -297,22 +295,21 @@ fn place_in(run: Run) -> Place {
 }
 
 /// Sees to it that a `switch` has one default at most (14.12).
-fn mind_default(p: &Parser<'_>, has_one: &mut bool) -> Result<(), TextFault> {
+fn mind_default(p: &mut Parser<'_>, has_one: &mut bool) {
     if !p.is_keyword(Keyword::Default) {
-        return Ok(());
+        return;
     }
     if *has_one {
-        return p.unexpected(Expected::Word("case"));
+        return unexpected(p, Expected::Word("case"));
     }
     *has_one = true;
-    Ok(())
 }
 
 /// Nodes up to what ends them.
 #[cycle(parse)]
-pub(crate) fn parse_run(p: &mut Parser<'_>, depth: u32, run: Run) -> Result<(), TextFault> {
+pub(crate) fn parse_run(p: &mut Parser<'_>, depth: u32, run: Run) {
     if depth == 0 {
-        return Err(p.too_deep());
+        return too_deep(p);
     }
     let before = p.count();
     let mut leads = run == Run::Body || run == Run::Script;
@@ -323,14 +320,15 @@ pub(crate) fn parse_run(p: &mut Parser<'_>, depth: u32, run: Run) -> Result<(), 
             break;
         }
         if run == Run::Cases {
-            mind_default(p, &mut has_default)?;
-            parse_statement_of(p, depth - 1, Kind::SwitchCase)?;
+            mind_default(p, &mut has_default);
+            parse_statement_of(p, depth - 1, Kind::SwitchCase);
         } else {
             let start = p.start();
-            parse_statement(p, depth - 1, place)?;
+            parse_statement(p, depth - 1, place);
             leads = leads && p.mind_directive(start, &mut escaped);
         }
     }
-    p.end_directives(escaped)?;
-    p.list(before)
+    let done = p.end_directives(escaped);
+    p.keep(done);
+    list(p, before)
 }

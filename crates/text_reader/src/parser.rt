@@ -68,6 +68,8 @@ pub struct Parser<'a> {
     /// The last commas behind elements with dots, and in spans where these elements end.
     pub(crate) last_commas: Vec<LastComma>,
     pub(crate) comma_ends: Vec<u32>,
+    /// The first thing at fault.
+    fault: Option<TextFault>,
 }
 
 fn keyword_in(token: Token<'_>) -> Option<Keyword> {
@@ -139,6 +141,7 @@ impl<'a> Parser<'a> {
             texts: Vec::new(alloc),
             last_commas: Vec::new(alloc),
             comma_ends: Vec::new(alloc),
+            fault: None,
         }
     }
 
@@ -196,13 +199,13 @@ impl<'a> Parser<'a> {
     }
 
     /// Goes behind the first line, where it begins with `#!`, and answers what is in it behind these.
-    pub fn take_hashbang(&mut self) -> Result<Option<&'a [u8]>, TextFault> {
+    pub fn take_hashbang(&mut self) -> Option<&'a [u8]> {
         match token_at(Goal::HashbangOrRegExp, self.rest) {
             Ok((Token::Hashbang(line), rest)) => {
                 self.rest = rest;
-                Ok(Some(line))
+                Some(line)
             }
-            _ => Ok(None),
+            _ => None,
         }
     }
 
@@ -308,6 +311,34 @@ impl<'a> Parser<'a> {
     /// Whether the arrow of a function stands here.
     pub fn is_arrow(&self) -> bool {
         self.is_mark(Mark::Arrow) && !self.ended
+    }
+
+    /// Keeps what is at fault, unless something was before: from here on the text is at its end.
+    pub fn refuse(&mut self, fault: TextFault) {
+        if self.fault.is_none() {
+            self.fault = Some(fault);
+            self.here = &[];
+            self.rest = &[];
+            self.token = Token::End;
+            self.keyword = None;
+        }
+    }
+
+    /// Keeps what is at fault, if something is.
+    pub fn keep(&mut self, done: Result<(), TextFault>) {
+        if let Err(fault) = done {
+            self.refuse(fault);
+        }
+    }
+
+    /// The first thing at fault.
+    pub fn fault(&self) -> Option<TextFault> {
+        self.fault
+    }
+
+    /// Whether something is at fault.
+    pub fn is_refused(&self) -> bool {
+        self.fault.is_some()
     }
 
     /// That the text nests too deeply here.
