@@ -105,6 +105,7 @@ STANDARD = {
     'pointwise': (3, 'pointwise({0}, {1}, {2})'), 'bytes_eq': (2, '({0} == {1})'),
     'list_all': (2, 'all(map({0}, {1}))'), 'list_any': (2, 'any(map({0}, {1}))'),
     'map': (2, 'tuple(map({0}, {1}))'), 'flat_map': (2, 'flat_map({0}, {1})'), 'filter': (2, 'tuple(filter({0}, {1}))'),
+    'filter_map': (2, '(lambda f, xs: flat_map(lambda x: f(x) or (), xs))({0}, {1})'),
     'take': (2, '{1}[:{0}]'), 'drop': (2, '{1}[{0}:]'), 'length': (1, 'len({0})'), 'reverse': (1, '{0}[::-1]'),
     'find': (2, 'find({0}, {1})'), 'position': (2, 'position({0}, {1})'), 'prefix_len': (2, 'prefix_len({0}, {1})'),
     'slice_get': (2, '({0}[{1}:{1} + 1] or None)'), 'slice_set': (3, 'slice_set({0}, {1}, {2})'),

@@ -13,18 +13,18 @@ from following import IsPinned, IsTextOf, IsWellFormed, SpansAreOf
 CRATES = ('mucwathi_lists', 'mucwathi_looks', 'mucwathi_mappings', 'mucwathi_map', 'mucwathi_signs', 'mucwathi_marked')
 SOURCES = {
     'mucwathi_looks': {'HasChanges': '79f95166a24b'},
-    'mucwathi_mappings': {'AreMappings': 'd977de3438e2', 'AreSegments': '175366c78c3d', 'HasLast': '14bfd54e0f97', 'IsEntry': '21ec95e5a3ed',
-        'IsMapOf': '2acf7da733dc', 'IsName': '852d64fead21', 'IsNumber': '40d289b7be41', 'IsNumberOf': '6a95f14d7bd2', 'IsSegment': 'cd732e232bb1'},
+    'mucwathi_mappings': {'AreMappings': 'd977de3438e2', 'HasLast': '8219d77fd932', 'IsEntry': '21ec95e5a3ed',
+        'IsMapOf': '5b718a79ac85', 'IsName': '852d64fead21', 'IsNumber': '40d289b7be41', 'IsNumberOf': '6a95f14d7bd2', 'TellsOf': '9003b6ff31f5'},
     'mucwathi_map': {'IsMap': '3b2ecb8ba51c', 'TellsNodes': '67d22f019ca8', 'TellsWritten': '2d47d7eac5bd'},
     'mucwathi_signs': {'IsMarked': 'cf9e2dfe4299'},
     'mucwathi_marked': {'Rise': '5a3d812840d9', 'HasMarks': '7737b4f6f2b6', 'IsGiven': 'e77d34a0eb50'},
     'mucwathi_commands': {'IsReadAs': '78fddd8f22fb'},
 }
-TYPES = ('AreMappings', 'AreSegments', 'IsMarked', 'IsNumber')
+TYPES = ('AreMappings', 'IsMarked', 'IsNumber')
 # these say how the code keeps names and places, or belong to other calls
-PASSED_OVER = ('Looks', 'Marked', 'Names', 'Trees', 'Cut', 'Comments', 'Faults', 'Judged', 'AddsMappings', 'AddsName', 'AddsNumber', 'AddsWay', 'Continues',
-               'GoesOn', 'GoesToLine', 'HasNames', 'IsKept', 'IsMark', 'IsNoneOrMap', 'IsPosition', 'IsPut', 'IsRefusedFor', 'IsRefusedText', 'IsRewritten',
-               'IsSigned', 'IsWantOfMemory', 'IsWritten', 'Notes')
+PASSED_OVER = ('Looks', 'Marked', 'Names', 'Trees', 'Cut', 'Comments', 'Faults', 'Judged', 'AddsMappings', 'AddsName', 'AddsNumber', 'AddsWay', 'AreMarked',
+               'Continues', 'GoesToLine', 'HasNames', 'HasNumber', 'IsKept', 'IsMark', 'IsNoneOrMap', 'IsPosition', 'IsPut', 'IsRefusedFor', 'IsRefusedText',
+               'IsRewritten', 'IsSigned', 'IsWantOfMemory', 'IsWritten', 'Notes')
 
 
 def check_sources(checkout):
@@ -75,19 +75,18 @@ def AreMappings(D, t, entries, text):
 
 def IsNumberOf(names, old):
     """the numbers that a name may have"""
-    return [None] if old is None else [(n,) for n, name in enumerate(names) if name == old[0]]
+    return [None] if old is None else [(n,) for n, name in enumerate(names) if name == old[0].now]
 
 
-def IsSegment(D, source, names, m):
-    """what may be told of a node; `AreSegments` says so of one after another"""
-    read, P = min(m.read, len(source)), D.mucwathi_mappings.Positions
-    return [Rec(written=m.written, line=P.line(source, read), column=P.column(source, read), name=name) for name in IsNumberOf(names, m.old)]
+def TellsOf(D, read, written, names, place, m):
+    """the entries that may tell of a place and of the node there"""
+    return [D.mucwathi_mappings.Mappings.entry_of(read, written, (place, m), number) for number in IsNumberOf(names, m.old)]
 
 
-def HasLast(segments):
-    """the places in their order, each with what is told of the last node there"""
-    last = {options[0].written: options for options in segments}
-    return sorted(last.items())
+def HasLast(mapped):
+    """the places in their order, each with the last node there"""
+    last = {m.written: m for m in mapped}
+    return tuple((place, last[place]) for place in sorted(last))
 
 
 PARTS = re.compile(rb'(\{"version":3,"sources":\[(".*")\],"names":\[(.*)\],"mappings":")([A-Za-z0-9+/,;]*)"\}\n', re.S)
@@ -99,18 +98,16 @@ def unquoted(body):
 
 
 def IsMapOf(D, name, read, written, mapped, out):
-    """the names and the mappings are looked for in what is written; which number a name has where it stands twice, by trying all"""
+    """the names and the mappings are looked for in what is written; each name stands once, so that there is one entry for each place"""
     parts, Q = PARTS.fullmatch(bytes(out)), D.mucwathi_mappings.Quoted
     if not parts or tuple(parts.group(2)) != Q.quoted(name):
         return False
     names = tuple(unquoted(found.group(1)) for found in QUOTED.finditer(parts.group(3)))
-    segments = [IsSegment(D, read, names, m) for m in mapped]
-    if tuple(parts.group(3)) != Q.quoted_all(names) or not all(segments):
+    places = HasLast(mapped)
+    if tuple(parts.group(3)) != Q.quoted_all(names) or names != D.mucwathi_mappings.Nodes.old_names(places):
         return False
-    ways = [()]
-    for place, options in HasLast(segments):
-        ways = [way + (D.mucwathi_mappings.Mappings.entry_of(written, (place, s)),) for way in ways for s in options][:64]
-    return any(AreMappings(D, D.mucwathi_mappings.Mappings.start, way, tuple(parts.group(4))) for way in ways)
+    entries = tuple(e for place, m in places for e in TellsOf(D, read, written, names, place, m))
+    return len(entries) == len(places) and AreMappings(D, D.mucwathi_mappings.Mappings.start, entries, tuple(parts.group(4)))
 
 
 # ---- mucwathi_map
@@ -121,7 +118,7 @@ def TellsNodes(D, name, text, out, source, answer, written, found):
         return False
     olds = S.spots(source)
     told = S.all_told(lambda place: S.name_at(olds, place), news, outs)
-    return IsMapOf(D, name, text, out, [Rec(read=a, written=b, old=old) for a, b, old in told], found)
+    return IsMapOf(D, name, text, out, [Rec(read=a, written=b, old=old and (Rec(now=old[0]),)) for a, b, old in told], found)
 
 
 def TellsWritten(D, name, text, out, source, answer, written, found):

@@ -2,7 +2,7 @@
 use Rattle.std.proofs.Common.{◌≡◌, ℕ, List, Bor, map, sym, ap, ◌∙◌}
 use Rattle.std.specs.BTreeMap.{BTreeMap}
 use Rattle.swc_tree_node.specs.declared.node.Node.{Node}
-use Rattle.mucwathi_mappings.specs.declared.segments.Mapped.{Mapped}
+use Rattle.mucwathi_mappings.specs.declared.nodes.Mapped.{Mapped}
 use Rattle.mucwathi_mappings.specs.Maps.{IsMapOf}
 use Rattle.mucwathi_map.specs.declared.spots.Spot.{Spot}
 use Rattle.mucwathi_map.specs.Map.{TellsNodes}

@@ -8,7 +8,7 @@ use Rattle.std.specs.Map.{lookup}
 use Rattle.std.specs.Option.{option_or}
 use Rattle.std.specs.Ordering.{is_eq, nat_cmp}
 use Rattle.std.specs.Str.{bytes_eq}
-use Rattle.mucwathi_mappings.specs.Segments.{text_of}
+use Rattle.mucwathi_mappings.specs.Names.{text_of}
 use Rattle.mucwathi_map.specs.declared.spots.Spot.{Spot}
 use Rattle.mucwathi_map.specs.Spots.{HasNames, Notes, Stood, name_at, names_in, old_name, other_than, seen}
 

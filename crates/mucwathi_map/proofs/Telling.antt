@@ -2,8 +2,8 @@
 use Rattle.std.specs.Prelude.{if◌then◌else◌}
 use Rattle.std.proofs.Common.{◌≡◌, ℕ, zero, suc, ◌+◌, ◌-◌, ◌<◌, ◌≤◌, ◌||◌, true, false, List, [], ◌∷◌, ◌++◌, Option, Some, None, map, take, length, get_or, nat_eq, option_map, refl, sym, ap, ◌∙◌, subst, arith, length-take}
 use Rattle.std.proofs.lemmas.List.{append-nil, append_assoc, length-map, map_more, map_push, take_all}
-use Rattle.mucwathi_mappings.specs.declared.segments.Mapped.{Mapped}
-use Rattle.mucwathi_mappings.specs.Segments.{text_of}
+use Rattle.mucwathi_mappings.specs.declared.nodes.Mapped.{Mapped}
+use Rattle.mucwathi_mappings.specs.Names.{text_of}
 use Rattle.mucwathi_map.specs.declared.spots.Spot.{Spot}
 use Rattle.mucwathi_map.specs.Spots.{Stood, ToldNode, all_told, old_name, other_than, seen, told, told_of}
 

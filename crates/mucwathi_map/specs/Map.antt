@@ -5,7 +5,7 @@ use Rattle.text_source.specs.Texts.{SpansAreOf}
 use Rattle.mucwathi_order.specs.declared.order.Order.{Order}
 use Rattle.mucwathi_passes.specs.Passes.{Makes}
 use Rattle.mucwathi_commands.specs.Written.{IsReadAs}
-use Rattle.mucwathi_mappings.specs.declared.segments.Mapped.{Mapped}
+use Rattle.mucwathi_mappings.specs.declared.nodes.Mapped.{Mapped}
 use Rattle.mucwathi_mappings.specs.Maps.{IsMapOf}
 use Rattle.mucwathi_map.specs.declared.mapping.Texts.{Texts}
 use Rattle.mucwathi_map.specs.Spots.{all_told, name_at, names, spots, told}

@@ -10,8 +10,8 @@ use Rattle.swc_tree_node.specs.declared.kind.Kind.{Kind}
 use Rattle.swc_tree_node.specs.declared.kind.Kind.TheVariants as kind
 use Rattle.swc_tree_node.specs.declared.node.Node.{Node, fold-Node}
 use Rattle.swc_tree_node.specs.declared.node.Node.TheOpen.{Node-F}
-use Rattle.mucwathi_mappings.specs.declared.segments.Mapped.{Mapped}
-use Rattle.mucwathi_mappings.specs.Segments.{text_of}
+use Rattle.mucwathi_mappings.specs.declared.nodes.Mapped.{Mapped}
+use Rattle.mucwathi_mappings.specs.Names.{text_of}
 use Rattle.mucwathi_map.specs.declared.spots.Spot.{Spot}
 
 -- where the span of a node begins, and its text if it is an identifier

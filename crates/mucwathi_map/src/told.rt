@@ -3,7 +3,7 @@ ghost use Rattle.std.specs.BTreeMap.{get};
 ghost use Rattle.std.specs.Ordering.{nat_cmp};
 ghost use Rattle.std.specs.Prelude.{◌≡◌, ◌-◌, ◌||◌, ◌++◌, IfOk, OnOk, length, map, nat_eq, option_map};
 ghost use Rattle.std.specs.Str.{bytes_eq};
-ghost use Rattle.mucwathi_mappings.specs.Segments.{text_of};
+ghost use Rattle.mucwathi_mappings.specs.Names.{text_of};
 ghost use Rattle.mucwathi_map.specs.Spots.{HasNames, Notes, all_told, names_in, old_name as old_name_of, seen, told, told_of};
 
 use crate::spots::Spot;

@@ -1,5 +1,5 @@
 -- Marks in a text.
-use Rattle.std.proofs.Common.{◌≡◌, ℕ, ◌<◌, ◌≤◌, List, All, get_or, length, refl, sym, subst, arith}
+use Rattle.std.proofs.Common.{◌≡◌, ℕ, ◌<◌, List, All, get_or, length, refl, sym, subst, arith}
 use Rattle.std.proofs.lemmas.List.Elements.{All-get_or}
 use Rattle.mucwathi_mappings.specs.declared.positions.Mark.{Mark}
 use Rattle.mucwathi_mappings.specs.declared.positions.Position.{Position}

@@ -4,7 +4,7 @@ use Rattle.std.proofs.Common.{◌≡◌, ℕ, ◌+◌, ◌-◌, ◌/◌, ◌%◌
 use Rattle.std.proofs.lemmas.Bool.Decides.{nat_tests}
 use Rattle.std.proofs.lemmas.List.{append-nil, append_assoc, map_more, take_all, take_more, take_rest}
 use Rattle.mucwathi_mappings.specs.Quoted.{escaped, escaped_all, hex, quoted, quoted_all, quoted_more, takes_backslash}
-use Rattle.mucwathi_mappings.specs.Segments.{text_of}
+use Rattle.mucwathi_mappings.specs.Names.{text_of}
 
 -- ---- bytes
 

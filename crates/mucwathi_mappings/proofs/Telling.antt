@@ -3,16 +3,21 @@ use Rattle.std.proofs.Common.{◌≡◌, ℕ, ◌+◌, ◌-◌, ◌*◌, ◌/◌
 use Rattle.std.proofs.lemmas.Bool.Decides.{nat_tests}
 use Rattle.std.proofs.lemmas.List.{append-nil, append_assoc, map_push}
 use Rattle.std.specs.BTreeMap.{BTreeMap, IsOrdered}
+use Rattle.std.specs.List.{AllZip}
 use Rattle.std.specs.Map.Iter.{deref_pair}
 use Rattle.std.specs.Ordering.{nat_cmp}
 use Rattle.std.specs.Prelude.{if◌then◌else◌, nat_lt}
 use Rattle.mucwathi_mappings.specs.declared.encode.Entry.{Entry}
 use Rattle.mucwathi_mappings.specs.declared.encode.Told.{Told}
 use Rattle.mucwathi_mappings.specs.declared.positions.Position.{Position}
-use Rattle.mucwathi_mappings.specs.declared.segments.Segment.{Segment}
-use Rattle.mucwathi_mappings.specs.Mappings.{AddsMappings, AddsName, AreMappings, Continues, GoesToLine, IsEntry, comma, entry_of, start}
+use Rattle.mucwathi_mappings.specs.declared.names.Names.{Names}
+use Rattle.mucwathi_mappings.specs.declared.nodes.Mapped.{Mapped}
+use Rattle.mucwathi_mappings.specs.Mappings.{AddsMappings, AddsName, AreMappings, Continues, GoesToLine, HasNumber, IsEntry, TellsOf, comma, entry_of, start}
+use Rattle.mucwathi_mappings.specs.Names.{AreNumbered, texts_of}
+use Rattle.mucwathi_mappings.specs.Nodes.{IsNumberOf, old_names, with_old}
 use Rattle.mucwathi_mappings.specs.Numbers.{AddsNumber, AddsWay, IsNumber, digit, way}
-use Rattle.mucwathi_mappings.specs.Positions.{IsPosition, line}
+use Rattle.mucwathi_mappings.specs.Positions.{IsPosition, column, line}
+use Rattle.mucwathi_mappings.proofs.Numbering.{more_names, names_more, number_kept}
 
 pub number_last : (n : ℕ) (old new : List ℕ) → n < 32 → new ≡ old ++ digit n ∷ [] → AddsNumber n old new
 number_last n old new small whole = record { digits = digit n ∷ []; whole = whole; are = IsNumber.last n small }
@@ -135,30 +140,75 @@ continues_entry t e n old a b c d f new line begun column source line_way column
 
 -- ---- places
 
-pub entry_is : (text : List ℕ) (place : ℕ) (s : Segment) (p : Position) → IsPosition text (min place (length text)) p
-    → record { line = p.line; column = p.column; source_line = s.line; source_column = s.column; name = s.name } ≡ entry_of text (place, s)
-entry_is text place s p is =
-    let by : ℕ → ℕ → Entry = λ (l : ℕ) (k : ℕ). record { line = l; column = k; source_line = s.line; source_column = s.column; name = s.name } in
-    ap (λ l. by l p.column) is.line_is ∙ ap (λ k. by (line text (min place (length text))) k) is.column_is
+pub entry_is : (read written : List ℕ) (place : ℕ) (m : Mapped) (p q : Position) (n : Option ℕ) → IsPosition written (min place (length written)) p → IsPosition read (min m.read (length read)) q
+    → record { line = p.line; column = p.column; source_line = q.line; source_column = q.column; name = n } ≡ entry_of read written (place, m) n
+entry_is read written place m p q n there source =
+    let by : ℕ → ℕ → ℕ → ℕ → Entry = λ (a : ℕ) (b : ℕ) (c : ℕ) (d : ℕ). record { line = a; column = b; source_line = c; source_column = d; name = n } in
+    let a : ℕ = line written (min place (length written)) in
+    let b : ℕ = column written (min place (length written)) in
+    let c : ℕ = line read (min m.read (length read)) in
+    ap (λ l. by l p.column q.line q.column) there.line_is ∙ ap (λ k. by a k q.line q.column) there.column_is ∙ ap (λ l. by a b l q.column) source.line_is ∙ ap (λ k. by a b c k) source.column_is
 
-pub mappings_step : (text : List ℕ) (xs : List (Bor ℕ × Bor Segment)) (x : Bor ℕ × Bor Segment) (e : Entry) (told there : Told) (old mid new : List ℕ) → e ≡ entry_of text (deref_pair x)
-    → Continues start (map (entry_of text) (map deref_pair xs)) old mid told → Continues told (e ∷ []) mid new there → Continues start (map (entry_of text) (map deref_pair (xs ++ x ∷ []))) old new there
-mappings_step text xs x e told there old mid new is before one =
-    let more : map (entry_of text) (map deref_pair (xs ++ x ∷ [])) ≡ map (entry_of text) (map deref_pair xs) ++ e ∷ [] =
-    ap (map (entry_of text)) (map_push deref_pair xs x) ∙ map_push (entry_of text) (map deref_pair xs) (deref_pair x) ∙ ap (λ (z : Entry). map (entry_of text) (map deref_pair xs) ++ z ∷ []) (sym is) in
-    subst (λ l. Continues start l old new there) (sym more) (continues_both start told there (map (entry_of text) (map deref_pair xs)) (e ∷ []) old mid new before one)
+tells_kept : (read written : List ℕ) (xs ys : List (List ℕ)) (ps : List (ℕ × Mapped)) (es : List Entry) → AllZip (TellsOf read written xs) ps es → AllZip (TellsOf read written (xs ++ ys)) ps es
+tells_kept read written xs ys [] [] h = tt
+tells_kept read written xs ys [] (e ∷ es) h = h
+tells_kept read written xs ys (p ∷ ps) [] h = h
+tells_kept read written xs ys (p ∷ ps) (e ∷ es) h = (record { is = h.0.is; named = number_kept xs ys p.1.old e.name h.0.named }, tells_kept read written xs ys ps es h.1)
 
-pub mappings_all : (text : List ℕ) (xs : List (Bor ℕ × Bor Segment)) (places : BTreeMap ℕ Segment) (there : Told) (old new : List ℕ) → map deref_pair xs ≡ places.entries → IsOrdered nat_cmp places
-    → Continues start (map (entry_of text) (map deref_pair xs)) old new there → AddsMappings text places old new
-mappings_all text xs places there old new all rise told =
-    let es : List Entry = map (entry_of text) (map deref_pair xs) in
-    let whole : AreMappings start es told.text =
-    subst (λ l. AreMappings start es l) (append-nil told.text) (subst (λ l. AreMappings start l (told.text ++ [])) (append-nil es) (told.goes_on [] [] (AreMappings.ended there))) in
+tells_push : (read written : List ℕ) (names : List (List ℕ)) (ps : List (ℕ × Mapped)) (es : List Entry) (p : ℕ × Mapped) (e : Entry) → AllZip (TellsOf read written names) ps es → TellsOf read written names p e
+    → AllZip (TellsOf read written names) (ps ++ p ∷ []) (es ++ e ∷ [])
+tells_push read written names [] [] p e h one = (one, tt)
+tells_push read written names [] (f ∷ es) p e h one = absurd h
+tells_push read written names (q ∷ ps) [] p e h one = absurd h
+tells_push read written names (q ∷ ps) (f ∷ es) p e h one = (h.0, tells_push read written names ps es p e h.1 one)
+
+-- what places are told so far, and their names
+pub record Tells (read written : List ℕ) (ps : List (ℕ × Mapped)) (names : Names) (old new : List ℕ) (told : Told) : Type 0 where
+  pub entries : List Entry
+  pub numbered : AreNumbered names
+  pub named : texts_of names ≡ old_names ps
+  pub tell : AllZip (TellsOf read written (texts_of names)) ps entries
+  pub continues : Continues start entries old new told
+
+pub tells_none : (read written : List ℕ) (names : Names) (old : List ℕ) → AreNumbered names → texts_of names ≡ [] → Tells read written [] names old old start
+tells_none read written names old numbered none = record { entries = []; numbered = numbered; named = none; tell = tt; continues = continues_none start old }
+
+tells_more : (read written : List ℕ) (ps : List (ℕ × Mapped)) (p : ℕ × Mapped) (names news : Names) (n : Option ℕ) (e : Entry) (told there : Told) (old mid new : List ℕ) → Tells read written ps names old mid told
+    → HasNumber names news p.1.old n → e ≡ entry_of read written p n → Continues told (e ∷ []) mid new there → Tells read written (ps ++ p ∷ []) news old new there
+tells_more read written ps p names news n e told there old mid new before number is one =
+    let more = more_names p.1.old (texts_of names) in
+    let texts : texts_of news ≡ texts_of names ++ more.0 = number.texts_are ∙ more.1 in
+    let name : n ≡ e.name = sym (ap (λ (e : Entry). e.name) is) in
     record {
-      mappings = told.text;
-      whole = told.whole;
+      entries = before.entries ++ e ∷ [];
+      numbered = number.numbered;
+      named = number.texts_are ∙ ap (with_old p.1.old) before.named ∙ sym (names_more ps p);
+      tell = tells_push read written (texts_of news) ps before.entries p e
+          (subst (λ l. AllZip (TellsOf read written l) ps before.entries) (sym texts) (tells_kept read written (texts_of names) more.0 ps before.entries before.tell))
+          (record { is = is ∙ ap (entry_of read written p) name; named = subst (IsNumberOf (texts_of news) p.1.old) name number.is });
+      continues = continues_both start told there before.entries (e ∷ []) old mid new before.continues one;
+    }
+
+pub tells_step : (read written : List ℕ) (xs : List (Bor ℕ × Bor Mapped)) (x : Bor ℕ × Bor Mapped) (names news : Names) (n : Option ℕ) (e : Entry) (told there : Told) (old mid new : List ℕ)
+    → Tells read written (map deref_pair xs) names old mid told → HasNumber names news x.1.now.old n → e ≡ entry_of read written (deref_pair x) n → Continues told (e ∷ []) mid new there
+    → Tells read written (map deref_pair (xs ++ x ∷ [])) news old new there
+tells_step read written xs x names news n e told there old mid new before number is one =
+    subst (λ l. Tells read written l news old new there) (sym (map_push deref_pair xs x)) (tells_more read written (map deref_pair xs) (deref_pair x) names news n e told there old mid new before number is one)
+
+pub tells_all : (read written : List ℕ) (xs : List (Bor ℕ × Bor Mapped)) (places : BTreeMap ℕ Mapped) (names : Names) (there : Told) (old new : List ℕ) → map deref_pair xs ≡ places.entries → IsOrdered nat_cmp places
+    → Tells read written (map deref_pair xs) names old new there → AddsMappings read written places old new names
+tells_all read written xs places names there old new all rise told =
+    let whole : Tells read written places.entries names old new there = subst (λ l. Tells read written l names old new there) all told in
+    let es : List Entry = whole.entries in
+    record {
+      entries = es;
+      mappings = whole.continues.text;
+      whole = whole.continues.whole;
       rise = rise;
-      are = subst (λ ps. AreMappings start (map (entry_of text) ps) told.text) all whole;
+      named = whole.named;
+      told = whole.tell;
+      are = subst (λ l. AreMappings start es l) (append-nil whole.continues.text)
+          (subst (λ l. AreMappings start l (whole.continues.text ++ [])) (append-nil es) (whole.continues.goes_on [] [] (AreMappings.ended there)));
     }
 
 -- ---- the whole

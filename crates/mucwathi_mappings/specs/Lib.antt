@@ -1,6 +1,7 @@
 pub mod Mappings
 pub mod Maps
+pub mod Names
+pub mod Nodes
 pub mod Numbers
 pub mod Positions
 pub mod Quoted
-pub mod Segments

@@ -1,12 +1,18 @@
 -- The mappings of a source map: of line after line, what each place is told of.
+use Rattle.std.specs.Borrow.{Bor}
 use Rattle.std.specs.BTreeMap.{BTreeMap, IsOrdered}
+use Rattle.std.specs.List.{AllZip}
 use Rattle.std.specs.Ordering.{nat_cmp}
-use Rattle.std.specs.Prelude.{◌≡◌, ℕ, ◌+◌, Bool, true, false, List, [], ◌∷◌, ◌++◌, Option, Some, None, length, map, min, unwrap_or}
-use Rattle.mucwathi_mappings.specs.Numbers.{AddsWay, IsNumber, way}
-use Rattle.mucwathi_mappings.specs.Positions.{column, line}
+use Rattle.std.specs.Prelude.{◌≡◌, ℕ, ◌+◌, All, Bool, true, false, List, [], ◌∷◌, ◌++◌, Option, Some, None, length, min, unwrap_or}
+use Rattle.mucwathi_mappings.specs.Names.{AreNumbered, texts_of}
+use Rattle.mucwathi_mappings.specs.Nodes.{IsNumberOf, old_names, with_old}
+use Rattle.mucwathi_mappings.specs.Numbers.{IsNumber, way}
+use Rattle.mucwathi_mappings.specs.Positions.{IsMark, column, line}
 use Rattle.mucwathi_mappings.specs.declared.encode.Entry.{Entry}
+use Rattle.mucwathi_mappings.specs.declared.encode.Sides.{Sides}
 use Rattle.mucwathi_mappings.specs.declared.encode.Told.{Told}
-use Rattle.mucwathi_mappings.specs.declared.segments.Segment.{Segment}
+use Rattle.mucwathi_mappings.specs.declared.names.Names.{Names}
+use Rattle.mucwathi_mappings.specs.declared.nodes.Mapped.{Mapped}
 
 -- before all entries
 abbrev pub start : Told
@@ -42,11 +48,28 @@ pub record IsEntry (t : Told) (e : Entry) (text : List ℕ) : Type 0 where
   pub name_is : IsName t.name e.name name_way
   pub whole : text ≡ column_way ++ 65 ∷ line_way ++ source_way ++ name_way
 
+-- what is told of a place and of the node there, if its old name has that number
+abbrev pub entry_of : List ℕ → List ℕ → (ℕ × Mapped) → Option ℕ → Entry
+entry_of read written (place, m) number = record {
+  line = line written (min place (length written));
+  column = column written (min place (length written));
+  source_line = line read (min m.read (length read));
+  source_column = column read (min m.read (length read));
+  name = number;
+}
+
+-- an entry tells of a place and of the node there
+pub record TellsOf (read written : List ℕ) (names : List (List ℕ)) (place : ℕ × Mapped) (e : Entry) : Type 0 where
+  pub is : e ≡ entry_of read written place e.name
+  pub named : IsNumberOf names place.1.old e.name
+
 -- entries, and what is written for them: where one follows a semicolon goes to the next line
 pub data AreMappings : Told → List Entry → List ℕ → Type 0 where
   ended : (t : Told) → AreMappings t [] []
   next_line : (t : Told) (e : Entry) (es : List Entry) (text : List ℕ) → AreMappings (line_behind t) (e ∷ es) text → AreMappings t (e ∷ es) (59 ∷ text)
   entry : (t : Told) (e : Entry) (es : List Entry) (one text : List ℕ) → e.line ≡ t.line → IsEntry t e one → AreMappings (entry_behind t e) es text → AreMappings t (e ∷ es) (comma t.begun ++ one ++ text)
+
+-- ---- as the code goes on
 
 -- what is written for entries was added, and what follows is told against the last
 pub record Continues (t : Told) (es : List Entry) (old new : List ℕ) (there : Told) : Type 0 where
@@ -65,19 +88,23 @@ pub record AddsName (last : ℕ) (name : Option ℕ) (old new : List ℕ) : Type
   pub whole : new ≡ old ++ text
   pub is : IsName last name text
 
--- what is told of a place
-abbrev pub entry_of : List ℕ → (ℕ × Segment) → Entry
-entry_of text (place, s) = record {
-  line = line text (min place (length text));
-  column = column text (min place (length text));
-  source_line = s.line;
-  source_column = s.column;
-  name = s.name;
-}
+-- marks in a source and in what is written
+pub record AreMarked (sides : Sides) : Type 0 where
+  pub of_read : All (IsMark sides.read.now) sides.read_marks.now
+  pub of_written : All (IsMark sides.written.now) sides.written_marks.now
 
--- the mappings of places, which rise, were added
-pub record AddsMappings (text : List ℕ) (places : BTreeMap ℕ Segment) (old new : List ℕ) : Type 0 where
+-- an old name has that number, where there is one, and was added unless it was there
+pub record HasNumber (old new : Names) (name : Option (Bor (List ℕ))) (n : Option ℕ) : Type 0 where
+  pub texts_are : texts_of new ≡ with_old name (texts_of old)
+  pub numbered : AreNumbered new
+  pub is : IsNumberOf (texts_of new) name n
+
+-- the mappings of places, which rise, were added, and these are the old names there
+pub record AddsMappings (read written : List ℕ) (places : BTreeMap ℕ Mapped) (old new : List ℕ) (names : Names) : Type 0 where
+  pub entries : List Entry
   pub mappings : List ℕ
   pub whole : new ≡ old ++ mappings
   pub rise : IsOrdered nat_cmp places
-  pub are : AreMappings start (map (entry_of text) places.entries) mappings
+  pub named : texts_of names ≡ old_names places.entries
+  pub told : AllZip (TellsOf read written (texts_of names)) places.entries entries
+  pub are : AreMappings start entries mappings

@@ -1,5 +1,5 @@
 -- Lines and columns as source maps have them.
-use Rattle.std.specs.Prelude.{◌≡◌, ℕ, zero, suc, ◌+◌, ◌*◌, ◌-◌, ◌<◌, ◌≤◌, List, Bool, ◌||◌, nat_le, if◌then◌else◌, length, min, slice_index}
+use Rattle.std.specs.Prelude.{◌≡◌, ℕ, zero, suc, ◌+◌, ◌-◌, ◌≤◌, List, Bool, ◌||◌, nat_le, if◌then◌else◌, length, slice_index}
 use Rattle.text_places.specs.Places.{begins_character, ends_line}
 use Rattle.mucwathi_mappings.specs.declared.positions.Mark.{Mark}
 use Rattle.mucwathi_mappings.specs.declared.positions.Position.{Position}

@@ -1,17 +1,26 @@
 //! A source map as JSON.
-ghost use Rattle.std.specs.Prelude.{◌≡◌, ◌≤◌, ◌++◌, [], ◌∷◌, All, IfOk, OnOk, map, unwrap_or};
-ghost use Rattle.mucwathi_mappings.specs.Mappings.{AddsMappings, AddsName, Continues, GoesToLine, comma, entry_of};
+ghost use Rattle.std.specs.Prelude.{◌≡◌, ◌≤◌, ◌++◌, [], ◌∷◌, IfOk, OnOk, codes, map, unwrap_or};
+ghost use Rattle.mucwathi_mappings.specs.Mappings.{AddsMappings, AddsName, AreMarked, Continues, GoesToLine, HasNumber, comma, entry_of};
 ghost use Rattle.mucwathi_mappings.specs.Maps.{IsMapOf};
-ghost use Rattle.mucwathi_mappings.specs.Positions.{IsMark};
-ghost use Rattle.mucwathi_mappings.specs.Segments.{text_of};
+ghost use Rattle.mucwathi_mappings.specs.Names.{AreNumbered, text_of};
+ghost use Rattle.mucwathi_mappings.specs.Quoted.{quoted, quoted_all};
 
 use crate::digits::add_way;
 use crate::names::Names;
+use crate::nodes::{Mapped, by_place};
 use crate::positions::{Mark, marks_of, position_at};
 use crate::quoted::{add_text, add_texts};
-use crate::segments::{Mapped, Segment, by_place, segments_of};
 use std::alloc::{AllocError, Global};
 use std::collections::BTreeMap;
+
+/// A source and what was written for it, with marks in both.
+#[derive(Clone, Copy, Debug)]
+pub(crate) struct Sides<'a> {
+    pub read: &'a [u8],
+    pub read_marks: &'a [Mark],
+    pub written: &'a [u8],
+    pub written_marks: &'a [Mark],
+}
 
 /// A position of what is written, that where it stood in the source, and the number of its old name, if it has another now.
 #[derive(Clone, Copy, Debug)]
@@ -103,17 +112,18 @@ fn add_entry(out: &mut Vec<u8>, told: Told, entry: Entry) -> Result<Told, AllocE
     })
 }
 
-fn entry_at(text: &[u8], marks: &[Mark], place: usize, segment: &Segment) -> Entry
-    requires { All (IsMark text.now) marks.now }
-    ensures { result ≡ entry_of text.now (place, segment.now) }
+fn entry_at(sides: &Sides<'_>, place: usize, node: &Mapped<'_>, name: Option<usize>) -> Entry
+    requires { AreMarked sides.now }
+    ensures { result ≡ entry_of sides.now.read.now sides.now.written.now (place, node.now) name }
 {
-    let at = position_at(text, marks, place);
+    let there = position_at(sides.written, sides.written_marks, place);
+    let source = position_at(sides.read, sides.read_marks, node.read);
     Entry {
-        line: at.line,
-        column: at.column,
-        source_line: segment.line,
-        source_column: segment.column,
-        name: segment.name,
+        line: there.line,
+        column: there.column,
+        source_line: source.line,
+        source_column: source.column,
+        name,
     }
 }
 
@@ -126,26 +136,62 @@ fn add_behind(out: &mut Vec<u8>, told: Told, entry: Entry) -> Result<Told, Alloc
     add_entry(out, here, entry)
 }
 
-// Adds what is told of each place.
-fn add_mappings(
-    out: &mut Vec<u8>,
-    text: &[u8],
-    marks: &[Mark],
-    places: &BTreeMap<usize, Segment>,
-) -> Result<(), AllocError>
-    requires { All (IsMark text.now) marks.now }
-    ensures { OnOk result (AddsMappings text.now places.now out.old.items out.new.items) }
+// The number of an old name, where there is one.
+fn number_of<'a>(old: Option<&'a str>, names: &mut Names<'a>) -> Result<Option<usize>, AllocError>
+    requires { AreNumbered names.old }
+    ensures { IfOk result (HasNumber names.old names.new old.entry) }
 {
+    match old {
+        Some(old) => {
+            let number = names.number(old)?;
+            Ok(Some(number))
+        }
+        None => Ok(None),
+    }
+}
+
+// Adds what is told of each place; the names are the old ones there.
+fn add_mappings<'a>(
+    alloc: Global,
+    out: &mut Vec<u8>,
+    sides: &Sides<'_>,
+    places: &BTreeMap<usize, Mapped<'a>>,
+) -> Result<Names<'a>, AllocError>
+    requires { AreMarked sides.now }
+    ensures { IfOk result (AddsMappings sides.now.read.now sides.now.written.now places.now out.old.items out.new.items) }
+{
+    let mut names = Names::new(alloc);
     let mut told = START;
-    for (place, segment) in places {
-        let entry = entry_at(text, marks, *place, segment);
+    for (place, node) in places {
+        let name = number_of(node.old, &mut names)?;
+        let entry = entry_at(sides, *place, node, name);
         told = add_behind(out, told, entry)?;
     }
-    Ok(())
+    Ok(names)
+}
+
+// The map with these names and mappings.
+fn with_names(
+    alloc: Global,
+    name: &str,
+    names: &[&str],
+    mappings: &[u8],
+) -> Result<Vec<u8>, AllocError>
+    ensures { IfOk result (λ out. out.items ≡ codes "{\"version\":3,\"sources\":[" ++ quoted name.now ++ codes "],\"names\":[" ++ quoted_all (map text_of names.now) ++ codes "],\"mappings\":\"" ++ mappings.now ++ codes "\"}\n") }
+{
+    let mut out = Vec::new(alloc);
+    out.extend_from_slice(b"{\"version\":3,\"sources\":[")?;
+    add_text(&mut out, name)?;
+    out.extend_from_slice(b"],\"names\":[")?;
+    add_texts(&mut out, names)?;
+    out.extend_from_slice(b"],\"mappings\":\"")?;
+    out.extend_from_slice(mappings)?;
+    out.extend_from_slice(b"\"}\n")?;
+    Ok(out)
 }
 
 /// A source map (ECMA-426, version 3) of what was written for a source of that name: its nodes by where they are written, the last of those
-/// at one place, and where they stood.
+/// at one place, and where they stood. The old names of these are told each once, in the order in which they first stand.
 ///
 /// Time grows in step with the texts, but for the logarithm of how many nodes there are.
 pub fn map_text(
@@ -157,18 +203,16 @@ pub fn map_text(
 ) -> Result<Vec<u8>, AllocError>
     ensures { IfOk result (λ out. IsMapOf name.now read.now written.now mapped.now out.items) }
 {
-    let mut names = Names::new(alloc);
     let read_marks = marks_of(alloc, read)?;
-    let segments = segments_of(alloc, read, read_marks.as_slice(), mapped, &mut names)?;
-    let places = by_place(alloc, segments.as_slice())?;
-    let marks = marks_of(alloc, written)?;
-    let mut out = Vec::new(alloc);
-    out.extend_from_slice(b"{\"version\":3,\"sources\":[")?;
-    add_text(&mut out, name)?;
-    out.extend_from_slice(b"],\"names\":[")?;
-    add_texts(&mut out, names.texts.as_slice())?;
-    out.extend_from_slice(b"],\"mappings\":\"")?;
-    add_mappings(&mut out, written, marks.as_slice(), &places)?;
-    out.extend_from_slice(b"\"}\n")?;
-    Ok(out)
+    let written_marks = marks_of(alloc, written)?;
+    let sides = Sides {
+        read,
+        read_marks: read_marks.as_slice(),
+        written,
+        written_marks: written_marks.as_slice(),
+    };
+    let places = by_place(alloc, mapped)?;
+    let mut mappings = Vec::new(alloc);
+    let names = add_mappings(alloc, &mut mappings, &sides, &places)?;
+    with_names(alloc, name, names.texts.as_slice(), mappings.as_slice())
 }

@@ -4,9 +4,9 @@
 mod digits;
 mod encode;
 mod names;
+mod nodes;
 mod positions;
 mod quoted;
-mod segments;
 
 pub use encode::map_text;
-pub use segments::Mapped;
+pub use nodes::Mapped;

@@ -1,6 +1,6 @@
 //! Old names, each with its number.
-ghost use Rattle.std.specs.Prelude.{◌≡◌, IfOk, IfSome, Some, map, slice_get, true};
-ghost use Rattle.mucwathi_mappings.specs.Segments.{GoesOn, text_of};
+ghost use Rattle.std.specs.Prelude.{◌≡◌, [], IfOk};
+ghost use Rattle.mucwathi_mappings.specs.Names.{AreNumbered, GetsNumber, number_in, texts_of};
 
 use std::alloc::{AllocError, Global};
 use std::collections::BTreeMap;
@@ -11,17 +11,11 @@ pub(crate) struct Names<'a> {
     pub texts: Vec<&'a str>,
 }
 
-fn has_name(texts: &[&str], number: usize, name: &str) -> bool
-    ensures { result ≡ true → slice_get (map text_of texts.now) number ≡ Some name.now }
-{
-    match texts.get(number) {
-        Some(text) => *text == name,
-        None => false,
-    }
-}
-
 impl<'a> Names<'a> {
-    pub(crate) fn new(alloc: Global) -> Names<'a> {
+    pub(crate) fn new(alloc: Global) -> Names<'a>
+        ensures numbered { AreNumbered result }
+        ensures none { texts_of result ≡ [] }
+    {
         Names {
             numbers: BTreeMap::new(alloc),
             texts: Vec::new(alloc),
@@ -30,20 +24,15 @@ impl<'a> Names<'a> {
 
     // The number of a name that is known.
     fn known(&self, name: &'a str) -> Option<usize>
-        ensures { IfSome result (λ n. slice_get (map text_of self.now.texts.items) n ≡ Some name.entry.now) }
+        ensures { result ≡ number_in self.now name.entry.now }
     {
-        let Some(number) = self.numbers.get(&name) else {
-            return None;
-        };
-        if has_name(self.texts.as_slice(), *number, name) {
-            return Some(*number);
-        }
-        None
+        self.numbers.get(&name).copied()
     }
 
-    /// The number of a name, from 0.
+    /// The number of a name, from 0: one that is not known comes behind the others.
     pub(crate) fn number(&mut self, name: &'a str) -> Result<usize, AllocError>
-        ensures { IfOk result (λ n. GoesOn self.old.texts.items self.new.texts.items × (slice_get (map text_of self.new.texts.items) n ≡ Some name.entry.now)) }
+        requires { AreNumbered self.old }
+        ensures { IfOk result (GetsNumber self.old self.new name.entry.now) }
     {
         if let Some(number) = self.known(name) {
             return Ok(number);

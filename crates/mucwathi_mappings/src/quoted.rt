@@ -2,7 +2,7 @@
 ghost use Rattle.std.specs.Prelude.{◌≡◌, ◌++◌, OnOk, map};
 ghost use Rattle.mucwathi_mappings.specs.Quoted as spec;
 ghost use Rattle.mucwathi_mappings.specs.Quoted.{escaped, escaped_all, quoted, quoted_all, quoted_more};
-ghost use Rattle.mucwathi_mappings.specs.Segments.{text_of};
+ghost use Rattle.mucwathi_mappings.specs.Names.{text_of};
 
 use std::alloc::AllocError;
 

@@ -1,5 +1,5 @@
 use Rattle.std.proofs.Common.{List, map, sym, ap, ◌∙◌, subst}
-use Rattle.mucwathi_mappings.specs.declared.segments.Mapped.{Mapped}
+use Rattle.mucwathi_mappings.specs.declared.nodes.Mapped.{Mapped}
 use Rattle.mucwathi_mappings.specs.Maps.{IsMapOf}
 use Rattle.mucwathi_map.specs.declared.spots.Spot.{Spot}
 use Rattle.mucwathi_map.specs.Spots.{HasNames, seen}

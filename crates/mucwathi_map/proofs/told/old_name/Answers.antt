@@ -1,5 +1,5 @@
 use Rattle.std.proofs.Common.{Option, option_map, Bor, List, ℕ, ap, sym, ◌∙◌}
-use Rattle.mucwathi_mappings.specs.Segments.{text_of}
+use Rattle.mucwathi_mappings.specs.Names.{text_of}
 use Rattle.mucwathi_map.specs.Spots.{names_in}
 use Rattle.mucwathi_map.proofs.Naming.{no_name, no_old, other_old, same_old}
 use Rattle.mucwathi_map.proofs.told.old_name.Goals as goal
