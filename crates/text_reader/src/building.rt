@@ -2,6 +2,7 @@
 use crate::fault::{Expected, TextFault};
 use crate::keywords::keyword_of;
 use crate::parser::Parser;
+use crate::waiting::{Part, joined};
 use std::str;
 use swc_tree_items::{Boxed, Items, Text};
 use swc_tree_marks::{Ident, Span, SyntaxContext};
@@ -39,16 +40,6 @@ fn is_plain(body: &[u8]) -> bool {
 /// How high the texts of a template are, as a list.
 const TEXTS: u32 = 3;
 
-fn tallest(heights: &[u32]) -> u32 {
-    let mut tallest = 0;
-    for height in heights {
-        if tallest < *height {
-            tallest = *height;
-        }
-    }
-    tallest
-}
-
 impl<'a> Parser<'a> {
     /// How many nodes are to be parts of others.
     pub fn count(&self) -> usize {
@@ -62,25 +53,27 @@ impl<'a> Parser<'a> {
 
     /// Makes a leaf that is to be a part of a node.
     pub fn push(&mut self, leaf: Node) -> Result<(), TextFault> {
-        self.push_high(leaf, 1)
+        self.push_high(leaf, Part::leaf())
     }
 
-    /// Makes a node so high that is to be a part of another.
-    pub(crate) fn push_high(&mut self, node: Node, height: u32) -> Result<(), TextFault> {
-        if height > self.height {
+    /// Makes a node of which so much is known, and which is to be a part of another.
+    pub(crate) fn push_high(&mut self, node: Node, part: Part) -> Result<(), TextFault> {
+        if part.height > self.height {
             return Err(self.too_deep());
         }
         self.nodes.push(node)?;
-        self.heights.push(height)?;
+        self.parts.push(part)?;
         Ok(())
     }
 
-    /// The last node with its height, taken off.
-    pub(crate) fn pop_high(&mut self) -> Option<(Node, u32)> {
-        let height = self.heights.pop().unwrap_or(1);
-        match self.nodes.pop() {
-            Some(node) => Some((node, height)),
-            None => None,
+    /// The last node, laid and taken off, with what is known of it.
+    pub(crate) fn pop_high(&mut self) -> Result<Option<(Node, Part)>, TextFault> {
+        self.lay_last()?;
+        let last = (self.nodes.pop(), self.parts.pop());
+        self.laid = self.laid.min(self.nodes.len());
+        match last {
+            (Some(node), Some(part)) => Ok(Some((node, part))),
+            _ => Ok(None),
         }
     }
 
@@ -308,7 +301,7 @@ impl<'a> Parser<'a> {
         self.push(cooked)?;
         self.push(raw)?;
         self.close(Kind::TplElement, before)?;
-        match self.pop_high() {
+        match self.pop_high()? {
             Some((text, _)) => {
                 self.texts.push(text)?;
                 Ok(())
@@ -323,8 +316,8 @@ impl<'a> Parser<'a> {
             return self.unexpected(Expected::Token);
         }
         self.nodes.insert(before, node)?;
-        if before <= self.heights.len() {
-            self.heights.insert(before, 1)?;
+        if before <= self.parts.len() {
+            self.parts.insert(before, Part::leaf())?;
         }
         Ok(())
     }
@@ -350,25 +343,35 @@ impl<'a> Parser<'a> {
 
     /// Makes a node of a kind, whose fields are the nodes behind so many.
     pub fn close(&mut self, kind: Kind, before: usize) -> Result<(), TextFault> {
-        let height = self.height_from(before);
+        let part = self.part_from(before)?;
+        if !part.is_small() {
+            return self.wait(Node::Tree(kind, Items::new(self.alloc)), part);
+        }
         let fields = self.take_from(before)?;
-        self.push_high(Node::Tree(kind, fields), height)
+        self.push_high(Node::Tree(kind, fields), part.settled())
     }
 
     /// Makes a list of the nodes behind so many.
     pub fn list(&mut self, before: usize) -> Result<(), TextFault> {
-        let height = self.height_from(before);
+        let part = self.part_from(before)?;
+        if !part.is_small() {
+            return self.wait(Node::List(Items::new(self.alloc)), part);
+        }
         let items = self.take_from(before)?;
-        self.push_high(Node::List(items), height)
+        self.push_high(Node::List(items), part.settled())
     }
 
-    /// How high a node is, whose parts are the nodes behind so many.
-    fn height_from(&self, before: usize) -> u32 {
-        let parts = match self.heights.as_slice().split_at_checked(before) {
+    /// What is known of a node, whose parts are the nodes behind so many.
+    fn part_from(&self, before: usize) -> Result<Part, TextFault> {
+        let parts = match self.parts.as_slice().split_at_checked(before) {
             Some((_, parts)) => parts,
             None => &[],
         };
-        tallest(parts).saturating_add(1)
+        let part = joined(parts);
+        if part.height > self.height {
+            return Err(self.too_deep());
+        }
+        Ok(part)
     }
 
     fn take_from(&mut self, before: usize) -> Result<Items<Node>, TextFault> {
@@ -378,7 +381,8 @@ impl<'a> Parser<'a> {
                 expected: Expected::Token,
             });
         }
-        self.heights.truncate(before);
+        self.parts.truncate(before);
+        self.laid = self.laid.min(before);
         Ok(Items::from_vec(self.nodes.split_off(before)?))
     }
 
@@ -388,12 +392,13 @@ impl<'a> Parser<'a> {
             return self.unexpected(Expected::Token);
         }
         let texts = self.texts.split_off(before)?;
-        self.push_high(Node::List(Items::from_vec(texts)), TEXTS)
+        let part = Part::laid(TEXTS, u32::MAX);
+        self.push_high(Node::List(Items::from_vec(texts)), part)
     }
 
     /// Turns round the last two nodes.
     pub fn swap(&mut self) -> Result<(), TextFault> {
-        let (Some(last), Some(other)) = (self.pop_high(), self.pop_high()) else {
+        let (Some(last), Some(other)) = (self.pop_high()?, self.pop_high()?) else {
             return self.unexpected(Expected::Token);
         };
         self.push_high(last.0, last.1)?;

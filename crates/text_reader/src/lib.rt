@@ -11,6 +11,7 @@ mod modifiers;
 mod operators;
 mod parser;
 mod targets;
+mod waiting;
 
 pub use building::span_of;
 pub use fault::{Expected, Language, TextFault};

@@ -2,6 +2,7 @@
 use crate::fault::{Expected, TextFault};
 use crate::modifiers::Modifiers;
 use crate::parser::Parser;
+use crate::waiting::{Part, View};
 use swc_tree_node::{Kind, Node, Word};
 
 /// The parts of a function: its parameters and its body.
@@ -33,32 +34,34 @@ fn only_pattern(parameters: Node) -> Option<Node> {
     }
 }
 
-fn is_rest_parameter(node: &Node) -> bool {
-    match node {
-        Node::Tree(_, fields) => { matches!(fields.get(1), Some(Node::Tree(Kind::RestPat, _))) }
-        _ => false,
+fn is_rest_parameter(node: View<'_>) -> bool {
+    match node.get(1) {
+        Some(pattern) => matches!(pattern.node, Node::Tree(Kind::RestPat, _)),
+        None => false,
     }
 }
 
-fn suit(kind: Word, parameters: &[Node]) -> bool {
+fn suit(kind: Word, parameters: View<'_>) -> bool {
     match kind {
-        Word::Getter => parameters.is_empty(),
-        Word::Setter => match parameters {
-            [parameter] => !is_rest_parameter(parameter),
-            _ => false,
+        Word::Getter => parameters.len() == 0,
+        Word::Setter => match parameters.get(0) {
+            Some(parameter) => parameters.len() == 1 && !is_rest_parameter(parameter),
+            None => false,
         },
         _ => true,
     }
 }
 
 /// Whether a function has as many parameters as a method of its kind (15.4).
-fn suits(kind: Word, function: Option<&Node>) -> bool {
-    match function {
-        Some(Node::Tree(_, fields)) => match fields.get(1) {
-            Some(Node::List(parameters)) => suit(kind, parameters.as_slice()),
-            _ => false,
-        },
-        _ => false,
+fn suits(kind: Word, function: Option<View<'_>>) -> bool {
+    let Some(function) = function else {
+        return false;
+    };
+    match function.get(1) {
+        Some(parameters) => {
+            matches!(parameters.node, Node::List(_)) && suit(kind, parameters)
+        }
+        None => false,
     }
 }
 
@@ -86,32 +89,36 @@ impl<'a> Parser<'a> {
         start: usize,
         before: usize,
     ) -> Result<(), TextFault> {
-        if !suits(kind, self.nodes.last()) {
+        if !suits(kind, self.last_view()) {
             return self.unexpected(Expected::Parameters);
         }
         if kind == Word::Method {
             return self.close(Kind::MethodProp, before);
         }
-        let Some((parameters, body, height)) = self.pop_function() else {
+        let Some((parameters, body, part)) = self.pop_function()? else {
             return self.unexpected(Expected::Parameters);
         };
         if kind == Word::Getter {
-            self.push_high(body, height)?;
+            self.push_high(body, part)?;
             return self.build(Kind::GetterProp, start, before);
         }
         let Some(parameter) = only_pattern(parameters) else {
             return self.unexpected(Expected::Parameters);
         };
-        self.push_high(parameter, height)?;
-        self.push_high(body, height)?;
+        self.push_high(parameter, part)?;
+        self.push_high(body, part)?;
         self.build(Kind::SetterProp, start, before)
     }
 
     // The parameters and the body of the last node, a function, and its height.
-    fn pop_function(&mut self) -> Option<(Node, Node, u32)> {
-        let (function, height) = self.pop_high()?;
-        let (parameters, body) = parts_of(function)?;
-        Some((parameters, body, height))
+    fn pop_function(&mut self) -> Result<Option<(Node, Node, Part)>, TextFault> {
+        let Some((function, part)) = self.pop_high()? else {
+            return Ok(None);
+        };
+        match parts_of(function) {
+            Some((parameters, body)) => Ok(Some((parameters, body, part))),
+            None => Ok(None),
+        }
     }
 
     /// Makes a method, an accessor or the constructor of a class of the last two nodes, a key and a function.
@@ -124,14 +131,14 @@ impl<'a> Parser<'a> {
     ) -> Result<(), TextFault> {
         let is_constructor = !is_static && is_constructor_key(self.nodes.get(before));
         if is_constructor && modifiers.is_plain() {
-            let Some((parameters, body, height)) = self.pop_function() else {
+            let Some((parameters, body, part)) = self.pop_function()? else {
                 return self.unexpected(Expected::Parameters);
             };
-            self.push_high(parameters, height)?;
-            self.push_high(body, height)?;
+            self.push_high(parameters, part)?;
+            self.push_high(body, part)?;
             return self.build(Kind::Constructor, start, before);
         }
-        if is_constructor || !suits(modifiers.kind, self.nodes.last()) {
+        if is_constructor || !suits(modifiers.kind, self.last_view()) {
             return self.unexpected(Expected::Parameters);
         }
         self.push_word(modifiers.kind)?;

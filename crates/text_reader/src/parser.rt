@@ -1,6 +1,7 @@
 //! Where a parser stands in a text.
 use crate::fault::{Expected, Language, TextFault};
 use crate::keywords::{Keyword, is_reserved, is_reserved_in_strict, keyword_of, spelling_of};
+use crate::waiting::{Part, Waiting};
 use std::alloc::Global;
 use swc_tree_node::Node;
 use text_lexer::{Comments, Fault, Goal, Mark, Token, skip_blank, token_at};
@@ -59,8 +60,12 @@ pub struct Parser<'a> {
     /// Where the last of them has its default.
     pub cover_at: usize,
     pub nodes: Vec<Node>,
-    /// How high each of these is: how many nodes stand one in another, at most.
-    pub(crate) heights: Vec<u32>,
+    /// What is known of each of these.
+    pub(crate) parts: Vec<Part>,
+    /// What is below them and waits to be laid, of one after another.
+    pub(crate) waiting: Vec<Waiting>,
+    /// How many of the nodes, of the first, are laid for sure.
+    pub(crate) laid: usize,
     /// How high a node may be.
     pub(crate) height: u32,
     /// The texts of the templates that are being read.
@@ -136,7 +141,9 @@ impl<'a> Parser<'a> {
             covers: 0,
             cover_at: 0,
             nodes: Vec::new(alloc),
-            heights: Vec::new(alloc),
+            parts: Vec::new(alloc),
+            waiting: Vec::new(alloc),
+            laid: 0,
             height,
             texts: Vec::new(alloc),
             last_commas: Vec::new(alloc),

@@ -5,7 +5,8 @@ use crate::keywords::Keyword;
 use crate::parser::{LastComma, Parser, is_mark};
 use swc_tree_node::{Kind, Node, Word};
 use text_lexer::Mark;
-use text_patterns::{PatternError, Reading, is_simple_target, parameters_of, pattern_of};
+use crate::waiting::{Part, View};
+use text_patterns::{PatternError, Reading, parameters_of, pattern_of};
 
 /// What a statement is as a directive (ECMA-262, 11.2.1).
 #[derive(Clone, Copy, PartialEq, Eq)]
@@ -44,16 +45,25 @@ fn directive_in(string: &[Node]) -> Directive {
     }
 }
 
-fn last_two(nodes: &[Node]) -> (Option<&Node>, Option<&Node>) {
-    (nodes.get(nodes.len().saturating_sub(2)), nodes.last())
-}
-
 // Whether a body has the directive, among those that lead it.
-fn makes_strict(body: Option<&Node>) -> bool {
-    let Some(Node::Tree(Kind::BlockStmt, fields)) = body else {
+fn makes_strict(body: Option<View<'_>>) -> bool {
+    let Some(body) = body else {
         return false;
     };
-    let Some(Node::List(statements)) = fields.get(1) else {
+    if !matches!(body.node, Node::Tree(Kind::BlockStmt, _)) {
+        return false;
+    }
+    let Some(statements) = body.get(1) else {
+        return false;
+    };
+    for statement in statements.waiting().iter().rev() {
+        match directive_of(Some(&statement.node)) {
+            Directive::None => return false,
+            Directive::UseStrict => return true,
+            Directive::Other | Directive::Escaped => (),
+        }
+    }
+    let Node::List(statements) = statements.node else {
         return false;
     };
     for statement in statements.as_slice() {
@@ -74,33 +84,62 @@ fn is_plain(parameter: &Node) -> bool {
     }
 }
 
-fn are_plain(parameters: Option<&Node>) -> bool {
-    match parameters {
-        Some(Node::List(items)) => items.as_slice().iter().all(|item| is_plain(item)),
+fn are_plain(parameters: Option<View<'_>>) -> bool {
+    let Some(parameters) = parameters else {
+        return false;
+    };
+    match parameters.node {
+        Node::List(items) => {
+            items.as_slice().iter().all(|item| is_plain(item))
+                && parameters.waiting().iter().all(|item| is_plain(&item.node))
+        }
         _ => false,
     }
 }
 
-fn is_spread(argument: &Node) -> bool {
-    match argument {
-        Node::Tree(_, fields) => !matches!(fields.get(0), Some(Node::Absent)),
+fn is_spread(argument: View<'_>) -> bool {
+    match argument.node {
+        Node::Tree(_, _) => match argument.get(0) {
+            Some(dots) => !matches!(dots.node, Node::Absent),
+            None => true,
+        },
         _ => true,
     }
 }
 
-fn is_each_variable(variable: &Node, may_have_value: bool) -> bool {
-    match variable {
-        Node::Tree(_, fields) => match fields.as_slice() {
-            [_, _, Node::Absent] => true,
-            [_, Node::Identifier(_, _), _] => may_have_value,
+fn is_each_variable(variable: View<'_>, may_have_value: bool) -> bool {
+    match (variable.get(1), variable.get(2)) {
+        (Some(name), Some(value)) => match (name.node, value.node) {
+            (_, Node::Absent) => true,
+            (Node::Identifier(_, _), _) => may_have_value,
             _ => false,
         },
         _ => false,
     }
 }
 
-fn is_var(word: Option<&Node>) -> bool {
-    matches!(word, Some(Node::Word(Word::Var)))
+// What is assigned to, and is no pattern: a name or a member, in parentheses or not.
+fn is_simple_target(node: View<'_>, depth: u32) -> bool {
+    let mut node = node;
+    for _ in 0..depth {
+        match node.node {
+            Node::Identifier(_, _) => return true,
+            Node::Tree(Kind::MemberExpr | Kind::SuperPropExpr, _) => return true,
+            Node::Tree(Kind::ParenExpr, _) => match node.get(1) {
+                Some(inner) => node = inner,
+                None => return false,
+            },
+            _ => return false,
+        }
+    }
+    false
+}
+
+fn is_var(word: Option<View<'_>>) -> bool {
+    match word {
+        Some(word) => matches!(word.node, Node::Word(Word::Var)),
+        None => false,
+    }
 }
 
 impl<'a> Parser<'a> {
@@ -157,23 +196,23 @@ impl<'a> Parser<'a> {
     fn resolve(
         &mut self,
         read: Result<Node, PatternError>,
-        height: u32,
+        part: Part,
         covers: usize,
     ) -> Result<(), TextFault> {
         self.covers = self.covers.saturating_sub(covers);
         match read {
-            Ok(node) => self.push_high(node, height.saturating_add(1)),
+            Ok(node) => self.push_high(node, part.raised()),
             Err(error) => Err(self.refused(error)),
         }
     }
 
     fn last_as_pattern(&mut self, binds: bool, depth: u32) -> Result<(), TextFault> {
-        let Some((node, height)) = self.pop_high() else {
+        let Some((node, part)) = self.pop_high()? else {
             return self.unexpected(Expected::Target);
         };
         let mut covers = 0;
         let read = pattern_of(node, self.reading(binds), depth, &mut covers);
-        self.resolve(read, height, covers)
+        self.resolve(read, part, covers)
     }
 
     /// Reads the last node anew as what an operator assigns to; only `=` takes patterns.
@@ -195,12 +234,12 @@ impl<'a> Parser<'a> {
 
     /// Reads the last node, a list, anew as parameters.
     pub fn last_to_parameters(&mut self, depth: u32) -> Result<(), TextFault> {
-        let Some((node, height)) = self.pop_high() else {
+        let Some((node, part)) = self.pop_high()? else {
             return self.unexpected(Expected::Target);
         };
         let mut covers = 0;
         let read = parameters_of(node, self.reading(true), depth, &mut covers);
-        self.resolve(read, height, covers)
+        self.resolve(read, part, covers)
     }
 
     /// Reads the last node anew as what a loop assigns to, unless it declares.
@@ -215,18 +254,21 @@ impl<'a> Parser<'a> {
     /// Whether the last node is what a loop over values or keys may begin with. Only a `var` before `in` has a value
     /// (ECMA-262, B.3.5).
     pub fn is_each_head(&self, is_expression_of_let: bool) -> bool {
-        match self.nodes.last() {
-            Some(Node::Tree(Kind::VarDecl | Kind::UsingDecl, fields)) => match fields.get(2) {
-                Some(Node::List(variables)) => match variables.as_slice() {
-                    [variable] => {
-                        let may = self.may_have_value() && is_var(fields.get(1));
-                        is_each_variable(variable, may)
-                    }
-                    _ => false,
-                },
-                _ => false,
-            },
-            _ => !is_expression_of_let,
+        let Some(head) = self.last_view() else {
+            return !is_expression_of_let;
+        };
+        if !matches!(head.node, Node::Tree(Kind::VarDecl | Kind::UsingDecl, _)) {
+            return !is_expression_of_let;
+        }
+        let Some(variables) = head.get(2) else {
+            return false;
+        };
+        match variables.get(0) {
+            Some(variable) if variables.len() == 1 => {
+                let may = self.may_have_value() && is_var(head.get(1));
+                is_each_variable(variable, may)
+            }
+            _ => false,
         }
     }
 
@@ -252,8 +294,7 @@ impl<'a> Parser<'a> {
     /// Sees to it that parameters are plain names where the body behind them, the last node, has the directive (ECMA-262, 15.1.1);
     /// where the function begins is told.
     pub fn expect_plain_parameters(&self, at: usize) -> Result<(), TextFault> {
-        let (parameters, body) = last_two(self.nodes.as_slice());
-        if makes_strict(body) && !are_plain(parameters) {
+        if makes_strict(self.last_view()) && !are_plain(self.view_before_last()) {
             Err(TextFault::Unexpected {
                 at,
                 expected: Expected::Parameters,
@@ -276,7 +317,7 @@ impl<'a> Parser<'a> {
 
     /// Sees to it that the last node is a name or a member.
     pub fn expect_simple_target(&self, depth: u32) -> Result<(), TextFault> {
-        match self.nodes.last() {
+        match self.last_view() {
             Some(node) if is_simple_target(node, depth) => Ok(()),
             _ => self.unexpected(Expected::Target),
         }
@@ -300,23 +341,23 @@ impl<'a> Parser<'a> {
 
     /// Lets go of the node before the last.
     pub fn drop_before_last(&mut self) -> Result<(), TextFault> {
-        let last = self.pop_high();
-        let _ = self.pop_high();
+        let last = self.pop_high()?;
+        let _ = self.pop_high()?;
         match last {
-            Some((last, height)) => self.push_high(last, height),
+            Some((last, part)) => self.push_high(last, part),
             None => self.unexpected(Expected::Token),
         }
     }
 
     /// Sees to it that `import` has one argument or two, none of them with dots (ECMA-262, 13.3.10).
     pub fn expect_import_arguments(&self) -> Result<(), TextFault> {
-        let fits = match self.nodes.last() {
-            Some(Node::List(arguments)) => match arguments.as_slice() {
-                [module] => !is_spread(module),
-                [module, options] => !is_spread(module) && !is_spread(options),
+        let fits = match self.last_view() {
+            Some(arguments) => match (arguments.len(), arguments.get(0), arguments.get(1)) {
+                (1, Some(module), _) => !is_spread(module),
+                (2, Some(module), Some(options)) => !is_spread(module) && !is_spread(options),
                 _ => false,
             },
-            _ => false,
+            None => false,
         };
         if fits {
             Ok(())
