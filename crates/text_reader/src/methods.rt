@@ -58,9 +58,7 @@ fn suits(kind: Word, function: Option<View<'_>>) -> bool {
         return false;
     };
     match function.get(1) {
-        Some(parameters) => {
-            matches!(parameters.node, Node::List(_)) && suit(kind, parameters)
-        }
+        Some(parameters) => { matches!(parameters.node, Node::List(_)) && suit(kind, parameters) }
         None => false,
     }
 }

@@ -3,9 +3,9 @@ use crate::building::{place, span_of};
 use crate::fault::{Expected, TextFault};
 use crate::keywords::Keyword;
 use crate::parser::{LastComma, Parser, is_mark};
+use crate::waiting::{Part, View};
 use swc_tree_node::{Kind, Node, Word};
 use text_lexer::Mark;
-use crate::waiting::{Part, View};
 use text_patterns::{PatternError, Reading, parameters_of, pattern_of};
 
 /// What a statement is as a directive (ECMA-262, 11.2.1).
