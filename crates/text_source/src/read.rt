@@ -219,31 +219,7 @@ fn held(goal: Goal, tree: Node, text: &[u8]) -> Result<Node, TextFault>
     Ok(tree)
 }
 
-// How the nodes of what is read are to lie in memory.
-#[derive(Clone, Copy)]
-enum Lie {
-    /// As the parser makes them: a node behind those below it.
-    AsMade,
-    /// A node before those below it.
-    InOrder,
-}
-
-// What the parser makes of a text in UTF-8, whose nodes lie as is asked.
-fn parsed(alloc: Global, goal: Goal, depth: u32, lie: Lie, text: &[u8]) -> Result<Node, TextFault> {
-    let tree = parse(alloc, goal, depth, text)?;
-    match lie {
-        Lie::AsMade => Ok(tree),
-        Lie::InOrder => Ok(tree.clone()?),
-    }
-}
-
-fn read_utf8(
-    alloc: Global,
-    goal: Goal,
-    depth: u32,
-    lie: Lie,
-    text: &[u8],
-) -> Result<Node, TextFault>
+fn read_utf8(alloc: Global, goal: Goal, depth: u32, text: &[u8]) -> Result<Node, TextFault>
     requires { IsUtf8 text.now }
     ensures tree { IfOk result (λ read. IsTextOf goal read text.now) }
     ensures formed { IfOk result (IsWellFormed (spec.slot_of goal)) }
@@ -253,32 +229,9 @@ fn read_utf8(
     ensures spans { IfOk result (λ tree. SpansAreOf goal tree text.now) }
     ensures refusal { IfErr result (Tells text.now) }
 {
-    match parsed(alloc, goal, depth, lie, text) {
+    match parse(alloc, goal, depth, text) {
         Ok(tree) => held(goal, tree, text),
         Err(said) => Err(of_parser(said, text)),
-    }
-}
-
-// The tree of a text, whose nodes lie as is asked.
-fn read(alloc: Global, goal: Goal, depth: u32, lie: Lie, text: &[u8]) -> Result<Node, TextFault>
-    ensures tree { IfOk result (λ tree. IsTextOf goal tree text.now) }
-    ensures formed { IfOk result (IsWellFormed (spec.slot_of goal)) }
-    ensures pinned { IfOk result IsPinned }
-    ensures leaves { IfOk result (LeavesStand text.now) }
-    ensures clean { IfOk result IsClean }
-    ensures spans { IfOk result (λ tree. SpansAreOf goal tree text.now) }
-    ensures refusal { IfErr result (Tells text.now) }
-    ensures too_long { most_bytes < length text.now → result ≡ Err fault.TooLong }
-    ensures no_utf8 { length text.now ≤ most_bytes → (IsUtf8 text.now → ⊥) → result ≡ Err (fault.NotUtf8 (utf8_valid_len text.now)) }
-{
-    if text.len() > MOST_BYTES {
-        return Err(TextFault::TooLong);
-    }
-    match str::from_utf8(text) {
-        Ok(_) => read_utf8(alloc, goal, depth, lie, text),
-        Err(error) => Err(TextFault::NotUtf8 {
-            at: error.valid_up_to(),
-        }),
     }
 }
 
@@ -308,11 +261,18 @@ pub fn read_text(alloc: Global, goal: Goal, depth: u32, text: &[u8]) -> Result<N
     ensures too_long { most_bytes < length text.now → result ≡ Err fault.TooLong }
     ensures no_utf8 { length text.now ≤ most_bytes → (IsUtf8 text.now → ⊥) → result ≡ Err (fault.NotUtf8 (utf8_valid_len text.now)) }
 {
-    read(alloc, goal, depth, Lie::AsMade, text)
+    if text.len() > MOST_BYTES {
+        return Err(TextFault::TooLong);
+    }
+    match str::from_utf8(text) {
+        Ok(_) => read_utf8(alloc, goal, depth, text),
+        Err(error) => Err(TextFault::NotUtf8 {
+            at: error.valid_up_to(),
+        }),
+    }
 }
 
-/// The same, for passes: each node lies in memory before those below it, which takes passes over it half the time that they take over what
-/// `read_text` answers. Reading takes a fifth more, and as much memory again as the tree, which it gives back.
+/// The same: the reader lays each node in memory before those below it, but for small ones, as is best for passes.
 ///
 /// # Errors
 ///
@@ -333,5 +293,5 @@ pub fn read_text_in_order(
     ensures too_long { most_bytes < length text.now → result ≡ Err fault.TooLong }
     ensures no_utf8 { length text.now ≤ most_bytes → (IsUtf8 text.now → ⊥) → result ≡ Err (fault.NotUtf8 (utf8_valid_len text.now)) }
 {
-    read(alloc, goal, depth, Lie::InOrder, text)
+    read_text(alloc, goal, depth, text)
 }
