@@ -10,7 +10,7 @@ use mucwathi_passes::config_of;
 use std::alloc::Global;
 use swc_base_covers::{Cause, Gap, covers};
 use swc_tree_node::Node;
-use text_source::read_text_in_order;
+use text_source::read_text;
 
 /// What keeps a text from what is promised, and where.
 #[derive(Clone, Copy, Debug, PartialEq, Eq)]
@@ -66,7 +66,7 @@ pub fn cover_text(
 ) -> Result<Option<CoverGap>, RunFault>
     ensures { MatchResult result (IsCoverTold goal settings.now text.now) (IsUncovered text.now) }
 {
-    match read_text_in_order(alloc, goal, depth, text) {
+    match read_text(alloc, goal, depth, text) {
         Ok(source) => cover(alloc, goal, settings, text, &source),
         Err(fault) => Err(RunFault::of_text(fault)),
     }

@@ -11,7 +11,7 @@ use swc_base_alpha::{Cause, Why, why_different};
 use swc_base_plain_form::plain_form;
 use swc_tree_marks::{NoMemory, PassError};
 use swc_tree_node::Node;
-use text_source::{TextFault, read_text_in_order};
+use text_source::{TextFault, read_text};
 
 /// A text, and as what it is read.
 #[derive(Clone, Copy)]
@@ -65,7 +65,7 @@ fn after_fault(fault: TextFault) -> JudgeFault
 fn read(alloc: Global, depth: u32, given: &NamedText<'_>) -> Result<Node, TextFault>
     ensures { MatchResult result (IsRead given.now.goal given.now.text.now) (IsUnread given.now.text.now) }
 {
-    match read_text_in_order(alloc, given.goal, depth, given.text) {
+    match read_text(alloc, given.goal, depth, given.text) {
         Ok(tree) => Ok(tree),
         Err(fault) => Err(fault),
     }

@@ -21,7 +21,7 @@ use swc_tree_node::Node;
 use text_comments::Comment;
 use text_pieces::Piece;
 use text_printer::Layout;
-use text_source::read_text_in_order;
+use text_source::read_text;
 use text_walk::pieces as pieces_in;
 
 // What a command makes of a program, written anew with comments of its text.
@@ -186,7 +186,7 @@ pub fn rewrite_with_comments(
 ) -> Result<RewrittenText, RunFault>
     ensures { MatchResult result (λ made. IsRewrittenWith order.now text.now made.out.items made.lost.items) (IsRunFault order.now text.now) }
 {
-    match read_text_in_order(alloc, order.goal, order.depth, text) {
+    match read_text(alloc, order.goal, order.depth, text) {
         Ok(source) => rewrite_source(alloc, order, text, source),
         Err(fault) => Err(RunFault::of_text(fault)),
     }

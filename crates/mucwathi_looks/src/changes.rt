@@ -15,7 +15,7 @@ use std::alloc::{AllocError, Global};
 use swc_tree_marks::PassError;
 use swc_tree_node::Node;
 use swc_tree_walk::{Site, sites};
-use text_source::read_text_in_order;
+use text_source::read_text;
 
 // Identifiers by where they stand.
 fn occurrences<'a>(alloc: Global, found: &[Site<'a>]) -> Result<Vec<Occurrence<'a>>, AllocError>
@@ -97,7 +97,7 @@ fn changes_in(
 pub fn list_changes(alloc: Global, order: &Order, text: &[u8]) -> Result<Vec<Change>, RunFault>
     ensures { MatchResult result (λ changes. HasChanges order.now text.now changes.items) (IsRunFault order.now text.now) }
 {
-    match read_text_in_order(alloc, order.goal, order.depth, text) {
+    match read_text(alloc, order.goal, order.depth, text) {
         Ok(source) => changes_in(alloc, order, text, &source),
         Err(fault) => Err(RunFault::of_text(fault)),
     }

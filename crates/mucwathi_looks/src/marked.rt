@@ -15,7 +15,7 @@ use std::alloc::Global;
 use swc_tree_marks::PassError;
 use swc_tree_node::Node;
 use swc_tree_walk::sites;
-use text_source::read_text_in_order;
+use text_source::read_text;
 
 fn mark(alloc: Global, text: &[u8], source: Node) -> Result<Vec<u8>, PassError>
     requires { opened program_place source ≡ Some scope.Program }
@@ -48,7 +48,7 @@ fn mark_source(alloc: Global, goal: Goal, text: &[u8], source: Node) -> Result<V
 pub fn mark_text(alloc: Global, goal: Goal, depth: u32, text: &[u8]) -> Result<Vec<u8>, RunFault>
     ensures { MatchResult result (λ out. HasSigns text.now out.items) (IsUnlooked goal text.now) }
 {
-    match read_text_in_order(alloc, goal, depth, text) {
+    match read_text(alloc, goal, depth, text) {
         Ok(source) => mark_source(alloc, goal, text, source),
         Err(fault) => Err(RunFault::of_text(fault)),
     }

@@ -17,7 +17,7 @@ use std::collections::BTreeSet;
 use swc_tree_marks::{JsWord, Mark, PassError};
 use swc_tree_node::Node;
 use swc_tree_walk::{Site, sites};
-use text_source::read_text_in_order;
+use text_source::read_text;
 
 // Whether an identifier is a reference with the one mark of names that nothing declares.
 fn is_free(unresolved: Mark, site: &Site<'_>) -> bool
@@ -117,7 +117,7 @@ pub fn free_names(
 ) -> Result<Vec<FreeName>, RunFault>
     ensures { MatchResult result (λ names. HasFreeNames goal text.now names.items) (IsUnlooked goal text.now) }
 {
-    match read_text_in_order(alloc, goal, depth, text) {
+    match read_text(alloc, goal, depth, text) {
         Ok(source) => names_in(alloc, goal, text, source),
         Err(fault) => Err(RunFault::of_text(fault)),
     }

@@ -1,4 +1,4 @@
-//! JavaScript texts read as modules and scripts: `read_text_in_order` of crate text_source, over the typed tree.
+//! JavaScript texts read as modules and scripts: `read_text` of crate text_source, over the typed tree.
 #![tactic(auto)]
 
 mod read;

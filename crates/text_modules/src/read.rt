@@ -12,13 +12,13 @@ ghost use Rattle.text_spans.specs.Leaves.{LeavesStand};
 
 use std::alloc::Global;
 use swc_tree::{Module, Opened, Script};
-use text_source::{Goal, TextFault, read_text_in_order};
+use text_source::{Goal, TextFault, read_text};
 
-/// The module that a text is. `depth` says how deep it may be: see `read_text_in_order` of crate text_source, which reads it.
+/// The module that a text is. `depth` says how deep it may be: see `read_text` of crate text_source, which reads it.
 ///
 /// # Errors
 ///
-/// Those of `read_text_in_order`.
+/// Those of `read_text`.
 pub fn read_module(alloc: Global, depth: u32, text: &[u8]) -> Result<Module, TextFault>
     ensures tree { IfOk result (λ read. IsTextOf goal.Module (module_node read) text.now) }
     ensures formed { IfOk result (λ read. IsWellFormed (slot_of goal.Module) (module_node read)) }
@@ -30,17 +30,17 @@ pub fn read_module(alloc: Global, depth: u32, text: &[u8]) -> Result<Module, Tex
     ensures too_long { most_bytes < length text.now → result ≡ Err fault.TooLong }
     ensures no_utf8 { length text.now ≤ most_bytes → (IsUtf8 text.now → ⊥) → result ≡ Err (fault.NotUtf8 (utf8_valid_len text.now)) }
 {
-    match read_text_in_order(alloc, Goal::Module, depth, text) {
+    match read_text(alloc, Goal::Module, depth, text) {
         Ok(tree) => Ok(Module::from_node(tree)),
         Err(fault) => Err(fault),
     }
 }
 
-/// The script that a text is. `depth` says how deep it may be: see `read_text_in_order` of crate text_source, which reads it.
+/// The script that a text is. `depth` says how deep it may be: see `read_text` of crate text_source, which reads it.
 ///
 /// # Errors
 ///
-/// Those of `read_text_in_order`.
+/// Those of `read_text`.
 pub fn read_script(alloc: Global, depth: u32, text: &[u8]) -> Result<Script, TextFault>
     ensures tree { IfOk result (λ read. IsTextOf goal.Script (script_node read) text.now) }
     ensures formed { IfOk result (λ read. IsWellFormed (slot_of goal.Script) (script_node read)) }
@@ -52,7 +52,7 @@ pub fn read_script(alloc: Global, depth: u32, text: &[u8]) -> Result<Script, Tex
     ensures too_long { most_bytes < length text.now → result ≡ Err fault.TooLong }
     ensures no_utf8 { length text.now ≤ most_bytes → (IsUtf8 text.now → ⊥) → result ≡ Err (fault.NotUtf8 (utf8_valid_len text.now)) }
 {
-    match read_text_in_order(alloc, Goal::Script, depth, text) {
+    match read_text(alloc, Goal::Script, depth, text) {
         Ok(tree) => Ok(Script::from_node(tree)),
         Err(fault) => Err(fault),
     }

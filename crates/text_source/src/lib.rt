@@ -6,6 +6,6 @@ mod read;
 mod sound;
 
 pub use located::{Located, locate};
-pub use read::{MOST_BYTES, are_spans_of, is_text_of, read_text, read_text_in_order};
+pub use read::{MOST_BYTES, are_spans_of, is_text_of, read_text};
 pub use text_parser::{Expected, Goal, Language, TextFault};
 pub use text_places::{Place, line_and_column};

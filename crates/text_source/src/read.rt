@@ -243,7 +243,7 @@ fn read_utf8(alloc: Global, goal: Goal, depth: u32, text: &[u8]) -> Result<Node,
 /// What is answered is what the text says: its tokens are those of the tree, one after another, and nothing else stands there
 /// but blanks, comments, and what no tree tells; and the grammar derives the tree as it stands, which is pinned where the grammar leaves
 /// a choice. Each node's span goes from its first token to its last, and names, keys, numbers and strings are spelled so there. No
-/// identifier has a context.
+/// identifier has a context. Nodes lie in memory before those below them, but for small ones, as is best for passes.
 ///
 /// # Errors
 ///
@@ -270,28 +270,4 @@ pub fn read_text(alloc: Global, goal: Goal, depth: u32, text: &[u8]) -> Result<N
             at: error.valid_up_to(),
         }),
     }
-}
-
-/// The same: the reader lays each node in memory before those below it, but for small ones, as is best for passes.
-///
-/// # Errors
-///
-/// Those of `read_text`.
-pub fn read_text_in_order(
-    alloc: Global,
-    goal: Goal,
-    depth: u32,
-    text: &[u8],
-) -> Result<Node, TextFault>
-    ensures tree { IfOk result (λ tree. IsTextOf goal tree text.now) }
-    ensures formed { IfOk result (IsWellFormed (spec.slot_of goal)) }
-    ensures pinned { IfOk result IsPinned }
-    ensures leaves { IfOk result (LeavesStand text.now) }
-    ensures clean { IfOk result IsClean }
-    ensures spans { IfOk result (λ tree. SpansAreOf goal tree text.now) }
-    ensures refusal { IfErr result (Tells text.now) }
-    ensures too_long { most_bytes < length text.now → result ≡ Err fault.TooLong }
-    ensures no_utf8 { length text.now ≤ most_bytes → (IsUtf8 text.now → ⊥) → result ≡ Err (fault.NotUtf8 (utf8_valid_len text.now)) }
-{
-    read_text(alloc, goal, depth, text)
 }
