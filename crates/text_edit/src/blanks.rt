@@ -1,7 +1,8 @@
 //! Blanks between tokens, and the bytes round them.
-use std::alloc::{AllocError, Global};
+use std::alloc::Global;
 use text_characters::byte_at;
 use text_lexer::{Comments, skip_blank};
+use text_printer::Bytes;
 
 pub(crate) fn is_name_byte(byte: u8) -> bool {
     byte.is_ascii_alphanumeric() || byte == b'$' || byte == b'_' || byte == b'\\' || byte >= 128
@@ -98,76 +99,67 @@ enum Within {
 }
 
 /// Puts a byte behind others that stands between comments.
-fn put_between(
-    within: Within,
-    byte: u8,
-    next: u8,
-    out: &mut Vec<u8>,
-) -> Result<Within, AllocError> {
+fn put_between(within: Within, byte: u8, next: u8, out: &mut Bytes) -> Within {
     if byte == b'\n' || byte == b'\r' {
-        if within == Within::Blank && (out.is_empty() || last_byte(out.as_slice()) != b' ') {
-            out.push(b' ')?;
+        let put = out.as_slice();
+        if within == Within::Blank && (put.is_empty() || last_byte(put) != b' ') {
+            out.put_byte(b' ');
         }
-        return Ok(Within::Indent);
+        return Within::Indent;
     }
     if within == Within::Indent && (byte == b' ' || byte == b'\t') {
-        return Ok(Within::Indent);
+        return Within::Indent;
     }
     if byte == b'<' || byte == b'-' {
-        out.extend_from_slice(b"/*")?;
+        out.put(b"/*");
     }
-    out.push(byte)?;
-    Ok(match byte {
+    out.put_byte(byte);
+    match byte {
         b'/' => Within::Opens(next == b'/'),
         b'<' | b'-' => Within::Line,
         _ => Within::Blank,
-    })
+    }
 }
 
 /// Puts a byte of blanks behind others that are to stand in one line; tells where the next stands.
-fn put_in_line(
-    within: Within,
-    byte: u8,
-    next: u8,
-    out: &mut Vec<u8>,
-) -> Result<Within, AllocError> {
+fn put_in_line(within: Within, byte: u8, next: u8, out: &mut Bytes) -> Within {
     let ends = byte == b'\n' || byte == b'\r';
     let closes = byte == b'*' && next == b'/';
     match within {
         Within::Blank | Within::Indent => put_between(within, byte, next, out),
         Within::Opens(in_line) => {
-            out.push(b'*')?;
-            Ok(if in_line { Within::Line } else { Within::Block })
+            out.put_byte(b'*');
+            if in_line { Within::Line } else { Within::Block }
         }
         Within::Line if ends => {
-            out.extend_from_slice(b" */ ")?;
-            Ok(Within::Indent)
+            out.put(b" */ ");
+            Within::Indent
         }
         Within::Line => {
-            out.push(byte)?;
+            out.put_byte(byte);
             if closes {
-                out.push(b' ')?;
+                out.put_byte(b' ');
             }
-            Ok(Within::Line)
+            Within::Line
         }
         Within::Block => {
-            out.push(if ends { b' ' } else { byte })?;
-            Ok(if closes {
+            out.put_byte(if ends { b' ' } else { byte });
+            if closes {
                 Within::Closes
             } else {
                 Within::Block
-            })
+            }
         }
         Within::Closes => {
-            out.push(byte)?;
-            Ok(Within::Blank)
+            out.put_byte(byte);
+            Within::Blank
         }
     }
 }
 
 /// Blanks with their comments, each closed before its line ends, in one line; `behind`: behind a blank.
-pub(crate) fn in_line(alloc: Global, behind: bool, blanks: &[u8]) -> Result<Vec<u8>, AllocError> {
-    let mut out = Vec::new(alloc);
+pub(crate) fn in_line(alloc: Global, behind: bool, blanks: &[u8]) -> Bytes {
+    let mut out = Bytes::new(alloc);
     let mut within = if behind {
         Within::Indent
     } else {
@@ -179,10 +171,10 @@ pub(crate) fn in_line(alloc: Global, behind: bool, blanks: &[u8]) -> Result<Vec<
             blanks[i],
             byte_at(blanks, i.saturating_add(1)),
             &mut out,
-        )?;
+        );
     }
     if within == Within::Line {
-        out.extend_from_slice(b" */")?;
+        out.put(b" */");
     }
-    Ok(out)
+    out
 }

@@ -6,7 +6,7 @@ use crate::blanks::{
 use std::alloc::{AllocError, Global};
 use text_lexer::{Comments, Mark};
 use text_pieces::{Gap, Piece};
-use text_printer::{Layout, text_of_pieces};
+use text_printer::{Bytes, Layout, text_of_pieces};
 
 /// What is due where a text changes.
 #[derive(Clone, Copy)]
@@ -127,18 +127,45 @@ fn put_blanks(
     here: bool,
     last: u8,
     blanks: &[u8],
-    new: &mut Vec<u8>,
-) -> Result<(), AllocError> {
+    new: &mut Bytes,
+) {
     if joins_blanks(last, first_byte(blanks)) {
-        new.push(b' ')?;
+        new.put_byte(b' ');
     }
     if here && ends_line(comments, blanks) {
-        let line = in_line(alloc, last == b' ', blanks)?;
-        new.extend_from_slice(&line)?;
+        new.put_all(&in_line(alloc, last == b' ', blanks));
     } else {
-        new.extend_from_slice(blanks)?;
+        new.put(blanks);
     }
-    Ok(())
+}
+
+/// A new token behind a text, and behind blanks of the old one if they are given.
+fn new_token(
+    alloc: Global,
+    comments: Comments,
+    edge: Edge,
+    old: &[u8],
+    blanks: Option<&[u8]>,
+    token: &[u8],
+) -> Bytes {
+    let mut new = Bytes::new(alloc);
+    let next = first_byte(token);
+    if edge.semicolon && next != b'}' {
+        new.put_byte(b';');
+    }
+    if edge.line && !old.is_empty() {
+        new.put_byte(b'\n');
+    }
+    if let Some(blanks) = blanks {
+        let last = last_of(old, new.as_slice());
+        put_blanks(alloc, comments, edge.here, last, blanks, &mut new);
+    }
+    let last = last_of(old, new.as_slice());
+    if joins(last, next) || edge.inserted && !edge.line && is_roomy(last, next) {
+        new.put_byte(b' ');
+    }
+    new.put(token);
+    new
 }
 
 /// A new piece behind a text, before these blanks of the old one.
@@ -155,31 +182,13 @@ pub(crate) fn put(
     if token.is_empty() {
         return Ok((edge.behind_gap(piece), token));
     }
-    let mut new = Vec::new(alloc);
-    let next = first_byte(&token);
-    if edge.semicolon && next != b'}' {
-        new.push(b';')?;
-    }
     let leads = matches!(piece, Piece::Mark(Mark::LeftParen)) && !edge.line && !edge.written;
-    if edge.line && !old.is_empty() {
-        new.push(b'\n')?;
+    let between = if leads { Some(blanks) } else { None };
+    let new = new_token(alloc, comments, edge, old, between, token.as_slice());
+    match new.finish() {
+        Ok(new) => Ok((edge.behind_new(leads), new)),
+        Err(error) => Err(error),
     }
-    if leads {
-        put_blanks(
-            alloc,
-            comments,
-            edge.here,
-            last_of(old, &new),
-            blanks,
-            &mut new,
-        )?;
-    }
-    let last = last_of(old, &new);
-    if joins(last, next) || edge.inserted && !edge.line && is_roomy(last, next) {
-        new.push(b' ')?;
-    }
-    new.extend_from_slice(&token)?;
-    Ok((edge.behind_new(leads), new))
 }
 
 /// An old token behind a text that has changed, with what of the blanks before it stays.
@@ -191,29 +200,23 @@ pub(crate) fn keep(
     blanks: &[u8],
     stands: &[u8],
 ) -> Result<Vec<u8>, AllocError> {
-    let mut new = Vec::new(alloc);
+    let mut new = Bytes::new(alloc);
     if stands.len() <= blanks.len() {
-        return Ok(new);
+        return new.finish();
     }
     let token = &stands[blanks.len()..];
     let stays = !(edge.written || edge.dropped && !has_comment(blanks));
     if edge.wants_semicolon(stays && ends_line(comments, blanks), first_byte(token)) {
-        new.push(b';')?;
+        new.put_byte(b';');
     }
+    let last = last_of(old, new.as_slice());
     if stays && !blanks.is_empty() {
-        put_blanks(
-            alloc,
-            comments,
-            edge.here,
-            last_of(old, &new),
-            blanks,
-            &mut new,
-        )?;
-    } else if joins(last_of(old, &new), first_byte(token)) {
-        new.push(b' ')?;
+        put_blanks(alloc, comments, edge.here, last, blanks, &mut new);
+    } else if joins(last, first_byte(token)) {
+        new.put_byte(b' ');
     }
-    new.extend_from_slice(token)?;
-    Ok(new)
+    new.put(token);
+    new.finish()
 }
 
 /// What stays behind a text of an old token that is taken away: the blanks before it, where they are wanted.
@@ -225,17 +228,11 @@ pub(crate) fn left_of(
     blanks: &[u8],
     stood: &[u8],
 ) -> Result<Vec<u8>, AllocError> {
-    let mut left = Vec::new(alloc);
+    let mut left = Bytes::new(alloc);
     let wanted = !stood.is_empty() && !edge.written;
     if wanted && (has_comment(blanks) || !(edge.dropped || closes(stood))) {
-        put_blanks(
-            alloc,
-            comments,
-            edge.here,
-            last_byte(old),
-            blanks,
-            &mut left,
-        )?;
+        let last = last_byte(old);
+        put_blanks(alloc, comments, edge.here, last, blanks, &mut left);
     }
-    Ok(left)
+    left.finish()
 }

@@ -1,4 +1,5 @@
 //! Pieces written one after another, with the blanks that they need.
+use crate::bytes::Bytes;
 use crate::mark_text::mark_text;
 use std::alloc::{AllocError, Global};
 use text_comments::{goes_to_line_end, has_line_end};
@@ -39,9 +40,7 @@ enum Last {
 /// Where memory is refused it goes on without what had no room, and gives no text in the end.
 #[derive(Drop)]
 pub struct Writer<'a> {
-    out: Vec<u8>,
-    /// Memory was refused.
-    refused: bool,
+    out: Bytes,
     layout: Layout,
     last: Last,
     depth: usize,
@@ -94,8 +93,7 @@ impl<'a> Writer<'a> {
     /// A writer of an empty text.
     pub fn new(alloc: Global, layout: Layout) -> Writer<'a> {
         Writer {
-            out: Vec::new(alloc),
-            refused: false,
+            out: Bytes::new(alloc),
             layout,
             last: Last::Nothing,
             depth: 0,
@@ -105,24 +103,12 @@ impl<'a> Writer<'a> {
         }
     }
 
-    fn put(&mut self, bytes: &[u8]) {
-        if self.out.extend_from_slice(bytes).is_err() {
-            self.refused = true;
-        }
-    }
-
-    fn put_byte(&mut self, byte: u8) {
-        if self.out.push(byte).is_err() {
-            self.refused = true;
-        }
-    }
-
     fn begin_line(&mut self) {
         if self.last != Last::Nothing {
-            self.put_byte(b'\n');
+            self.out.put_byte(b'\n');
         }
         for _ in 0..self.depth {
-            self.put(b"  ");
+            self.out.put(b"  ");
         }
         self.last = Last::Closed;
     }
@@ -132,7 +118,7 @@ impl<'a> Writer<'a> {
         if self.line && self.layout == Layout::Lines {
             self.begin_line();
         } else if joins(self.last, byte) {
-            self.put_byte(if self.last == Last::OpenComment {
+            self.out.put_byte(if self.last == Last::OpenComment {
                 b'\n'
             } else {
                 b' '
@@ -150,9 +136,9 @@ impl<'a> Writer<'a> {
         } else if self.last == Last::Nothing {
             return;
         } else if self.last == Last::OpenComment || text.starts_with(b"-->") {
-            self.put_byte(b'\n');
+            self.out.put_byte(b'\n');
         } else if is_laid_out || self.last == Last::Slash || !text.starts_with(b"/") {
-            self.put_byte(b' ');
+            self.out.put_byte(b' ');
         }
     }
 
@@ -160,7 +146,7 @@ impl<'a> Writer<'a> {
     pub fn comment(&mut self, text: &[u8]) {
         let begins_line = self.last == Last::Nothing || self.line;
         self.begin_comment(text);
-        self.put(text);
+        self.out.put(text);
         let is_open = goes_to_line_end(text);
         self.last = match self.layout {
             _ if is_open => Last::OpenComment,
@@ -174,7 +160,7 @@ impl<'a> Writer<'a> {
     /// Holds a comment until the next parameter is written, to stand behind it in its parentheses.
     pub fn hold(&mut self, text: &'a [u8]) {
         if self.held.push(text).is_err() {
-            self.refused = true;
+            self.out.refuse();
         }
     }
 
@@ -190,7 +176,7 @@ impl<'a> Writer<'a> {
     fn token(&mut self, text: &str, last: Last) {
         let bytes = text.as_bytes();
         self.begin(if bytes.is_empty() { b' ' } else { bytes[0] });
-        self.put(bytes);
+        self.out.put(bytes);
         self.last = last;
     }
 
@@ -200,7 +186,7 @@ impl<'a> Writer<'a> {
 
     fn private(&mut self, text: &str) {
         self.token("#", Last::Closed);
-        self.put(text.as_bytes());
+        self.out.put(text.as_bytes());
         self.last = Last::Name;
     }
 
@@ -208,14 +194,14 @@ impl<'a> Writer<'a> {
         self.token("\"", Last::Closed);
         for byte in value.as_bytes() {
             match *byte {
-                b'"' => self.put(b"\\\""),
-                b'\\' => self.put(b"\\\\"),
-                b'\n' => self.put(b"\\n"),
-                b'\r' => self.put(b"\\r"),
-                other => self.put_byte(other),
+                b'"' => self.out.put(b"\\\""),
+                b'\\' => self.out.put(b"\\\\"),
+                b'\n' => self.out.put(b"\\n"),
+                b'\r' => self.out.put(b"\\r"),
+                other => self.out.put_byte(other),
             }
         }
-        self.put_byte(b'"');
+        self.out.put_byte(b'"');
     }
 
     fn template(&mut self, part: TemplatePart, raw: &str) {
@@ -223,24 +209,24 @@ impl<'a> Writer<'a> {
             TemplatePart::Whole | TemplatePart::Head => self.token("`", Last::Closed),
             TemplatePart::Middle | TemplatePart::Tail => self.token("}", Last::Closed),
         }
-        self.put(raw.as_bytes());
+        self.out.put(raw.as_bytes());
         match part {
-            TemplatePart::Whole | TemplatePart::Tail => self.put_byte(b'`'),
-            TemplatePart::Head | TemplatePart::Middle => self.put(b"${"),
+            TemplatePart::Whole | TemplatePart::Tail => self.out.put_byte(b'`'),
+            TemplatePart::Head | TemplatePart::Middle => self.out.put(b"${"),
         }
     }
 
     fn regex(&mut self, pattern: &str, flags: &str) {
         self.token("/", Last::Name);
-        self.put(pattern.as_bytes());
-        self.put_byte(b'/');
-        self.put(flags.as_bytes());
+        self.out.put(pattern.as_bytes());
+        self.out.put_byte(b'/');
+        self.out.put(flags.as_bytes());
     }
 
     fn hashbang(&mut self, text: &str) {
         self.token("#!", Last::Closed);
-        self.put(text.as_bytes());
-        self.put_byte(b'\n');
+        self.out.put(text.as_bytes());
+        self.out.put_byte(b'\n');
         self.last = Last::Nothing;
     }
 
@@ -309,13 +295,10 @@ impl<'a> Writer<'a> {
     pub fn finish(mut self) -> Result<Vec<u8>, AllocError> {
         let ends = self.layout == Layout::Lines && self.last != Last::Nothing;
         if ends || self.last == Last::OpenComment {
-            self.put_byte(b'\n');
-        }
-        if self.refused {
-            return Err(AllocError);
+            self.out.put_byte(b'\n');
         }
         let Writer { out, .. } = self;
-        Ok(out)
+        out.finish()
     }
 }
 
