@@ -31,6 +31,20 @@ pub(crate) fn change_at(due: Change, before: &[Piece<'_>], after: &[Piece<'_>]) 
     }
 }
 
+// The next step where no change is under way: most often both lists have a piece, and one look tells it.
+#[tactic(auto, using(crate::proofs::Pieces::begin_one, crate::proofs::Pieces::parted, std::proofs::lemmas::Grind::common_steps))]
+fn settled_step(before: &[Piece<'_>], after: &[Piece<'_>]) -> Step
+    requires before { 0 < length before.now }
+    requires after { 0 < length after.now }
+    ensures { Allowed result (map piece_view before.now) (map piece_view after.now) }
+{
+    if begin_alike(1, before, after) {
+        Step::Both
+    } else {
+        Step::Insert
+    }
+}
+
 /// The next step where a change is due. Something is put in or taken away only where the next three pieces are not alike.
 #[tactic(auto, using(crate::proofs::Pieces::parts_from_none, crate::proofs::Pieces::parts_from_some, crate::proofs::Pieces::begin_one, crate::proofs::Pieces::parted, std::proofs::lemmas::Grind::common_steps))]
 pub(crate) fn step_at(due: Change, before: &[Piece<'_>], after: &[Piece<'_>]) -> Step
@@ -42,6 +56,9 @@ pub(crate) fn step_at(due: Change, before: &[Piece<'_>], after: &[Piece<'_>]) ->
     }
     if after.is_empty() {
         return Step::Remove;
+    }
+    if due.removed == 0 && due.inserted == 0 {
+        return settled_step(before, after);
     }
     if begin_alike(3, before, after) {
         return Step::Both;
