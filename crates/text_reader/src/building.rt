@@ -69,11 +69,13 @@ impl<'a> Parser<'a> {
     /// The last node, laid and taken off, with what is known of it.
     pub(crate) fn pop_high(&mut self) -> Result<Option<(Node, Part)>, TextFault> {
         self.lay_last()?;
-        let last = (self.nodes.pop(), self.parts.pop());
+        let part = self.last_part();
+        let _ = self.parts.pop();
+        let node = self.nodes.pop();
         self.laid = self.laid.min(self.nodes.len());
-        match last {
-            (Some(node), Some(part)) => Ok(Some((node, part))),
-            _ => Ok(None),
+        match node {
+            Some(node) => Ok(Some((node, part))),
+            None => Ok(None),
         }
     }
 

@@ -20,11 +20,20 @@ pub(crate) struct Part {
     pub(crate) height: u32,
     /// How many nodes it is, itself among them.
     size: u32,
-    /// How many nodes below it wait,
+    below: Below,
+}
+
+/// What waits below a node.
+#[derive(Clone, Copy)]
+struct Below {
+    /// How many nodes,
     waiting: u32,
     /// and how many of these are its own fields or items: the last of them, in reverse.
     own: u32,
 }
+
+/// Below a node that is laid.
+const NOTHING: Below = Below { waiting: 0, own: 0 };
 
 impl Part {
     /// Of a node that is laid.
@@ -32,8 +41,7 @@ impl Part {
         Part {
             height,
             size,
-            waiting: 0,
-            own: 0,
+            below: NOTHING,
         }
     }
 
@@ -69,13 +77,12 @@ pub(crate) fn joined(parts: &[Part]) -> Part {
             height = part.height;
         }
         size = size.saturating_add(part.size);
-        waiting = waiting.saturating_add(part.waiting);
+        waiting = waiting.saturating_add(part.below.waiting);
     }
     Part {
         height: height.saturating_add(1),
         size,
-        waiting,
-        own,
+        below: Below { waiting, own },
     }
 }
 
@@ -83,8 +90,7 @@ pub(crate) fn joined(parts: &[Part]) -> Part {
 #[derive(Drop)]
 pub(crate) struct Waiting {
     pub(crate) node: Node,
-    waiting: u32,
-    own: u32,
+    below: Below,
 }
 
 /// What is laid when a node is made.
@@ -122,9 +128,10 @@ fn laid(
     alloc: Global,
     waiting: &mut [Waiting],
     end: usize,
-    part: Part,
+    part: Below,
+    depth: u32,
 ) -> Result<Items<Node>, TextFault> {
-    if part.height == 0 {
+    if depth == 0 {
         return Err(TextFault::NotTheText);
     }
     let mut fields = Items::with_capacity(alloc, part.own as usize)?;
@@ -134,15 +141,10 @@ fn laid(
             return Err(TextFault::NotTheText);
         };
         let mut node = mem::replace(&mut field.node, Node::Absent);
-        let below = Part {
-            height: part.height - 1,
-            size: 0,
-            waiting: field.waiting,
-            own: field.own,
-        };
+        let below = field.below;
         behind = behind.saturating_add(below.waiting as usize);
         if below.own != 0 {
-            let parts = laid(alloc, waiting, behind, below)?;
+            let parts = laid(alloc, waiting, behind, below, depth - 1)?;
             fill(&mut node, parts);
         }
         fields.push(node)?;
@@ -153,13 +155,11 @@ fn laid(
 impl<'a> Parser<'a> {
     /// Makes a node, whose fields or items are the last of the nodes, and wait.
     pub(crate) fn wait(&mut self, node: Node, part: Part) -> Result<(), TextFault> {
-        for _ in 0..part.own {
-            if let (Some(node), Some(part)) = (self.nodes.pop(), self.parts.pop()) {
-                self.waiting.push(Waiting {
-                    node,
-                    waiting: part.waiting,
-                    own: part.own,
-                })?;
+        for _ in 0..part.below.own {
+            let below = self.last_part().below;
+            let _ = self.parts.pop();
+            if let Some(node) = self.nodes.pop() {
+                self.waiting.push(Waiting { node, below })?;
             }
         }
         self.laid = self.laid.min(self.nodes.len());
@@ -174,15 +174,29 @@ impl<'a> Parser<'a> {
         }
     }
 
+    /// What is known of the last node.
+    pub(crate) fn last_part(&self) -> Part {
+        match self.parts.last() {
+            Some(part) => *part,
+            None => Part::leaf(),
+        }
+    }
+
     /// Lays the node of a number with what waits below it, from a place on; and answers where that ends.
     fn lay(&mut self, number: usize, start: usize) -> Result<usize, TextFault> {
         let (Some(node), Some(part)) = (self.nodes.get_mut(number), self.parts.get_mut(number))
         else {
             return Err(TextFault::NotTheText);
         };
-        let end = start.saturating_add(part.waiting as usize);
-        if part.own != 0 {
-            let parts = laid(self.alloc, self.waiting.as_mut_slice(), end, *part)?;
+        let end = start.saturating_add(part.below.waiting as usize);
+        if part.below.own != 0 {
+            let parts = laid(
+                self.alloc,
+                self.waiting.as_mut_slice(),
+                end,
+                part.below,
+                part.height,
+            )?;
             fill(node, parts);
             *part = part.settled();
         }
@@ -202,13 +216,14 @@ impl<'a> Parser<'a> {
 
     /// Lays the last node.
     pub(crate) fn lay_last(&mut self) -> Result<(), TextFault> {
-        let Some(part) = self.parts.last() else {
-            return Ok(());
-        };
-        if part.own == 0 {
+        let part = self.last_part();
+        if part.below.own == 0 {
             return Ok(());
         }
-        let start = self.waiting.len().saturating_sub(part.waiting as usize);
+        let start = self
+            .waiting
+            .len()
+            .saturating_sub(part.below.waiting as usize);
         self.lay(self.nodes.len().saturating_sub(1), start)?;
         self.waiting.truncate(start);
         Ok(())
@@ -224,18 +239,21 @@ impl<'a> Parser<'a> {
     pub(crate) fn view_before_last(&self) -> Option<View<'_>> {
         let number = self.nodes.len().saturating_sub(2);
         let last = self.parts.last()?;
-        let end = self.waiting.len().saturating_sub(last.waiting as usize);
+        let end = self
+            .waiting
+            .len()
+            .saturating_sub(last.below.waiting as usize);
         self.view(self.nodes.get(number)?, *self.parts.get(number)?, end)
     }
 
     fn view<'p>(&'p self, node: &'p Node, part: Part, end: usize) -> Option<View<'p>> {
         let (waiting, _) = self.waiting.as_slice().split_at_checked(end)?;
-        let start = end.saturating_sub(part.waiting as usize);
+        let start = end.saturating_sub(part.below.waiting as usize);
         let (_, waiting) = waiting.split_at_checked(start)?;
         Some(View {
             node,
             waiting,
-            own: part.own,
+            own: part.below.own,
         })
     }
 }
@@ -282,12 +300,12 @@ impl<'a> View<'a> {
         }
         let mut rest = self.waiting;
         for (i, field) in self.waiting().iter().rev().enumerate() {
-            let (first, others) = rest.split_at_checked(field.waiting as usize)?;
+            let (first, others) = rest.split_at_checked(field.below.waiting as usize)?;
             if i == index {
                 return Some(View {
                     node: &field.node,
                     waiting: first,
-                    own: field.own,
+                    own: field.below.own,
                 });
             }
             rest = others;
