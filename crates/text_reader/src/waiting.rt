@@ -224,7 +224,8 @@ impl<'a> Parser<'a> {
             .waiting
             .len()
             .saturating_sub(part.below.waiting as usize);
-        self.lay(self.nodes.len().saturating_sub(1), start)?;
+        let last = self.nodes.len().saturating_sub(1);
+        self.lay(last, start)?;
         self.waiting.truncate(start);
         Ok(())
     }
