@@ -9,11 +9,11 @@ from following import Follows, Takes, pieces
 
 CRATES = ('text_commented',)
 SOURCES = {
-    'text_commented': {'AreChosen': 'bd7678409abe', 'ArePut': '9e9be39596e5', 'ArePutAt': 'bda888f9b8e8', 'BeginsBehind': '973646837275',
+    'text_commented': {'AreChosen': 'bd7678409abe', 'AreLast': 'c8e0095fcb94', 'ArePut': '9e9be39596e5', 'ArePutAt': 'bda888f9b8e8', 'BeginsBehind': '973646837275',
         'ClosesBehind': '208977b3defb', 'ComesBefore': 'c2457d2ad3e5', 'IsAlone': 'bfee79845bd7', 'IsCaught': 'fa0b26da1b2f',
         'IsChosen': '1827bfdc1685', 'IsCommented': '97d7b6341340', 'IsFirstBegun': '1b032331396c', 'IsFound': 'a6343bfa93d7',
         'IsLastBegun': '1fb2990fb367', 'IsLastStop': '68d2d5c6717b', 'IsNearest': 'b5e0ee0b5f86', 'IsSet': '348b6a908217',
-        'IsSetFrom': '76852b1b1127', 'IsTold': 'e50550636fb9', 'IsWhy': 'ee358334adc2', 'IsWrittenWith': '77a9da7e344c',
+        'IsSetFrom': '76852b1b1127', 'IsTold': 'e50550636fb9', 'IsWhy': 'ee358334adc2', 'IsWrittenWith': '5d0dd5ab7a36',
         'KeepsOrder': '447ee156d176', 'Meets': 'e74465c2e240', 'PutsAmong': 'fb4dbcbcca49', 'Stands': 'e2ddfcc48d66',
         'StopsBefore': '49253112f4d6'},
 }
@@ -148,6 +148,19 @@ def due_in(D, c, framed, text):
     return found + [(here, [D.text_commented.Commented.written(text, k) for k in made.before_token(c, text, fresh, rest)])]
 
 
+def AreLast(gaps):
+    """the same without the places where a comment may not trail, since a node behind them stops there too"""
+    seen, out = set(), []
+    for places, due in reversed(gaps):
+        kept = []
+        for place, passed in reversed(places):
+            if place[0] == 'Leads' or place not in seen:
+                kept.append((place, passed))
+            seen.add(place)
+        out.append((kept[::-1], due))
+    return out[::-1]
+
+
 def KeepsOrder(rs, put):
     """those that are put at one place behind as many tokens rise; `ComesBefore` says so of two"""
     return all(n < m or here != there or not Stands(rs[m], rs[n].at) for i, (m, there) in enumerate(put) for n, here in put[:i])
@@ -176,7 +189,7 @@ def IsSet(D, c, framed, rs, text, used):
     gaps = due_in(D, c, framed, text)
     if gaps is None or sum(len(due) for _, due in gaps) != len(used):
         return False
-    return any(KeepsOrder(rs, put) for put, _ in PutsAmong(rs, gaps, used))
+    return any(KeepsOrder(rs, put) for put, _ in PutsAmong(rs, AreLast(gaps), used))
 
 
 def IsCommented(D, c, t, rs, text, left):

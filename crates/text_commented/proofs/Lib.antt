@@ -1,7 +1,9 @@
 pub mod Chosen
 pub mod Ends
-pub mod Listed
 pub mod InOrder
+pub mod Lasting
+pub mod Listed
+pub mod Noting
 pub mod Puts
 pub mod Sets
 pub mod Steps

@@ -16,6 +16,7 @@ use Rattle.text_commented.specs.Places.{is_token, places}
 use Rattle.text_commented.specs.Why.{IsTold}
 use Rattle.text_commented.specs.declared.left.Left.{Left}
 use Rattle.text_commented.specs.declared.remark.At.{At}
+use Rattle.text_commented.specs.declared.remark.At.TheVariants as stand
 use Rattle.text_commented.specs.declared.remark.Remark.{Remark}
 
 -- a piece of a tree, or a comment by its number among those given
@@ -55,6 +56,18 @@ KeepsOrder rs near [] = Unit {0}
 KeepsOrder rs near (token p ∷ items) = KeepsOrder rs (if is_token p then [] else near) items
 KeepsOrder rs near (remark n ∷ items) = ((m : ℕ) → Contains near m → ComesBefore rs m n) × KeepsOrder rs (n ∷ near) items
 
+-- where nodes begin and stop behind the pieces among items
+abbrev pub places_in : List Item → List At
+places_in [] = []
+places_in (token p ∷ items) = places p ++ places_in items
+places_in (remark n ∷ items) = places_in items
+
+-- Behind a comment that trails no node stops there any more.
+abbrev pub AreLast : List Remark → List Item → Type 0
+AreLast rs [] = Unit {0}
+AreLast rs (token p ∷ items) = AreLast rs items
+AreLast rs (remark n ∷ items) = ((a : ℕ) → Stands (slice_get rs n) (stand.Trails a) → ¬ Contains (places_in items) (stand.Trails a)) × AreLast rs items
+
 -- the numbers of those that were not put, from n on
 abbrev pub not_put : ℕ → List Bool → List ℕ
 not_put n [] = []
@@ -91,11 +104,11 @@ abbrev pub IsSet : Comments → List Remark → List Item → List ℕ → Type 
 IsSet c rs items text = IsSetFrom c text rs true ending.Closed [] items text
 
 -- A text has the tokens of a tree, and comments of those given and no others: each at most once, as it is written, between the tokens
--- round a frame where it stands, those of one place that stand between the same tokens in their order. Just the others are left, and each
--- is told why.
+-- round a frame where it stands, the last such frame if it trails, those of one place that stand between the same tokens in their order.
+-- Just the others are left, and each is told why.
 pub record IsWrittenWith (c : Comments) (tokens framed : List Piece) (rs : List Remark) (text : List ℕ) (left : List Left) : Type 0 where
   pub follows : Follows c false tokens text
-  pub set : (used : List Bool) × (items : List Item) × PutsAmong rs (replicate (length rs) false) framed items used × KeepsOrder rs [] items × IsSet c rs items text × (map (λ l. l.number) left ≡ not_put 0 used)
+  pub set : (used : List Bool) × (items : List Item) × PutsAmong rs (replicate (length rs) false) framed items used × KeepsOrder rs [] items × AreLast rs items × IsSet c rs items text × (map (λ l. l.number) left ≡ not_put 0 used)
   pub told : All (λ l. IsTold c framed (slice_get rs l.number) l.why) left
 
 abbrev pub IsCommented : Comments → Node → List Remark → List ℕ → List Left → Type 0

@@ -1,11 +1,17 @@
 -- Steps of the walks over pieces, and over a text.
+use Rattle.std.specs.BTreeMap.{BTreeMap, get}
 use Rattle.std.specs.List.{Contains}
-use Rattle.std.specs.Prelude.{◌≡◌, ℕ, ◌+◌, ◌-◌, ◌≤◌, Bool, List, [], ◌∷◌, ◌++◌, drop, map, slice_get, take}
+use Rattle.std.specs.List.Sorted.{IsNonDecreasing}
+use Rattle.std.specs.Ordering.{nat_cmp}
+use Rattle.std.specs.Prelude.{◌≡◌, ℕ, ◌+◌, ◌-◌, ◌<◌, ◌≤◌, Bool, Some, None, List, [], ◌∷◌, ◌++◌, drop, map, slice_get, take}
 use Rattle.text_lexer.specs.declared.blank.Comments.{Comments}
 use Rattle.text_pieces.specs.Tokens.{Piece}
 use Rattle.text_commented.specs.Commented.{ArePut, ArePutAt, IsSetFrom, Item, KeepsOrder, Stands, remark, token}
+use Rattle.text_commented.specs.Places.{places}
 use Rattle.text_commented.specs.declared.check.Walk.{Walk}
+use Rattle.text_commented.specs.declared.noted.Noted.{Noted}
 use Rattle.text_commented.specs.declared.remark.At.{At}
+use Rattle.text_commented.specs.declared.remark.At.TheVariants as stand
 use Rattle.text_commented.specs.declared.remark.Placed as code
 use Rattle.text_commented.specs.declared.remark.Remark.{Remark}
 
@@ -72,3 +78,41 @@ Covers rs others near = (m : ℕ) → Contains near m → (n : ℕ) × Contains 
 -- behind those that are covered items keep the order
 abbrev pub KeepsOn : List Remark → List ℕ → List Item → Type 0
 KeepsOn rs others items = (near : List ℕ) → Covers rs others near → KeepsOrder rs near items
+
+-- no place is noted but those that are listed
+abbrev pub AreListed : Noted → Type 0
+AreListed s = (a : ℕ) → ¬ Contains s.listed.items a → get nat_cmp s.behind a ≡ None
+
+-- ... and these are in order
+pub record IsReady (s : Noted) : Type 0 where
+  pub listed : AreListed s
+  pub rise : IsNonDecreasing s.listed.items
+
+-- what is noted of places stays
+abbrev pub IsKept : BTreeMap ℕ ℕ → BTreeMap ℕ ℕ → Type 0
+IsKept old new = (a b : ℕ) → get nat_cmp old a ≡ Some b → get nat_cmp new a ≡ Some b
+
+-- a place is noted, with how many pieces are before the comments there
+pub record Notes (old new : Noted) (place before : ℕ) : Type 0 where
+  pub kept : IsKept old.behind new.behind
+  pub noted : get nat_cmp new.behind place ≡ Some before
+  pub listed : AreListed old → AreListed new
+
+-- where a comment trails is noted
+abbrev pub IsNoted : List Remark → BTreeMap ℕ ℕ → Placed → Type 0
+IsNoted rs behind p = (a : ℕ) → Stands (slice_get rs p.1) (stand.Trails a) → get nat_cmp behind a ≡ Some p.0
+
+pub record NotesOf (rs : List Remark) (old new : Noted) (p : Placed) : Type 0 where
+  pub kept : IsKept old.behind new.behind
+  pub noted : IsNoted rs new.behind p
+  pub listed : AreListed old → AreListed new
+
+-- a node that stops at a place, so many pieces from the first, does so before the comments there
+abbrev pub StopsBefore : BTreeMap ℕ ℕ → ℕ → ℕ → Type 0
+StopsBefore behind n a = (b : ℕ) → get nat_cmp behind a ≡ Some b → n < b
+
+abbrev pub StopsIn : BTreeMap ℕ ℕ → ℕ → List At → Type 0
+StopsIn behind n all = (a : ℕ) → Contains all (stand.Trails a) → StopsBefore behind n a
+
+abbrev pub AreStopped : BTreeMap ℕ ℕ → ℕ → Piece → Type 0
+AreStopped behind n p = StopsIn behind n (places p)

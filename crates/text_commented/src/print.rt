@@ -1,7 +1,7 @@
 //! The text of a tree, with comments.
 ghost use Rattle.std.specs.Prelude.{List, [], false, length, map, replicate, IfOk, OnOk};
 ghost use Rattle.text_commented.specs.Chosen.{AreChosen};
-ghost use Rattle.text_commented.specs.Commented.{IsCommented, IsSet, IsWrittenWith, KeepsOrder, PutsAmong};
+ghost use Rattle.text_commented.specs.Commented.{AreLast, IsCommented, IsSet, IsWrittenWith, KeepsOrder, PutsAmong};
 ghost use Rattle.text_commented.specs.Steps.{merged, placed_view};
 ghost use Rattle.text_commented.specs.declared.remark.Remark.{Remark};
 ghost use Rattle.text_follow.specs.Follows.{Follows};
@@ -14,6 +14,7 @@ use crate::choose::remarks_among;
 use crate::fault::SetFault;
 use crate::fit::{Given, Put, order_of, put_among};
 use crate::frames::{Places, key_of};
+use crate::last::are_last;
 use crate::left::{Left, left_of, numbers_left};
 use crate::order::keeps_order;
 use crate::remark::{Placed, Remark};
@@ -77,6 +78,7 @@ fn check(
 ) -> Result<(), SetFault>
     ensures follows { OnOk result (Follows comments false (without_frames (map piece_view pieces.now)) text.now) }
     ensures order { OnOk result (KeepsOrder remarks.now [] (merged 0 (map piece_view pieces.now) (map placed_view placed.now))) }
+    ensures last { OnOk result (AreLast remarks.now (merged 0 (map piece_view pieces.now) (map placed_view placed.now))) }
     ensures set { OnOk result (IsSet comments remarks.now (merged 0 (map piece_view pieces.now) (map placed_view placed.now)) text.now) }
 {
     if text.len() >= u32::MAX as usize {
@@ -89,6 +91,10 @@ fn check(
     hold(alloc, source, remarks, pieces, placed)?;
     let in_order = keeps_order(alloc, remarks, pieces, placed)?;
     if !in_order {
+        return Err(SetFault::NotSet);
+    }
+    let in_last = are_last(alloc, remarks, pieces, placed)?;
+    if !in_last {
         return Err(SetFault::NotSet);
     }
     Ok(())
@@ -105,6 +111,7 @@ fn text_with(
 ) -> Result<Vec<u8>, SetFault>
     ensures follows { IfOk result (λ text. Follows comments false (without_frames (map piece_view pieces.now)) text.items) }
     ensures order { IfOk result (λ text. KeepsOrder remarks.now [] (merged 0 (map piece_view pieces.now) (map placed_view placed.now))) }
+    ensures last { IfOk result (λ text. AreLast remarks.now (merged 0 (map piece_view pieces.now) (map placed_view placed.now))) }
     ensures set { IfOk result (λ text. IsSet comments remarks.now (merged 0 (map piece_view pieces.now) (map placed_view placed.now)) text.items) }
 {
     let text = text_of(alloc, layout, remarks, pieces, placed)?;

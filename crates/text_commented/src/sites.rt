@@ -20,8 +20,8 @@ pub(crate) struct Sites {
     stopped: Vec<usize>,
 }
 
-// The same numbers in order.
-fn ordered(mut places: Vec<usize>) -> Result<Vec<usize>, AllocError>
+/// The same numbers in order.
+pub(crate) fn ordered(mut places: Vec<usize>) -> Result<Vec<usize>, AllocError>
     ensures same { IfOk result (λ sorted. IsPermutation places.items sorted.items) }
     ensures rise { IfOk result (λ sorted. IsNonDecreasing sorted.items) }
 {

@@ -9,6 +9,7 @@ returns c =
     let items = merged 0 (map piece_view c.args.pieces.now) (map placed_view put.placed.items) in
     let set = rw c.as_slice-placed.ensures.value at c.in_ok-text.ensures.set in
     let order = rw c.as_slice-placed.ensures.value at c.in_ok-text.ensures.order in
+    let last = rw c.as_slice-placed.ensures.value at c.in_ok-text.ensures.last in
     let numbers = rw c.as_slice-used.ensures.value at c.in_ok-numbers.ensures in
     let each = rw c.as_slice-each.ensures.value at c.in_ok-left.ensures.each in
-    record { follows = c.in_ok-text.ensures.follows; set = (put.used.items, items, c.in_ok-put.ensures, order, set, each ∙ numbers); told = c.in_ok-left.ensures.told }
+    record { follows = c.in_ok-text.ensures.follows; set = (put.used.items, items, c.in_ok-put.ensures, order, last, set, each ∙ numbers); told = c.in_ok-left.ensures.told }
