@@ -1,5 +1,5 @@
 -- At which node a comment stands.
-use Rattle.std.proofs.Common.{◌≡◌, ◌↔◌, ℕ, ◌+◌, ◌-◌, ◌<◌, ◌≤◌, Bool, true, false, List, Option, Some, None, IsTrue, MatchOption, inl, inr, if◌then◌else◌, refl, sym, arith}
+use Rattle.std.proofs.Common.{◌≡◌, ◌↔◌, ℕ, ◌-◌, ◌<◌, ◌≤◌, Bool, true, false, List, Option, Some, None, IsTrue, MatchOption, inl, inr, if◌then◌else◌, refl, arith}
 use Rattle.std.proofs.lemmas.Bool.{cases_lt}
 use Rattle.text_comments.specs.declared.comment.Comment.{Comment}
 use Rattle.text_commented.specs.Chosen.{BeginsBehind, ClosesBehind, IsAlone, IsFound, IsNearest, StopsBefore, before, begins_line, behind, near, within}

@@ -1,5 +1,5 @@
 -- Comments that trail, each behind the last node that stops there.
-use Rattle.std.proofs.Common.{◌≡◌, ℕ, zero, suc, ◌+◌, ◌-◌, ◌<◌, ◌≤◌, List, [], ◌∷◌, ◌++◌, Option, Some, None, All, Contains, inl, inr, length, map, option_map, take, drop, get_or, slice_get, refl, sym, ap, subst, arith, ◌∙◌}
+use Rattle.std.proofs.Common.{◌≡◌, ℕ, zero, suc, ◌+◌, ◌-◌, ◌<◌, ◌≤◌, List, [], ◌∷◌, ◌++◌, Some, All, Contains, inl, inr, length, map, option_map, take, drop, get_or, slice_get, refl, sym, ap, subst, arith, ◌∙◌}
 use Rattle.std.proofs.lemmas.Bool.{cases_lt}
 use Rattle.std.proofs.lemmas.List.{append-nil, append_assoc, drop-drop, length-map, map_more, take-append-drop, take_all}
 use Rattle.std.proofs.lemmas.List.Elements.{All-head, All-push, All-tail, Contains-append_cases}
