@@ -1,7 +1,6 @@
 //! Rows of texts in which one byte is another.
 use crate::print::print_tree;
 use crate::words::Asked;
-use anyhow::Result;
 use std::alloc::Global;
 use std::fmt::Write;
 use text_printer::Layout;
@@ -22,29 +21,35 @@ fn below(number: u32, bound: usize) -> usize {
 }
 
 // Whether a text is answered, and printed where it is read.
-fn is_served(alloc: Global, asked: Asked, text: &[u8]) -> Result<bool> {
+fn is_served(alloc: Global, asked: Asked, text: &[u8]) -> bool {
     match read_text(alloc, asked.goal, asked.depth, text) {
-        Ok(tree) => Ok(print_tree(alloc, asked, Layout::Compact, &tree)?.is_some()),
-        Err(_) => Ok(true),
+        Ok(tree) => print_tree(alloc, asked, Layout::Compact, &tree).is_some(),
+        Err(_) => true,
     }
 }
 
+// A text with another byte at a place.
+fn mutant(alloc: Global, text: &[u8], index: usize, byte: u8) -> Option<Vec<u8>> {
+    let mut changed = Vec::new(alloc);
+    changed.extend_from_slice(text).ok()?;
+    if let Some(place) = changed.get_mut(index) {
+        *place = byte;
+    }
+    Some(changed)
+}
+
 /// Whether so many texts, each but for a byte the text, are answered, and printed and read again where they are read.
-pub(crate) fn mutants(alloc: Global, asked: Asked, count: u32, text: &[u8]) -> Result<String> {
+pub(crate) fn mutants(alloc: Global, asked: Asked, count: u32, text: &[u8]) -> Option<String> {
     let mut number = 1;
-    for mutant in 0..count {
-        let mut changed = Vec::new(alloc);
-        changed.extend_from_slice(text)?;
+    for turn in 0..count {
         number = next(number);
         let index = below(number, text.len());
         number = next(number);
         let byte = BYTES.get(below(number, BYTES.len())).copied().unwrap_or(0);
-        if let Some(place) = changed.get_mut(index) {
-            *place = byte;
-        }
-        if !is_served(alloc, asked, changed.as_slice())? {
-            return Ok(format!(in alloc; "{mutant} is not printed: {byte} at {index}")?);
+        let changed = mutant(alloc, text, index, byte)?;
+        if !is_served(alloc, asked, changed.as_slice()) {
+            return format!(in alloc; "{turn} is not printed: {byte} at {index}").ok();
         }
     }
-    Ok(format!(in alloc; "{count} answered")?)
+    format!(in alloc; "{count} answered").ok()
 }

@@ -1,27 +1,31 @@
 //! Rows of `read_text`.
 use crate::show::{Spans, shown};
 use crate::words::Asked;
-use anyhow::Result;
 use std::alloc::Global;
 use std::fmt::Write;
 use text_source::{TextFault, locate, read_text};
 
+/// A text that is answered.
+pub(crate) fn said(alloc: Global, text: &str) -> Option<String> {
+    String::from_str(alloc, text).ok()
+}
+
 /// A fault with its place.
-pub(crate) fn told(alloc: Global, text: &[u8], fault: TextFault) -> Result<String> {
+pub(crate) fn told(alloc: Global, text: &[u8], fault: TextFault) -> Option<String> {
     let located = locate(text, fault);
-    Ok(format!(in alloc; "{located}")?)
+    format!(in alloc; "{located}").ok()
 }
 
 /// The tree of a text, or its fault.
-pub(crate) fn read(alloc: Global, asked: Asked, text: &[u8]) -> Result<String> {
+pub(crate) fn read(alloc: Global, asked: Asked, text: &[u8]) -> Option<String> {
     match read_text(alloc, asked.goal, asked.depth, text) {
-        Ok(tree) => Ok(shown(alloc, Spans::Shown, &tree)?),
+        Ok(tree) => shown(alloc, Spans::Shown, &tree),
         Err(fault) => told(alloc, text, fault),
     }
 }
 
 /// How many beginnings of a text are read, and how many refused.
-pub(crate) fn cuts(alloc: Global, asked: Asked, text: &[u8]) -> Result<String> {
+pub(crate) fn cuts(alloc: Global, asked: Asked, text: &[u8]) -> Option<String> {
     let mut read = 0usize;
     for end in 0..text.len() {
         if read_text(alloc, asked.goal, asked.depth, &text[..end]).is_ok() {
@@ -29,5 +33,5 @@ pub(crate) fn cuts(alloc: Global, asked: Asked, text: &[u8]) -> Result<String> {
         }
     }
     let refused = text.len().saturating_sub(read);
-    Ok(format!(in alloc; "{read} read, {refused} refused")?)
+    format!(in alloc; "{read} read, {refused} refused").ok()
 }

@@ -12,7 +12,7 @@ use anyhow::{Result, bail};
 use std::alloc::Global;
 use std::fmt::Write;
 use swc_tree_node::Node;
-use text_printer::{Layout, PrintFault, print_text};
+use text_printer::{Bytes, Layout, PrintFault, print_text};
 use text_source::{TextFault, read_text};
 
 // How many requests are made where all that are granted are counted: more than any number that is refused.
@@ -62,9 +62,12 @@ fn granted(alloc: Global, most: usize) -> usize {
 }
 
 fn bytes_of(alloc: Global, input: &str) -> Option<Vec<u8>> {
-    let mut text = Vec::new(alloc);
-    add_bytes(input, &mut text).ok()?;
-    Some(text)
+    let mut text = Bytes::new(alloc);
+    if add_bytes(input, &mut text) {
+        text.finish().ok()
+    } else {
+        None
+    }
 }
 
 fn work_of(alloc: Global, work: &str, words: &str, input: &str) -> Option<Work> {
@@ -100,8 +103,8 @@ fn run(alloc: Global, work: &Work) -> Done {
 // Whether what was read is what is wanted: a tree, or a fault of the text.
 fn is_read(alloc: Global, work: &Work, read: &Result<Node, TextFault>, wanted: &str) -> bool {
     let said = match (read, work) {
-        (Ok(tree), _) => shown(alloc, Spans::Shown, tree).ok(),
-        (Err(fault), Work::Read(_, text)) => told(alloc, text.as_slice(), *fault).ok(),
+        (Ok(tree), _) => shown(alloc, Spans::Shown, tree),
+        (Err(fault), Work::Read(_, text)) => told(alloc, text.as_slice(), *fault),
         _ => None,
     };
     match said {
@@ -137,27 +140,39 @@ fn verdict(alloc: Global, work: &Work, done: &Done, wanted: &str) -> &'static st
     }
 }
 
-// What is said of a work, of which so many requests come before it, or that is to be counted.
-fn said(alloc: Global, when: When, work: &Work, wanted: &str) -> Result<String> {
+// What is said of a work, of which so many requests come before it, or that is to be counted; nothing where one of these is refused.
+fn said(alloc: Global, when: When, work: &Work, wanted: &str) -> Option<String> {
     let before = match when {
         When::Before => return counted(alloc),
         When::After => 0,
         When::Request(count) => count,
     };
     if granted(alloc, before) < before {
-        bail!("a request before the work was refused");
+        return None;
     }
     let done = run(alloc, work);
     if when == When::After {
         return counted(alloc);
     }
-    Ok(String::from_str(alloc, verdict(alloc, work, &done, wanted))?)
+    String::from_str(alloc, verdict(alloc, work, &done, wanted)).ok()
 }
 
 // How many requests are granted from here on.
-fn counted(alloc: Global) -> Result<String> {
+fn counted(alloc: Global) -> Option<String> {
     let count = granted(alloc, MOST);
-    Ok(format!(in alloc; "{count}")?)
+    format!(in alloc; "{count}").ok()
+}
+
+// Says what comes of a work.
+fn tell(rt: &HostRuntime, when: When, work: &Work, wanted: &str) -> Result<()> {
+    let Some(said) = said(rt.alloc(), when, work, wanted) else {
+        bail!("a request before the work was refused");
+    };
+    println!(rt; "{said}")?;
+    if said.as_str() == "other" {
+        bail!("the answer is neither the ample one nor a refusal");
+    }
+    Ok(())
 }
 
 /// Says of the work of a row what the lines of standard input ask.
@@ -175,10 +190,5 @@ pub(crate) fn serve(rt: &HostRuntime, work: &str, words: &str) -> Result<()> {
     let Some(work) = work_of(alloc, work, words, input.as_str()) else {
         bail!("there is no such work, or its input is not as it should be");
     };
-    let said = said(alloc, when, &work, wanted.as_str())?;
-    println!(rt; "{said}")?;
-    if said.as_str() == "other" {
-        bail!("the answer is neither the ample one nor a refusal");
-    }
-    Ok(())
+    tell(rt, when, &work, wanted.as_str())
 }

@@ -9,28 +9,36 @@ use crate::shifts::shifts;
 use crate::words::{Asked, Task, parse_words};
 use anyhow::{Result, bail};
 use std::alloc::Global;
+use text_printer::Bytes;
 
 /// A row.
 #[derive(Drop)]
 struct Row {
-    text: Vec<u8>,
-    wanted: String,
+    text: Bytes,
+    wanted: Bytes,
+    has_text: bool,
+    has_wanted: bool,
+    /// Each byte of the text is written as it should be.
+    is_sound: bool,
 }
 
-/// The bytes of a text, in which `⟨0D⟩` is the byte 13.
-pub(crate) fn add_bytes(line: &str, text: &mut Vec<u8>) -> Result<()> {
+/// Puts the bytes of a text behind others, in which `⟨0D⟩` is the byte 13: whether each such is written as it should be.
+pub(crate) fn add_bytes(line: &str, text: &mut Bytes) -> bool {
     let mut parts = line.split("⟨");
     if let Some(plain) = parts.next() {
-        text.extend_from_slice(plain.as_bytes())?;
+        text.put(plain.as_bytes());
     }
     for part in parts {
         let Some((byte, plain)) = part.split_once("⟩") else {
-            bail!("a byte is not closed");
+            return false;
         };
-        text.push(u8::from_str_radix(byte, 16)?)?;
-        text.extend_from_slice(plain.as_bytes())?;
+        match u8::from_str_radix(byte, 16) {
+            Ok(byte) => text.put_byte(byte),
+            Err(_) => return false,
+        }
+        text.put(plain.as_bytes());
     }
-    Ok(())
+    true
 }
 
 fn begins_row(line: &str) -> bool {
@@ -38,37 +46,71 @@ fn begins_row(line: &str) -> bool {
 }
 
 impl Row {
-    // A row by the lines behind its words.
-    fn of_lines(alloc: Global, lines: &[String]) -> Result<Row> {
-        let mut row = Row {
-            text: Vec::new(alloc),
-            wanted: String::new(alloc),
-        };
-        let (mut texts, mut wants) = (0u32, 0u32);
-        for line in lines {
-            let line = line.as_str();
-            if begins_row(line) {
-                break;
-            } else if let Some(text) = line.strip_prefix("> ") {
-                if texts > 0 {
-                    row.text.push(b'\n')?;
-                }
-                texts = texts.saturating_add(1);
-                add_bytes(text, &mut row.text)?;
-            } else if let Some(wanted) = line.strip_prefix("= ") {
-                if wants > 0 {
-                    row.wanted.push_str("\n")?;
-                }
-                wants = wants.saturating_add(1);
-                row.wanted.push_str(wanted)?;
-            }
+    fn new(alloc: Global) -> Row {
+        Row {
+            text: Bytes::new(alloc),
+            wanted: Bytes::new(alloc),
+            has_text: false,
+            has_wanted: false,
+            is_sound: true,
         }
-        Ok(row)
+    }
+
+    fn add_text(&mut self, line: &str) {
+        if self.has_text {
+            self.text.put_byte(b'\n');
+        }
+        self.has_text = true;
+        if !add_bytes(line, &mut self.text) {
+            self.is_sound = false;
+        }
+    }
+
+    fn add_wanted(&mut self, line: &str) {
+        if self.has_wanted {
+            self.wanted.put_byte(b'\n');
+        }
+        self.has_wanted = true;
+        self.wanted.put(line.as_bytes());
+    }
+
+    // The text and what is wanted.
+    fn finish(self) -> Option<(Vec<u8>, Vec<u8>)> {
+        let Row {
+            text,
+            wanted,
+            is_sound,
+            ..
+        } = self;
+        if !is_sound {
+            return None;
+        }
+        match (text.finish(), wanted.finish()) {
+            (Ok(text), Ok(wanted)) => Some((text, wanted)),
+            _ => None,
+        }
     }
 }
 
-/// What is answered to what a row asks of a text.
-pub(crate) fn answer(alloc: Global, asked: Asked, text: &[u8]) -> Result<String> {
+// The text of a row and what it wants, by the lines behind its words.
+fn row_of(alloc: Global, lines: &[String]) -> Option<(Vec<u8>, Vec<u8>)> {
+    let mut row = Row::new(alloc);
+    for line in lines {
+        let line = line.as_str();
+        if begins_row(line) {
+            break;
+        }
+        if let Some(text) = line.strip_prefix("> ") {
+            row.add_text(text);
+        } else if let Some(wanted) = line.strip_prefix("= ") {
+            row.add_wanted(wanted);
+        }
+    }
+    row.finish()
+}
+
+/// What is answered to what a row asks of a text; nothing where the row is not written as it should be, or memory is refused.
+pub(crate) fn answer(alloc: Global, asked: Asked, text: &[u8]) -> Option<String> {
     match asked.task {
         Task::Read => read(alloc, asked, text),
         Task::Print(layout) => print(alloc, asked, layout, text),
@@ -82,20 +124,42 @@ pub(crate) fn answer(alloc: Global, asked: Asked, text: &[u8]) -> Result<String>
     }
 }
 
+// What comes of a row.
+#[derive(Drop)]
+enum Outcome {
+    Wanted,
+    Other(String),
+    Unanswered(&'static str),
+}
+
+fn outcome(alloc: Global, words: &str, lines: &[String]) -> Outcome {
+    let Some(asked) = parse_words(words) else {
+        return Outcome::Unanswered("there is no such task");
+    };
+    let Some((text, wanted)) = row_of(alloc, lines) else {
+        return Outcome::Unanswered("a byte is not written as it should be");
+    };
+    match answer(alloc, asked, text.as_slice()) {
+        Some(answer) => {
+            if answer.as_str().as_bytes() == wanted.as_slice() {
+                Outcome::Wanted
+            } else {
+                Outcome::Other(answer)
+            }
+        }
+        None => Outcome::Unanswered("there is no answer"),
+    }
+}
+
 // Whether a row, by the number of its first line and the lines behind its words, is answered as it wants. Says what is
 // answered else.
 fn is_answered(rt: &HostRuntime, number: u32, words: &str, lines: &[String]) -> Result<bool> {
-    let Some(asked) = parse_words(words) else {
-        println!(rt; "line {number}: {words}: there is no such task")?;
-        return Ok(false);
-    };
-    let row = Row::of_lines(rt.alloc(), lines)?;
-    let answer = answer(rt.alloc(), asked, row.text.as_slice())?;
-    let is_wanted = answer.as_str() == row.wanted.as_str();
-    if !is_wanted {
-        println!(rt; "line {number}: {words}\n= {answer}")?;
+    match outcome(rt.alloc(), words, lines) {
+        Outcome::Wanted => return Ok(true),
+        Outcome::Other(answer) => println!(rt; "line {number}: {words}\n= {answer}")?,
+        Outcome::Unanswered(why) => println!(rt; "line {number}: {words}: {why}")?,
     }
-    Ok(is_wanted)
+    Ok(false)
 }
 
 fn lines(rt: &HostRuntime) -> Result<Vec<String>> {

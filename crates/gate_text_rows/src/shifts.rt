@@ -1,13 +1,12 @@
 //! Rows of spans: none that is off by a byte is taken for a node's.
 use crate::read::told;
 use crate::words::Asked;
-use anyhow::Result;
 use std::alloc::Global;
 use std::fmt::Write;
 use swc_tree_items::Items;
 use swc_tree_marks::Span;
 use swc_tree_node::Node;
-use text_source::{are_spans_of, read_text};
+use text_source::{Goal, TextFault, are_spans_of, read_text};
 
 // As many spans as are looked for, at most.
 const MOST: usize = 10_000;
@@ -81,21 +80,47 @@ fn shift_below(children: &mut Items<Node>, left: usize, shift: Shift) -> Option<
     Some(left)
 }
 
+// What comes of the shift of a span.
+#[derive(Clone, Copy)]
+enum Shifted {
+    // The tree has no such span.
+    Past,
+    // It is taken for a node's, though it is another.
+    Taken,
+    Refused,
+    Fault(TextFault),
+}
+
+fn shifted_in(goal: Goal, text: &[u8], mut tree: Node, number: usize, shift: Shift) -> Shifted {
+    if shift_at(&mut tree, number, shift).is_some() {
+        Shifted::Past
+    } else if are_spans_of(goal, &tree, text) {
+        Shifted::Taken
+    } else {
+        Shifted::Refused
+    }
+}
+
+fn shift_of(alloc: Global, asked: Asked, text: &[u8], number: usize, shift: Shift) -> Shifted {
+    match read_text(alloc, asked.goal, asked.depth, text) {
+        Ok(tree) => shifted_in(asked.goal, text, tree, number, shift),
+        Err(fault) => Shifted::Fault(fault),
+    }
+}
+
 /// How many spans a text's tree has, if none that is off by a byte is taken for a node's.
-pub(crate) fn shifts(alloc: Global, asked: Asked, text: &[u8]) -> Result<String> {
+pub(crate) fn shifts(alloc: Global, asked: Asked, text: &[u8]) -> Option<String> {
     for number in 0..MOST {
         for shift in SHIFTS {
-            let mut tree = match read_text(alloc, asked.goal, asked.depth, text) {
-                Ok(tree) => tree,
-                Err(fault) => return told(alloc, text, fault),
-            };
-            if shift_at(&mut tree, number, shift).is_some() {
-                return Ok(format!(in alloc; "{number} spans")?);
-            }
-            if are_spans_of(asked.goal, &tree, text) {
-                return Ok(format!(in alloc; "span {number} may be another")?);
+            match shift_of(alloc, asked, text, number, shift) {
+                Shifted::Refused => (),
+                Shifted::Past => return format!(in alloc; "{number} spans").ok(),
+                Shifted::Taken => {
+                    return format!(in alloc; "span {number} may be another").ok();
+                }
+                Shifted::Fault(fault) => return told(alloc, text, fault),
             }
         }
     }
-    Ok(format!(in alloc; "more than {MOST} spans")?)
+    format!(in alloc; "more than {MOST} spans").ok()
 }

@@ -1,6 +1,6 @@
 //! Trees for people: a node in parentheses behind its kind, a list in brackets, `-` where nothing stands, `yes` and `no` for flags, a
 //! word as it is spelled, a text in quotes, and a span as where it begins and ends.
-use std::alloc::{AllocError, Global};
+use std::alloc::Global;
 use std::fmt::Write;
 use swc_tree_marks::{Ident, Span};
 use swc_tree_node::{Kind, Node, name_of, spelling_of};
@@ -12,98 +12,104 @@ pub(crate) enum Spans {
     Left,
 }
 
-#[derive(Clone, Copy)]
+// What is shown, one thing behind another. Where memory is refused it lacks what had no room, and there is none in the end.
+#[derive(Drop)]
 struct Shows {
-    alloc: Global,
     spans: Spans,
+    out: String,
+    refused: bool,
 }
 
 /// A tree as a line.
-pub(crate) fn shown(alloc: Global, spans: Spans, tree: &Node) -> Result<String, AllocError> {
-    let mut out = String::new(alloc);
-    show(&Shows { alloc, spans }, tree, &mut out)?;
-    Ok(out)
+pub(crate) fn shown(alloc: Global, spans: Spans, tree: &Node) -> Option<String> {
+    let mut shows = Shows {
+        spans,
+        out: String::new(alloc),
+        refused: false,
+    };
+    show(&mut shows, tree);
+    let Shows { out, refused, .. } = shows;
+    if refused { None } else { Some(out) }
 }
 
-fn add_span(shows: &Shows, span: Span, out: &mut String) -> Result<(), AllocError> {
-    if shows.spans == Spans::Left {
-        return out.push_str(".");
+impl Shows {
+    fn add(&mut self, text: &str) {
+        if self.out.push_str(text).is_err() {
+            self.refused = true;
+        }
     }
-    let (lo, hi) = (span.lo, span.hi);
-    let text = format!(in shows.alloc; "{lo}:{hi}")?;
-    out.push_str(text.as_str())
-}
 
-fn add_character(alloc: Global, character: char, out: &mut String) -> Result<(), AllocError> {
-    let code = character as u32;
-    if code < 32 || code > 126 || code == 34 || code == 92 {
-        let text = format!(in alloc; "\\u{{{code:x}}}")?;
-        out.push_str(text.as_str())
-    } else {
-        out.push(character)
+    fn add_span(&mut self, span: Span) {
+        if self.spans == Spans::Left {
+            return self.add(".");
+        }
+        let (lo, hi) = (span.lo, span.hi);
+        if write!(self.out, "{lo}:{hi}").is_err() {
+            self.refused = true;
+        }
     }
-}
 
-// A text in quotes, with escapes for quotes, backslashes and what is not ASCII.
-fn add_text(alloc: Global, text: &str, out: &mut String) -> Result<(), AllocError> {
-    out.push_str("\"")?;
-    for character in text.chars() {
-        add_character(alloc, character, out)?;
+    fn add_character(&mut self, character: char) {
+        let code = character as u32;
+        let is_escaped = code < 32 || code > 126 || code == 34 || code == 92;
+        let is_refused = if is_escaped {
+            write!(self.out, "\\u{{{code:x}}}").is_err()
+        } else {
+            self.out.push(character).is_err()
+        };
+        self.refused = self.refused || is_refused;
     }
-    out.push_str("\"")
-}
 
-fn add_identifier(
-    shows: &Shows,
-    kind: Kind,
-    ident: &Ident,
-    out: &mut String,
-) -> Result<(), AllocError> {
-    out.push_str("(")?;
-    out.push_str(name_of(kind))?;
-    out.push_str(" ")?;
-    add_span(shows, ident.span, out)?;
-    out.push_str(" ")?;
-    out.push_str(ident.sym.as_str())?;
-    out.push_str(")")
+    // A text in quotes, with escapes for quotes, backslashes and what is not ASCII.
+    fn add_text(&mut self, text: &str) {
+        self.add("\"");
+        for character in text.chars() {
+            self.add_character(character);
+        }
+        self.add("\"");
+    }
+
+    fn add_identifier(&mut self, kind: Kind, ident: &Ident) {
+        self.add("(");
+        self.add(name_of(kind));
+        self.add(" ");
+        self.add_span(ident.span);
+        self.add(" ");
+        self.add(ident.sym.as_str());
+        self.add(")");
+    }
 }
 
 #[cycle(show)]
-fn show(shows: &Shows, node: &Node, out: &mut String) -> Result<(), AllocError> {
+fn show(shows: &mut Shows, node: &Node) {
     match node {
-        Node::Absent => out.push_str("-"),
-        Node::Flag(flag) => out.push_str(if *flag { "yes" } else { "no" }),
-        Node::Word(word) => out.push_str(spelling_of(*word)),
-        Node::Text(text) => add_text(shows.alloc, text.as_str(), out),
-        Node::Span(span) => add_span(shows, *span, out),
-        Node::Identifier(kind, ident) => add_identifier(shows, *kind, ident.get(), out),
+        Node::Absent => shows.add("-"),
+        Node::Flag(flag) => shows.add(if *flag { "yes" } else { "no" }),
+        Node::Word(word) => shows.add(spelling_of(*word)),
+        Node::Text(text) => shows.add_text(text.as_str()),
+        Node::Span(span) => shows.add_span(*span),
+        Node::Identifier(kind, ident) => shows.add_identifier(*kind, ident.get()),
         Node::List(items) => {
-            out.push_str("[")?;
-            show_all(shows, items.as_slice(), false, out)?;
-            out.push_str("]")
+            shows.add("[");
+            show_all(shows, items.as_slice(), false);
+            shows.add("]");
         }
         Node::Tree(kind, fields) => {
-            out.push_str("(")?;
-            out.push_str(name_of(*kind))?;
-            show_all(shows, fields.as_slice(), true, out)?;
-            out.push_str(")")
+            shows.add("(");
+            shows.add(name_of(*kind));
+            show_all(shows, fields.as_slice(), true);
+            shows.add(")");
         }
     }
 }
 
 // Nodes with blanks between them, and before the first where something stands there.
 #[cycle(show)]
-fn show_all(
-    shows: &Shows,
-    nodes: &[Node],
-    is_behind: bool,
-    out: &mut String,
-) -> Result<(), AllocError> {
+fn show_all(shows: &mut Shows, nodes: &[Node], is_behind: bool) {
     for i in 0..nodes.len() {
         if is_behind || i > 0 {
-            out.push_str(" ")?;
+            shows.add(" ");
         }
-        show(shows, &nodes[i], out)?;
+        show(shows, &nodes[i]);
     }
-    Ok(())
 }
