@@ -7,6 +7,7 @@
 //! is run, more than JSON may nest, and are taken out again. `fold` hands the program by value to the pass that does nothing, `items`
 //! asks a check whether there are items, and `types` whether declarations of types stand in the program.
 mod check;
+mod finishing;
 mod names;
 mod passes;
 mod renamers;

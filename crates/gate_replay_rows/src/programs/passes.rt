@@ -1,6 +1,7 @@
 //! Passes by their names.
+use crate::programs::finishing::{Finishing, Task};
 use crate::programs::names;
-use crate::programs::renamers::{Renaming, Task};
+use crate::programs::renamers::Renaming;
 use crate::texts::text_each;
 use anyhow::{Result, bail};
 use gate_rows::{Given, Notes, room};
@@ -31,7 +32,8 @@ pub enum Pass {
     FixComments(Notes),
     Rename(HashMap<Id, JsWord>, Config),
     Remap(HashMap<Id, Id>, Config),
-    Renamer(Task, Renaming, Config),
+    Renamer(Renaming, Config),
+    Finished(Task, Finishing, Config),
     Hygiene,
     HygieneWith(Config),
 }
@@ -107,6 +109,20 @@ impl Pass {
         }
     }
 
+    // The pass of a row with a renamer, if it is one.
+    fn of_renamer(alloc: Global, words: &str, input: &str, config: Config) -> Option<Pass> {
+        match Task::of_words(words) {
+            Some((task, words)) => {
+                let finishing = Finishing::of_words(alloc, words, input)?;
+                Some(Pass::Finished(task, finishing, config))
+            }
+            None => {
+                let renaming = Renaming::of_words(alloc, words, input)?;
+                Some(Pass::Renamer(renaming, config))
+            }
+        }
+    }
+
     // The pass of a row with names, comments or a renamer, if it is one.
     fn of_input(alloc: Global, word: &str, input: &str, given: &Given) -> Option<Pass> {
         match word {
@@ -117,11 +133,7 @@ impl Pass {
                 room(alloc, input)?,
             ))),
             "fix_comments" => Some(Pass::FixComments(Notes::new(alloc, room(alloc, input)?))),
-            _ => {
-                let (task, word) = Task::of_words(word);
-                let renaming = Renaming::of_words(alloc, word, input)?;
-                Some(Pass::Renamer(task, renaming, config_of(given)))
-            }
+            _ => Pass::of_renamer(alloc, word, input, config_of(given)),
         }
     }
 
@@ -152,8 +164,9 @@ impl Pass {
             }
             Pass::Rename(texts, _) => visit_each(&mut rename(texts), alloc, programs),
             Pass::Remap(ids, config) => visit_each(&mut remap(ids, *config), alloc, programs),
-            Pass::Renamer(task, renaming, config) => {
-                renaming.visit(*task, *config, alloc, programs)
+            Pass::Renamer(renaming, config) => renaming.visit(*config, alloc, programs),
+            Pass::Finished(task, finishing, config) => {
+                finishing.visit(*task, config, alloc, programs)
             }
             Pass::Hygiene => visit_each(&mut hygiene(), alloc, programs),
             Pass::HygieneWith(config) => {
