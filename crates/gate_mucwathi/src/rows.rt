@@ -21,21 +21,21 @@ fn is_wanted(row: &Row, answer: &Answer) -> bool {
         && answer.status == status
 }
 
+// Writes lines, each behind a mark.
+fn show_lines(rt: &HostRuntime, mark: &str, lines: &[u8]) -> Result<()> {
+    let lines = String::from_utf8_lossy(rt.alloc(), lines)?;
+    for line in lines.as_str().lines() {
+        println!(rt; "{mark} {line}")?;
+    }
+    Ok(())
+}
+
 fn show(rt: &HostRuntime, words: &str, answer: &Answer) -> Result<()> {
-    let out = String::from_utf8_lossy(rt.alloc(), answer.out.as_slice())?;
-    let map = String::from_utf8_lossy(rt.alloc(), answer.map.as_slice())?;
-    let told = String::from_utf8_lossy(rt.alloc(), answer.told.as_slice())?;
-    let status = answer.status;
     println!(rt; "{words}")?;
-    for line in out.as_str().lines() {
-        println!(rt; "= {line}")?;
-    }
-    for line in map.as_str().lines() {
-        println!(rt; "@ {line}")?;
-    }
-    for line in told.as_str().lines() {
-        println!(rt; "! {line}")?;
-    }
+    show_lines(rt, "=", answer.out.as_slice())?;
+    show_lines(rt, "@", answer.map.as_slice())?;
+    show_lines(rt, "!", answer.told.as_slice())?;
+    let status = answer.status;
     println!(rt; "? {status}")?;
     Ok(())
 }
