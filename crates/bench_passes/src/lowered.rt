@@ -40,6 +40,13 @@ impl Invented {
     }
 }
 
+// The id of a text and a fresh mark.
+fn fresh_id(alloc: Global, globals: &mut Globals, text: &str) -> Result<Id> {
+    let mut context = SyntaxContext::empty(alloc);
+    context.apply_mark(Mark::new(globals)?)?;
+    Ok((Text::new(alloc, text)?, context))
+}
+
 // The ids that get another text, each with it and with a fresh mark of its own.
 fn new_ids(
     alloc: Global,
@@ -50,9 +57,7 @@ fn new_ids(
     let mut all = HashMap::new(alloc);
     for (number, id) in ids.into_iter().enumerate() {
         if let Some(text) = names.text(number) {
-            let mut context = SyntaxContext::empty(alloc);
-            context.apply_mark(Mark::new(globals)?)?;
-            all.insert(id, (Text::new(alloc, text)?, context))?;
+            all.insert(id, fresh_id(alloc, globals, text)?)?;
         }
     }
     Ok(all)

@@ -11,7 +11,8 @@ use swc_ecma_transforms_base::finish_module;
 use swc_ecma_transforms_base::fixer::{fixer, paren_remover};
 use swc_ecma_transforms_base::rename::{Config, renamer};
 use swc_ecma_transforms_base::resolver::{marks_ok, resolver};
-use swc_tree::{JsPass, Mark, NoComments, Opened};
+use swc_tree::{Globals, JsPass, Mark, Module, NoComments, Opened};
+use swc_tree_node::Node;
 use swc_tree_walk::sites;
 
 /// How many files there are, and of how many copies each is.
@@ -71,10 +72,8 @@ fn resolve(alloc: Global, marks: Marks, file: &mut File) -> Result<()> {
     Ok(())
 }
 
-fn chain(alloc: Global, marks: Marks, file: File, digest: &mut Digest) -> Result<()> {
-    let File { globals, module } = file;
-    let tree = module.into_node(alloc)?;
-    let text = write_envelope(alloc, &globals, marks.top, &tree, marks.unresolved)?;
+// Takes the text of an envelope through the engine.
+fn chain_text(alloc: Global, text: &str, digest: &mut Digest) -> Result<()> {
     match engine(alloc, Command::Chain, Kind::Module, text.as_bytes()) {
         Ok(answer) => {
             digest.bytes(answer.as_slice());
@@ -82,6 +81,26 @@ fn chain(alloc: Global, marks: Marks, file: File, digest: &mut Digest) -> Result
         }
         Err(_) => bail!("the engine refused a file"),
     }
+}
+
+fn chain(alloc: Global, marks: Marks, file: File, digest: &mut Digest) -> Result<()> {
+    let File { globals, module } = file;
+    let tree = module.into_node(alloc)?;
+    let text = write_envelope(alloc, &globals, marks.top, &tree, marks.unresolved)?;
+    chain_text(alloc, text.as_str(), digest)
+}
+
+// What is left of a module in which names were made up, and which was finished.
+fn finished(
+    alloc: Global,
+    globals: &mut Globals,
+    names: Invented,
+    module: Module,
+) -> Result<Module> {
+    let mut module = lower(alloc, globals, names, module)?;
+    let config = Config::default();
+    finish_module(alloc, globals, config, None::<&mut NoComments>, &mut module)?;
+    Ok(module)
 }
 
 fn finish(
@@ -96,31 +115,31 @@ fn finish(
         mut globals,
         module,
     } = file;
-    let mut module = lower(alloc, &mut globals, names, module)?;
-    let config = Config::default();
-    finish_module(
-        alloc,
-        &mut globals,
-        config,
-        None::<&mut NoComments>,
-        &mut module,
-    )?;
+    let module = finished(alloc, &mut globals, names, module)?;
     digest.module(&module);
     digest.globals(&globals);
     Ok(())
 }
 
+// Takes the pairs off a module, gives it short names, and sets its pairs anew.
+fn make_small(alloc: Global, globals: &mut Globals, module: &mut Module) -> Result<()> {
+    paren_remover(None::<&mut NoComments>).visit_mut_module(alloc, globals, module)?;
+    renamer(Config::default(), Letters).visit_mut_module(alloc, globals, module)?;
+    fixer(None::<&mut NoComments>).visit_mut_module(alloc, globals, module)?;
+    Ok(())
+}
+
 fn minify(alloc: Global, marks: Marks, mut file: File, digest: &mut Digest) -> Result<()> {
     resolve(alloc, marks, &mut file)?;
-    let File {
-        mut globals,
-        mut module,
-    } = file;
-    paren_remover(None::<&mut NoComments>).visit_mut_module(alloc, &mut globals, &mut module)?;
-    renamer(Config::default(), Letters).visit_mut_module(alloc, &mut globals, &mut module)?;
-    fixer(None::<&mut NoComments>).visit_mut_module(alloc, &mut globals, &mut module)?;
-    digest.module(&module);
-    digest.globals(&globals);
+    make_small(alloc, &mut file.globals, &mut file.module)?;
+    digest.module(&file.module);
+    digest.globals(&file.globals);
+    Ok(())
+}
+
+// The names of a tree.
+fn list_names(alloc: Global, tree: &Node, digest: &mut Digest) -> Result<()> {
+    digest.sites(sites(alloc, tree)?.as_slice());
     Ok(())
 }
 
@@ -128,7 +147,7 @@ fn lint(alloc: Global, marks: Marks, mut file: File, digest: &mut Digest) -> Res
     resolve(alloc, marks, &mut file)?;
     let File { globals, module } = file;
     let tree = module.into_node(alloc)?;
-    digest.sites(sites(alloc, &tree)?.as_slice());
+    list_names(alloc, &tree, digest)?;
     digest.globals(&globals);
     Ok(())
 }
