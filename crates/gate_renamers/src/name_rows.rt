@@ -129,6 +129,18 @@ fn are(alloc: Global, texts: &BTreeMap<usize, JsWord>, wanted: &str) -> Option<b
     Some(told(alloc, texts)?.as_str() == wanted)
 }
 
+// Whether these are the texts that names at these sites get in order.
+fn are_named(
+    alloc: Global,
+    places: &Places<'_>,
+    counter_goes_on: bool,
+    sites: &[(usize, usize)],
+    wanted: &str,
+) -> Option<bool> {
+    let texts = names_in_order(alloc, &HygieneTexts, places, counter_goes_on, sites).ok()?;
+    are(alloc, &texts, wanted)
+}
+
 // `var b#1; var b1#3; { const b#2; const b1#4; { b1#3; b#2; b#1; b1#4; } }`
 fn hygiene(alloc: Global) -> Option<bool> {
     let ids = ids_of(alloc, &[("b", 1), ("b1", 3), ("b", 2), ("b1", 4)])?;
@@ -140,8 +152,7 @@ fn hygiene(alloc: Global) -> Option<bool> {
         preserved: "x",
     };
     let sites = [(0, 0), (0, 1), (1, 2), (1, 3), (1, 0)];
-    let texts = names_in_order(alloc, &HygieneTexts, &places, false, &sites).ok()?;
-    are(alloc, &texts, "0 b 1 b1 2 b2 3 b11 ")
+    are_named(alloc, &places, false, &sites, "0 b 1 b1 2 b2 3 b11 ")
 }
 
 // `var foo#1; { let foo#2; } foo#1`, where the block has no foo#1, and with `foo` preserved
@@ -161,9 +172,8 @@ fn apart(alloc: Global) -> Option<bool> {
         ..places
     };
     let sites = [(0, 0), (1, 1), (1, 2)];
-    let texts = names_in_order(alloc, &HygieneTexts, &places, false, &sites).ok()?;
-    let others = names_in_order(alloc, &HygieneTexts, &preserving, false, &sites).ok()?;
-    Some(are(alloc, &texts, "0 foo 1 foo ")? && are(alloc, &others, "1 foo1 ")?)
+    let are_one = are_named(alloc, &places, false, &sites, "0 foo 1 foo ")?;
+    Some(are_one && are_named(alloc, &preserving, false, &sites, "1 foo1 ")?)
 }
 
 // Three scopes, the second and the third beside one another, where scopes may share texts, and where they may not: an id of the
@@ -180,8 +190,8 @@ fn scopes(alloc: Global) -> Option<bool> {
     };
     let sites = [(0, 0), (1, 1), (2, 2)];
     let texts = names_by_scope(alloc, &HygieneTexts, &places, true, &sites).ok()?;
-    let others = names_in_order(alloc, &HygieneTexts, &places, true, &sites).ok()?;
-    Some(are(alloc, &texts, "0 a 1 a 2 a ")? && are(alloc, &others, "0 a 1 a 2 a1 ")?)
+    let are_shared = are(alloc, &texts, "0 a 1 a 2 a ")?;
+    Some(are_shared && are_named(alloc, &places, true, &sites, "0 a 1 a 2 a1 ")?)
 }
 
 // Whether names in those three scopes are the plain ones, which are given in order, where these scopes leak; by scope, where none does.

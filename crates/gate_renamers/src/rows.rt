@@ -41,19 +41,28 @@ fn is_given(map: &ReverseMap<'_>, text: &str, id: usize) -> bool
     false
 }
 
-fn chains(alloc: Global) -> Option<bool> {
-    let mut map = ReverseMap::new(alloc);
-    for id in [1, 2] {
-        map.push_entry(Text::new(alloc, "x").ok()?, id).ok()?;
-    }
-    let mut child = map.next(alloc);
-    child.push_entry(Text::new(alloc, "x").ok()?, 3).ok()?;
+// Gives the text `x` to an id.
+fn give(alloc: Global, map: &mut ReverseMap<'_>, id: usize) -> Option<()> {
+    map.push_entry(Text::new(alloc, "x").ok()?, id).ok()
+}
+
+// Whether a map with the ids 1 and 2, and its child with 3, tell what is given in them and above.
+fn are_chained(alloc: Global, map: &ReverseMap<'_>, child: &ReverseMap<'_>) -> Option<bool> {
     let of_child = are(alloc, child.get("x"), "3 1 2 ")?;
     let of_none = are(alloc, child.get("y"), "")?;
     let of_parent = are(alloc, map.get("x"), "1 2 ")?;
-    let is_outer = is_given(&child, "x", 2);
-    let is_inner = is_given(&map, "x", 3);
+    let is_outer = is_given(child, "x", 2);
+    let is_inner = is_given(map, "x", 3);
     Some(of_child && of_none && of_parent && is_outer && !is_inner)
+}
+
+fn chains(alloc: Global) -> Option<bool> {
+    let mut map = ReverseMap::new(alloc);
+    give(alloc, &mut map, 1)?;
+    give(alloc, &mut map, 2)?;
+    let mut child = map.next(alloc);
+    give(alloc, &mut child, 3)?;
+    are_chained(alloc, &map, &child)
 }
 
 // Whether a renamer gives an id a text, and the counter goes one up.
@@ -162,14 +171,23 @@ impl Taken for Two<'_> {
     }
 }
 
-fn free(alloc: Global) -> Option<bool> {
+fn finds_free(alloc: Global, id: &Id) -> Option<bool> {
     let mut n = 0;
-    let id = id(alloc, "b", 2)?;
-    let name = free_text(alloc, &HygieneTexts, &id, &Two("b", "b1"), &mut n).ok()?;
+    let name = free_text(alloc, &HygieneTexts, id, &Two("b", "b1"), &mut n).ok()?;
+    Some(name.as_str() == "b2" && n == 3)
+}
+
+// Whether there is no free text where the last is taken.
+fn finds_none(alloc: Global, id: &Id) -> Option<bool> {
     let mut last = usize::MAX - 1;
     let taken = Two("b18446744073709551614", "b");
-    let error = free_text(alloc, &HygieneTexts, &id, &taken, &mut last).err()?;
-    Some(name.as_str() == "b2" && n == 3 && error == PassError::CounterSpent)
+    let error = free_text(alloc, &HygieneTexts, id, &taken, &mut last).err()?;
+    Some(error == PassError::CounterSpent)
+}
+
+fn free(alloc: Global) -> Option<bool> {
+    let id = id(alloc, "b", 2)?;
+    Some(finds_free(alloc, &id)? && finds_none(alloc, &id)?)
 }
 
 /// Whether what the words name is as it must be; nothing where memory is refused, or the words name nothing.

@@ -1,5 +1,4 @@
 //! What is answered to a row.
-use crate::programs::class_of;
 use crate::{analysed, engine, judged, kinds, plain, programs, serving, units};
 use anyhow::Result;
 use gate_rows::Answers;
@@ -8,19 +7,11 @@ use std::alloc::Global;
 /// The answers to the rows of this program: by the first of their words, else what `jsbase` writes.
 pub struct OfRows;
 
-impl Answers for OfRows {
-    fn answer(alloc: Global, words: &str, input: &str) -> Result<Option<String>> {
-        let (first, rest) = words.split_once(' ').unwrap_or((words, ""));
-        match first {
-            "kinds" => Ok(kinds::answer(alloc)),
-            "unit" => Ok(units::answer(alloc, rest)),
-            "analysed" => Ok(Some(analysed::answer(alloc, rest, input)?)),
-            "judged" => Ok(Some(judged::answer(alloc, class_of(rest)?, input)?)),
-            "plain" => Ok(Some(plain::answer(alloc, class_of(rest)?, input)?)),
-            "status" => Ok(Some(engine::status(alloc, rest, input)?)),
-            "served" => Ok(Some(serving::answer(alloc, rest, input)?)),
-            "beginnings" => Ok(Some(engine::beginnings(alloc, input)?)),
-            "pass"
+// Whether a row with this word is one of passes.
+fn is_of_passes(first: &str) -> bool {
+    matches!(
+        first,
+        "pass"
             | "twice"
             | "deep"
             | "fold"
@@ -36,7 +27,35 @@ impl Answers for OfRows {
             | "finish_with"
             | "chain_with"
             | "unparen_comments"
-            | "fix_comments" => Ok(Some(programs::answer(alloc, words, input)?)),
+            | "fix_comments"
+    )
+}
+
+// The answer to a row of one envelope or of what is served, if its word names one.
+fn of_input(alloc: Global, first: &str, rest: &str, input: &str) -> Option<Result<String>> {
+    match first {
+        "analysed" => Some(analysed::answer(alloc, rest, input)),
+        "judged" => Some(judged::answer(alloc, rest, input)),
+        "plain" => Some(plain::answer(alloc, rest, input)),
+        "status" => Some(engine::status(alloc, rest, input)),
+        "served" => Some(serving::answer(alloc, rest, input)),
+        "beginnings" => Some(engine::beginnings(alloc, input)),
+        _ => None,
+    }
+}
+
+impl Answers for OfRows {
+    fn answer(alloc: Global, words: &str, input: &str) -> Result<Option<String>> {
+        let (first, rest) = words.split_once(' ').unwrap_or((words, ""));
+        if is_of_passes(first) {
+            return Ok(Some(programs::answer(alloc, words, input)?));
+        }
+        if let Some(answer) = of_input(alloc, first, rest, input) {
+            return Ok(Some(answer?));
+        }
+        match first {
+            "kinds" => Ok(kinds::answer(alloc)),
+            "unit" => Ok(units::answer(alloc, rest)),
             _ => engine::written(alloc, words, input),
         }
     }

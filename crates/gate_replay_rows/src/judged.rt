@@ -3,9 +3,10 @@ ghost use Rattle.swc_tree_node.specs.declared.slot.Slot.TheVariants.{One};
 ghost use Rattle.swc_tree_node.specs.declared.slot.Content.TheVariants.{Node as Of};
 ghost use Rattle.swc_tree_node.specs.Fits.{Fits};
 
+use crate::programs::class_of;
 use anyhow::{Result, bail};
 use gate_rows::Program;
-use jsbase_reader::read_versions;
+use jsbase_reader::{Versions, read_versions};
 use std::alloc::{AllocError, Global};
 use std::fmt::Write;
 use swc_base_judge::{Verdict, judge_module, judge_script};
@@ -29,15 +30,9 @@ fn program(class: Class, tree: Node) -> Result<Program>
     }
 }
 
-/// What is said of the two versions of a line, each of the class.
-pub fn answer(alloc: Global, class: Class, input: &str) -> Result<String> {
-    let Ok(versions) = read_versions(alloc, class, input.as_bytes()) else {
-        bail!("a line has no two versions of such a program, or memory was refused");
-    };
-    let before = program(class, versions.before)?;
-    let after = program(class, versions.after)?;
-    let keep_top = versions.keep_top;
-    match (&before, &after) {
+// What is said of two programs.
+fn judged(alloc: Global, keep_top: bool, before: &Program, after: &Program) -> Result<String> {
+    match (before, after) {
         (Program::Module(before), Program::Module(after)) => {
             Ok(told(alloc, judge_module(alloc, keep_top, before, after))?)
         }
@@ -46,4 +41,21 @@ pub fn answer(alloc: Global, class: Class, input: &str) -> Result<String> {
         }
         _ => bail!("the versions are of two goals"),
     }
+}
+
+/// What is said of the two versions of a line, each of the goal.
+pub fn answer(alloc: Global, goal: &str, input: &str) -> Result<String> {
+    let class = class_of(goal)?;
+    let Ok(versions) = read_versions(alloc, class, input.as_bytes()) else {
+        bail!("a line has no two versions of such a program, or memory was refused");
+    };
+    let Versions {
+        keep_top,
+        before,
+        after,
+        ..
+    } = versions;
+    let before = program(class, before)?;
+    let after = program(class, after)?;
+    judged(alloc, keep_top, &before, &after)
 }

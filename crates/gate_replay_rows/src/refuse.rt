@@ -69,18 +69,27 @@ impl Work for Written {
     }
 }
 
+// The pass that a word names, or that of a row.
+fn pass_named(alloc: Global, word: &str, input: &str, given: &Given) -> Option<Pass> {
+    match Pass::of_word(alloc, word, given) {
+        Ok(pass) => Some(pass),
+        Err(_) => Pass::of_row(alloc, word, input, given).ok(),
+    }
+}
+
 impl Passed {
     fn of_asked(alloc: Global, word: &str, class: Class, asked: &Asked) -> Option<Passed> {
+        let given = Given::read(alloc, class, asked.input.as_str()).ok()?;
+        let pass = pass_named(alloc, word, asked.input.as_str(), &given)?;
         let mut programs = Vec::new(alloc);
-        programs
-            .push(Given::read(alloc, class, asked.input.as_str()).ok()?)
-            .ok()?;
-        let given = programs.first()?;
-        let pass = match Pass::of_word(alloc, word, given) {
-            Ok(pass) => pass,
-            Err(_) => Pass::of_row(alloc, word, asked.input.as_str(), given).ok()?,
-        };
+        programs.push(given).ok()?;
         Some(Passed { pass, programs })
+    }
+
+    // What is left of the program, behind the moves that the pass asked for.
+    fn left(&mut self, alloc: Global, answer: Result<(), PassError>) -> Option<String> {
+        let left = self.programs.pop()?.left(alloc, answer).ok()?;
+        self.pass.before(alloc, left).ok()
     }
 }
 
@@ -101,10 +110,7 @@ impl Work for Passed {
         wanted: &str,
     ) -> Option<bool> {
         match answer {
-            Ok(()) => {
-                let left = self.programs.pop()?.left(alloc, answer).ok()?;
-                Some(self.pass.before(alloc, left).ok()?.as_str() == wanted)
-            }
+            Ok(()) => Some(self.left(alloc, answer)?.as_str() == wanted),
             Err(error) => Some(wanted.strip_prefix("refused: ")? == error.name()),
         }
     }

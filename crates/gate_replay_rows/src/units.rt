@@ -122,16 +122,24 @@ const COMMANDS: [Command; 6] = [
     Command::Mangle,
 ];
 
-// Whether each command takes text of 127 levels, and finds that one of 128 is no tree.
+// Whether a command takes text of 127 levels, and finds that one of 128 is no tree.
+fn counts_levels(alloc: Global, command: Command, kind: Kind, goal: &str) -> Option<bool> {
+    let taken = nested(alloc, goal, 126)?;
+    let refused = nested(alloc, goal, 127)?;
+    let is_taken = run(alloc, command, kind, taken.as_bytes()).is_ok();
+    let is_refused = matches!(
+        &run(alloc, command, kind, refused.as_bytes()),
+        Err(Fault::NotATree(path)) if path.as_str() == "$"
+    );
+    Some(is_taken && is_refused)
+}
+
+// Whether each command does.
 fn levels_are_counted(alloc: Global) -> Option<bool> {
     let mut are_counted = true;
     for command in COMMANDS {
         for (kind, goal) in [(Kind::Module, "Module"), (Kind::Script, "Script")] {
-            let taken = run(alloc, command, kind, nested(alloc, goal, 126)?.as_bytes());
-            let refused = run(alloc, command, kind, nested(alloc, goal, 127)?.as_bytes());
-            are_counted = are_counted
-                && taken.is_ok()
-                && matches!(&refused, Err(Fault::NotATree(path)) if path.as_str() == "$");
+            are_counted = counts_levels(alloc, command, kind, goal)? && are_counted;
         }
     }
     Some(are_counted)
@@ -155,6 +163,16 @@ const FAULTY: [&str; 2] = [
     r#"{"marks":[[1,0],[2,0]],"unresolved":1,"top":2,"tree":{"type":"Module","span":[0,0],"shebang":null,"body":[1]}}"#,
 ];
 
+fn add_read_error(alloc: Global, faulty: &str, text: &mut String) -> Option<()> {
+    let error = read_bytes(alloc, Class::Module, faulty.as_bytes()).err()?;
+    write!(text, "{error}, ").ok()
+}
+
+fn add_run_fault(alloc: Global, faulty: &str, text: &mut String) -> Option<()> {
+    let fault = run(alloc, Command::Resolve, Kind::Module, faulty.as_bytes()).err()?;
+    write!(text, "{fault}, ").ok()
+}
+
 // What displays why an input, a tree or a program was not taken.
 fn displays(alloc: Global) -> Option<String> {
     let mut text = String::new(alloc);
@@ -165,9 +183,8 @@ fn displays(alloc: Global) -> Option<String> {
         write!(text, "{fault}, ").ok()?;
     }
     for faulty in FAULTY {
-        let error = read_bytes(alloc, Class::Module, faulty.as_bytes()).err()?;
-        let fault = run(alloc, Command::Resolve, Kind::Module, faulty.as_bytes()).err()?;
-        write!(text, "{error}, {fault}, ").ok()?;
+        add_read_error(alloc, faulty, &mut text)?;
+        add_run_fault(alloc, faulty, &mut text)?;
     }
     write!(text, "{}", ReadError::NoMemory).ok()?;
     Some(text)

@@ -1,6 +1,6 @@
 //! Renamers that more is done by than names given anew: behind `finish_with` the fixer runs too, and behind `chain_with` the resolver
-//! before. Each renamer of these is a copy of both in the program, so rows have three here: `letters`, `refusing`, and `numbered`, which may be
-//! followed by `mangles`.
+//! before. Each is a copy of all that in the program, so rows have three renamers behind either: `letters`, `refusing`, and `numbered`,
+//! which mangles in the chain.
 use crate::programs::names;
 use gate_renamers::{Letters, Numbered, Refusing};
 use gate_rows::{Given, Program};
@@ -13,32 +13,16 @@ use swc_ecma_transforms_base::{
 };
 use swc_tree::{Id, PassError};
 
-/// What is done by a renamer.
-#[derive(Clone, Copy)]
-pub enum Task {
-    /// Names are given anew, contexts cleared then, and parentheses set.
-    Finish,
-    /// The program is resolved before that.
-    Chain,
-}
-
-/// A renamer, which scopes beside one another may share texts by, if it is `Mangling`.
+/// What is done by a renamer: names are given anew, contexts cleared then, and parentheses set, or the program is resolved before
+/// that. Scopes beside one another may share texts in the last.
 #[derive(Drop)]
 pub enum Finishing {
-    Letters,
-    Refusing,
-    Numbered(Vec<Id>),
-    Mangling(Vec<Id>),
-}
-
-impl Task {
-    /// What the first words of a row want, and the words of the renamer.
-    pub fn of_words(words: &str) -> Option<(Task, &str)> {
-        match words.strip_prefix("finish_with ") {
-            Some(rest) => Some((Task::Finish, rest)),
-            None => Some((Task::Chain, words.strip_prefix("chain_with ")?)),
-        }
-    }
+    FinishLetters,
+    FinishRefusing,
+    FinishNumbered(Vec<Id>),
+    ChainLetters,
+    ChainRefusing,
+    ChainMangling(Vec<Id>),
 }
 
 // A program that is finished.
@@ -83,55 +67,71 @@ fn chain<R: Renamer>(
     }
 }
 
-// The task of each program, up to the first that is refused.
-fn run_each<R: Renamer + Drop>(
-    task: Task,
+// Each program is finished, up to the first that is refused.
+fn finish_each<R: Renamer + Drop>(
     config: &Config,
     alloc: Global,
     mut renamer: R,
     programs: &mut [Given],
 ) -> Result<(), PassError> {
     for given in programs {
-        match task {
-            Task::Finish => finish(config, alloc, &mut renamer, given)?,
-            Task::Chain => chain(config, alloc, &mut renamer, given)?,
-        }
+        finish(config, alloc, &mut renamer, given)?;
+    }
+    Ok(())
+}
+
+// Each program is run through the chain, up to the first that is refused.
+fn chain_each<R: Renamer + Drop>(
+    config: &Config,
+    alloc: Global,
+    mut renamer: R,
+    programs: &mut [Given],
+) -> Result<(), PassError> {
+    for given in programs {
+        chain(config, alloc, &mut renamer, given)?;
     }
     Ok(())
 }
 
 impl Finishing {
-    /// The renamer that words name, with the ids that the input has it preserve.
+    /// What words name, with the ids that the input has the renamer preserve.
     pub fn of_words(alloc: Global, words: &str, input: &str) -> Option<Finishing> {
         match words {
-            "letters" => Some(Finishing::Letters),
-            "refusing" => Some(Finishing::Refusing),
-            "numbered" => Some(Finishing::Numbered(names::preserved(alloc, input)?)),
-            "numbered mangles" => Some(Finishing::Mangling(names::preserved(alloc, input)?)),
+            "finish_with letters" => Some(Finishing::FinishLetters),
+            "finish_with refusing" => Some(Finishing::FinishRefusing),
+            "finish_with numbered" => {
+                Some(Finishing::FinishNumbered(names::preserved(alloc, input)?))
+            }
+            "chain_with letters" => Some(Finishing::ChainLetters),
+            "chain_with refusing" => Some(Finishing::ChainRefusing),
+            "chain_with numbered mangles" => {
+                Some(Finishing::ChainMangling(names::preserved(alloc, input)?))
+            }
             _ => None,
         }
     }
 
-    /// Does the task to each program. What is preserved is used up.
+    /// Does it to each program. What is preserved is used up.
     pub fn visit(
         &mut self,
-        task: Task,
         config: &Config,
         alloc: Global,
         programs: &mut [Given],
     ) -> Result<(), PassError> {
         match self {
-            Finishing::Letters => run_each(task, config, alloc, Letters, programs),
-            Finishing::Refusing => run_each(task, config, alloc, Refusing, programs),
-            Finishing::Numbered(preserved) => {
+            Finishing::FinishLetters => finish_each(config, alloc, Letters, programs),
+            Finishing::FinishRefusing => finish_each(config, alloc, Refusing, programs),
+            Finishing::FinishNumbered(preserved) => {
                 let preserved = mem::replace(preserved, Vec::new(alloc));
                 let renamer = Numbered::<false, false>::new(preserved);
-                run_each(task, config, alloc, renamer, programs)
+                finish_each(config, alloc, renamer, programs)
             }
-            Finishing::Mangling(preserved) => {
+            Finishing::ChainLetters => chain_each(config, alloc, Letters, programs),
+            Finishing::ChainRefusing => chain_each(config, alloc, Refusing, programs),
+            Finishing::ChainMangling(preserved) => {
                 let preserved = mem::replace(preserved, Vec::new(alloc));
                 let renamer = Numbered::<true, false>::new(preserved);
-                run_each(task, config, alloc, renamer, programs)
+                chain_each(config, alloc, renamer, programs)
             }
         }
     }

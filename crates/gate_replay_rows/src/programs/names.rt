@@ -42,47 +42,49 @@ fn put_id(alloc: Global, ids: &mut HashMap<Id, Id>, name: &Value) -> Option<()> 
     put(ids, id(alloc, name, 0)?, new)
 }
 
-fn put_texts(alloc: Global, input: &str, texts: &mut HashMap<Id, JsWord>) -> Option<()> {
-    let value = Value::from_str(alloc, input).ok()?;
-    for name in value.get("names")?.as_array()? {
-        put_text(alloc, texts, name)?;
-    }
-    Some(())
+// The values of the list under a key.
+fn listed<'a>(value: &'a Value, key: &str) -> Option<&'a [Value]> {
+    Some(value.get(key)?.as_array()?.as_slice())
 }
 
-fn put_ids(alloc: Global, input: &str, ids: &mut HashMap<Id, Id>) -> Option<()> {
-    let value = Value::from_str(alloc, input).ok()?;
-    for name in value.get("names")?.as_array()? {
-        put_id(alloc, ids, name)?;
+fn texts_of(alloc: Global, names: &[Value]) -> Option<HashMap<Id, JsWord>> {
+    let mut texts = HashMap::new(alloc);
+    for name in names {
+        put_text(alloc, &mut texts, name)?;
     }
-    Some(())
+    Some(texts)
 }
 
-fn add_preserved(alloc: Global, input: &str, ids: &mut Vec<Id>) -> Option<()> {
-    let value = Value::from_str(alloc, input).ok()?;
-    for name in value.get("preserved")?.as_array()? {
+fn ids_of(alloc: Global, names: &[Value]) -> Option<HashMap<Id, Id>> {
+    let mut ids = HashMap::new(alloc);
+    for name in names {
+        put_id(alloc, &mut ids, name)?;
+    }
+    Some(ids)
+}
+
+fn preserved_of(alloc: Global, names: &[Value]) -> Option<Vec<Id>> {
+    let mut ids = Vec::new(alloc);
+    for name in names {
         ids.push(id(alloc, name, 0)?).ok()?;
     }
-    Some(())
+    Some(ids)
 }
 
 /// The ids under the key `preserved`, of each a text and the marks of its context.
 pub fn preserved(alloc: Global, input: &str) -> Option<Vec<Id>> {
-    let mut ids = Vec::new(alloc);
-    add_preserved(alloc, input, &mut ids)?;
-    Some(ids)
+    let value = Value::from_str(alloc, input).ok()?;
+    preserved_of(alloc, listed(&value, "preserved")?)
 }
 
 /// The new texts of ids.
 pub fn texts(alloc: Global, input: &str) -> Option<HashMap<Id, JsWord>> {
-    let mut texts = HashMap::new(alloc);
-    put_texts(alloc, input, &mut texts)?;
-    Some(texts)
+    let value = Value::from_str(alloc, input).ok()?;
+    texts_of(alloc, listed(&value, "names")?)
 }
 
 /// The new ids of ids.
 pub fn ids(alloc: Global, input: &str) -> Option<HashMap<Id, Id>> {
-    let mut ids = HashMap::new(alloc);
-    put_ids(alloc, input, &mut ids)?;
-    Some(ids)
+    let value = Value::from_str(alloc, input).ok()?;
+    ids_of(alloc, listed(&value, "names")?)
 }

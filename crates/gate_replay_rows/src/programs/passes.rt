@@ -1,5 +1,5 @@
 //! Passes by their names.
-use crate::programs::finishing::{Finishing, Task};
+use crate::programs::finishing::Finishing;
 use crate::programs::names;
 use crate::programs::renamers::Renaming;
 use crate::texts::text_each;
@@ -33,7 +33,7 @@ pub enum Pass {
     Rename(HashMap<Id, JsWord>, Config),
     Remap(HashMap<Id, Id>, Config),
     Renamer(Renaming, Config),
-    Finished(Task, Finishing, Config),
+    Finished(Finishing, Config),
     Hygiene,
     HygieneWith(Config),
 }
@@ -111,11 +111,8 @@ impl Pass {
 
     // The pass of a row with a renamer, if it is one.
     fn of_renamer(alloc: Global, words: &str, input: &str, config: Config) -> Option<Pass> {
-        match Task::of_words(words) {
-            Some((task, words)) => {
-                let finishing = Finishing::of_words(alloc, words, input)?;
-                Some(Pass::Finished(task, finishing, config))
-            }
+        match Finishing::of_words(alloc, words, input) {
+            Some(finishing) => Some(Pass::Finished(finishing, config)),
             None => {
                 let renaming = Renaming::of_words(alloc, words, input)?;
                 Some(Pass::Renamer(renaming, config))
@@ -165,9 +162,7 @@ impl Pass {
             Pass::Rename(texts, _) => visit_each(&mut rename(texts), alloc, programs),
             Pass::Remap(ids, config) => visit_each(&mut remap(ids, *config), alloc, programs),
             Pass::Renamer(renaming, config) => renaming.visit(*config, alloc, programs),
-            Pass::Finished(task, finishing, config) => {
-                finishing.visit(*task, config, alloc, programs)
-            }
+            Pass::Finished(finishing, config) => finishing.visit(config, alloc, programs),
             Pass::Hygiene => visit_each(&mut hygiene(), alloc, programs),
             Pass::HygieneWith(config) => {
                 visit_each(&mut hygiene_with_config(*config), alloc, programs)
