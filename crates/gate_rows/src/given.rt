@@ -4,7 +4,7 @@ ghost use Rattle.swc_tree_node.specs.declared.slot.Content.TheVariants.{Node as 
 ghost use Rattle.swc_tree_node.specs.Fits.{Fits};
 
 use anyhow::{Result, bail};
-use jsbase_reader::{Envelope, read_bytes};
+use jsbase_reader::read_bytes;
 use jsbase_writer::write_envelope;
 use std::alloc::{AllocError, Global};
 use std::fmt::Write;
@@ -120,22 +120,19 @@ impl Given {
         let Ok(envelope) = read_bytes(alloc, class, line.as_bytes()) else {
             bail!("a line is no envelope of such a program, or memory was refused");
         };
-        let marks = Vec::from_slice(alloc, envelope.globals.table())?;
-        let settings = Settings {
-            top: envelope.top,
-            unresolved: envelope.unresolved,
-            keep_class_names: envelope.keep_class_names,
-            ignore_eval: envelope.ignore_eval,
-        };
-        let Envelope { globals, tree, .. } = envelope;
-        let Some(program) = Program::open(class, tree) else {
+        let Some(program) = Program::open(class, envelope.tree) else {
             bail!("a program is a module or a script");
         };
         Ok(Given {
-            settings,
+            settings: Settings {
+                top: envelope.top,
+                unresolved: envelope.unresolved,
+                keep_class_names: envelope.keep_class_names,
+                ignore_eval: envelope.ignore_eval,
+            },
             span: program.span(),
-            marks,
-            globals,
+            marks: Vec::from_slice(alloc, envelope.globals.table())?,
+            globals: envelope.globals,
             program,
         })
     }
