@@ -40,31 +40,21 @@ fn expression(alloc: Global) -> Option<Tree<class::Expr>> {
     Some(expr)
 }
 
-// `!(!( .. a .. ));`
-fn innermost(alloc: Global) -> Option<Tree<class::Stmt>> {
+// `{ { .. !(!( .. a .. )); .. } }`
+fn statement(alloc: Global) -> Option<Tree<class::Stmt>> {
     let statement = ExprStmt {
         span: DUMMY_SP,
         expr: expression(alloc)?,
     };
-    Some(statement.close(alloc).ok()?.widen::<class::Stmt>())
-}
-
-// A block with a statement in it.
-fn put_in_block(alloc: Global, stmt: Tree<class::Stmt>) -> Option<Tree<class::Stmt>> {
-    let mut stmts = Trees::new(alloc);
-    stmts.push(stmt).ok()?;
-    let block = BlockStmt {
-        span: DUMMY_SP,
-        stmts,
-    };
-    Some(block.close(alloc).ok()?.widen::<class::Stmt>())
-}
-
-// `{ { .. !(!( .. a .. )); .. } }`
-fn statement(alloc: Global) -> Option<Tree<class::Stmt>> {
-    let mut stmt = innermost(alloc)?;
+    let mut stmt = statement.close(alloc).ok()?.widen::<class::Stmt>();
     for _ in 0..DEPTH {
-        stmt = put_in_block(alloc, stmt)?;
+        let mut stmts = Trees::new(alloc);
+        stmts.push(stmt).ok()?;
+        let block = BlockStmt {
+            span: DUMMY_SP,
+            stmts,
+        };
+        stmt = block.close(alloc).ok()?.widen::<class::Stmt>();
     }
     Some(stmt)
 }
@@ -115,59 +105,36 @@ fn globals(alloc: Global) -> Option<Globals> {
     Globals::from_table(alloc, &[(1, 0), (2, 0)]).ok()
 }
 
-// How deep a pass leaves a module.
-fn visited_module<P: JsPass>(alloc: Global, pass: &mut P) -> Option<usize> {
-    let mut module = module(alloc)?;
-    let mut globals = globals(alloc)?;
-    pass.visit_mut_module(alloc, &mut globals, &mut module)
-        .ok()?;
-    Some(greatest_depth(module.body.as_slice()))
-}
-
-// How deep it leaves a script.
-fn visited_script<P: JsPass>(alloc: Global, pass: &mut P) -> Option<usize> {
-    let mut script = script(alloc)?;
-    let mut globals = globals(alloc)?;
-    pass.visit_mut_script(alloc, &mut globals, &mut script)
-        .ok()?;
-    Some(greatest_depth(script.body.as_slice()))
-}
-
-// How deep a pass leaves a module and then a script.
+// How deep a pass leaves a module and a script.
 fn visited<P: JsPass + Drop>(alloc: Global, mut pass: P) -> Option<(usize, usize)> {
-    let module = visited_module(alloc, &mut pass)?;
-    Some((module, visited_script(alloc, &mut pass)?))
-}
-
-fn finished_module(alloc: Global, globals: &mut Globals) -> Option<usize> {
     let mut module = module(alloc)?;
-    let (config, comments) = (Config::default(), None::<&mut NoComments>);
-    finish_module(alloc, globals, config, comments, &mut module).ok()?;
-    Some(greatest_depth(module.body.as_slice()))
-}
-
-fn finished_script(alloc: Global, globals: &mut Globals) -> Option<usize> {
+    pass.visit_mut_module(alloc, &mut globals(alloc)?, &mut module)
+        .ok()?;
     let mut script = script(alloc)?;
-    let (config, comments) = (Config::default(), None::<&mut NoComments>);
-    finish_script(alloc, globals, config, comments, &mut script).ok()?;
-    Some(greatest_depth(script.body.as_slice()))
+    pass.visit_mut_script(alloc, &mut globals(alloc)?, &mut script)
+        .ok()?;
+    Some((
+        greatest_depth(module.body.as_slice()),
+        greatest_depth(script.body.as_slice()),
+    ))
 }
 
 fn finished(alloc: Global) -> Option<(usize, usize)> {
-    let mut globals = globals(alloc)?;
-    let module = finished_module(alloc, &mut globals)?;
-    Some((module, finished_script(alloc, &mut globals)?))
+    let (mut module, mut script) = (module(alloc)?, script(alloc)?);
+    let (config, globals) = (Config::default(), &mut globals(alloc)?);
+    finish_module(alloc, globals, config, None::<&mut NoComments>, &mut module).ok()?;
+    finish_script(alloc, globals, config, None::<&mut NoComments>, &mut script).ok()?;
+    Some((
+        greatest_depth(module.body.as_slice()),
+        greatest_depth(script.body.as_slice()),
+    ))
 }
 
-// The mark of names that no scope declares, and that of the outermost scope.
-fn marks() -> (Mark, Mark) {
-    (Mark::from_u32(1), Mark::from_u32(2))
-}
-
-fn chained_module(alloc: Global, globals: &mut Globals) -> Option<usize> {
-    let mut module = module(alloc)?;
-    let (unresolved, top) = marks();
-    let (config, comments) = (Config::default(), None::<&mut NoComments>);
+fn chained(alloc: Global) -> Option<(usize, usize)> {
+    let (mut module, mut script) = (module(alloc)?, script(alloc)?);
+    let (config, globals) = (Config::default(), &mut globals(alloc)?);
+    let (unresolved, top) = (Mark::from_u32(1), Mark::from_u32(2));
+    let comments = None::<&mut NoComments>;
     chain_module(
         alloc,
         globals,
@@ -178,13 +145,7 @@ fn chained_module(alloc: Global, globals: &mut Globals) -> Option<usize> {
         &mut module,
     )
     .ok()?;
-    Some(greatest_depth(module.body.as_slice()))
-}
-
-fn chained_script(alloc: Global, globals: &mut Globals) -> Option<usize> {
-    let mut script = script(alloc)?;
-    let (unresolved, top) = marks();
-    let (config, comments) = (Config::default(), None::<&mut NoComments>);
+    let comments = None::<&mut NoComments>;
     chain_script(
         alloc,
         globals,
@@ -195,17 +156,14 @@ fn chained_script(alloc: Global, globals: &mut Globals) -> Option<usize> {
         &mut script,
     )
     .ok()?;
-    Some(greatest_depth(script.body.as_slice()))
-}
-
-fn chained(alloc: Global) -> Option<(usize, usize)> {
-    let mut globals = globals(alloc)?;
-    let module = chained_module(alloc, &mut globals)?;
-    Some((module, chained_script(alloc, &mut globals)?))
+    Some((
+        greatest_depth(module.body.as_slice()),
+        greatest_depth(script.body.as_slice()),
+    ))
 }
 
 fn resolved(alloc: Global) -> Option<(usize, usize)> {
-    let (unresolved, top) = marks();
+    let (unresolved, top) = (Mark::from_u32(1), Mark::from_u32(2));
     if !marks_ok(&globals(alloc)?, unresolved, top) {
         return None;
     }

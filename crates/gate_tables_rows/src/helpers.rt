@@ -27,10 +27,9 @@ pub fn names(alloc: Global, helpers: &Helpers) -> Option<String> {
 }
 
 fn with_helper(alloc: Global, external: bool, name: &str) -> Option<Helpers> {
-    let helper = named(name)?;
     let mut globals = Globals::new(alloc);
     let mut helpers = Helpers::new(&mut globals, external).ok()?;
-    helpers.enable(helper);
+    helpers.enable(named(name)?);
     Some(Helpers::from_data(helpers.data()))
 }
 
