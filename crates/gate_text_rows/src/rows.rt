@@ -132,7 +132,7 @@ enum Outcome {
     Unanswered(&'static str),
 }
 
-fn outcome(alloc: Global, words: &str, lines: &[String]) -> Outcome {
+fn try_task(alloc: Global, words: &str, lines: &[String]) -> Outcome {
     let Some(asked) = parse_words(words) else {
         return Outcome::Unanswered("there is no such task");
     };
@@ -154,7 +154,7 @@ fn outcome(alloc: Global, words: &str, lines: &[String]) -> Outcome {
 // Whether a row, by the number of its first line and the lines behind its words, is answered as it wants. Says what is
 // answered else.
 fn is_answered(rt: &HostRuntime, number: u32, words: &str, lines: &[String]) -> Result<bool> {
-    match outcome(rt.alloc(), words, lines) {
+    match try_task(rt.alloc(), words, lines) {
         Outcome::Wanted => return Ok(true),
         Outcome::Other(answer) => println!(rt; "line {number}: {words}\n= {answer}")?,
         Outcome::Unanswered(why) => println!(rt; "line {number}: {words}: {why}")?,

@@ -82,7 +82,7 @@ fn shift_below(children: &mut Items<Node>, left: usize, shift: Shift) -> Option<
 
 // What comes of the shift of a span.
 #[derive(Clone, Copy)]
-enum Shifted {
+enum Found {
     // The tree has no such span.
     Past,
     // It is taken for a node's, though it is another.
@@ -91,20 +91,20 @@ enum Shifted {
     Fault(TextFault),
 }
 
-fn shifted_in(goal: Goal, text: &[u8], mut tree: Node, number: usize, shift: Shift) -> Shifted {
+fn shifted_in(goal: Goal, text: &[u8], mut tree: Node, number: usize, shift: Shift) -> Found {
     if shift_at(&mut tree, number, shift).is_some() {
-        Shifted::Past
+        Found::Past
     } else if are_spans_of(goal, &tree, text) {
-        Shifted::Taken
+        Found::Taken
     } else {
-        Shifted::Refused
+        Found::Refused
     }
 }
 
-fn shift_of(alloc: Global, asked: Asked, text: &[u8], number: usize, shift: Shift) -> Shifted {
+fn shift_of(alloc: Global, asked: Asked, text: &[u8], number: usize, shift: Shift) -> Found {
     match read_text(alloc, asked.goal, asked.depth, text) {
         Ok(tree) => shifted_in(asked.goal, text, tree, number, shift),
-        Err(fault) => Shifted::Fault(fault),
+        Err(fault) => Found::Fault(fault),
     }
 }
 
@@ -113,12 +113,12 @@ pub(crate) fn shifts(alloc: Global, asked: Asked, text: &[u8]) -> Option<String>
     for number in 0..MOST {
         for shift in SHIFTS {
             match shift_of(alloc, asked, text, number, shift) {
-                Shifted::Refused => (),
-                Shifted::Past => return format!(in alloc; "{number} spans").ok(),
-                Shifted::Taken => {
+                Found::Refused => (),
+                Found::Past => return format!(in alloc; "{number} spans").ok(),
+                Found::Taken => {
                     return format!(in alloc; "span {number} may be another").ok();
                 }
-                Shifted::Fault(fault) => return told(alloc, text, fault),
+                Found::Fault(fault) => return told(alloc, text, fault),
             }
         }
     }
