@@ -1,5 +1,5 @@
 -- What is answered to a task over texts.
-use Rattle.std.specs.Prelude.{◌≡◌, ◌<◌, Bool, true, false, ℕ, nat_eq, codes, List, [], Option, Some, None}
+use Rattle.std.specs.Prelude.{◌≡◌, ◌<◌, Bool, true, false, ℕ, nat_eq, codes, List, [], ◌∷◌, Option, Some, None}
 use Rattle.std.specs.Borrow.{Bor}
 use Rattle.std.specs.List.{ends_with}
 use Rattle.std.specs.Option.{option_or}
@@ -7,6 +7,8 @@ use Rattle.swc_tree_marks.specs.declared.error.PassError.TheVariants as refusal
 use Rattle.text_parser.specs.declared.programs.Goal.{Goal}
 use Rattle.text_parser.specs.declared.programs.Goal.TheVariants as goal
 use Rattle.mucwathi_settings.specs.declared.command.Settings.{Settings}
+use Rattle.mucwathi_order.specs.declared.order.Memory.{Memory}
+use Rattle.mucwathi_order.specs.declared.order.Memory.TheVariants as memory
 use Rattle.mucwathi_order.specs.declared.order.Order.{Order}
 use Rattle.mucwathi_arguments.specs.declared.task.Judging.{Judging}
 use Rattle.mucwathi_arguments.specs.declared.task.Rewriting.{Rewriting}
@@ -65,9 +67,15 @@ keeps_top None goal.Module = false
 abbrev pub settings_for : Settings → Bool → Settings
 settings_for s keep = record { keep_class_names = s.keep_class_names; ignore_eval = s.ignore_eval; keep_top = keep }
 
+-- of one file the memory is left to the process, which ends then
+abbrev pub memory_for : List (Bor (List ℕ)) → Memory
+memory_for [] = memory.Left
+memory_for (file ∷ []) = memory.Left
+memory_for (file ∷ other ∷ files) = memory.GivenBack
+
 -- what a task asks of a text that is read as the goal has it; as many productions may be open at once
 abbrev pub order_for : Rewriting → Goal → Order
-order_for task g = record { command = task.command; goal = g; depth = 4000; settings = settings_for task.settings (keeps_top task.keep_top g); style = task.style }
+order_for task g = record { command = task.command; goal = g; depth = 4000; settings = settings_for task.settings (keeps_top task.keep_top g); style = task.style; memory = memory_for task.files.items }
 
 -- nothing is written, and the status is that of a fault
 pub record IsFaultTold (f : RunFault) (a : Answer) : Type 0 where

@@ -2,7 +2,7 @@
 use crate::answer::{Answer, DEPTH};
 use crate::goals::{further, goal_asked, may_be_module};
 use mucwathi_arguments::{Giving, Source};
-use mucwathi_commands::{Goal, Order, RunFault, Settings, Style};
+use mucwathi_commands::{Goal, Memory, Order, RunFault, Settings, Style};
 use mucwathi_given::{Envelope, TreeFault, make_given, read_tree, write_tree};
 use mucwathi_marked::{give_marked, give_text, print_given, resolve_marked, rewrite_marked};
 use mucwathi_report::{Named, tell_no_tree};
@@ -70,6 +70,7 @@ fn text_of(alloc: Global, task: &Giving, text: &[u8], goal: Goal) -> Result<Vec<
             ..task.settings
         },
         style: task.style,
+        memory: Memory::GivenBack,
     };
     rewrite_marked(alloc, &order, text)
 }

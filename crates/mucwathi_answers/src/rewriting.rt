@@ -4,13 +4,13 @@ ghost use Rattle.text_parser.specs.declared.programs.Goal.TheVariants as kinds;
 ghost use Rattle.mucwathi_commands.specs.Faults.{IsRunFault};
 ghost use Rattle.mucwathi_commands.specs.Comments.{IsRewrittenWith};
 ghost use Rattle.mucwathi_lists.specs.Listed.{changes_listed, lost_listed};
-ghost use Rattle.mucwathi_answers.specs.Answers.{HasList, HasMap, IsAnswered, IsAsked, IsMemoryFault, IsTold, IsWell, IsWorked, IsWrittenOut, goal_asked as is_asked, keeps_top, order_for as order_of};
+ghost use Rattle.mucwathi_answers.specs.Answers.{HasList, HasMap, IsAnswered, IsAsked, IsMemoryFault, IsTold, IsWell, IsWorked, IsWrittenOut, goal_asked as is_asked, keeps_top, memory_for as memory_of, order_for as order_of};
 
 use crate::answer::{Answer, DEPTH};
 use crate::goals::{further, goal_asked, may_be_module};
 use mucwathi_arguments::Rewriting;
 use mucwathi_commands::{
-    CoverGap, Goal, Order, RewrittenText, RunFault, Settings, cover_text, rewrite_with_comments,
+    CoverGap, Goal, Memory, Order, RewrittenText, RunFault, Settings, cover_text, rewrite_with_comments,
 };
 use mucwathi_lists::{Change, list_renamed, tell_lost};
 use mucwathi_looks::list_changes;
@@ -29,6 +29,16 @@ fn does_keep_top(asked: Option<bool>, goal: Goal) -> bool
     }
 }
 
+// Of one file the tree's memory is left to the process, which ends then.
+fn memory_for(files: &[&str]) -> Memory
+    ensures { result ≡ memory_of files.now }
+{
+    match files {
+        [_, _, ..] => Memory::GivenBack,
+        _ => Memory::Left,
+    }
+}
+
 // What the passes go by, once it is known as what the text is read.
 fn order_for(task: &Rewriting<'_>, goal: Goal) -> Order
     ensures { result ≡ order_of task.now goal }
@@ -42,6 +52,7 @@ fn order_for(task: &Rewriting<'_>, goal: Goal) -> Order
             ..task.settings
         },
         style: task.style,
+        memory: memory_for(task.files.as_slice()),
     }
 }
 

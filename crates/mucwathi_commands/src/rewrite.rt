@@ -13,9 +13,10 @@ ghost use Rattle.mucwathi_commands.specs.Written.{IsReadAs, IsRewritten};
 use crate::apart::{pieces_again, texts_of};
 use crate::write::{RewrittenText, comments_in, edit_by, print_compact, print_with};
 use mucwathi_faults::RunFault;
-use mucwathi_order::Order;
+use mucwathi_order::{Memory, Order};
 use mucwathi_passes::make;
 use std::alloc::Global;
+use std::mem::forget;
 use swc_tree_marks::PassError;
 use swc_tree_node::Node;
 use text_comments::Comment;
@@ -23,6 +24,14 @@ use text_pieces::Piece;
 use text_printer::Layout;
 use text_source::read_text;
 use text_walk::pieces as pieces_in;
+
+// A tree is needed no more.
+fn let_go(memory: Memory, tree: Node) {
+    match memory {
+        Memory::GivenBack => drop(tree),
+        Memory::Left => forget(tree),
+    }
+}
 
 // What a command makes of a program, written anew with comments of its text.
 fn rewrite_with(
@@ -38,7 +47,11 @@ fn rewrite_with(
     ensures { MatchResult result (λ made. IsRewrittenWith order.now text.now made.out.items made.lost.items) (IsRunFault order.now text.now) }
 {
     match make(alloc, order.command, &order.settings, source) {
-        Ok(answer) => print_with(alloc, order.goal, text, comments, &answer),
+        Ok(answer) => {
+            let written = print_with(alloc, order.goal, text, comments, &answer);
+            let_go(order.memory, answer);
+            written
+        }
         Err(error) => Err(RunFault::Refused(error)),
     }
 }
@@ -72,7 +85,11 @@ fn rewrite_compact(
     ensures { MatchResult result (λ made. IsRewrittenWith order.now text.now made.out.items made.lost.items) (IsRunFault order.now text.now) }
 {
     match make(alloc, order.command, &order.settings, source) {
-        Ok(answer) => print_compact(alloc, order.goal, &answer),
+        Ok(answer) => {
+            let written = print_compact(alloc, order.goal, &answer);
+            let_go(order.memory, answer);
+            written
+        }
         Err(error) => Err(RunFault::Refused(error)),
     }
 }
@@ -109,7 +126,11 @@ fn rewrite_from(
     ensures { MatchResult result (λ out. IsRewritten order.now text.now out.items) (IsRunFault order.now text.now) }
 {
     match make(alloc, order.command, &order.settings, source) {
-        Ok(answer) => edit_by(alloc, order.goal, text, before, &answer),
+        Ok(answer) => {
+            let written = edit_by(alloc, order.goal, text, before, &answer);
+            let_go(order.memory, answer);
+            written
+        }
         Err(error) => Err(RunFault::Refused(error)),
     }
 }

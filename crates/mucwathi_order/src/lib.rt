@@ -4,5 +4,5 @@
 mod order;
 
 pub use mucwathi_settings::{Command, Settings};
-pub use order::{Order, Style};
+pub use order::{Memory, Order, Style};
 pub use text_source::Goal;

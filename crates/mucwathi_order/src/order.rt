@@ -17,6 +17,15 @@ pub enum Style {
     Compact,
 }
 
+/// What becomes of the memory of a tree whose text is written.
+#[derive(Clone, Copy, Debug, PartialEq, Eq)]
+pub enum Memory {
+    /// It is given back.
+    GivenBack,
+    /// It is left to the process, which is about to end and gives back all at once.
+    Left,
+}
+
 /// What is made of a text, and how.
 #[derive(Clone, Copy)]
 pub struct Order {
@@ -26,6 +35,7 @@ pub struct Order {
     pub depth: u32,
     pub settings: Settings,
     pub style: Style,
+    pub memory: Memory,
 }
 
 impl Style {

@@ -9,7 +9,7 @@ use crate::variables::uses_of;
 use mucwathi_faults::RunFault;
 use mucwathi_lists::Change;
 use mucwathi_looks::list_changes;
-use mucwathi_order::{Command, Goal, Order, Settings, Style};
+use mucwathi_order::{Command, Goal, Memory, Order, Settings, Style};
 use mucwathi_page::page;
 use mucwathi_passes::{own_marks, resolve};
 use std::alloc::Global;
@@ -37,6 +37,7 @@ fn chain_of(goal: Goal, depth: u32) -> Order {
             keep_top: false,
         },
         style: Style::Kept,
+        memory: Memory::GivenBack,
     }
 }
 

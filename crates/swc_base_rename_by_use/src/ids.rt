@@ -2,6 +2,7 @@
 
 use std::alloc::Global;
 use std::collections::{BTreeMap, HashSet};
+use std::hash::{FoldHasher, Hash, Hasher};
 use swc_base_rename_analysis::Name;
 use swc_tree_marks::{Id, Ident, JsWord, NoMemory, SyntaxContext};
 use swc_tree_scoping::{Standing, is_binding};
@@ -21,10 +22,21 @@ pub struct Known<'a> {
     pub slot: Option<usize>,
 }
 
+// An id by its hash first: two whose hashes differ are told apart by one comparison of numbers.
+type Key<'a> = (u64, (&'a JsWord, &'a SyntaxContext));
+
+// How the id of an identifier is looked up.
+fn key_of(ident: &Ident) -> Key<'_> {
+    let mut hasher = FoldHasher::default();
+    ident.sym.hash(&mut hasher);
+    ident.ctxt.hash(&mut hasher);
+    (hasher.finish(), (&ident.sym, &ident.ctxt))
+}
+
 /// The ids that were met, each with its number. A look-up costs the logarithm of how many there are, whatever they are.
 #[derive(Drop)]
 pub struct Ids<'a> {
-    numbers: BTreeMap<(&'a JsWord, &'a SyntaxContext), usize>,
+    numbers: BTreeMap<Key<'a>, usize>,
     preserved: &'a HashSet<Id>,
     pub known: Vec<Known<'a>>,
 }
@@ -50,7 +62,7 @@ impl<'a> Ids<'a> {
 
     // The number of an id, a new one where it was not met before.
     fn number(&mut self, ident: &'a Ident) -> Result<usize, NoMemory> {
-        let key = (&ident.sym, &ident.ctxt);
+        let key = key_of(ident);
         if let Some(number) = self.numbers.get(&key) {
             return Ok(*number);
         }
