@@ -8,8 +8,8 @@ make-requires c = opens c.args.order.now.goal c.args.source c.requires.read.0.fi
 
 pub returns-in-Ok : goal.returns-in-Ok
 returns-in-Ok c =
-    printed c.args.order.now c.args.text.now c.args.source c.requires.read c.in-Ok.answer c.in-Ok.ensures layout.Compact c.requires.anew c.print_compact.result
-    c.print_compact.ensures.written c.print_compact.ensures.none c.print_compact.ensures.fault
+    printed c.args.order.now c.args.text.now c.args.source c.requires.read c.in-Ok.answer c.in-Ok.ensures layout.Compact c.requires.anew c.print_compact-written.result
+    c.print_compact-written.ensures.written c.print_compact-written.ensures.none c.print_compact-written.ensures.fault
 
 pub returns-in-Err : goal.returns-in-Err
 returns-in-Err c = refused c.args.order.now c.args.text.now c.args.source c.requires.read c.in-Err.error c.in-Err.ensures

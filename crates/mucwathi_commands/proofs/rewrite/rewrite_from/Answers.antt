@@ -7,8 +7,8 @@ make-requires c = opens c.args.order.now.goal c.args.source c.requires.read.0.fi
 
 pub returns-in-Ok : goal.returns-in-Ok
 returns-in-Ok c =
-    edited c.args.order.now c.args.text.now c.args.source c.requires.read c.in-Ok.answer c.in-Ok.ensures c.requires.kept c.edit_by.result
-    (c.edit_by.ensures.kept c.args.source c.requires.pieces) c.edit_by.ensures.fault
+    edited c.args.order.now c.args.text.now c.args.source c.requires.read c.in-Ok.answer c.in-Ok.ensures c.requires.kept c.edit_by-written.result
+    (c.edit_by-written.ensures.kept c.args.source c.requires.pieces) c.edit_by-written.ensures.fault
 
 pub returns-in-Err : goal.returns-in-Err
 returns-in-Err c = refused c.args.order.now c.args.text.now c.args.source c.requires.read c.in-Err.error c.in-Err.ensures
