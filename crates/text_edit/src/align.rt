@@ -1,6 +1,7 @@
 //! What stands next in two lists of pieces.
-ghost use Rattle.std.specs.Prelude.{◌<◌, ◌+◌, length, map};
+ghost use Rattle.std.specs.Prelude.{◌<◌, ◌+◌, IsTrue, length, map};
 ghost use Rattle.text_edit.specs.Edits.{Allowed};
+ghost use Rattle.text_edit.specs.declared.align.Step.TheVariants.{Both};
 ghost use Rattle.text_pieces.specs.Tokens.{piece_view};
 
 use crate::alike::{begin_alike, is_alike};
@@ -43,6 +44,36 @@ fn settled_step(before: &[Piece<'_>], after: &[Piece<'_>]) -> Step
     } else {
         Step::Insert
     }
+}
+
+// Whether two lists, which both have a piece, go on alike.
+#[tactic(auto, using(crate::proofs::Pieces::begin_one, crate::proofs::Pieces::parted, std::proofs::lemmas::Grind::common_steps))]
+fn both_go_on(before: &[Piece<'_>], after: &[Piece<'_>]) -> bool
+    requires before { 0 < length before.now }
+    requires after { 0 < length after.now }
+    ensures { IsTrue result → Allowed Both (map piece_view before.now) (map piece_view after.now) }
+{
+    if begin_alike(1, before, after) {
+        !lists_exports(before, after)
+    } else {
+        false
+    }
+}
+
+/// Whether two lists go on alike, and no change is under way or begins there: so it is nearly everywhere, and one look tells it.
+pub(crate) fn go_on_alike(due: Change, before: &[Piece<'_>], after: &[Piece<'_>]) -> bool
+    ensures { IsTrue result → Allowed Both (map piece_view before.now) (map piece_view after.now) }
+{
+    if due.removed > 0 || due.inserted > 0 {
+        return false;
+    }
+    if before.is_empty() {
+        return false;
+    }
+    if after.is_empty() {
+        return false;
+    }
+    both_go_on(before, after)
 }
 
 /// The next step where a change is due. Something is put in or taken away only where the next three pieces are not alike.
