@@ -5,6 +5,7 @@ ghost use Rattle.text_source.specs.Texts as spec;
 ghost use Rattle.text_source.specs.Texts.{IsTextOf};
 
 use std::alloc::Global;
+use std::mem::forget;
 use swc_tree_node::Node;
 use text_edit::{EditFault, edit_text};
 use text_lexer::Comments;
@@ -80,7 +81,8 @@ pub fn answer(alloc: Global, goal: Goal, task: Task, text: &[u8]) -> Result<Vec<
 {
     match task {
         Task::Read => {
-            let _tree = read(alloc, goal, text)?;
+            let tree = read(alloc, goal, text)?;
+            forget(tree); // the process ends next, and gives back all at once
             Ok(Vec::new(alloc))
         }
         Task::Keep => keep(alloc, goal, text),
