@@ -121,6 +121,17 @@ begin_more zero p q ps qs some = absurd (omega arith)
 begin_more (suc n) p q ps qs some =
     let e : suc n - 1 ≡ n = omega arith in ap (λ k. alike p q && begin_alike k ps qs) (sym e)
 
+-- the first piece of each tells whether one is alike
+pub begin_first : (ps qs : List code.Piece) (d e : code.Piece) → 0 < length ps → 0 < length qs
+    → begin_alike 1 (map piece_view ps) (map piece_view qs) ≡ alike (piece_view (get_or ps 0 d)) (piece_view (get_or qs 0 e))
+begin_first [] qs d e some other = absurd (omega arith)
+begin_first (p ∷ ps) [] d e some other = absurd (omega arith)
+begin_first (p ∷ ps) (q ∷ qs) d e some other = by (alike (piece_view p) (piece_view q))
+  where
+    by : (b : Bool) → b && true ≡ b
+    by true = refl
+    by false = refl
+
 pub begin_ended : (n : ℕ) → begin_alike n [] [] ≡ true
 begin_ended zero = refl
 begin_ended (suc n) = refl

@@ -4,7 +4,7 @@ ghost use Rattle.text_edit.specs.Edits.{Allowed};
 ghost use Rattle.text_edit.specs.declared.align.Step.TheVariants.{Both};
 ghost use Rattle.text_pieces.specs.Tokens.{piece_view};
 
-use crate::alike::{begin_alike, is_alike};
+use crate::alike::{begin_alike, is_alike, start_alike};
 use crate::guess::{Change, find_change, lists_exports};
 use text_pieces::Piece;
 
@@ -20,7 +20,7 @@ pub(crate) enum Step {
 }
 
 /// The change that two lists begin with, if one is not under way.
-pub(crate) fn change_at(due: Change, before: &[Piece<'_>], after: &[Piece<'_>]) -> Change {
+fn change_at(due: Change, before: &[Piece<'_>], after: &[Piece<'_>]) -> Change {
     if due.removed > 0 || due.inserted > 0 {
         return due;
     }
@@ -53,7 +53,7 @@ fn both_go_on(before: &[Piece<'_>], after: &[Piece<'_>]) -> bool
     requires after { 0 < length after.now }
     ensures { IsTrue result → Allowed Both (map piece_view before.now) (map piece_view after.now) }
 {
-    if begin_alike(1, before, after) {
+    if start_alike(before, after) {
         !lists_exports(before, after)
     } else {
         false
@@ -61,7 +61,7 @@ fn both_go_on(before: &[Piece<'_>], after: &[Piece<'_>]) -> bool
 }
 
 /// Whether two lists go on alike, and no change is under way or begins there: so it is nearly everywhere, and one look tells it.
-pub(crate) fn go_on_alike(due: Change, before: &[Piece<'_>], after: &[Piece<'_>]) -> bool
+fn go_on_alike(due: Change, before: &[Piece<'_>], after: &[Piece<'_>]) -> bool
     ensures { IsTrue result → Allowed Both (map piece_view before.now) (map piece_view after.now) }
 {
     if due.removed > 0 || due.inserted > 0 {
@@ -78,7 +78,7 @@ pub(crate) fn go_on_alike(due: Change, before: &[Piece<'_>], after: &[Piece<'_>]
 
 /// The next step where a change is due. Something is put in or taken away only where the next three pieces are not alike.
 #[tactic(auto, using(crate::proofs::Pieces::parts_from_none, crate::proofs::Pieces::parts_from_some, crate::proofs::Pieces::begin_one, crate::proofs::Pieces::parted, std::proofs::lemmas::Grind::common_steps))]
-pub(crate) fn step_at(due: Change, before: &[Piece<'_>], after: &[Piece<'_>]) -> Step
+fn step_at(due: Change, before: &[Piece<'_>], after: &[Piece<'_>]) -> Step
     requires { 0 < length before.now + length after.now }
     ensures { Allowed result (map piece_view before.now) (map piece_view after.now) }
 {
@@ -101,6 +101,19 @@ pub(crate) fn step_at(due: Change, before: &[Piece<'_>], after: &[Piece<'_>]) ->
     } else {
         Step::Both
     }
+}
+
+/// The change that two lists begin with, and the next step.
+pub(crate) fn next_step(due: Change, before: &[Piece<'_>], after: &[Piece<'_>]) -> (Change, Step)
+    requires { 0 < length before.now + length after.now }
+    ensures { Allowed result.1 (map piece_view before.now) (map piece_view after.now) }
+{
+    if go_on_alike(due, before, after) {
+        return (due, Step::Both);
+    }
+    let change = change_at(due, before, after);
+    let step = step_at(change, before, after);
+    (change, step)
 }
 
 /// What is left of a change behind a step.

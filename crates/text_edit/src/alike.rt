@@ -1,5 +1,5 @@
 //! Pieces of two trees held against each other.
-ghost use Rattle.std.specs.Prelude.{◌≡◌, [], ◌∷◌, map, MatchOption};
+ghost use Rattle.std.specs.Prelude.{◌≡◌, ◌<◌, [], ◌∷◌, length, map, MatchOption};
 ghost use Rattle.std.specs.Cmp.Lexicographic.{pointwise};
 ghost use Rattle.std.specs.Option.{option_copied};
 ghost use Rattle.text_edit.specs.Alike as spec;
@@ -211,6 +211,16 @@ pub(crate) fn split_first<'p, 'a>(pieces: &'p [Piece<'a>]) -> Option<(Piece<'a>,
     } else {
         Some((pieces[0], &pieces[1..]))
     }
+}
+
+/// Whether two lists, which both have a piece, begin with pieces that are alike.
+#[tactic(auto, using(crate::proofs::Pieces::begin_first))]
+pub(crate) fn start_alike(before: &[Piece<'_>], after: &[Piece<'_>]) -> bool
+    requires before { 0 < length before.now }
+    requires after { 0 < length after.now }
+    ensures { result ≡ spec.begin_alike 1 (map piece_view before.now) (map piece_view after.now) }
+{
+    is_alike(before[0], after[0])
 }
 
 /// Whether two lists begin with so many pieces that are alike, or with fewer and end.

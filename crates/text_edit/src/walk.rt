@@ -10,7 +10,7 @@ ghost use Rattle.text_follow.specs.Follows.{Takes, fresh_behind as spec_fresh_be
 ghost use Rattle.text_lexer.specs.Names.{up_to as front_of};
 ghost use Rattle.text_pieces.specs.Tokens.{piece_view};
 
-use crate::align::{Step, change_at, due_behind, go_on_alike, step_at};
+use crate::align::{Step, due_behind, next_step};
 use crate::alike::{new_name, split_first};
 use crate::edge::{Edge, keep, left_of, put};
 use crate::fault::EditFault;
@@ -300,12 +300,7 @@ fn go_on<'p, 'a, 't>(
     if cursor.olds.is_empty() && cursor.news.is_empty() {
         return Ok((due, cursor));
     }
-    if go_on_alike(due, cursor.olds, cursor.news) {
-        let next = keep_piece(alloc, comments, cursor, out)?;
-        return Ok((due, next));
-    }
-    let change = change_at(due, cursor.olds, cursor.news);
-    let step = step_at(change, cursor.olds, cursor.news);
+    let (change, step) = next_step(due, cursor.olds, cursor.news);
     let next = advance(alloc, comments, step, cursor, out)?;
     Ok((due_behind(change, step), next))
 }
