@@ -10,7 +10,8 @@ use crate::answer::{Answer, DEPTH};
 use crate::goals::{further, goal_asked, may_be_module};
 use mucwathi_arguments::Rewriting;
 use mucwathi_commands::{
-    CoverGap, Goal, Memory, Order, RewrittenText, RunFault, Settings, cover_text, rewrite_with_comments,
+    CoverGap, Goal, Memory, Order, RewrittenText, RunFault, Settings, cover_text,
+    rewrite_with_comments,
 };
 use mucwathi_lists::{Change, list_renamed, tell_lost};
 use mucwathi_looks::list_changes;
