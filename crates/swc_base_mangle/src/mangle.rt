@@ -10,8 +10,9 @@ use crate::own::own_ids;
 use crate::strays::has_strays;
 use std::alloc::Global;
 use std::collections::HashSet;
+use swc_base_rename_analysis::analyse;
 use swc_base_rename_by_use::texts_of_program;
-use swc_base_rename_program::{Mode, rename_program};
+use swc_base_rename_program::{Mode, Renamer, rename_read};
 use swc_base_rename_substitution::{Config, clear_contexts};
 use swc_tree_marks::{Globals, Id, Mark, NoMemory, PassError};
 use swc_tree_node::Node;
@@ -49,8 +50,15 @@ fn rename_short(
         resets: true,
     };
     let preserved = preserved_ids(alloc, keeps_top, config.top_level_mark, &tree)?;
-    let texts = texts_of_program(alloc, &preserved, &tree)?;
-    let tree = rename_program(alloc, &texts, mode, &preserved, config, globals, tree)?;
+    let analysis = analyse(alloc, &tree)?;
+    let texts = texts_of_program(alloc, &preserved, &analysis, &tree)?;
+    let renamer = Renamer {
+        texts: &texts,
+        mode,
+        preserved: &preserved,
+        config,
+    };
+    let tree = rename_read(alloc, &renamer, globals, &analysis, tree)?;
     Ok(tree)
 }
 

@@ -1,6 +1,6 @@
 //! How often the characters of short texts are met in the names and texts of a program that stay. Keywords are left out: they change nothing.
 
-use crate::ids::Ids;
+use crate::known::Known;
 use std::alloc::Global;
 use swc_tree_marks::NoMemory;
 use swc_tree_node::Node;
@@ -69,13 +69,17 @@ impl Characters {
 /// # Errors
 ///
 /// `NoMemory` where memory is refused.
-pub fn characters_of(alloc: Global, items: &[Node], ids: &Ids<'_>) -> Result<Characters, NoMemory> {
+pub fn characters_of(
+    alloc: Global,
+    items: &[Node],
+    ids: &[Known<'_>],
+) -> Result<Characters, NoMemory> {
     let counts = vec![in alloc; 0; 64]?;
     let mut met = Characters { counts };
     met.meet_all(items);
-    for known in ids.known.as_slice() {
+    for known in ids {
         if known.slot.is_some() {
-            met.take(known.ident.sym.as_str(), known.uses);
+            met.take(known.text.as_str(), known.uses);
         }
     }
     Ok(met)

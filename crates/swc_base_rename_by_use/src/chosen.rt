@@ -3,11 +3,12 @@
 use crate::alphabet::{Alphabet, place_of_text};
 use crate::by_use::TextsByUse;
 use crate::characters::characters_of;
-use crate::ids::{Ids, Known};
-use crate::read::read;
+use crate::known::Known;
+use crate::read::{Program, read_analysis, read_items};
 use crate::slots::{Slots, give_slots};
 use std::alloc::Global;
 use std::collections::{BTreeMap, BTreeSet, HashSet};
+use swc_base_rename_analysis::Analysis;
 use swc_base_rename_short_texts::counter_at;
 use swc_tree_marks::{Id, NoMemory};
 use swc_tree_node::fields::{module_, script};
@@ -25,12 +26,12 @@ fn leaves_text(known: &Known<'_>) -> bool {
 fn left_places(
     alloc: Global,
     preserved: &HashSet<Id>,
-    ids: &Ids<'_>,
+    ids: &[Known<'_>],
 ) -> Result<BTreeSet<u128>, NoMemory> {
     let mut left = BTreeSet::new(alloc);
-    for known in ids.known.as_slice() {
+    for known in ids {
         if leaves_text(known)
-            && let Some(place) = place_of_text(known.ident.sym.as_str())
+            && let Some(place) = place_of_text(known.text.as_str())
         {
             left.insert(place)?;
         }
@@ -88,18 +89,34 @@ fn counters(
 // The counters of ids by those of their slots.
 fn own(
     alloc: Global,
-    ids: &Ids<'_>,
+    ids: &[Known<'_>],
     counters: &BTreeMap<usize, usize>,
 ) -> Result<TextsByUse, NoMemory> {
     let mut own = BTreeMap::new(alloc);
-    for known in ids.known.as_slice() {
+    for known in ids {
         if let Some(slot) = known.slot
             && let Some(counter) = counters.get(&slot)
         {
-            own.insert(known.ident.to_id()?, *counter)?;
+            own.insert(known.id()?, *counter)?;
         }
     }
     Ok(TextsByUse { own })
+}
+
+// The texts of a program that was read, which has these statements at its top.
+fn texts_of(
+    alloc: Global,
+    preserved: &HashSet<Id>,
+    program: &mut Program<'_>,
+    items: &[Node],
+) -> Result<TextsByUse, NoMemory> {
+    let slots = give_slots(alloc, program)?;
+    let ids = program.ids.as_slice();
+    let met = characters_of(alloc, items, ids)?;
+    let alphabet = Alphabet::new(alloc, &met)?;
+    let left = left_places(alloc, preserved, ids)?;
+    let counters = counters(alloc, &slots, &alphabet, &left)?;
+    own(alloc, ids, &counters)
 }
 
 /// The texts of the ids of a program with these statements at its top, where these are preserved: those that are used most get the shortest that they
@@ -117,16 +134,11 @@ pub fn texts_by_use(
     preserved: &HashSet<Id>,
     items: &[Node],
 ) -> Result<TextsByUse, NoMemory> {
-    let (mut ids, parts) = read(alloc, preserved, items)?;
-    let slots = give_slots(alloc, &mut ids, parts.as_slice())?;
-    let met = characters_of(alloc, items, &ids)?;
-    let alphabet = Alphabet::new(alloc, &met)?;
-    let left = left_places(alloc, preserved, &ids)?;
-    let counters = counters(alloc, &slots, &alphabet, &left)?;
-    own(alloc, &ids, &counters)
+    let mut program = read_items(alloc, preserved, items)?;
+    texts_of(alloc, preserved, &mut program, items)
 }
 
-/// The same of a program's tree. In another tree no id has a text of its own.
+/// The same of a program's tree, by what was read off it. In another tree no id has a text of its own.
 ///
 /// # Errors
 ///
@@ -134,6 +146,7 @@ pub fn texts_by_use(
 pub fn texts_of_program(
     alloc: Global,
     preserved: &HashSet<Id>,
+    analysis: &Analysis,
     tree: &Node,
 ) -> Result<TextsByUse, NoMemory> {
     let body = match tree {
@@ -141,8 +154,9 @@ pub fn texts_of_program(
         Node::Tree(Kind::Script, fields) => fields.get(script::BODY),
         _ => None,
     };
-    match body {
-        Some(Node::List(items)) => texts_by_use(alloc, preserved, items.as_slice()),
-        _ => Ok(TextsByUse::new(alloc)),
-    }
+    let Some(Node::List(items)) = body else {
+        return Ok(TextsByUse::new(alloc));
+    };
+    let mut program = read_analysis(alloc, preserved, analysis)?;
+    texts_of(alloc, preserved, &mut program, items.as_slice())
 }

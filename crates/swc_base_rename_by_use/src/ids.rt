@@ -1,26 +1,12 @@
 //! The ids of a program, by number.
 
+use crate::known::Known;
 use std::alloc::Global;
 use std::collections::{BTreeMap, HashSet};
 use std::hash::{FoldHasher, Hash, Hasher};
 use swc_base_rename_analysis::Name;
 use swc_tree_marks::{Id, Ident, JsWord, NoMemory, SyntaxContext};
 use swc_tree_scoping::{Standing, is_binding};
-
-/// What is known of an id.
-#[derive(Drop)]
-pub struct Known<'a> {
-    pub ident: &'a Ident,
-    /// How often it occurs as a name.
-    pub uses: usize,
-    pub is_bound: bool,
-    /// Whether it stands outside of export lists.
-    pub stands_outside: bool,
-    /// Whether it keeps its text.
-    pub keeps: bool,
-    /// The number of the text that it shares with others.
-    pub slot: Option<usize>,
-}
 
 // An id by its hash first: two whose hashes differ are told apart by one comparison of numbers.
 type Key<'a> = (u64, (&'a JsWord, &'a SyntaxContext));
@@ -41,15 +27,6 @@ pub struct Ids<'a> {
     pub known: Vec<Known<'a>>,
 }
 
-// Whether an id keeps its text.
-fn keeps(ident: &Ident, preserved: &HashSet<Id>) -> Result<bool, NoMemory> {
-    if preserved.is_empty() {
-        return Ok(ident.sym.as_str() == "eval");
-    }
-    let id = ident.to_id()?;
-    Ok(preserved.contains(&id) || ident.sym.as_str() == "eval")
-}
-
 impl<'a> Ids<'a> {
     /// No ids, where these are preserved.
     pub fn new(alloc: Global, preserved: &'a HashSet<Id>) -> Ids<'a> {
@@ -68,14 +45,8 @@ impl<'a> Ids<'a> {
         }
         let number = self.known.len();
         self.numbers.insert(key, number)?;
-        self.known.push(Known {
-            ident,
-            uses: 0,
-            is_bound: false,
-            stands_outside: false,
-            keeps: keeps(ident, self.preserved)?,
-            slot: None,
-        })?;
+        let known = Known::new(&ident.sym, &ident.ctxt, self.preserved)?;
+        self.known.push(known)?;
         Ok(number)
     }
 
@@ -90,18 +61,5 @@ impl<'a> Ids<'a> {
             known.stands_outside = known.stands_outside || !name.exported;
         }
         Ok(number)
-    }
-
-    /// Whether an id has no slot yet and does not keep its text.
-    pub fn is_open(&self, number: usize) -> bool {
-        match self.known.get(number) {
-            Some(known) => known.slot.is_none() && !known.keeps,
-            None => false,
-        }
-    }
-
-    /// The slot of an id, if it has one.
-    pub fn slot(&self, number: usize) -> Option<usize> {
-        self.known.get(number)?.slot
     }
 }

@@ -10,6 +10,7 @@ mod by_use;
 mod characters;
 mod chosen;
 mod ids;
+mod known;
 mod read;
 mod slots;
 

@@ -3,12 +3,12 @@
 //! An id gets the first slot that no id has which occurs in its scope or below. So ids of scopes beside one another share slots, and an id of a scope
 //! may have that of one further out that does not occur there.
 
-use crate::ids::Ids;
-use crate::read::{Declared, Part};
+use crate::known::Known;
+use crate::read::{Part, Program};
 use std::alloc::Global;
 use swc_tree_marks::NoMemory;
 
-// A scope: the number of its statement, and its own in it.
+// A scope: the number of its part, and its own in it.
 type ScopeNumber = (usize, usize);
 
 /// For each slot how often its ids are used, and the last scope that was found to need it.
@@ -49,83 +49,80 @@ impl Slots {
     // Gives an id that is to have a slot the first one, from one on, that its scope does not need. Answers where the search for the next begins.
     fn give(
         &mut self,
-        ids: &mut Ids<'_>,
-        number: usize,
+        known: &mut Known<'_>,
         from: usize,
         scope: Option<ScopeNumber>,
     ) -> Result<usize, NoMemory> {
-        if !ids.is_open(number) {
+        if !known.is_open() {
             return Ok(from);
         }
         let slot = self.first_free(from, scope)?;
         self.need(slot, scope);
-        if let Some(known) = ids.known.get_mut(number) {
-            known.slot = Some(slot);
-            if let Some(uses) = self.uses.get_mut(slot) {
-                *uses = uses.saturating_add(known.uses);
-            }
+        known.slot = Some(slot);
+        if let Some(uses) = self.uses.get_mut(slot) {
+            *uses = uses.saturating_add(known.uses);
         }
         Ok(slot)
     }
 }
 
-// The names of a statement at the top that declare ids in scopes of it: by the scope and the position.
-fn sites_of(alloc: Global, part: &Part<'_>) -> Result<Vec<(usize, usize)>, NoMemory> {
-    let mut sites = Vec::new(alloc);
-    for position in 0..part.layout.names.len() {
-        if let Declared::In(scope) = part.declared(&part.layout.names[position]) {
-            sites.push((scope, position))?;
-        }
-    }
-    sites.sort()?;
-    Ok(sites)
+// The id that occurs at a position.
+fn id_at<'k, 'a>(
+    ids: &'k mut [Known<'a>],
+    part: &Part,
+    position: usize,
+) -> Option<&'k mut Known<'a>> {
+    ids.get_mut(*part.ids.get(position)?)
 }
 
 impl Slots {
     // The ids that are declared at the top of a program.
-    fn give_at_top(&mut self, ids: &mut Ids<'_>, parts: &[Part<'_>]) -> Result<(), NoMemory> {
+    fn give_at_top(&mut self, ids: &mut [Known<'_>], parts: &[Part]) -> Result<(), NoMemory> {
         let mut from = 0;
         for part in parts {
-            for position in 0..part.layout.names.len() {
-                if part.declared(&part.layout.names[position]) == Declared::AtTop {
-                    from = self.give(ids, part.id(position), from, None)?;
+            for position in part.at_top.as_slice() {
+                if let Some(known) = id_at(ids, part, *position) {
+                    from = self.give(known, from, None)?;
                 }
             }
         }
         Ok(())
     }
 
-    // A scope of a statement at the top needs the slots of the ids that occur in it.
-    fn need_all(&mut self, ids: &Ids<'_>, part: &Part<'_>, scope: ScopeNumber) {
-        let Some(region) = part.layout.regions.get(scope.1) else {
+    // A scope of a part needs the slots of the ids that occur in it.
+    fn need_all(&mut self, ids: &[Known<'_>], part: &Part, scope: ScopeNumber) {
+        let Some(region) = part.regions.get(scope.1) else {
             return;
         };
         for position in region.start..region.end {
-            if let Some(slot) = ids.slot(part.id(position)) {
+            if let Some(number) = part.ids.get(position)
+                && let Some(known) = ids.get(*number)
+                && let Some(slot) = known.slot
+            {
                 self.need(slot, Some(scope));
             }
         }
     }
 
-    // The ids that are declared in a statement at the top, which has that number.
+    // The ids that are declared in other scopes of a part, which has that number.
     fn give_in(
         &mut self,
-        alloc: Global,
-        ids: &mut Ids<'_>,
+        ids: &mut [Known<'_>],
         number: usize,
-        part: &Part<'_>,
+        part: &Part,
     ) -> Result<(), NoMemory> {
-        let sites = sites_of(alloc, part)?;
         let mut open = None;
         let mut from = 0;
-        for site in sites.as_slice() {
+        for site in part.sites.as_slice() {
             let (scope, position) = *site;
             if open != Some(scope) {
                 open = Some(scope);
                 from = 0;
-                self.need_all(ids, part, (number, scope));
+                self.need_all(&*ids, part, (number, scope));
             }
-            from = self.give(ids, part.id(position), from, Some((number, scope)))?;
+            if let Some(known) = id_at(ids, part, position) {
+                from = self.give(known, from, Some((number, scope)))?;
+            }
         }
         Ok(())
     }
@@ -139,12 +136,13 @@ impl Slots {
 ///
 /// # Cost
 ///
-/// Time in step with the number of names, for each scope round them that declares any; and the logarithm of how many declare ids.
-pub fn give_slots(alloc: Global, ids: &mut Ids<'_>, parts: &[Part<'_>]) -> Result<Slots, NoMemory> {
+/// Time in step with the number of names, for each scope round them that declares any.
+pub fn give_slots(alloc: Global, program: &mut Program<'_>) -> Result<Slots, NoMemory> {
     let mut slots = Slots::new(alloc);
-    slots.give_at_top(ids, parts)?;
-    for number in 0..parts.len() {
-        slots.give_in(alloc, ids, number, &parts[number])?;
+    let ids = program.ids.as_mut_slice();
+    slots.give_at_top(ids, program.parts.as_slice())?;
+    for number in 0..program.parts.len() {
+        slots.give_in(ids, number, &program.parts[number])?;
     }
     Ok(slots)
 }

@@ -21,4 +21,4 @@ mod top_mark;
 
 pub use cost::{costs_are_those_of_the_definitions, rename_cost};
 pub use mode::Mode;
-pub use rename::{hygiene_program, rename_program};
+pub use rename::{Renamer, hygiene_program, rename_program, rename_read};
