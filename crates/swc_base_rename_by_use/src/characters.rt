@@ -5,6 +5,9 @@ use std::alloc::Global;
 use swc_tree_marks::NoMemory;
 use swc_tree_node::Node;
 
+// The characters of short texts by their places.
+const CHARACTERS: &str = "abcdefghijklmnopqrstuvwxyzABCDEFGHIJKLMNOPQRSTUVWXYZ$_0123456789";
+
 /// The place of a character of short texts: `a` to `z`, `A` to `Z`, `$`, `_`, and then the digits.
 pub fn place_of_character(character: u8) -> Option<usize> {
     match character {
@@ -23,13 +26,17 @@ pub struct Characters {
     pub counts: Vec<usize>,
 }
 
-impl Characters {
+// How often each byte is met.
+#[derive(Drop)]
+struct Bytes {
+    counts: Vec<usize>,
+}
+
+impl Bytes {
     // A text is met.
     fn add(&mut self, text: &str) {
-        for character in text.as_bytes() {
-            if let Some(place) = place_of_character(*character)
-                && let Some(count) = self.counts.get_mut(place)
-            {
+        for byte in text.as_bytes() {
+            if let Some(count) = self.counts.get_mut(*byte as usize) {
                 *count = count.saturating_add(1);
             }
         }
@@ -37,10 +44,8 @@ impl Characters {
 
     // A text was met that many times, and does not stay.
     fn take(&mut self, text: &str, times: usize) {
-        for character in text.as_bytes() {
-            if let Some(place) = place_of_character(*character)
-                && let Some(count) = self.counts.get_mut(place)
-            {
+        for byte in text.as_bytes() {
+            if let Some(count) = self.counts.get_mut(*byte as usize) {
                 *count = count.saturating_sub(times);
             }
         }
@@ -62,6 +67,19 @@ impl Characters {
             self.meet(node);
         }
     }
+
+    // The counts of the characters of short texts.
+    fn by_place(&self, alloc: Global) -> Result<Characters, NoMemory> {
+        let mut counts = Vec::new(alloc);
+        for character in CHARACTERS.as_bytes() {
+            let count = match self.counts.get(*character as usize) {
+                Some(count) => *count,
+                None => 0,
+            };
+            counts.push(count)?;
+        }
+        Ok(Characters { counts })
+    }
 }
 
 /// How often each character is met in the names and texts of a program with these statements, but for the ids that have slots.
@@ -74,13 +92,13 @@ pub fn characters_of(
     items: &[Node],
     ids: &[Known<'_>],
 ) -> Result<Characters, NoMemory> {
-    let counts = vec![in alloc; 0; 64]?;
-    let mut met = Characters { counts };
+    let counts = vec![in alloc; 0; 256]?;
+    let mut met = Bytes { counts };
     met.meet_all(items);
     for known in ids {
         if known.slot.is_some() {
             met.take(known.text.as_str(), known.uses);
         }
     }
-    Ok(met)
+    met.by_place(alloc)
 }
