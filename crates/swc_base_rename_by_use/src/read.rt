@@ -45,7 +45,7 @@ fn takes(kind: ScopeKind, standing: Standing) -> bool {
 }
 
 // Where the id of a name is declared by it.
-fn declared(regions: &[Region], name: &Name<'_>) -> Declared {
+fn declaring_scope(regions: &[Region], name: &Name<'_>) -> Declared {
     if !is_binding(name.standing) || name.ident.sym.as_str() == "arguments" {
         return Declared::Nowhere;
     }
@@ -70,7 +70,7 @@ fn part_of<'a>(alloc: Global, layout: Layout<'a>, ids: &mut Ids<'a>) -> Result<P
     for position in 0..layout.names.len() {
         let name = &layout.names[position];
         numbers.push(ids.meet(name)?)?;
-        match declared(layout.regions.as_slice(), name) {
+        match declaring_scope(layout.regions.as_slice(), name) {
             Declared::Nowhere => {}
             Declared::AtTop => at_top.push(position)?,
             Declared::In(scope) => sites.push((scope, position))?,
