@@ -5,7 +5,7 @@ ghost use Rattle.text_follow.specs.Follows.{Takes};
 ghost use Rattle.text_follow.specs.Follows.{fresh_behind as is_fresh_behind};
 ghost use Rattle.text_follow.specs.Readers.{IsFront, IsKnown, IsOver, ReadsOn};
 ghost use Rattle.text_follow.specs.Stands.{BeginsAt, HasName, IsAt, IsSo, Says};
-ghost use Rattle.text_pieces.specs.Tokens.{named, piece_view};
+ghost use Rattle.text_pieces.specs.Tokens.{begins, frame, named, piece_view, stops};
 
 use crate::ending::ending_behind;
 use crate::follow::{fresh_behind, read, take};
@@ -237,6 +237,38 @@ impl<'t> Reader<'t> {
             }
             None => false,
         }
+    }
+
+    /// Whether the next token begins at a place. Where it does is kept, since most nodes begin with another.
+    #[inline]
+    pub fn begins_at(&mut self, at: usize) -> bool
+        ensures { IsTrue result → ReadsOn self.old (frame (begins at) ∷ []) self.new }
+    {
+        let place = self.place;
+        let known = before_next(
+            place.known,
+            self.whole,
+            self.comments,
+            place.fresh,
+            place.rest,
+        );
+        self.place.known = known;
+        begins_behind(
+            known,
+            self.whole,
+            self.comments,
+            place.fresh,
+            place.rest,
+            at,
+        )
+    }
+
+    /// Whether the last token has ended before a place.
+    #[inline]
+    pub fn stops_at(&self, at: usize) -> bool
+        ensures { IsTrue result → ReadsOn self.now (frame (stops at) ∷ []) self.now }
+    {
+        is_at(self.whole, self.place.rest, at)
     }
 
     /// Whether no token is left.

@@ -7,7 +7,7 @@ ghost use Rattle.text_pieces.specs.Frames as spec;
 ghost use Rattle.text_walk.specs.Sinks.{Gains};
 
 use crate::leaf::field_at;
-use crate::sink::{Refusal, Sink, push};
+use crate::sink::{Refusal, Sink, begin, push, stop};
 use swc_tree_marks::Span;
 use swc_tree_node::{Kind, Node};
 use text_lexer::TemplatePart;
@@ -18,7 +18,7 @@ pub(crate) fn push_begun<'a>(span: Option<Span>, found: &mut Sink<'a>) -> Result
     ensures { OnOk result (Gains found.old (spec.begun span) found.new) }
 {
     match span {
-        Some(span) => push(found, Piece::Frame(Frame::Begins(span.lo as usize))),
+        Some(span) => begin(found, span.lo as usize),
         None => Ok(()),
     }
 }
@@ -28,7 +28,7 @@ pub(crate) fn push_stopped<'a>(span: Option<Span>, found: &mut Sink<'a>) -> Resu
     ensures { OnOk result (Gains found.old (spec.stopped span) found.new) }
 {
     match span {
-        Some(span) => push(found, Piece::Frame(Frame::Stops(span.hi as usize))),
+        Some(span) => stop(found, span.hi as usize),
         None => Ok(()),
     }
 }
@@ -121,10 +121,7 @@ pub(crate) fn push_text_begun<'a>(span: Option<Span>, found: &mut Sink<'a>) -> R
     ensures { OnOk result (Gains found.old (spec.text_begun span) found.new) }
 {
     match span {
-        Some(span) => push(
-            found,
-            Piece::Frame(Frame::Begins((span.lo as usize).saturating_sub(1))),
-        ),
+        Some(span) => begin(found, (span.lo as usize).saturating_sub(1)),
         None => Ok(()),
     }
 }
@@ -138,10 +135,7 @@ pub(crate) fn push_text_stopped<'a>(
     ensures { OnOk result (Gains found.old (spec.text_stopped part span) found.new) }
 {
     match span {
-        Some(span) => push(
-            found,
-            Piece::Frame(Frame::Stops(span.hi as usize + behind_text(part))),
-        ),
+        Some(span) => stop(found, span.hi as usize + behind_text(part)),
         None => Ok(()),
     }
 }

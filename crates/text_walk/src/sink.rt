@@ -2,12 +2,12 @@
 #![tactic(auto, using(crate::proofs::Sinks::stays))]
 
 ghost use Rattle.std.specs.Prelude.{◌≡◌, ◌++◌, ◌∷◌, [], map, OnOk, if◌then◌else◌};
-ghost use Rattle.text_pieces.specs.Tokens.{piece_view};
+ghost use Rattle.text_pieces.specs.Tokens.{begins, frame, piece_view, stops};
 ghost use Rattle.text_walk.specs.Sinks.{Gains};
 
 use std::alloc::AllocError;
 use text_follow::Reader;
-use text_pieces::Piece;
+use text_pieces::{Frame, Piece};
 
 /// Why no more tokens are taken.
 #[derive(Clone, Copy)]
@@ -44,6 +44,46 @@ pub(crate) fn push<'a>(found: &mut Sink<'a>, piece: Piece<'a>) -> Result<(), Ref
         },
         Sink::Text(reader) => {
             if reader.read_on(piece) {
+                Ok(())
+            } else {
+                Err(Refusal::OtherText)
+            }
+        }
+    }
+}
+
+/// Takes where a node begins.
+#[inline]
+pub(crate) fn begin(found: &mut Sink<'_>, at: usize) -> Result<(), Refusal>
+    ensures { OnOk result (Gains found.old (frame (begins at) ∷ []) found.new) }
+{
+    match found {
+        Sink::List(list) => match keep(list, Piece::Frame(Frame::Begins(at))) {
+            Ok(()) => Ok(()),
+            Err(_) => Err(Refusal::NoMemory),
+        },
+        Sink::Text(reader) => {
+            if reader.begins_at(at) {
+                Ok(())
+            } else {
+                Err(Refusal::OtherText)
+            }
+        }
+    }
+}
+
+/// Takes where a node stops.
+#[inline]
+pub(crate) fn stop(found: &mut Sink<'_>, at: usize) -> Result<(), Refusal>
+    ensures { OnOk result (Gains found.old (frame (stops at) ∷ []) found.new) }
+{
+    match found {
+        Sink::List(list) => match keep(list, Piece::Frame(Frame::Stops(at))) {
+            Ok(()) => Ok(()),
+            Err(_) => Err(Refusal::NoMemory),
+        },
+        Sink::Text(reader) => {
+            if reader.stops_at(at) {
                 Ok(())
             } else {
                 Err(Refusal::OtherText)
