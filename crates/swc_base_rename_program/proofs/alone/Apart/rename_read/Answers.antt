@@ -15,7 +15,7 @@ returns-in_err-table-clause-refused g c =
     let self = c.args.self.now in
     let text = g.T.NewTexts.text self.texts.now in
     let keeps = contains same_id self.preserved.now in
-    let refused = err_from_is_err_and c.from_residual-in_err-table.result c.from_residual-in_err-table.ensures.1 in
+    let refused = err_from_is_err_and c.from_residual.result c.from_residual.ensures.1 in
     rw (refused.1, refused.2) (subst (λ k. IsNameRefusal (renaming text self.mode k) (IsLeft c.args.unit self.left.now) c.args.unit c.in_err-table.field-0.0) (just_preserved keeps)
     (refused_texts text self.mode _ c.args.unit c.args.analysis.now c.requires self.left.now c.in_err-table.field-0.0 c.in_err-table.ensures.refused))
 
