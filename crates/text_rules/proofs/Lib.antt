@@ -2,3 +2,4 @@ mod Sound
 mod Derived
 mod Worded
 mod Node
+mod Bare

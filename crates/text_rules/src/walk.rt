@@ -1,8 +1,10 @@
 //! Goes through a tree by the three kinds of rules at once.
 ghost use Rattle.std.specs.Prelude.{◌≡◌, IsTrue, List, true};
-ghost use Rattle.swc_tree_node.specs.declared.node.Node.{List as Many, Tree};
+ghost use Rattle.std.specs.List.{list_all};
+ghost use Rattle.swc_tree_node.specs.declared.node.Node.{List as Many, Tree, out-Node};
 ghost use Rattle.text_pinned.specs.Words.{is_name};
 ghost use Rattle.text_rules.specs.Asked.{AreKept, Holds, IsAsAsked, IsFound, IsMet, leaf_derives, leaf_sounds, name_sounds};
+ghost use Rattle.text_rules.specs.Bare as spec;
 
 use crate::asked::{Asked, Rules};
 use crate::{grammar, words, writing};
@@ -84,6 +86,53 @@ fn asked_at(rules: &Rules, index: usize, node: &Node) -> Asked
     }
 }
 
+fn is_leaf(node: &Node) -> bool
+    ensures { result ≡ spec.is_leaf (out-Node node.now) }
+{
+    match node {
+        Node::Absent | Node::Flag(_) | Node::Word(_) | Node::Text(_) | Node::Span(_) => true,
+        Node::Identifier(..) | Node::List(_) | Node::Tree(..) => false,
+    }
+}
+
+fn are_leaves(nodes: &[Node]) -> bool
+    ensures { result ≡ list_all (λ t. spec.is_leaf (out-Node t)) nodes.now }
+{
+    nodes.iter().all(|node| is_leaf(node))
+}
+
+// Whether trees of a kind are one token: of these no rule asks anything.
+fn is_bare(kind: Kind) -> bool
+    ensures { result ≡ spec.is_bare kind }
+{
+    matches!(
+        kind,
+        Kind::IdentName
+            | Kind::PrivateName
+            | Kind::Str
+            | Kind::Bool
+            | Kind::Null
+            | Kind::Number
+            | Kind::BigInt
+            | Kind::Regex
+            | Kind::TplElement
+            | Kind::ThisExpr
+            | Kind::Super
+            | Kind::EmptyStmt
+    )
+}
+
+// Whether a tree is one token, so that it is as asked without a look at rules.
+fn is_token(kind: Kind, fields: &[Node], asked: Asked) -> bool
+    requires { IsFound asked }
+    ensures { IsTrue result → IsAsAsked asked (Tree kind fields.now) }
+{
+    if asked.writing.in_head || asked.grammar.in_chain {
+        return false;
+    }
+    is_bare(kind) && are_leaves(fields)
+}
+
 /// Whether a node is as asked.
 #[cycle(walk)]
 pub fn is_as_asked(node: &Node, asked: Asked) -> bool
@@ -100,11 +149,23 @@ pub fn is_as_asked(node: &Node, asked: Asked) -> bool
         }
         Node::Tree(kind, fields) => {
             let fields = fields.as_slice();
-            let rules = rules_of_tree(*kind, fields, asked);
-            are_kept(&rules, fields)
+            is_tree_as_asked(*kind, fields, asked)
         }
         _ => is_leaf_as_asked(asked),
     }
+}
+
+// Whether a tree is.
+#[cycle(walk)]
+fn is_tree_as_asked(kind: Kind, fields: &[Node], asked: Asked) -> bool
+    requires { IsFound asked }
+    ensures { IsTrue result → IsAsAsked asked (Tree kind fields.now) }
+{
+    if is_token(kind, fields, asked) {
+        return true;
+    }
+    let rules = rules_of_tree(kind, fields, asked);
+    are_kept(&rules, fields)
 }
 
 // Whether rules hold, and each of several nodes is as they ask.

@@ -28,4 +28,4 @@ is_as_asked-returns-in-List t c held =
 pub is_as_asked-returns-in-Tree : goal.is_as_asked-returns-in-Tree
 is_as_asked-returns-in-Tree t c held =
     subst (λ u. IsAsAsked c.args.asked u) (sym (c.in-Tree.is ∙ ap (λ ts. Tree c.in-Tree.kind ts) (sym c.as_slice-fields.ensures)))
-    (c.rules_of_tree-rules.ensures (c.are_kept-in-Tree.ensures held))
+    (c.is_tree_as_asked.ensures held)
