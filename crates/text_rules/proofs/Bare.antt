@@ -30,16 +30,17 @@ use Rattle.text_pinned.specs.declared.words.Words.{Words}
 use Rattle.text_pinned.specs.Words.{all_meet as all_worded, ask_at as worded_at, fits, meets as meets_words, throughout}
 use Rattle.text_pinned.proofs.Read.{fits_of_tree}
 use Rattle.text_rules.specs.declared.asked.Asked.{Asked}
-use Rattle.text_rules.specs.Asked.{IsAsAsked, IsFound}
+use Rattle.text_rules.specs.declared.asked.Rules.{Rules}
+use Rattle.text_rules.specs.Asked.{IsAsAsked, IsFound, IsMet}
 use Rattle.text_rules.specs.Bare.{is_bare, is_leaf}
 
 -- ---- leaves
 
-record IsLeaf (t : Node) : Type 0 where
+pub record IsLeaf (t : Node) : Type 0 where
   shown : has_kind is_private_name t ≡ false
   sound : (h : Bool) (q : Round) → sounds t h q ≡ not h
   made : (h : Bool) (c : Context) → derived t h c ≡ not h
-  worded : (w : Words) → fits t w ≡ true
+  pub worded : (w : Words) → fits t w ≡ true
 
 absent_shown : has_kind is_private_name Absent ≡ false
 absent_shown = search (rules, the_lemmas)
@@ -105,7 +106,7 @@ span_worded x w = search (rules, the_lemmas)
 rolled : (t : Node) (y : Node-F Node) → out-Node t ≡ y → t ≡ roll-Node y
 rolled t y e = sym (roll-out-Node t) ∙ ap roll-Node e
 
-leaf : (t : Node) → is_leaf (out-Node t) ≡ true → IsLeaf t
+pub leaf : (t : Node) → is_leaf (out-Node t) ≡ true → IsLeaf t
 leaf t e = by (out-Node t) refl e
   where
     by : (y : Node-F Node) → out-Node t ≡ y → is_leaf y ≡ true → IsLeaf t
@@ -155,6 +156,14 @@ leaves_worded asks (t ∷ ts) e =
     let l = leaf t one in
     let now : meets_words (asks zero) (fits t) ≡ true = ap (λ b. not (asks zero).asks || b) (l.worded (asks zero).words) ∙ or_true (not (asks zero).asks) in
     ap (λ b. b && all_worded (λ i. asks (suc i)) ts) now ∙ leaves_worded (λ i. asks (suc i)) ts others
+
+-- one of which nothing is asked is as asked
+pub idle_met : (r : Rules) (i : ℕ) (t : Node) → is_leaf (out-Node t) ≡ true → sound_at r.writing.row i ≡ sound_ask.Nothing → derived_at r.grammar.row i ≡ derived_ask.Nothing → IsMet r i t
+idle_met r i t e s d = record {
+  writing = ap (λ a. meets_sound a t (sounds t)) s;
+  grammar = ap (λ a. meets_derived a t (derived t)) d;
+  words = ap (λ b. not (worded_at r.words i).asks || b) ((leaf t e).worded (worded_at r.words i).words) ∙ or_true (not (worded_at r.words i).asks);
+}
 
 -- ---- a tree
 

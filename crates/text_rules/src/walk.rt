@@ -2,6 +2,10 @@
 ghost use Rattle.std.specs.Prelude.{◌≡◌, IsTrue, List, true};
 ghost use Rattle.std.specs.List.{list_all};
 ghost use Rattle.swc_tree_node.specs.declared.node.Node.{List as Many, Tree, out-Node};
+ghost use Rattle.swc_base_writable_rules.specs.Asks.{ask_at as sound_at};
+ghost use Rattle.swc_base_writable_rules.specs.declared.ask.Ask.TheVariants as SoundAsk;
+ghost use Rattle.text_derives.specs.Asks.{ask_at as derived_at};
+ghost use Rattle.text_derives.specs.declared.ask.Ask.TheVariants as DerivedAsk;
 ghost use Rattle.text_pinned.specs.Words.{is_name};
 ghost use Rattle.text_rules.specs.Asked.{AreKept, Holds, IsAsAsked, IsFound, IsMet, leaf_derives, leaf_sounds, name_sounds};
 ghost use Rattle.text_rules.specs.Bare as spec;
@@ -133,6 +137,34 @@ fn is_token(kind: Kind, fields: &[Node], asked: Asked) -> bool
     is_bare(kind) && are_leaves(fields)
 }
 
+fn asks_no_sound(rules: &Rules, index: usize) -> bool
+    ensures { IsTrue result → sound_at rules.now.writing.row index ≡ SoundAsk.Nothing }
+{
+    matches!(
+        rules.writing.row.at(index),
+        swc_base_writable_rules::Ask::Nothing
+    )
+}
+
+fn asks_no_derivation(rules: &Rules, index: usize) -> bool
+    ensures { IsTrue result → derived_at rules.now.grammar.row index ≡ DerivedAsk.Nothing }
+{
+    matches!(rules.grammar.row.at(index), text_derives::Ask::Nothing)
+}
+
+// Whether the child of a number is a leaf of which nothing is asked, as most leaves are.
+fn is_idle(rules: &Rules, index: usize, node: &Node) -> bool
+    ensures { IsTrue result → IsMet rules.now index node.now }
+{
+    if !is_leaf(node) {
+        return false;
+    }
+    if !asks_no_sound(rules, index) {
+        return false;
+    }
+    asks_no_derivation(rules, index)
+}
+
 /// Whether a node is as asked.
 #[cycle(walk)]
 pub fn is_as_asked(node: &Node, asked: Asked) -> bool
@@ -168,6 +200,17 @@ fn is_tree_as_asked(kind: Kind, fields: &[Node], asked: Asked) -> bool
     are_kept(&rules, fields)
 }
 
+// Whether the child of a number is as rules ask.
+#[cycle(walk)]
+fn is_met(rules: &Rules, index: usize, node: &Node) -> bool
+    ensures { IsTrue result → IsMet rules.now index node.now }
+{
+    if is_idle(rules, index, node) {
+        return true;
+    }
+    is_as_asked(node, asked_at(rules, index, node))
+}
+
 // Whether rules hold, and each of several nodes is as they ask.
 #[cycle(walk)]
 fn are_kept(rules: &Rules, nodes: &[Node]) -> bool
@@ -177,8 +220,7 @@ fn are_kept(rules: &Rules, nodes: &[Node]) -> bool
         return false;
     }
     for i in 0..nodes.len() {
-        let node = &nodes[i];
-        if !is_as_asked(node, asked_at(rules, i, node)) {
+        if !is_met(rules, i, &nodes[i]) {
             return false;
         }
     }

@@ -13,7 +13,7 @@ pub are_kept-loop-i-preserved : goal.are_kept-loop-i-preserved
 are_kept-loop-i-preserved t c =
     let node = c.index-nodes-i.result in
     let here = slice_get_read c.args.nodes.now _ c.loop-i.i node refl (omega arith) c.index-nodes-i.is in
-    one_more c.args.rules.now c.args.nodes.now c.loop-i.i node here c.loop-i.invariant (c.asked_at.ensures (c.is_as_asked.ensures c.if-not-is_as_asked.false))
+    one_more c.args.rules.now c.args.nodes.now c.loop-i.i node here c.loop-i.invariant (c.is_met.ensures c.if-not-is_met.false)
 
 pub are_kept-returns : goal.are_kept-returns
 are_kept-returns t c held =
