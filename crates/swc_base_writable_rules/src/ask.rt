@@ -41,6 +41,7 @@ pub enum Row {
 
 impl Row {
     /// What is asked of a child.
+    #[inline]
     pub fn at(self, index: usize) -> Ask
         ensures { result ≡ ask_at self index }
     {

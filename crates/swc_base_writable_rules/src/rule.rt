@@ -75,6 +75,7 @@ fn are_local(specifiers: &Node) -> bool
 }
 
 // Of imports, exports and programs, and of all of which no more is asked than that its fields are sound and no private names.
+#[inline(never)]
 fn whole_rule(kind: Kind, fields: &[Node], round: Round) -> Rule
     ensures { result ≡ whole_rule_of round (Node-F.Tree kind fields.now) }
 {
@@ -134,6 +135,7 @@ fn script_rule(body: &Node, round: Round) -> Rule
 }
 
 // Of statements, or what `whole_rule` says.
+#[inline(never)]
 fn statement_rule(kind: Kind, fields: &[Node], round: Round) -> Rule
     ensures { result ≡ statement_rule_of round (Node-F.Tree kind fields.now) }
 {
@@ -206,6 +208,7 @@ fn branches(round: Round) -> Row
 }
 
 // Of loops, or what `whole_rule` says.
+#[inline(never)]
 fn loop_rule(kind: Kind, fields: &[Node], round: Round) -> Rule
     ensures { result ≡ loop_rule_of round (Node-F.Tree kind fields.now) }
 {
@@ -297,6 +300,7 @@ fn setter_rule(param: &Node, body: &Node, round: Round) -> Rule
 }
 
 // Of functions and what has the parameters and the body of one, or what `statement_rule` says.
+#[inline(never)]
 fn function_rule(kind: Kind, fields: &[Node], round: Round) -> Rule
     ensures { result ≡ function_rule_of round (Node-F.Tree kind fields.now) }
 {
@@ -340,6 +344,7 @@ fn function_rule(kind: Kind, fields: &[Node], round: Round) -> Rule
 }
 
 // Of classes, their members, and what has a name of its own, or what `function_rule` says.
+#[inline(never)]
 fn member_rule(kind: Kind, fields: &[Node], round: Round) -> Rule
     ensures { result ≡ member_rule_of round (Node-F.Tree kind fields.now) }
 {
@@ -387,6 +392,7 @@ fn member_rule(kind: Kind, fields: &[Node], round: Round) -> Rule
 }
 
 // Of patterns and declarations, or what `member_rule` says.
+#[inline(never)]
 fn pattern_rule(kind: Kind, fields: &[Node], round: Round) -> Rule
     ensures { result ≡ pattern_rule_of round (Node-F.Tree kind fields.now) }
 {
@@ -435,6 +441,7 @@ fn pattern_rule(kind: Kind, fields: &[Node], round: Round) -> Rule
 }
 
 // Of declarations, or what `member_rule` says.
+#[inline(never)]
 fn declaration_rule(kind: Kind, fields: &[Node], round: Round) -> Rule
     ensures { result ≡ declaration_rule_of round (Node-F.Tree kind fields.now) }
 {
@@ -523,6 +530,7 @@ fn rule_for(kind: Kind, fields: &[Node], round: Round) -> Rule
 }
 
 // Of a declaration in the head of a `for` in or of.
+#[inline(never)]
 fn head_rule(kind: Kind, fields: &[Node], round: Round) -> Rule
     ensures { result ≡ head_rule_of round (Node-F.Tree kind fields.now) }
 {

@@ -67,6 +67,7 @@ impl ShortText {
         ensures { result.now ≡ self.now }
     {
         let bytes = &self.bytes[..usize::from(self.len)];
+        // SAFETY: these bytes are UTF-8 by the invariant of the type; that this is asked and holds is proved.
         unsafe { str::from_utf8_unchecked(bytes) }
     }
 }

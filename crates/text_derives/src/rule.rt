@@ -66,6 +66,7 @@ fn plain(context: Context) -> Ask
 }
 
 // Of programs and specifiers, and of all of which nothing is asked but that its fields are derived.
+#[inline(never)]
 fn whole_rule(kind: Kind, fields: &[Node], context: Context) -> Rule
     ensures { result ≡ spec.whole_rule context (Node-F.Tree kind fields.now) }
 {
@@ -96,6 +97,7 @@ fn script_rule(body: &Node, context: Context) -> Rule
 }
 
 // Of loops, or what `whole_rule` says.
+#[inline(never)]
 fn loop_rule(kind: Kind, fields: &[Node], context: Context) -> Rule
     ensures { result ≡ spec.loop_rule context (Node-F.Tree kind fields.now) }
 {
@@ -205,6 +207,7 @@ fn if_rule(cons: &Node, alt: &Node, context: Context) -> Rule
 }
 
 // Of other statements, or what `loop_rule` says.
+#[inline(never)]
 fn statement_rule(kind: Kind, fields: &[Node], context: Context) -> Rule
     ensures { result ≡ spec.statement_rule context (Node-F.Tree kind fields.now) }
 {
@@ -251,6 +254,7 @@ fn statement_rule(kind: Kind, fields: &[Node], context: Context) -> Rule
 }
 
 // Of declarations and patterns, or what `statement_rule` says.
+#[inline(never)]
 fn pattern_rule(kind: Kind, fields: &[Node], context: Context) -> Rule
     ensures { result ≡ spec.pattern_rule context (Node-F.Tree kind fields.now) }
 {
@@ -295,6 +299,7 @@ fn pattern_rule(kind: Kind, fields: &[Node], context: Context) -> Rule
 }
 
 // Of declarations, or what `statement_rule` says.
+#[inline(never)]
 fn declaration_rule(kind: Kind, fields: &[Node], context: Context) -> Rule
     ensures { result ≡ spec.declaration_rule context (Node-F.Tree kind fields.now) }
 {
@@ -372,6 +377,7 @@ fn class_row(context: Context) -> Row
 }
 
 // Of functions and classes, or what `pattern_rule` says.
+#[inline(never)]
 fn function_rule(kind: Kind, fields: &[Node], context: Context) -> Rule
     ensures { result ≡ spec.function_rule context (Node-F.Tree kind fields.now) }
 {
@@ -415,6 +421,7 @@ fn function_rule(kind: Kind, fields: &[Node], context: Context) -> Rule
 }
 
 // Of parts of expressions, or what `function_rule` says.
+#[inline(never)]
 fn part_rule(kind: Kind, fields: &[Node], context: Context) -> Rule
     ensures { result ≡ spec.part_rule context (Node-F.Tree kind fields.now) }
 {
@@ -474,6 +481,7 @@ fn new_row(args: &Node, context: Context) -> Row
 }
 
 // Of members and calls, or what `part_rule` says.
+#[inline(never)]
 fn call_rule(kind: Kind, fields: &[Node], context: Context) -> Rule
     ensures { result ≡ spec.call_rule context (Node-F.Tree kind fields.now) }
 {
@@ -562,6 +570,7 @@ fn rule_for(kind: Kind, fields: &[Node], context: Context) -> Rule
 }
 
 // Of the base of an optional chain.
+#[inline(never)]
 fn chain_rule(kind: Kind, fields: &[Node], context: Context) -> Rule
     ensures { result ≡ spec.chain_rule context (Node-F.Tree kind fields.now) }
 {

@@ -313,6 +313,7 @@ fn take_hashbang<'a>(fresh: bool, text: &'a [u8], wanted: &str) -> Option<&'a [u
 }
 
 // The same of any piece, whatever its first bytes are.
+#[inline(never)]
 fn take_any<'a>(
     comments: Comments,
     soft: bool,

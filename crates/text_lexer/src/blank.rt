@@ -81,6 +81,8 @@ fn skip_block(ended: bool, text: &[u8]) -> Skip<'_>
 
 /// The same of a place, whatever byte stands there.
 #[tactic(auto, unfolding(crate::specs::Blanks::skip_piece))]
+#[cold]
+#[inline(never)]
 fn other_piece(comments: Comments, ended: bool, text: &[u8]) -> Skip<'_>
     ensures value { skip_view result ≡ spec.skip_piece comments ended text.now }
     ensures within { IsShorterWhere (λ n. n ≤ length text.now) (skip_view result) }
@@ -117,6 +119,8 @@ pub fn skip_piece(comments: Comments, ended: bool, text: &[u8]) -> Skip<'_>
 
 /// The same where anything may stand at the front.
 #[tactic(auto, using(crate::proofs::Walks::blank_from_past, std::proofs::lemmas::Grind::common_steps))]
+#[cold]
+#[inline(never)]
 fn other_blank(comments: Comments, fresh: bool, text: &[u8]) -> Option<(bool, &[u8])>
     ensures value { option_map (λ p. (p.0, p.1.now)) result ≡ spec.blank comments fresh text.now }
     ensures within { IfSome result (λ p. length p.1.now ≤ length text.now) }

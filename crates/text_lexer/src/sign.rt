@@ -112,6 +112,7 @@ fn sign_at(goal: Goal, text: &[u8]) -> Result<(Token<'_>, &[u8]), Fault>
 
 /// The same of any text.
 #[tactic(auto, unfolding(crate::specs::Lexical::token_at))]
+#[inline(never)]
 fn other_token(goal: Goal, text: &[u8]) -> Result<(Token<'_>, &[u8]), Fault>
     ensures value { map_ok (λ p. (token_view p.0, p.1.now)) result ≡ spec.token_at goal text.now }
     ensures shorter { 0 < length text.now → IfOk result (λ p. length p.1.now < length text.now) }

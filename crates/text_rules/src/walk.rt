@@ -90,6 +90,7 @@ fn asked_at(rules: &Rules, index: usize, node: &Node) -> Asked
     }
 }
 
+// Whether a node has no nodes below it and is no identifier.
 fn is_leaf(node: &Node) -> bool
     ensures { result ≡ spec.is_leaf (out-Node node.now) }
 {
