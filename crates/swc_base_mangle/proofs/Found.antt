@@ -1,11 +1,9 @@
 -- What is found of strays is what the definitions say.
-use Rattle.std.proofs.Common.{◌≡◌, ℕ, Bool, true, false, not, ◌||◌, IsTrue, ◌⊎◌, ◌↔◌, inl, inr, ⊎_elim, Some, List, [], refl, sym, ap, ◌∙◌}
-use Rattle.swc_tree_marks.specs.declared.ident.Ident.{Ident}
-use Rattle.swc_tree_node.specs.declared.kind.Kind.{Kind}
+use Rattle.std.proofs.Common.{◌≡◌, Bool, true, false, not, ◌||◌, IsTrue, ◌⊎◌, ◌↔◌, inl, inr, ⊎_elim, Some, List, [], refl, sym, ap, ◌∙◌}
 use Rattle.swc_tree_node.specs.declared.node.Node.{Node}
 use Rattle.swc_tree_scoping.specs.declared.places.Place.{Place}
 use Rattle.swc_tree_scoping.specs.declared.places.Scope.TheVariants as scope
-use Rattle.swc_tree_scoping.specs.Places.{Path, opened, opened_in, program_place}
+use Rattle.swc_tree_scoping.specs.Places.{opened, opened_in, program_place}
 use Rattle.swc_tree_scoping.specs.Resolved.{is_script}
 use Rattle.swc_tree_renaming.specs.Apart.{DeclaresNoGlobalValue, HasNoSloppy}
 use Rattle.swc_tree_renaming.proofs.Whole.{script_layer}

@@ -17,8 +17,8 @@ leads_twice n c soft p q r ps qs one other rs h =
     subst (λ l. StandsFrom n c soft p.fresh p.ending l p.rest.now) (sym (append_assoc ps qs rs)) (one (qs ++ rs) (other rs h))
 
 -- the same with the numbers of another reader
-known_by : (n m : ℕ) (c d : Comments) (p : Place) → n ≡ m → c ≡ d → IsKnown n c p → IsKnown m d p
-known_by n m c d p same alike k = subst (λ d. IsKnown m d p) alike (subst (λ m. IsKnown m c p) same k)
+known_by : (c d : Comments) (p : Place) → c ≡ d → IsKnown c p → IsKnown d p
+known_by c d p alike k = subst (λ d. IsKnown d p) alike k
 
 leads_by : (n m : ℕ) (c d : Comments) (soft hard : Bool) (p : Place) (ps : List Piece) (q : Place) → n ≡ m → c ≡ d → soft ≡ hard → Leads n c soft p ps q → Leads m d hard p ps q
 leads_by n m c d soft hard p ps q same alike both h =
@@ -29,16 +29,16 @@ reads_on_twice s t u ps qs one other = record {
   whole = other.whole ∙ one.whole;
   comments = other.comments ∙ one.comments;
   soft = other.soft ∙ one.soft;
-  known = λ k. known_by t.whole s.whole t.comments s.comments u.place one.whole one.comments (other.known (known_by s.whole t.whole s.comments t.comments t.place (sym one.whole) (sym one.comments) (one.known k)));
+  known = λ k. known_by t.comments s.comments u.place one.comments (other.known (known_by s.comments t.comments t.place (sym one.comments) (one.known k)));
   leads = λ k. leads_twice s.whole s.comments s.soft s.place t.place u.place ps qs (one.leads k)
-      (leads_by t.whole s.whole t.comments s.comments t.soft s.soft t.place qs u.place one.whole one.comments one.soft (other.leads (known_by s.whole t.whole s.comments t.comments t.place (sym one.whole) (sym one.comments) (one.known k))));
+      (leads_by t.whole s.whole t.comments s.comments t.soft s.soft t.place qs u.place one.whole one.comments one.soft (other.leads (known_by s.comments t.comments t.place (sym one.comments) (one.known k))));
 }
 
 end_by : (n m : ℕ) (c d : Comments) (soft hard fresh : Bool) (e : Ending) (text : List ℕ) → n ≡ m → c ≡ d → soft ≡ hard → StandsFrom n c soft fresh e [] text → StandsFrom m d hard fresh e [] text
 end_by n m c d soft hard fresh e text same alike both h =
     subst (λ b. StandsFrom m d b fresh e [] text) both (subst (λ d. StandsFrom m d soft fresh e [] text) alike (subst (λ m. StandsFrom m c soft fresh e [] text) same h))
 
-stands_from : (old new : Reader) (ps : List Piece) → ReadsOn old ps new → IsKnown old.whole old.comments old.place → IsOver new
+stands_from : (old new : Reader) (ps : List Piece) → ReadsOn old ps new → IsKnown old.comments old.place → IsOver new
     → StandsFrom old.whole old.comments old.soft old.place.fresh old.place.ending ps old.place.rest.now
 stands_from old new ps read known end =
     subst (λ l. StandsFrom old.whole old.comments old.soft old.place.fresh old.place.ending l old.place.rest.now) (append-nil ps)
@@ -47,7 +47,7 @@ stands_from old new ps read known end =
 -- a text that is read from its front past these pieces, with no token left, has them, and their frames say what is so
 pub read_whole : (c : Comments) (soft : Bool) (text : List ℕ) (old new : Reader) (ps : List Piece) → IsFront c soft text old → ReadsOn old ps new → IsOver new → Stands c soft ps text
 read_whole c soft text old new ps front read end =
-    let known : IsKnown old.whole old.comments old.place = known_by (length text) old.whole c old.comments old.place (sym front.whole) (sym front.comments) front.known in
+    let known : IsKnown old.comments old.place = known_by c old.comments old.place (sym front.comments) front.known in
     let stood : StandsFrom old.whole old.comments old.soft old.place.fresh old.place.ending ps old.place.rest.now = stands_from old new ps read known end in
     let at : StandsFrom old.whole old.comments old.soft old.place.fresh old.place.ending ps text = subst (λ l. StandsFrom old.whole old.comments old.soft old.place.fresh old.place.ending ps l) front.rest stood in
     let closed : StandsFrom old.whole old.comments old.soft old.place.fresh ending.Closed ps text = subst (λ e. StandsFrom old.whole old.comments old.soft old.place.fresh e ps text) front.ending at in

@@ -11,9 +11,9 @@ use text_characters::past_byte;
 use text_lexer::{Comments, Goal, Mark, plain_mark, plain_name, skip_blank};
 use text_pieces::{Ending, Piece};
 
-// What is left behind a name, if a text plainly begins with it.
+/// What is left behind a name, if a text plainly begins with it.
 #[inline]
-fn behind_name<'a>(text: &'a [u8], wanted: &str) -> Option<&'a [u8]>
+pub(crate) fn behind_name<'a>(text: &'a [u8], wanted: &str) -> Option<&'a [u8]>
     ensures { IfSome result (λ rest. token_there goal.Div text.now ≡ Ok (token.name wanted.now, rest.now)) }
 {
     let len = plain_name(Goal::Div, text);
@@ -24,9 +24,9 @@ fn behind_name<'a>(text: &'a [u8], wanted: &str) -> Option<&'a [u8]>
     }
 }
 
-// What is left behind a punctuator, if a text plainly begins with it.
+/// What is left behind a punctuator, if a text plainly begins with it.
 #[inline]
-fn behind_mark(text: &[u8], wanted: Mark) -> Option<&[u8]>
+pub(crate) fn behind_mark(text: &[u8], wanted: Mark) -> Option<&[u8]>
     ensures { IfSome result (λ rest. token_there goal.Div text.now ≡ Ok (token.punctuator wanted, rest.now)) }
 {
     let mark = plain_mark(Goal::Div, text)?;

@@ -1,14 +1,16 @@
 //! A text held against the frames of a tree's nodes.
-ghost use Rattle.std.specs.Prelude.{◌≡◌, ◌+◌, ◌∷◌, [], IfSome, IsTrue};
+ghost use Rattle.std.specs.Prelude.{◌≡◌, ◌∷◌, [], None, false, IfSome, IsTrue};
 ghost use Rattle.text_follow.specs.Endings as spec;
-ghost use Rattle.text_follow.specs.Follows.{Takes};
+ghost use Rattle.text_follow.specs.Follows.{Reads, Takes};
 ghost use Rattle.text_follow.specs.Follows.{fresh_behind as is_fresh_behind};
-ghost use Rattle.text_follow.specs.Readers.{IsFront, IsKnown, IsOver, ReadsOn};
+ghost use Rattle.text_follow.specs.Readers.{IsFront, IsKnown, IsNext, IsOver, ReadsOn};
 ghost use Rattle.text_follow.specs.Stands.{BeginsAt, HasName, IsAt, IsSo, Says};
-ghost use Rattle.text_pieces.specs.Tokens.{begins, frame, named, piece_view, stops};
+ghost use Rattle.text_pieces.specs.declared.item.Ending.TheVariants as ending;
+ghost use Rattle.text_pieces.specs.Tokens.{begins, frame, name, named, piece_view, punctuator, stops, word};
 
 use crate::ending::ending_behind;
 use crate::follow::{fresh_behind, read, take};
+use crate::plain::{behind_mark, behind_name};
 use swc_tree_marks::Span;
 use text_lexer::{Comments, Mark, skip_blank};
 use text_pieces::{Ending, Frame, Piece};
@@ -17,51 +19,6 @@ fn is_at(whole: usize, rest: &[u8], place: usize) -> bool
     ensures { IsTrue result → IsAt whole rest.now place }
 {
     0 < place && (place - 1 <= whole && rest.len() == whole - (place - 1))
-}
-
-// How many bytes stand before the next token in a text of so many bytes, of which this is left.
-fn bytes_before(whole: usize, comments: Comments, fresh: bool, text: &[u8]) -> Option<usize>
-    ensures { IfSome result (λ before. BeginsAt whole comments fresh text.now (before + 1)) }
-{
-    let (_, next) = skip_blank(comments, fresh, text)?;
-    if next.len() <= whole {
-        Some(whole - next.len())
-    } else {
-        None
-    }
-}
-
-// The same where it may be known already.
-fn before_next(
-    known: Option<usize>,
-    whole: usize,
-    comments: Comments,
-    fresh: bool,
-    text: &[u8],
-) -> Option<usize>
-    ensures { IfSome known (λ before. BeginsAt whole comments fresh text.now (before + 1)) → IfSome result (λ before. BeginsAt whole comments fresh text.now (before + 1)) }
-{
-    match known {
-        Some(before) => Some(before),
-        None => bytes_before(whole, comments, fresh, text),
-    }
-}
-
-// Whether the next token begins at a place, where so many bytes are known to stand before it.
-fn begins_behind(
-    known: Option<usize>,
-    whole: usize,
-    comments: Comments,
-    fresh: bool,
-    text: &[u8],
-    place: usize,
-) -> bool
-    ensures { IfSome known (λ before. BeginsAt whole comments fresh text.now (before + 1)) → IsTrue result → BeginsAt whole comments fresh text.now place }
-{
-    match known {
-        Some(before) => 0 < place && place - 1 == before,
-        None => false,
-    }
 }
 
 fn begins_at(whole: usize, comments: Comments, fresh: bool, text: &[u8], place: usize) -> bool
@@ -132,26 +89,90 @@ struct Place<'t> {
     fresh: bool,
     // How what stands before ends.
     ending: Ending,
-    // How many bytes stand before the next token, if that is known: blanks are skipped once, however many nodes begin with it.
-    known: Option<usize>,
+    // What is left behind the blanks here, if that is known: they are skipped once, however many nodes begin with the next token.
+    next: Option<&'t [u8]>,
+}
+
+// Behind a token.
+#[inline]
+fn behind_token(rest: &[u8]) -> Place<'_>
+    ensures rest { result.rest.now ≡ rest.now }
+    ensures fresh { result.fresh ≡ false }
+    ensures ending { result.ending ≡ ending.Open }
+    ensures known { (comments : Comments) → IsKnown comments result }
+{
+    Place {
+        rest,
+        fresh: false,
+        ending: Ending::Open,
+        next: None,
+    }
+}
+
+fn past_blanks(comments: Comments, fresh: bool, text: &[u8]) -> Option<&[u8]>
+    ensures { IfSome result (λ next. IsNext comments fresh text.now next.now) }
+{
+    let (_, next) = skip_blank(comments, fresh, text)?;
+    Some(next)
+}
+
+// What is left behind the blanks at a place.
+#[inline]
+fn next_at<'t>(comments: Comments, place: Place<'t>) -> Option<&'t [u8]>
+    ensures { IsKnown comments place.entry → IfSome result (λ next. IsNext comments place.entry.fresh place.entry.rest.now next.now) }
+{
+    match place.next {
+        Some(next) => Some(next),
+        None => past_blanks(comments, place.fresh, place.rest),
+    }
+}
+
+// The same, if it begins at a place of the text.
+#[inline]
+fn next_if_at<'t>(whole: usize, comments: Comments, place: Place<'t>, at: usize) -> Option<&'t [u8]>
+    ensures next { IsKnown comments place.entry → IfSome result (λ next. IsNext comments place.entry.fresh place.entry.rest.now next.now) }
+    ensures begins { IfSome result (λ next. IsAt whole next.now at) }
+{
+    let next = next_at(comments, place)?;
+    if is_at(whole, next, at) {
+        Some(next)
+    } else {
+        None
+    }
+}
+
+// What is left behind a punctuator, if the first bytes of the next token tell that it is that.
+#[inline]
+fn behind_mark_at<'t>(comments: Comments, place: Place<'t>, mark: Mark) -> Option<&'t [u8]>
+    ensures { IsKnown comments place.entry → IfSome result (λ rest. Reads comments place.entry.fresh place.entry.rest.now (punctuator mark) rest.now) }
+{
+    let next = next_at(comments, place)?;
+    behind_mark(next, mark)
+}
+
+// What is left behind a word, whether as a name or not, if the first bytes of the next token tell that it is that.
+#[inline]
+fn behind_name_at<'t>(comments: Comments, place: Place<'t>, text: &str) -> Option<&'t [u8]>
+    ensures words { IsKnown comments place.entry → IfSome result (λ rest. Reads comments place.entry.fresh place.entry.rest.now (word text.now) rest.now) }
+    ensures names { IsKnown comments place.entry → IfSome result (λ rest. Reads comments place.entry.fresh place.entry.rest.now (name text.now) rest.now) }
+{
+    let next = next_at(comments, place)?;
+    behind_name(next, text)
 }
 
 fn begin<'t>(whole: usize, comments: Comments, place: Place<'t>, at: usize) -> Option<Place<'t>>
-    ensures begins { IsKnown whole comments place.entry → IfSome result (λ next. BeginsAt whole comments place.entry.fresh place.entry.rest.now at) }
+    ensures begins { IsKnown comments place.entry → IfSome result (λ next. BeginsAt whole comments place.entry.fresh place.entry.rest.now at) }
     ensures rest { IfSome result (λ next. next.rest.now ≡ place.entry.rest.now) }
     ensures fresh { IfSome result (λ next. next.fresh ≡ place.entry.fresh) }
     ensures ending { IfSome result (λ next. next.ending ≡ place.entry.ending) }
-    ensures known { IsKnown whole comments place.entry → IfSome result (IsKnown whole comments) }
+    ensures known { IsKnown comments place.entry → IfSome result (IsKnown comments) }
 {
-    let known = before_next(place.known, whole, comments, place.fresh, place.rest);
-    if !begins_behind(known, whole, comments, place.fresh, place.rest, at) {
-        return None;
-    }
+    let next = next_if_at(whole, comments, place, at)?;
     Some(Place {
         rest: place.rest,
         fresh: place.fresh,
         ending: place.ending,
-        known,
+        next: Some(next),
     })
 }
 
@@ -166,7 +187,7 @@ fn pass<'t>(
     ensures takes { IfSome result (λ next. Takes comments soft place.entry.fresh place.entry.ending (piece_view piece.entry) place.entry.rest.now next.rest.now) }
     ensures fresh { IfSome result (λ next. next.fresh ≡ is_fresh_behind place.entry.fresh (piece_view piece.entry)) }
     ensures ending { IfSome result (λ next. next.ending ≡ spec.ending_behind place.entry.ending (piece_view piece.entry)) }
-    ensures known { IfSome result (IsKnown whole comments) }
+    ensures known { IfSome result (IsKnown comments) }
 {
     if !is_so(whole, comments, place.fresh, place.rest, piece) {
         return None;
@@ -176,7 +197,7 @@ fn pass<'t>(
         rest,
         fresh: fresh_behind(place.fresh, piece),
         ending: ending_behind(place.ending, piece),
-        known: None,
+        next: None,
     })
 }
 
@@ -187,11 +208,11 @@ fn step<'t>(
     place: Place<'t>,
     piece: Piece<'_>,
 ) -> Option<Place<'t>>
-    ensures so { IsKnown whole comments place.entry → IfSome result (λ next. IsSo whole comments place.entry.fresh (piece_view piece.entry) place.entry.rest.now) }
+    ensures so { IsKnown comments place.entry → IfSome result (λ next. IsSo whole comments place.entry.fresh (piece_view piece.entry) place.entry.rest.now) }
     ensures takes { IfSome result (λ next. Takes comments soft place.entry.fresh place.entry.ending (piece_view piece.entry) place.entry.rest.now next.rest.now) }
     ensures fresh { IfSome result (λ next. next.fresh ≡ is_fresh_behind place.entry.fresh (piece_view piece.entry)) }
     ensures ending { IfSome result (λ next. next.ending ≡ spec.ending_behind place.entry.ending (piece_view piece.entry)) }
-    ensures known { IsKnown whole comments place.entry → IfSome result (IsKnown whole comments) }
+    ensures known { IsKnown comments place.entry → IfSome result (IsKnown comments) }
 {
     match piece {
         Piece::Frame(Frame::Begins(at)) => begin(whole, comments, place, at),
@@ -221,7 +242,7 @@ impl<'t> Reader<'t> {
                 rest: text,
                 fresh: true,
                 ending: Ending::Closed,
-                known: None,
+                next: None,
             },
         }
     }
@@ -239,28 +260,60 @@ impl<'t> Reader<'t> {
         }
     }
 
-    /// Whether the next token begins at a place. Where it does is kept, since most nodes begin with another.
+    /// The same past a punctuator.
+    #[inline]
+    pub fn read_mark(&mut self, mark: Mark) -> bool
+        ensures { IsTrue result → ReadsOn self.old (punctuator mark ∷ []) self.new }
+    {
+        match behind_mark_at(self.comments, self.place, mark) {
+            Some(rest) => {
+                self.place = behind_token(rest);
+                true
+            }
+            None => self.read_on(Piece::Mark(mark)),
+        }
+    }
+
+    /// The same past a word of the grammar.
+    #[inline]
+    pub fn read_word(&mut self, text: &str) -> bool
+        ensures { IsTrue result → ReadsOn self.old (word text.now ∷ []) self.new }
+    {
+        match behind_name_at(self.comments, self.place, text) {
+            Some(rest) => {
+                self.place = behind_token(rest);
+                true
+            }
+            None => self.read_on(Piece::Word(text)),
+        }
+    }
+
+    /// The same past a name.
+    #[inline]
+    pub fn read_name(&mut self, text: &str) -> bool
+        ensures { IsTrue result → ReadsOn self.old (name text.now ∷ []) self.new }
+    {
+        match behind_name_at(self.comments, self.place, text) {
+            Some(rest) => {
+                self.place = behind_token(rest);
+                true
+            }
+            None => self.read_on(Piece::Name(text)),
+        }
+    }
+
+    /// Whether the next token begins at a place. What is left behind the blanks is kept, since most nodes begin with another.
     #[inline]
     pub fn begins_at(&mut self, at: usize) -> bool
         ensures { IsTrue result → ReadsOn self.old (frame (begins at) ∷ []) self.new }
     {
-        let place = self.place;
-        let known = before_next(
-            place.known,
-            self.whole,
-            self.comments,
-            place.fresh,
-            place.rest,
-        );
-        self.place.known = known;
-        begins_behind(
-            known,
-            self.whole,
-            self.comments,
-            place.fresh,
-            place.rest,
-            at,
-        )
+        match next_if_at(self.whole, self.comments, self.place, at) {
+            Some(next) => {
+                self.place.next = Some(next);
+                true
+            }
+            None => false,
+        }
     }
 
     /// Whether the last token has ended before a place.

@@ -1,4 +1,4 @@
-use Rattle.std.proofs.Common.{refl, ap}
+use Rattle.std.proofs.Common.{refl}
 use Rattle.text_commented.specs.Chosen.{held, moves, stays}
 use Rattle.text_commented.specs.Places.{all_places, tight_places}
 use Rattle.text_commented.proofs.Listed.{never}
