@@ -1,5 +1,5 @@
 -- What a sink has taken, one child after another.
-use Rattle.std.proofs.Common.{◌≡◌, true, false, Bool, ℕ, ◌+◌, Some, Option, List, [], ◌∷◌, ◌++◌, take, drop, map, length, refl, sym, ap, ◌∙◌, subst, append_assoc, ◌<◌, ◌≤◌, get_or, add-one, arith}
+use Rattle.std.proofs.Common.{◌≡◌, true, Bool, ℕ, ◌+◌, Some, Option, List, [], ◌∷◌, ◌++◌, take, drop, map, length, refl, sym, ap, ◌∙◌, subst, append_assoc, ◌<◌, ◌≤◌, get_or, add-one}
 use Rattle.std.specs.Prelude.{if◌then◌else◌, nat_lt, not, ◌&&◌, ◌||◌}
 use Rattle.std.specs.List.{slice_get}
 use Rattle.std.proofs.lemmas.List.{drop_all, drop_more}

@@ -1,7 +1,7 @@
 -- What has been taken by some, and then by others.
 use Rattle.std.proofs.Common.{◌≡◌, ℕ, Bool, List, [], ◌++◌, Global, Vec, Result, Ok, Err, OnOk, map, refl, sym, ap, subst, ◌∙◌, append_assoc, append-nil}
 use Rattle.text_follow.specs.declared.stand.Reader.{Reader}
-use Rattle.text_follow.specs.Readers.{IsFront, IsOver}
+use Rattle.text_follow.specs.Readers.{IsFront, IsOver, ReadsOn}
 use Rattle.text_follow.specs.Stands.{Stands}
 use Rattle.text_follow.proofs.Readers.{read_whole, reads_on_nowhere, reads_on_twice}
 use Rattle.text_lexer.specs.declared.blank.Comments.{Comments}
@@ -60,6 +60,13 @@ pub kept_more : (old : Sink) (list more : Vec code.Piece Global) (ps : List Piec
 kept_more old list more ps is gained = record {
   list = λ had h. (more, refl, gained ∙ ap (λ v. map piece_view v.items ++ ps) (one_list list had (sym is ∙ h)));
   text = λ at h. absurd (no_text list at (sym is ∙ h));
+}
+
+-- the text that is read on past more has gained that
+pub read_more : (old : Sink) (at behind : Reader) (ps : List Piece) → old ≡ sink.Text at → ReadsOn at ps behind → Gains old ps (sink.Text behind)
+read_more old at behind ps is read = record {
+  list = λ had h. absurd (no_text had at (sym h ∙ is));
+  text = λ other h. (behind, refl, subst (λ r. ReadsOn r ps behind) (one_text at other (sym is ∙ h)) read);
 }
 
 -- what follows where a call went well

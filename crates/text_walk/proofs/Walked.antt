@@ -1,9 +1,8 @@
 -- What a walk writes, one child after another.
-use Rattle.std.proofs.Common.{◌≡◌, true, false, Bool, ℕ, zero, suc, ◌+◌, Some, None, List, [], ◌∷◌, ◌++◌, take, drop, map, length, refl, sym, ap, ◌∙◌, append_assoc, append-nil, ◌<◌, ◌≤◌, get_or, add-one, arith, rules}
+use Rattle.std.proofs.Common.{◌≡◌, true, Bool, ℕ, zero, suc, ◌+◌, Some, None, List, [], ◌∷◌, ◌++◌, take, drop, map, length, refl, sym, ap, ◌∙◌, append_assoc, append-nil, ◌<◌, ◌≤◌, get_or, arith, rules}
 use Rattle.std.specs.Prelude.{if◌then◌else◌, nat_lt}
 use Rattle.std.specs.List.{slice_get}
 use Rattle.std.proofs.lemmas.Bool.Decides.{nat_tests}
-use Rattle.std.proofs.lemmas.List.{drop_more}
 use Rattle.std.proofs.lemmas.Option.{slice_get_read, slice_get-map}
 use Rattle.swc_tree_node.specs.declared.kind.Kind.{Kind}
 use Rattle.swc_tree_node.specs.declared.node.Node.{Node, List as Many, Tree, out-Node, roll-Node, roll-out-Node, the_lemmas}
@@ -13,7 +12,6 @@ use Rattle.swc_tree_grammar.proofs.Wholes.{carried}
 use Rattle.text_lexer.specs.declared.mark.Mark.TheVariants as mark
 use Rattle.text_pieces.specs.declared.item.Item.{Item}
 use Rattle.text_pieces.specs.declared.piece.Gap.TheVariants as line
-use Rattle.text_pieces.specs.Forms.{attribute, pairs, when}
 use Rattle.text_pieces.specs.Layouts.{apart_layout_of, layout_of}
 use Rattle.text_pieces.specs.Frames.{in_frames}
 use Rattle.text_pieces.specs.Pieces.{Written, behind_commas, item_pieces, layout_pieces, lines, with_commas, wholes, written, written_step, written_with}

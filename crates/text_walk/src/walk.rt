@@ -19,7 +19,7 @@ use crate::leaf::{
     field_at, is_declaration_at, is_expression_at, is_lone_at, is_named, is_set_at, items_of,
     lone_name, lone_span, text_at,
 };
-use crate::sink::{Refusal, Sink, push, push_if};
+use crate::sink::{Refusal, Sink, push, push_if, push_mark, push_name, push_word};
 use swc_tree_marks::Ident;
 use swc_tree_node::{Kind, Node};
 use text_lexer::{Mark, TemplatePart};
@@ -176,10 +176,10 @@ fn add_name<'a>(framed: bool, ident: &'a Ident, found: &mut Sink<'a>) -> Result<
     ensures { OnOk result (Gains found.old (framing framed (Some ident.now.span) (name ident.now.sym ∷ [])) found.new) }
 {
     if !framed {
-        return push(found, Piece::Name(ident.sym.as_str()));
+        return push_name(found, ident.sym.as_str());
     }
     push_begun(Some(ident.span), found)?;
-    push(found, Piece::Name(ident.sym.as_str()))?;
+    push_name(found, ident.sym.as_str())?;
     push_stopped(Some(ident.span), found)
 }
 
@@ -511,8 +511,8 @@ fn add_item<'a>(
         Item::At(n, m) => add_at(framed, fields, n, m, found),
         Item::Dots(n) => add_dots(framed, fields, n, found),
         Item::Lone(n) => add_lone(framed, fields, n, found),
-        Item::Sign(mark) => push(found, Piece::Mark(mark)),
-        Item::Word(keyword) => push(found, Piece::Word(keyword_text(keyword))),
+        Item::Sign(mark) => push_mark(found, mark),
+        Item::Word(keyword) => push_word(found, keyword_text(keyword)),
         Item::Of(n, form) => add_of(fields, n, form, found),
         Item::List(n) => add_items(framed, fields, n, &[], Many::List, found),
         Item::Head(n) => add_chosen(framed, is_declaration_at(fields, n), fields, n, found),

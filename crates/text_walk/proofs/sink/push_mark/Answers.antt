@@ -1,0 +1,10 @@
+use Rattle.text_pieces.specs.Tokens.{punctuator}
+use Rattle.std.proofs.Common.{[], ◌∷◌}
+use Rattle.text_walk.proofs.Sinks.{kept_more, read_more, then}
+use Rattle.text_walk.proofs.sink.push_mark.Goals as goal
+
+pub returns-in-List : goal.returns-in-List
+returns-in-List c = then c.keep.result (λ kept. kept_more c.args.found.now c.in-List.list c.keep.new.list (punctuator c.args.mark ∷ []) c.in-List.is kept) c.keep.ensures
+
+pub returns-in-Text : goal.returns-in-Text
+returns-in-Text c = then c.held.result (λ is. read_more c.args.found.now c.in-Text.reader c.read_mark.new.self (punctuator c.args.mark ∷ []) c.in-Text.is (c.read_mark.ensures is)) c.held.ensures
