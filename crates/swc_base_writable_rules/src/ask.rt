@@ -42,21 +42,21 @@ pub enum Row {
 impl Row {
     /// What is asked of a child.
     #[inline]
-    pub fn at(self, index: usize) -> Ask
-        ensures { result ≡ ask_at self index }
+    pub fn at(&self, index: usize) -> Ask
+        ensures { result ≡ ask_at self.now index }
     {
         match self {
-            Row::Each(ask) => ask,
-            Row::One(i, ask) if index == i => ask,
-            Row::Two(i, ask, _, _) if index == i => ask,
-            Row::Two(_, _, j, ask) if index == j => ask,
-            Row::Three(i, ask, _, _, _, _) if index == i => ask,
-            Row::Three(_, _, j, ask, _, _) if index == j => ask,
-            Row::Three(_, _, _, _, k, ask) if index == k => ask,
-            Row::Four(i, ask, _, _, _, _, _, _) if index == i => ask,
-            Row::Four(_, _, j, ask, _, _, _, _) if index == j => ask,
-            Row::Four(_, _, _, _, k, ask, _, _) if index == k => ask,
-            Row::Four(_, _, _, _, _, _, l, ask) if index == l => ask,
+            Row::Each(ask) => *ask,
+            Row::One(i, ask) if index == *i => *ask,
+            Row::Two(i, ask, _, _) if index == *i => *ask,
+            Row::Two(_, _, j, ask) if index == *j => *ask,
+            Row::Three(i, ask, _, _, _, _) if index == *i => *ask,
+            Row::Three(_, _, j, ask, _, _) if index == *j => *ask,
+            Row::Three(_, _, _, _, k, ask) if index == *k => *ask,
+            Row::Four(i, ask, _, _, _, _, _, _) if index == *i => *ask,
+            Row::Four(_, _, j, ask, _, _, _, _) if index == *j => *ask,
+            Row::Four(_, _, _, _, k, ask, _, _) if index == *k => *ask,
+            Row::Four(_, _, _, _, _, _, l, ask) if index == *l => *ask,
             _ => Ask::Nothing,
         }
     }

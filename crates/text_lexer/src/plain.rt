@@ -23,7 +23,8 @@ fn is_plain_start(byte: u8) -> bool
 fn is_plain_part(byte: u8) -> bool
     ensures { result ≡ spec.is_plain_part byte }
 {
-    matches!(byte, b'A'..=b'Z' | b'a'..=b'z' | b'0'..=b'9' | b'$' | b'_')
+    // most characters of names are small letters
+    matches!(byte, b'a'..=b'z') || matches!(byte, b'A'..=b'Z' | b'0'..=b'9' | b'$' | b'_')
 }
 
 #[inline]

@@ -138,8 +138,8 @@ pub fn token_at(goal: Goal, text: &[u8]) -> Result<(Token<'_>, &[u8]), Fault>
     if 0 < len {
         return Ok((Token::Name(&text[..len]), &text[len..]));
     }
-    match plain_mark(goal, text) {
-        Some(mark) => Ok((Token::Mark(mark), past_byte(text))),
-        None => other_token(goal, text),
+    if let Some(mark) = plain_mark(goal, text) {
+        return Ok((Token::Mark(mark), past_byte(text)));
     }
+    other_token(goal, text)
 }

@@ -190,6 +190,7 @@ pub fn is_as_asked(node: &Node, asked: Asked) -> bool
 
 // Whether a tree is.
 #[cycle(walk)]
+#[inline(never)]
 fn is_tree_as_asked(kind: Kind, fields: &[Node], asked: Asked) -> bool
     requires { IsFound asked }
     ensures { IsTrue result → IsAsAsked asked (Tree kind fields.now) }
