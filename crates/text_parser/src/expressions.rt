@@ -1,8 +1,4 @@
 //! Expressions, but for what stands next to their operators (ECMA-262, 13.4 to 13.16).
-use crate::keeping::{
-    advance, build, build_with, expect, insert, list, push_absent, push_flag, push_private_name,
-    take, too_deep, unexpected,
-};
 use crate::members::parse_postfix;
 use swc_tree_node::{Kind, Node, Word};
 use text_lexer::{Mark, Token};
@@ -15,7 +11,7 @@ use text_reader::{
 #[cycle(parse)]
 pub(crate) fn parse_expression(p: &mut Parser<'_>, depth: u32) {
     if depth == 0 {
-        return too_deep(p);
+        return p.too_deep();
     }
     let (start, before) = (p.start(), p.count());
     parse_assignment(p, depth - 1);
@@ -23,13 +19,13 @@ pub(crate) fn parse_expression(p: &mut Parser<'_>, depth: u32) {
         return;
     }
     for _ in 0..p.len() {
-        if !take(p, Mark::Comma) {
+        if !p.take(Mark::Comma) {
             break;
         }
         parse_assignment(p, depth - 1);
     }
-    list(p, before);
-    build(p, Kind::SeqExpr, start, before)
+    p.list(before);
+    p.build(Kind::SeqExpr, start, before)
 }
 
 fn assignment_here(p: &Parser<'_>) -> Option<Word> {
@@ -43,7 +39,7 @@ fn assignment_here(p: &Parser<'_>) -> Option<Word> {
 #[cycle(parse)]
 pub(crate) fn parse_assignment(p: &mut Parser<'_>, depth: u32) {
     if depth == 0 {
-        return too_deep(p);
+        return p.too_deep();
     }
     if p.is_keyword(Keyword::Yield) && p.context.has_yield {
         return parse_yield(p, depth - 1);
@@ -54,11 +50,10 @@ pub(crate) fn parse_assignment(p: &mut Parser<'_>, depth: u32) {
     let Some(word) = assignment_here(p) else {
         return;
     };
-    let done = p.last_to_target(word, depth);
-    p.keep(done);
-    advance(p);
+    p.last_to_target(word, depth);
+    p.advance();
     parse_assignment(p, depth - 1);
-    build_with(p, Kind::AssignExpr, Node::Word(word), start, before)
+    p.build_with(Kind::AssignExpr, Node::Word(word), start, before)
 }
 
 /// Whether nothing stands behind a `yield` here.
@@ -85,39 +80,39 @@ fn is_bare_yield(p: &Parser<'_>) -> bool {
 #[cycle(parse)]
 fn parse_yield(p: &mut Parser<'_>, depth: u32) {
     if depth == 0 {
-        return too_deep(p);
+        return p.too_deep();
     }
     let (start, before) = (p.start(), p.count());
-    advance(p);
+    p.advance();
     if is_bare_yield(p) {
-        push_absent(p);
-        push_flag(p, false);
+        p.push_absent();
+        p.push_flag(false);
     } else {
-        let delegates = take(p, Mark::Mul);
+        let delegates = p.take(Mark::Mul);
         parse_assignment(p, depth - 1);
-        push_flag(p, delegates);
+        p.push_flag(delegates);
     }
-    build(p, Kind::YieldExpr, start, before)
+    p.build(Kind::YieldExpr, start, before)
 }
 
 /// A choice by a test (13.14).
 #[cycle(parse)]
 fn parse_conditional(p: &mut Parser<'_>, depth: u32) {
     if depth == 0 {
-        return too_deep(p);
+        return p.too_deep();
     }
     let (start, before) = (p.start(), p.count());
     parse_binary(p, depth - 1, LOOSEST);
     if !p.is_mark(Mark::Question) || p.is_last(Kind::ArrowExpr) {
         return;
     }
-    advance(p);
+    p.advance();
     let context = p.open();
     parse_assignment(p, depth - 1);
     p.context = context;
-    expect(p, Mark::Colon);
+    p.expect(Mark::Colon);
     parse_assignment(p, depth - 1);
-    build(p, Kind::CondExpr, start, before)
+    p.build(Kind::CondExpr, start, before)
 }
 
 fn operator_here(p: &Parser<'_>) -> Option<Operator> {
@@ -165,11 +160,11 @@ fn may_join_last(p: &Parser<'_>, word: Word) -> bool {
 /// A private name, which stands before `in` and nowhere else (13.10).
 fn push_private_operand(p: &mut Parser<'_>, raw: &[u8], least: u8) {
     if least > COMPARISON {
-        return unexpected(p, Expected::Expression);
+        return p.unexpected(Expected::Expression);
     }
-    push_private_name(p, raw);
+    p.push_private_name(raw);
     if !p.is_keyword(Keyword::In) || !p.context.has_in {
-        unexpected(p, Expected::Word("in"));
+        p.unexpected(Expected::Word("in"));
     }
 }
 
@@ -177,7 +172,7 @@ fn push_private_operand(p: &mut Parser<'_>, raw: &[u8], least: u8) {
 #[cycle(parse)]
 fn parse_binary(p: &mut Parser<'_>, depth: u32, least: u8) {
     if depth == 0 {
-        return too_deep(p);
+        return p.too_deep();
     }
     let (start, before) = (p.start(), p.count());
     if let Token::PrivateName(raw) = p.token() {
@@ -196,11 +191,11 @@ fn parse_binary(p: &mut Parser<'_>, depth: u32, least: u8) {
             break;
         }
         if !may_join_last(p, operator.word) {
-            return unexpected(p, Expected::Mark(Mark::RightParen));
+            return p.unexpected(Expected::Mark(Mark::RightParen));
         }
-        advance(p);
+        p.advance();
         parse_binary(p, depth - 1, operator.right);
-        build_with(p, Kind::BinExpr, Node::Word(operator.word), start, before);
+        p.build_with(Kind::BinExpr, Node::Word(operator.word), start, before);
     }
 }
 
@@ -231,38 +226,36 @@ fn update_here(p: &Parser<'_>) -> Option<Word> {
 #[cycle(parse)]
 fn parse_unary(p: &mut Parser<'_>, depth: u32) {
     if depth == 0 {
-        return too_deep(p);
+        return p.too_deep();
     }
     let (start, before) = (p.start(), p.count());
     match prefix_here(p) {
         Some(Prefix::Operator(word)) => {
-            advance(p);
+            p.advance();
             parse_unary(p, depth - 1);
-            build_with(p, Kind::UnaryExpr, Node::Word(word), start, before)
+            p.build_with(Kind::UnaryExpr, Node::Word(word), start, before)
         }
         Some(Prefix::Update(word)) => {
-            advance(p);
+            p.advance();
             parse_unary(p, depth - 1);
-            let done = p.expect_simple_target(depth);
-            p.keep(done);
-            insert(p, before, Node::Flag(true));
-            build_with(p, Kind::UpdateExpr, Node::Word(word), start, before)
+            p.expect_simple_target(depth);
+            p.insert(before, Node::Flag(true));
+            p.build_with(Kind::UpdateExpr, Node::Word(word), start, before)
         }
         Some(Prefix::Await) => {
-            advance(p);
+            p.advance();
             parse_unary(p, depth - 1);
-            build(p, Kind::AwaitExpr, start, before)
+            p.build(Kind::AwaitExpr, start, before)
         }
         None => {
             parse_postfix(p, depth - 1);
             let Some(word) = update_here(p) else {
                 return;
             };
-            let done = p.expect_simple_target(depth);
-            p.keep(done);
-            advance(p);
-            insert(p, before, Node::Flag(false));
-            build_with(p, Kind::UpdateExpr, Node::Word(word), start, before)
+            p.expect_simple_target(depth);
+            p.advance();
+            p.insert(before, Node::Flag(false));
+            p.build_with(Kind::UpdateExpr, Node::Word(word), start, before)
         }
     }
 }

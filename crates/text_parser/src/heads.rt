@@ -1,10 +1,6 @@
 //! Declarations of variables, and loops by `for` (ECMA-262, 14.3 and 14.7).
 use crate::expressions::{parse_assignment, parse_expression};
 use crate::functions::parse_binding;
-use crate::keeping::{
-    advance, build, end_statement, expect, insert, list, not_read, push, push_absent, take,
-    take_keyword, too_deep, unexpected,
-};
 use crate::members::parse_postfix;
 use crate::statements::parse_steps;
 use crate::steps::{FOR, FOR_IN, FOR_OF};
@@ -64,10 +60,10 @@ fn push_declaring(p: &mut Parser<'_>) -> Kind {
         _ => (Kind::VarDecl, Node::Word(Word::Var)),
     };
     if p.is_keyword(Keyword::Await) {
-        advance(p);
+        p.advance();
     }
-    advance(p);
-    push(p, second);
+    p.advance();
+    p.push(second);
     kind
 }
 
@@ -81,7 +77,7 @@ fn wants_value(p: &Parser<'_>, is_fixed: bool, in_head: bool) -> bool {
 #[cycle(parse)]
 pub(crate) fn parse_variables(p: &mut Parser<'_>, depth: u32, in_head: bool) {
     if depth == 0 {
-        return too_deep(p);
+        return p.too_deep();
     }
     let (start, before) = (p.start(), p.count());
     let is_fixed = !p.is_keyword(Keyword::Var) && !p.is_keyword(Keyword::Let);
@@ -90,63 +86,59 @@ pub(crate) fn parse_variables(p: &mut Parser<'_>, depth: u32, in_head: bool) {
     for _ in 0..p.len() {
         let (name, variable) = (p.start(), p.count());
         if kind == Kind::UsingDecl && !p.is_name() {
-            return unexpected(p, Expected::Name);
+            return p.unexpected(Expected::Name);
         }
         parse_binding(p, depth - 1, false);
-        if take(p, Mark::Assign) {
+        if p.take(Mark::Assign) {
             parse_assignment(p, depth - 1);
         } else if p.is_mark(Mark::Colon) {
-            return not_read(p, Language::Types);
+            return p.not_read(Language::Types);
         } else if wants_value(p, is_fixed, in_head) {
-            return unexpected(p, Expected::Initializer);
+            return p.unexpected(Expected::Initializer);
         } else {
-            push_absent(p);
+            p.push_absent();
         }
-        build(p, Kind::VarDeclarator, name, variable);
-        if !take(p, Mark::Comma) {
+        p.build(Kind::VarDeclarator, name, variable);
+        if !p.take(Mark::Comma) {
             break;
         }
     }
-    list(p, variables);
+    p.list(variables);
     if !in_head {
-        end_statement(p);
+        p.end_statement();
     }
-    build(p, kind, start, before)
+    p.build(kind, start, before)
 }
 
 /// A `for` statement (14.7.4 and 14.7.5).
 #[cycle(parse)]
 pub(crate) fn parse_for(p: &mut Parser<'_>, depth: u32) {
     if depth == 0 {
-        return too_deep(p);
+        return p.too_deep();
     }
     let begun = (p.start(), p.count());
-    advance(p);
-    let is_await = p.context.has_await && take_keyword(p, Keyword::Await);
-    expect(p, Mark::LeftParen);
+    p.advance();
+    let is_await = p.context.has_await && p.take_keyword(Keyword::Await);
+    p.expect(Mark::LeftParen);
     let (begins_let, head) = (p.is_keyword(Keyword::Let), p.start());
     let context = p.context;
     p.context.has_in = false;
     parse_head(p, depth - 1, is_await);
     p.context = context;
     if p.is_keyword(Keyword::Of) && p.is_each_head(begins_let) {
-        let done = p.end_head_of(head, is_await);
-        p.keep(done);
-        let done = p.last_to_head(depth);
-        p.keep(done);
-        insert(p, begun.1, Node::Flag(is_await));
+        p.end_head_of(head, is_await);
+        p.last_to_head(depth);
+        p.insert(begun.1, Node::Flag(is_await));
         return parse_steps(p, depth - 1, Kind::ForOfStmt, FOR_OF, begun);
     }
     if is_await {
-        return unexpected(p, Expected::Word("of"));
+        return p.unexpected(Expected::Word("of"));
     }
     if p.is_keyword(Keyword::In) && p.is_each_head(false) && !p.is_last(Kind::UsingDecl) {
-        let done = p.last_to_head(depth);
-        p.keep(done);
+        p.last_to_head(depth);
         return parse_steps(p, depth - 1, Kind::ForInStmt, FOR_IN, begun);
     }
-    let done = p.end_head(head);
-    p.keep(done);
+    p.end_head(head);
     parse_steps(p, depth - 1, Kind::ForStmt, FOR, begun)
 }
 
@@ -154,10 +146,10 @@ pub(crate) fn parse_for(p: &mut Parser<'_>, depth: u32) {
 #[cycle(parse)]
 fn parse_head(p: &mut Parser<'_>, depth: u32, is_await: bool) {
     if depth == 0 {
-        return too_deep(p);
+        return p.too_deep();
     }
     if p.is_mark(Mark::Semicolon) {
-        return push_absent(p);
+        return p.push_absent();
     }
     if declares(p, true) {
         return parse_variables(p, depth - 1, true);

@@ -7,7 +7,6 @@
 mod expressions;
 mod functions;
 mod heads;
-mod keeping;
 mod members;
 mod modules;
 mod objects;

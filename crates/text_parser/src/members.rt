@@ -1,9 +1,5 @@
 //! Members, calls, optional chains and `new` (ECMA-262, 13.3).
 use crate::expressions::{parse_assignment, parse_expression};
-use crate::keeping::{
-    advance, build, build_with, close, expect, expect_keyword, list, push, push_absent,
-    push_key_name, push_private_name, take, too_deep, unexpected,
-};
 use crate::primary::{parse_primary, parse_template};
 use swc_tree_node::{Kind, Node, Word};
 use text_lexer::{Mark, Token};
@@ -34,7 +30,7 @@ fn suffix_here(p: &Parser<'_>, calls: bool) -> Option<Suffix> {
 #[cycle(parse)]
 pub(crate) fn parse_postfix(p: &mut Parser<'_>, depth: u32) {
     if depth == 0 {
-        return too_deep(p);
+        return p.too_deep();
     }
     let (start, before) = (p.start(), p.count());
     parse_primary(p, depth - 1);
@@ -47,7 +43,7 @@ pub(crate) fn parse_postfix(p: &mut Parser<'_>, depth: u32) {
 #[cycle(parse)]
 fn parse_suffixes(p: &mut Parser<'_>, depth: u32, start: usize, before: usize, calls: bool) {
     if depth == 0 {
-        return too_deep(p);
+        return p.too_deep();
     }
     let mut chained = false;
     for _ in 0..p.len() {
@@ -59,13 +55,13 @@ fn parse_suffixes(p: &mut Parser<'_>, depth: u32, start: usize, before: usize, c
         build_suffixed(p, suffix, chained, start, before);
     }
     if p.is_at(before, Kind::Super) {
-        unexpected(p, Expected::Mark(Mark::Dot));
+        p.unexpected(Expected::Mark(Mark::Dot));
     }
 }
 
 /// What stands behind `?.`.
 fn behind_optional(p: &mut Parser<'_>) -> Suffix {
-    advance(p);
+    p.advance();
     match suffix_here(p, true) {
         Some(Suffix::Computed) => Suffix::Computed,
         Some(Suffix::Arguments) => Suffix::Arguments,
@@ -77,7 +73,7 @@ fn behind_optional(p: &mut Parser<'_>) -> Suffix {
 #[cycle(parse)]
 fn parse_suffix(p: &mut Parser<'_>, depth: u32, suffix: Suffix, chained: bool) {
     if depth == 0 {
-        return too_deep(p);
+        return p.too_deep();
     }
     let suffix = match suffix {
         Suffix::Optional => behind_optional(p),
@@ -85,14 +81,14 @@ fn parse_suffix(p: &mut Parser<'_>, depth: u32, suffix: Suffix, chained: bool) {
     };
     match suffix {
         Suffix::Arguments => {
-            advance(p);
+            p.advance();
             parse_elements(p, depth - 1, Mark::RightParen)
         }
         Suffix::Computed => parse_computed(p, depth - 1, false),
         Suffix::Template if !chained => parse_template(p, depth - 1, true),
-        Suffix::Template => unexpected(p, Expected::Semicolon),
+        Suffix::Template => p.unexpected(Expected::Semicolon),
         Suffix::Member => {
-            advance(p);
+            p.advance();
             push_member_name(p)
         }
         Suffix::Optional => push_member_name(p),
@@ -101,8 +97,8 @@ fn parse_suffix(p: &mut Parser<'_>, depth: u32, suffix: Suffix, chained: bool) {
 
 fn push_member_name(p: &mut Parser<'_>) {
     match p.token() {
-        Token::PrivateName(raw) => push_private_name(p, raw),
-        _ => push_key_name(p),
+        Token::PrivateName(raw) => p.push_private_name(raw),
+        _ => p.push_key_name(),
     }
 }
 
@@ -126,12 +122,12 @@ fn build_suffixed(p: &mut Parser<'_>, suffix: Suffix, chained: bool, start: usiz
     let kind = kind_of_suffixed(p, before, chained);
     let is_super = p.is_at(before, Kind::Super);
     if is_super && (chained || kind == Kind::TaggedTpl || p.is_last(Kind::PrivateName)) {
-        return unexpected(p, Expected::Key);
+        return p.unexpected(Expected::Key);
     }
-    build(p, kind, start, before);
+    p.build(kind, start, before);
     if chained {
         let optional = suffix == Suffix::Optional;
-        build_with(p, Kind::OptChainExpr, Node::Flag(optional), start, before);
+        p.build_with(Kind::OptChainExpr, Node::Flag(optional), start, before);
     }
 }
 
@@ -139,29 +135,28 @@ fn build_suffixed(p: &mut Parser<'_>, suffix: Suffix, chained: bool, start: usiz
 #[cycle(parse)]
 pub(crate) fn parse_computed(p: &mut Parser<'_>, depth: u32, declares: bool) {
     if depth == 0 {
-        return too_deep(p);
+        return p.too_deep();
     }
     let (start, before) = (p.start(), p.count());
-    advance(p);
+    p.advance();
     let context = p.open();
     parse_expression(p, depth - 1);
     p.context = context;
     if declares && p.is_last(Kind::SeqExpr) {
-        return unexpected(p, Expected::Expression);
+        return p.unexpected(Expected::Expression);
     }
-    expect(p, Mark::RightBracket);
-    build(p, Kind::ComputedPropName, start, before)
+    p.expect(Mark::RightBracket);
+    p.build(Kind::ComputedPropName, start, before)
 }
 
 /// Makes the span of the dots that stand here, if some do, and goes behind them: whether they do.
 fn push_dots(p: &mut Parser<'_>) -> bool {
     let start = p.start();
-    let has_dots = take(p, Mark::Dots);
+    let has_dots = p.take(Mark::Dots);
     if has_dots {
-        let done = p.push_span(start);
-        p.keep(done);
+        p.push_span(start);
     } else {
-        push_absent(p);
+        p.push_absent();
     }
     has_dots
 }
@@ -171,7 +166,7 @@ fn push_dots(p: &mut Parser<'_>) -> bool {
 #[cycle(parse)]
 pub(crate) fn parse_elements(p: &mut Parser<'_>, depth: u32, closing: Mark) {
     if depth == 0 {
-        return too_deep(p);
+        return p.too_deep();
     }
     let before = p.count();
     let context = p.open();
@@ -180,58 +175,57 @@ pub(crate) fn parse_elements(p: &mut Parser<'_>, depth: u32, closing: Mark) {
             break;
         }
         if closing == Mark::RightBracket && p.is_mark(Mark::Comma) {
-            push_absent(p);
-            advance(p);
+            p.push_absent();
+            p.advance();
             continue;
         }
         let element = p.count();
         let has_dots = push_dots(p);
         parse_assignment(p, depth - 1);
-        close(p, Kind::ExprOrSpread, element);
+        p.close(Kind::ExprOrSpread, element);
         if has_dots {
-            let done = p.mind_last_comma(closing);
-            p.keep(done);
+            p.mind_last_comma(closing);
         }
-        if !take(p, Mark::Comma) {
+        if !p.take(Mark::Comma) {
             break;
         }
     }
     p.context = context;
-    expect(p, closing);
-    list(p, before)
+    p.expect(closing);
+    p.list(before)
 }
 
 /// `new.target`, behind its dot.
 fn push_new_target(p: &mut Parser<'_>, start: usize) {
     let before = p.count();
-    expect_keyword(p, Keyword::Target);
-    push(p, Node::Word(Word::NewTarget));
-    build(p, Kind::MetaPropExpr, start, before)
+    p.expect_keyword(Keyword::Target);
+    p.push(Node::Word(Word::NewTarget));
+    p.build(Kind::MetaPropExpr, start, before)
 }
 
 /// `new`, with arguments or without.
 #[cycle(parse)]
 pub(crate) fn parse_new(p: &mut Parser<'_>, depth: u32) {
     if depth == 0 {
-        return too_deep(p);
+        return p.too_deep();
     }
     let (start, before) = (p.start(), p.count());
-    advance(p);
-    if take(p, Mark::Dot) {
+    p.advance();
+    if p.take(Mark::Dot) {
         return push_new_target(p, start);
     }
     let callee = p.start();
     parse_primary(p, depth - 1);
     if p.is_last(Kind::CallExpr) {
-        return unexpected(p, Expected::Expression);
+        return p.unexpected(Expected::Expression);
     }
     parse_suffixes(p, depth - 1, callee, before, false);
-    if take(p, Mark::LeftParen) {
+    if p.take(Mark::LeftParen) {
         parse_elements(p, depth - 1, Mark::RightParen);
     } else if p.is_mark(Mark::QuestionDot) {
-        return unexpected(p, Expected::Mark(Mark::LeftParen));
+        return p.unexpected(Expected::Mark(Mark::LeftParen));
     } else {
-        push_absent(p);
+        p.push_absent();
     }
-    build(p, Kind::NewExpr, start, before)
+    p.build(Kind::NewExpr, start, before)
 }

@@ -2,15 +2,11 @@
 use crate::expressions::parse_assignment;
 use crate::functions::{parse_class, parse_function};
 use crate::heads::declares;
-use crate::keeping::{
-    advance, build, end_statement, expect, expect_keyword, list, push_absent, push_name,
-    push_string, take, take_keyword, unexpected,
-};
 use crate::statements::parse_statement;
 use crate::steps::Place;
 use swc_tree_node::Kind;
 use text_lexer::{Mark, Token};
-use text_reader::{Expected, Keyword, Parser, TextFault, is_mark};
+use text_reader::{Expected, Keyword, Parser, is_mark};
 
 /// The items of a module, up to the end.
 pub(crate) fn parse_items(p: &mut Parser<'_>, depth: u32) {
@@ -21,7 +17,7 @@ pub(crate) fn parse_items(p: &mut Parser<'_>, depth: u32) {
         }
         parse_item(p, depth);
     }
-    list(p, before)
+    p.list(before)
 }
 
 /// Whether an import begins here that is no expression.
@@ -40,8 +36,7 @@ fn parse_item(p: &mut Parser<'_>, depth: u32) {
     }
     if p.is_keyword(Keyword::Export) {
         parse_export(p, depth);
-        let done = p.end_covers(covers);
-        return p.keep(done);
+        return p.end_covers(covers);
     }
     parse_statement(p, depth, Place::Item)
 }
@@ -49,16 +44,16 @@ fn parse_item(p: &mut Parser<'_>, depth: u32) {
 /// An import (16.2.2).
 fn parse_import(p: &mut Parser<'_>) {
     let (start, before) = (p.start(), p.count());
-    advance(p);
+    p.advance();
     if is_string(p) {
-        list(p, before);
+        p.list(before);
     } else {
         parse_clause(p);
-        expect_keyword(p, Keyword::From);
+        p.expect_keyword(Keyword::From);
     }
     push_origin(p);
-    end_statement(p);
-    build(p, Kind::ImportDecl, start, before)
+    p.end_statement();
+    p.build(Kind::ImportDecl, start, before)
 }
 
 fn is_string(p: &Parser<'_>) -> bool {
@@ -71,34 +66,34 @@ fn parse_clause(p: &mut Parser<'_>) {
     let mut has_more = true;
     if p.is_name() {
         let (start, specifier) = (p.start(), p.count());
-        push_name(p, Kind::Ident);
-        build(p, Kind::ImportDefaultSpecifier, start, specifier);
-        has_more = take(p, Mark::Comma);
+        p.push_name(Kind::Ident);
+        p.build(Kind::ImportDefaultSpecifier, start, specifier);
+        has_more = p.take(Mark::Comma);
     }
     if has_more {
         parse_imported(p);
     }
-    list(p, before)
+    p.list(before)
 }
 
 fn parse_imported(p: &mut Parser<'_>) {
     let (start, before) = (p.start(), p.count());
-    if take(p, Mark::Mul) {
-        expect_keyword(p, Keyword::As);
-        push_name(p, Kind::Ident);
-        return build(p, Kind::ImportStarAsSpecifier, start, before);
+    if p.take(Mark::Mul) {
+        p.expect_keyword(Keyword::As);
+        p.push_name(Kind::Ident);
+        return p.build(Kind::ImportStarAsSpecifier, start, before);
     }
-    expect(p, Mark::LeftBrace);
+    p.expect(Mark::LeftBrace);
     for _ in 0..p.len() {
         if p.is_mark(Mark::RightBrace) {
             break;
         }
         parse_import_specifier(p);
-        if !take(p, Mark::Comma) {
+        if !p.take(Mark::Comma) {
             break;
         }
     }
-    expect(p, Mark::RightBrace)
+    p.expect(Mark::RightBrace)
 }
 
 /// Whether a name here is given another behind it.
@@ -110,81 +105,76 @@ fn parse_import_specifier(p: &mut Parser<'_>) {
     let (start, before) = (p.start(), p.count());
     if is_renamed(p) {
         push_module_name(p);
-        advance(p);
-        push_name(p, Kind::Ident);
-        let done = p.swap();
-        p.keep(done);
+        p.advance();
+        p.push_name(Kind::Ident);
+        p.swap();
     } else {
-        push_name(p, Kind::Ident);
-        push_absent(p);
+        p.push_name(Kind::Ident);
+        p.push_absent();
     }
-    build(p, Kind::ImportNamedSpecifier, start, before)
+    p.build(Kind::ImportNamedSpecifier, start, before)
 }
 
 /// A name of another module, of any word, or a string (16.2.1).
 fn push_module_name(p: &mut Parser<'_>) {
-    let done = if is_string(p) {
-        p.push_string()
+    if is_string(p) {
+        p.push_string();
     } else {
-        p.push_any_name()
-    };
-    p.keep(done);
+        p.push_any_name();
+    }
 }
 
 /// Where an import or an export has its items from, with its attributes.
 fn push_origin(p: &mut Parser<'_>) {
-    push_string(p);
-    if !take_keyword(p, Keyword::With) {
-        return push_absent(p);
+    p.push_string();
+    if !p.take_keyword(Keyword::With) {
+        return p.push_absent();
     }
-    expect(p, Mark::LeftBrace);
+    p.expect(Mark::LeftBrace);
     let before = p.count();
     for _ in 0..p.len() {
         if p.is_mark(Mark::RightBrace) {
             break;
         }
         push_attribute(p);
-        if !take(p, Mark::Comma) {
+        if !p.take(Mark::Comma) {
             break;
         }
     }
-    expect(p, Mark::RightBrace);
-    list(p, before)
+    p.expect(Mark::RightBrace);
+    p.list(before)
 }
 
 fn push_attribute(p: &mut Parser<'_>) {
     let before = p.count();
     if is_string(p) {
-        let done = p.push_string_value();
-        p.keep(done);
+        p.push_string_value();
     } else {
-        let done = p.push_key_text();
-        p.keep(done);
+        p.push_key_text();
     }
-    expect(p, Mark::Colon);
-    let done = p.push_string_value();
-    p.keep(done);
-    list(p, before)
+    p.expect(Mark::Colon);
+    p.push_string_value();
+    p.list(before)
 }
 
 /// An export (16.2.3).
 fn parse_export(p: &mut Parser<'_>, depth: u32) {
     let (start, before) = (p.start(), p.count());
-    advance(p);
-    if take_keyword(p, Keyword::Default) {
+    p.advance();
+    if p.take_keyword(Keyword::Default) {
         return parse_default(p, depth, start);
     }
-    if take(p, Mark::Mul) {
+    if p.take(Mark::Mul) {
         return parse_export_all(p, start);
     }
     if p.is_mark(Mark::LeftBrace) {
         return parse_export_list(p, start);
     }
     if !begins_declaration(p) {
-        return unexpected(p, Expected::Statement);
+        return p.unexpected(Expected::Statement);
     }
     parse_statement(p, depth, Place::Item);
-    build(p, Kind::ExportDecl, start, before)
+    p.build(Kind::ExportDecl, start, before)
 }
 
 fn begins_declaration(p: &Parser<'_>) -> bool {
@@ -205,46 +195,46 @@ fn parse_default(p: &mut Parser<'_>, depth: u32, start: usize) {
     let (item, before) = (p.start(), p.count());
     let is_async = begins_async_function(p);
     if is_async {
-        advance(p);
+        p.advance();
     }
     if p.is_keyword(Keyword::Function) {
         parse_function(p, depth, item, is_async, Kind::FnExpr, false);
-        return build(p, Kind::ExportDefaultDecl, start, before);
+        return p.build(Kind::ExportDefaultDecl, start, before);
     }
     if p.is_keyword(Keyword::Class) {
         parse_class(p, depth, Kind::ClassExpr);
-        return build(p, Kind::ExportDefaultDecl, start, before);
+        return p.build(Kind::ExportDefaultDecl, start, before);
     }
     parse_assignment(p, depth);
-    end_statement(p);
-    build(p, Kind::ExportDefaultExpr, start, before)
+    p.end_statement();
+    p.build(Kind::ExportDefaultExpr, start, before)
 }
 
 /// All that another module exports, or the whole of it under a name, behind the star.
 fn parse_export_all(p: &mut Parser<'_>, start: usize) {
     let before = p.count();
-    let is_named = take_keyword(p, Keyword::As);
+    let is_named = p.take_keyword(Keyword::As);
     if is_named {
         let (name, specifier) = (p.start(), p.count());
         push_module_name(p);
-        build(p, Kind::ExportNamespaceSpecifier, name, specifier);
-        list(p, before);
+        p.build(Kind::ExportNamespaceSpecifier, name, specifier);
+        p.list(before);
     }
-    expect_keyword(p, Keyword::From);
+    p.expect_keyword(Keyword::From);
     push_origin(p);
-    end_statement(p);
+    p.end_statement();
     let kind = if is_named {
         Kind::NamedExport
     } else {
         Kind::ExportAll
     };
-    build(p, kind, start, before)
+    p.build(kind, start, before)
 }
 
 /// A list of names that are exported, of this module or of another.
 fn parse_export_list(p: &mut Parser<'_>, start: usize) {
     let before = p.count();
-    advance(p);
+    p.advance();
     let mut foreign = None;
     for _ in 0..p.len() {
         if p.is_mark(Mark::RightBrace) {
@@ -254,25 +244,22 @@ fn parse_export_list(p: &mut Parser<'_>, start: usize) {
         if !parse_export_specifier(p) {
             foreign = Some(specifier);
         }
-        if !take(p, Mark::Comma) {
+        if !p.take(Mark::Comma) {
             break;
         }
     }
-    expect(p, Mark::RightBrace);
-    list(p, before);
-    if take_keyword(p, Keyword::From) {
+    p.expect(Mark::RightBrace);
+    p.list(before);
+    if p.take_keyword(Keyword::From) {
         push_origin(p);
     } else if let Some(at) = foreign {
-        return p.refuse(TextFault::Unexpected {
-            at,
-            expected: Expected::Name,
-        });
+        return p.unexpected_at(at, Expected::Name);
     } else {
-        push_absent(p);
-        push_absent(p);
+        p.push_absent();
+        p.push_absent();
     }
-    end_statement(p);
-    build(p, Kind::NamedExport, start, before)
+    p.end_statement();
+    p.build(Kind::NamedExport, start, before)
 }
 
 /// A name that is exported: whether a name of the program may be called so.
@@ -280,11 +267,11 @@ fn parse_export_specifier(p: &mut Parser<'_>) -> bool {
     let (start, before) = (p.start(), p.count());
     push_module_name(p);
     let is_name = p.is_last_name();
-    if take_keyword(p, Keyword::As) {
+    if p.take_keyword(Keyword::As) {
         push_module_name(p);
     } else {
-        push_absent(p);
+        p.push_absent();
     }
-    build(p, Kind::ExportNamedSpecifier, start, before);
+    p.build(Kind::ExportNamedSpecifier, start, before);
     is_name
 }

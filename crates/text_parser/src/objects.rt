@@ -1,10 +1,6 @@
 //! Objects, and the methods that they share with classes (ECMA-262, 13.2.5 and 15.4).
 use crate::expressions::parse_assignment;
 use crate::functions::parse_function_rest;
-use crate::keeping::{
-    advance, build, close, expect, list, push_key_name, push_leaf, push_name, push_private_name,
-    push_string, take, too_deep, unexpected,
-};
 use crate::members::parse_computed;
 use swc_tree_node::{Kind, Word};
 use text_lexer::{Mark, Token};
@@ -34,10 +30,10 @@ pub(crate) fn take_modifiers(p: &mut Parser<'_>) -> Modifiers {
             Some(Keyword::Set) => modifiers.kind = Word::Setter,
             _ => modifiers.is_async = true,
         }
-        advance(p);
+        p.advance();
     }
     if modifiers.kind == Word::Method {
-        modifiers.is_generator = take(p, Mark::Mul);
+        modifiers.is_generator = p.take(Mark::Mul);
     }
     modifiers
 }
@@ -46,24 +42,24 @@ pub(crate) fn take_modifiers(p: &mut Parser<'_>) -> Modifiers {
 #[cycle(parse)]
 pub(crate) fn parse_object(p: &mut Parser<'_>, depth: u32) {
     if depth == 0 {
-        return too_deep(p);
+        return p.too_deep();
     }
     let (start, before) = (p.start(), p.count());
-    advance(p);
+    p.advance();
     let context = p.open();
     for _ in 0..p.len() {
         if p.is_mark(Mark::RightBrace) {
             break;
         }
         parse_property(p, depth - 1);
-        if !take(p, Mark::Comma) {
+        if !p.take(Mark::Comma) {
             break;
         }
     }
     p.context = context;
-    expect(p, Mark::RightBrace);
-    list(p, before);
-    build(p, Kind::ObjectLit, start, before)
+    p.expect(Mark::RightBrace);
+    p.list(before);
+    p.build(Kind::ObjectLit, start, before)
 }
 
 /// Whether a name here stands for a property and its value.
@@ -79,32 +75,29 @@ fn is_shorthand(p: &Parser<'_>) -> bool {
 #[cycle(parse)]
 fn parse_property(p: &mut Parser<'_>, depth: u32) {
     if depth == 0 {
-        return too_deep(p);
+        return p.too_deep();
     }
     let (start, before) = (p.start(), p.count());
-    if take(p, Mark::Dots) {
-        let done = p.push_span(start);
-        p.keep(done);
+    if p.take(Mark::Dots) {
+        p.push_span(start);
         parse_assignment(p, depth - 1);
-        close(p, Kind::SpreadElement, before);
-        let done = p.mind_last_comma(Mark::RightBrace);
-        return p.keep(done);
+        p.close(Kind::SpreadElement, before);
+        return p.mind_last_comma(Mark::RightBrace);
     }
     if is_shorthand(p) {
-        push_name(p, Kind::Ident);
+        p.push_name(Kind::Ident);
         if !p.is_mark(Mark::Assign) {
             return;
         }
-        let done = p.begin_cover();
-        p.keep(done);
-        advance(p);
+        p.begin_cover();
+        p.advance();
         parse_assignment(p, depth - 1);
-        return build(p, Kind::AssignPatProp, start, before);
+        return p.build(Kind::AssignPatProp, start, before);
     }
     let modifiers = take_modifiers(p);
     parse_key(p, depth - 1);
     if p.is_last(Kind::PrivateName) {
-        return unexpected(p, Expected::Key);
+        return p.unexpected(Expected::Key);
     }
     if p.is_mark(Mark::LeftParen) || !modifiers.is_plain() {
         let method = p.start();
@@ -115,26 +108,25 @@ fn parse_property(p: &mut Parser<'_>, depth: u32) {
             modifiers.is_async,
             modifiers.is_generator,
         );
-        let done = p.build_property(modifiers.kind, start, before);
-        return p.keep(done);
+        return p.build_property(modifiers.kind, start, before);
     }
-    expect(p, Mark::Colon);
+    p.expect(Mark::Colon);
     parse_assignment(p, depth - 1);
-    close(p, Kind::KeyValueProp, before)
+    p.close(Kind::KeyValueProp, before)
 }
 
 /// The key of a property or of a member (13.2.5).
 #[cycle(parse)]
 pub(crate) fn parse_key(p: &mut Parser<'_>, depth: u32) {
     if depth == 0 {
-        return too_deep(p);
+        return p.too_deep();
     }
     match p.token() {
-        Token::Str(_) => push_string(p),
-        Token::Number(text) => push_leaf(p, Kind::Number, Some(text)),
-        Token::BigInt(text) => push_leaf(p, Kind::BigInt, Some(text)),
-        Token::PrivateName(raw) => push_private_name(p, raw),
+        Token::Str(_) => p.push_string(),
+        Token::Number(text) => p.push_leaf(Kind::Number, Some(text)),
+        Token::BigInt(text) => p.push_leaf(Kind::BigInt, Some(text)),
+        Token::PrivateName(raw) => p.push_private_name(raw),
         Token::Mark(Mark::LeftBracket) => parse_computed(p, depth - 1, true),
-        _ => push_key_name(p),
+        _ => p.push_key_name(),
     }
 }

@@ -1,10 +1,6 @@
 //! Primary expressions and arrow functions (ECMA-262, 13.2 and 15.3).
 use crate::expressions::{parse_assignment, parse_expression};
 use crate::functions::{parse_binding, parse_class, parse_function};
-use crate::keeping::{
-    advance, build, expect, expect_keyword, list, not_read, push, push_bool, push_flag, push_leaf,
-    push_name, push_string, take, too_deep, unexpected,
-};
 use crate::members::{parse_elements, parse_new};
 use crate::objects::parse_object;
 use crate::statements::parse_steps;
@@ -62,23 +58,21 @@ fn primary_here(p: &Parser<'_>) -> Primary {
 /// A literal, `this` or `super`.
 fn push_primary_leaf(p: &mut Parser<'_>) {
     match p.token() {
-        Token::Number(text) => push_leaf(p, Kind::Number, Some(text)),
-        Token::BigInt(text) => push_leaf(p, Kind::BigInt, Some(text)),
-        Token::Str(_) => push_string(p),
+        Token::Number(text) => p.push_leaf(Kind::Number, Some(text)),
+        Token::BigInt(text) => p.push_leaf(Kind::BigInt, Some(text)),
+        Token::Str(_) => p.push_string(),
         Token::Mark(Mark::Slash | Mark::DivAssign) => {
-            let done = p.reread(Goal::RegExp);
-            p.keep(done);
-            let done = p.push_regex();
-            p.keep(done);
+            p.reread(Goal::RegExp);
+            p.push_regex();
         }
-        Token::Mark(Mark::Lt) => not_read(p, Language::Jsx),
+        Token::Mark(Mark::Lt) => p.not_read(Language::Jsx),
         _ => match p.keyword() {
-            Some(Keyword::This) => push_leaf(p, Kind::ThisExpr, None),
-            Some(Keyword::Super) => push_leaf(p, Kind::Super, None),
-            Some(Keyword::Null) => push_leaf(p, Kind::Null, None),
-            Some(Keyword::True) => push_bool(p, true),
-            Some(Keyword::False) => push_bool(p, false),
-            _ => unexpected(p, Expected::Expression),
+            Some(Keyword::This) => p.push_leaf(Kind::ThisExpr, None),
+            Some(Keyword::Super) => p.push_leaf(Kind::Super, None),
+            Some(Keyword::Null) => p.push_leaf(Kind::Null, None),
+            Some(Keyword::True) => p.push_bool(true),
+            Some(Keyword::False) => p.push_bool(false),
+            _ => p.unexpected(Expected::Expression),
         },
     }
 }
@@ -86,7 +80,7 @@ fn push_primary_leaf(p: &mut Parser<'_>) {
 #[cycle(parse)]
 pub(crate) fn parse_primary(p: &mut Parser<'_>, depth: u32) {
     if depth == 0 {
-        return too_deep(p);
+        return p.too_deep();
     }
     let (start, before) = (p.start(), p.count());
     match primary_here(p) {
@@ -100,16 +94,15 @@ pub(crate) fn parse_primary(p: &mut Parser<'_>, depth: u32) {
         Primary::Template => parse_template(p, depth - 1, false),
         Primary::Object => parse_object(p, depth - 1),
         Primary::Array => {
-            advance(p);
+            p.advance();
             parse_elements(p, depth - 1, Mark::RightBracket);
-            build(p, Kind::ArrayLit, start, before)
+            p.build(Kind::ArrayLit, start, before)
         }
         Primary::Import => {
             if push_import(p, start) {
                 parse_elements(p, depth - 1, Mark::RightParen);
-                let done = p.expect_import_arguments();
-                p.keep(done);
-                build(p, Kind::CallExpr, start, before);
+                p.expect_import_arguments();
+                p.build(Kind::CallExpr, start, before);
             }
         }
     }
@@ -119,18 +112,18 @@ pub(crate) fn parse_primary(p: &mut Parser<'_>, depth: u32) {
 fn push_import(p: &mut Parser<'_>, start: usize) -> bool {
     let before = p.count();
     if is_mark(p.peek().token, Mark::LeftParen) {
-        push_leaf(p, Kind::Import, None);
-        advance(p);
+        p.push_leaf(Kind::Import, None);
+        p.advance();
         return true;
     }
-    advance(p);
-    expect(p, Mark::Dot);
+    p.advance();
+    p.expect(Mark::Dot);
     if !p.is_module {
-        unexpected(p, Expected::Expression);
+        p.unexpected(Expected::Expression);
     }
-    expect_keyword(p, Keyword::Meta);
-    push(p, Node::Word(Word::ImportMeta));
-    build(p, Kind::MetaPropExpr, start, before);
+    p.expect_keyword(Keyword::Meta);
+    p.push(Node::Word(Word::ImportMeta));
+    p.build(Kind::MetaPropExpr, start, before);
     false
 }
 
@@ -138,15 +131,15 @@ fn push_import(p: &mut Parser<'_>, start: usize) -> bool {
 #[cycle(parse)]
 fn parse_name(p: &mut Parser<'_>, depth: u32) {
     if depth == 0 {
-        return too_deep(p);
+        return p.too_deep();
     }
     let (start, before) = (p.start(), p.count());
     if !p.is_name() || !p.may_be_name(p.keyword()) {
-        return unexpected(p, Expected::Expression);
+        return p.unexpected(Expected::Expression);
     }
-    push_name(p, Kind::Ident);
+    p.push_name(Kind::Ident);
     if p.arrow_at == start && p.is_arrow() {
-        list(p, before);
+        p.list(before);
         parse_arrow(p, depth - 1, start, before, false);
     }
 }
@@ -188,34 +181,33 @@ fn async_form(p: &Parser<'_>) -> AsyncForm {
 #[cycle(parse)]
 fn parse_async(p: &mut Parser<'_>, depth: u32) {
     if depth == 0 {
-        return too_deep(p);
+        return p.too_deep();
     }
     let (start, before) = (p.start(), p.count());
     match async_form(p) {
         AsyncForm::Name => parse_name(p, depth - 1),
         AsyncForm::Function => {
-            advance(p);
+            p.advance();
             parse_function(p, depth - 1, start, true, Kind::FnExpr, false)
         }
         AsyncForm::Arrow => {
-            advance(p);
-            push_name(p, Kind::Ident);
+            p.advance();
+            p.push_name(Kind::Ident);
             if !p.is_arrow() {
-                return unexpected(p, Expected::Mark(Mark::Arrow));
+                return p.unexpected(Expected::Mark(Mark::Arrow));
             }
-            list(p, before);
+            p.list(before);
             parse_arrow(p, depth - 1, start, before, true)
         }
         AsyncForm::Parens => {
-            push_name(p, Kind::Ident);
-            advance(p);
+            p.push_name(Kind::Ident);
+            p.advance();
             parse_elements(p, depth - 1, Mark::RightParen);
             if p.is_arrow() {
-                let done = p.drop_before_last();
-                p.keep(done);
+                p.drop_before_last();
                 parse_arrow(p, depth - 1, start, before, true)
             } else {
-                build(p, Kind::CallExpr, start, before)
+                p.build(Kind::CallExpr, start, before)
             }
         }
     }
@@ -233,11 +225,11 @@ enum Inside {
 #[cycle(parse)]
 fn parse_paren(p: &mut Parser<'_>, depth: u32) {
     if depth == 0 {
-        return too_deep(p);
+        return p.too_deep();
     }
     let (start, before) = (p.start(), p.count());
     let may_be_arrow = p.arrow_at == start;
-    advance(p);
+    p.advance();
     let (inner, context) = (p.start(), p.open());
     let mut inside = Inside::Parameters;
     for _ in 0..p.len() {
@@ -247,27 +239,26 @@ fn parse_paren(p: &mut Parser<'_>, depth: u32) {
         }
         inside = Inside::Expressions;
         parse_assignment(p, depth - 1);
-        if !take(p, Mark::Comma) {
+        if !p.take(Mark::Comma) {
             break;
         }
     }
     if p.is_mark(Mark::Dots) {
         let (dots, rest) = (p.start(), p.count());
-        advance(p);
+        p.advance();
         parse_binding(p, depth - 1, false);
-        build(p, Kind::RestPat, dots, rest);
+        p.build(Kind::RestPat, dots, rest);
     }
     p.context = context;
     let end = p.end();
-    expect(p, Mark::RightParen);
+    p.expect(Mark::RightParen);
     if may_be_arrow && p.is_arrow() {
-        list(p, before);
+        p.list(before);
         parse_arrow(p, depth - 1, start, before, false)
     } else if inside == Inside::Parameters {
-        unexpected(p, Expected::Mark(Mark::Arrow))
+        p.unexpected(Expected::Mark(Mark::Arrow))
     } else {
-        let done = p.build_paren(start, inner, end, before);
-        p.keep(done);
+        p.build_paren(start, inner, end, before);
     }
 }
 
@@ -275,36 +266,33 @@ fn parse_paren(p: &mut Parser<'_>, depth: u32) {
 #[cycle(parse)]
 fn parse_arrow(p: &mut Parser<'_>, depth: u32, start: usize, before: usize, is_async: bool) {
     if depth == 0 {
-        return too_deep(p);
+        return p.too_deep();
     }
-    let done = p.last_to_parameters(depth);
-    p.keep(done);
-    advance(p);
+    p.last_to_parameters(depth);
+    p.advance();
     let context = p.open_function(is_async, false);
     if p.is_mark(Mark::LeftBrace) {
         let body = (p.start(), p.count());
         parse_steps(p, depth - 1, Kind::BlockStmt, BODY, body);
-        let done = p.expect_plain_parameters(start);
-        p.keep(done);
+        p.expect_plain_parameters(start);
     } else {
         p.context.has_in = context.has_in;
         parse_assignment(p, depth - 1);
     }
     p.context = context;
-    push_flag(p, is_async);
-    build(p, Kind::ArrowExpr, start, before)
+    p.push_flag(is_async);
+    p.build(Kind::ArrowExpr, start, before)
 }
 
 /// The text of a template that stands here: whether it is the last.
 fn keep_text_here(p: &mut Parser<'_>, is_tagged: bool) -> bool {
     let Token::Template(part, body) = p.token() else {
-        unexpected(p, Expected::Mark(Mark::RightBrace));
+        p.unexpected(Expected::Mark(Mark::RightBrace));
         return true;
     };
     let is_tail = matches!(part, TemplatePart::Whole | TemplatePart::Tail);
-    let done = p.keep_template_text(body, is_tail, is_tagged);
-    p.keep(done);
-    advance(p);
+    p.keep_template_text(body, is_tail, is_tagged);
+    p.advance();
     is_tail
 }
 
@@ -312,7 +300,7 @@ fn keep_text_here(p: &mut Parser<'_>, is_tagged: bool) -> bool {
 #[cycle(parse)]
 pub(crate) fn parse_template(p: &mut Parser<'_>, depth: u32, is_tagged: bool) {
     if depth == 0 {
-        return too_deep(p);
+        return p.too_deep();
     }
     let (start, before) = (p.start(), p.count());
     let texts = p.texts.len();
@@ -323,14 +311,12 @@ pub(crate) fn parse_template(p: &mut Parser<'_>, depth: u32, is_tagged: bool) {
         }
         parse_expression(p, depth - 1);
         if !p.is_mark(Mark::RightBrace) {
-            return unexpected(p, Expected::Mark(Mark::RightBrace));
+            return p.unexpected(Expected::Mark(Mark::RightBrace));
         }
-        let done = p.reread(Goal::TemplateTail);
-        p.keep(done);
+        p.reread(Goal::TemplateTail);
     }
     p.context = context;
-    list(p, before);
-    let done = p.list_texts(texts);
-    p.keep(done);
-    build(p, Kind::Tpl, start, before)
+    p.list(before);
+    p.list_texts(texts);
+    p.build(Kind::Tpl, start, before)
 }

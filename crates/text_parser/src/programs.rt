@@ -1,5 +1,4 @@
 //! Programs (ECMA-262, 16).
-use crate::keeping::{close, push, push_absent, unexpected};
 use crate::modules::parse_items;
 use crate::statements::parse_run;
 use crate::steps::Run;
@@ -35,26 +34,24 @@ pub fn parse(alloc: Global, goal: Goal, depth: u32, text: &[u8]) -> Result<Node,
 
 fn parse_program(p: &mut Parser<'_>, goal: Goal, depth: u32) {
     let shebang = p.take_hashbang();
-    let done = p.begin(shebang.is_some());
-    p.keep(done);
-    push(p, Node::Span(span_of(0, p.len())));
+    p.begin(shebang.is_some());
+    p.push(Node::Span(span_of(0, p.len())));
     if goal == Goal::Module {
         parse_items(p, depth);
     } else {
         parse_run(p, depth, Run::Script);
     }
     if !p.is_end() {
-        return unexpected(p, Expected::End);
+        return p.unexpected(Expected::End);
     }
     match shebang {
         Some(line) => {
-            let done = p.push_text(line);
-            p.keep(done);
+            p.push_text(line);
         }
-        None => push_absent(p),
+        None => p.push_absent(),
     }
     match goal {
-        Goal::Module => close(p, Kind::Module, 0),
-        Goal::Script => close(p, Kind::Script, 0),
+        Goal::Module => p.close(Kind::Module, 0),
+        Goal::Script => p.close(Kind::Script, 0),
     }
 }

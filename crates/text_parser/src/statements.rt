@@ -2,10 +2,6 @@
 use crate::expressions::{parse_assignment, parse_expression};
 use crate::functions::{parse_binding, parse_class, parse_function};
 use crate::heads::{declares, is_let, parse_for, parse_variables};
-use crate::keeping::{
-    advance, build, end_statement, expect, expect_keyword, list, push_absent, push_name, take,
-    take_keyword, too_deep, unexpected,
-};
 use crate::steps::{Place, Run, Step, kind_of_word, steps_of};
 use swc_tree_node::Kind;
 use text_lexer::{Mark, Token};
@@ -92,7 +88,7 @@ fn placed(p: &mut Parser<'_>, place: Place) -> Beginning {
         return beginning;
     }
     if !p.is_keyword(Keyword::Let) || is_mark(p.peek().token, Mark::LeftBracket) {
-        unexpected(p, Expected::Statement);
+        p.unexpected(Expected::Statement);
     }
     Beginning::Expression
 }
@@ -100,7 +96,7 @@ fn placed(p: &mut Parser<'_>, place: Place) -> Beginning {
 #[cycle(parse)]
 pub(crate) fn parse_statement(p: &mut Parser<'_>, depth: u32, place: Place) {
     if depth == 0 {
-        return too_deep(p);
+        return p.too_deep();
     }
     let (start, before, covers) = (p.start(), p.count(), p.covers);
     match placed(p, place) {
@@ -113,15 +109,14 @@ pub(crate) fn parse_statement(p: &mut Parser<'_>, depth: u32, place: Place) {
             parse_function(p, depth - 1, start, false, Kind::FnDecl, hangs);
         }
         Beginning::AsyncFunction => {
-            advance(p);
+            p.advance();
             parse_function(p, depth - 1, start, true, Kind::FnDecl, false);
         }
         Beginning::Class => parse_class(p, depth - 1, Kind::ClassDecl),
         Beginning::For => parse_for(p, depth - 1),
         Beginning::Expression => parse_expression_statement(p, depth - 1),
     }
-    let done = p.end_covers(covers);
-    p.keep(done);
+    p.end_covers(covers);
 }
 
 /// An expression as a statement, or a statement with a label. The name `let` that is written with an escape does not stand
@@ -129,20 +124,20 @@ pub(crate) fn parse_statement(p: &mut Parser<'_>, depth: u32, place: Place) {
 #[cycle(parse)]
 fn parse_expression_statement(p: &mut Parser<'_>, depth: u32) {
     if depth == 0 {
-        return too_deep(p);
+        return p.too_deep();
     }
     let (start, before) = (p.start(), p.count());
     if p.is_escaped("let") && is_let(p.peek()) {
-        return unexpected(p, Expected::Statement);
+        return p.unexpected(Expected::Statement);
     }
     parse_expression(p, depth - 1);
     if p.is_mark(Mark::Colon) && p.is_last(Kind::Ident) {
-        advance(p);
+        p.advance();
         parse_statement(p, depth - 1, Place::Branch);
-        return build(p, Kind::LabeledStmt, start, before);
+        return p.build(Kind::LabeledStmt, start, before);
     }
-    end_statement(p);
-    build(p, Kind::ExprStmt, start, before)
+    p.end_statement();
+    p.build(Kind::ExprStmt, start, before)
 }
 
 /// A node of a kind, one step after another; where it begins is told, and behind how many nodes its parts are.
@@ -155,12 +150,12 @@ pub(crate) fn parse_steps(
     begun: (usize, usize),
 ) {
     if depth == 0 {
-        return too_deep(p);
+        return p.too_deep();
     }
     for step in steps {
         parse_step(p, depth - 1, *step);
     }
-    build(p, kind, begun.0, begun.1)
+    p.build(kind, begun.0, begun.1)
 }
 
 /// What has to be read for a step, once what stands before it is taken.
@@ -179,7 +174,7 @@ enum Part {
 /// What a step wants where it may be left out: nothing where it is, which makes a node that says so.
 fn unless(p: &mut Parser<'_>, is_left_out: bool, part: Part) -> Part {
     if is_left_out {
-        push_absent(p);
+        p.push_absent();
         return Part::Nothing;
     }
     part
@@ -188,22 +183,22 @@ fn unless(p: &mut Parser<'_>, is_left_out: bool, part: Part) -> Part {
 /// Goes over what a step says of words and punctuators.
 fn take_step(p: &mut Parser<'_>, step: Step) -> Part {
     match step {
-        Step::Word(keyword) => expect_keyword(p, keyword),
-        Step::Mark(mark) => expect(p, mark),
-        Step::End => end_statement(p),
+        Step::Word(keyword) => p.expect_keyword(keyword),
+        Step::Mark(mark) => p.expect(mark),
+        Step::End => p.end_statement(),
         Step::EndOfDo => {
-            take(p, Mark::Semicolon);
+            p.take(Mark::Semicolon);
         }
         Step::Here => {
             if p.line_ended() {
-                unexpected(p, Expected::Expression);
+                p.unexpected(Expected::Expression);
             }
         }
         Step::OptionalLabel => {
             if p.is_statement_end() {
-                push_absent(p);
+                p.push_absent();
             } else {
-                push_name(p, Kind::Ident);
+                p.push_name(Kind::Ident);
             }
         }
         Step::Expression => return Part::Expression,
@@ -227,24 +222,24 @@ fn take_optional(p: &mut Parser<'_>, step: Step) -> Part {
             Part::Node(Kind::CatchClause),
         ),
         Step::Else => {
-            let leads = take_keyword(p, Keyword::Else);
+            let leads = p.take_keyword(Keyword::Else);
             unless(p, !leads, Part::Statement(Place::Branch))
         }
         Step::Finalizer => {
-            let leads = take_keyword(p, Keyword::Finally);
+            let leads = p.take_keyword(Keyword::Finally);
             if !leads && p.is_last_absent() {
-                unexpected(p, Expected::Word("catch"));
+                p.unexpected(Expected::Word("catch"));
             }
             unless(p, !leads, Part::Node(Kind::BlockStmt))
         }
         Step::Parameter => {
-            let opens = take(p, Mark::LeftParen);
+            let opens = p.take(Mark::LeftParen);
             unless(p, !opens, Part::Binding)
         }
         _ => {
-            let leads = take_keyword(p, Keyword::Case);
+            let leads = p.take_keyword(Keyword::Case);
             if !leads {
-                expect_keyword(p, Keyword::Default);
+                p.expect_keyword(Keyword::Default);
             }
             unless(p, !leads, Part::Expression)
         }
@@ -255,7 +250,7 @@ fn take_optional(p: &mut Parser<'_>, step: Step) -> Part {
 #[cycle(parse)]
 fn parse_step(p: &mut Parser<'_>, depth: u32, step: Step) {
     if depth == 0 {
-        return too_deep(p);
+        return p.too_deep();
     }
     match take_step(p, step) {
         Part::Nothing => (),
@@ -263,7 +258,7 @@ fn parse_step(p: &mut Parser<'_>, depth: u32, step: Step) {
         Part::Assignment => parse_assignment(p, depth - 1),
         Part::Binding => {
             parse_binding(p, depth - 1, false);
-            expect(p, Mark::RightParen)
+            p.expect(Mark::RightParen)
         }
         Part::Statement(place) => parse_statement(p, depth - 1, place),
         Part::Node(kind) => parse_statement_of(p, depth - 1, kind),
@@ -275,7 +270,7 @@ fn parse_step(p: &mut Parser<'_>, depth: u32, step: Step) {
 #[cycle(parse)]
 fn parse_statement_of(p: &mut Parser<'_>, depth: u32, kind: Kind) {
     if depth == 0 {
-        return too_deep(p);
+        return p.too_deep();
     }
     let begun = (p.start(), p.count());
     parse_steps(p, depth - 1, kind, steps_of(kind), begun)
@@ -300,7 +295,7 @@ fn mind_default(p: &mut Parser<'_>, has_one: &mut bool) {
         return;
     }
     if *has_one {
-        return unexpected(p, Expected::Word("case"));
+        return p.unexpected(Expected::Word("case"));
     }
     *has_one = true;
 }
@@ -309,7 +304,7 @@ fn mind_default(p: &mut Parser<'_>, has_one: &mut bool) {
 #[cycle(parse)]
 pub(crate) fn parse_run(p: &mut Parser<'_>, depth: u32, run: Run) {
     if depth == 0 {
-        return too_deep(p);
+        return p.too_deep();
     }
     let before = p.count();
     let mut leads = run == Run::Body || run == Run::Script;
@@ -328,7 +323,6 @@ pub(crate) fn parse_run(p: &mut Parser<'_>, depth: u32, run: Run) {
             leads = leads && p.mind_directive(start, &mut escaped);
         }
     }
-    let done = p.end_directives(escaped);
-    p.keep(done);
-    list(p, before)
+    p.end_directives(escaped);
+    p.list(before)
 }

@@ -52,52 +52,68 @@ impl<'a> Parser<'a> {
     }
 
     /// Makes a leaf that is to be a part of a node.
-    pub fn push(&mut self, leaf: Node) -> Result<(), TextFault> {
-        self.push_high(leaf, Part::leaf())
+    pub fn push(&mut self, leaf: Node) {
+        self.push_high(leaf, Part::leaf());
     }
 
     /// Makes a node of which so much is known, and which is to be a part of another.
-    pub(crate) fn push_high(&mut self, node: Node, part: Part) -> Result<(), TextFault> {
+    pub(crate) fn push_high(&mut self, node: Node, part: Part) {
         if part.height > self.height {
-            return Err(self.too_deep());
+            return self.too_deep();
         }
-        self.nodes.push(node)?;
-        self.parts.push(part)?;
-        Ok(())
+        if self.nodes.push(node).is_err() || self.parts.push(part).is_err() {
+            self.refuse(TextFault::NoMemory);
+        }
     }
 
     /// The last node, laid and taken off, with what is known of it.
-    pub(crate) fn pop_high(&mut self) -> Result<Option<(Node, Part)>, TextFault> {
-        self.lay_last()?;
+    pub(crate) fn pop_high(&mut self) -> Option<(Node, Part)> {
+        self.lay_last();
         let part = self.last_part();
         let _ = self.parts.pop();
         let node = self.nodes.pop();
         self.laid = self.laid.min(self.nodes.len());
         match node {
-            Some(node) => Ok(Some((node, part))),
-            None => Ok(None),
+            Some(node) => Some((node, part)),
+            None => None,
         }
     }
 
     /// Makes what stands in a field that holds nothing.
-    pub fn push_absent(&mut self) -> Result<(), TextFault> {
-        self.push(Node::Absent)
+    pub fn push_absent(&mut self) {
+        self.push(Node::Absent);
     }
 
     /// Makes an operator or the keyword of a declaration.
-    pub fn push_word(&mut self, word: Word) -> Result<(), TextFault> {
-        self.push(Node::Word(word))
+    pub fn push_word(&mut self, word: Word) {
+        self.push(Node::Word(word));
     }
 
     /// Makes a flag.
-    pub fn push_flag(&mut self, flag: bool) -> Result<(), TextFault> {
-        self.push(Node::Flag(flag))
+    pub fn push_flag(&mut self, flag: bool) {
+        self.push(Node::Flag(flag));
     }
 
     /// Makes the span of what begins at a place, and ends with the last token.
-    pub fn push_span(&mut self, start: usize) -> Result<(), TextFault> {
+    pub fn push_span(&mut self, start: usize) {
         let span = self.span_from(start);
-        self.push(Node::Span(span))
+        self.push(Node::Span(span));
+    }
+
+    // Makes a node, or keeps why there is none.
+    fn push_made(&mut self, made: Result<Node, TextFault>) {
+        match made {
+            Ok(node) => self.push(node),
+            Err(fault) => self.refuse(fault),
+        }
+    }
+
+    // The same of a text.
+    fn push_made_text(&mut self, made: Result<Text, TextFault>) {
+        match made {
+            Ok(text) => self.push(Node::Text(text)),
+            Err(fault) => self.refuse(fault),
+        }
     }
 
     /// A text of the tree, of bytes that the lexer has read.
@@ -112,9 +128,9 @@ impl<'a> Parser<'a> {
     }
 
     /// Makes a text.
-    pub fn push_text(&mut self, text: &[u8]) -> Result<(), TextFault> {
-        let text = self.text_of(text)?;
-        self.push(Node::Text(text))
+    pub fn push_text(&mut self, text: &[u8]) {
+        let made = self.text_of(text);
+        self.push_made_text(made);
     }
 
     /// The value of what is written with escapes, or may be.
@@ -128,17 +144,27 @@ impl<'a> Parser<'a> {
         }
     }
 
-    fn push_value(&mut self, body: &[u8]) -> Result<(), TextFault> {
-        let text = self.value_of(Reading::Quoted, body)?;
-        self.push(Node::Text(text))
+    fn push_value(&mut self, body: &[u8]) {
+        let made = self.value_of(Reading::Quoted, body);
+        self.push_made_text(made);
     }
 
     /// Makes an identifier of a kind of the name here, and goes behind it. The name may be bound and referred to.
-    pub fn push_name(&mut self, kind: Kind) -> Result<(), TextFault> {
-        let sym = self.name_here()?;
+    pub fn push_name(&mut self, kind: Kind) {
+        let named = self.name_here();
+        self.push_named(kind, named);
+    }
+
+    // Makes an identifier of the word here, and goes behind it; or keeps why there is none.
+    fn push_named(&mut self, kind: Kind, named: Result<Text, TextFault>) {
         let start = self.start();
-        self.advance()?;
-        self.push_ident(kind, sym, start)
+        match named {
+            Ok(sym) => {
+                self.advance();
+                self.push_ident(kind, sym, start);
+            }
+            Err(fault) => self.refuse(fault),
+        }
     }
 
     fn name_here(&self) -> Result<Text, TextFault> {
@@ -178,96 +204,94 @@ impl<'a> Parser<'a> {
     }
 
     /// The same of any word.
-    pub fn push_any_name(&mut self) -> Result<(), TextFault> {
-        let sym = self.word_here(Expected::Name)?;
-        let start = self.start();
-        self.advance()?;
-        self.push_ident(Kind::Ident, sym, start)
+    pub fn push_any_name(&mut self) {
+        let named = self.word_here(Expected::Name);
+        self.push_named(Kind::Ident, named);
     }
 
-    fn push_ident(&mut self, kind: Kind, sym: Text, start: usize) -> Result<(), TextFault> {
+    fn push_ident(&mut self, kind: Kind, sym: Text, start: usize) {
         let ident = Ident {
             span: self.span_from(start),
             ctxt: SyntaxContext::empty(self.alloc),
             sym,
         };
-        let ident = Boxed::new(self.alloc, ident)?;
-        self.push(Node::Identifier(kind, ident))
+        match Boxed::new(self.alloc, ident) {
+            Ok(ident) => self.push(Node::Identifier(kind, ident)),
+            Err(_) => self.refuse(TextFault::NoMemory),
+        }
     }
 
     /// Makes a key of the word here, and goes behind it.
-    pub fn push_key_name(&mut self) -> Result<(), TextFault> {
+    pub fn push_key_name(&mut self) {
         let (start, before) = (self.start(), self.count());
-        let sym = self.word_here(Expected::Key)?;
-        self.push(Node::Text(sym))?;
-        self.advance()?;
-        self.build(Kind::IdentName, start, before)
+        self.push_key_text();
+        self.build(Kind::IdentName, start, before);
     }
 
     /// Makes a private name of what is written behind `#` here, and goes behind it.
-    pub fn push_private_name(&mut self, raw: &[u8]) -> Result<(), TextFault> {
+    pub fn push_private_name(&mut self, raw: &[u8]) {
         let (start, before) = (self.start(), self.count());
-        self.push_value(raw)?;
-        self.advance()?;
-        self.build(Kind::PrivateName, start, before)
+        self.push_value(raw);
+        self.advance();
+        self.build(Kind::PrivateName, start, before);
     }
 
     /// Makes a node of a kind of the token here, and goes behind it. It holds a text, if one is given.
-    pub fn push_leaf(&mut self, kind: Kind, text: Option<&[u8]>) -> Result<(), TextFault> {
+    pub fn push_leaf(&mut self, kind: Kind, text: Option<&[u8]>) {
         let (start, before) = (self.start(), self.count());
         if let Some(text) = text {
-            self.push_text(text)?;
+            self.push_text(text);
         }
-        self.advance()?;
-        self.build(kind, start, before)
+        self.advance();
+        self.build(kind, start, before);
     }
 
     /// Makes a boolean literal of the word here, and goes behind it.
-    pub fn push_bool(&mut self, value: bool) -> Result<(), TextFault> {
+    pub fn push_bool(&mut self, value: bool) {
         let (start, before) = (self.start(), self.count());
-        self.push_flag(value)?;
-        self.advance()?;
-        self.build(Kind::Bool, start, before)
+        self.push_flag(value);
+        self.advance();
+        self.build(Kind::Bool, start, before);
     }
 
     /// Makes a string of the one here, and goes behind it.
-    pub fn push_string(&mut self) -> Result<(), TextFault> {
+    pub fn push_string(&mut self) {
         let (start, before) = (self.start(), self.count());
         let Token::Str(body) = self.token() else {
             return self.unexpected(Expected::Text);
         };
-        self.push_value(body)?;
-        self.push_text(self.written())?;
-        self.advance()?;
-        self.build(Kind::Str, start, before)
+        self.push_value(body);
+        self.push_text(self.written());
+        self.advance();
+        self.build(Kind::Str, start, before);
     }
 
     /// Makes a text of the value of the string here, and goes behind it.
-    pub fn push_string_value(&mut self) -> Result<(), TextFault> {
+    pub fn push_string_value(&mut self) {
         let Token::Str(body) = self.token() else {
             return self.unexpected(Expected::Text);
         };
-        self.push_value(body)?;
-        self.advance()
+        self.push_value(body);
+        self.advance();
     }
 
     /// Makes a text of the word here, and goes behind it.
-    pub fn push_key_text(&mut self) -> Result<(), TextFault> {
-        let text = self.word_here(Expected::Key)?;
-        self.push(Node::Text(text))?;
-        self.advance()
+    pub fn push_key_text(&mut self) {
+        let made = self.word_here(Expected::Key);
+        self.push_made_text(made);
+        self.advance();
     }
 
     /// Makes a regular expression of the one here, and goes behind it.
-    pub fn push_regex(&mut self) -> Result<(), TextFault> {
+    pub fn push_regex(&mut self) {
         let (start, before) = (self.start(), self.count());
         let Token::Regex(pattern, flags) = self.token() else {
             return self.unexpected(Expected::Expression);
         };
-        self.push_text(pattern)?;
-        self.push_text(flags)?;
-        self.advance()?;
-        self.build(Kind::Regex, start, before)
+        self.push_text(pattern);
+        self.push_text(flags);
+        self.advance();
+        self.build(Kind::Regex, start, before);
     }
 
     fn cooked(&self, body: &[u8], is_tagged: bool) -> Result<Node, TextFault> {
@@ -287,124 +311,117 @@ impl<'a> Parser<'a> {
     }
 
     /// Makes a text of a template, which begins so many bytes in; a template with a tag may have bad escapes.
-    pub fn keep_template_text(
-        &mut self,
-        body: &[u8],
-        is_tail: bool,
-        is_tagged: bool,
-    ) -> Result<(), TextFault> {
+    pub fn keep_template_text(&mut self, body: &[u8], is_tail: bool, is_tagged: bool) {
         let start = self.start().saturating_add(1);
-        let cooked = self.cooked(body, is_tagged)?;
-        let raw = self.raw(body)?;
         let span = span_of(start, start.saturating_add(body.len()));
         let before = self.count();
-        self.push(Node::Span(span))?;
-        self.push_flag(is_tail)?;
-        self.push(cooked)?;
-        self.push(raw)?;
-        self.close(Kind::TplElement, before)?;
-        match self.pop_high()? {
-            Some((text, _)) => {
-                self.texts.push(text)?;
-                Ok(())
-            }
-            None => Ok(()),
+        self.push(Node::Span(span));
+        self.push_flag(is_tail);
+        let cooked = self.cooked(body, is_tagged);
+        self.push_made(cooked);
+        let raw = self.raw(body);
+        self.push_made(raw);
+        self.close(Kind::TplElement, before);
+        if let Some((text, _)) = self.pop_high()
+            && self.texts.push(text).is_err()
+        {
+            self.refuse(TextFault::NoMemory);
         }
     }
 
     /// Puts a node before those behind so many.
-    pub fn insert(&mut self, before: usize, node: Node) -> Result<(), TextFault> {
-        if before > self.nodes.len() {
+    pub fn insert(&mut self, before: usize, node: Node) {
+        if before > self.nodes.len() || before > self.parts.len() {
             return self.unexpected(Expected::Token);
         }
-        self.nodes.insert(before, node)?;
-        if before <= self.parts.len() {
-            self.parts.insert(before, Part::leaf())?;
+        if self.nodes.insert(before, node).is_err()
+            || self.parts.insert(before, Part::leaf()).is_err()
+        {
+            self.refuse(TextFault::NoMemory);
         }
-        Ok(())
     }
 
     /// Makes a node of a kind that begins at a place, whose other fields are the nodes behind so many.
-    pub fn build(&mut self, kind: Kind, start: usize, before: usize) -> Result<(), TextFault> {
+    pub fn build(&mut self, kind: Kind, start: usize, before: usize) {
         let span = self.span_from(start);
-        self.insert(before, Node::Span(span))?;
-        self.close(kind, before)
+        self.insert(before, Node::Span(span));
+        self.close(kind, before);
     }
 
     /// The same with a word or a flag between the span and the other fields.
-    pub fn build_with(
-        &mut self,
-        kind: Kind,
-        second: Node,
-        start: usize,
-        before: usize,
-    ) -> Result<(), TextFault> {
-        self.insert(before, second)?;
-        self.build(kind, start, before)
+    pub fn build_with(&mut self, kind: Kind, second: Node, start: usize, before: usize) {
+        self.insert(before, second);
+        self.build(kind, start, before);
     }
 
     /// Makes a node of a kind, whose fields are the nodes behind so many.
-    pub fn close(&mut self, kind: Kind, before: usize) -> Result<(), TextFault> {
-        let part = self.part_from(before)?;
+    pub fn close(&mut self, kind: Kind, before: usize) {
+        let part = self.part_from(before);
         if !part.is_small() {
             return self.wait(Node::Tree(kind, Items::new(self.alloc)), part);
         }
-        let fields = self.take_from(before)?;
-        self.push_high(Node::Tree(kind, fields), part.settled())
+        if let Some(fields) = self.take_from(before) {
+            self.push_high(Node::Tree(kind, fields), part.settled());
+        }
     }
 
     /// Makes a list of the nodes behind so many.
-    pub fn list(&mut self, before: usize) -> Result<(), TextFault> {
-        let part = self.part_from(before)?;
+    pub fn list(&mut self, before: usize) {
+        let part = self.part_from(before);
         if !part.is_small() {
             return self.wait(Node::List(Items::new(self.alloc)), part);
         }
-        let items = self.take_from(before)?;
-        self.push_high(Node::List(items), part.settled())
+        if let Some(items) = self.take_from(before) {
+            self.push_high(Node::List(items), part.settled());
+        }
     }
 
     /// What is known of a node, whose parts are the nodes behind so many.
-    fn part_from(&self, before: usize) -> Result<Part, TextFault> {
-        let parts = match self.parts.as_slice().split_at_checked(before) {
-            Some((_, parts)) => parts,
-            None => &[],
-        };
-        let part = joined(parts);
-        if part.height > self.height {
-            return Err(self.too_deep());
+    fn part_from(&self, before: usize) -> Part {
+        match self.parts.as_slice().split_at_checked(before) {
+            Some((_, parts)) => joined(parts),
+            None => joined(&[]),
         }
-        Ok(part)
     }
 
-    fn take_from(&mut self, before: usize) -> Result<Items<Node>, TextFault> {
+    // The nodes behind so many, taken off; none where there are fewer or memory is refused.
+    fn take_from(&mut self, before: usize) -> Option<Items<Node>> {
         if before > self.nodes.len() {
-            return Err(TextFault::Unexpected {
-                at: self.start(),
-                expected: Expected::Token,
-            });
+            self.unexpected(Expected::Token);
+            return None;
         }
         self.parts.truncate(before);
         self.laid = self.laid.min(before);
-        Ok(Items::from_vec(self.nodes.split_off(before)?))
+        match self.nodes.split_off(before) {
+            Ok(taken) => Some(Items::from_vec(taken)),
+            Err(_) => {
+                self.refuse(TextFault::NoMemory);
+                None
+            }
+        }
     }
 
     /// Makes a list of the templates' texts behind so many.
-    pub fn list_texts(&mut self, before: usize) -> Result<(), TextFault> {
+    pub fn list_texts(&mut self, before: usize) {
         if before > self.texts.len() {
             return self.unexpected(Expected::Token);
         }
-        let texts = self.texts.split_off(before)?;
-        let part = Part::laid(TEXTS, u32::MAX);
-        self.push_high(Node::List(Items::from_vec(texts)), part)
+        match self.texts.split_off(before) {
+            Ok(texts) => {
+                let part = Part::laid(TEXTS, u32::MAX);
+                self.push_high(Node::List(Items::from_vec(texts)), part);
+            }
+            Err(_) => self.refuse(TextFault::NoMemory),
+        }
     }
 
     /// Turns round the last two nodes.
-    pub fn swap(&mut self) -> Result<(), TextFault> {
-        let (Some(last), Some(other)) = (self.pop_high()?, self.pop_high()?) else {
+    pub fn swap(&mut self) {
+        let (Some(last), Some(other)) = (self.pop_high(), self.pop_high()) else {
             return self.unexpected(Expected::Token);
         };
-        self.push_high(last.0, last.1)?;
-        self.push_high(other.0, other.1)
+        self.push_high(last.0, last.1);
+        self.push_high(other.0, other.1);
     }
 
     /// Whether the last node is of a kind.

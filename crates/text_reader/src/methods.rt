@@ -1,5 +1,5 @@
 //! The nodes of methods, accessors, constructors and fields.
-use crate::fault::{Expected, TextFault};
+use crate::fault::Expected;
 use crate::modifiers::Modifiers;
 use crate::parser::Parser;
 use crate::waiting::{Part, View};
@@ -81,42 +81,33 @@ fn is_constructor_key(key: Option<&Node>) -> bool {
 
 impl<'a> Parser<'a> {
     /// Makes a method or an accessor of an object of the last two nodes, a key and a function.
-    pub fn build_property(
-        &mut self,
-        kind: Word,
-        start: usize,
-        before: usize,
-    ) -> Result<(), TextFault> {
+    pub fn build_property(&mut self, kind: Word, start: usize, before: usize) {
         if !suits(kind, self.last_view()) {
             return self.unexpected(Expected::Parameters);
         }
         if kind == Word::Method {
             return self.close(Kind::MethodProp, before);
         }
-        let Some((parameters, body, part)) = self.pop_function()? else {
+        let Some((parameters, body, part)) = self.pop_function() else {
             return self.unexpected(Expected::Parameters);
         };
         if kind == Word::Getter {
-            self.push_high(body, part)?;
+            self.push_high(body, part);
             return self.build(Kind::GetterProp, start, before);
         }
         let Some(parameter) = only_pattern(parameters) else {
             return self.unexpected(Expected::Parameters);
         };
-        self.push_high(parameter, part)?;
-        self.push_high(body, part)?;
-        self.build(Kind::SetterProp, start, before)
+        self.push_high(parameter, part);
+        self.push_high(body, part);
+        self.build(Kind::SetterProp, start, before);
     }
 
     // The parameters and the body of the last node, a function, and its height.
-    fn pop_function(&mut self) -> Result<Option<(Node, Node, Part)>, TextFault> {
-        let Some((function, part)) = self.pop_high()? else {
-            return Ok(None);
-        };
-        match parts_of(function) {
-            Some((parameters, body)) => Ok(Some((parameters, body, part))),
-            None => Ok(None),
-        }
+    fn pop_function(&mut self) -> Option<(Node, Node, Part)> {
+        let (function, part) = self.pop_high()?;
+        let (parameters, body) = parts_of(function)?;
+        Some((parameters, body, part))
     }
 
     /// Makes a method, an accessor or the constructor of a class of the last two nodes, a key and a function.
@@ -126,34 +117,38 @@ impl<'a> Parser<'a> {
         is_static: bool,
         start: usize,
         before: usize,
-    ) -> Result<(), TextFault> {
+    ) {
         let is_constructor = !is_static && is_constructor_key(self.nodes.get(before));
         if is_constructor && modifiers.is_plain() {
-            let Some((parameters, body, part)) = self.pop_function()? else {
-                return self.unexpected(Expected::Parameters);
-            };
-            self.push_high(parameters, part)?;
-            self.push_high(body, part)?;
-            return self.build(Kind::Constructor, start, before);
+            return self.build_constructor(start, before);
         }
         if is_constructor || !suits(modifiers.kind, self.last_view()) {
             return self.unexpected(Expected::Parameters);
         }
-        self.push_word(modifiers.kind)?;
-        self.push_flag(is_static)?;
+        self.push_word(modifiers.kind);
+        self.push_flag(is_static);
         if self.is_at(before, Kind::PrivateName) {
-            self.build(Kind::PrivateMethod, start, before)
+            self.build(Kind::PrivateMethod, start, before);
         } else {
-            self.build(Kind::ClassMethod, start, before)
+            self.build(Kind::ClassMethod, start, before);
         }
     }
 
+    fn build_constructor(&mut self, start: usize, before: usize) {
+        let Some((parameters, body, part)) = self.pop_function() else {
+            return self.unexpected(Expected::Parameters);
+        };
+        self.push_high(parameters, part);
+        self.push_high(body, part);
+        self.build(Kind::Constructor, start, before);
+    }
+
     /// Makes a field of a class.
-    pub fn build_field(&mut self, start: usize, before: usize) -> Result<(), TextFault> {
+    pub fn build_field(&mut self, start: usize, before: usize) {
         if self.is_at(before, Kind::PrivateName) {
-            self.build(Kind::PrivateProp, start, before)
+            self.build(Kind::PrivateProp, start, before);
         } else {
-            self.build(Kind::ClassProp, start, before)
+            self.build(Kind::ClassProp, start, before);
         }
     }
 }

@@ -181,28 +181,24 @@ impl<'a> Parser<'a> {
     }
 
     /// Goes to the first token.
-    pub fn begin(&mut self, hashbang: bool) -> Result<(), TextFault> {
-        self.go_on(!hashbang)
+    pub fn begin(&mut self, hashbang: bool) {
+        self.go_on(!hashbang);
     }
 
     /// Goes to the next token.
-    pub fn advance(&mut self) -> Result<(), TextFault> {
+    pub fn advance(&mut self) {
         self.left_behind = self.rest.len();
-        self.go_on(false)
+        self.go_on(false);
     }
 
-    fn go_on(&mut self, fresh: bool) -> Result<(), TextFault> {
+    fn go_on(&mut self, fresh: bool) {
         let Some((ended, here)) = skip_blank(self.comments, fresh, self.rest) else {
             let at = self.at(self.rest);
-            return Err(TextFault::Unterminated { at });
+            return self.refuse(TextFault::Unterminated { at });
         };
-        let (token, rest) = self.lexed(Goal::Div, here)?;
         self.ended = ended;
         self.here = here;
-        self.token = token;
-        self.keyword = keyword_in(token);
-        self.rest = rest;
-        Ok(())
+        self.reread(Goal::Div);
     }
 
     /// Goes behind the first line, where it begins with `#!`, and answers what is in it behind these.
@@ -217,12 +213,15 @@ impl<'a> Parser<'a> {
     }
 
     /// Reads the token here anew, as one of another goal (ECMA-262, 12).
-    pub fn reread(&mut self, goal: Goal) -> Result<(), TextFault> {
-        let (token, rest) = self.lexed(goal, self.here)?;
-        self.token = token;
-        self.keyword = keyword_in(token);
-        self.rest = rest;
-        Ok(())
+    pub fn reread(&mut self, goal: Goal) {
+        match self.lexed(goal, self.here) {
+            Ok((token, rest)) => {
+                self.token = token;
+                self.keyword = keyword_in(token);
+                self.rest = rest;
+            }
+            Err(fault) => self.refuse(fault),
+        }
     }
 
     fn behind(&self, text: &'a [u8]) -> Next<'a> {
@@ -331,13 +330,6 @@ impl<'a> Parser<'a> {
         }
     }
 
-    /// Keeps what is at fault, if something is.
-    pub fn keep(&mut self, done: Result<(), TextFault>) {
-        if let Err(fault) = done {
-            self.refuse(fault);
-        }
-    }
-
     /// The first thing at fault.
     pub fn fault(&self) -> Option<TextFault> {
         self.fault
@@ -348,71 +340,71 @@ impl<'a> Parser<'a> {
         self.fault.is_some()
     }
 
-    /// That the text nests too deeply here.
-    pub fn too_deep(&self) -> TextFault {
-        TextFault::TooDeep { at: self.start() }
+    /// Refuses a text that nests too deeply here.
+    pub fn too_deep(&mut self) {
+        let at = self.start();
+        self.refuse(TextFault::TooDeep { at });
+    }
+
+    /// Refuses what stands at a place.
+    pub fn unexpected_at(&mut self, at: usize, expected: Expected) {
+        self.refuse(TextFault::Unexpected { at, expected });
     }
 
     /// Refuses the token here.
-    pub fn unexpected(&self, expected: Expected) -> Result<(), TextFault> {
-        Err(TextFault::Unexpected {
-            at: self.start(),
-            expected,
-        })
+    pub fn unexpected(&mut self, expected: Expected) {
+        let at = self.start();
+        self.refuse(TextFault::Unexpected { at, expected });
     }
 
     /// Refuses what begins here, as of another language.
-    pub fn not_read(&self, language: Language) -> Result<(), TextFault> {
-        Err(TextFault::NotRead {
-            at: self.start(),
-            language,
-        })
+    pub fn not_read(&mut self, language: Language) {
+        let at = self.start();
+        self.refuse(TextFault::NotRead { at, language });
     }
 
     /// Goes behind a punctuator, if it stands here.
-    pub fn take(&mut self, mark: Mark) -> Result<bool, TextFault> {
+    pub fn take(&mut self, mark: Mark) -> bool {
         let is_there = self.is_mark(mark);
         if is_there {
-            self.advance()?;
+            self.advance();
         }
-        Ok(is_there)
+        is_there
     }
 
     /// Goes behind a punctuator that has to stand here.
-    pub fn expect(&mut self, mark: Mark) -> Result<(), TextFault> {
+    pub fn expect(&mut self, mark: Mark) {
         if self.is_mark(mark) {
-            self.advance()
+            self.advance();
         } else {
-            self.unexpected(Expected::Mark(mark))
+            self.unexpected(Expected::Mark(mark));
         }
     }
 
     /// Goes behind a word, if it stands here.
-    pub fn take_keyword(&mut self, keyword: Keyword) -> Result<bool, TextFault> {
+    pub fn take_keyword(&mut self, keyword: Keyword) -> bool {
         let is_there = self.is_keyword(keyword);
         if is_there {
-            self.advance()?;
+            self.advance();
         }
-        Ok(is_there)
+        is_there
     }
 
     /// Goes behind a word that has to stand here.
-    pub fn expect_keyword(&mut self, keyword: Keyword) -> Result<(), TextFault> {
+    pub fn expect_keyword(&mut self, keyword: Keyword) {
         if self.is_keyword(keyword) {
-            self.advance()
+            self.advance();
         } else {
-            self.unexpected(Expected::Word(spelling_of(keyword)))
+            self.unexpected(Expected::Word(spelling_of(keyword)));
         }
     }
 
     /// Goes behind the end of a statement, which may be left to the reader.
-    pub fn end_statement(&mut self) -> Result<(), TextFault> {
+    pub fn end_statement(&mut self) {
         if self.is_mark(Mark::Semicolon) {
-            self.advance()
-        } else if self.may_insert() {
-            Ok(())
-        } else {
-            self.unexpected(Expected::Semicolon)
+            self.advance();
+        } else if !self.may_insert() {
+            self.unexpected(Expected::Semicolon);
         }
     }
 

@@ -144,21 +144,16 @@ fn is_var(word: Option<View<'_>>) -> bool {
 
 impl<'a> Parser<'a> {
     /// Notes that a name here has a default, which only a pattern may have.
-    pub fn begin_cover(&mut self) -> Result<(), TextFault> {
+    pub fn begin_cover(&mut self) {
         self.covers = self.covers.saturating_add(1);
         self.cover_at = self.start();
-        self.last_as_pattern(true, u32::MAX)
+        self.last_as_pattern(true, u32::MAX);
     }
 
     /// Sees to it that all names with defaults are in patterns, but for those that were open before.
-    pub fn end_covers(&self, before: usize) -> Result<(), TextFault> {
+    pub fn end_covers(&mut self, before: usize) {
         if self.covers > before {
-            Err(TextFault::Unexpected {
-                at: self.cover_at,
-                expected: Expected::Mark(Mark::Comma),
-            })
-        } else {
-            Ok(())
+            self.unexpected_at(self.cover_at, Expected::Mark(Mark::Comma));
         }
     }
 
@@ -183,71 +178,68 @@ impl<'a> Parser<'a> {
     }
 
     /// Keeps in mind that a comma stands here which closes a list, if one does, behind an element with dots.
-    pub fn mind_last_comma(&mut self, close: Mark) -> Result<(), TextFault> {
+    pub fn mind_last_comma(&mut self, close: Mark) {
         if self.is_mark(Mark::Comma) && is_mark(self.peek().token, close) {
             let (at, end) = (self.start(), place(self.end()));
-            self.last_commas.push(LastComma { at, close })?;
-            self.comma_ends.push(end)?;
+            let comma = LastComma { at, close };
+            if self.last_commas.push(comma).is_err() || self.comma_ends.push(end).is_err() {
+                self.refuse(TextFault::NoMemory);
+            }
         }
-        Ok(())
     }
 
     // A pattern is one higher than the expression, where a name stands for a property and what it is bound to.
-    fn resolve(
-        &mut self,
-        read: Result<Node, PatternError>,
-        part: Part,
-        covers: usize,
-    ) -> Result<(), TextFault> {
+    fn resolve(&mut self, read: Result<Node, PatternError>, part: Part, covers: usize) {
         self.covers = self.covers.saturating_sub(covers);
         match read {
             Ok(node) => self.push_high(node, part.raised()),
-            Err(error) => Err(self.refused(error)),
+            Err(error) => {
+                let fault = self.refused(error);
+                self.refuse(fault);
+            }
         }
     }
 
-    fn last_as_pattern(&mut self, binds: bool, depth: u32) -> Result<(), TextFault> {
-        let Some((node, part)) = self.pop_high()? else {
+    fn last_as_pattern(&mut self, binds: bool, depth: u32) {
+        let Some((node, part)) = self.pop_high() else {
             return self.unexpected(Expected::Target);
         };
         let mut covers = 0;
         let read = pattern_of(node, self.reading(binds), depth, &mut covers);
-        self.resolve(read, part, covers)
+        self.resolve(read, part, covers);
     }
 
     /// Reads the last node anew as what an operator assigns to; only `=` takes patterns.
-    pub fn last_to_target(&mut self, word: Word, depth: u32) -> Result<(), TextFault> {
+    pub fn last_to_target(&mut self, word: Word, depth: u32) {
         if word != Word::Assign {
-            self.expect_simple_target(depth)?;
+            self.expect_simple_target(depth);
         }
         let is_assignment = self.is_last(Kind::AssignExpr);
         if is_assignment {
             return self.unexpected(Expected::Target);
         }
-        self.last_as_pattern(false, depth)
+        self.last_as_pattern(false, depth);
     }
 
     /// Reads the last node anew as a pattern that binds names.
-    pub fn last_to_binding(&mut self, depth: u32) -> Result<(), TextFault> {
-        self.last_as_pattern(true, depth)
+    pub fn last_to_binding(&mut self, depth: u32) {
+        self.last_as_pattern(true, depth);
     }
 
     /// Reads the last node, a list, anew as parameters.
-    pub fn last_to_parameters(&mut self, depth: u32) -> Result<(), TextFault> {
-        let Some((node, part)) = self.pop_high()? else {
+    pub fn last_to_parameters(&mut self, depth: u32) {
+        let Some((node, part)) = self.pop_high() else {
             return self.unexpected(Expected::Target);
         };
         let mut covers = 0;
         let read = parameters_of(node, self.reading(true), depth, &mut covers);
-        self.resolve(read, part, covers)
+        self.resolve(read, part, covers);
     }
 
     /// Reads the last node anew as what a loop assigns to, unless it declares.
-    pub fn last_to_head(&mut self, depth: u32) -> Result<(), TextFault> {
-        if self.is_last(Kind::VarDecl) || self.is_last(Kind::UsingDecl) {
-            Ok(())
-        } else {
-            self.last_to_target(Word::Assign, depth)
+    pub fn last_to_head(&mut self, depth: u32) {
+        if !self.is_last(Kind::VarDecl) && !self.is_last(Kind::UsingDecl) {
+            self.last_to_target(Word::Assign, depth);
         }
     }
 
@@ -278,71 +270,56 @@ impl<'a> Parser<'a> {
 
     /// Sees to it that a loop over values does not begin with the name `async`, which is written with an escape: the tree would
     /// say `async of`, which no such loop begins with (ECMA-262, 14.7.5).
-    pub fn end_head_of(&self, head: usize, is_await: bool) -> Result<(), TextFault> {
-        match self.nodes.last() {
-            Some(Node::Identifier(_, ident)) if !is_await && ident.get().sym.as_str() == "async" =>
-                {
-                    Err(TextFault::Unexpected {
-                        at: head,
-                        expected: Expected::Target,
-                    })
-                }
-            _ => Ok(()),
+    pub fn end_head_of(&mut self, head: usize, is_await: bool) {
+        let is_async = match self.nodes.last() {
+            Some(Node::Identifier(_, ident)) => ident.get().sym.as_str() == "async",
+            _ => false,
+        };
+        if is_async && !is_await {
+            self.unexpected_at(head, Expected::Target);
         }
     }
 
     /// Sees to it that parameters are plain names where the body behind them, the last node, has the directive (ECMA-262, 15.1.1);
     /// where the function begins is told.
-    pub fn expect_plain_parameters(&self, at: usize) -> Result<(), TextFault> {
+    pub fn expect_plain_parameters(&mut self, at: usize) {
         if makes_strict(self.last_view()) && !are_plain(self.view_before_last()) {
-            Err(TextFault::Unexpected {
-                at,
-                expected: Expected::Parameters,
-            })
-        } else {
-            Ok(())
+            self.unexpected_at(at, Expected::Parameters);
         }
     }
 
     /// Sees to it that what a loop with semicolons begins with may stand there.
-    pub fn end_head(&self, head: usize) -> Result<(), TextFault> {
+    pub fn end_head(&mut self, head: usize) {
         if self.is_last(Kind::UsingDecl) {
-            return Err(TextFault::Unexpected {
-                at: head,
-                expected: Expected::Expression,
-            });
+            self.unexpected_at(head, Expected::Expression);
         }
-        Ok(())
     }
 
     /// Sees to it that the last node is a name or a member.
-    pub fn expect_simple_target(&self, depth: u32) -> Result<(), TextFault> {
-        match self.last_view() {
-            Some(node) if is_simple_target(node, depth) => Ok(()),
-            _ => self.unexpected(Expected::Target),
+    pub fn expect_simple_target(&mut self, depth: u32) {
+        let is_simple = match self.last_view() {
+            Some(node) => is_simple_target(node, depth),
+            None => false,
+        };
+        if !is_simple {
+            self.unexpected(Expected::Target);
         }
     }
 
     /// Makes parentheses of the expressions behind so many, which begin and end at places.
-    pub fn build_paren(
-        &mut self,
-        start: usize,
-        inner: usize,
-        end: usize,
-        before: usize,
-    ) -> Result<(), TextFault> {
+    pub fn build_paren(&mut self, start: usize, inner: usize, end: usize, before: usize) {
         if self.count() != before.saturating_add(1) {
-            self.list(before)?;
-            self.insert(before, Node::Span(span_of(inner, end)))?;
-            self.close(Kind::SeqExpr, before)?;
+            self.list(before);
+            self.insert(before, Node::Span(span_of(inner, end)));
+            self.close(Kind::SeqExpr, before);
         }
-        self.build(Kind::ParenExpr, start, before)
+        self.build(Kind::ParenExpr, start, before);
     }
 
     /// Lets go of the node before the last.
-    pub fn drop_before_last(&mut self) -> Result<(), TextFault> {
-        let last = self.pop_high()?;
-        let _ = self.pop_high()?;
+    pub fn drop_before_last(&mut self) {
+        let last = self.pop_high();
+        let _ = self.pop_high();
         match last {
             Some((last, part)) => self.push_high(last, part),
             None => self.unexpected(Expected::Token),
@@ -350,7 +327,7 @@ impl<'a> Parser<'a> {
     }
 
     /// Sees to it that `import` has one argument or two, none of them with dots (ECMA-262, 13.3.10).
-    pub fn expect_import_arguments(&self) -> Result<(), TextFault> {
+    pub fn expect_import_arguments(&mut self) {
         let fits = match self.last_view() {
             Some(arguments) => match (arguments.len(), arguments.get(0), arguments.get(1)) {
                 (1, Some(module), _) => !is_spread(module),
@@ -359,10 +336,8 @@ impl<'a> Parser<'a> {
             },
             None => false,
         };
-        if fits {
-            Ok(())
-        } else {
-            self.unexpected(Expected::Parameters)
+        if !fits {
+            self.unexpected(Expected::Parameters);
         }
     }
 
@@ -383,10 +358,12 @@ impl<'a> Parser<'a> {
     }
 
     /// Sees to it that code with a directive that is written otherwise than `"use strict"` is strict all the same.
-    pub fn end_directives(&self, escaped: Option<usize>) -> Result<(), TextFault> {
+    pub fn end_directives(&mut self, escaped: Option<usize>) {
         match escaped {
-            Some(at) if !self.context.is_strict => Err(TextFault::EscapedDirective { at }),
-            _ => Ok(()),
+            Some(at) if !self.context.is_strict => {
+                self.refuse(TextFault::EscapedDirective { at });
+            }
+            _ => (),
         }
     }
 }

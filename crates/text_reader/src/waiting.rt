@@ -154,23 +154,27 @@ fn laid(
 
 impl<'a> Parser<'a> {
     /// Makes a node, whose fields or items are the last of the nodes, and wait.
-    pub(crate) fn wait(&mut self, node: Node, part: Part) -> Result<(), TextFault> {
+    pub(crate) fn wait(&mut self, node: Node, part: Part) {
+        if part.height > self.height {
+            return self.too_deep();
+        }
         for _ in 0..part.below.own {
             let below = self.last_part().below;
             let _ = self.parts.pop();
-            if let Some(node) = self.nodes.pop() {
-                self.waiting.push(Waiting { node, below })?;
+            if let Some(node) = self.nodes.pop()
+                && self.waiting.push(Waiting { node, below }).is_err()
+            {
+                return self.refuse(TextFault::NoMemory);
             }
         }
         self.laid = self.laid.min(self.nodes.len());
         let lays = when_laid(&node);
-        self.nodes.push(node)?;
-        self.parts.push(part)?;
+        self.push_high(node, part);
         match lays {
             Lays::All => self.lay_all(),
             Lays::Last => self.lay_last(),
             Lays::Full if self.waiting.len() > MANY => self.lay_all(),
-            Lays::Full => Ok(()),
+            Lays::Full => (),
         }
     }
 
@@ -204,30 +208,33 @@ impl<'a> Parser<'a> {
     }
 
     /// Lays all that waits.
-    fn lay_all(&mut self) -> Result<(), TextFault> {
+    fn lay_all(&mut self) {
         let mut start = 0;
         for number in self.laid..self.nodes.len() {
-            start = self.lay(number, start)?;
+            match self.lay(number, start) {
+                Ok(end) => start = end,
+                Err(fault) => return self.refuse(fault),
+            }
         }
         self.laid = self.nodes.len();
         self.waiting.clear();
-        Ok(())
     }
 
     /// Lays the last node.
-    pub(crate) fn lay_last(&mut self) -> Result<(), TextFault> {
+    pub(crate) fn lay_last(&mut self) {
         let part = self.last_part();
         if part.below.own == 0 {
-            return Ok(());
+            return;
         }
         let start = self
             .waiting
             .len()
             .saturating_sub(part.below.waiting as usize);
         let last = self.nodes.len().saturating_sub(1);
-        self.lay(last, start)?;
-        self.waiting.truncate(start);
-        Ok(())
+        match self.lay(last, start) {
+            Ok(_) => self.waiting.truncate(start),
+            Err(fault) => self.refuse(fault),
+        }
     }
 
     /// The last node, as it is before it is laid.
