@@ -1,6 +1,5 @@
 //! What is answered to a row.
 use crate::row::Row;
-use anyhow::Result;
 use mucwathi_answers::{
     Answer, Named, answer_given, answer_judging, answer_names, answer_resolving, answer_rewriting,
     answer_showing, answer_tree,
@@ -60,9 +59,9 @@ fn of_clap(alloc: Global, error: &Error) -> Result<Answer, AllocError> {
 }
 
 /// What is answered to a row.
-pub(crate) fn answer(alloc: Global, row: &Row) -> Result<Answer> {
+pub(crate) fn answer(alloc: Global, row: &Row) -> Result<Answer, AllocError> {
     match read_words(alloc, row.words.as_slice()) {
-        Ok(task) => Ok(answer_task(alloc, &task, row)?),
-        Err(error) => Ok(of_clap(alloc, &error)?),
+        Ok(task) => answer_task(alloc, &task, row),
+        Err(error) => of_clap(alloc, &error),
     }
 }

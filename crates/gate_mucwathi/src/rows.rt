@@ -41,14 +41,19 @@ fn show(rt: &HostRuntime, words: &str, answer: &Answer) -> Result<()> {
 }
 
 // Whether a row is answered as it wants. Says what is answered else.
-fn is_answered(rt: &HostRuntime, words: &str, lines: &[String]) -> Result<bool> {
-    let row = Row::of_lines(rt.alloc(), words, lines)?;
-    let answer = answer(rt.alloc(), &row)?;
-    if is_wanted(&row, &answer) {
+fn is_row_answered(rt: &HostRuntime, words: &str, row: &Row) -> Result<bool> {
+    let answer = answer(rt.alloc(), row)?;
+    if is_wanted(row, &answer) {
         return Ok(true);
     }
     show(rt, words, &answer)?;
     Ok(false)
+}
+
+// The same of the row that words and the lines behind them are.
+fn is_answered(rt: &HostRuntime, words: &str, lines: &[String]) -> Result<bool> {
+    let row = Row::of_lines(rt.alloc(), words, lines)?;
+    is_row_answered(rt, words, &row)
 }
 
 fn lines(rt: &HostRuntime) -> Result<Vec<String>> {

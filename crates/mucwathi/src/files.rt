@@ -72,6 +72,18 @@ fn not_created(new: String, error: io::Error) -> Unwritten {
     }
 }
 
+// Fills a new file, and puts it into the place of another.
+fn fill_and_replace(
+    rt: &HostRuntime,
+    file: &mut File,
+    new: &str,
+    path: &str,
+    out: &[u8],
+) -> io::Result<()> {
+    fill(file, out)?;
+    replace(rt, new, path)
+}
+
 // Writes the whole of a file to a new one beside it, which then takes its place.
 fn write_beside(rt: &HostRuntime, path: &str, out: &[u8]) -> Result<(), Unwritten> {
     let new = beside(rt, path)?;
@@ -79,15 +91,13 @@ fn write_beside(rt: &HostRuntime, path: &str, out: &[u8]) -> Result<(), Unwritte
         Ok(file) => file,
         Err(error) => return Err(not_created(new, error)),
     };
-    let done = match fill(&mut file, out) {
-        Ok(()) => replace(rt, new.as_str(), path),
-        Err(error) => Err(error),
-    };
-    if done.is_err() {
-        let _ = fs::remove_file(rt, new.as_str());
+    match fill_and_replace(rt, &mut file, new.as_str(), path, out) {
+        Ok(()) => Ok(()),
+        Err(error) => {
+            let _ = fs::remove_file(rt, new.as_str());
+            Err(Unwritten::from(error))
+        }
     }
-    done?;
-    Ok(())
 }
 
 /// Writes the whole of a file, or nothing: a fault leaves the old one. A link stays one.

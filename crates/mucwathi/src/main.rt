@@ -27,13 +27,17 @@ fn tell(rt: &HostRuntime, error: &Error) -> u8 {
     if error.use_stderr() { USAGE } else { 0 }
 }
 
+// Does what the words ask, and tells the status to end with.
+fn serve(rt: &HostRuntime, words: &[String]) -> u8 {
+    match read_words(rt.alloc(), words) {
+        Ok(task) => run(rt, &task),
+        Err(error) => tell(rt, &error),
+    }
+}
+
 fn main(rt: HostRuntime) -> ExitCode {
-    let Ok(words) = words(&rt) else {
-        return ExitCode::from(REFUSED);
-    };
-    let status = match read_words(rt.alloc(), words.as_slice()) {
-        Ok(task) => run(&rt, &task),
-        Err(error) => tell(&rt, &error),
-    };
-    ExitCode::from(status)
+    match words(&rt) {
+        Ok(words) => ExitCode::from(serve(&rt, words.as_slice())),
+        Err(_) => ExitCode::from(REFUSED),
+    }
 }

@@ -29,6 +29,14 @@ fn tell_no_memory(rt: &HostRuntime, name: &str) -> u8 {
     REFUSED
 }
 
+// The text of a file, or the status to end with where it is not read, which is told.
+fn read_told(rt: &HostRuntime, file: Option<&str>) -> Result<Vec<u8>, u8> {
+    match read(rt, file) {
+        Ok(text) => Ok(text),
+        Err(error) => Err(tell_failure(rt, name_of(file), "not read", &error)),
+    }
+}
+
 // Tells what is told, and writes what is written to standard output.
 fn give(rt: &HostRuntime, name: &str, answer: Result<Answer, AllocError>) -> u8 {
     let Ok(answer) = answer else {
@@ -88,16 +96,30 @@ fn put_map(rt: &HostRuntime, path: &str, map: &[u8]) -> u8 {
     }
 }
 
-fn rewrite_one(rt: &HostRuntime, task: &Rewriting<'_>, prefix: &str, file: Option<&str>) -> u8 {
+// Tells what is told of an answer, and writes what is written where it goes.
+fn put_answer(rt: &HostRuntime, task: &Rewriting<'_>, file: Option<&str>, answer: &Answer) -> u8 {
+    tell(rt, answer.told.as_slice());
+    if answer.status != 0 {
+        return answer.status;
+    }
+    if let Err(fault) = put(rt, task.target, file, answer.out.as_slice()) {
+        return tell_unwritten(rt, place_of(task.target, name_of(file)), &fault);
+    }
+    match task.map {
+        Some(path) => put_map(rt, path, answer.map.as_slice()),
+        None => 0,
+    }
+}
+
+fn rewrite_text(
+    rt: &HostRuntime,
+    task: &Rewriting<'_>,
+    prefix: &str,
+    file: Option<&str>,
+    text: &[u8],
+) -> u8 {
     let name = name_of(file);
-    let text = match read(rt, file) {
-        Ok(text) => text,
-        Err(error) => return tell_failure(rt, name, "not read", &error),
-    };
-    let of = Named {
-        name,
-        text: text.as_slice(),
-    };
+    let of = Named { name, text };
     let answer = if task.form.is_plain() {
         answer_rewriting(rt.alloc(), task, prefix, of)
     } else {
@@ -106,19 +128,16 @@ fn rewrite_one(rt: &HostRuntime, task: &Rewriting<'_>, prefix: &str, file: Optio
     if task.lists || task.explains {
         return give(rt, name, answer);
     }
-    let Ok(answer) = answer else {
-        return tell_no_memory(rt, name);
-    };
-    tell(rt, answer.told.as_slice());
-    if answer.status != 0 {
-        return answer.status;
+    match answer {
+        Ok(answer) => put_answer(rt, task, file, &answer),
+        Err(_) => tell_no_memory(rt, name),
     }
-    if let Err(fault) = put(rt, task.target, file, answer.out.as_slice()) {
-        return tell_unwritten(rt, place_of(task.target, name), &fault);
-    }
-    match task.map {
-        Some(path) => put_map(rt, path, answer.map.as_slice()),
-        None => 0,
+}
+
+fn rewrite_one(rt: &HostRuntime, task: &Rewriting<'_>, prefix: &str, file: Option<&str>) -> u8 {
+    match read_told(rt, file) {
+        Ok(text) => rewrite_text(rt, task, prefix, file, text.as_slice()),
+        Err(status) => status,
     }
 }
 
@@ -203,25 +222,28 @@ fn rewrite(rt: &HostRuntime, task: &Rewriting<'_>) -> u8 {
     rewrite_each(rt, task)
 }
 
-fn judge(rt: &HostRuntime, task: &Judging<'_>) -> u8 {
-    let before = match read(rt, Some(task.before)) {
-        Ok(text) => text,
-        Err(error) => return tell_failure(rt, task.before, "not read", &error),
-    };
-    let after = match read(rt, Some(task.after)) {
-        Ok(text) => text,
-        Err(error) => return tell_failure(rt, task.after, "not read", &error),
-    };
+fn judge_texts(rt: &HostRuntime, task: &Judging<'_>, before: &[u8], after: &[u8]) -> u8 {
     let first = Named {
         name: task.before,
-        text: before.as_slice(),
+        text: before,
     };
     let second = Named {
         name: task.after,
-        text: after.as_slice(),
+        text: after,
     };
     let answer = answer_judging(rt.alloc(), task, first, second);
     give(rt, task.after, answer)
+}
+
+fn judge(rt: &HostRuntime, task: &Judging<'_>) -> u8 {
+    let before = match read_told(rt, Some(task.before)) {
+        Ok(text) => text,
+        Err(status) => return status,
+    };
+    match read_told(rt, Some(task.after)) {
+        Ok(after) => judge_texts(rt, task, before.as_slice(), after.as_slice()),
+        Err(status) => status,
+    }
 }
 
 // What is told of a file, or of standard input.
@@ -234,16 +256,9 @@ enum Work {
     Page,
 }
 
-fn look(rt: &HostRuntime, task: &Looking<'_>, work: Work) -> u8 {
+fn look_at(rt: &HostRuntime, task: &Looking<'_>, work: Work, text: &[u8]) -> u8 {
     let name = name_of(task.file);
-    let text = match read(rt, task.file) {
-        Ok(text) => text,
-        Err(error) => return tell_failure(rt, name, "not read", &error),
-    };
-    let of = Named {
-        name,
-        text: text.as_slice(),
-    };
+    let of = Named { name, text };
     let answer = match work {
         Work::Names => answer_names(rt.alloc(), task.goal, of),
         Work::Marks => answer_resolving(rt.alloc(), task.goal, of),
@@ -252,6 +267,13 @@ fn look(rt: &HostRuntime, task: &Looking<'_>, work: Work) -> u8 {
         Work::Page => answer_showing(rt.alloc(), task.goal, of),
     };
     give(rt, name, answer)
+}
+
+fn look(rt: &HostRuntime, task: &Looking<'_>, work: Work) -> u8 {
+    match read_told(rt, task.file) {
+        Ok(text) => look_at(rt, task, work, text.as_slice()),
+        Err(status) => status,
+    }
 }
 
 /// Does a task, and tells the status to end with.
