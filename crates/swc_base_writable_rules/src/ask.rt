@@ -28,15 +28,15 @@ pub enum Ask {
     Head(Round),
 }
 
-/// The children of a node of which something is asked, with what it is.
+/// The children of a node of which something is asked, with what it is. Their numbers take a byte each, since a row is given back by value.
 #[derive(Clone, Copy)]
 pub enum Row {
     Nothing,
     Each(Ask),
-    One(usize, Ask),
-    Two(usize, Ask, usize, Ask),
-    Three(usize, Ask, usize, Ask, usize, Ask),
-    Four(usize, Ask, usize, Ask, usize, Ask, usize, Ask),
+    One(u8, Ask),
+    Two(u8, Ask, u8, Ask),
+    Three(u8, Ask, u8, Ask, u8, Ask),
+    Four(u8, Ask, u8, Ask, u8, Ask, u8, Ask),
 }
 
 impl Row {
@@ -47,16 +47,16 @@ impl Row {
     {
         match self {
             Row::Each(ask) => *ask,
-            Row::One(i, ask) if index == *i => *ask,
-            Row::Two(i, ask, _, _) if index == *i => *ask,
-            Row::Two(_, _, j, ask) if index == *j => *ask,
-            Row::Three(i, ask, _, _, _, _) if index == *i => *ask,
-            Row::Three(_, _, j, ask, _, _) if index == *j => *ask,
-            Row::Three(_, _, _, _, k, ask) if index == *k => *ask,
-            Row::Four(i, ask, _, _, _, _, _, _) if index == *i => *ask,
-            Row::Four(_, _, j, ask, _, _, _, _) if index == *j => *ask,
-            Row::Four(_, _, _, _, k, ask, _, _) if index == *k => *ask,
-            Row::Four(_, _, _, _, _, _, l, ask) if index == *l => *ask,
+            Row::One(i, ask) if index == usize::from(*i) => *ask,
+            Row::Two(i, ask, _, _) if index == usize::from(*i) => *ask,
+            Row::Two(_, _, j, ask) if index == usize::from(*j) => *ask,
+            Row::Three(i, ask, _, _, _, _) if index == usize::from(*i) => *ask,
+            Row::Three(_, _, j, ask, _, _) if index == usize::from(*j) => *ask,
+            Row::Three(_, _, _, _, k, ask) if index == usize::from(*k) => *ask,
+            Row::Four(i, ask, _, _, _, _, _, _) if index == usize::from(*i) => *ask,
+            Row::Four(_, _, j, ask, _, _, _, _) if index == usize::from(*j) => *ask,
+            Row::Four(_, _, _, _, k, ask, _, _) if index == usize::from(*k) => *ask,
+            Row::Four(_, _, _, _, _, _, l, ask) if index == usize::from(*l) => *ask,
             _ => Ask::Nothing,
         }
     }

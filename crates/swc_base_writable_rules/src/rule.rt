@@ -92,7 +92,7 @@ fn whole_rule(kind: Kind, fields: &[Node], round: Round) -> Rule
             if is_absent(&fields[named_export::SRC]) {
                 ruled(
                     are_local(&fields[named_export::SPECIFIERS]),
-                    Row::One(named_export::SPECIFIERS, Ask::Sound(round)),
+                    Row::One(named_export::SPECIFIERS as u8, Ask::Sound(round)),
                 )
             } else {
                 ruled(true, Row::Nothing)
@@ -101,20 +101,20 @@ fn whole_rule(kind: Kind, fields: &[Node], round: Round) -> Rule
         Kind::ExportNamedSpecifier if fields.len() == 3 => {
             ruled(
                 true,
-                Row::One(export_named_specifier::ORIG, Ask::Sound(round)),
+                Row::One(export_named_specifier::ORIG as u8, Ask::Sound(round)),
             )
         }
         Kind::ExportNamespaceSpecifier => ruled(true, Row::Nothing),
         Kind::ExportDecl if fields.len() == 2 => {
             ruled(
                 !is_using(&fields[export_decl::DECL]),
-                Row::One(export_decl::DECL, Ask::Sound(round)),
+                Row::One(export_decl::DECL as u8, Ask::Sound(round)),
             )
         }
         Kind::Module if fields.len() == 3 => {
             ruled(
                 true,
-                Row::One(module_::BODY, Ask::Sound(round.strictly(true))),
+                Row::One(module_::BODY as u8, Ask::Sound(round.strictly(true))),
             )
         }
         Kind::Script if fields.len() == 3 => script_rule(&fields[script::BODY], round),
@@ -130,7 +130,7 @@ fn script_rule(body: &Node, round: Round) -> Rule
     let inside = round.strictly(has_use_strict(items(body)));
     ruled(
         has_no_using(body),
-        Row::One(script::BODY, Ask::Sound(inside)),
+        Row::One(script::BODY as u8, Ask::Sound(inside)),
     )
 }
 
@@ -145,14 +145,19 @@ fn statement_rule(kind: Kind, fields: &[Node], round: Round) -> Rule
             let expr = &fields[expr_stmt::EXPR];
             ruled(
                 !is_string_within(expr) || is_string(expr),
-                Row::One(expr_stmt::EXPR, part),
+                Row::One(expr_stmt::EXPR as u8, part),
             )
         }
         Kind::CatchClause if fields.len() == 3 => catch_rule(&fields[catch_clause::PARAM], round),
         Kind::WithStmt if fields.len() == 3 => {
             ruled(
                 true,
-                Row::Two(with_stmt::OBJ, part, with_stmt::BODY, Ask::Body(round)),
+                Row::Two(
+                    with_stmt::OBJ as u8,
+                    part,
+                    with_stmt::BODY as u8,
+                    Ask::Body(round),
+                ),
             )
         }
         Kind::LabeledStmt if fields.len() == 3 => {
@@ -160,9 +165,9 @@ fn statement_rule(kind: Kind, fields: &[Node], round: Round) -> Rule
             ruled(
                 true,
                 Row::Two(
-                    labeled_stmt::LABEL,
+                    labeled_stmt::LABEL as u8,
                     label,
-                    labeled_stmt::BODY,
+                    labeled_stmt::BODY as u8,
                     Ask::Branch(round),
                 ),
             )
@@ -172,7 +177,12 @@ fn statement_rule(kind: Kind, fields: &[Node], round: Round) -> Rule
             let consequent = Ask::Consequent(round);
             ruled(
                 true,
-                Row::Two(switch_case::TEST, part, switch_case::CONS, consequent),
+                Row::Two(
+                    switch_case::TEST as u8,
+                    part,
+                    switch_case::CONS as u8,
+                    consequent,
+                ),
             )
         }
         kind => loop_rule(kind, fields, round),
@@ -185,9 +195,9 @@ fn catch_rule(param: &Node, round: Round) -> Rule
     ruled(
         is_absent(param) || is_pattern(param, round.binding()),
         Row::Two(
-            catch_clause::PARAM,
+            catch_clause::PARAM as u8,
             Ask::Sound(round.binding()),
-            catch_clause::BODY,
+            catch_clause::BODY as u8,
             Ask::Sound(round),
         ),
     )
@@ -198,11 +208,11 @@ fn branches(round: Round) -> Row
     ensures { result ≡ branches_of round }
 {
     Row::Three(
-        if_stmt::TEST,
+        if_stmt::TEST as u8,
         Ask::Part(round.binding()),
-        if_stmt::CONS,
+        if_stmt::CONS as u8,
         Ask::Branch(round),
-        if_stmt::ALT,
+        if_stmt::ALT as u8,
         Ask::BranchIfThere(round),
     )
 }
@@ -219,26 +229,31 @@ fn loop_rule(kind: Kind, fields: &[Node], round: Round) -> Rule
         Kind::WhileStmt if fields.len() == 3 => {
             ruled(
                 true,
-                Row::Two(while_stmt::TEST, part, while_stmt::BODY, body),
+                Row::Two(while_stmt::TEST as u8, part, while_stmt::BODY as u8, body),
             )
         }
         Kind::DoWhileStmt if fields.len() == 3 => {
             ruled(
                 true,
-                Row::Two(do_while_stmt::BODY, body, do_while_stmt::TEST, part),
+                Row::Two(
+                    do_while_stmt::BODY as u8,
+                    body,
+                    do_while_stmt::TEST as u8,
+                    part,
+                ),
             )
         }
         Kind::ForStmt if fields.len() == 5 => {
             ruled(
                 true,
                 Row::Four(
-                    for_stmt::INIT,
+                    for_stmt::INIT as u8,
                     part,
-                    for_stmt::TEST,
+                    for_stmt::TEST as u8,
                     part,
-                    for_stmt::UPDATE,
+                    for_stmt::UPDATE as u8,
                     part,
-                    for_stmt::BODY,
+                    for_stmt::BODY as u8,
                     body,
                 ),
             )
@@ -248,11 +263,11 @@ fn loop_rule(kind: Kind, fields: &[Node], round: Round) -> Rule
             ruled(
                 !is_using(left),
                 Row::Three(
-                    for_in_stmt::LEFT,
+                    for_in_stmt::LEFT as u8,
                     head,
-                    for_in_stmt::RIGHT,
+                    for_in_stmt::RIGHT as u8,
                     part,
-                    for_in_stmt::BODY,
+                    for_in_stmt::BODY as u8,
                     body,
                 ),
             )
@@ -261,11 +276,11 @@ fn loop_rule(kind: Kind, fields: &[Node], round: Round) -> Rule
             ruled(
                 true,
                 Row::Three(
-                    for_of_stmt::LEFT,
+                    for_of_stmt::LEFT as u8,
                     head,
-                    for_of_stmt::RIGHT,
+                    for_of_stmt::RIGHT as u8,
                     part,
-                    for_of_stmt::BODY,
+                    for_of_stmt::BODY as u8,
                     body,
                 ),
             )
@@ -279,7 +294,7 @@ fn body_row(body: &Node, round: Round) -> Row
     ensures { result ≡ body_row_of round body.now }
 {
     let inside = Ask::Part(round.strictly(is_strict(body)));
-    Row::Two(function::PARAMS, inside, function::BODY, inside)
+    Row::Two(function::PARAMS as u8, inside, function::BODY as u8, inside)
 }
 
 fn setter_rule(param: &Node, body: &Node, round: Round) -> Rule
@@ -289,11 +304,11 @@ fn setter_rule(param: &Node, body: &Node, round: Round) -> Rule
     ruled(
         is_part(param, round.binding()),
         Row::Three(
-            setter_prop::KEY,
+            setter_prop::KEY as u8,
             Ask::Part(round.binding()),
-            setter_prop::PARAM,
+            setter_prop::PARAM as u8,
             inside,
-            setter_prop::BODY,
+            setter_prop::BODY as u8,
             inside,
         ),
     )
@@ -325,14 +340,19 @@ fn function_rule(kind: Kind, fields: &[Node], round: Round) -> Rule
             let key = &fields[constructor::KEY];
             ruled(
                 is_constructor_key(key) && are_elements(round.binding(), params),
-                Row::Two(constructor::PARAMS, part, constructor::BODY, part),
+                Row::Two(
+                    constructor::PARAMS as u8,
+                    part,
+                    constructor::BODY as u8,
+                    part,
+                ),
             )
         }
         Kind::GetterProp if fields.len() == 3 => {
             let body = Ask::Part(round.strictly(is_strict(&fields[getter_prop::BODY])));
             ruled(
                 true,
-                Row::Two(getter_prop::KEY, part, getter_prop::BODY, body),
+                Row::Two(getter_prop::KEY as u8, part, getter_prop::BODY as u8, body),
             )
         }
         Kind::SetterProp if fields.len() == 4 => {
@@ -354,37 +374,45 @@ fn member_rule(kind: Kind, fields: &[Node], round: Round) -> Rule
             let key = Ask::Sound(round.binding());
             ruled(
                 is_accessor(&fields[class_method::FUNCTION], &fields[class_method::KIND]),
-                Row::Two(class_method::KEY, key, class_method::FUNCTION, inside),
+                Row::Two(
+                    class_method::KEY as u8,
+                    key,
+                    class_method::FUNCTION as u8,
+                    inside,
+                ),
             )
         }
         Kind::PrivateMethod if fields.len() == 5 => {
             ruled(
                 is_accessor(&fields[class_method::FUNCTION], &fields[class_method::KIND]),
-                Row::One(class_method::FUNCTION, inside),
+                Row::One(class_method::FUNCTION as u8, inside),
             )
         }
         Kind::PrivateProp if fields.len() == 4 => {
             ruled(
                 true,
-                Row::One(private_prop::VALUE, Ask::Part(round.binding())),
+                Row::One(private_prop::VALUE as u8, Ask::Part(round.binding())),
             )
         }
         Kind::Class if fields.len() == 3 => {
             let part = Ask::Part(round.strictly(true));
-            ruled(true, Row::Two(class::SUPER_CLASS, part, class::BODY, part))
+            ruled(
+                true,
+                Row::Two(class::SUPER_CLASS as u8, part, class::BODY as u8, part),
+            )
         }
         Kind::FnDecl | Kind::FnExpr if fields.len() == 2 => {
             let name = &fields[fn_decl::IDENT];
             ruled(
                 is_bound_name(round.strict, name),
-                Row::One(fn_decl::FUNCTION, inside),
+                Row::One(fn_decl::FUNCTION as u8, inside),
             )
         }
         Kind::ClassDecl | Kind::ClassExpr if fields.len() == 2 => {
             let name = &fields[fn_decl::IDENT];
             ruled(
                 is_bound_name(true, name),
-                Row::One(fn_decl::FUNCTION, inside),
+                Row::One(fn_decl::FUNCTION as u8, inside),
             )
         }
         kind => function_rule(kind, fields, round),
@@ -403,13 +431,13 @@ fn pattern_rule(kind: Kind, fields: &[Node], round: Round) -> Rule
             let elems = items(&fields[array_pat::ELEMS]);
             ruled(
                 are_elements(round, elems),
-                Row::One(array_pat::ELEMS, inside),
+                Row::One(array_pat::ELEMS as u8, inside),
             )
         }
         Kind::RestPat if fields.len() == 2 => {
             ruled(
                 is_pattern(&fields[rest_pat::ARG], round),
-                Row::One(rest_pat::ARG, inside),
+                Row::One(rest_pat::ARG as u8, inside),
             )
         }
         Kind::KeyValuePatProp if fields.len() == 2 => {
@@ -417,9 +445,9 @@ fn pattern_rule(kind: Kind, fields: &[Node], round: Round) -> Rule
             ruled(
                 is_part(&fields[key_value_pat_prop::VALUE], round),
                 Row::Two(
-                    key_value_pat_prop::KEY,
+                    key_value_pat_prop::KEY as u8,
                     key,
-                    key_value_pat_prop::VALUE,
+                    key_value_pat_prop::VALUE as u8,
                     inside,
                 ),
             )
@@ -427,13 +455,23 @@ fn pattern_rule(kind: Kind, fields: &[Node], round: Round) -> Rule
         Kind::AssignPat if fields.len() == 3 => {
             ruled(
                 is_pattern(&fields[assign_pat::LEFT], round),
-                Row::Two(assign_pat::LEFT, inside, assign_pat::RIGHT, part),
+                Row::Two(
+                    assign_pat::LEFT as u8,
+                    inside,
+                    assign_pat::RIGHT as u8,
+                    part,
+                ),
             )
         }
         Kind::AssignPatProp if fields.len() == 3 => {
             ruled(
                 true,
-                Row::Two(assign_pat_prop::KEY, inside, assign_pat_prop::VALUE, part),
+                Row::Two(
+                    assign_pat_prop::KEY as u8,
+                    inside,
+                    assign_pat_prop::VALUE as u8,
+                    part,
+                ),
             )
         }
         kind => declaration_rule(kind, fields, round),
@@ -452,20 +490,25 @@ fn declaration_rule(kind: Kind, fields: &[Node], round: Round) -> Rule
             let name = Ask::Sound(round.binding());
             ruled(
                 is_pattern(&fields[var_declarator::NAME], round.binding()),
-                Row::Two(var_declarator::NAME, name, var_declarator::INIT, part),
+                Row::Two(
+                    var_declarator::NAME as u8,
+                    name,
+                    var_declarator::INIT as u8,
+                    part,
+                ),
             )
         }
         Kind::VarDecl if fields.len() == 3 => {
             ruled(
                 are_initialised(&fields[var_decl::KIND], &fields[var_decl::DECLS]),
-                Row::One(var_decl::DECLS, inside),
+                Row::One(var_decl::DECLS as u8, inside),
             )
         }
         Kind::UsingDecl if fields.len() == 3 => {
             let declarators = items(&fields[using_decl::DECLS]);
             ruled(
                 are_named(true, declarators),
-                Row::One(using_decl::DECLS, inside),
+                Row::One(using_decl::DECLS as u8, inside),
             )
         }
         kind => member_rule(kind, fields, round),
@@ -482,7 +525,7 @@ fn rule_for(kind: Kind, fields: &[Node], round: Round) -> Rule
         Kind::SeqExpr if fields.len() == 2 => {
             ruled(
                 has_two(&fields[seq_expr::EXPRS]),
-                Row::One(seq_expr::EXPRS, Ask::Sound(round)),
+                Row::One(seq_expr::EXPRS as u8, Ask::Sound(round)),
             )
         }
         Kind::AssignExpr if fields.len() == 4 => {
@@ -492,37 +535,47 @@ fn rule_for(kind: Kind, fields: &[Node], round: Round) -> Rule
                     word_of(&fields[assign_expr::OP]),
                     &fields[assign_expr::LEFT],
                 ),
-                Row::Two(assign_expr::LEFT, left, assign_expr::RIGHT, part),
+                Row::Two(
+                    assign_expr::LEFT as u8,
+                    left,
+                    assign_expr::RIGHT as u8,
+                    part,
+                ),
             )
         }
         Kind::UpdateExpr if fields.len() == 4 => {
             ruled(
                 is_target(&fields[update_expr::ARG]),
-                Row::One(update_expr::ARG, inside),
+                Row::One(update_expr::ARG as u8, inside),
             )
         }
         Kind::BinExpr if fields.len() == 4 => {
             ruled(
                 is_in(word_of(&fields[bin_expr::OP])) || !is_private(&fields[bin_expr::LEFT]),
-                Row::Two(bin_expr::LEFT, inside, bin_expr::RIGHT, part),
+                Row::Two(bin_expr::LEFT as u8, inside, bin_expr::RIGHT as u8, part),
             )
         }
         Kind::MemberExpr if fields.len() == 3 => {
             ruled(
                 !is_private(&fields[member_expr::OBJ]),
-                Row::Two(member_expr::OBJ, inside, member_expr::PROP, inside),
+                Row::Two(
+                    member_expr::OBJ as u8,
+                    inside,
+                    member_expr::PROP as u8,
+                    inside,
+                ),
             )
         }
         Kind::Tpl if fields.len() == 3 => {
             ruled(
                 has_each_text(&fields[tpl::EXPRS], &fields[tpl::QUASIS]),
-                Row::One(tpl::EXPRS, inside),
+                Row::One(tpl::EXPRS as u8, inside),
             )
         }
         Kind::OptChainExpr if fields.len() == 3 => {
             ruled(
                 is_set(&fields[opt_chain_expr::OPTIONAL]) || goes_on(&fields[opt_chain_expr::BASE]),
-                Row::One(opt_chain_expr::BASE, inside),
+                Row::One(opt_chain_expr::BASE as u8, inside),
             )
         }
         kind => pattern_rule(kind, fields, round),
@@ -539,14 +592,14 @@ fn head_rule(kind: Kind, fields: &[Node], round: Round) -> Rule
             let declarators = items(&fields[var_decl::DECLS]);
             ruled(
                 is_one_bare(declarators),
-                Row::One(var_decl::DECLS, Ask::Sound(round.binding())),
+                Row::One(var_decl::DECLS as u8, Ask::Sound(round.binding())),
             )
         }
         Kind::UsingDecl if fields.len() == 3 => {
             let declarators = items(&fields[using_decl::DECLS]);
             ruled(
                 is_one_bare(declarators) && are_named(false, declarators),
-                Row::One(using_decl::DECLS, Ask::Sound(round.binding())),
+                Row::One(using_decl::DECLS as u8, Ask::Sound(round.binding())),
             )
         }
         _ => ruled(false, Row::Nothing),

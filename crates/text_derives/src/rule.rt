@@ -73,7 +73,7 @@ fn whole_rule(kind: Kind, fields: &[Node], context: Context) -> Rule
     match kind {
         Kind::Module if fields.len() == 3 => {
             let inside = Ask::Derived(context.strictly(true));
-            ruled(true, Row::One(module_::BODY, inside))
+            ruled(true, Row::One(module_::BODY as u8, inside))
         }
         Kind::Script if fields.len() == 3 => script_rule(&fields[script::BODY], context),
         Kind::ImportNamedSpecifier
@@ -92,7 +92,7 @@ fn script_rule(body: &Node, context: Context) -> Rule
     let inside = context.strictly(has_use_strict(items(body)));
     ruled(
         has_no_using(body),
-        Row::One(script::BODY, Ask::Derived(inside)),
+        Row::One(script::BODY as u8, Ask::Derived(inside)),
     )
 }
 
@@ -107,13 +107,18 @@ fn loop_rule(kind: Kind, fields: &[Node], context: Context) -> Rule
         Kind::WhileStmt if fields.len() == 3 => {
             ruled(
                 true,
-                Row::Two(while_stmt::TEST, any, while_stmt::BODY, body),
+                Row::Two(while_stmt::TEST as u8, any, while_stmt::BODY as u8, body),
             )
         }
         Kind::DoWhileStmt if fields.len() == 3 => {
             ruled(
                 true,
-                Row::Two(do_while_stmt::BODY, body, do_while_stmt::TEST, any),
+                Row::Two(
+                    do_while_stmt::BODY as u8,
+                    body,
+                    do_while_stmt::TEST as u8,
+                    any,
+                ),
             )
         }
         Kind::ForStmt if fields.len() == 5 => ruled(true, for_row(context)),
@@ -136,13 +141,13 @@ fn for_row(context: Context) -> Row
     let any = any(context);
     let body = Ask::Body(context.inside());
     Row::Four(
-        for_stmt::INIT,
+        for_stmt::INIT as u8,
         first,
-        for_stmt::TEST,
+        for_stmt::TEST as u8,
         any,
-        for_stmt::UPDATE,
+        for_stmt::UPDATE as u8,
         any,
-        for_stmt::BODY,
+        for_stmt::BODY as u8,
         body,
     )
 }
@@ -154,11 +159,11 @@ fn for_in_rule(left: &Node, context: Context) -> Rule
     ruled(
         !is_using(left),
         Row::Three(
-            for_in_stmt::LEFT,
+            for_in_stmt::LEFT as u8,
             Ask::Head(context),
-            for_in_stmt::RIGHT,
+            for_in_stmt::RIGHT as u8,
             any(context),
-            for_in_stmt::BODY,
+            for_in_stmt::BODY as u8,
             body,
         ),
     )
@@ -171,11 +176,11 @@ fn for_of_rule(is_await: &Node, left: &Node, context: Context) -> Rule
     ruled(
         is_set(is_await) || !is_async_name(left),
         Row::Three(
-            for_of_stmt::LEFT,
+            for_of_stmt::LEFT as u8,
             Ask::Head(context),
-            for_of_stmt::RIGHT,
+            for_of_stmt::RIGHT as u8,
             assigned(context.inside()),
-            for_of_stmt::BODY,
+            for_of_stmt::BODY as u8,
             body,
         ),
     )
@@ -189,17 +194,22 @@ fn if_rule(cons: &Node, alt: &Node, context: Context) -> Rule
     if is_absent(alt) {
         ruled(
             true,
-            Row::Two(if_stmt::TEST, any(context), if_stmt::CONS, branch),
+            Row::Two(
+                if_stmt::TEST as u8,
+                any(context),
+                if_stmt::CONS as u8,
+                branch,
+            ),
         )
     } else {
         ruled(
             !takes_else(cons),
             Row::Three(
-                if_stmt::TEST,
+                if_stmt::TEST as u8,
                 any(context),
-                if_stmt::CONS,
+                if_stmt::CONS as u8,
                 branch,
-                if_stmt::ALT,
+                if_stmt::ALT as u8,
                 branch,
             ),
         )
@@ -216,22 +226,25 @@ fn statement_rule(kind: Kind, fields: &[Node], context: Context) -> Rule
     match kind {
         Kind::ExprStmt if fields.len() == 2 => {
             let holds = may_be_statement(&fields[expr_stmt::EXPR]);
-            ruled(holds, Row::One(expr_stmt::EXPR, any))
+            ruled(holds, Row::One(expr_stmt::EXPR as u8, any))
         }
         Kind::ExportDefaultExpr if fields.len() == 2 => {
             let holds = may_be_export(&fields[export_default_expr::EXPR]);
             let expr = assigned(context.inside());
-            ruled(holds, Row::One(export_default_expr::EXPR, expr))
+            ruled(holds, Row::One(export_default_expr::EXPR as u8, expr))
         }
-        Kind::ReturnStmt if fields.len() == 2 => ruled(true, Row::One(return_stmt::ARG, any)),
-        Kind::ThrowStmt if fields.len() == 2 => ruled(true, Row::One(throw_stmt::ARG, any)),
+        Kind::ReturnStmt if fields.len() == 2 => ruled(true, Row::One(return_stmt::ARG as u8, any)),
+        Kind::ThrowStmt if fields.len() == 2 => ruled(true, Row::One(throw_stmt::ARG as u8, any)),
         Kind::WithStmt if fields.len() == 3 => {
             let body = Ask::Body(context.inside());
-            ruled(true, Row::Two(with_stmt::OBJ, any, with_stmt::BODY, body))
+            ruled(
+                true,
+                Row::Two(with_stmt::OBJ as u8, any, with_stmt::BODY as u8, body),
+            )
         }
         Kind::LabeledStmt if fields.len() == 3 => {
             let body = Ask::Branch(context.inside());
-            ruled(true, Row::One(labeled_stmt::BODY, body))
+            ruled(true, Row::One(labeled_stmt::BODY as u8, body))
         }
         Kind::IfStmt if fields.len() == 4 => {
             if_rule(&fields[if_stmt::CONS], &fields[if_stmt::ALT], context)
@@ -239,14 +252,19 @@ fn statement_rule(kind: Kind, fields: &[Node], context: Context) -> Rule
         Kind::SwitchStmt if fields.len() == 3 => {
             ruled(
                 true,
-                Row::Two(switch_stmt::DISCRIMINANT, any, switch_stmt::CASES, plain),
+                Row::Two(
+                    switch_stmt::DISCRIMINANT as u8,
+                    any,
+                    switch_stmt::CASES as u8,
+                    plain,
+                ),
             )
         }
         Kind::SwitchCase if fields.len() == 3 => {
             let holds = has_no_using(&fields[switch_case::CONS]);
             ruled(
                 holds,
-                Row::Two(switch_case::TEST, any, switch_case::CONS, plain),
+                Row::Two(switch_case::TEST as u8, any, switch_case::CONS as u8, plain),
             )
         }
         kind => loop_rule(kind, fields, context),
@@ -265,31 +283,41 @@ fn pattern_rule(kind: Kind, fields: &[Node], context: Context) -> Rule
             let init = assigned(context);
             ruled(
                 true,
-                Row::Two(var_declarator::NAME, inside, var_declarator::INIT, init),
+                Row::Two(
+                    var_declarator::NAME as u8,
+                    inside,
+                    var_declarator::INIT as u8,
+                    init,
+                ),
             )
         }
         Kind::AssignPat if fields.len() == 3 => {
             let right = assigned(context);
             ruled(
                 true,
-                Row::Two(assign_pat::LEFT, inside, assign_pat::RIGHT, right),
+                Row::Two(
+                    assign_pat::LEFT as u8,
+                    inside,
+                    assign_pat::RIGHT as u8,
+                    right,
+                ),
             )
         }
         Kind::AssignPatProp if fields.len() == 3 => {
             let value = assigned(context.inside());
-            ruled(true, Row::One(assign_pat_prop::VALUE, value))
+            ruled(true, Row::One(assign_pat_prop::VALUE as u8, value))
         }
         Kind::ArrayPat | Kind::ObjectPat if fields.len() == 2 => {
-            ruled(true, Row::One(array_pat::ELEMS, plain))
+            ruled(true, Row::One(array_pat::ELEMS as u8, plain))
         }
-        Kind::RestPat if fields.len() == 2 => ruled(true, Row::One(rest_pat::ARG, inside)),
+        Kind::RestPat if fields.len() == 2 => ruled(true, Row::One(rest_pat::ARG as u8, inside)),
         Kind::KeyValuePatProp if fields.len() == 2 => {
             ruled(
                 true,
                 Row::Two(
-                    key_value_pat_prop::KEY,
+                    key_value_pat_prop::KEY as u8,
                     key(context),
-                    key_value_pat_prop::VALUE,
+                    key_value_pat_prop::VALUE as u8,
                     plain,
                 ),
             )
@@ -308,16 +336,24 @@ fn declaration_rule(kind: Kind, fields: &[Node], context: Context) -> Rule
         Kind::CatchClause if fields.len() == 3 => {
             ruled(
                 true,
-                Row::Two(catch_clause::PARAM, plain, catch_clause::BODY, plain),
+                Row::Two(
+                    catch_clause::PARAM as u8,
+                    plain,
+                    catch_clause::BODY as u8,
+                    plain,
+                ),
             )
         }
-        Kind::ExportDecl if fields.len() == 2 => ruled(true, Row::One(export_decl::DECL, plain)),
+        Kind::ExportDecl if fields.len() == 2 => ruled(
+            true,
+            Row::One(export_decl::DECL as u8, plain),
+        ),
         Kind::VarDecl if fields.len() == 3 => {
-            ruled(true, Row::One(var_decl::DECLS, Ask::Derived(context)))
+            ruled(true, Row::One(var_decl::DECLS as u8, Ask::Derived(context)))
         }
         Kind::UsingDecl if fields.len() == 3 => {
             let holds = are_named(true, items(&fields[using_decl::DECLS]));
-            ruled(holds, Row::One(using_decl::DECLS, plain))
+            ruled(holds, Row::One(using_decl::DECLS as u8, plain))
         }
         kind => statement_rule(kind, fields, context),
     }
@@ -328,14 +364,19 @@ fn body_row(body: &Node, context: Context) -> Row
     ensures { result ≡ spec.body_row context body.now }
 {
     let inside = Ask::Derived(context.strictly(is_strict(body)));
-    Row::Two(function::PARAMS, inside, function::BODY, inside)
+    Row::Two(function::PARAMS as u8, inside, function::BODY as u8, inside)
 }
 
 fn getter_row(body: &Node, context: Context) -> Row
     ensures { result ≡ spec.getter_row context body.now }
 {
     let inside = Ask::Derived(context.strictly(is_strict(body)));
-    Row::Two(getter_prop::KEY, key(context), getter_prop::BODY, inside)
+    Row::Two(
+        getter_prop::KEY as u8,
+        key(context),
+        getter_prop::BODY as u8,
+        inside,
+    )
 }
 
 fn setter_row(body: &Node, context: Context) -> Row
@@ -343,11 +384,11 @@ fn setter_row(body: &Node, context: Context) -> Row
 {
     let inside = Ask::Derived(context.strictly(is_strict(body)));
     Row::Three(
-        setter_prop::KEY,
+        setter_prop::KEY as u8,
         key(context),
-        setter_prop::PARAM,
+        setter_prop::PARAM as u8,
         inside,
-        setter_prop::BODY,
+        setter_prop::BODY as u8,
         inside,
     )
 }
@@ -357,9 +398,9 @@ fn arrow_row(body: &Node, context: Context) -> Row
 {
     let inside = Ask::Derived(context.strictly(is_strict(body)));
     Row::Two(
-        arrow_expr::PARAMS,
+        arrow_expr::PARAMS as u8,
         inside,
-        arrow_expr::BODY,
+        arrow_expr::BODY as u8,
         Ask::ArrowBody(context),
     )
 }
@@ -369,9 +410,9 @@ fn class_row(context: Context) -> Row
 {
     let strict = context.strictly(true);
     Row::Two(
-        class::SUPER_CLASS,
+        class::SUPER_CLASS as u8,
         Ask::Fits(Demand::AtLeast(17), strict),
-        class::BODY,
+        class::BODY as u8,
         Ask::Derived(strict),
     )
 }
@@ -399,22 +440,27 @@ fn function_rule(kind: Kind, fields: &[Node], context: Context) -> Rule
         Kind::Constructor if fields.len() == 4 => {
             ruled(
                 true,
-                Row::Two(constructor::PARAMS, plain, constructor::BODY, plain),
+                Row::Two(
+                    constructor::PARAMS as u8,
+                    plain,
+                    constructor::BODY as u8,
+                    plain,
+                ),
             )
         }
         Kind::ClassMethod if fields.len() == 5 => {
             ruled(
                 true,
                 Row::Two(
-                    class_method::KEY,
+                    class_method::KEY as u8,
                     key(context),
-                    class_method::FUNCTION,
+                    class_method::FUNCTION as u8,
                     plain,
                 ),
             )
         }
         Kind::PrivateMethod if fields.len() == 5 => {
-            ruled(true, Row::One(private_method::FUNCTION, plain))
+            ruled(true, Row::One(private_method::FUNCTION as u8, plain))
         }
         kind => pattern_rule(kind, fields, context),
     }
@@ -430,34 +476,47 @@ fn part_rule(kind: Kind, fields: &[Node], context: Context) -> Rule
     match kind {
         Kind::ExprOrSpread if fields.len() == 2 => ruled(
             true,
-            Row::One(expr_or_spread::EXPR, part),
+            Row::One(expr_or_spread::EXPR as u8, part),
         ),
         Kind::SpreadElement if fields.len() == 2 => {
-            ruled(true, Row::One(spread_element::EXPR, part))
+            ruled(true, Row::One(spread_element::EXPR as u8, part))
         }
         Kind::KeyValueProp if fields.len() == 2 => {
             ruled(
                 true,
-                Row::Two(key_value_prop::KEY, key, key_value_prop::VALUE, part),
+                Row::Two(
+                    key_value_prop::KEY as u8,
+                    key,
+                    key_value_prop::VALUE as u8,
+                    part,
+                ),
             )
         }
         Kind::MethodProp if fields.len() == 2 => {
             let function = plain(context);
             ruled(
                 true,
-                Row::Two(method_prop::KEY, key, method_prop::FUNCTION, function),
+                Row::Two(
+                    method_prop::KEY as u8,
+                    key,
+                    method_prop::FUNCTION as u8,
+                    function,
+                ),
             )
         }
         Kind::ComputedPropName if fields.len() == 2 => {
-            ruled(true, Row::One(computed_prop_name::EXPR, any(context)))
+            ruled(true, Row::One(computed_prop_name::EXPR as u8, any(context)))
         }
         Kind::ClassProp if fields.len() == 4 => {
             ruled(
                 true,
-                Row::Two(class_prop::KEY, key, class_prop::VALUE, part),
+                Row::Two(class_prop::KEY as u8, key, class_prop::VALUE as u8, part),
             )
         }
-        Kind::PrivateProp if fields.len() == 4 => ruled(true, Row::One(private_prop::VALUE, part)),
+        Kind::PrivateProp if fields.len() == 4 => ruled(
+            true,
+            Row::One(private_prop::VALUE as u8, part),
+        ),
         kind => function_rule(kind, fields, context),
     }
 }
@@ -467,9 +526,9 @@ fn operand_row(demand: Demand, context: Context) -> Row
     ensures { result ≡ spec.operand_row demand context }
 {
     Row::Two(
-        call_expr::CALLEE,
+        call_expr::CALLEE as u8,
         Ask::Fits(demand, context),
-        call_expr::ARGS,
+        call_expr::ARGS as u8,
         plain(context),
     )
 }
@@ -490,17 +549,20 @@ fn call_rule(kind: Kind, fields: &[Node], context: Context) -> Rule
             ruled(true, operand_row(Demand::Operand, context))
         }
         Kind::SuperPropExpr if fields.len() == 3 => {
-            ruled(true, Row::One(super_prop_expr::PROP, plain(context)))
+            ruled(true, Row::One(super_prop_expr::PROP as u8, plain(context)))
         }
         Kind::Tpl if fields.len() == 3 => {
             let exprs = Ask::Each(Demand::Any, context.inside());
-            ruled(true, Row::One(tpl::EXPRS, exprs))
+            ruled(true, Row::One(tpl::EXPRS as u8, exprs))
         }
         Kind::NewExpr if fields.len() == 3 => {
             ruled(true, new_row(&fields[new_expr::ARGS], context))
         }
         Kind::OptChainExpr if fields.len() == 3 => {
-            ruled(true, Row::One(opt_chain_expr::BASE, Ask::Chain(context)))
+            ruled(
+                true,
+                Row::One(opt_chain_expr::BASE as u8, Ask::Chain(context)),
+            )
         }
         Kind::OptCall if fields.len() == 3 => ruled(true, operand_row(Demand::Link, context)),
         kind => part_rule(kind, fields, context),
@@ -516,7 +578,7 @@ fn bin_rule(op: &Node, context: Context) -> Rule
     let right = Ask::Fits(right_side(op), context);
     ruled(
         context.with_in || !of_in,
-        Row::Two(bin_expr::LEFT, left, bin_expr::RIGHT, right),
+        Row::Two(bin_expr::LEFT as u8, left, bin_expr::RIGHT as u8, right),
     )
 }
 
@@ -524,11 +586,11 @@ fn cond_row(context: Context) -> Row
     ensures { result ≡ spec.cond_row context }
 {
     Row::Three(
-        cond_expr::TEST,
+        cond_expr::TEST as u8,
         Ask::Fits(Demand::AtLeast(4), context),
-        cond_expr::CONS,
+        cond_expr::CONS as u8,
         assigned(context.inside()),
-        cond_expr::ALT,
+        cond_expr::ALT as u8,
         assigned(context),
     )
 }
@@ -540,30 +602,35 @@ fn rule_for(kind: Kind, fields: &[Node], context: Context) -> Rule
     let unary = Ask::Fits(Demand::AtLeast(15), context);
     match kind {
         Kind::ParenExpr if fields.len() == 2 => {
-            ruled(true, Row::One(paren_expr::EXPR, any(context)))
+            ruled(true, Row::One(paren_expr::EXPR as u8, any(context)))
         }
         Kind::SeqExpr if fields.len() == 2 => {
             let exprs = Ask::Each(Demand::Each(2), context);
-            ruled(true, Row::One(seq_expr::EXPRS, exprs))
+            ruled(true, Row::One(seq_expr::EXPRS as u8, exprs))
         }
         Kind::AssignExpr if fields.len() == 4 => {
             let left = Ask::Derived(context);
             let right = assigned(context);
             ruled(
                 true,
-                Row::Two(assign_expr::LEFT, left, assign_expr::RIGHT, right),
+                Row::Two(
+                    assign_expr::LEFT as u8,
+                    left,
+                    assign_expr::RIGHT as u8,
+                    right,
+                ),
             )
         }
         Kind::CondExpr if fields.len() == 4 => ruled(true, cond_row(context)),
         Kind::BinExpr if fields.len() == 4 => bin_rule(&fields[bin_expr::OP], context),
-        Kind::UnaryExpr if fields.len() == 3 => ruled(true, Row::One(unary_expr::ARG, unary)),
-        Kind::AwaitExpr if fields.len() == 2 => ruled(true, Row::One(await_expr::ARG, unary)),
+        Kind::UnaryExpr if fields.len() == 3 => ruled(true, Row::One(unary_expr::ARG as u8, unary)),
+        Kind::AwaitExpr if fields.len() == 2 => ruled(true, Row::One(await_expr::ARG as u8, unary)),
         Kind::UpdateExpr if fields.len() == 4 => {
             let arg = Ask::Fits(Demand::AtLeast(17), context);
-            ruled(true, Row::One(update_expr::ARG, arg))
+            ruled(true, Row::One(update_expr::ARG as u8, arg))
         }
         Kind::YieldExpr if fields.len() == 3 => {
-            ruled(true, Row::One(yield_expr::ARG, assigned(context)))
+            ruled(true, Row::One(yield_expr::ARG as u8, assigned(context)))
         }
         kind => call_rule(kind, fields, context),
     }
