@@ -4,7 +4,6 @@ ghost use Rattle.swc_tree_marks.specs.declared.error.PassError.TheVariants as er
 ghost use Rattle.swc_tree.specs.Passes.{IsEmptied, IsEmptiedScript};
 ghost use Rattle.swc_tree_modules.specs.Nodes.{module_node, script_node};
 ghost use Rattle.swc_tree_renaming.specs.Apart.{IsPlainScript};
-ghost use Rattle.swc_tree_spaces.specs.Spaces.{has_types};
 ghost use Rattle.swc_base_resolver_program.specs.Marked.{MarksOk};
 ghost use Rattle.swc_base_rename_units.specs.Eval.{HasEval};
 ghost use Rattle.swc_ecma_transforms_base_laws.specs.Sources.{IsSource};
@@ -168,34 +167,6 @@ fn chain_module_with<C: Comments>(
         *program = empty_module(alloc, program.span);
         return Err(PassError::TypesLeft);
     }
-    chain_typeless_module(alloc, globals, unresolved, top, config, comments, program)
-}
-
-// The same of a program in which no types stand.
-fn chain_typeless_module<C: Comments>(
-    alloc: Global,
-    globals: &mut Globals,
-    unresolved: Mark,
-    top: Mark,
-    config: Config,
-    comments: &mut C,
-    program: &mut Module,
-) -> Result<(), PassError>
-    requires unresolved { unresolved ≢ 0 }
-    requires top { top ≢ 0 }
-    requires no_types { has_types (module_node program.old) ≡ false }
-    ensures done { OnOk result (Chains unresolved top config globals.old (module_node program.old) globals.new (module_node program.new)) }
-    ensures refused { OnErr result (IsEmptied program.old program.new) }
-    ensures cause { IfErr result (IsChainRefusal unresolved top config globals.old (module_node program.old) globals.new) }
-    ensures marks { HasFreshMarks top globals.old (module_node program.old) globals.new }
-    ensures promises { IsSource config (module_node program.old) → MarksOk globals.old unresolved top → OnOk result (KeepsItsSource unresolved top globals.old globals.new (module_node program.old) (module_node program.new)) }
-    ensures answer { IsSource config (module_node program.old) → ¬ HasEval (module_node program.old) → MarksOk globals.old unresolved top → OnOk result (IsAnswer (module_node program.new)) }
-    ensures no_target { IsSource config (module_node program.old) → MarksOk globals.old unresolved top → IfErr result (λ e. e ≢ error.NotAssignable) }
-    ensures again { IsAnswer (module_node program.old) → config.keep_class_names ≡ false → MarksOk globals.old unresolved top → OnOk result (module_node program.new ≡ module_node program.old) }
-    ensures moved { OnOk result (MovesFor C.moved (IsOnceHygienic unresolved top config globals.old (module_node program.old) globals.new) (module_node program.new) comments.old comments.new) }
-    ensures partly { OnErr result (MovesPartly C.moved (IsOnceHygienic unresolved top config globals.old (module_node program.old) globals.new) comments.old comments.new) }
-    ensures unmoved { IfErr result (λ e. e ≢ error.NoMemory → comments.new ≡ comments.old) }
-{
     types_are_told();
     chaining_keeps_forms();
     chaining_keeps_sources();
@@ -239,35 +210,6 @@ fn chain_script_with<C: Comments>(
         *program = empty_script(alloc, program.span);
         return Err(PassError::TypesLeft);
     }
-    chain_typeless_script(alloc, globals, unresolved, top, config, comments, program)
-}
-
-// The same of a program in which no types stand.
-fn chain_typeless_script<C: Comments>(
-    alloc: Global,
-    globals: &mut Globals,
-    unresolved: Mark,
-    top: Mark,
-    config: Config,
-    comments: &mut C,
-    program: &mut Script,
-) -> Result<(), PassError>
-    requires unresolved { unresolved ≢ 0 }
-    requires top { top ≢ 0 }
-    requires no_types { has_types (script_node program.old) ≡ false }
-    ensures done { OnOk result (Chains unresolved top config globals.old (script_node program.old) globals.new (script_node program.new)) }
-    ensures refused { OnErr result (IsEmptiedScript program.old program.new) }
-    ensures cause { IfErr result (IsChainRefusal unresolved top config globals.old (script_node program.old) globals.new) }
-    ensures marks { HasFreshMarks top globals.old (script_node program.old) globals.new }
-    ensures form { IsSource config (script_node program.old) → MarksOk globals.old unresolved top → OnOk result (KeepsItsForm (script_node program.old) (script_node program.new)) }
-    ensures promises { IsSource config (script_node program.old) → IsPlainScript (script_node program.old) → MarksOk globals.old unresolved top → OnOk result (KeepsItsSource unresolved top globals.old globals.new (script_node program.old) (script_node program.new)) }
-    ensures answer { IsSource config (script_node program.old) → IsPlainScript (script_node program.old) → ¬ HasEval (script_node program.old) → MarksOk globals.old unresolved top → OnOk result (IsAnswer (script_node program.new)) }
-    ensures no_target { IsSource config (script_node program.old) → MarksOk globals.old unresolved top → IfErr result (λ e. e ≢ error.NotAssignable) }
-    ensures again { IsAnswer (script_node program.old) → config.keep_class_names ≡ false → MarksOk globals.old unresolved top → OnOk result (script_node program.new ≡ script_node program.old) }
-    ensures moved { OnOk result (MovesFor C.moved (IsOnceHygienic unresolved top config globals.old (script_node program.old) globals.new) (script_node program.new) comments.old comments.new) }
-    ensures partly { OnErr result (MovesPartly C.moved (IsOnceHygienic unresolved top config globals.old (script_node program.old) globals.new) comments.old comments.new) }
-    ensures unmoved { IfErr result (λ e. e ≢ error.NoMemory → comments.new ≡ comments.old) }
-{
     types_are_told();
     chaining_keeps_forms();
     chaining_keeps_sources();

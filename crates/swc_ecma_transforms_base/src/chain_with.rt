@@ -161,36 +161,6 @@ fn chain_module_by<R: Renamer, C: Comments>(
         *program = empty_module(alloc, program.span);
         return Err(PassError::TypesLeft);
     }
-    chain_typeless_module_by(
-        alloc, globals, unresolved, top, config, renamer, comments, program,
-    )
-}
-
-// The same of a program in which no types stand.
-fn chain_typeless_module_by<R: Renamer, C: Comments>(
-    alloc: Global,
-    globals: &mut Globals,
-    unresolved: Mark,
-    top: Mark,
-    config: Config,
-    renamer: &mut R,
-    comments: &mut C,
-    program: &mut Module,
-) -> Result<(), PassError>
-    requires unresolved { unresolved ≢ 0 }
-    requires top { top ≢ 0 }
-    requires no_types { has_types (module_node program.old) ≡ false }
-    ensures done { OnOk result (ChainsBy (renaming_in R.text R.preserved R.asked R.MANGLE R.RESET_N renamer.old renamer.new) unresolved top config globals.old (module_node program.old) globals.new (module_node program.new)) }
-    ensures refused { OnErr result (IsEmptied program.old program.new) }
-    ensures cause { IfErr result (IsChainRefusalBy (renaming_in R.text R.preserved R.asked R.MANGLE R.RESET_N renamer.old renamer.new) unresolved top config globals.old (module_node program.old) globals.new) }
-    ensures marks { HasFreshMarks top globals.old (module_node program.old) globals.new }
-    ensures promises { SuitsOnceResolved (renaming_in R.text R.preserved R.asked R.MANGLE R.RESET_N renamer.old renamer.new) unresolved top globals.old (module_node program.old) globals.new → IsSource config (module_node program.old) → MarksOk globals.old unresolved top → OnOk result (KeepsItsSource unresolved top globals.old globals.new (module_node program.old) (module_node program.new)) }
-    ensures no_target { IsSource config (module_node program.old) → MarksOk globals.old unresolved top → IfErr result (λ e. e ≢ error.NotAssignable) }
-    ensures asked { OnOk result (IsAskedOfResolved R.asked unresolved top globals.old (module_node program.old) globals.new renamer.old renamer.new) }
-    ensures moved { OnOk result (MovesFor C.moved (IsOnceRenamed (renaming_in R.text R.preserved R.asked R.MANGLE R.RESET_N renamer.old renamer.new) unresolved top config globals.old (module_node program.old) globals.new) (module_node program.new) comments.old comments.new) }
-    ensures partly { OnErr result (MovesPartly C.moved (IsOnceRenamed (renaming_in R.text R.preserved R.asked R.MANGLE R.RESET_N renamer.old renamer.new) unresolved top config globals.old (module_node program.old) globals.new) comments.old comments.new) }
-    ensures unmoved { IfErr result (λ e. e ≢ error.NoMemory → comments.new ≡ comments.old) }
-{
     types_are_told();
     lawful_renamers_keep_forms_of_sources();
     lawful_renamers_keep_sources();
@@ -233,37 +203,6 @@ fn chain_script_by<R: Renamer, C: Comments>(
         *program = empty_script(alloc, program.span);
         return Err(PassError::TypesLeft);
     }
-    chain_typeless_script_by(
-        alloc, globals, unresolved, top, config, renamer, comments, program,
-    )
-}
-
-// The same of a program in which no types stand.
-fn chain_typeless_script_by<R: Renamer, C: Comments>(
-    alloc: Global,
-    globals: &mut Globals,
-    unresolved: Mark,
-    top: Mark,
-    config: Config,
-    renamer: &mut R,
-    comments: &mut C,
-    program: &mut Script,
-) -> Result<(), PassError>
-    requires unresolved { unresolved ≢ 0 }
-    requires top { top ≢ 0 }
-    requires no_types { has_types (script_node program.old) ≡ false }
-    ensures done { OnOk result (ChainsBy (renaming_in R.text R.preserved R.asked R.MANGLE R.RESET_N renamer.old renamer.new) unresolved top config globals.old (script_node program.old) globals.new (script_node program.new)) }
-    ensures refused { OnErr result (IsEmptiedScript program.old program.new) }
-    ensures cause { IfErr result (IsChainRefusalBy (renaming_in R.text R.preserved R.asked R.MANGLE R.RESET_N renamer.old renamer.new) unresolved top config globals.old (script_node program.old) globals.new) }
-    ensures marks { HasFreshMarks top globals.old (script_node program.old) globals.new }
-    ensures form { IsSource config (script_node program.old) → MarksOk globals.old unresolved top → OnOk result (KeepsItsForm (script_node program.old) (script_node program.new)) }
-    ensures promises { SuitsOnceResolved (renaming_in R.text R.preserved R.asked R.MANGLE R.RESET_N renamer.old renamer.new) unresolved top globals.old (script_node program.old) globals.new → IsSource config (script_node program.old) → IsPlainScript (script_node program.old) → MarksOk globals.old unresolved top → OnOk result (KeepsItsSource unresolved top globals.old globals.new (script_node program.old) (script_node program.new)) }
-    ensures no_target { IsSource config (script_node program.old) → MarksOk globals.old unresolved top → IfErr result (λ e. e ≢ error.NotAssignable) }
-    ensures asked { OnOk result (IsAskedOfResolved R.asked unresolved top globals.old (script_node program.old) globals.new renamer.old renamer.new) }
-    ensures moved { OnOk result (MovesFor C.moved (IsOnceRenamed (renaming_in R.text R.preserved R.asked R.MANGLE R.RESET_N renamer.old renamer.new) unresolved top config globals.old (script_node program.old) globals.new) (script_node program.new) comments.old comments.new) }
-    ensures partly { OnErr result (MovesPartly C.moved (IsOnceRenamed (renaming_in R.text R.preserved R.asked R.MANGLE R.RESET_N renamer.old renamer.new) unresolved top config globals.old (script_node program.old) globals.new) comments.old comments.new) }
-    ensures unmoved { IfErr result (λ e. e ≢ error.NoMemory → comments.new ≡ comments.old) }
-{
     types_are_told();
     lawful_renamers_keep_forms_of_sources();
     lawful_renamers_keep_sources();
