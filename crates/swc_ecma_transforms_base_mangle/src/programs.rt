@@ -1,10 +1,9 @@
 //! Short names for programs.
-ghost use Rattle.std.specs.Prelude.{◌≡◌, ◌≢◌, false, OnOk, OnErr, IfErr};
+ghost use Rattle.std.specs.Prelude.{◌≢◌, OnOk, OnErr, IfErr};
 ghost use Rattle.swc_tree_marks.specs.declared.error.PassError.TheVariants as error;
 ghost use Rattle.swc_tree.specs.Passes.{IsEmptied, IsEmptiedScript};
 ghost use Rattle.swc_tree_modules.specs.Nodes.{module_node, script_node};
 ghost use Rattle.swc_tree_renaming.specs.Apart.{IsPlainScript};
-ghost use Rattle.swc_tree_spaces.specs.Spaces.{has_types};
 ghost use Rattle.swc_base_resolver_program.specs.Marked.{MarksOk};
 ghost use Rattle.swc_ecma_transforms_base_laws.specs.Headline.{KeepsItsForm, KeepsItsSource};
 ghost use Rattle.swc_ecma_transforms_base_laws.specs.Sources.{IsSource};
@@ -105,25 +104,6 @@ fn make_module(
         *program = empty_module(alloc, program.span);
         return Err(PassError::TypesLeft);
     }
-    make_typeless_module(alloc, globals, unresolved, config, keeps_top, program)
-}
-
-// The same of a module in which no types stand.
-fn make_typeless_module(
-    alloc: Global,
-    globals: &mut Globals,
-    unresolved: Mark,
-    config: &Config,
-    keeps_top: bool,
-    program: &mut Module,
-) -> Result<(), PassError>
-    requires marks { MarksOk globals.old unresolved config.now.top_level_mark }
-    requires no_types { has_types (module_node program.old) ≡ false }
-    ensures done { OnOk result (IsMadeShort unresolved config.now keeps_top globals.old (module_node program.old) globals.new (module_node program.new)) }
-    ensures refused { OnErr result (IsEmptied program.old program.new) }
-    ensures cause { IfErr result (IsRefusal unresolved config.now keeps_top globals.old (module_node program.old) globals.new) }
-    ensures marks { GainsMarks config.now.top_level_mark globals.old (module_node program.old) globals.new }
-{
     let module = mem::replace(program, empty_module(alloc, program.span));
     let node = module.into_node(alloc)?;
     let answer = mangle_node(alloc, globals, unresolved, config, keeps_top, node)?;
@@ -150,25 +130,6 @@ fn make_script(
         *program = empty_script(alloc, program.span);
         return Err(PassError::TypesLeft);
     }
-    make_typeless_script(alloc, globals, unresolved, config, keeps_top, program)
-}
-
-// The same of a script in which no types stand.
-fn make_typeless_script(
-    alloc: Global,
-    globals: &mut Globals,
-    unresolved: Mark,
-    config: &Config,
-    keeps_top: bool,
-    program: &mut Script,
-) -> Result<(), PassError>
-    requires marks { MarksOk globals.old unresolved config.now.top_level_mark }
-    requires no_types { has_types (script_node program.old) ≡ false }
-    ensures done { OnOk result (IsMadeShort unresolved config.now keeps_top globals.old (script_node program.old) globals.new (script_node program.new)) }
-    ensures refused { OnErr result (IsEmptiedScript program.old program.new) }
-    ensures cause { IfErr result (IsRefusal unresolved config.now keeps_top globals.old (script_node program.old) globals.new) }
-    ensures marks { GainsMarks config.now.top_level_mark globals.old (script_node program.old) globals.new }
-{
     let script = mem::replace(program, empty_script(alloc, program.span));
     let node = script.into_node(alloc)?;
     let answer = mangle_node(alloc, globals, unresolved, config, keeps_top, node)?;
