@@ -59,7 +59,9 @@ fn keep(alloc: Global, goal: Goal, text: &[u8]) -> Result<Vec<u8>, Fault>
     ensures { IfOk result (λ out. out.items ≡ text.now) }
 {
     let tree = read(alloc, goal, text)?;
-    match edit_text(alloc, comments_of(goal), text, &tree, &tree) {
+    let edited = edit_text(alloc, comments_of(goal), text, &tree, &tree);
+    forget(tree); // the process ends next, and gives back all at once
+    match edited {
         Ok(out) => Ok(out),
         Err(fault) => Err(Fault::Edit(fault)),
     }
@@ -69,7 +71,9 @@ fn print(alloc: Global, goal: Goal, layout: Layout, text: &[u8]) -> Result<Vec<u
     ensures { IfOk result (λ out. IsPrinted goal text.now out.items) }
 {
     let tree = read(alloc, goal, text)?;
-    match print_text(alloc, comments_of(goal), layout, &tree) {
+    let printed = print_text(alloc, comments_of(goal), layout, &tree);
+    forget(tree);
+    match printed {
         Ok(out) => Ok(out),
         Err(fault) => Err(Fault::Print(fault)),
     }
@@ -82,7 +86,7 @@ pub fn answer(alloc: Global, goal: Goal, task: Task, text: &[u8]) -> Result<Vec<
     match task {
         Task::Read => {
             let tree = read(alloc, goal, text)?;
-            forget(tree); // the process ends next, and gives back all at once
+            forget(tree);
             Ok(Vec::new(alloc))
         }
         Task::Keep => keep(alloc, goal, text),
