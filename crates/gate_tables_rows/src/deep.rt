@@ -40,21 +40,31 @@ fn expression(alloc: Global) -> Option<Tree<class::Expr>> {
     Some(expr)
 }
 
-// `{ { .. !(!( .. a .. )); .. } }`
-fn statement(alloc: Global) -> Option<Tree<class::Stmt>> {
+// `!(!( .. a .. ));`
+fn innermost(alloc: Global) -> Option<Tree<class::Stmt>> {
     let statement = ExprStmt {
         span: DUMMY_SP,
         expr: expression(alloc)?,
     };
-    let mut stmt = statement.close(alloc).ok()?.widen::<class::Stmt>();
+    Some(statement.close(alloc).ok()?.widen::<class::Stmt>())
+}
+
+// A block with a statement in it.
+fn put_in_block(alloc: Global, stmt: Tree<class::Stmt>) -> Option<Tree<class::Stmt>> {
+    let mut stmts = Trees::new(alloc);
+    stmts.push(stmt).ok()?;
+    let block = BlockStmt {
+        span: DUMMY_SP,
+        stmts,
+    };
+    Some(block.close(alloc).ok()?.widen::<class::Stmt>())
+}
+
+// `{ { .. !(!( .. a .. )); .. } }`
+fn statement(alloc: Global) -> Option<Tree<class::Stmt>> {
+    let mut stmt = innermost(alloc)?;
     for _ in 0..DEPTH {
-        let mut stmts = Trees::new(alloc);
-        stmts.push(stmt).ok()?;
-        let block = BlockStmt {
-            span: DUMMY_SP,
-            stmts,
-        };
-        stmt = block.close(alloc).ok()?.widen::<class::Stmt>();
+        stmt = put_in_block(alloc, stmt)?;
     }
     Some(stmt)
 }
@@ -105,36 +115,54 @@ fn globals(alloc: Global) -> Option<Globals> {
     Globals::from_table(alloc, &[(1, 0), (2, 0)]).ok()
 }
 
-// How deep a pass leaves a module and a script.
-fn visited<P: JsPass + Drop>(alloc: Global, mut pass: P) -> Option<(usize, usize)> {
+// How deep a pass leaves a module.
+fn visited_module<P: JsPass>(alloc: Global, pass: &mut P) -> Option<usize> {
     let mut module = module(alloc)?;
-    pass.visit_mut_module(alloc, &mut globals(alloc)?, &mut module)
+    let mut globals = globals(alloc)?;
+    pass.visit_mut_module(alloc, &mut globals, &mut module)
         .ok()?;
+    Some(greatest_depth(module.body.as_slice()))
+}
+
+// How deep it leaves a script.
+fn visited_script<P: JsPass>(alloc: Global, pass: &mut P) -> Option<usize> {
     let mut script = script(alloc)?;
-    pass.visit_mut_script(alloc, &mut globals(alloc)?, &mut script)
+    let mut globals = globals(alloc)?;
+    pass.visit_mut_script(alloc, &mut globals, &mut script)
         .ok()?;
-    Some((
-        greatest_depth(module.body.as_slice()),
-        greatest_depth(script.body.as_slice()),
-    ))
+    Some(greatest_depth(script.body.as_slice()))
+}
+
+// How deep a pass leaves a module and then a script.
+fn visited<P: JsPass + Drop>(alloc: Global, mut pass: P) -> Option<(usize, usize)> {
+    let module = visited_module(alloc, &mut pass)?;
+    Some((module, visited_script(alloc, &mut pass)?))
+}
+
+fn finished_module(alloc: Global, globals: &mut Globals) -> Option<usize> {
+    let mut module = module(alloc)?;
+    let (config, comments) = (Config::default(), None::<&mut NoComments>);
+    finish_module(alloc, globals, config, comments, &mut module).ok()?;
+    Some(greatest_depth(module.body.as_slice()))
+}
+
+fn finished_script(alloc: Global, globals: &mut Globals) -> Option<usize> {
+    let mut script = script(alloc)?;
+    let (config, comments) = (Config::default(), None::<&mut NoComments>);
+    finish_script(alloc, globals, config, comments, &mut script).ok()?;
+    Some(greatest_depth(script.body.as_slice()))
 }
 
 fn finished(alloc: Global) -> Option<(usize, usize)> {
-    let (mut module, mut script) = (module(alloc)?, script(alloc)?);
-    let (config, globals) = (Config::default(), &mut globals(alloc)?);
-    finish_module(alloc, globals, config, None::<&mut NoComments>, &mut module).ok()?;
-    finish_script(alloc, globals, config, None::<&mut NoComments>, &mut script).ok()?;
-    Some((
-        greatest_depth(module.body.as_slice()),
-        greatest_depth(script.body.as_slice()),
-    ))
+    let mut globals = globals(alloc)?;
+    let module = finished_module(alloc, &mut globals)?;
+    Some((module, finished_script(alloc, &mut globals)?))
 }
 
-fn chained(alloc: Global) -> Option<(usize, usize)> {
-    let (mut module, mut script) = (module(alloc)?, script(alloc)?);
-    let (config, globals) = (Config::default(), &mut globals(alloc)?);
+fn chained_module(alloc: Global, globals: &mut Globals) -> Option<usize> {
+    let mut module = module(alloc)?;
     let (unresolved, top) = (Mark::from_u32(1), Mark::from_u32(2));
-    let comments = None::<&mut NoComments>;
+    let (config, comments) = (Config::default(), None::<&mut NoComments>);
     chain_module(
         alloc,
         globals,
@@ -145,7 +173,13 @@ fn chained(alloc: Global) -> Option<(usize, usize)> {
         &mut module,
     )
     .ok()?;
-    let comments = None::<&mut NoComments>;
+    Some(greatest_depth(module.body.as_slice()))
+}
+
+fn chained_script(alloc: Global, globals: &mut Globals) -> Option<usize> {
+    let mut script = script(alloc)?;
+    let (unresolved, top) = (Mark::from_u32(1), Mark::from_u32(2));
+    let (config, comments) = (Config::default(), None::<&mut NoComments>);
     chain_script(
         alloc,
         globals,
@@ -156,10 +190,13 @@ fn chained(alloc: Global) -> Option<(usize, usize)> {
         &mut script,
     )
     .ok()?;
-    Some((
-        greatest_depth(module.body.as_slice()),
-        greatest_depth(script.body.as_slice()),
-    ))
+    Some(greatest_depth(script.body.as_slice()))
+}
+
+fn chained(alloc: Global) -> Option<(usize, usize)> {
+    let mut globals = globals(alloc)?;
+    let module = chained_module(alloc, &mut globals)?;
+    Some((module, chained_script(alloc, &mut globals)?))
 }
 
 fn resolved(alloc: Global) -> Option<(usize, usize)> {

@@ -118,13 +118,23 @@ fn folded(alloc: Global, class: &str, input: &str) -> Option<String> {
     given.folded(alloc, &mut hygiene).ok()
 }
 
-// What is left of the program of a row, behind the moves.
-fn commented(alloc: Global, words: &str, input: &str) -> Option<String> {
+// What is left of the program of a row that words name a task for, with comments that are lent, if there are any.
+fn left_by(
+    alloc: Global,
+    words: &str,
+    comments: Option<&mut Notes>,
+    input: &str,
+) -> Option<String> {
     let (task, class) = task_of(words)?;
     let mut given = Given::read(alloc, class, input).ok()?;
+    let answer = run(alloc, task, comments, &mut given)?;
+    given.left(alloc, answer).ok()
+}
+
+// What is left of the program of a row, behind the moves.
+fn commented(alloc: Global, words: &str, input: &str) -> Option<String> {
     let mut notes = Notes::new(alloc, room(alloc, input)?);
-    let answer = run(alloc, task, Some(&mut notes), &mut given)?;
-    let left = given.left(alloc, answer).ok()?;
+    let left = left_by(alloc, words, Some(&mut notes), input)?;
     notes.before(alloc, left.as_str()).ok()
 }
 
@@ -136,8 +146,5 @@ pub fn answer(alloc: Global, words: &str, input: &str) -> Option<String> {
     if let Some(words) = words.strip_prefix("commented ") {
         return commented(alloc, words, input);
     }
-    let (task, class) = task_of(words)?;
-    let mut given = Given::read(alloc, class, input).ok()?;
-    let answer = run(alloc, task, None, &mut given)?;
-    given.left(alloc, answer).ok()
+    left_by(alloc, words, None, input)
 }

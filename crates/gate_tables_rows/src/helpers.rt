@@ -27,9 +27,10 @@ pub fn names(alloc: Global, helpers: &Helpers) -> Option<String> {
 }
 
 fn with_helper(alloc: Global, external: bool, name: &str) -> Option<Helpers> {
+    let helper = named(name)?;
     let mut globals = Globals::new(alloc);
     let mut helpers = Helpers::new(&mut globals, external).ok()?;
-    helpers.enable(named(name)?);
+    helpers.enable(helper);
     Some(Helpers::from_data(helpers.data()))
 }
 

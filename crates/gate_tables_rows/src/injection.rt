@@ -66,12 +66,12 @@ pub fn body_of(input: &str) -> Option<&str> {
 
 /// The pass that brings `throw` into a program, if it has a body where it is written out.
 pub fn pass_of(alloc: Global, global: Mark, external: bool, input: &str) -> Option<InjectHelpers> {
+    if global == Mark::root() {
+        return None;
+    }
     let helpers = helpers(alloc, external)?;
     let bodies = bodies(alloc, body_of(input))?;
     if !helpers.external() && !bodies.covers(&helpers) {
-        return None;
-    }
-    if global == Mark::root() {
         return None;
     }
     Some(inject_helpers(global, &helpers, bodies))
@@ -86,6 +86,30 @@ enum Then {
     Finishing,
 }
 
+// Runs on a program what is run once its helpers are in it.
+fn follow(alloc: Global, then: Then, pass: &mut InjectHelpers, given: &mut Given) -> Option<()> {
+    match then {
+        Then::Nothing => Some(()),
+        Then::Hygiene => given.visit(alloc, &mut hygiene()).ok(),
+        Then::InjectionAgain => given.visit(alloc, pass).ok(),
+        Then::Finishing => run(alloc, Task::Finish, None, given)?.ok(),
+    }
+}
+
+// What is left of a program that helpers are brought into.
+fn left_by(
+    alloc: Global,
+    then: Then,
+    pass: &mut InjectHelpers,
+    mut given: Given,
+) -> Option<String> {
+    let answer = given.visit(alloc, pass);
+    if answer.is_ok() {
+        follow(alloc, then, pass, &mut given)?;
+    }
+    given.left(alloc, answer).ok()
+}
+
 // What is left of the program of an input, with the helper in it.
 fn injected(
     alloc: Global,
@@ -94,19 +118,10 @@ fn injected(
     then: Then,
     input: &str,
 ) -> Option<String> {
-    let mut given = Given::read(alloc, class, program_of(input)).ok()?;
+    let given = Given::read(alloc, class, program_of(input)).ok()?;
     let settings = given.settings;
     let mut pass = pass_of(alloc, settings.unresolved, external, input)?;
-    if let Err(error) = given.visit(alloc, &mut pass) {
-        return given.left(alloc, Err(error)).ok();
-    }
-    match then {
-        Then::Nothing => {}
-        Then::Hygiene => given.visit(alloc, &mut hygiene()).ok()?,
-        Then::InjectionAgain => given.visit(alloc, &mut pass).ok()?,
-        Then::Finishing => run(alloc, Task::Finish, None, &mut given)?.ok()?,
-    }
-    given.left(alloc, Ok(())).ok()
+    left_by(alloc, then, &mut pass, given)
 }
 
 /// The name of a helper, as the expression has it by which a program calls the helper.
@@ -117,8 +132,8 @@ pub fn name_of(alloc: Global, helpers: &mut Helpers, helper: Helper) -> Result<I
     }
 }
 
-// Helpers of a package on a table with the one mark 1, and the mark made before theirs.
-fn helpers_of_package(alloc: Global) -> Option<(u32, Helpers)> {
+/// Helpers of a package on a table with the one mark 1, and the mark made before theirs.
+pub fn helpers_of_package(alloc: Global) -> Option<(u32, Helpers)> {
     let mut globals = Globals::from_table(alloc, &[(1, 0)]).ok()?;
     let second = Mark::new(&mut globals).ok()?.as_u32();
     let helpers = Helpers::new(&mut globals, true).ok()?;

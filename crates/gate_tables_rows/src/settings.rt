@@ -98,16 +98,18 @@ fn hash_of(assumptions: &Assumptions) -> u64 {
     hasher.finish()
 }
 
+// The assumptions that a text is.
+fn assumptions_of(alloc: Global, text: &str) -> Option<Assumptions> {
+    let value = Value::from_str(alloc, text).ok()?;
+    Assumptions::from_value(&value).ok()
+}
+
 // How two assumptions stand to one another, and whether they hash equally.
 fn compared(alloc: Global, input: &str) -> Option<String> {
     let (first, second) = input.split_once(' ')?;
-    let (first, second) = (
-        Value::from_str(alloc, first).ok()?,
-        Value::from_str(alloc, second).ok()?,
-    );
     let (one, other) = (
-        Assumptions::from_value(&first).ok()?,
-        Assumptions::from_value(&second).ok()?,
+        assumptions_of(alloc, first)?,
+        assumptions_of(alloc, second)?,
     );
     let order = match one.cmp(&other) {
         Ordering::Less => "less",

@@ -1,13 +1,15 @@
 //! Works that may be refused memory, each with all that it needs.
 use crate::finished::{Task, run, task_of};
 use crate::helpers::{named, names};
-use crate::injection::{body_of, helpers, name_of, pass_of, program_of, statements, throw};
+use crate::injection::{
+    body_of, helpers, helpers_of_package, name_of, pass_of, program_of, statements, throw,
+};
 use gate_rows::{Given, Notes, Work, room};
 use jsbase_writer::write;
 use std::alloc::Global;
 use std::fmt::Write;
 use swc_base_tables::{Helper, HelperBodies, Helpers, InjectHelpers, helper};
-use swc_tree::{DUMMY_SP, Globals, Mark, Opened, PassError, Tree, Trees, class};
+use swc_tree::{DUMMY_SP, Globals, Opened, PassError, Tree, Trees, class};
 use swc_tree_node::{Class, Kind, Node};
 
 /// Helpers that are made on an empty table, and enabled one.
@@ -46,6 +48,11 @@ impl Made {
             Err(error) => Err(PassError::from_fresh(error)),
         }
     }
+
+    // The names of those that the helpers have.
+    fn names(&self, alloc: Global) -> Option<String> {
+        names(alloc, self.made.as_ref()?)
+    }
 }
 
 impl Work for Made {
@@ -58,8 +65,7 @@ impl Work for Made {
     }
 
     fn is_ample(self, alloc: Global, _answer: Result<(), PassError>, wanted: &str) -> Option<bool> {
-        let names = names(alloc, &self.made?)?;
-        Some(names.as_str() == wanted)
+        Some(self.names(alloc)?.as_str() == wanted)
     }
 }
 
@@ -83,13 +89,12 @@ impl Named {
         if words != "helper names" {
             return None;
         }
-        let mut globals = Globals::from_table(alloc, &[(1, 0)]).ok()?;
-        let second = Mark::new(&mut globals).ok()?.as_u32();
-        let helpers = Helpers::new(&mut globals, true).ok()?;
+        let helper = throw()?;
+        let (second, helpers) = helpers_of_package(alloc)?;
         let others = Helpers::from_data(helpers.data());
         Some(Named {
             second,
-            helper: throw()?,
+            helper,
             helpers,
             others,
             is_named: false,
@@ -99,16 +104,37 @@ impl Named {
         })
     }
 
-    // Both names.
-    fn name(&mut self, alloc: Global) -> Result<(), PassError> {
+    // The name as an expression.
+    fn name_expr(&mut self, alloc: Global) -> Result<(), PassError> {
         let name = name_of(alloc, &mut self.helpers, self.helper)?;
         self.is_named = true;
         let expr = Tree::<class::Expr>::from_identifier(alloc, Kind::Ident, name)?;
         self.expr = Some(expr.into_node());
+        Ok(())
+    }
+
+    // The name as what is called.
+    fn name_callee(&mut self, alloc: Global) -> Result<(), PassError> {
         let called = helper(alloc, &mut self.others, DUMMY_SP, self.helper)?;
         self.is_called = true;
         self.called = Some(called.into_node(alloc)?);
         Ok(())
+    }
+
+    // Both names.
+    fn name(&mut self, alloc: Global) -> Result<(), PassError> {
+        self.name_expr(alloc)?;
+        self.name_callee(alloc)
+    }
+
+    // What is said of both.
+    fn said(&self, alloc: Global) -> Option<String> {
+        let expr = write(alloc, self.expr.as_ref()?).ok()?;
+        let called = write(alloc, self.called.as_ref()?).ok()?;
+        let is_enabled = self.helpers.is_enabled(self.helper)
+            && self.others.is_enabled(self.helper);
+        let (second, mark) = (self.second, self.helpers.mark().as_u32());
+        format!(in alloc; "{second} {mark} {expr} {called} {is_enabled}").ok()
     }
 }
 
@@ -125,13 +151,7 @@ impl Work for Named {
     }
 
     fn is_ample(self, alloc: Global, _answer: Result<(), PassError>, wanted: &str) -> Option<bool> {
-        let expr = write(alloc, &self.expr?).ok()?;
-        let called = write(alloc, &self.called?).ok()?;
-        let is_enabled = self.helpers.is_enabled(self.helper)
-            && self.others.is_enabled(self.helper);
-        let (second, mark) = (self.second, self.helpers.mark().as_u32());
-        let text = format!(in alloc; "{second} {mark} {expr} {called} {is_enabled}").ok()?;
-        Some(text.as_str() == wanted)
+        Some(self.said(alloc)?.as_str() == wanted)
     }
 }
 
@@ -146,9 +166,10 @@ pub struct Inserted {
 impl Inserted {
     /// The work of a row of helpers that are written out.
     pub fn of_row(alloc: Global, input: &str) -> Option<Inserted> {
+        let helpers = helpers(alloc, false)?;
         let body = statements(alloc, body_of(input)?)?;
         Some(Inserted {
-            helpers: helpers(alloc, false)?,
+            helpers,
             bodies: HelperBodies::new(alloc),
             body: Some(body),
         })
@@ -197,23 +218,34 @@ impl Injected {
             "helper written out in a script" => (false, Class::Script),
             _ => return None,
         };
-        let given = Given::read(alloc, class, program_of(input)).ok()?;
+        let text = String::from_str(alloc, program_of(input)).ok()?;
+        let given = Given::read(alloc, class, text.as_str()).ok()?;
         let settings = given.settings;
         let pass = pass_of(alloc, settings.unresolved, external, input)?;
         Some(Injected {
             class,
-            text: String::from_str(alloc, program_of(input)).ok()?,
+            text,
             pass,
             given,
         })
     }
 
+    // A further program.
+    fn further(&self, alloc: Global) -> Option<Given> {
+        Given::read(alloc, self.class, self.text.as_str()).ok()
+    }
+
+    // What the pass leaves of it.
+    fn left_by_pass(&mut self, alloc: Global) -> Option<String> {
+        let mut further = self.further(alloc)?;
+        let answer = further.visit(alloc, &mut self.pass);
+        further.left(alloc, answer).ok()
+    }
+
     // Whether the pass changes no further program.
     fn is_used_up(&mut self, alloc: Global) -> Option<bool> {
-        let mut further = Given::read(alloc, self.class, self.text.as_str()).ok()?;
-        let answer = further.visit(alloc, &mut self.pass);
-        let unchanged = Given::read(alloc, self.class, self.text.as_str()).ok()?;
-        Some(further.left(alloc, answer).ok()? == unchanged.left(alloc, Ok(())).ok()?)
+        let left = self.left_by_pass(alloc)?;
+        Some(left == self.further(alloc)?.left(alloc, Ok(())).ok()?)
     }
 }
 
@@ -242,12 +274,17 @@ pub struct Finished {
 impl Finished {
     /// The work of a row of such passes.
     pub fn of_row(alloc: Global, words: &str, input: &str) -> Option<Finished> {
-        let (words, comments) = match words.strip_prefix("commented ") {
-            Some(words) => (words, Some(Notes::new(alloc, room(alloc, input)?))),
-            None => (words, None),
+        let (words, is_commented) = match words.strip_prefix("commented ") {
+            Some(words) => (words, true),
+            None => (words, false),
         };
         let (task, class) = task_of(words)?;
         let given = Given::read(alloc, class, input).ok()?;
+        let comments = if is_commented {
+            Some(Notes::new(alloc, room(alloc, input)?))
+        } else {
+            None
+        };
         Some(Finished {
             task,
             comments,
