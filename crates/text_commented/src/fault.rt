@@ -14,6 +14,11 @@ pub enum SetFault {
 }
 
 impl From<AllocError> for SetFault {
+    ghost use Rattle.std.specs.Prelude.{◌≡◌};
+    ghost use Rattle.text_commented.specs.declared.fault.SetFault.TheVariants.{NoMemory};
+
+    ghost from_gives = { λ _ fault. fault ≡ NoMemory };
+
     fn from(_: AllocError) -> SetFault {
         SetFault::NoMemory
     }

@@ -23,6 +23,11 @@ pub enum CommentsFault {
 }
 
 impl From<AllocError> for CommentsFault {
+    ghost use Rattle.std.specs.Prelude.{◌≡◌};
+    ghost use Rattle.text_comments.specs.declared.comment.CommentsFault.TheVariants.{NoMemory};
+
+    ghost from_gives = { λ _ fault. fault ≡ NoMemory };
+
     fn from(_: AllocError) -> CommentsFault {
         CommentsFault::NoMemory
     }

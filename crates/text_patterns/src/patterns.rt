@@ -14,12 +14,22 @@ pub enum PatternError {
 }
 
 impl From<AllocError> for PatternError {
+    ghost use Rattle.std.specs.Prelude.{◌≡◌};
+    ghost use Rattle.text_patterns.specs.declared.patterns.PatternError.TheVariants.{NoMemory};
+
+    ghost from_gives = { λ _ error. error ≡ NoMemory };
+
     fn from(_: AllocError) -> PatternError {
         PatternError::NoMemory
     }
 }
 
 impl<T: Drop> From<AllocFailed<T>> for PatternError {
+    ghost use Rattle.std.specs.Prelude.{◌≡◌};
+    ghost use Rattle.text_patterns.specs.declared.patterns.PatternError.TheVariants.{NoMemory};
+
+    ghost from_gives = { λ _ error. error ≡ NoMemory };
+
     fn from(_: AllocFailed<T>) -> PatternError {
         PatternError::NoMemory
     }

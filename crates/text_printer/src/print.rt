@@ -21,6 +21,11 @@ pub enum PrintFault {
 }
 
 impl From<AllocError> for PrintFault {
+    ghost use Rattle.std.specs.Prelude.{◌≡◌};
+    ghost use Rattle.text_printer.specs.declared.print.PrintFault.TheVariants.{NoMemory};
+
+    ghost from_gives = { λ _ fault. fault ≡ NoMemory };
+
     fn from(_: AllocError) -> PrintFault {
         PrintFault::NoMemory
     }
