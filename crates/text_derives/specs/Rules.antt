@@ -87,7 +87,6 @@ if_rule c cons alt =
 -- other statements
 abbrev pub statement_rule : Context → Node-F Node → Rule
 statement_rule c (Statement span expr) = rule (may_begin_statement (start expr)) (row.One 1 (any c))
-statement_rule c (ExportDefault span expr) = rule (may_begin_export (start expr)) (row.One 1 (assigned (inside c)))
 statement_rule c (Return span arg) = rule true (row.One 1 (any c))
 statement_rule c (Throw span arg) = rule true (row.One 1 (any c))
 statement_rule c (With span obj body) = rule true (row.Two 1 (any c) 2 (ask.Body (inside c)))
@@ -101,6 +100,7 @@ statement_rule c y = loop_rule c y
 abbrev pub declaration_rule : Context → Node-F Node → Rule
 declaration_rule c (Catch span param body) = rule true (row.Two 1 (plain c) 2 (plain c))
 declaration_rule c (ExportDecl span decl) = rule true (row.One 1 (plain c))
+declaration_rule c (ExportDefault span expr) = rule (may_begin_export (start expr)) (row.One 1 (assigned (inside c)))
 declaration_rule c (VarDecl span keyword decls) = rule true (row.One 2 (ask.Derived c))
 declaration_rule c (UsingDecl span is_await decls) = rule (are_named true (items_of decls)) (row.One 2 (plain c))
 declaration_rule c y = statement_rule c y

@@ -1,7 +1,8 @@
 //! What is asked of a node, and what of each of its fields.
-ghost use Rattle.std.specs.Prelude.{◌≡◌, not};
+ghost use Rattle.std.specs.Prelude.{◌≡◌, ◌<◌, true, not};
 ghost use Rattle.std.specs.List.{list_all};
 ghost use Rattle.swc_tree_node.specs.declared.node.Node.TheOpen.{Node-F};
+ghost use Rattle.text_derives.specs.declared.ask.Row.TheVariants as row;
 ghost use Rattle.text_derives.specs.Rules as spec;
 
 use crate::ask::{Ask, Row};
@@ -36,6 +37,29 @@ fn ruled(holds: bool, row: Row) -> Rule
     ensures { result ≡ spec.rule holds row }
 {
     Rule { holds, row }
+}
+
+// What is asked of one field, by its number, where nothing is asked of the node itself.
+fn one(field: usize, ask: Ask) -> Rule
+    requires { field < 256 }
+    ensures { result ≡ spec.rule true (row.One field ask) }
+{
+    Rule {
+        holds: true,
+        row: Row::One(field as u8, ask),
+    }
+}
+
+// The same of two fields.
+fn two(first: usize, of_first: Ask, second: usize, of_second: Ask) -> Rule
+    requires first { first < 256 }
+    requires second { second < 256 }
+    ensures { result ≡ spec.rule true (row.Two first of_first second of_second) }
+{
+    Rule {
+        holds: true,
+        row: Row::Two(first as u8, of_first, second as u8, of_second),
+    }
 }
 
 // An expression of which nothing is asked, where `in` may stand.
@@ -73,7 +97,7 @@ fn whole_rule(kind: Kind, fields: &[Node], context: Context) -> Rule
     match kind {
         Kind::Module if fields.len() == 3 => {
             let inside = Ask::Derived(context.strictly(true));
-            ruled(true, Row::One(module_::BODY as u8, inside))
+            one(module_::BODY, inside)
         }
         Kind::Script if fields.len() == 3 => script_rule(&fields[script::BODY], context),
         Kind::ImportNamedSpecifier
@@ -104,23 +128,13 @@ fn loop_rule(kind: Kind, fields: &[Node], context: Context) -> Rule
     let any = any(context);
     let body = Ask::Body(context.inside());
     match kind {
-        Kind::WhileStmt if fields.len() == 3 => {
-            ruled(
-                true,
-                Row::Two(while_stmt::TEST as u8, any, while_stmt::BODY as u8, body),
-            )
-        }
-        Kind::DoWhileStmt if fields.len() == 3 => {
-            ruled(
-                true,
-                Row::Two(
-                    do_while_stmt::BODY as u8,
-                    body,
-                    do_while_stmt::TEST as u8,
-                    any,
-                ),
-            )
-        }
+        Kind::WhileStmt if fields.len() == 3 => two(while_stmt::TEST, any, while_stmt::BODY, body),
+        Kind::DoWhileStmt if fields.len() == 3 => two(
+            do_while_stmt::BODY,
+            body,
+            do_while_stmt::TEST,
+            any,
+        ),
         Kind::ForStmt if fields.len() == 5 => ruled(true, for_row(context)),
         Kind::ForInStmt if fields.len() == 4 => { for_in_rule(&fields[for_in_stmt::LEFT], context) }
         Kind::ForOfStmt if fields.len() == 5 => {
@@ -192,15 +206,7 @@ fn if_rule(cons: &Node, alt: &Node, context: Context) -> Rule
 {
     let branch = Ask::Branch(context.inside());
     if is_absent(alt) {
-        ruled(
-            true,
-            Row::Two(
-                if_stmt::TEST as u8,
-                any(context),
-                if_stmt::CONS as u8,
-                branch,
-            ),
-        )
+        two(if_stmt::TEST, any(context), if_stmt::CONS, branch)
     } else {
         ruled(
             !takes_else(cons),
@@ -228,38 +234,25 @@ fn statement_rule(kind: Kind, fields: &[Node], context: Context) -> Rule
             let holds = may_be_statement(&fields[expr_stmt::EXPR]);
             ruled(holds, Row::One(expr_stmt::EXPR as u8, any))
         }
-        Kind::ExportDefaultExpr if fields.len() == 2 => {
-            let holds = may_be_export(&fields[export_default_expr::EXPR]);
-            let expr = assigned(context.inside());
-            ruled(holds, Row::One(export_default_expr::EXPR as u8, expr))
-        }
-        Kind::ReturnStmt if fields.len() == 2 => ruled(true, Row::One(return_stmt::ARG as u8, any)),
-        Kind::ThrowStmt if fields.len() == 2 => ruled(true, Row::One(throw_stmt::ARG as u8, any)),
+        Kind::ReturnStmt if fields.len() == 2 => one(return_stmt::ARG, any),
+        Kind::ThrowStmt if fields.len() == 2 => one(throw_stmt::ARG, any),
         Kind::WithStmt if fields.len() == 3 => {
             let body = Ask::Body(context.inside());
-            ruled(
-                true,
-                Row::Two(with_stmt::OBJ as u8, any, with_stmt::BODY as u8, body),
-            )
+            two(with_stmt::OBJ, any, with_stmt::BODY, body)
         }
         Kind::LabeledStmt if fields.len() == 3 => {
             let body = Ask::Branch(context.inside());
-            ruled(true, Row::One(labeled_stmt::BODY as u8, body))
+            one(labeled_stmt::BODY, body)
         }
         Kind::IfStmt if fields.len() == 4 => {
             if_rule(&fields[if_stmt::CONS], &fields[if_stmt::ALT], context)
         }
-        Kind::SwitchStmt if fields.len() == 3 => {
-            ruled(
-                true,
-                Row::Two(
-                    switch_stmt::DISCRIMINANT as u8,
-                    any,
-                    switch_stmt::CASES as u8,
-                    plain,
-                ),
-            )
-        }
+        Kind::SwitchStmt if fields.len() == 3 => two(
+            switch_stmt::DISCRIMINANT,
+            any,
+            switch_stmt::CASES,
+            plain,
+        ),
         Kind::SwitchCase if fields.len() == 3 => {
             let holds = has_no_using(&fields[switch_case::CONS]);
             ruled(
@@ -281,47 +274,24 @@ fn pattern_rule(kind: Kind, fields: &[Node], context: Context) -> Rule
     match kind {
         Kind::VarDeclarator if fields.len() == 3 => {
             let init = assigned(context);
-            ruled(
-                true,
-                Row::Two(
-                    var_declarator::NAME as u8,
-                    inside,
-                    var_declarator::INIT as u8,
-                    init,
-                ),
-            )
+            two(var_declarator::NAME, inside, var_declarator::INIT, init)
         }
         Kind::AssignPat if fields.len() == 3 => {
             let right = assigned(context);
-            ruled(
-                true,
-                Row::Two(
-                    assign_pat::LEFT as u8,
-                    inside,
-                    assign_pat::RIGHT as u8,
-                    right,
-                ),
-            )
+            two(assign_pat::LEFT, inside, assign_pat::RIGHT, right)
         }
         Kind::AssignPatProp if fields.len() == 3 => {
             let value = assigned(context.inside());
-            ruled(true, Row::One(assign_pat_prop::VALUE as u8, value))
+            one(assign_pat_prop::VALUE, value)
         }
-        Kind::ArrayPat | Kind::ObjectPat if fields.len() == 2 => {
-            ruled(true, Row::One(array_pat::ELEMS as u8, plain))
-        }
-        Kind::RestPat if fields.len() == 2 => ruled(true, Row::One(rest_pat::ARG as u8, inside)),
-        Kind::KeyValuePatProp if fields.len() == 2 => {
-            ruled(
-                true,
-                Row::Two(
-                    key_value_pat_prop::KEY as u8,
-                    key(context),
-                    key_value_pat_prop::VALUE as u8,
-                    plain,
-                ),
-            )
-        }
+        Kind::ArrayPat | Kind::ObjectPat if fields.len() == 2 => one(array_pat::ELEMS, plain),
+        Kind::RestPat if fields.len() == 2 => one(rest_pat::ARG, inside),
+        Kind::KeyValuePatProp if fields.len() == 2 => two(
+            key_value_pat_prop::KEY,
+            key(context),
+            key_value_pat_prop::VALUE,
+            plain,
+        ),
         kind => declaration_rule(kind, fields, context),
     }
 }
@@ -333,24 +303,19 @@ fn declaration_rule(kind: Kind, fields: &[Node], context: Context) -> Rule
 {
     let plain = plain(context);
     match kind {
-        Kind::CatchClause if fields.len() == 3 => {
-            ruled(
-                true,
-                Row::Two(
-                    catch_clause::PARAM as u8,
-                    plain,
-                    catch_clause::BODY as u8,
-                    plain,
-                ),
-            )
-        }
-        Kind::ExportDecl if fields.len() == 2 => ruled(
-            true,
-            Row::One(export_decl::DECL as u8, plain),
+        Kind::CatchClause if fields.len() == 3 => two(
+            catch_clause::PARAM,
+            plain,
+            catch_clause::BODY,
+            plain,
         ),
-        Kind::VarDecl if fields.len() == 3 => {
-            ruled(true, Row::One(var_decl::DECLS as u8, Ask::Derived(context)))
+        Kind::ExportDecl if fields.len() == 2 => one(export_decl::DECL, plain),
+        Kind::ExportDefaultExpr if fields.len() == 2 => {
+            let holds = may_be_export(&fields[export_default_expr::EXPR]);
+            let expr = assigned(context.inside());
+            ruled(holds, Row::One(export_default_expr::EXPR as u8, expr))
         }
+        Kind::VarDecl if fields.len() == 3 => one(var_decl::DECLS, Ask::Derived(context)),
         Kind::UsingDecl if fields.len() == 3 => {
             let holds = are_named(true, items(&fields[using_decl::DECLS]));
             ruled(holds, Row::One(using_decl::DECLS as u8, plain))
@@ -437,31 +402,19 @@ fn function_rule(kind: Kind, fields: &[Node], context: Context) -> Rule
             ruled(true, body_row(&fields[function::BODY], context))
         }
         Kind::Class if fields.len() == 3 => ruled(true, class_row(context)),
-        Kind::Constructor if fields.len() == 4 => {
-            ruled(
-                true,
-                Row::Two(
-                    constructor::PARAMS as u8,
-                    plain,
-                    constructor::BODY as u8,
-                    plain,
-                ),
-            )
-        }
-        Kind::ClassMethod if fields.len() == 5 => {
-            ruled(
-                true,
-                Row::Two(
-                    class_method::KEY as u8,
-                    key(context),
-                    class_method::FUNCTION as u8,
-                    plain,
-                ),
-            )
-        }
-        Kind::PrivateMethod if fields.len() == 5 => {
-            ruled(true, Row::One(private_method::FUNCTION as u8, plain))
-        }
+        Kind::Constructor if fields.len() == 4 => two(
+            constructor::PARAMS,
+            plain,
+            constructor::BODY,
+            plain,
+        ),
+        Kind::ClassMethod if fields.len() == 5 => two(
+            class_method::KEY,
+            key(context),
+            class_method::FUNCTION,
+            plain,
+        ),
+        Kind::PrivateMethod if fields.len() == 5 => one(private_method::FUNCTION, plain),
         kind => pattern_rule(kind, fields, context),
     }
 }
@@ -474,49 +427,21 @@ fn part_rule(kind: Kind, fields: &[Node], context: Context) -> Rule
     let part = assigned(context.inside());
     let key = key(context);
     match kind {
-        Kind::ExprOrSpread if fields.len() == 2 => ruled(
-            true,
-            Row::One(expr_or_spread::EXPR as u8, part),
+        Kind::ExprOrSpread if fields.len() == 2 => one(expr_or_spread::EXPR, part),
+        Kind::SpreadElement if fields.len() == 2 => one(spread_element::EXPR, part),
+        Kind::KeyValueProp if fields.len() == 2 => two(
+            key_value_prop::KEY,
+            key,
+            key_value_prop::VALUE,
+            part,
         ),
-        Kind::SpreadElement if fields.len() == 2 => {
-            ruled(true, Row::One(spread_element::EXPR as u8, part))
-        }
-        Kind::KeyValueProp if fields.len() == 2 => {
-            ruled(
-                true,
-                Row::Two(
-                    key_value_prop::KEY as u8,
-                    key,
-                    key_value_prop::VALUE as u8,
-                    part,
-                ),
-            )
-        }
         Kind::MethodProp if fields.len() == 2 => {
             let function = plain(context);
-            ruled(
-                true,
-                Row::Two(
-                    method_prop::KEY as u8,
-                    key,
-                    method_prop::FUNCTION as u8,
-                    function,
-                ),
-            )
+            two(method_prop::KEY, key, method_prop::FUNCTION, function)
         }
-        Kind::ComputedPropName if fields.len() == 2 => {
-            ruled(true, Row::One(computed_prop_name::EXPR as u8, any(context)))
-        }
-        Kind::ClassProp if fields.len() == 4 => {
-            ruled(
-                true,
-                Row::Two(class_prop::KEY as u8, key, class_prop::VALUE as u8, part),
-            )
-        }
-        Kind::PrivateProp if fields.len() == 4 => ruled(
-            true,
-            Row::One(private_prop::VALUE as u8, part),
-        ),
+        Kind::ComputedPropName if fields.len() == 2 => one(computed_prop_name::EXPR, any(context)),
+        Kind::ClassProp if fields.len() == 4 => two(class_prop::KEY, key, class_prop::VALUE, part),
+        Kind::PrivateProp if fields.len() == 4 => one(private_prop::VALUE, part),
         kind => function_rule(kind, fields, context),
     }
 }
@@ -548,22 +473,15 @@ fn call_rule(kind: Kind, fields: &[Node], context: Context) -> Rule
         Kind::MemberExpr | Kind::TaggedTpl | Kind::CallExpr if fields.len() == 3 => {
             ruled(true, operand_row(Demand::Operand, context))
         }
-        Kind::SuperPropExpr if fields.len() == 3 => {
-            ruled(true, Row::One(super_prop_expr::PROP as u8, plain(context)))
-        }
+        Kind::SuperPropExpr if fields.len() == 3 => one(super_prop_expr::PROP, plain(context)),
         Kind::Tpl if fields.len() == 3 => {
             let exprs = Ask::Each(Demand::Any, context.inside());
-            ruled(true, Row::One(tpl::EXPRS as u8, exprs))
+            one(tpl::EXPRS, exprs)
         }
         Kind::NewExpr if fields.len() == 3 => {
             ruled(true, new_row(&fields[new_expr::ARGS], context))
         }
-        Kind::OptChainExpr if fields.len() == 3 => {
-            ruled(
-                true,
-                Row::One(opt_chain_expr::BASE as u8, Ask::Chain(context)),
-            )
-        }
+        Kind::OptChainExpr if fields.len() == 3 => one(opt_chain_expr::BASE, Ask::Chain(context)),
         Kind::OptCall if fields.len() == 3 => ruled(true, operand_row(Demand::Link, context)),
         kind => part_rule(kind, fields, context),
     }
@@ -601,37 +519,25 @@ fn rule_for(kind: Kind, fields: &[Node], context: Context) -> Rule
 {
     let unary = Ask::Fits(Demand::AtLeast(15), context);
     match kind {
-        Kind::ParenExpr if fields.len() == 2 => {
-            ruled(true, Row::One(paren_expr::EXPR as u8, any(context)))
-        }
+        Kind::ParenExpr if fields.len() == 2 => one(paren_expr::EXPR, any(context)),
         Kind::SeqExpr if fields.len() == 2 => {
             let exprs = Ask::Each(Demand::Each(2), context);
-            ruled(true, Row::One(seq_expr::EXPRS as u8, exprs))
+            one(seq_expr::EXPRS, exprs)
         }
         Kind::AssignExpr if fields.len() == 4 => {
             let left = Ask::Derived(context);
             let right = assigned(context);
-            ruled(
-                true,
-                Row::Two(
-                    assign_expr::LEFT as u8,
-                    left,
-                    assign_expr::RIGHT as u8,
-                    right,
-                ),
-            )
+            two(assign_expr::LEFT, left, assign_expr::RIGHT, right)
         }
         Kind::CondExpr if fields.len() == 4 => ruled(true, cond_row(context)),
         Kind::BinExpr if fields.len() == 4 => bin_rule(&fields[bin_expr::OP], context),
-        Kind::UnaryExpr if fields.len() == 3 => ruled(true, Row::One(unary_expr::ARG as u8, unary)),
-        Kind::AwaitExpr if fields.len() == 2 => ruled(true, Row::One(await_expr::ARG as u8, unary)),
+        Kind::UnaryExpr if fields.len() == 3 => one(unary_expr::ARG, unary),
+        Kind::AwaitExpr if fields.len() == 2 => one(await_expr::ARG, unary),
         Kind::UpdateExpr if fields.len() == 4 => {
             let arg = Ask::Fits(Demand::AtLeast(17), context);
-            ruled(true, Row::One(update_expr::ARG as u8, arg))
+            one(update_expr::ARG, arg)
         }
-        Kind::YieldExpr if fields.len() == 3 => {
-            ruled(true, Row::One(yield_expr::ARG as u8, assigned(context)))
-        }
+        Kind::YieldExpr if fields.len() == 3 => one(yield_expr::ARG, assigned(context)),
         kind => call_rule(kind, fields, context),
     }
 }
