@@ -3,7 +3,6 @@ use Rattle.std.proofs.Common.{◌≡◌, true, false, ℕ, List, [], Some, None,
 use Rattle.std.specs.Cmp.Lexicographic.{pointwise}
 use Rattle.std.specs.Prelude.{Vec}
 use Rattle.swc_tree_marks.specs.declared.error.PassError.{PassError}
-use Rattle.swc_tree_marks.specs.declared.error.PassError.TheVariants as refusal
 use Rattle.swc_tree_node.specs.declared.node.Node.{Node}
 use Rattle.text_printer.specs.declared.lay_out.Layout.{Layout}
 use Rattle.text_reader.specs.declared.fault.TextFault.{TextFault}

@@ -2,7 +2,6 @@
 ghost use Rattle.std.specs.Prelude.{◌≡◌, ◌<◌, ◌≤◌, length, map, true, Err, IfErr, IfOk, IsTrue, IsUtf8};
 ghost use Rattle.std.specs.Str.Lossy.{utf8_valid_len};
 ghost use Rattle.swc_tree_node.specs.declared.node.Node.{out-Node};
-ghost use Rattle.swc_tree_node.specs.declared.slot.Content.TheVariants as content;
 ghost use Rattle.swc_tree_node.specs.declared.slot.Slot.TheVariants as slot;
 ghost use Rattle.swc_tree_node.specs.Fits.{Fits};
 ghost use Rattle.swc_tree_scoping.specs.WellScoped.{IsClean};
