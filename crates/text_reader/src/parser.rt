@@ -4,7 +4,10 @@ use crate::keywords::{Keyword, is_reserved, is_reserved_in_strict, keyword_of, s
 use crate::waiting::{Part, Waiting};
 use std::alloc::Global;
 use swc_tree_node::Node;
-use text_lexer::{Comments, Fault, Goal, Mark, Token, skip_blank, token_at};
+use text_characters::past_byte;
+use text_lexer::{
+    Comments, Fault, Goal, Mark, Token, plain_mark, plain_name, skip_blank, token_at,
+};
 
 /// What the grammar's parameters are at a place, and whether the code is strict.
 #[derive(Clone, Copy)]
@@ -198,7 +201,24 @@ impl<'a> Parser<'a> {
         };
         self.ended = ended;
         self.here = here;
-        self.reread(Goal::Div);
+        self.read_plain(here);
+    }
+
+    // Reads the token at the front of a text, most of which are told by their first bytes.
+    fn read_plain(&mut self, here: &'a [u8]) {
+        let len = plain_name(Goal::Div, here);
+        if 0 < len {
+            let name = &here[..len];
+            self.token = Token::Name(name);
+            self.keyword = keyword_of(name);
+            self.rest = &here[len..];
+        } else if let Some(mark) = plain_mark(Goal::Div, here) {
+            self.token = Token::Mark(mark);
+            self.keyword = None;
+            self.rest = past_byte(here);
+        } else {
+            self.reread(Goal::Div);
+        }
     }
 
     /// Goes behind the first line, where it begins with `#!`, and answers what is in it behind these.

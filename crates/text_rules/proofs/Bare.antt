@@ -158,11 +158,11 @@ leaves_worded asks (t ∷ ts) e =
     ap (λ b. b && all_worded (λ i. asks (suc i)) ts) now ∙ leaves_worded (λ i. asks (suc i)) ts others
 
 -- one of which nothing is asked is as asked
-pub idle_met : (r : Rules) (i : ℕ) (t : Node) → is_leaf (out-Node t) ≡ true → sound_at r.writing.row i ≡ sound_ask.Nothing → derived_at r.grammar.row i ≡ derived_ask.Nothing → IsMet r i t
+pub idle_met : (r : Rules) (i : ℕ) (t : Node) → is_leaf (out-Node t) ≡ true → sound_at r.writing.now.row i ≡ sound_ask.Nothing → derived_at r.grammar.now.row i ≡ derived_ask.Nothing → IsMet r i t
 idle_met r i t e s d = record {
   writing = ap (λ a. meets_sound a t (sounds t)) s;
   grammar = ap (λ a. meets_derived a t (derived t)) d;
-  words = ap (λ b. not (worded_at r.words i).asks || b) ((leaf t e).worded (worded_at r.words i).words) ∙ or_true (not (worded_at r.words i).asks);
+  words = ap (λ b. not (worded_at r.words.now i).asks || b) ((leaf t e).worded (worded_at r.words.now i).words) ∙ or_true (not (worded_at r.words.now i).asks);
 }
 
 -- ---- a tree

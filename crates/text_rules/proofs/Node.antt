@@ -54,25 +54,25 @@ name_holds a t k i x is same e = record {
 -- ---- several nodes
 
 pub record AllMet (rules : Rules) (ts : List Node) : Type 0 where
-  pub writing : all_sound (sound_at rules.writing.row) ts ≡ true
-  pub grammar : all_derived (derived_at rules.grammar.row) ts ≡ true
-  pub words : all_worded (worded_at rules.words) ts ≡ true
+  pub writing : all_sound (sound_at rules.writing.now.row) ts ≡ true
+  pub grammar : all_derived (derived_at rules.grammar.now.row) ts ≡ true
+  pub words : all_worded (worded_at rules.words.now) ts ≡ true
 
 pub none_yet : (rules : Rules) (ts : List Node) → AllMet rules (take 0 ts)
 none_yet rules ts = record { writing = refl; grammar = refl; words = refl }
 
 pub one_more : (rules : Rules) (ts : List Node) (i : ℕ) (c : Node) → slice_get ts i ≡ Some c → AllMet rules (take i ts) → IsMet rules i c → AllMet rules (take (i + 1) ts)
 one_more rules ts i c here before now = record {
-  writing = sound_next (sound_at rules.writing.row) ts i c here before.writing now.writing;
-  grammar = derived_next (derived_at rules.grammar.row) ts i c here before.grammar now.grammar;
-  words = worded_next (worded_at rules.words) ts i c here before.words now.words;
+  writing = sound_next (sound_at rules.writing.now.row) ts i c here before.writing now.writing;
+  grammar = derived_next (derived_at rules.grammar.now.row) ts i c here before.grammar now.grammar;
+  words = worded_next (worded_at rules.words.now) ts i c here before.words now.words;
 }
 
-pub all_kept : (rules : Rules) (ts us : List Node) → us ≡ ts → rules.writing.holds ≡ true → rules.grammar.holds ≡ true → rules.words.holds ≡ true → AllMet rules us → AreKept rules ts
+pub all_kept : (rules : Rules) (ts us : List Node) → us ≡ ts → rules.writing.now.holds ≡ true → rules.grammar.now.holds ≡ true → rules.words.now.holds ≡ true → AllMet rules us → AreKept rules ts
 all_kept rules ts us is s d f e = record {
-  writing = ap (λ b. b && all_sound (sound_at rules.writing.row) ts) s ∙ ap (all_sound (sound_at rules.writing.row)) (sym is) ∙ e.writing;
-  grammar = ap (λ b. b && all_derived (derived_at rules.grammar.row) ts) d ∙ ap (all_derived (derived_at rules.grammar.row)) (sym is) ∙ e.grammar;
-  words = ap (λ b. b && all_worded (worded_at rules.words) ts) f ∙ ap (all_worded (worded_at rules.words)) (sym is) ∙ e.words;
+  writing = ap (λ b. b && all_sound (sound_at rules.writing.now.row) ts) s ∙ ap (all_sound (sound_at rules.writing.now.row)) (sym is) ∙ e.writing;
+  grammar = ap (λ b. b && all_derived (derived_at rules.grammar.now.row) ts) d ∙ ap (all_derived (derived_at rules.grammar.now.row)) (sym is) ∙ e.grammar;
+  words = ap (λ b. b && all_worded (worded_at rules.words.now) ts) f ∙ ap (all_worded (worded_at rules.words.now)) (sym is) ∙ e.words;
 }
 
 -- ---- a program

@@ -52,9 +52,9 @@ IsAsAsked a t = Holds a (sounds t) (derived t) (fits t)
 
 -- the child of a number is as the rules ask
 pub record IsMet (rules : Rules) (i : ℕ) (t : Node) : Type 0 where
-  pub writing : meets_sound (sound_at rules.writing.row i) t (sounds t) ≡ true
-  pub grammar : meets_derived (derived_at rules.grammar.row i) t (derived t) ≡ true
-  pub words : meets_words (worded_at rules.words i) (fits t) ≡ true
+  pub writing : meets_sound (sound_at rules.writing.now.row i) t (sounds t) ≡ true
+  pub grammar : meets_derived (derived_at rules.grammar.now.row i) t (derived t) ≡ true
+  pub words : meets_words (worded_at rules.words.now i) (fits t) ≡ true
 
 -- a rule holds, and each child is as it asks
 abbrev pub is_sound : SoundRule → List Node → Bool
@@ -68,9 +68,9 @@ is_worded rule ts = rule.holds && all_worded (worded_at rule) ts
 
 -- all three do
 pub record AreKept (rules : Rules) (ts : List Node) : Type 0 where
-  pub writing : is_sound rules.writing ts ≡ true
-  pub grammar : is_derived rules.grammar ts ≡ true
-  pub words : is_worded rules.words ts ≡ true
+  pub writing : is_sound rules.writing.now ts ≡ true
+  pub grammar : is_derived rules.grammar.now ts ≡ true
+  pub words : is_worded rules.words.now ts ≡ true
 
 -- what is asked of a whole program
 abbrev pub of_program : Asked

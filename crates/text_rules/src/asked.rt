@@ -12,10 +12,10 @@ pub struct Asked {
     pub words: words::Ask,
 }
 
-/// What is asked of a node itself, as it is found, and of each of its children.
+/// What is asked of a node itself, as it is found, and of each of its children; lent, so that nothing of it is copied.
 #[derive(Clone, Copy)]
-pub struct Rules {
-    pub writing: writing::Rule,
-    pub grammar: grammar::Rule,
-    pub words: words::Rule,
+pub struct Rules<'a> {
+    pub writing: &'a writing::Rule,
+    pub grammar: &'a grammar::Rule,
+    pub words: &'a words::Rule,
 }

@@ -1,5 +1,5 @@
 //! Goes through a tree by the three kinds of rules at once.
-ghost use Rattle.std.specs.Prelude.{◌≡◌, IsTrue, List, true};
+ghost use Rattle.std.specs.Prelude.{◌≡◌, IsTrue, true};
 ghost use Rattle.std.specs.List.{list_all};
 ghost use Rattle.swc_tree_node.specs.declared.node.Node.{List as Many, Tree, out-Node};
 ghost use Rattle.swc_base_writable_rules.specs.Asks.{ask_at as sound_at};
@@ -37,42 +37,18 @@ fn is_found(asked: Asked) -> bool
     asked.writing.met && asked.grammar.met
 }
 
-// What is asked of a list, and of its items.
-fn rules_of_list(asked: Asked) -> Rules
-    requires { IsFound asked }
-    ensures { (ts : List Node) → AreKept result ts → IsAsAsked asked (Many ts) }
-{
-    Rules {
-        writing: writing::rule_of_list(asked.writing),
-        grammar: grammar::rule_of_list(asked.grammar),
-        words: words::rule_of_list(asked.words),
-    }
-}
-
-// What is asked of a tree, and of its fields.
-fn rules_of_tree(kind: Kind, fields: &[Node], asked: Asked) -> Rules
-    requires { IsFound asked }
-    ensures { AreKept result fields.now → IsAsAsked asked (Tree kind fields.now) }
-{
-    Rules {
-        writing: writing::rule_of_tree(asked.writing, kind, fields),
-        grammar: grammar::rule_of_tree(asked.grammar, kind, fields),
-        words: words::rule_of_tree(asked.words, kind, fields),
-    }
-}
-
 // Whether what is asked of a node itself holds.
-fn hold(rules: &Rules) -> bool
-    ensures writing { IsTrue result → rules.now.writing.holds ≡ true }
-    ensures grammar { IsTrue result → rules.now.grammar.holds ≡ true }
-    ensures words { IsTrue result → rules.now.words.holds ≡ true }
+fn hold(rules: &Rules<'_>) -> bool
+    ensures writing { IsTrue result → rules.now.writing.now.holds ≡ true }
+    ensures grammar { IsTrue result → rules.now.grammar.now.holds ≡ true }
+    ensures words { IsTrue result → rules.now.words.now.holds ≡ true }
 {
     rules.writing.holds && (rules.grammar.holds && rules.words.holds)
 }
 
 // What is asked of the child of a number.
 #[inline]
-fn asked_at(rules: &Rules, index: usize, node: &Node) -> Asked
+fn asked_at(rules: &Rules<'_>, index: usize, node: &Node) -> Asked
     ensures { IsAsAsked result node.now → IsMet rules.now index node.now }
 {
     let round = Round {
@@ -86,7 +62,7 @@ fn asked_at(rules: &Rules, index: usize, node: &Node) -> Asked
     Asked {
         writing: swc_base_writable_rules::look_at(rules.writing.row.at(index), round, node),
         grammar: text_derives::look_at(rules.grammar.row.at(index), context, node),
-        words: text_pinned::ask_at(rules.words, index),
+        words: text_pinned::ask_at(*rules.words, index),
     }
 }
 
@@ -138,8 +114,8 @@ fn is_token(kind: Kind, fields: &[Node], asked: Asked) -> bool
     is_bare(kind) && are_leaves(fields)
 }
 
-fn asks_no_sound(rules: &Rules, index: usize) -> bool
-    ensures { IsTrue result → sound_at rules.now.writing.row index ≡ SoundAsk.Nothing }
+fn asks_no_sound(rules: &Rules<'_>, index: usize) -> bool
+    ensures { IsTrue result → sound_at rules.now.writing.now.row index ≡ SoundAsk.Nothing }
 {
     matches!(
         rules.writing.row.at(index),
@@ -147,14 +123,14 @@ fn asks_no_sound(rules: &Rules, index: usize) -> bool
     )
 }
 
-fn asks_no_derivation(rules: &Rules, index: usize) -> bool
-    ensures { IsTrue result → derived_at rules.now.grammar.row index ≡ DerivedAsk.Nothing }
+fn asks_no_derivation(rules: &Rules<'_>, index: usize) -> bool
+    ensures { IsTrue result → derived_at rules.now.grammar.now.row index ≡ DerivedAsk.Nothing }
 {
     matches!(rules.grammar.row.at(index), text_derives::Ask::Nothing)
 }
 
 // Whether the child of a number is a leaf of which nothing is asked, as most leaves are.
-fn is_idle(rules: &Rules, index: usize, node: &Node) -> bool
+fn is_idle(rules: &Rules<'_>, index: usize, node: &Node) -> bool
     ensures { IsTrue result → IsMet rules.now index node.now }
 {
     if !is_leaf(node) {
@@ -177,8 +153,8 @@ pub fn is_as_asked(node: &Node, asked: Asked) -> bool
     match node {
         Node::Identifier(kind, ident) => is_name_as_asked(*kind, ident.get().sym.as_str(), asked),
         Node::List(items) => {
-            let rules = rules_of_list(asked);
-            are_kept(&rules, items.as_slice())
+            let items = items.as_slice();
+            is_list_as_asked(items, asked)
         }
         Node::Tree(kind, fields) => {
             let fields = fields.as_slice();
@@ -186,6 +162,24 @@ pub fn is_as_asked(node: &Node, asked: Asked) -> bool
         }
         _ => is_leaf_as_asked(asked),
     }
+}
+
+// Whether a list is.
+#[cycle(walk)]
+#[inline(never)]
+fn is_list_as_asked(items: &[Node], asked: Asked) -> bool
+    requires { IsFound asked }
+    ensures { IsTrue result → IsAsAsked asked (Many items.now) }
+{
+    let writing = writing::rule_of_list(asked.writing);
+    let grammar = grammar::rule_of_list(asked.grammar);
+    let words = words::rule_of_list(asked.words);
+    let rules = Rules {
+        writing: &writing,
+        grammar: &grammar,
+        words: &words,
+    };
+    are_kept(&rules, items)
 }
 
 // Whether a tree is.
@@ -198,13 +192,20 @@ fn is_tree_as_asked(kind: Kind, fields: &[Node], asked: Asked) -> bool
     if is_token(kind, fields, asked) {
         return true;
     }
-    let rules = rules_of_tree(kind, fields, asked);
+    let writing = writing::rule_of_tree(asked.writing, kind, fields);
+    let grammar = grammar::rule_of_tree(asked.grammar, kind, fields);
+    let words = words::rule_of_tree(asked.words, kind, fields);
+    let rules = Rules {
+        writing: &writing,
+        grammar: &grammar,
+        words: &words,
+    };
     are_kept(&rules, fields)
 }
 
 // Whether the child of a number is as rules ask.
 #[cycle(walk)]
-fn is_met(rules: &Rules, index: usize, node: &Node) -> bool
+fn is_met(rules: &Rules<'_>, index: usize, node: &Node) -> bool
     ensures { IsTrue result → IsMet rules.now index node.now }
 {
     if is_idle(rules, index, node) {
@@ -215,7 +216,7 @@ fn is_met(rules: &Rules, index: usize, node: &Node) -> bool
 
 // Whether rules hold, and each of several nodes is as they ask.
 #[cycle(walk)]
-fn are_kept(rules: &Rules, nodes: &[Node]) -> bool
+fn are_kept(rules: &Rules<'_>, nodes: &[Node]) -> bool
     ensures { IsTrue result → AreKept rules.now nodes.now }
 {
     if !hold(rules) {

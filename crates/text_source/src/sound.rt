@@ -42,7 +42,17 @@ fn is_marked(node: &Node) -> bool
     }
 }
 
-// Looks for what five checks look for.
+// Whether a node is what one of five checks looks for.
+#[inline(never)]
+fn is_amiss(text: &[u8], node: &Node) -> bool
+    ensures { result ≡ spec.is_amiss text.now (out-Node node.now) }
+{
+    Misshapen.is_sought(node)
+        || (Misspelled.is_sought(node)
+            || (Misplaced { text }.is_sought(node) || (Astray.is_sought(node) || is_marked(node))))
+}
+
+// Looks for what five checks look for; of a leaf that is no identifier none looks for any.
 #[derive(Clone, Copy)]
 struct Amiss<'t> {
     text: &'t [u8],
@@ -53,14 +63,10 @@ impl Finder for Amiss<'_> {
 
     ghost is_sought = { λ looks node. spec.is_amiss looks.text.now node };
 
+    #[inline]
     fn is_sought(&self, node: &Node) -> bool {
         match node {
-            Node::List(_) | Node::Identifier(..) | Node::Tree(..) => {
-                Misshapen.is_sought(node)
-                    || (Misspelled.is_sought(node)
-                        || (Misplaced { text: self.text }.is_sought(node)
-                            || (Astray.is_sought(node) || is_marked(node))))
-            }
+            Node::List(_) | Node::Identifier(..) | Node::Tree(..) => is_amiss(self.text, node),
             _ => false,
         }
     }

@@ -7,7 +7,7 @@ ghost use Rattle.swc_tree_walk.specs.Nodes.{AnyHasNode, HasNode};
 
 use crate::table::{belongs, fits, list_fits, single, slot_at};
 use swc_tree_node::{Content, Field, Kind, Node, Slot, fields_of, is_identifier};
-use swc_tree_walk::{Finder, any_has_node, has_node};
+use swc_tree_walk::{Finder, any_has_node};
 
 /// Whether a node may stand in a place, and all that is below it, each in its own; and none of them is one that is looked for.
 ///
@@ -17,25 +17,15 @@ pub fn fits_without<F: Finder>(finder: &F, node: &Node, slot: Slot) -> bool
     ensures fits { IsTrue result → Fits node.now slot }
     ensures none { IsTrue result → HasNode (F.is_sought finder.now) node.now → ⊥ }
 {
+    if finder.is_sought(node) {
+        return false;
+    }
     match node {
-        Node::List(items) => {
-            if finder.is_sought(node) {
-                return false;
-            }
-            list_fits_without(finder, items.as_slice(), slot)
-        }
+        Node::List(items) => list_fits_without(finder, items.as_slice(), slot),
         Node::Tree(kind, fields) => {
-            if finder.is_sought(node) {
-                return false;
-            }
             tree_fits_without(finder, *kind, fields.as_slice(), single(slot))
         }
-        _ => {
-            if has_node(finder, node) {
-                return false;
-            }
-            fits(node, slot)
-        }
+        _ => fits(node, slot),
     }
 }
 

@@ -22,10 +22,26 @@ are_kept-returns t c held =
 
 pub is_as_asked-returns-in-List : goal.is_as_asked-returns-in-List
 is_as_asked-returns-in-List t c held =
-    subst (λ u. IsAsAsked c.args.asked u) (sym (c.in-List.is ∙ ap (λ ts. Many ts) (sym c.as_slice.ensures)))
-    (c.rules_of_list-rules.ensures c.as_slice.result.now (c.are_kept.ensures held))
+    subst (λ u. IsAsAsked c.args.asked u) (sym (c.in-List.is ∙ ap (λ ts. Many ts) (sym c.as_slice-items.ensures)))
+    (c.is_list_as_asked.ensures held)
 
 pub is_as_asked-returns-in-Tree : goal.is_as_asked-returns-in-Tree
 is_as_asked-returns-in-Tree t c held =
     subst (λ u. IsAsAsked c.args.asked u) (sym (c.in-Tree.is ∙ ap (λ ts. Tree c.in-Tree.kind ts) (sym c.as_slice-fields.ensures)))
     (c.is_tree_as_asked.ensures held)
+
+pub is_list_as_asked-returns : goal.is_list_as_asked-returns
+is_list_as_asked-returns t c held =
+    let kept = c.are_kept.ensures held in record {
+      writing = c.rule_of_list-writing.ensures c.requires.writing c.args.items.now kept.writing;
+      grammar = c.rule_of_list-grammar.ensures c.requires.grammar c.args.items.now kept.grammar;
+      words = c.rule_of_list-words.ensures c.args.items.now kept.words;
+    }
+
+pub is_tree_as_asked-returns : goal.is_tree_as_asked-returns
+is_tree_as_asked-returns t c held =
+    let kept = c.are_kept.ensures held in record {
+      writing = c.rule_of_tree-writing.ensures c.requires.writing kept.writing;
+      grammar = c.rule_of_tree-grammar.ensures c.requires.grammar kept.grammar;
+      words = c.rule_of_tree-words.ensures kept.words;
+    }

@@ -4,7 +4,7 @@ use Rattle.swc_tree_node.specs.declared.slot.Role.{Role}
 use Rattle.swc_tree_node.specs.declared.slot.Slot.{Slot}
 use Rattle.swc_tree_node.specs.Fits.{each_fits, fits}
 use Rattle.text_table.proofs.Fitting.{all_items, all_passed, field_fits, item_fits, slots}
-use Rattle.text_table.proofs.Sought.{none_at_end, none_more, none_of_list, none_of_tree}
+use Rattle.text_table.proofs.Sought.{none_at_end, none_more, none_of_leaf, none_of_list, none_of_tree}
 use Rattle.text_table.proofs.without.+fits_without.Goals as goal
 
 pub all_fit_without-loop-i-preserved : goal.all_fit_without-loop-i-preserved
@@ -37,12 +37,17 @@ fields_fit_without-returns-clause-fits g t c held =
     sym (ap (λ ss. each_fits ss (map fits c.args.fields.now)) (slots c.fields_of.result.now ∙ ap (λ l. map (λ (r : List ℕ × Slot × Role). r.1) l) c.fields_of.ensures))
     ∙ c.each_fits_without.ensures.fits held
 
-pub fits_without-returns-else-is_sought-clause-none : goal.fits_without-returns-else-is_sought-clause-none
-fits_without-returns-else-is_sought-clause-none g t c held =
+pub fits_without-returns-in-List-clause-none : goal.fits_without-returns-in-List-clause-none
+fits_without-returns-in-List-clause-none g t c held =
     let lost : c.is_sought.result ≡ false = cc in
     none_of_list (g.F.Finder.is_sought c.args.finder.now) c.args.node.now c.in-List.items c.as_slice.result.now c.is_sought.result c.in-List.is c.as_slice.ensures c.is_sought.ensures lost (c.list_fits_without.ensures.none held)
 
-pub fits_without-returns-else-is_sought-2-clause-none : goal.fits_without-returns-else-is_sought-2-clause-none
-fits_without-returns-else-is_sought-2-clause-none g t c held =
-    let lost : c.is_sought-in-Tree.result ≡ false = cc in
-    none_of_tree (g.F.Finder.is_sought c.args.finder.now) c.args.node.now c.in-Tree.kind c.in-Tree.fields c.as_slice-in-Tree.result.now c.is_sought-in-Tree.result c.in-Tree.is c.as_slice-in-Tree.ensures c.is_sought-in-Tree.ensures lost (c.tree_fits_without.ensures.none held)
+pub fits_without-returns-in-Tree-clause-none : goal.fits_without-returns-in-Tree-clause-none
+fits_without-returns-in-Tree-clause-none g t c held =
+    let lost : c.is_sought.result ≡ false = cc in
+    none_of_tree (g.F.Finder.is_sought c.args.finder.now) c.args.node.now c.in-Tree.kind c.in-Tree.fields c.as_slice-in-Tree.result.now c.is_sought.result c.in-Tree.is c.as_slice-in-Tree.ensures c.is_sought.ensures lost (c.tree_fits_without.ensures.none held)
+
+pub fits_without-returns-in_default-clause-none : goal.fits_without-returns-in_default-clause-none
+fits_without-returns-in_default-clause-none g t c held =
+    let lost : c.is_sought.result ≡ false = cc in
+    none_of_leaf (g.F.Finder.is_sought c.args.finder.now) c.args.node.now c.is_sought.result c.in_default.not-List c.in_default.not-Tree c.is_sought.ensures lost
