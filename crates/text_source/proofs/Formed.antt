@@ -1,5 +1,5 @@
 -- What a tree that is well formed has, and what one walk for five faults finds.
-use Rattle.std.proofs.Common.{◌||◌, List, ℕ}
+use Rattle.std.proofs.Common.{List, ℕ}
 use Rattle.std.proofs.lemmas.Bool.{or_left, or_right}
 use Rattle.swc_tree_node.specs.declared.node.Node.{Node, out-Node}
 use Rattle.swc_tree_node.specs.declared.slot.Slot.{Slot}

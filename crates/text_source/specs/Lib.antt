@@ -1,2 +1,3 @@
 pub mod Texts
 pub mod Amiss
+pub mod Located

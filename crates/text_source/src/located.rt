@@ -1,5 +1,6 @@
 //! Faults with their lines and columns, for people.
 ghost use Rattle.std.specs.Prelude.{◌≡◌};
+ghost use Rattle.text_source.specs.Located.{place_told};
 
 use std::fmt;
 use text_parser::TextFault;
@@ -25,12 +26,23 @@ impl fmt::Display for Located {
     }
 }
 
-/// A fault with its line and its column in the text that it was answered for.
+// Where a fault is in a text, if it has a place.
+fn place_in(text: &[u8], fault: TextFault) -> Option<Place>
+    ensures { result ≡ place_told text.now fault }
+{
+    match fault.at() {
+        Some(at) => Some(line_and_column(text, at)),
+        None => None,
+    }
+}
+
+/// A fault with its line and its column in the text that it was answered for; a place behind its end is told as its end.
 pub fn locate(text: &[u8], fault: TextFault) -> Located
-    ensures { result.fault ≡ fault }
+    ensures fault { result.fault ≡ fault }
+    ensures place { result.place ≡ place_told text.now fault }
 {
     Located {
-        place: fault.at().map(|at| line_and_column(text, at)),
+        place: place_in(text, fault),
         fault,
     }
 }
