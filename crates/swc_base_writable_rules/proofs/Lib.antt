@@ -2,3 +2,4 @@ pub mod Judged
 pub mod Elements
 pub mod Strings
 pub mod Fields
+pub mod Letters

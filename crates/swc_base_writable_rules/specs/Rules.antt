@@ -73,11 +73,15 @@ whole_rule q (Node-F.Tree kind.TsEnumDecl es) = rule false row.Nothing
 whole_rule q (Node-F.Tree kind.TsModuleDecl es) = rule false row.Nothing
 whole_rule q _ = rule true (row.Each (ask.Part (binding q)))
 
+-- the fields of a `for` with three parts in its head
+abbrev pub for_row : Round → Row
+for_row q = row.Four 1 (ask.Part (binding q)) 2 (ask.Part (binding q)) 3 (ask.Part (binding q)) 4 (ask.Body q)
+
 -- loops
 abbrev pub loop_rule : Round → Node-F Node → Rule
 loop_rule q (While span test body) = rule true (row.Two 1 (ask.Part (binding q)) 2 (ask.Body q))
 loop_rule q (DoWhile span body test) = rule true (row.Two 1 (ask.Body q) 2 (ask.Part (binding q)))
-loop_rule q (For span init test update body) = rule true (row.Four 1 (ask.Part (binding q)) 2 (ask.Part (binding q)) 3 (ask.Part (binding q)) 4 (ask.Body q))
+loop_rule q (For span init test update body) = rule true (for_row q)
 loop_rule q (ForIn span left right body) = rule (not (is_using left)) (row.Three 1 (ask.Head q) 2 (ask.Part (binding q)) 3 (ask.Body q))
 loop_rule q (ForOf span is_await left right body) = rule true (row.Three 2 (ask.Head q) 3 (ask.Part (binding q)) 4 (ask.Body q))
 loop_rule q y = whole_rule q y

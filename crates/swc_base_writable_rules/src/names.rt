@@ -1,11 +1,11 @@
 //! Names: what an identifier may be (ECMA-262, 12.7, 13.1.1).
 ghost use Rattle.std.specs.Prelude.{◌≡◌, nat_eq};
-ghost use Rattle.std.specs.Cmp.Lexicographic.{pointwise};
-ghost use Rattle.std.specs.List.{list_all, list_any};
+ghost use Rattle.std.specs.List.{list_all};
 ghost use Rattle.swc_tree_node.specs.declared.node.Node.{out-Node};
-ghost use Rattle.swc_tree_grammar.specs.Writable.{begins_name as begins_as_name, is_bindable as may_be_bound, is_digit as is_ascii_digit, is_identifier_text as is_identifier_text_of, is_letter as is_name_letter, name_is, reserved};
+ghost use Rattle.swc_tree_grammar.specs.Writable.{begins_name as begins_as_name, is_bindable as may_be_bound, is_digit as is_ascii_digit, is_identifier_text as is_identifier_text_of, is_letter as is_name_letter, name_is};
 ghost use Rattle.swc_base_writable_rules.specs.Rounds.{continues as continues_name, name_sound};
 
+use crate::reserved::is_reserved;
 use crate::round::Round;
 use swc_tree_node::{Kind, Node};
 
@@ -43,68 +43,6 @@ fn begins_name(bytes: &[u8]) -> bool
         [] => false,
         [first, rest @ ..] => is_letter(*first) && all_continue(rest),
     }
-}
-
-// The words that are reserved in modules or in strict code (12.7.2).
-static RESERVED: [&str; 46] = [
-    "await",
-    "break",
-    "case",
-    "catch",
-    "class",
-    "const",
-    "continue",
-    "debugger",
-    "default",
-    "delete",
-    "do",
-    "else",
-    "enum",
-    "export",
-    "extends",
-    "false",
-    "finally",
-    "for",
-    "function",
-    "if",
-    "import",
-    "in",
-    "instanceof",
-    "new",
-    "null",
-    "return",
-    "super",
-    "switch",
-    "this",
-    "throw",
-    "true",
-    "try",
-    "typeof",
-    "var",
-    "void",
-    "while",
-    "with",
-    "yield",
-    "let",
-    "static",
-    "implements",
-    "interface",
-    "package",
-    "private",
-    "protected",
-    "public",
-];
-
-fn is_one_of(words: &[&str], text: &str) -> bool
-    ensures { result ≡ list_any (λ word. pointwise nat_eq text.now word.now) words.now }
-{
-    words.iter().any(|word| text == *word)
-}
-
-fn is_reserved(text: &str) -> bool
-    ensures { result ≡ list_any (pointwise nat_eq text.now) reserved }
-{
-    is_one_of(&RESERVED, text)
 }
 
 /// Whether a text is an identifier and no reserved word.

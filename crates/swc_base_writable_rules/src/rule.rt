@@ -1,12 +1,16 @@
 //! What is asked of a node, and what of each of its fields.
-ghost use Rattle.std.specs.Prelude.{◌≡◌, length, nat_eq, nat_le, suc};
+ghost use Rattle.std.specs.Prelude.{◌≡◌, ◌<◌, ◌||◌, length, nat_eq, nat_le, not, suc};
 ghost use Rattle.std.specs.List.{list_all};
 ghost use Rattle.swc_tree_node.specs.declared.node.Node.{out-Node};
 ghost use Rattle.swc_tree_node.specs.declared.node.Node.TheOpen.{Node-F};
-ghost use Rattle.swc_tree_grammar.specs.Levels.{is_in as is_in_word};
+ghost use Rattle.swc_tree_grammar.specs.Kinds.{has_kind, is_private_name};
+ghost use Rattle.swc_tree_grammar.specs.Levels.{is_in, word_of as word_of_field};
 ghost use Rattle.swc_tree_grammar.specs.Shapes.{items_of};
 ghost use Rattle.swc_tree_grammar.specs.Writable.{local_specifier_in};
-ghost use Rattle.swc_base_writable_rules.specs.Rules.{body_row as body_row_of, branches as branches_of, catch_rule as catch_rule_of, declaration_rule as declaration_rule_of, function_rule as function_rule_of, head_rule as head_rule_of, loop_rule as loop_rule_of, member_rule as member_rule_of, pattern_rule as pattern_rule_of, rule as rule_with, rule_for as rule_for_of, rule_of as rule_by, script_rule as script_rule_of, setter_rule as setter_rule_of, statement_rule as statement_rule_of, whole_rule as whole_rule_of};
+ghost use Rattle.swc_base_writable_rules.specs.Rounds.{binding};
+ghost use Rattle.swc_base_writable_rules.specs.declared.ask.Ask.TheVariants as ask;
+ghost use Rattle.swc_base_writable_rules.specs.declared.ask.Row.TheVariants as row;
+ghost use Rattle.swc_base_writable_rules.specs.Rules.{body_row as body_row_of, branches as branches_of, catch_rule as catch_rule_of, declaration_rule as declaration_rule_of, for_row as for_row_of, function_rule as function_rule_of, head_rule as head_rule_of, loop_rule as loop_rule_of, member_rule as member_rule_of, pattern_rule as pattern_rule_of, rule as rule_with, rule_for as rule_for_of, rule_of as rule_by, script_rule as script_rule_of, setter_rule as setter_rule_of, statement_rule as statement_rule_of, whole_rule as whole_rule_of};
 
 use crate::ask::{Ask, Row};
 use crate::members::{goes_on, is_accessor, is_constructor_key, is_local};
@@ -21,12 +25,13 @@ use crate::statements::{
 };
 use swc_base_fixer_unparen::is_target;
 use swc_tree_node::fields::{
-    array_pat, arrow_expr, assign_expr, assign_pat, assign_pat_prop, bin_expr, catch_clause, class,
-    class_method, constructor, do_while_stmt, export_decl, export_named_specifier, expr_stmt,
-    fn_decl, for_in_stmt, for_of_stmt, for_stmt, function, getter_prop, if_stmt,
-    import_named_specifier, key_value_pat_prop, labeled_stmt, member_expr, module_, named_export,
-    opt_chain_expr, private_prop, rest_pat, script, seq_expr, setter_prop, switch_case, tpl,
-    update_expr, using_decl, var_decl, var_declarator, while_stmt, with_stmt,
+    array_pat, arrow_expr, assign_expr, assign_pat, assign_pat_prop as shorthand_pat, bin_expr,
+    catch_clause, class, class_method, constructor, do_while_stmt, export_decl,
+    export_named_specifier, expr_stmt, fn_decl, for_in_stmt, for_of_stmt, for_stmt, function,
+    getter_prop, if_stmt, import_named_specifier, key_value_pat_prop as pair_pat, labeled_stmt,
+    member_expr, module_, named_export, opt_chain_expr, private_prop, rest_pat, script, seq_expr,
+    setter_prop, switch_case, tpl, update_expr, using_decl, var_decl, var_declarator, while_stmt,
+    with_stmt,
 };
 use swc_tree_node::{Kind, Node, Word};
 
@@ -40,6 +45,25 @@ pub struct Rule {
 fn ruled(holds: bool, row: Row) -> Rule
     ensures { result ≡ rule_with holds row }
 {
+    Rule { holds, row }
+}
+
+// What is asked of one field, by its number, beside what is asked of the node itself.
+fn one(holds: bool, field: usize, ask: Ask) -> Rule
+    requires { field < 256 }
+    ensures { result ≡ rule_with holds (row.One field ask) }
+{
+    let row = Row::One(field as u8, ask);
+    Rule { holds, row }
+}
+
+// The same of two fields.
+fn two(holds: bool, first: usize, of_first: Ask, second: usize, of_second: Ask) -> Rule
+    requires first { first < 256 }
+    requires second { second < 256 }
+    ensures { result ≡ rule_with holds (row.Two first of_first second of_second) }
+{
+    let row = Row::Two(first as u8, of_first, second as u8, of_second);
     Rule { holds, row }
 }
 
@@ -59,10 +83,11 @@ fn has_each_text(exprs: &Node, quasis: &Node) -> bool
     0 < quasis && quasis - 1 == exprs
 }
 
-fn is_in(word: Option<Word>) -> bool
-    ensures { result ≡ is_in_word word }
+// Whether something may stand left of an operator: a private name only left of `in`.
+fn is_left_operand(op: &Node, left: &Node) -> bool
+    ensures { result ≡ (is_in (word_of_field op.now) || not (has_kind is_private_name left.now)) }
 {
-    matches!(word, Some(Word::In))
+    matches!(word_of(op), Some(Word::In)) || !is_private(left)
 }
 
 // Whether the names in an export list are those of the program.
@@ -90,32 +115,22 @@ fn whole_rule(kind: Kind, fields: &[Node], round: Round) -> Rule
         }
         Kind::NamedExport if fields.len() == 4 => {
             if is_absent(&fields[named_export::SRC]) {
-                ruled(
-                    are_local(&fields[named_export::SPECIFIERS]),
-                    Row::One(named_export::SPECIFIERS as u8, Ask::Sound(round)),
-                )
+                let holds = are_local(&fields[named_export::SPECIFIERS]);
+                one(holds, named_export::SPECIFIERS, Ask::Sound(round))
             } else {
                 ruled(true, Row::Nothing)
             }
         }
         Kind::ExportNamedSpecifier if fields.len() == 3 => {
-            ruled(
-                true,
-                Row::One(export_named_specifier::ORIG as u8, Ask::Sound(round)),
-            )
+            one(true, export_named_specifier::ORIG, Ask::Sound(round))
         }
         Kind::ExportNamespaceSpecifier => ruled(true, Row::Nothing),
         Kind::ExportDecl if fields.len() == 2 => {
-            ruled(
-                !is_using(&fields[export_decl::DECL]),
-                Row::One(export_decl::DECL as u8, Ask::Sound(round)),
-            )
+            let holds = !is_using(&fields[export_decl::DECL]);
+            one(holds, export_decl::DECL, Ask::Sound(round))
         }
         Kind::Module if fields.len() == 3 => {
-            ruled(
-                true,
-                Row::One(module_::BODY as u8, Ask::Sound(round.strictly(true))),
-            )
+            one(true, module_::BODY, Ask::Sound(round.strictly(true)))
         }
         Kind::Script if fields.len() == 3 => script_rule(&fields[script::BODY], round),
         Kind::TsInterfaceDecl | Kind::TsTypeAliasDecl | Kind::TsEnumDecl | Kind::TsModuleDecl =>
@@ -128,10 +143,7 @@ fn script_rule(body: &Node, round: Round) -> Rule
     ensures { result ≡ script_rule_of round body.now }
 {
     let inside = round.strictly(has_use_strict(items(body)));
-    ruled(
-        has_no_using(body),
-        Row::One(script::BODY as u8, Ask::Sound(inside)),
-    )
+    one(has_no_using(body), script::BODY, Ask::Sound(inside))
 }
 
 // Of statements, or what `whole_rule` says.
@@ -143,47 +155,23 @@ fn statement_rule(kind: Kind, fields: &[Node], round: Round) -> Rule
     match kind {
         Kind::ExprStmt if fields.len() == 2 => {
             let expr = &fields[expr_stmt::EXPR];
-            ruled(
-                !is_string_within(expr) || is_string(expr),
-                Row::One(expr_stmt::EXPR as u8, part),
-            )
+            let holds = !is_string_within(expr) || is_string(expr);
+            one(holds, expr_stmt::EXPR, part)
         }
         Kind::CatchClause if fields.len() == 3 => catch_rule(&fields[catch_clause::PARAM], round),
         Kind::WithStmt if fields.len() == 3 => {
-            ruled(
-                true,
-                Row::Two(
-                    with_stmt::OBJ as u8,
-                    part,
-                    with_stmt::BODY as u8,
-                    Ask::Body(round),
-                ),
-            )
+            let body = Ask::Body(round);
+            two(true, with_stmt::OBJ, part, with_stmt::BODY, body)
         }
         Kind::LabeledStmt if fields.len() == 3 => {
             let label = Ask::Sound(round);
-            ruled(
-                true,
-                Row::Two(
-                    labeled_stmt::LABEL as u8,
-                    label,
-                    labeled_stmt::BODY as u8,
-                    Ask::Branch(round),
-                ),
-            )
+            let body = Ask::Branch(round);
+            two(true, labeled_stmt::LABEL, label, labeled_stmt::BODY, body)
         }
         Kind::IfStmt if fields.len() == 4 => ruled(true, branches(round)),
         Kind::SwitchCase if fields.len() == 3 => {
             let consequent = Ask::Consequent(round);
-            ruled(
-                true,
-                Row::Two(
-                    switch_case::TEST as u8,
-                    part,
-                    switch_case::CONS as u8,
-                    consequent,
-                ),
-            )
+            two(true, switch_case::TEST, part, switch_case::CONS, consequent)
         }
         kind => loop_rule(kind, fields, round),
     }
@@ -192,14 +180,13 @@ fn statement_rule(kind: Kind, fields: &[Node], round: Round) -> Rule
 fn catch_rule(param: &Node, round: Round) -> Rule
     ensures { result ≡ catch_rule_of round param.now }
 {
-    ruled(
-        is_absent(param) || is_pattern(param, round.binding()),
-        Row::Two(
-            catch_clause::PARAM as u8,
-            Ask::Sound(round.binding()),
-            catch_clause::BODY as u8,
-            Ask::Sound(round),
-        ),
+    let holds = is_absent(param) || is_pattern(param, round.binding());
+    two(
+        holds,
+        catch_clause::PARAM,
+        Ask::Sound(round.binding()),
+        catch_clause::BODY,
+        Ask::Sound(round),
     )
 }
 
@@ -217,6 +204,40 @@ fn branches(round: Round) -> Row
     )
 }
 
+// What is asked of the fields of a `for` with three parts in its head.
+fn for_row(round: Round) -> Row
+    ensures { result ≡ for_row_of round }
+{
+    let part = Ask::Part(round.binding());
+    Row::Four(
+        for_stmt::INIT as u8,
+        part,
+        for_stmt::TEST as u8,
+        part,
+        for_stmt::UPDATE as u8,
+        part,
+        for_stmt::BODY as u8,
+        Ask::Body(round),
+    )
+}
+
+// What is asked of the head and the body of a `for` in or of, by the numbers of the fields.
+fn over_row(left: usize, right: usize, body: usize, round: Round) -> Row
+    requires left { left < 256 }
+    requires right { right < 256 }
+    requires body { body < 256 }
+    ensures { result ≡ row.Three left (ask.Head round) right (ask.Part (binding round)) body (ask.Body round) }
+{
+    Row::Three(
+        left as u8,
+        Ask::Head(round),
+        right as u8,
+        Ask::Part(round.binding()),
+        body as u8,
+        Ask::Body(round),
+    )
+}
+
 // Of loops, or what `whole_rule` says.
 #[inline(never)]
 fn loop_rule(kind: Kind, fields: &[Node], round: Round) -> Rule
@@ -224,66 +245,32 @@ fn loop_rule(kind: Kind, fields: &[Node], round: Round) -> Rule
 {
     let part = Ask::Part(round.binding());
     let body = Ask::Body(round);
-    let head = Ask::Head(round);
     match kind {
         Kind::WhileStmt if fields.len() == 3 => {
-            ruled(
-                true,
-                Row::Two(while_stmt::TEST as u8, part, while_stmt::BODY as u8, body),
-            )
+            two(true, while_stmt::TEST, part, while_stmt::BODY, body)
         }
         Kind::DoWhileStmt if fields.len() == 3 => {
-            ruled(
-                true,
-                Row::Two(
-                    do_while_stmt::BODY as u8,
-                    body,
-                    do_while_stmt::TEST as u8,
-                    part,
-                ),
-            )
+            two(true, do_while_stmt::BODY, body, do_while_stmt::TEST, part)
         }
-        Kind::ForStmt if fields.len() == 5 => {
-            ruled(
-                true,
-                Row::Four(
-                    for_stmt::INIT as u8,
-                    part,
-                    for_stmt::TEST as u8,
-                    part,
-                    for_stmt::UPDATE as u8,
-                    part,
-                    for_stmt::BODY as u8,
-                    body,
-                ),
-            )
-        }
+        Kind::ForStmt if fields.len() == 5 => ruled(true, for_row(round)),
         Kind::ForInStmt if fields.len() == 4 => {
             let left = &fields[for_in_stmt::LEFT];
-            ruled(
-                !is_using(left),
-                Row::Three(
-                    for_in_stmt::LEFT as u8,
-                    head,
-                    for_in_stmt::RIGHT as u8,
-                    part,
-                    for_in_stmt::BODY as u8,
-                    body,
-                ),
-            )
+            let row = over_row(
+                for_in_stmt::LEFT,
+                for_in_stmt::RIGHT,
+                for_in_stmt::BODY,
+                round,
+            );
+            ruled(!is_using(left), row)
         }
         Kind::ForOfStmt if fields.len() == 5 => {
-            ruled(
-                true,
-                Row::Three(
-                    for_of_stmt::LEFT as u8,
-                    head,
-                    for_of_stmt::RIGHT as u8,
-                    part,
-                    for_of_stmt::BODY as u8,
-                    body,
-                ),
-            )
+            let row = over_row(
+                for_of_stmt::LEFT,
+                for_of_stmt::RIGHT,
+                for_of_stmt::BODY,
+                round,
+            );
+            ruled(true, row)
         }
         kind => whole_rule(kind, fields, round),
     }
@@ -323,37 +310,23 @@ fn function_rule(kind: Kind, fields: &[Node], round: Round) -> Rule
     match kind {
         Kind::ArrowExpr if fields.len() == 4 => {
             let params = items(&fields[arrow_expr::PARAMS]);
-            ruled(
-                are_elements(round.binding(), params),
-                body_row(&fields[arrow_expr::BODY], round),
-            )
+            let row = body_row(&fields[arrow_expr::BODY], round);
+            ruled(are_elements(round.binding(), params), row)
         }
         Kind::Function if fields.len() == 5 => {
             let params = items(&fields[function::PARAMS]);
-            ruled(
-                are_elements(round.binding(), params),
-                body_row(&fields[function::BODY], round),
-            )
+            let row = body_row(&fields[function::BODY], round);
+            ruled(are_elements(round.binding(), params), row)
         }
         Kind::Constructor if fields.len() == 4 => {
             let params = items(&fields[constructor::PARAMS]);
             let key = &fields[constructor::KEY];
-            ruled(
-                is_constructor_key(key) && are_elements(round.binding(), params),
-                Row::Two(
-                    constructor::PARAMS as u8,
-                    part,
-                    constructor::BODY as u8,
-                    part,
-                ),
-            )
+            let holds = is_constructor_key(key) && are_elements(round.binding(), params);
+            two(holds, constructor::PARAMS, part, constructor::BODY, part)
         }
         Kind::GetterProp if fields.len() == 3 => {
             let body = Ask::Part(round.strictly(is_strict(&fields[getter_prop::BODY])));
-            ruled(
-                true,
-                Row::Two(getter_prop::KEY as u8, part, getter_prop::BODY as u8, body),
-            )
+            two(true, getter_prop::KEY, part, getter_prop::BODY, body)
         }
         Kind::SetterProp if fields.len() == 4 => {
             let param = &fields[setter_prop::PARAM];
@@ -372,48 +345,33 @@ fn member_rule(kind: Kind, fields: &[Node], round: Round) -> Rule
     match kind {
         Kind::ClassMethod if fields.len() == 5 => {
             let key = Ask::Sound(round.binding());
-            ruled(
-                is_accessor(&fields[class_method::FUNCTION], &fields[class_method::KIND]),
-                Row::Two(
-                    class_method::KEY as u8,
-                    key,
-                    class_method::FUNCTION as u8,
-                    inside,
-                ),
+            let holds = is_accessor(&fields[class_method::FUNCTION], &fields[class_method::KIND]);
+            two(
+                holds,
+                class_method::KEY,
+                key,
+                class_method::FUNCTION,
+                inside,
             )
         }
         Kind::PrivateMethod if fields.len() == 5 => {
-            ruled(
-                is_accessor(&fields[class_method::FUNCTION], &fields[class_method::KIND]),
-                Row::One(class_method::FUNCTION as u8, inside),
-            )
+            let holds = is_accessor(&fields[class_method::FUNCTION], &fields[class_method::KIND]);
+            one(holds, class_method::FUNCTION, inside)
         }
         Kind::PrivateProp if fields.len() == 4 => {
-            ruled(
-                true,
-                Row::One(private_prop::VALUE as u8, Ask::Part(round.binding())),
-            )
+            one(true, private_prop::VALUE, Ask::Part(round.binding()))
         }
         Kind::Class if fields.len() == 3 => {
             let part = Ask::Part(round.strictly(true));
-            ruled(
-                true,
-                Row::Two(class::SUPER_CLASS as u8, part, class::BODY as u8, part),
-            )
+            two(true, class::SUPER_CLASS, part, class::BODY, part)
         }
         Kind::FnDecl | Kind::FnExpr if fields.len() == 2 => {
             let name = &fields[fn_decl::IDENT];
-            ruled(
-                is_bound_name(round.strict, name),
-                Row::One(fn_decl::FUNCTION as u8, inside),
-            )
+            one(is_bound_name(round.strict, name), fn_decl::FUNCTION, inside)
         }
         Kind::ClassDecl | Kind::ClassExpr if fields.len() == 2 => {
             let name = &fields[fn_decl::IDENT];
-            ruled(
-                is_bound_name(true, name),
-                Row::One(fn_decl::FUNCTION as u8, inside),
-            )
+            one(is_bound_name(true, name), fn_decl::FUNCTION, inside)
         }
         kind => function_rule(kind, fields, round),
     }
@@ -429,50 +387,23 @@ fn pattern_rule(kind: Kind, fields: &[Node], round: Round) -> Rule
     match kind {
         Kind::ArrayPat | Kind::ObjectPat if fields.len() == 2 => {
             let elems = items(&fields[array_pat::ELEMS]);
-            ruled(
-                are_elements(round, elems),
-                Row::One(array_pat::ELEMS as u8, inside),
-            )
+            one(are_elements(round, elems), array_pat::ELEMS, inside)
         }
         Kind::RestPat if fields.len() == 2 => {
-            ruled(
-                is_pattern(&fields[rest_pat::ARG], round),
-                Row::One(rest_pat::ARG as u8, inside),
-            )
+            let holds = is_pattern(&fields[rest_pat::ARG], round);
+            one(holds, rest_pat::ARG, inside)
         }
         Kind::KeyValuePatProp if fields.len() == 2 => {
             let key = Ask::Sound(round.binding());
-            ruled(
-                is_part(&fields[key_value_pat_prop::VALUE], round),
-                Row::Two(
-                    key_value_pat_prop::KEY as u8,
-                    key,
-                    key_value_pat_prop::VALUE as u8,
-                    inside,
-                ),
-            )
+            let holds = is_part(&fields[pair_pat::VALUE], round);
+            two(holds, pair_pat::KEY, key, pair_pat::VALUE, inside)
         }
         Kind::AssignPat if fields.len() == 3 => {
-            ruled(
-                is_pattern(&fields[assign_pat::LEFT], round),
-                Row::Two(
-                    assign_pat::LEFT as u8,
-                    inside,
-                    assign_pat::RIGHT as u8,
-                    part,
-                ),
-            )
+            let holds = is_pattern(&fields[assign_pat::LEFT], round);
+            two(holds, assign_pat::LEFT, inside, assign_pat::RIGHT, part)
         }
         Kind::AssignPatProp if fields.len() == 3 => {
-            ruled(
-                true,
-                Row::Two(
-                    assign_pat_prop::KEY as u8,
-                    inside,
-                    assign_pat_prop::VALUE as u8,
-                    part,
-                ),
-            )
+            two(true, shorthand_pat::KEY, inside, shorthand_pat::VALUE, part)
         }
         kind => declaration_rule(kind, fields, round),
     }
@@ -488,28 +419,22 @@ fn declaration_rule(kind: Kind, fields: &[Node], round: Round) -> Rule
     match kind {
         Kind::VarDeclarator if fields.len() == 3 => {
             let name = Ask::Sound(round.binding());
-            ruled(
-                is_pattern(&fields[var_declarator::NAME], round.binding()),
-                Row::Two(
-                    var_declarator::NAME as u8,
-                    name,
-                    var_declarator::INIT as u8,
-                    part,
-                ),
+            let holds = is_pattern(&fields[var_declarator::NAME], round.binding());
+            two(
+                holds,
+                var_declarator::NAME,
+                name,
+                var_declarator::INIT,
+                part,
             )
         }
         Kind::VarDecl if fields.len() == 3 => {
-            ruled(
-                are_initialised(&fields[var_decl::KIND], &fields[var_decl::DECLS]),
-                Row::One(var_decl::DECLS as u8, inside),
-            )
+            let holds = are_initialised(&fields[var_decl::KIND], &fields[var_decl::DECLS]);
+            one(holds, var_decl::DECLS, inside)
         }
         Kind::UsingDecl if fields.len() == 3 => {
             let declarators = items(&fields[using_decl::DECLS]);
-            ruled(
-                are_named(true, declarators),
-                Row::One(using_decl::DECLS as u8, inside),
-            )
+            one(are_named(true, declarators), using_decl::DECLS, inside)
         }
         kind => member_rule(kind, fields, round),
     }
@@ -523,60 +448,35 @@ fn rule_for(kind: Kind, fields: &[Node], round: Round) -> Rule
     let part = Ask::Part(round.binding());
     match kind {
         Kind::SeqExpr if fields.len() == 2 => {
-            ruled(
-                has_two(&fields[seq_expr::EXPRS]),
-                Row::One(seq_expr::EXPRS as u8, Ask::Sound(round)),
-            )
+            let holds = has_two(&fields[seq_expr::EXPRS]);
+            one(holds, seq_expr::EXPRS, Ask::Sound(round))
         }
         Kind::AssignExpr if fields.len() == 4 => {
             let left = Ask::Sound(round.assigning());
-            ruled(
-                is_left_side(
-                    word_of(&fields[assign_expr::OP]),
-                    &fields[assign_expr::LEFT],
-                ),
-                Row::Two(
-                    assign_expr::LEFT as u8,
-                    left,
-                    assign_expr::RIGHT as u8,
-                    part,
-                ),
-            )
+            let op = word_of(&fields[assign_expr::OP]);
+            let holds = is_left_side(op, &fields[assign_expr::LEFT]);
+            two(holds, assign_expr::LEFT, left, assign_expr::RIGHT, part)
         }
         Kind::UpdateExpr if fields.len() == 4 => {
-            ruled(
-                is_target(&fields[update_expr::ARG]),
-                Row::One(update_expr::ARG as u8, inside),
-            )
+            let holds = is_target(&fields[update_expr::ARG]);
+            one(holds, update_expr::ARG, inside)
         }
         Kind::BinExpr if fields.len() == 4 => {
-            ruled(
-                is_in(word_of(&fields[bin_expr::OP])) || !is_private(&fields[bin_expr::LEFT]),
-                Row::Two(bin_expr::LEFT as u8, inside, bin_expr::RIGHT as u8, part),
-            )
+            let holds = is_left_operand(&fields[bin_expr::OP], &fields[bin_expr::LEFT]);
+            two(holds, bin_expr::LEFT, inside, bin_expr::RIGHT, part)
         }
         Kind::MemberExpr if fields.len() == 3 => {
-            ruled(
-                !is_private(&fields[member_expr::OBJ]),
-                Row::Two(
-                    member_expr::OBJ as u8,
-                    inside,
-                    member_expr::PROP as u8,
-                    inside,
-                ),
-            )
+            let holds = !is_private(&fields[member_expr::OBJ]);
+            two(holds, member_expr::OBJ, inside, member_expr::PROP, inside)
         }
         Kind::Tpl if fields.len() == 3 => {
-            ruled(
-                has_each_text(&fields[tpl::EXPRS], &fields[tpl::QUASIS]),
-                Row::One(tpl::EXPRS as u8, inside),
-            )
+            let holds = has_each_text(&fields[tpl::EXPRS], &fields[tpl::QUASIS]);
+            one(holds, tpl::EXPRS, inside)
         }
         Kind::OptChainExpr if fields.len() == 3 => {
-            ruled(
-                is_set(&fields[opt_chain_expr::OPTIONAL]) || goes_on(&fields[opt_chain_expr::BASE]),
-                Row::One(opt_chain_expr::BASE as u8, inside),
-            )
+            let holds = is_set(&fields[opt_chain_expr::OPTIONAL])
+                || goes_on(&fields[opt_chain_expr::BASE]);
+            one(holds, opt_chain_expr::BASE, inside)
         }
         kind => pattern_rule(kind, fields, round),
     }
@@ -590,17 +490,13 @@ fn head_rule(kind: Kind, fields: &[Node], round: Round) -> Rule
     match kind {
         Kind::VarDecl if fields.len() == 3 => {
             let declarators = items(&fields[var_decl::DECLS]);
-            ruled(
-                is_one_bare(declarators),
-                Row::One(var_decl::DECLS as u8, Ask::Sound(round.binding())),
-            )
+            let holds = is_one_bare(declarators);
+            one(holds, var_decl::DECLS, Ask::Sound(round.binding()))
         }
         Kind::UsingDecl if fields.len() == 3 => {
             let declarators = items(&fields[using_decl::DECLS]);
-            ruled(
-                is_one_bare(declarators) && are_named(false, declarators),
-                Row::One(using_decl::DECLS as u8, Ask::Sound(round.binding())),
-            )
+            let holds = is_one_bare(declarators) && are_named(false, declarators);
+            one(holds, using_decl::DECLS, Ask::Sound(round.binding()))
         }
         _ => ruled(false, Row::Nothing),
     }

@@ -8,13 +8,13 @@ use Rattle.swc_base_writable_rules.proofs.rule.member_rule.Goals as goal
 
 pub returns-in-ClassMethod : goal.returns-in-ClassMethod
 returns-in-ClassMethod c =
-    c.ruled.ensures ∙ ap (λ q. rule c.is_accessor.result (row.Two 1 (ask.Sound q) 2 (ask.Sound c.args.round))) c.binding.ensures
-    ∙ method_rule c.args.round c.args.fields.now c.index-fields-2.result c.index-fields-3.result c.is_accessor.result c.if-fields-eq5.true c.index-fields-2.is c.index-fields-3.is c.is_accessor.ensures
+    c.two.ensures ∙ ap (λ q. rule c.is_accessor-holds.result (row.Two 1 (ask.Sound q) 2 (ask.Sound c.args.round))) c.binding.ensures
+    ∙ method_rule c.args.round c.args.fields.now c.index-fields-2.result c.index-fields-3.result c.is_accessor-holds.result c.if-fields-eq5.true c.index-fields-2.is c.index-fields-3.is c.is_accessor-holds.ensures
     ∙ ap (λ k. member_rule c.args.round (Node-F.Tree k c.args.fields.now)) (sym c.in-ClassMethod.is)
 
 pub returns-in-PrivateMethod : goal.returns-in-PrivateMethod
 returns-in-PrivateMethod c =
-    c.ruled-in-PrivateMethod.ensures
-    ∙ private_rule c.args.round c.args.fields.now c.index-fields-2-in-PrivateMethod.result c.index-fields-3-in-PrivateMethod.result c.is_accessor-in-PrivateMethod.result
-    c.if-fields-eq5-2.true c.index-fields-2-in-PrivateMethod.is c.index-fields-3-in-PrivateMethod.is c.is_accessor-in-PrivateMethod.ensures
+    c.one.ensures
+    ∙ private_rule c.args.round c.args.fields.now c.index-fields-2-in-PrivateMethod.result c.index-fields-3-in-PrivateMethod.result c.is_accessor-holds-in-PrivateMethod.result
+    c.if-fields-eq5-2.true c.index-fields-2-in-PrivateMethod.is c.index-fields-3-in-PrivateMethod.is c.is_accessor-holds-in-PrivateMethod.ensures
     ∙ ap (λ k. member_rule c.args.round (Node-F.Tree k c.args.fields.now)) (sym c.in-PrivateMethod.is)

@@ -8,6 +8,6 @@ use Rattle.swc_base_writable_rules.proofs.rule.pattern_rule.Goals as goal
 
 pub returns-in-KeyValuePatProp : goal.returns-in-KeyValuePatProp
 returns-in-KeyValuePatProp c =
-    c.ruled-in-KeyValuePatProp.ensures ∙ ap (λ q. rule c.is_part.result (row.Two 0 (ask.Sound q) 1 (ask.Sound c.args.round))) c.binding-in-KeyValuePatProp.ensures
-    ∙ property_rule c.args.round c.args.fields.now c.index-fields-1-in-KeyValuePatProp.result c.is_part.result c.if-fields-eq2-3.true c.index-fields-1-in-KeyValuePatProp.is c.is_part.ensures
+    c.two.ensures ∙ ap (λ q. rule c.is_part-holds.result (row.Two 0 (ask.Sound q) 1 (ask.Sound c.args.round))) c.binding-in-KeyValuePatProp.ensures
+    ∙ property_rule c.args.round c.args.fields.now c.index-fields-1-in-KeyValuePatProp.result c.is_part-holds.result c.if-fields-eq2-3.true c.index-fields-1-in-KeyValuePatProp.is c.is_part-holds.ensures
     ∙ ap (λ k. pattern_rule c.args.round (Node-F.Tree k c.args.fields.now)) (sym c.in-KeyValuePatProp.is)
