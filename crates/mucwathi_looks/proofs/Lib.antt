@@ -1,5 +1,6 @@
 mod Free
 mod Noted
+pub mod Signed
 mod Standing
 mod Texts
 mod Unlooked

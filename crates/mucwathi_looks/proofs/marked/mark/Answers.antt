@@ -1,6 +1,18 @@
-use Rattle.std.proofs.Common.{subst}
-use Rattle.mucwathi_signs.specs.Signed.{IsSigned}
+use Rattle.std.proofs.Common.{List, map, ap, ◌∙◌}
+use Rattle.swc_tree_walk.specs.declared.identifiers.Site.{Site}
+use Rattle.swc_tree_walk.specs.Sites.{site_of}
+use Rattle.mucwathi_looks.proofs.Signed.{own_signs}
 use Rattle.mucwathi_looks.proofs.marked.mark.Goals as goal
 
 pub returns : goal.returns
-returns c = (c.as_slice-3.result.now, c.in_ok-out.ensures)
+returns c = record {
+  table = c.resolve.new.globals;
+  resolved = c.in_ok-resolved.resolved;
+  is_resolved = c.in_ok-resolved.ensures.resolved;
+  signs = c.as_slice-3.result.now;
+  are =
+      own_signs c.in_ok-resolved.resolved (map site_of c.as_slice.result.now) (map site_of c.as_slice-2.result.now) c.in_ok-signs.signs.items c.as_slice-3.result.now
+      (ap (λ (l : List Site). map site_of l) c.as_slice.ensures.value ∙ c.in_ok-names.ensures.all) (ap (λ (l : List Site). map site_of l) c.as_slice-2.ensures.value ∙ c.in_ok-names.ensures.all)
+      c.as_slice-3.ensures.value c.in_ok-signs.ensures;
+  written = c.in_ok-out.ensures;
+}
