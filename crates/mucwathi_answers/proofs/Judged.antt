@@ -10,7 +10,7 @@ use Rattle.mucwathi_faults.specs.declared.fault.JudgeFault.{JudgeFault}
 use Rattle.mucwathi_faults.specs.declared.fault.JudgeFault.TheVariants as judging
 use Rattle.mucwathi_report.specs.declared.reports.Named.{Named}
 use Rattle.mucwathi_report.specs.Status.{judge_status, text_status}
-use Rattle.mucwathi_answers.specs.Answers.{IsAskedOfTwo, IsVerdict, IsVerdictFault, TellsVerdict, rules_for, verdict_status}
+use Rattle.mucwathi_answers.specs.Answers.{IsAskedOfTwo, IsVerdict, IsVerdictFault, SaysFault, SaysVerdict, TellsVerdict, rules_for}
 use Rattle.mucwathi_answers.specs.declared.answer.Answer.{Answer}
 
 read_status : (f : TextFault) → 1 < text_status f
@@ -46,14 +46,19 @@ told_either task before after f g r (inl is) one other = subst (IsVerdictFault t
 told_either task before after f g r (inr is) one other = subst (IsVerdictFault task before after) (sym is) other
 
 module _ {E : Type 0} (task : Judging) (before after : Named) where
-  pub told_verdict : (said : Option TextDifference) (r : Result Answer E) → IfOk r (λ a. a.status ≡ verdict_status said) → IsVerdict task before after said → IfOk r (λ a. TellsVerdict task before after a.status)
-  told_verdict None (Ok a) is verdict = record { same = λ h. verdict; other = λ h. absurd (omega (arith, is, h)); fault = λ h. absurd (omega (arith, is, h)) }
-  told_verdict (Some difference) (Ok a) is verdict = record { same = λ h. absurd (omega (arith, is, h)); other = λ h. (difference, verdict); fault = λ h. absurd (omega (arith, is, h)) }
-  told_verdict said (Err e) is verdict = tt
+  pub told_verdict : (said : Option TextDifference) (r : Result Answer E) → IfOk r (SaysVerdict before after said) → IsVerdict task before after said → IfOk r (TellsVerdict task before after)
+  told_verdict None (Ok a) says verdict =
+      let is : a.status ≡ 0 = says.0 in
+      record { same = λ h. (verdict, says); other = λ h. absurd (omega (arith, is, h)); fault = λ h. absurd (omega (arith, is, h)) }
+  told_verdict (Some difference) (Ok a) says verdict =
+      let is : a.status ≡ 1 = says.0 in
+      record { same = λ h. absurd (omega (arith, is, h)); other = λ h. (difference, verdict, says); fault = λ h. absurd (omega (arith, is, h)) }
+  told_verdict said (Err e) says verdict = tt
 
   -- a fault has a status of its own
-  pub told_fault : (f : JudgeFault) (r : Result Answer E) → IfOk r (λ a. a.status ≡ judge_status f) → IsVerdictFault task before after f → IfOk r (λ a. TellsVerdict task before after a.status)
-  told_fault f (Ok a) is told =
+  pub told_fault : (f : JudgeFault) (r : Result Answer E) → IfOk r (SaysFault before after f) → IsVerdictFault task before after f → IfOk r (TellsVerdict task before after)
+  told_fault f (Ok a) says told =
+      let is : a.status ≡ judge_status f = says.status in
       let above : 1 < judge_status f = fault_status f in
-      record { same = λ h. absurd (omega (arith, is, h, above)); other = λ h. absurd (omega (arith, is, h, above)); fault = λ h. (f, told, is) }
-  told_fault f (Err e) is told = tt
+      record { same = λ h. absurd (omega (arith, is, h, above)); other = λ h. absurd (omega (arith, is, h, above)); fault = λ h. (f, told, says) }
+  told_fault f (Err e) says told = tt

@@ -2,3 +2,4 @@ mod Worked
 mod Judged
 mod Looked
 mod Endings
+mod Given

@@ -32,6 +32,6 @@ module _ (w : Work) (given : Option Goal) (of : Named) where
   pub shown_well : (a : Answer) (out : List ℕ) → a.out.items ≡ out → IsWell a → IsShown w given of out → IsLooked w given of a
   shown_well a out is well h = record { well = λ all. subst (IsShown w given of) (sym is) h; fault = λ other. absurd (other well) }
 
-  pub fault_looked : {E : Type 0} (f : RunFault) (r : Result Answer E) → IsShowFault w given of f → IfOk r (IsFaultTold f) → IfOk r (IsLooked w given of)
+  pub fault_looked : {E : Type 0} (f : RunFault) (r : Result Answer E) → IsShowFault w given of f → IfOk r (IsFaultTold of f) → IfOk r (IsLooked w given of)
   fault_looked f (Ok a) told is = record { well = λ well. absurd (fault_status f (cc (is.status, well))); fault = λ other. (f, told, is) }
   fault_looked f (Err e) told is = tt

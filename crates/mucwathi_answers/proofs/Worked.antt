@@ -13,7 +13,7 @@ use Rattle.mucwathi_faults.specs.declared.fault.RunFault.TheVariants as running
 use Rattle.mucwathi_order.specs.declared.order.Order.{Order}
 use Rattle.mucwathi_report.specs.declared.reports.Named.{Named}
 use Rattle.mucwathi_report.specs.Status.{run_status, text_status}
-use Rattle.mucwathi_answers.specs.Answers.{HasList, IsAnswered, IsAsked, IsAskedOfTwo, IsFaultTold, IsGoalOf, IsMemoryFault, IsTold, IsWell, IsWorked, IsWrittenOut, goal_asked, order_for}
+use Rattle.mucwathi_answers.specs.Answers.{HasExplanation, HasList, IsAnswered, IsAsked, IsAskedOfTwo, IsFaultTold, IsGoalOf, IsMemoryFault, IsTold, IsWell, IsWorked, IsWrittenOut, goal_asked, order_for}
 use Rattle.mucwathi_answers.specs.declared.answer.Answer.{Answer}
 
 -- ---- goals
@@ -48,23 +48,30 @@ uncovered_told order text running.NotWritten h = absurd h
 uncovered_told order text running.NotKept h = absurd h
 
 module _ (task : Rewriting) (prefix : List ℕ) (of : Named) where
-  -- what is told in the place of an answer is none
-  pub explained : (g : Goal) (r : Result Answer RunFault) (order : Order) → order ≡ order_for task g → IsAsked task.goal of g → task.explains ≡ true → MatchResult r IsWell (IsRunFault order of.text.now) → MatchResult r (IsWorked task prefix of) (IsTold task of)
-  explained g (Ok a) order is asked tells well = record { well = well; made = λ lists explains. absurd (cc); listed = λ lists explains. absurd (cc) }
+  pub explained : (g : Goal) (r : Result Answer RunFault) (order : Order) → order ≡ order_for task g → IsAsked task.goal of g → task.explains ≡ true
+      → MatchResult r (λ a. IsWell a × HasExplanation order of a.out.items) (IsRunFault order of.text.now) → MatchResult r (IsWorked task prefix of) (IsTold task of)
+  explained g (Ok a) order is asked tells h = record {
+    well = h.0;
+    explained = λ explains. record { goal = g; asked = asked; explanation = subst (λ order. HasExplanation order of a.out.items) is h.1 };
+    made = λ lists explains. absurd (cc);
+    listed = λ lists explains. absurd (cc);
+  }
   explained g (Err f) order is asked tells fault = record { goal = g; asked = asked; told = subst (λ order. IsRunFault order of.text.now f) is fault }
 
-  pub listed : (g : Goal) (r : Result Answer RunFault) (order : Order) → order ≡ order_for task g → IsAsked task.goal of g → task.lists ≡ true
+  pub listed : (g : Goal) (r : Result Answer RunFault) (order : Order) → order ≡ order_for task g → IsAsked task.goal of g → task.explains ≡ false → task.lists ≡ true
       → MatchResult r (λ a. IsWell a × HasList order prefix of.text.now a.out.items) (IsRunFault order of.text.now) → MatchResult r (IsWorked task prefix of) (IsTold task of)
-  listed g (Ok a) order is asked lists h = record {
+  listed g (Ok a) order is asked untold lists h = record {
     well = h.0;
+    explained = λ explains. absurd (cc);
     made = λ none explains. absurd (cc);
     listed = λ all explains. record { goal = g; asked = asked; list = subst (λ order. HasList order prefix of.text.now a.out.items) is h.1 };
   }
-  listed g (Err f) order is asked lists fault = record { goal = g; asked = asked; told = subst (λ order. IsRunFault order of.text.now f) is fault }
+  listed g (Err f) order is asked untold lists fault = record { goal = g; asked = asked; told = subst (λ order. IsRunFault order of.text.now f) is fault }
 
-  pub worked : (g : Goal) (r : Result Answer RunFault) (order : Order) → order ≡ order_for task g → IsAsked task.goal of g → task.lists ≡ false
+  pub worked : (g : Goal) (r : Result Answer RunFault) (order : Order) → order ≡ order_for task g → IsAsked task.goal of g → task.explains ≡ false → task.lists ≡ false
       → MatchResult r (λ a. IsWell a × IsWrittenOut order task.map of a) (IsRunFault order of.text.now) → MatchResult r (IsWorked task prefix of) (IsTold task of)
-  worked g (Ok a) order is asked none h = record {
+  worked g (Ok a) order is asked untold none h = record {
+    explained = λ explains. absurd (cc);
     listed = λ lists explains. absurd (cc);
     well = h.0;
     made = λ lists explains. record {
@@ -73,7 +80,7 @@ module _ (task : Rewriting) (prefix : List ℕ) (of : Named) where
       written = subst (λ order. IsWrittenOut order task.map of a) is h.1;
     };
   }
-  worked g (Err f) order is asked none h = record { goal = g; asked = asked; told = subst (λ order. IsRunFault order of.text.now f) is h }
+  worked g (Err f) order is asked untold none h = record { goal = g; asked = asked; told = subst (λ order. IsRunFault order of.text.now f) is h }
 
   pub well_answered : (a : Answer) → IsWorked task prefix of a → IsAnswered task prefix of a
   well_answered a h = record { well = λ well. h; fault = λ other. absurd (other h.well) }
@@ -105,6 +112,6 @@ fault_status running.NotWritten h = absurd (cc)
 fault_status running.NotKept h = absurd (cc)
 
 -- no fault has status 0
-pub fault_answered : {E : Type 0} (task : Rewriting) (prefix : List ℕ) (of : Named) (f : RunFault) (r : Result Answer E) → IsTold task of f → IfOk r (IsFaultTold f) → IfOk r (IsAnswered task prefix of)
+pub fault_answered : {E : Type 0} (task : Rewriting) (prefix : List ℕ) (of : Named) (f : RunFault) (r : Result Answer E) → IsTold task of f → IfOk r (IsFaultTold of f) → IfOk r (IsAnswered task prefix of)
 fault_answered task prefix of f (Ok a) told is = record { well = λ well. absurd (fault_status f (sym is.status ∙ well)); fault = λ other. (f, told, is) }
 fault_answered task prefix of f (Err e) told is = tt

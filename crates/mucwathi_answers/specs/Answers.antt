@@ -14,6 +14,8 @@ use Rattle.mucwathi_arguments.specs.declared.task.Judging.{Judging}
 use Rattle.mucwathi_arguments.specs.declared.task.Rewriting.{Rewriting}
 use Rattle.mucwathi_commands.specs.Comments.{IsRewrittenWith}
 use Rattle.mucwathi_commands.specs.Faults.{IsRunFault}
+use Rattle.mucwathi_commands.specs.Looks.{IsCoverTold}
+use Rattle.mucwathi_commands.specs.declared.cover.CoverGap.{CoverGap}
 use Rattle.mucwathi_commands.specs.Judged.{IsJudgeFault, IsJudged}
 use Rattle.mucwathi_commands.specs.declared.judge.Rules.{Rules}
 use Rattle.mucwathi_commands.specs.declared.judge.TextDifference.{TextDifference}
@@ -31,6 +33,7 @@ use Rattle.mucwathi_looks.specs.Trees.{HasTree}
 use Rattle.mucwathi_map.specs.Map.{IsMap}
 use Rattle.mucwathi_page.specs.Shown.{IsPage}
 use Rattle.mucwathi_report.specs.declared.reports.Named.{Named}
+use Rattle.mucwathi_report.specs.Reports.{IsCoverReport, IsDifferenceReport, IsFaultReport, IsJudgeFaultReport}
 use Rattle.mucwathi_report.specs.Status.{judge_status, run_status}
 use Rattle.mucwathi_answers.specs.declared.answer.Answer.{Answer}
 use Rattle.mucwathi_answers.specs.declared.looking.Work.{Work}
@@ -77,10 +80,11 @@ memory_for (file ∷ other ∷ files) = memory.GivenBack
 abbrev pub order_for : Rewriting → Goal → Order
 order_for task g = record { command = task.command; goal = g; depth = 4000; settings = settings_for task.settings (keeps_top task.keep_top g); style = task.style; memory = memory_for task.files.items }
 
--- nothing is written, and the status is that of a fault
-pub record IsFaultTold (f : RunFault) (a : Answer) : Type 0 where
+-- nothing is written, the status is that of a fault, and this is told
+pub record IsFaultTold (of : Named) (f : RunFault) (a : Answer) : Type 0 where
   pub status : a.status ≡ run_status f
   pub out : a.out.items ≡ []
+  pub told : IsFaultReport of.name.now of.text.now f a.told.items
 
 abbrev pub IsWell : Answer → Type 0
 IsWell a = a.status ≡ 0
@@ -119,9 +123,22 @@ pub record IsListed (task : Rewriting) (prefix : List ℕ) (of : Named) (out : L
   pub asked : IsAsked task.goal of goal
   pub list : HasList (order_for task goal) prefix of.text.now out
 
--- all is well, and so it is where nothing else is told in its place
+-- whether the promise covers a text is told; where it does not, what it lacks first
+pub record HasExplanation (order : Order) (of : Named) (out : List ℕ) : Type 0 where
+  pub gap : Option CoverGap
+  pub covers : IsCoverTold order.goal order.settings of.text.now gap
+  pub told : IsCoverReport of.name.now of.text.now gap out
+
+-- ... as what it is read
+pub record IsExplained (task : Rewriting) (of : Named) (out : List ℕ) : Type 0 where
+  pub goal : Goal
+  pub asked : IsAsked task.goal of goal
+  pub explanation : HasExplanation (order_for task goal) of out
+
+-- all is well, and what was asked for is written, or told in its place
 pub record IsWorked (task : Rewriting) (prefix : List ℕ) (of : Named) (a : Answer) : Type 0 where
   pub well : IsWell a
+  pub explained : task.explains ≡ true → IsExplained task of a.out.items
   pub made : task.lists ≡ false → task.explains ≡ false → IsMade task of a
   pub listed : task.lists ≡ true → task.explains ≡ false → IsListed task prefix of a.out.items
 
@@ -134,7 +151,7 @@ pub record IsTold (task : Rewriting) (of : Named) (f : RunFault) : Type 0 where
 -- status 0 is only given where all is well; with another nothing is written, and it is that of a fault
 pub record IsAnswered (task : Rewriting) (prefix : List ℕ) (of : Named) (a : Answer) : Type 0 where
   pub well : IsWell a → IsWorked task prefix of a
-  pub fault : ¬ IsWell a → (f : RunFault) × IsTold task of f × IsFaultTold f a
+  pub fault : ¬ IsWell a → (f : RunFault) × IsTold task of f × IsFaultTold of f a
 
 -- the free names of a text, each in its line
 abbrev pub HasNameList : Goal → List ℕ → List ℕ → Type 0
@@ -143,7 +160,7 @@ HasNameList goal text out = (names : List FreeName) × HasFreeNames goal text na
 -- what is shown of a text, as what it is read: its tree, the text with marks or in a page, or its free names
 abbrev pub Shows : Work → Goal → List ℕ → List ℕ → Type 0
 Shows work.Tree goal text out = HasTree goal text out
-Shows work.Marks goal text out = HasSigns text out
+Shows work.Marks goal text out = HasSigns goal text out
 Shows work.Page goal text out = IsPage text out
 Shows work.Names goal text out = HasNameList goal text out
 
@@ -162,7 +179,7 @@ IsShowFault w given of f = (goal : Goal) × IsAsked given of goal × IsUnshown w
 -- status 0 is only given where that is written which was asked for; with another nothing is written, and it is that of a fault
 pub record IsLooked (w : Work) (given : Option Goal) (of : Named) (a : Answer) : Type 0 where
   pub well : IsWell a → IsShown w given of a.out.items
-  pub fault : ¬ IsWell a → (f : RunFault) × IsShowFault w given of f × IsFaultTold f a
+  pub fault : ¬ IsWell a → (f : RunFault) × IsShowFault w given of f × IsFaultTold of f a
 
 -- by what they are judged
 abbrev pub rules_for : Judging → Rules
@@ -188,12 +205,19 @@ pub record IsVerdictFault (task : Judging) (before after : Named) (f : JudgeFaul
   pub asked_second : IsAskedOfTwo task.goal after before second
   pub told : IsJudgeFault task.spelling first before.text.now second after.text.now f
 
-abbrev pub verdict_status : Option TextDifference → ℕ
-verdict_status None = 0
-verdict_status (Some difference) = 1
+-- what is written of them, with which status
+abbrev pub SaysVerdict : (before after : Named) → Option TextDifference → Answer → Type 0
+SaysVerdict before after None a = (a.status ≡ 0) × (a.out.items ≡ codes "the same\n")
+SaysVerdict before after (Some difference) a = (a.status ≡ 1) × IsDifferenceReport before after difference a.out.items
 
--- status 0 says that they are the same program but for names, 1 that they are not, and another is that of a fault
-pub record TellsVerdict (task : Judging) (before after : Named) (status : ℕ) : Type 0 where
-  pub same : status ≡ 0 → IsVerdict task before after None
-  pub other : status ≡ 1 → (difference : TextDifference) × IsVerdict task before after (Some difference)
-  pub fault : 1 < status → (f : JudgeFault) × IsVerdictFault task before after f × (status ≡ judge_status f)
+-- ... or nothing is, and a fault is told
+pub record SaysFault (before after : Named) (f : JudgeFault) (a : Answer) : Type 0 where
+  pub status : a.status ≡ judge_status f
+  pub out : a.out.items ≡ []
+  pub told : IsJudgeFaultReport before after f a.told.items
+
+-- status 0 says that they are the same program but for names, 1 that they are not, and how, and another is that of a fault
+pub record TellsVerdict (task : Judging) (before after : Named) (a : Answer) : Type 0 where
+  pub same : a.status ≡ 0 → IsVerdict task before after None × SaysVerdict before after None a
+  pub other : a.status ≡ 1 → (difference : TextDifference) × IsVerdict task before after (Some difference) × SaysVerdict before after (Some difference) a
+  pub fault : 1 < a.status → (f : JudgeFault) × IsVerdictFault task before after f × SaysFault before after f a

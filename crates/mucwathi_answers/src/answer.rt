@@ -52,7 +52,7 @@ impl Answer {
         of: Named<'_>,
         fault: &RunFault,
     ) -> Result<Answer, AllocError>
-        ensures { IfOk result (IsFaultTold fault.now) }
+        ensures { IfOk result (IsFaultTold of.entry fault.now) }
     {
         let told = tell_fault(alloc, of, fault)?;
         Ok(Answer::told(alloc, told, status_of(fault)))

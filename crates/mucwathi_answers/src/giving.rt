@@ -1,8 +1,17 @@
 //! What is made of a program that is given, or answered, otherwise than as a text.
+ghost use Rattle.std.specs.Prelude.{◌≡◌, None, IfOk};
+ghost use Rattle.text_parser.specs.declared.programs.Goal.TheVariants as kinds;
+ghost use Rattle.mucwathi_arguments.specs.declared.task.Source.TheVariants as sources;
+ghost use Rattle.mucwathi_given.specs.Given.{IsRead, IsReady};
+ghost use Rattle.mucwathi_marked.specs.Given.{IsUnmarked};
+ghost use Rattle.mucwathi_answers.specs.Answers.{IsAsked, goal_asked as is_asked};
+ghost use Rattle.mucwathi_answers.specs.Given.{HasEnvelopeOf, IsAnswerOf, IsAnsweredAs, IsEnvelopeOf, IsGivenAnswer, IsMadeBy, IsOfText, IsOfTree, IsProgramOf, IsRemarked, IsTextOfMade, IsWrittenAs, goal_of, order_given, with_settings as settings_in};
+
 use crate::answer::{Answer, DEPTH};
 use crate::goals::{further, goal_asked, may_be_module};
+use crate::rewriting::does_keep_top;
 use mucwathi_arguments::{Giving, Source};
-use mucwathi_commands::{Goal, Memory, Order, RunFault, Settings, Style};
+use mucwathi_commands::{Command, Goal, Memory, Order, RunFault, Settings, Style};
 use mucwathi_given::{Envelope, TreeFault, make_given, read_tree, write_tree};
 use mucwathi_marked::{give_marked, give_text, print_given, resolve_marked, rewrite_marked};
 use mucwathi_report::{Named, tell_no_tree};
@@ -12,13 +21,12 @@ use swc_tree_node::{Kind, Node};
 use text_printer::Layout;
 
 // The program with what the passes go by.
-fn with_settings(task: &Giving, program: Envelope) -> Envelope {
+fn with_settings(task: &Giving, program: Envelope) -> Envelope
+    ensures { result ≡ settings_in task.now program }
+{
     let keep_class_names = task.settings.keep_class_names || program.keep_class_names;
     let ignore_eval = task.settings.ignore_eval || program.ignore_eval;
-    let keep_top = match task.keep_top {
-        Some(keep) => Some(keep),
-        None => program.keep_top,
-    };
+    let keep_top = task.keep_top.or(program.keep_top);
     Envelope {
         keep_class_names,
         ignore_eval,
@@ -27,81 +35,158 @@ fn with_settings(task: &Giving, program: Envelope) -> Envelope {
     }
 }
 
-fn made(alloc: Global, task: &Giving, program: Envelope) -> Result<Envelope, PassError> {
-    make_given(alloc, task.command, with_settings(task, program))
+fn made(alloc: Global, task: &Giving, program: Envelope) -> Result<Envelope, PassError>
+    requires { IsReady program }
+    ensures { IfOk result (IsMadeBy task.now program) }
+{
+    let given = with_settings(task, program);
+    make_given(alloc, task.command, given)
 }
 
-// What is made of it, as an envelope.
-fn envelope(alloc: Global, task: &Giving, program: Envelope) -> Result<Vec<u8>, PassError> {
+// The envelope of what is made of it, as JSON.
+fn write_made(alloc: Global, task: &Giving, program: Envelope) -> Result<Vec<u8>, PassError>
+    requires { IsReady program }
+    ensures { IfOk result (λ out. IsEnvelopeOf task.now program out.items) }
+{
     let made = made(alloc, task, program)?;
     let json = write_tree(alloc, &made)?;
     Ok(json.into_bytes())
 }
 
-fn refused(made: Result<Vec<u8>, PassError>) -> Result<Vec<u8>, RunFault> {
-    match made {
+fn envelope(alloc: Global, task: &Giving, program: Envelope) -> Result<Vec<u8>, RunFault>
+    requires { IsReady program }
+    ensures { IfOk result (λ out. IsEnvelopeOf task.now program out.items) }
+{
+    match write_made(alloc, task, program) {
         Ok(out) => Ok(out),
         Err(error) => Err(RunFault::Refused(error)),
     }
 }
 
-// The envelope of what is made of a text, read as the goal has it.
-fn envelope_of(alloc: Global, task: &Giving, text: &[u8], goal: Goal) -> Result<Vec<u8>, RunFault> {
-    if task.form.source == Source::Marked {
-        let marked = give_marked(alloc, goal, DEPTH, text)?;
-        return refused(envelope(alloc, task, marked.program));
-    }
-    let program = give_text(alloc, goal, DEPTH, text)?;
-    refused(envelope(alloc, task, program))
+// The program of a text, with the marks that stand behind its names.
+fn marked_program(alloc: Global, text: &[u8], goal: Goal) -> Result<Envelope, RunFault>
+    ensures program { IfOk result (IsProgramOf sources.Marked goal text.now) }
+    ensures ready { IfOk result IsReady }
+{
+    let marked = give_marked(alloc, goal, DEPTH, text)?;
+    Ok(marked.program)
 }
 
-// What is made of a text with marks, as such a text.
-fn text_of(alloc: Global, task: &Giving, text: &[u8], goal: Goal) -> Result<Vec<u8>, RunFault> {
-    let Some(command) = task.command else {
-        return resolve_marked(alloc, goal, DEPTH, text);
-    };
-    let keep_top = task.keep_top.unwrap_or(goal == Goal::Script);
-    let order = Order {
+// ... or without any.
+fn plain_program(alloc: Global, text: &[u8], goal: Goal) -> Result<Envelope, RunFault>
+    ensures program { IfOk result (IsUnmarked goal text.now) }
+    ensures ready { IfOk result IsReady }
+{
+    give_text(alloc, goal, DEPTH, text)
+}
+
+// The program of a text that is read as the goal has it.
+fn program_of(alloc: Global, source: Source, text: &[u8], goal: Goal) -> Result<Envelope, RunFault>
+    ensures program { IfOk result (IsProgramOf source goal text.now) }
+    ensures ready { IfOk result IsReady }
+{
+    match source {
+        Source::Marked => marked_program(alloc, text, goal),
+        _ => plain_program(alloc, text, goal),
+    }
+}
+
+// The envelope of what is made of a text.
+fn envelope_of(alloc: Global, task: &Giving, text: &[u8], goal: Goal) -> Result<Vec<u8>, RunFault>
+    ensures { IfOk result (λ out. HasEnvelopeOf task.now goal text.now out.items) }
+{
+    let program = program_of(alloc, task.form.source, text, goal)?;
+    envelope(alloc, task, program)
+}
+
+// What the passes go by, once it is known as what the text is read.
+fn order_for(task: &Giving, command: Command, goal: Goal) -> Order
+    ensures { result ≡ order_given task.now command goal }
+{
+    Order {
         command,
         goal,
         depth: DEPTH,
         settings: Settings {
-            keep_top,
+            keep_top: does_keep_top(task.keep_top, goal),
             ..task.settings
         },
         style: task.style,
         memory: Memory::GivenBack,
-    };
-    rewrite_marked(alloc, &order, text)
+    }
 }
 
-fn work_as(alloc: Global, task: &Giving, text: &[u8], goal: Goal) -> Result<Vec<u8>, RunFault> {
+// What is made of a text with marks, as such a text.
+fn text_of(alloc: Global, task: &Giving, text: &[u8], goal: Goal) -> Result<Vec<u8>, RunFault>
+    ensures { IfOk result (λ out. IsRemarked task.now.command task.now goal text.now out.items) }
+{
+    match task.command {
+        None => resolve_marked(alloc, goal, DEPTH, text),
+        Some(command) => {
+            let order = order_for(task, command, goal);
+            rewrite_marked(alloc, &order, text)
+        }
+    }
+}
+
+fn work_as(alloc: Global, task: &Giving, text: &[u8], goal: Goal) -> Result<Vec<u8>, RunFault>
+    ensures { IfOk result (λ out. IsAnsweredAs task.now.form.json task.now goal text.now out.items) }
+{
     if task.form.json {
-        return envelope_of(alloc, task, text, goal);
+        envelope_of(alloc, task, text, goal)
+    } else {
+        text_of(alloc, task, text, goal)
     }
-    text_of(alloc, task, text, goal)
 }
 
-// The same where it may be open as what the text is read.
-fn work_on(alloc: Global, task: &Giving, of: Named<'_>) -> Result<Vec<u8>, RunFault> {
-    if let Some(goal) = goal_asked(task.goal, of) {
-        return work_as(alloc, task, of.text, goal);
+// The same as a module, where the text was not read as a script.
+fn work_as_module(
+    alloc: Global,
+    task: &Giving,
+    of: Named<'_>,
+    fault: RunFault,
+) -> Result<Vec<u8>, RunFault>
+    requires { IsAsked task.now.goal of kinds.Module }
+    ensures { IfOk result (λ out. IsOfText task.now of.entry out.items) }
+{
+    match work_as(alloc, task, of.text, Goal::Module) {
+        Ok(out) => Ok(out),
+        Err(other) => Err(further(fault, other)),
     }
+}
+
+// The same where it is open as what it is read: as a script where it is one, and else as a module.
+fn work_open(alloc: Global, task: &Giving, of: Named<'_>) -> Result<Vec<u8>, RunFault>
+    requires { is_asked task.now.goal of ≡ None }
+    ensures { IfOk result (λ out. IsOfText task.now of.entry out.items) }
+{
     match work_as(alloc, task, of.text, Goal::Script) {
         Ok(out) => Ok(out),
-        Err(fault) if !may_be_module(&fault) => Err(fault),
-        Err(fault) => match work_as(alloc, task, of.text, Goal::Module) {
-            Ok(out) => Ok(out),
-            Err(other) => Err(further(fault, other)),
-        },
+        Err(fault) => {
+            if may_be_module(&fault) {
+                work_as_module(alloc, task, of, fault)
+            } else {
+                Err(fault)
+            }
+        }
     }
 }
 
-fn goal_of_program(tree: &Node) -> Goal {
-    if matches!(tree, Node::Tree(Kind::Module, _)) {
-        Goal::Module
-    } else {
-        Goal::Script
+fn work_on(alloc: Global, task: &Giving, of: Named<'_>) -> Result<Vec<u8>, RunFault>
+    ensures { IfOk result (λ out. IsOfText task.now of.entry out.items) }
+{
+    match goal_asked(task.goal, of) {
+        Some(goal) => work_as(alloc, task, of.text, goal),
+        None => work_open(alloc, task, of),
+    }
+}
+
+fn goal_of_program(tree: &Node) -> Goal
+    ensures { result ≡ goal_of tree.now }
+{
+    match tree {
+        Node::Tree(Kind::Module, _) => Goal::Module,
+        _ => Goal::Script,
     }
 }
 
@@ -113,11 +198,11 @@ fn layout_of(style: Style) -> Layout {
     }
 }
 
-// What is made of an envelope.
-fn work_on_tree(alloc: Global, task: &Giving, program: Envelope) -> Result<Vec<u8>, RunFault> {
-    if task.form.json {
-        return refused(envelope(alloc, task, program));
-    }
+// What is made of an envelope's program, as a text.
+fn text_of_tree(alloc: Global, task: &Giving, program: Envelope) -> Result<Vec<u8>, RunFault>
+    requires { IsReady program }
+    ensures { IfOk result (λ out. IsTextOfMade task.now program out.items) }
+{
     match made(alloc, task, program) {
         Ok(made) => {
             let goal = goal_of_program(&made.tree);
@@ -127,20 +212,39 @@ fn work_on_tree(alloc: Global, task: &Giving, program: Envelope) -> Result<Vec<u
     }
 }
 
-fn answer_of(
+// What is made of an envelope.
+fn work_on_tree(alloc: Global, task: &Giving, program: Envelope) -> Result<Vec<u8>, RunFault>
+    requires { IsReady program }
+    ensures { IfOk result (λ out. IsWrittenAs task.now.form.json task.now program out.items) }
+{
+    if task.form.json {
+        envelope(alloc, task, program)
+    } else {
+        text_of_tree(alloc, task, program)
+    }
+}
+
+fn answer_program(
     alloc: Global,
+    task: &Giving,
     of: Named<'_>,
-    done: Result<Vec<u8>, RunFault>,
-) -> Result<Answer, AllocError> {
-    match done {
+    program: Envelope,
+) -> Result<Answer, AllocError>
+    requires ready { IsReady program }
+    requires read { IsRead of.text.now program }
+    ensures { IfOk result (IsAnswerOf (IsOfTree task.now of.entry)) }
+{
+    match work_on_tree(alloc, task, program) {
         Ok(out) => Ok(Answer::of(alloc, out)),
         Err(fault) => Answer::fault(alloc, of, &fault),
     }
 }
 
-fn answer_tree_given(alloc: Global, task: &Giving, of: Named<'_>) -> Result<Answer, AllocError> {
+fn answer_tree_given(alloc: Global, task: &Giving, of: Named<'_>) -> Result<Answer, AllocError>
+    ensures { IfOk result (IsAnswerOf (IsOfTree task.now of.entry)) }
+{
     match read_tree(alloc, of.text) {
-        Ok(program) => answer_of(alloc, of, work_on_tree(alloc, task, program)),
+        Ok(program) => answer_program(alloc, task, of, program),
         Err(TreeFault::NotATree(path)) => {
             let told = tell_no_tree(alloc, of.name, path.as_str())?;
             Ok(Answer::told(alloc, told, 3))
@@ -149,10 +253,23 @@ fn answer_tree_given(alloc: Global, task: &Giving, of: Named<'_>) -> Result<Answ
     }
 }
 
-/// What is made of a program that is given as a text with marks or as an envelope, or is to be answered as an envelope.
-pub fn answer_given(alloc: Global, task: &Giving, of: Named<'_>) -> Result<Answer, AllocError> {
-    if task.form.source == Source::Tree {
-        return answer_tree_given(alloc, task, of);
+fn answer_text_given(alloc: Global, task: &Giving, of: Named<'_>) -> Result<Answer, AllocError>
+    ensures { IfOk result (IsAnswerOf (IsOfText task.now of.entry)) }
+{
+    match work_on(alloc, task, of) {
+        Ok(out) => Ok(Answer::of(alloc, out)),
+        Err(fault) => Answer::fault(alloc, of, &fault),
     }
-    answer_of(alloc, of, work_on(alloc, task, of))
+}
+
+/// What is made of a program that is given as a text with marks or as an envelope, or is to be answered as an envelope.
+///
+/// With status 0 it is written; with another nothing is.
+pub fn answer_given(alloc: Global, task: &Giving, of: Named<'_>) -> Result<Answer, AllocError>
+    ensures { IfOk result (IsGivenAnswer task.now of.entry) }
+{
+    match task.form.source {
+        Source::Tree => answer_tree_given(alloc, task, of),
+        _ => answer_text_given(alloc, task, of),
+    }
 }

@@ -1,8 +1,8 @@
 //! What is said of two texts.
-ghost use Rattle.std.specs.Prelude.{◌≡◌, ◌⊎◌, IfOk, MatchResult};
-ghost use Rattle.mucwathi_report.specs.Status.{judge_status};
+ghost use Rattle.std.specs.Prelude.{◌≡◌, ◌⊎◌, codes, IfOk, MatchResult};
+ghost use Rattle.mucwathi_report.specs.Reports.{IsDifferenceReport};
 ghost use Rattle.mucwathi_commands.specs.Judged.{IsJudgeFault, IsJudged};
-ghost use Rattle.mucwathi_answers.specs.Answers.{IsVerdict, IsVerdictFault, TellsVerdict, rules_for, verdict_status};
+ghost use Rattle.mucwathi_answers.specs.Answers.{IsVerdict, IsVerdictFault, SaysFault, SaysVerdict, TellsVerdict, rules_for};
 
 use crate::answer::{Answer, DEPTH};
 use crate::goals::{goal_asked, goal_of_two, reach as reach_of};
@@ -145,7 +145,7 @@ fn differing(
     after: Named<'_>,
     difference: &TextDifference,
 ) -> Result<Answer, AllocError>
-    ensures { IfOk result (λ a. a.status ≡ 1) }
+    ensures { IfOk result (λ a. (a.status ≡ 1) × IsDifferenceReport before.entry after.entry difference.now a.out.items) }
 {
     let out = tell_difference(alloc, before, after, difference)?;
     Ok(Answer {
@@ -163,7 +163,7 @@ fn unjudged(
     after: Named<'_>,
     fault: &JudgeFault,
 ) -> Result<Answer, AllocError>
-    ensures { IfOk result (λ a. a.status ≡ judge_status fault.now) }
+    ensures { IfOk result (SaysFault before.entry after.entry fault.now) }
 {
     let told = tell_judge_fault(alloc, before, after, fault)?;
     Ok(Answer::told(alloc, told, status_of_judging(fault)))
@@ -171,7 +171,7 @@ fn unjudged(
 
 // That they are the same.
 fn same(alloc: Global) -> Result<Answer, AllocError>
-    ensures { IfOk result (λ a. a.status ≡ 0) }
+    ensures { IfOk result (λ a. (a.status ≡ 0) × (a.out.items ≡ codes "the same\n")) }
 {
     let out = Vec::from_slice(alloc, b"the same\n")?;
     Ok(Answer::of(alloc, out))
@@ -184,7 +184,7 @@ fn told(
     after: Named<'_>,
     said: Option<TextDifference>,
 ) -> Result<Answer, AllocError>
-    ensures { IfOk result (λ a. a.status ≡ verdict_status said) }
+    ensures { IfOk result (SaysVerdict before.entry after.entry said) }
 {
     match said {
         None => same(alloc),
@@ -199,7 +199,7 @@ pub fn answer_judging(
     before: Named<'_>,
     after: Named<'_>,
 ) -> Result<Answer, AllocError>
-    ensures { IfOk result (λ a. TellsVerdict task.now before.entry after.entry a.status) }
+    ensures { IfOk result (TellsVerdict task.now before.entry after.entry) }
 {
     match judge(alloc, task, before, after) {
         Ok(said) => told(alloc, before, after, said),

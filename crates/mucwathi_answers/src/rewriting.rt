@@ -4,7 +4,8 @@ ghost use Rattle.text_parser.specs.declared.programs.Goal.TheVariants as kinds;
 ghost use Rattle.mucwathi_commands.specs.Faults.{IsRunFault};
 ghost use Rattle.mucwathi_commands.specs.Comments.{IsRewrittenWith};
 ghost use Rattle.mucwathi_lists.specs.Listed.{changes_listed, lost_listed};
-ghost use Rattle.mucwathi_answers.specs.Answers.{HasList, HasMap, IsAnswered, IsAsked, IsMemoryFault, IsTold, IsWell, IsWorked, IsWrittenOut, goal_asked as is_asked, keeps_top, memory_for as memory_of, order_for as order_of};
+ghost use Rattle.mucwathi_report.specs.Reports.{IsCoverReport};
+ghost use Rattle.mucwathi_answers.specs.Answers.{HasExplanation, HasList, HasMap, IsAnswered, IsAsked, IsMemoryFault, IsTold, IsWell, IsWorked, IsWrittenOut, goal_asked as is_asked, keeps_top, memory_for as memory_of, order_for as order_of};
 
 use crate::answer::{Answer, DEPTH};
 use crate::goals::{further, goal_asked, may_be_module};
@@ -20,8 +21,8 @@ use mucwathi_report::{Named, tell_cover};
 use std::alloc::{AllocError, Global};
 use swc_tree_marks::PassError;
 
-// Whether names of the program's own scope stay: of a script, where nothing else was asked for.
-fn does_keep_top(asked: Option<bool>, goal: Goal) -> bool
+/// Whether names of the program's own scope stay: of a script, where nothing else was asked for.
+pub(crate) fn does_keep_top(asked: Option<bool>, goal: Goal) -> bool
     ensures { result ≡ keeps_top asked goal }
 {
     match asked {
@@ -78,7 +79,7 @@ fn list(alloc: Global, order: &Order, prefix: &str, text: &[u8]) -> Result<Answe
 
 // Whether the promise covers a text, as told.
 fn explain(alloc: Global, order: &Order, of: Named<'_>) -> Result<Answer, RunFault>
-    ensures { MatchResult result IsWell (IsRunFault order.now of.entry.text.now) }
+    ensures { MatchResult result (λ a. IsWell a × HasExplanation order.now of.entry a.out.items) (IsRunFault order.now of.entry.text.now) }
 {
     match cover_text(alloc, order.goal, order.depth, &order.settings, of.text) {
         Ok(gap) => explain_gap(alloc, of, gap),
@@ -87,7 +88,7 @@ fn explain(alloc: Global, order: &Order, of: Named<'_>) -> Result<Answer, RunFau
 }
 
 fn explain_gap(alloc: Global, of: Named<'_>, gap: Option<CoverGap>) -> Result<Answer, RunFault>
-    ensures { MatchResult result IsWell IsMemoryFault }
+    ensures { MatchResult result (λ a. IsWell a × IsCoverReport of.entry.name.now of.entry.text.now gap a.out.items) IsMemoryFault }
 {
     match tell_cover(alloc, of, gap) {
         Ok(out) => Ok(Answer::of(alloc, out)),
@@ -243,7 +244,7 @@ fn answer(
 
 /// What is made of a text, or told of it; each line of a list begins with the prefix.
 ///
-/// With status 0, and where nothing is told in its place, what is written is what was asked for (`IsRewrittenWith` of `mucwathi_commands`). With
+/// With status 0 what is written is what was asked for (`IsRewrittenWith` of `mucwathi_commands`), or what is told in its place. With
 /// another nothing is written, and the status is that of a fault, which tells of the text.
 pub fn answer_rewriting(
     alloc: Global,

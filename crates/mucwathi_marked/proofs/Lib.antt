@@ -1,3 +1,5 @@
 pub mod Named
 pub mod Others
+pub mod Ready
 pub mod Rows
+pub mod Writing

@@ -2,7 +2,9 @@
 ghost use Rattle.std.specs.Prelude.{◌≡◌, Contains, IfOk, IsTrue};
 ghost use Rattle.std.specs.List.{All};
 ghost use Rattle.mucwathi_signs.specs.Signed.{IsMarked};
-ghost use Rattle.mucwathi_marked.specs.Given.{HasMarks, IsGiven, Rise, ends, marks_of, signed};
+ghost use Rattle.mucwathi_passes.specs.Passes.{own_table};
+ghost use Rattle.mucwathi_commands.specs.Written.{IsReadAs};
+ghost use Rattle.mucwathi_marked.specs.Given.{HasMarks, IsGiven, IsOwn, IsUnmarked, Rise, ends, marks_of, signed};
 
 use crate::behind::{are_behind, ends_of, rise};
 use crate::contexts::put_marks;
@@ -27,6 +29,7 @@ pub struct Marked {
 fn envelope_of(globals: Globals, tree: Node) -> Envelope
     ensures tree { result.tree ≡ tree }
     ensures globals { result.globals ≡ globals }
+    ensures own { IsOwn result }
 {
     Envelope {
         globals,
@@ -39,7 +42,9 @@ fn envelope_of(globals: Globals, tree: Node) -> Envelope
     }
 }
 
-fn read(alloc: Global, goal: Goal, depth: u32, text: &[u8]) -> Result<Node, RunFault> {
+fn read(alloc: Global, goal: Goal, depth: u32, text: &[u8]) -> Result<Node, RunFault>
+    ensures { IfOk result (λ tree. IsReadAs goal tree text.now) }
+{
     match read_text(alloc, goal, depth, text) {
         Ok(tree) => Ok(tree),
         Err(fault) => Err(RunFault::of_text(fault)),
@@ -51,13 +56,17 @@ fn read(alloc: Global, goal: Goal, depth: u32, text: &[u8]) -> Result<Node, RunF
 /// # Errors
 ///
 /// `Text` where the text is not read; `Refused` where memory is.
-pub fn give_text(alloc: Global, goal: Goal, depth: u32, text: &[u8]) -> Result<Envelope, RunFault> {
+pub fn give_text(alloc: Global, goal: Goal, depth: u32, text: &[u8]) -> Result<Envelope, RunFault>
+    ensures { IfOk result (IsUnmarked goal text.now) }
+{
     let tree = read(alloc, goal, depth, text)?;
     let globals = own_globals(alloc)?;
     Ok(envelope_of(globals, tree))
 }
 
-fn own_globals(alloc: Global) -> Result<Globals, AllocError> {
+fn own_globals(alloc: Global) -> Result<Globals, AllocError>
+    ensures { IfOk result (λ globals. globals ≡ own_table) }
+{
     match own_marks(alloc) {
         Ok(globals) => Ok(globals),
         Err(NoMemory) => Err(AllocError),
@@ -106,6 +115,7 @@ fn signs_in(alloc: Global, goal: Goal, depth: u32, text: &[u8]) -> Result<Vec<Fo
 fn program_of(alloc: Global, signs: &[Sign], tree: Node) -> Result<Envelope, AllocError>
     ensures tree { Rise signs.now → IfOk result (λ made. made.tree ≡ signed signs.now tree) }
     ensures marks { IfOk result (λ made. HasMarks (marks_of signs.now) made.globals) }
+    ensures own { IfOk result IsOwn }
 {
     let globals = table_of(alloc, signs)?;
     let tree = with_marks(signs, tree)?;
@@ -130,6 +140,7 @@ fn signed_program(alloc: Global, signs: &[Sign], tree: Node) -> Result<Envelope,
     ensures behind { IfOk result (λ made. All (λ s. Contains (ends tree) s.at) signs.now) }
     ensures tree { IfOk result (λ made. made.tree ≡ signed signs.now tree) }
     ensures marks { IfOk result (λ made. HasMarks (marks_of signs.now) made.globals) }
+    ensures own { IfOk result IsOwn }
 {
     match are_signs(alloc, &tree, signs) {
         Ok(true) => match program_of(alloc, signs, tree) {

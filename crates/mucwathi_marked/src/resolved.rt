@@ -1,5 +1,9 @@
 //! Texts some of whose names have marks, resolved.
-use crate::given::{Marked, give_marked};
+ghost use Rattle.std.specs.Prelude.{IfOk};
+ghost use Rattle.mucwathi_given.specs.Given.{IsReady};
+ghost use Rattle.mucwathi_marked.specs.Answered.{HasSignsOf, IsResolvedMarked};
+
+use crate::given::give_marked;
 use mucwathi_faults::RunFault;
 use mucwathi_given::{Envelope, make_given};
 use mucwathi_looks::signs_at;
@@ -9,7 +13,10 @@ use std::alloc::Global;
 use swc_tree_marks::PassError;
 use swc_tree_walk::sites;
 
-fn resolve(alloc: Global, text: &[u8], program: Envelope) -> Result<Vec<u8>, PassError> {
+fn resolve(alloc: Global, text: &[u8], program: Envelope) -> Result<Vec<u8>, PassError>
+    requires { IsReady program }
+    ensures { IfOk result (λ out. HasSignsOf program text.now out.items) }
+{
     let made = make_given(alloc, None, program)?;
     let names = sites(alloc, &made.tree)?;
     let signs = signs_at(alloc, names.as_slice(), names.as_slice())?;
@@ -28,9 +35,12 @@ pub fn resolve_marked(
     goal: Goal,
     depth: u32,
     text: &[u8],
-) -> Result<Vec<u8>, RunFault> {
-    let Marked { text, program } = give_marked(alloc, goal, depth, text)?;
-    match resolve(alloc, text.as_slice(), program) {
+) -> Result<Vec<u8>, RunFault>
+    ensures { IfOk result (λ out. IsResolvedMarked goal text.now out.items) }
+{
+    let marked = give_marked(alloc, goal, depth, text)?;
+    let program = marked.program;
+    match resolve(alloc, marked.text.as_slice(), program) {
         Ok(out) => Ok(out),
         Err(error) => Err(RunFault::Refused(error)),
     }

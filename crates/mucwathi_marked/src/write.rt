@@ -1,5 +1,10 @@
 //! Programs written as texts, with the marks of their names.
-use crate::given::{Marked, give_marked};
+ghost use Rattle.std.specs.Prelude.{◌≡◌, Some, IfOk, map};
+ghost use Rattle.swc_tree_walk.specs.Sites.{site_of};
+ghost use Rattle.mucwathi_given.specs.Given.{IsMade, IsReady};
+ghost use Rattle.mucwathi_marked.specs.Answered.{AreWrittenBehind, IsEditedFor, IsMarkedFor, IsPrinted, IsRemade, IsRewrittenMarked, IsWrittenFor, with_settings as settings_in};
+
+use crate::given::give_marked;
 use mucwathi_commands::{edit, print};
 use mucwathi_faults::RunFault;
 use mucwathi_given::{Envelope, make_given};
@@ -9,9 +14,27 @@ use mucwathi_signs::put_signs;
 use std::alloc::Global;
 use swc_tree_marks::PassError;
 use swc_tree_node::Node;
-use swc_tree_walk::sites;
+use swc_tree_walk::{Site, sites};
 use text_printer::Layout;
 use text_source::{TextFault, read_text};
+
+// The marks of names, written behind those of the program that a text is read as.
+fn mark_behind(
+    alloc: Global,
+    plain: &[u8],
+    names: &[Site<'_>],
+    again: &Node,
+) -> Result<Vec<u8>, RunFault>
+    ensures { IfOk result (λ out. AreWrittenBehind (map site_of names.now) again.now plain.now out.items) }
+{
+    let places = sites(alloc, again)?;
+    if places.len() != names.len() {
+        return Err(RunFault::NotWritten);
+    }
+    let signs = signs_at(alloc, names, places.as_slice())?;
+    let out = put_signs(alloc, plain, signs.as_slice())?;
+    Ok(out)
+}
 
 // A text that was written for a tree, with the marks of the tree's names: the text is read again, to see where they stand.
 fn with_marks(
@@ -19,24 +42,20 @@ fn with_marks(
     goal: Goal,
     depth: u32,
     tree: &Node,
-    out: Vec<u8>,
-) -> Result<Vec<u8>, RunFault> {
-    let names = sites(alloc, tree)?;
-    if !any_is_marked(names.as_slice()) {
-        return Ok(out);
+    plain: Vec<u8>,
+) -> Result<Vec<u8>, RunFault>
+    ensures { IfOk result (λ out. IsMarkedFor goal tree.now plain.items out.items) }
+{
+    let found = sites(alloc, tree)?;
+    let names = found.as_slice();
+    if !any_is_marked(names) {
+        return Ok(plain);
     }
-    let again = match read_text(alloc, goal, depth, out.as_slice()) {
-        Ok(again) => again,
-        Err(TextFault::NoMemory) => return Err(RunFault::Refused(PassError::NoMemory)),
-        Err(_) => return Err(RunFault::NotWritten),
-    };
-    let places = sites(alloc, &again)?;
-    if places.len() != names.len() {
-        return Err(RunFault::NotWritten);
+    match read_text(alloc, goal, depth, plain.as_slice()) {
+        Ok(again) => mark_behind(alloc, plain.as_slice(), names, &again),
+        Err(TextFault::NoMemory) => Err(RunFault::Refused(PassError::NoMemory)),
+        Err(_) => Err(RunFault::NotWritten),
     }
-    let signs = signs_at(alloc, names.as_slice(), places.as_slice())?;
-    let signed = put_signs(alloc, out.as_slice(), signs.as_slice())?;
-    Ok(signed)
 }
 
 /// A program written anew, with marks behind those of its names that have some.
@@ -50,19 +69,56 @@ pub fn print_given(
     depth: u32,
     layout: Layout,
     tree: &Node,
-) -> Result<Vec<u8>, RunFault> {
-    let out = print(alloc, goal, layout, tree)?;
-    with_marks(alloc, goal, depth, tree, out)
+) -> Result<Vec<u8>, RunFault>
+    ensures { IfOk result (λ out. IsPrinted goal tree.now out.items) }
+{
+    let plain = print(alloc, goal, layout, tree)?;
+    with_marks(alloc, goal, depth, tree, plain)
 }
 
-fn make(alloc: Global, order: &Order, program: Envelope) -> Result<Envelope, RunFault> {
+// An answer written with the layout of the text of its source.
+fn edit_given(
+    alloc: Global,
+    order: &Order,
+    text: &[u8],
+    source: &Node,
+    answer: &Node,
+) -> Result<Vec<u8>, RunFault>
+    ensures { IfOk result (λ out. IsEditedFor order.now.goal source.now answer.now text.now out.items) }
+{
+    let plain = edit(alloc, order.goal, text, source, answer)?;
+    with_marks(alloc, order.goal, order.depth, answer, plain)
+}
+
+// An answer written as it was ordered.
+fn write(
+    alloc: Global,
+    order: &Order,
+    text: &[u8],
+    source: &Node,
+    answer: &Node,
+) -> Result<Vec<u8>, RunFault>
+    ensures { IfOk result (λ out. IsWrittenFor order.now source.now answer.now text.now out.items) }
+{
+    match order.style.layout() {
+        Some(layout) => print_given(alloc, order.goal, order.depth, layout, answer),
+        None => edit_given(alloc, order, text, source, answer),
+    }
+}
+
+fn make(alloc: Global, order: &Order, program: Envelope) -> Result<Envelope, RunFault>
+    requires { IsReady program }
+    ensures { IfOk result (IsMade (Some order.now.command) program) }
+{
     match make_given(alloc, Some(order.command), program) {
         Ok(made) => Ok(made),
         Err(error) => Err(RunFault::Refused(error)),
     }
 }
 
-fn copy(tree: &Node) -> Result<Node, RunFault> {
+fn copy(tree: &Node) -> Result<Node, RunFault>
+    ensures { IfOk result (λ copy. copy ≡ tree.now) }
+{
     match tree.clone() {
         Ok(copy) => Ok(copy),
         Err(_) => Err(RunFault::Refused(PassError::NoMemory)),
@@ -70,7 +126,9 @@ fn copy(tree: &Node) -> Result<Node, RunFault> {
 }
 
 // What the passes go by.
-fn with_settings(program: Envelope, settings: &Settings) -> Envelope {
+fn with_settings(program: Envelope, settings: &Settings) -> Envelope
+    ensures { result ≡ settings_in settings.now program }
+{
     Envelope {
         keep_class_names: settings.keep_class_names,
         ignore_eval: settings.ignore_eval,
@@ -79,20 +137,31 @@ fn with_settings(program: Envelope, settings: &Settings) -> Envelope {
     }
 }
 
+// What a command makes of a program with the marks of its names, written.
+fn rewrite(
+    alloc: Global,
+    order: &Order,
+    text: &[u8],
+    program: Envelope,
+) -> Result<Vec<u8>, RunFault>
+    requires { IsReady program }
+    ensures { IfOk result (λ out. IsRemade order.now program text.now out.items) }
+{
+    let source = copy(&program.tree)?;
+    let given = with_settings(program, &order.settings);
+    let made = make(alloc, order, given)?;
+    write(alloc, order, text, &source, &made.tree)
+}
+
 /// What a command makes of a text with marks behind its names. Marks of the answer are written, too: those that `Fix` and `Unparen` leave.
 ///
 /// # Errors
 ///
 /// Those of `rewrite_text`.
-pub fn rewrite_marked(alloc: Global, order: &Order, text: &[u8]) -> Result<Vec<u8>, RunFault> {
-    let Marked { text, program } = give_marked(alloc, order.goal, order.depth, text)?;
-    let source = copy(&program.tree)?;
-    let made = make(alloc, order, with_settings(program, &order.settings))?;
-    match order.style.layout() {
-        Some(layout) => print_given(alloc, order.goal, order.depth, layout, &made.tree),
-        None => {
-            let out = edit(alloc, order.goal, text.as_slice(), &source, &made.tree)?;
-            with_marks(alloc, order.goal, order.depth, &made.tree, out)
-        }
-    }
+pub fn rewrite_marked(alloc: Global, order: &Order, text: &[u8]) -> Result<Vec<u8>, RunFault>
+    ensures { IfOk result (λ out. IsRewrittenMarked order.now text.now out.items) }
+{
+    let marked = give_marked(alloc, order.goal, order.depth, text)?;
+    let program = marked.program;
+    rewrite(alloc, order, marked.text.as_slice(), program)
 }

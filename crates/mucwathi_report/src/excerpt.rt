@@ -1,4 +1,7 @@
 //! The line of a place, and a caret under it.
+ghost use Rattle.std.specs.Prelude.{OnOk};
+ghost use Rattle.mucwathi_report.specs.Reports.{Grows};
+
 use std::alloc::AllocError;
 
 fn byte_at(text: &[u8], index: usize) -> u8 {
@@ -64,20 +67,34 @@ fn shown_to(text: &[u8], at: usize) -> usize {
     to
 }
 
+// Adds a blank for what begins a character, and a tab for a tab.
+fn add_blank(byte: u8, out: &mut Vec<u8>) -> Result<(), AllocError>
+    ensures { OnOk result (Grows out.old.items out.new.items) }
+{
+    if byte == b'\t' {
+        out.push(b'\t')?;
+        return Ok(());
+    }
+    if begins_character(byte) {
+        out.push(b' ')?;
+    }
+    Ok(())
+}
+
 // A blank for each character, so that what follows stands under the next.
-fn indent(part: &[u8], out: &mut Vec<u8>) -> Result<(), AllocError> {
+fn indent(part: &[u8], out: &mut Vec<u8>) -> Result<(), AllocError>
+    ensures { OnOk result (Grows out.old.items out.new.items) }
+{
     for byte in part {
-        if *byte == b'\t' {
-            out.push(b'\t')?;
-        } else if begins_character(*byte) {
-            out.push(b' ')?;
-        }
+        add_blank(*byte, out)?;
     }
     Ok(())
 }
 
 /// Adds the line of a place in a text, as far as it is short, and one with a caret under the place.
-pub(crate) fn add_excerpt(text: &[u8], at: usize, out: &mut Vec<u8>) -> Result<(), AllocError> {
+pub(crate) fn add_excerpt(text: &[u8], at: usize, out: &mut Vec<u8>) -> Result<(), AllocError>
+    ensures { OnOk result (Grows out.old.items out.new.items) }
+{
     let at = at.min(text.len());
     let from = shown_from(text, at);
     let to = shown_to(text, at);

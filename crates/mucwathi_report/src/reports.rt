@@ -1,4 +1,8 @@
 //! Reports, as compilers give them: `file:line:column: what it is`, the line, and a caret.
+ghost use Rattle.std.specs.Prelude.{◌≡◌, ◌++◌, [], ◌∷◌, codes, Some, IfOk, OnOk, map, string_bytes};
+ghost use Rattle.mucwathi_report.specs.Reports.{Grows, IsCoverReport, IsDifferenceReport, IsFaultReport, IsJudgeFaultReport, IsReport, line_of, place_text, refusal_text};
+ghost use Rattle.mucwathi_faults.specs.declared.fault.RunFault.TheVariants as running;
+
 use crate::excerpt::add_excerpt;
 use crate::sentences::{cause_sentence, refusal_sentence, why_sentence};
 use mucwathi_commands::{CoverGap, JudgeFault, RunFault, TextDifference};
@@ -13,7 +17,9 @@ pub struct Named<'a> {
     pub text: &'a [u8],
 }
 
-fn add_line(out: &mut Vec<u8>, parts: &[&str]) -> Result<(), AllocError> {
+fn add_line(out: &mut Vec<u8>, parts: &[&str]) -> Result<(), AllocError>
+    ensures { OnOk result (out.new.items ≡ out.old.items ++ line_of (map (λ p. p.now) parts.now)) }
+{
     for part in parts {
         out.extend_from_slice(part.as_bytes())?;
     }
@@ -21,46 +27,82 @@ fn add_line(out: &mut Vec<u8>, parts: &[&str]) -> Result<(), AllocError> {
     Ok(())
 }
 
-fn tell_line(alloc: Global, parts: &[&str]) -> Result<Vec<u8>, AllocError> {
+fn tell_line(alloc: Global, parts: &[&str]) -> Result<Vec<u8>, AllocError>
+    ensures { IfOk result (λ out. out.items ≡ line_of (map (λ p. p.now) parts.now)) }
+{
     let mut out = Vec::new(alloc);
     add_line(&mut out, parts)?;
     Ok(out)
 }
 
-// Adds what is said of a place, and shows it.
-fn add_report(
-    alloc: Global,
-    of: Named<'_>,
-    at: usize,
-    sentence: &str,
-    out: &mut Vec<u8>,
-) -> Result<(), AllocError> {
-    let place = line_and_column(of.text, at);
-    let numbers = format!(in alloc; ":{}:{}: ", place.line, place.column)?;
-    add_line(out, &[of.name, numbers.as_str(), sentence])?;
-    add_excerpt(of.text, at, out)
+// A place as it is written: `:2:7: `, or just `: `.
+fn place_of(alloc: Global, text: &[u8], at: Option<usize>) -> Result<String, AllocError>
+    ensures { IfOk result (λ place. string_bytes place ≡ place_text text.now at) }
+{
+    match at {
+        Some(at) => place_at(alloc, text, at),
+        None => String::from_str(alloc, ": "),
+    }
 }
 
-fn tell_text_fault(alloc: Global, of: Named<'_>, fault: &TextFault) -> Result<Vec<u8>, AllocError> {
-    let mut out = Vec::new(alloc);
-    let sentence = fault.to_string(alloc)?;
-    match fault.at() {
-        Some(at) => add_report(alloc, of, at, sentence.as_str(), &mut out)?,
-        None => add_line(&mut out, &[of.name, ": ", sentence.as_str()])?,
+fn place_at(alloc: Global, text: &[u8], at: usize) -> Result<String, AllocError>
+    ensures { IfOk result (λ place. string_bytes place ≡ place_text text.now (Some at)) }
+{
+    let place = line_and_column(text, at);
+    let (line, column) = (place.line, place.column);
+    let numbers = format!(in alloc; ":{line}:{column}: ")?;
+    Ok(numbers)
+}
+
+// Shows a place, if there is one.
+fn show(text: &[u8], at: Option<usize>, out: &mut Vec<u8>) -> Result<(), AllocError>
+    ensures { OnOk result (Grows out.old.items out.new.items) }
+{
+    match at {
+        Some(at) => add_excerpt(text, at, out),
+        None => Ok(()),
     }
+}
+
+// What is said of a place, which is shown, or of no place.
+fn report(
+    alloc: Global,
+    of: Named<'_>,
+    at: Option<usize>,
+    sentence: &str,
+) -> Result<Vec<u8>, AllocError>
+    ensures { IfOk result (λ out. IsReport of.entry.name.now of.entry.text.now at sentence.now out.items) }
+{
+    let place = place_of(alloc, of.text, at)?;
+    let mut out = tell_line(alloc, &[of.name, place.as_str(), sentence])?;
+    show(of.text, at, &mut out)?;
     Ok(out)
 }
 
-fn tell_refused(alloc: Global, name: &str, sentence: &str) -> Result<Vec<u8>, AllocError> {
+fn tell_text_fault(alloc: Global, of: Named<'_>, fault: &TextFault) -> Result<Vec<u8>, AllocError>
+    ensures { IfOk result (λ out. IsFaultReport of.entry.name.now of.entry.text.now (running.Text fault.now) out.items) }
+{
+    let at = fault.at();
+    let sentence = fault.to_string(alloc)?;
+    report(alloc, of, at, sentence.as_str())
+}
+
+fn tell_refused(alloc: Global, name: &str, sentence: &str) -> Result<Vec<u8>, AllocError>
+    ensures { IfOk result (λ out. out.items ≡ line_of (name.now ∷ codes ": refused: " ∷ sentence.now ∷ [])) }
+{
     tell_line(alloc, &[name, ": refused: ", sentence])
 }
 
-fn tell_refusal(alloc: Global, name: &str, error: PassError) -> Result<Vec<u8>, AllocError> {
+fn tell_refusal(alloc: Global, name: &str, error: PassError) -> Result<Vec<u8>, AllocError>
+    ensures { IfOk result (λ out. out.items ≡ line_of (name.now ∷ codes ": refused: " ∷ refusal_text error ∷ [])) }
+{
     tell_refused(alloc, name, refusal_sentence(error))
 }
 
 /// Why nothing was made of a text.
-pub fn tell_fault(alloc: Global, of: Named<'_>, fault: &RunFault) -> Result<Vec<u8>, AllocError> {
+pub fn tell_fault(alloc: Global, of: Named<'_>, fault: &RunFault) -> Result<Vec<u8>, AllocError>
+    ensures { IfOk result (λ out. IsFaultReport of.entry.name.now of.entry.text.now fault.now out.items) }
+{
     match fault {
         RunFault::Text(fault) => tell_text_fault(alloc, of, fault),
         RunFault::Refused(error) => tell_refusal(alloc, of.name, *error),
@@ -92,7 +134,9 @@ pub fn tell_judge_fault(
     before: Named<'_>,
     after: Named<'_>,
     fault: &JudgeFault,
-) -> Result<Vec<u8>, AllocError> {
+) -> Result<Vec<u8>, AllocError>
+    ensures { IfOk result (λ out. IsJudgeFaultReport before.entry after.entry fault.now out.items) }
+{
     match fault {
         JudgeFault::Before(fault) => tell_text_fault(alloc, before, fault),
         JudgeFault::After(fault) => tell_text_fault(alloc, after, fault),
@@ -106,27 +150,23 @@ pub fn tell_difference(
     before: Named<'_>,
     after: Named<'_>,
     difference: &TextDifference,
-) -> Result<Vec<u8>, AllocError> {
-    let mut out = Vec::new(alloc);
+) -> Result<Vec<u8>, AllocError>
+    ensures { IfOk result (λ out. IsDifferenceReport before.entry after.entry difference.now out.items) }
+{
     let sentence = why_sentence(difference.why);
-    add_report(alloc, after, difference.after, sentence, &mut out)?;
-    add_report(alloc, before, difference.before, "here before", &mut out)?;
+    let mut out = report(alloc, after, Some(difference.after), sentence)?;
+    let here = report(alloc, before, Some(difference.before), "here before")?;
+    out.extend_from_slice(here.as_slice())?;
     Ok(out)
 }
 
-// Adds what a text lacks, and where.
-fn add_gap(
-    alloc: Global,
-    of: Named<'_>,
-    gap: CoverGap,
-    out: &mut Vec<u8>,
-) -> Result<(), AllocError> {
+// What a text lacks, and where.
+fn tell_gap(alloc: Global, of: Named<'_>, gap: CoverGap) -> Result<Vec<u8>, AllocError>
+    ensures { IfOk result (λ out. IsCoverReport of.entry.name.now of.entry.text.now (Some gap) out.items) }
+{
     let cause = cause_sentence(gap.cause);
     let sentence = format!(in alloc; "the promise does not cover it: {cause}")?;
-    match gap.at {
-        Some(at) => add_report(alloc, of, at, sentence.as_str(), out),
-        None => add_line(out, &[of.name, ": ", sentence.as_str()]),
-    }
+    report(alloc, of, gap.at, sentence.as_str())
 }
 
 /// Whether what is promised of a chain is promised of a text, else what it lacks first, and where.
@@ -134,11 +174,11 @@ pub fn tell_cover(
     alloc: Global,
     of: Named<'_>,
     gap: Option<CoverGap>,
-) -> Result<Vec<u8>, AllocError> {
-    let mut out = Vec::new(alloc);
+) -> Result<Vec<u8>, AllocError>
+    ensures { IfOk result (λ out. IsCoverReport of.entry.name.now of.entry.text.now gap out.items) }
+{
     match gap {
-        Some(gap) => add_gap(alloc, of, gap, &mut out)?,
-        None => add_line(&mut out, &[of.name, ": the promise covers it"])?,
+        Some(gap) => tell_gap(alloc, of, gap),
+        None => tell_line(alloc, &[of.name, ": the promise covers it"]),
     }
-    Ok(out)
 }

@@ -1,5 +1,6 @@
 //! What is said of faults, gaps and differences.
 ghost use Rattle.std.specs.Prelude.{◌≡◌};
+ghost use Rattle.mucwathi_report.specs.Reports.{cause_text, refusal_text, why_text};
 ghost use Rattle.mucwathi_report.specs.Status.{judge_status, run_status, text_status};
 
 use mucwathi_commands::{Cause, JudgeFault, RunFault, Why};
@@ -37,7 +38,9 @@ pub fn status_of_judging(fault: &JudgeFault) -> u8
 }
 
 // Why a command is refused a program.
-pub(crate) fn refusal_sentence(error: PassError) -> &'static str {
+pub(crate) fn refusal_sentence(error: PassError) -> &'static str
+    ensures { result.now ≡ refusal_text error }
+{
     match error {
         PassError::NoMemory => "no memory",
         PassError::MarksSpent => "no mark is left for a scope",
@@ -48,7 +51,9 @@ pub(crate) fn refusal_sentence(error: PassError) -> &'static str {
 }
 
 // What the word says of two programs.
-pub(crate) fn why_sentence(why: Why) -> &'static str {
+pub(crate) fn why_sentence(why: Why) -> &'static str
+    ensures { result.now ≡ why_text why }
+{
     match why {
         Why::Shape => "shape: they differ by more than names",
         Why::Name => "name: a label, an imported or an exported name has another text",
@@ -62,7 +67,9 @@ pub(crate) fn why_sentence(why: Why) -> &'static str {
 }
 
 // What keeps a program from what is promised.
-pub(crate) fn cause_sentence(cause: Cause) -> &'static str {
+pub(crate) fn cause_sentence(cause: Cause) -> &'static str
+    ensures { result.now ≡ cause_text cause }
+{
     match cause {
         Cause::Types => "types stand in it",
         Cause::Context => "a name has a mark",

@@ -1,0 +1,12 @@
+use Rattle.std.proofs.Common.{IfOk, Some, subst, sym}
+use Rattle.mucwathi_marked.specs.Answered.{IsRewrittenMarked}
+use Rattle.mucwathi_answers.specs.Given.{IsRemarked}
+use Rattle.mucwathi_answers.proofs.giving.text_of.Goals as goal
+
+pub returns-in-None : goal.returns-in-None
+returns-in-None c = subst (λ k. IfOk c.resolve_marked.result (λ out. IsRemarked k c.args.task.now c.args.goal c.args.text.now out.items)) (sym c.in-None.is) c.resolve_marked.ensures
+
+pub returns-in-Some : goal.returns-in-Some
+returns-in-Some c =
+    subst (λ k. IfOk c.rewrite_marked.result (λ out. IsRemarked k c.args.task.now c.args.goal c.args.text.now out.items)) (sym c.in-Some.is)
+    (subst (λ order. IfOk c.rewrite_marked.result (λ out. IsRewrittenMarked order c.args.text.now out.items)) c.order_for-order.ensures c.rewrite_marked.ensures)

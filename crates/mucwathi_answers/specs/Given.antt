@@ -1,0 +1,98 @@
+-- What is answered to a task over programs that are not given, or not answered, as texts.
+use Rattle.std.specs.Option.{option_or}
+use Rattle.std.specs.Prelude.{◌≡◌, ◌||◌, ℕ, Bool, false, true, List, [], Option, Some, None}
+use Rattle.swc_tree_node.specs.declared.node.Node.{Node, out-Node}
+use Rattle.swc_tree_node.specs.declared.node.Node.TheOpen.{Node-F}
+use Rattle.swc_tree_node.specs.declared.kind.Kind.TheVariants as kind
+use Rattle.jsbase_reader.specs.declared.envelope.Envelope.{Envelope}
+use Rattle.jsbase_writer.specs.Envelopes.{envelope_text}
+use Rattle.text_parser.specs.declared.programs.Goal.{Goal}
+use Rattle.text_parser.specs.declared.programs.Goal.TheVariants as goal
+use Rattle.mucwathi_settings.specs.declared.command.Command.{Command}
+use Rattle.mucwathi_order.specs.declared.order.Memory.TheVariants as memory
+use Rattle.mucwathi_order.specs.declared.order.Order.{Order}
+use Rattle.mucwathi_arguments.specs.declared.task.Giving.{Giving}
+use Rattle.mucwathi_arguments.specs.declared.task.Source.{Source}
+use Rattle.mucwathi_arguments.specs.declared.task.Source.TheVariants as source
+use Rattle.mucwathi_given.specs.Given.{IsMade, IsRead}
+use Rattle.mucwathi_marked.specs.declared.given.Marked.{Marked}
+use Rattle.mucwathi_marked.specs.Answered.{IsPrinted, IsResolvedMarked, IsRewrittenMarked}
+use Rattle.mucwathi_marked.specs.Given.{IsGiven, IsUnmarked}
+use Rattle.mucwathi_report.specs.declared.reports.Named.{Named}
+use Rattle.mucwathi_answers.specs.Answers.{IsAsked, IsWell, keeps_top, settings_for}
+use Rattle.mucwathi_answers.specs.declared.answer.Answer.{Answer}
+
+-- the passes go by what was asked, and else by what the envelope says
+abbrev pub with_settings : Giving → Envelope → Envelope
+with_settings task e = record { globals = e.globals; unresolved = e.unresolved; top = e.top; keep_class_names = task.settings.keep_class_names || e.keep_class_names; ignore_eval = task.settings.ignore_eval || e.ignore_eval; keep_top = option_or task.keep_top e.keep_top; tree = e.tree }
+
+abbrev pub IsMadeBy : Giving → Envelope → Envelope → Type 0
+IsMadeBy task program made = IsMade task.command (with_settings task program) made
+
+-- what is made of a program is written as an envelope
+pub record IsEnvelopeOf (task : Giving) (program : Envelope) (out : List ℕ) : Type 0 where
+  pub made : Envelope
+  pub is_made : IsMadeBy task program made
+  pub written : out ≡ envelope_text made.globals made.top made.tree made.unresolved
+
+-- ... or anew as a text, with the marks of its names
+abbrev pub goal_in : Node-F Node → Goal
+goal_in (Node-F.Tree kind.Module ts) = goal.Module
+goal_in _ = goal.Script
+
+abbrev pub goal_of : Node → Goal
+goal_of t = goal_in (out-Node t)
+
+pub record IsTextOfMade (task : Giving) (program : Envelope) (out : List ℕ) : Type 0 where
+  pub made : Envelope
+  pub is_made : IsMadeBy task program made
+  pub printed : IsPrinted (goal_of made.tree) made.tree out
+
+abbrev pub IsWrittenAs : Bool → Giving → Envelope → List ℕ → Type 0
+IsWrittenAs true task program out = IsEnvelopeOf task program out
+IsWrittenAs false task program out = IsTextOfMade task program out
+
+-- the program is that of a text, with the marks that stand behind its names, or without any
+abbrev pub IsProgramOf : Source → Goal → List ℕ → Envelope → Type 0
+IsProgramOf source.Marked g text e = (m : Marked) × IsGiven g text m × (e ≡ m.program)
+IsProgramOf _ g text e = IsUnmarked g text e
+
+pub record HasEnvelopeOf (task : Giving) (g : Goal) (text out : List ℕ) : Type 0 where
+  pub program : Envelope
+  pub given : IsProgramOf task.form.source g text program
+  pub made : IsEnvelopeOf task program out
+
+-- what a task asks of a text with marks; as many productions may be open at once
+abbrev pub order_given : Giving → Command → Goal → Order
+order_given task command g = record { command = command; goal = g; depth = 4000; settings = settings_for task.settings (keeps_top task.keep_top g); style = task.style; memory = memory.GivenBack }
+
+abbrev pub IsRemarked : Option Command → Giving → Goal → List ℕ → List ℕ → Type 0
+IsRemarked None task g text out = IsResolvedMarked g text out
+IsRemarked (Some command) task g text out = IsRewrittenMarked (order_given task command g) text out
+
+-- a text is answered as an envelope, or as a text with marks
+abbrev pub IsAnsweredAs : Bool → Giving → Goal → List ℕ → List ℕ → Type 0
+IsAnsweredAs true task g text out = HasEnvelopeOf task g text out
+IsAnsweredAs false task g text out = IsRemarked task.command task g text out
+
+-- ... as what it is read
+abbrev pub IsOfText : Giving → Named → List ℕ → Type 0
+IsOfText task of out = (g : Goal) × IsAsked task.goal of g × IsAnsweredAs task.form.json task g of.text.now out
+
+-- an envelope was read, and this is made of its program
+pub record IsOfTree (task : Giving) (of : Named) (out : List ℕ) : Type 0 where
+  pub program : Envelope
+  pub read : IsRead of.text.now program
+  pub made : IsWrittenAs task.form.json task program out
+
+abbrev pub IsOf : Source → Giving → Named → List ℕ → Type 0
+IsOf source.Tree task of out = IsOfTree task of out
+IsOf _ task of out = IsOfText task of out
+
+-- status 0 is only given where that is written which was asked for; with another nothing is written
+pub record IsAnswerOf (IsWritten : List ℕ → Type 0) (a : Answer) : Type 0 where
+  pub well : IsWell a → IsWritten a.out.items
+  pub nothing : ¬ IsWell a → a.out.items ≡ []
+
+abbrev pub IsGivenAnswer : Giving → Named → Answer → Type 0
+IsGivenAnswer task of a = IsAnswerOf (IsOf task.form.source task of) a

@@ -1,0 +1,12 @@
+use Rattle.std.proofs.Common.{subst}
+use Rattle.mucwathi_marked.specs.Answered.{HasSignsOf}
+use Rattle.mucwathi_marked.proofs.Ready.{given_ready}
+use Rattle.mucwathi_marked.proofs.resolved.resolve_marked.Goals as goal
+
+pub resolve-requires : goal.resolve-requires
+resolve-requires c = given_ready c.args.goal c.args.text.now c.in_ok-marked.marked c.in_ok-marked.ensures
+
+pub returns-in-Ok : goal.returns-in-Ok
+returns-in-Ok c =
+    let given = c.in_ok-marked.marked in
+    record { given = given; is_given = c.in_ok-marked.ensures; resolved = subst (λ l. HasSignsOf given.program l c.in-Ok.out.items) c.as_slice.ensures.value c.in-Ok.ensures }

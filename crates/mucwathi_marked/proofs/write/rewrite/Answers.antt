@@ -1,0 +1,16 @@
+use Rattle.std.proofs.Common.{subst, sym}
+use Rattle.std.proofs.lemmas.Result.{IfOk-weaker}
+use Rattle.swc_tree_node.specs.declared.node.Node.{Node}
+use Rattle.mucwathi_given.specs.Given.{IsMade, IsReady}
+use Rattle.mucwathi_marked.specs.Answered.{IsRemade, IsWrittenFor}
+use Rattle.mucwathi_marked.proofs.Ready.{settings_ready}
+use Rattle.mucwathi_marked.proofs.Writing.{remade}
+use Rattle.mucwathi_marked.proofs.write.rewrite.Goals as goal
+
+pub make-requires : goal.make-requires
+make-requires c = subst IsReady (sym c.with_settings-given.ensures) (settings_ready c.args.order.now.settings c.args.program c.requires)
+
+pub returns : goal.returns
+returns c =
+    IfOk-weaker c.write.result (λ out. IsWrittenFor c.args.order.now c.in_ok-source.source c.in_ok-made.made.tree c.args.text.now out.items) (λ out. IsRemade c.args.order.now c.args.program c.args.text.now out.items)
+    (λ out h. remade c.args.order.now c.args.program c.with_settings-given.result c.in_ok-made.made c.in_ok-source.source c.args.text.now out.items c.with_settings-given.ensures c.in_ok-made.ensures c.in_ok-source.ensures h) c.write.ensures

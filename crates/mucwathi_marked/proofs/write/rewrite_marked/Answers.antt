@@ -1,0 +1,15 @@
+use Rattle.std.proofs.Common.{subst}
+use Rattle.std.proofs.lemmas.Result.{IfOk-weaker}
+use Rattle.mucwathi_marked.specs.Answered.{IsRemade, IsRewrittenMarked}
+use Rattle.mucwathi_marked.proofs.Ready.{given_ready}
+use Rattle.mucwathi_marked.proofs.write.rewrite_marked.Goals as goal
+
+pub rewrite-requires : goal.rewrite-requires
+rewrite-requires c = given_ready c.args.order.now.goal c.args.text.now c.in_ok-marked.marked c.in_ok-marked.ensures
+
+pub returns : goal.returns
+returns c =
+    let order = c.args.order.now in
+    let given = c.in_ok-marked.marked in
+    IfOk-weaker c.rewrite.result (λ out. IsRemade order given.program c.as_slice.result.now out.items) (λ out. IsRewrittenMarked order c.args.text.now out.items)
+    (λ out h. record { given = given; is_given = c.in_ok-marked.ensures; remade = subst (λ l. IsRemade order given.program l out.items) c.as_slice.ensures.value h }) c.rewrite.ensures
