@@ -1,10 +1,9 @@
 //! What is answered to a row.
 use crate::row::Row;
 use mucwathi_answers::{
-    Answer, Named, answer_given, answer_judging, answer_names, answer_resolving, answer_rewriting,
-    answer_showing, answer_tree,
+    Answer, Named, answer_given, answer_judging, answer_looking, answer_rewriting,
 };
-use mucwathi_arguments::{Error, Task, read_words};
+use mucwathi_arguments::{Error, Misuse, Rewriting, Task, misuse_of, read_words};
 use std::alloc::{AllocError, Global};
 
 fn named<'a>(file: Option<&'a str>, text: &'a str) -> Named<'a> {
@@ -14,28 +13,40 @@ fn named<'a>(file: Option<&'a str>, text: &'a str) -> Named<'a> {
     }
 }
 
+// What can't be done, whatever a text is.
+fn of_misuse(alloc: Global, misuse: &Misuse<'_>) -> Result<Answer, AllocError> {
+    let told = format!(in alloc; "mucwathi: {misuse}\n")?;
+    Ok(Answer {
+        out: Vec::new(alloc),
+        map: Vec::new(alloc),
+        told: told.into_bytes(),
+        status: 2,
+    })
+}
+
+fn rewrite(alloc: Global, task: &Rewriting<'_>, text: &str) -> Result<Answer, AllocError> {
+    if let Some(misuse) = misuse_of(task) {
+        return of_misuse(alloc, &misuse);
+    }
+    let file = task.files.get(0).copied();
+    answer_rewriting(alloc, task, "", named(file, text))
+}
+
 fn answer_task(alloc: Global, task: &Task<'_>, row: &Row) -> Result<Answer, AllocError> {
     let text = row.text.as_str();
     let other = row.other.as_str();
     match task {
-        Task::Rewrite(task) => {
-            let file = task.files.get(0).copied();
-            if !task.form.is_plain() {
-                return answer_given(alloc, &task.giving(), named(file, text));
-            }
-            answer_rewriting(alloc, task, "", named(file, text))
-        }
+        Task::Rewrite(task) => rewrite(alloc, task, text),
         Task::Judge(task) => answer_judging(
             alloc,
             task,
             named(Some(task.before), text),
             named(Some(task.after), other),
         ),
-        Task::Names(task) => answer_names(alloc, task.goal, named(task.file, text)),
-        Task::Resolve(task) => answer_resolving(alloc, task.goal, named(task.file, text)),
-        Task::Tree(task) => answer_tree(alloc, task.goal, named(task.file, text)),
+        Task::Look(view, task) => {
+            answer_looking(alloc, *view, task.goal, named(task.file, text))
+        }
         Task::ResolveGiven(task, giving) => answer_given(alloc, giving, named(task.file, text)),
-        Task::Show(task) => answer_showing(alloc, task.goal, named(task.file, text)),
     }
 }
 

@@ -1,8 +1,8 @@
 //! Files read and written.
+use mucwathi_arguments::last_name;
 use std::alloc::AllocError;
 use std::fs::File;
 use std::io::{Read, Write};
-use std::path::Path;
 use std::{fs, io};
 
 /// Why a file is not written.
@@ -106,11 +106,6 @@ pub(crate) fn write_whole(rt: &HostRuntime, path: &str, out: &[u8]) -> Result<()
         Ok(real) => write_beside(rt, real.to_string_lossy(), out),
         Err(_) => write_beside(rt, path, out),
     }
-}
-
-/// What a file is called without its folders.
-pub(crate) fn last_name(path: &str) -> &str {
-    Path::new(path).file_name().unwrap_or(path)
 }
 
 /// Writes a file of the same name into a folder, whole as well.

@@ -1,10 +1,9 @@
 //! Tasks done.
-use crate::files::{Unwritten, last_name, read, tell, write_into, write_out, write_whole};
+use crate::files::{Unwritten, read, tell, write_into, write_out, write_whole};
 use mucwathi_answers::{
-    Answer, Named, answer_given, answer_judging, answer_names, answer_resolving, answer_rewriting,
-    answer_showing, answer_tree,
+    Answer, Named, answer_given, answer_judging, answer_looking, answer_rewriting,
 };
-use mucwathi_arguments::{Giving, Judging, Looking, Rewriting, Target, Task};
+use mucwathi_arguments::{Giving, Judging, Looking, Rewriting, Target, Task, View, misuse_of};
 use std::alloc::{AllocError, Global};
 use std::io::{self, IsTerminal};
 
@@ -120,11 +119,7 @@ fn rewrite_text(
 ) -> u8 {
     let name = name_of(file);
     let of = Named { name, text };
-    let answer = if task.form.is_plain() {
-        answer_rewriting(rt.alloc(), task, prefix, of)
-    } else {
-        answer_given(rt.alloc(), &task.giving(), of)
-    };
+    let answer = answer_rewriting(rt.alloc(), task, prefix, of);
     if task.lists || task.explains {
         return give(rt, name, answer);
     }
@@ -173,51 +168,13 @@ fn rewrite_each(rt: &HostRuntime, task: &Rewriting<'_>) -> u8 {
     status
 }
 
-fn tell_usage(rt: &HostRuntime, what: &str) -> u8 {
-    let _ = eprintln!(rt; "mucwathi: {what}");
-    USAGE
-}
-
-fn tell_usage_of(rt: &HostRuntime, name: &str, what: &str) -> u8 {
-    let _ = eprintln!(rt; "mucwathi: {name}: {what}");
-    USAGE
-}
-
-// The name that two files share without their folders, if two do.
-fn repeated<'a>(files: &[&'a str]) -> Option<&'a str> {
-    let mut rest = files;
-    for _ in 0..files.len() {
-        let [file, behind @ ..] = rest else {
-            return None;
-        };
-        let name = last_name(*file);
-        if behind.iter().any(|other| last_name(*other) == name) {
-            return Some(name);
-        }
-        rest = behind;
-    }
-    None
-}
-
 fn rewrite(rt: &HostRuntime, task: &Rewriting<'_>) -> u8 {
-    let writes = !task.lists && !task.explains;
+    if let Some(misuse) = misuse_of(task) {
+        let _ = eprintln!(rt; "mucwathi: {misuse}");
+        return USAGE;
+    }
     if task.files.is_empty() {
-        return match task.target {
-            Target::Output => rewrite_one(rt, task, "", None),
-            _ => tell_usage(rt, "--in-place and --out want files"),
-        };
-    }
-    if writes && task.files.len() > 1 && task.target == Target::Output {
-        return tell_usage(rt, "several files want --in-place or --out FOLDER");
-    }
-    if task.map.is_some() && task.files.len() > 1 {
-        return tell_usage(rt, "--source-map wants one file");
-    }
-    if writes
-        && matches!(task.target, Target::Folder(_))
-        && let Some(name) = repeated(task.files.as_slice())
-    {
-        return tell_usage_of(rt, name, "two files would be written to one of this name");
+        return rewrite_one(rt, task, "", None);
     }
     rewrite_each(rt, task)
 }
@@ -246,32 +203,30 @@ fn judge(rt: &HostRuntime, task: &Judging<'_>) -> u8 {
     }
 }
 
-// What is told of a file, or of standard input.
-#[derive(Clone, Copy)]
-enum Work {
-    Names,
-    Marks,
-    Tree,
-    Given(Giving),
-    Page,
-}
-
-fn look_at(rt: &HostRuntime, task: &Looking<'_>, work: Work, text: &[u8]) -> u8 {
+fn look_at(rt: &HostRuntime, view: View, task: &Looking<'_>, text: &[u8]) -> u8 {
     let name = name_of(task.file);
     let of = Named { name, text };
-    let answer = match work {
-        Work::Names => answer_names(rt.alloc(), task.goal, of),
-        Work::Marks => answer_resolving(rt.alloc(), task.goal, of),
-        Work::Tree => answer_tree(rt.alloc(), task.goal, of),
-        Work::Given(giving) => answer_given(rt.alloc(), &giving, of),
-        Work::Page => answer_showing(rt.alloc(), task.goal, of),
-    };
+    let answer = answer_looking(rt.alloc(), view, task.goal, of);
     give(rt, name, answer)
 }
 
-fn look(rt: &HostRuntime, task: &Looking<'_>, work: Work) -> u8 {
+fn look(rt: &HostRuntime, view: View, task: &Looking<'_>) -> u8 {
     match read_told(rt, task.file) {
-        Ok(text) => look_at(rt, task, work, text.as_slice()),
+        Ok(text) => look_at(rt, view, task, text.as_slice()),
+        Err(status) => status,
+    }
+}
+
+fn resolve_text(rt: &HostRuntime, file: Option<&str>, giving: &Giving, text: &[u8]) -> u8 {
+    let name = name_of(file);
+    let of = Named { name, text };
+    let answer = answer_given(rt.alloc(), giving, of);
+    give(rt, name, answer)
+}
+
+fn resolve_given(rt: &HostRuntime, file: Option<&str>, giving: &Giving) -> u8 {
+    match read_told(rt, file) {
+        Ok(text) => resolve_text(rt, file, giving, text.as_slice()),
         Err(status) => status,
     }
 }
@@ -281,10 +236,7 @@ pub(crate) fn run(rt: &HostRuntime, task: &Task<'_>) -> u8 {
     match task {
         Task::Rewrite(task) => rewrite(rt, task),
         Task::Judge(task) => judge(rt, task),
-        Task::Names(task) => look(rt, task, Work::Names),
-        Task::Resolve(task) => look(rt, task, Work::Marks),
-        Task::Tree(task) => look(rt, task, Work::Tree),
-        Task::ResolveGiven(task, giving) => look(rt, task, Work::Given(*giving)),
-        Task::Show(task) => look(rt, task, Work::Page),
+        Task::Look(view, task) => look(rt, *view, task),
+        Task::ResolveGiven(task, giving) => resolve_given(rt, task.file, giving),
     }
 }

@@ -1,5 +1,5 @@
 -- What is told of two texts.
-use Rattle.std.proofs.Common.{◌≡◌, ◌<◌, ◌⊎◌, ℕ, Option, Some, None, inl, inr, sym, subst, arith, Result, Ok, Err, IfOk, MatchResult}
+use Rattle.std.proofs.Common.{◌≡◌, ◌<◌, ◌⊎◌, Option, Some, None, inl, inr, sym, subst, arith, Result, Ok, Err, IfOk, MatchResult}
 use Rattle.text_reader.specs.declared.fault.TextFault.{TextFault}
 use Rattle.text_reader.specs.declared.fault.TextFault.TheVariants as text
 use Rattle.mucwathi_arguments.specs.declared.task.Judging.{Judging}

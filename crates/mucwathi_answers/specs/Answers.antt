@@ -12,6 +12,8 @@ use Rattle.mucwathi_order.specs.declared.order.Memory.TheVariants as memory
 use Rattle.mucwathi_order.specs.declared.order.Order.{Order}
 use Rattle.mucwathi_arguments.specs.declared.task.Judging.{Judging}
 use Rattle.mucwathi_arguments.specs.declared.task.Rewriting.{Rewriting}
+use Rattle.mucwathi_arguments.specs.declared.task.View.{View}
+use Rattle.mucwathi_arguments.specs.declared.task.View.TheVariants as view
 use Rattle.mucwathi_commands.specs.Comments.{IsRewrittenWith}
 use Rattle.mucwathi_commands.specs.Faults.{IsRunFault}
 use Rattle.mucwathi_commands.specs.Looks.{IsCoverTold}
@@ -32,12 +34,11 @@ use Rattle.mucwathi_looks.specs.Names.{HasFreeNames}
 use Rattle.mucwathi_looks.specs.Trees.{HasTree}
 use Rattle.mucwathi_map.specs.Map.{IsMap}
 use Rattle.mucwathi_page.specs.Shown.{IsPage}
+use Rattle.mucwathi_show.specs.Unshown.{IsUnshown as IsPageUnshown}
 use Rattle.mucwathi_report.specs.declared.reports.Named.{Named}
 use Rattle.mucwathi_report.specs.Reports.{IsCoverReport, IsDifferenceReport, IsFaultReport, IsJudgeFaultReport}
 use Rattle.mucwathi_report.specs.Status.{judge_status, run_status}
 use Rattle.mucwathi_answers.specs.declared.answer.Answer.{Answer}
-use Rattle.mucwathi_answers.specs.declared.looking.Work.{Work}
-use Rattle.mucwathi_answers.specs.declared.looking.Work.TheVariants as work
 
 -- as what a text is read, if the name of its file tells
 abbrev pub goal_by : (is_module is_script : Bool) → Option Goal
@@ -158,28 +159,28 @@ abbrev pub HasNameList : Goal → List ℕ → List ℕ → Type 0
 HasNameList goal text out = (names : List FreeName) × HasFreeNames goal text names × (out ≡ names_listed text names)
 
 -- what is shown of a text, as what it is read: its tree, the text with marks or in a page, or its free names
-abbrev pub Shows : Work → Goal → List ℕ → List ℕ → Type 0
-Shows work.Tree goal text out = HasTree goal text out
-Shows work.Marks goal text out = HasSigns goal text out
-Shows work.Page goal text out = IsPage text out
-Shows work.Names goal text out = HasNameList goal text out
+abbrev pub Shows : View → Goal → List ℕ → List ℕ → Type 0
+Shows view.Tree goal text out = HasTree goal text out
+Shows view.Marks goal text out = HasSigns goal text out
+Shows view.Page goal text out = IsPage text out
+Shows view.Names goal text out = HasNameList goal text out
 
--- ... and why nothing is, but for a page
-abbrev pub IsUnshown : Work → Goal → List ℕ → RunFault → Type 0
-IsUnshown work.Page goal text f = Unit {0}
+-- ... and why nothing is
+abbrev pub IsUnshown : View → Goal → List ℕ → RunFault → Type 0
+IsUnshown view.Page goal text f = IsPageUnshown goal 4000 text f
 IsUnshown _ goal text f = IsUnlooked goal text f
 
 -- so it is of a text, as what it is read
-abbrev pub IsShown : Work → Option Goal → Named → List ℕ → Type 0
-IsShown w given of out = (goal : Goal) × IsAsked given of goal × Shows w goal of.text.now out
+abbrev pub IsShown : View → Option Goal → Named → List ℕ → Type 0
+IsShown v given of out = (goal : Goal) × IsAsked given of goal × Shows v goal of.text.now out
 
-abbrev pub IsShowFault : Work → Option Goal → Named → RunFault → Type 0
-IsShowFault w given of f = (goal : Goal) × IsAsked given of goal × IsUnshown w goal of.text.now f
+abbrev pub IsShowFault : View → Option Goal → Named → RunFault → Type 0
+IsShowFault v given of f = (goal : Goal) × IsAsked given of goal × IsUnshown v goal of.text.now f
 
 -- status 0 is only given where that is written which was asked for; with another nothing is written, and it is that of a fault
-pub record IsLooked (w : Work) (given : Option Goal) (of : Named) (a : Answer) : Type 0 where
-  pub well : IsWell a → IsShown w given of a.out.items
-  pub fault : ¬ IsWell a → (f : RunFault) × IsShowFault w given of f × IsFaultTold of f a
+pub record IsLooked (v : View) (given : Option Goal) (of : Named) (a : Answer) : Type 0 where
+  pub well : IsWell a → IsShown v given of a.out.items
+  pub fault : ¬ IsWell a → (f : RunFault) × IsShowFault v given of f × IsFaultTold of f a
 
 -- by what they are judged
 abbrev pub rules_for : Judging → Rules

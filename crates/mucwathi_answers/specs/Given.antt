@@ -1,6 +1,6 @@
 -- What is answered to a task over programs that are not given, or not answered, as texts.
 use Rattle.std.specs.Option.{option_or}
-use Rattle.std.specs.Prelude.{◌≡◌, ◌||◌, ℕ, Bool, false, true, List, [], Option, Some, None}
+use Rattle.std.specs.Prelude.{◌≡◌, ◌⊎◌, ◌||◌, ℕ, Bool, false, true, List, [], Option, Some, None}
 use Rattle.swc_tree_node.specs.declared.node.Node.{Node, out-Node}
 use Rattle.swc_tree_node.specs.declared.node.Node.TheOpen.{Node-F}
 use Rattle.swc_tree_node.specs.declared.kind.Kind.TheVariants as kind
@@ -11,15 +11,20 @@ use Rattle.text_parser.specs.declared.programs.Goal.TheVariants as goal
 use Rattle.mucwathi_settings.specs.declared.command.Command.{Command}
 use Rattle.mucwathi_order.specs.declared.order.Memory.TheVariants as memory
 use Rattle.mucwathi_order.specs.declared.order.Order.{Order}
+use Rattle.mucwathi_arguments.specs.Asked.{giving_of, is_plain}
 use Rattle.mucwathi_arguments.specs.declared.task.Giving.{Giving}
+use Rattle.mucwathi_arguments.specs.declared.task.Rewriting.{Rewriting}
 use Rattle.mucwathi_arguments.specs.declared.task.Source.{Source}
 use Rattle.mucwathi_arguments.specs.declared.task.Source.TheVariants as source
+use Rattle.mucwathi_faults.specs.declared.fault.RunFault.{RunFault}
+use Rattle.mucwathi_given.specs.Faults.{IsNoTree}
 use Rattle.mucwathi_given.specs.Given.{IsMade, IsRead}
 use Rattle.mucwathi_marked.specs.declared.given.Marked.{Marked}
 use Rattle.mucwathi_marked.specs.Answered.{IsPrinted, IsResolvedMarked, IsRewrittenMarked}
 use Rattle.mucwathi_marked.specs.Given.{IsGiven, IsUnmarked}
+use Rattle.mucwathi_report.specs.Reports.{no_tree_text}
 use Rattle.mucwathi_report.specs.declared.reports.Named.{Named}
-use Rattle.mucwathi_answers.specs.Answers.{IsAsked, IsWell, keeps_top, settings_for}
+use Rattle.mucwathi_answers.specs.Answers.{IsAnswered, IsAsked, IsFaultTold, IsWell, keeps_top, settings_for}
 use Rattle.mucwathi_answers.specs.declared.answer.Answer.{Answer}
 
 -- the passes go by what was asked, and else by what the envelope says
@@ -35,7 +40,6 @@ pub record IsEnvelopeOf (task : Giving) (program : Envelope) (out : List ℕ) : 
   pub is_made : IsMadeBy task program made
   pub written : out ≡ envelope_text made.globals made.top made.tree made.unresolved
 
--- ... or anew as a text, with the marks of its names
 abbrev pub goal_in : Node-F Node → Goal
 goal_in (Node-F.Tree kind.Module ts) = goal.Module
 goal_in _ = goal.Script
@@ -43,6 +47,7 @@ goal_in _ = goal.Script
 abbrev pub goal_of : Node → Goal
 goal_of t = goal_in (out-Node t)
 
+-- ... or anew as a text, with the marks of its names
 pub record IsTextOfMade (task : Giving) (program : Envelope) (out : List ℕ) : Type 0 where
   pub made : Envelope
   pub is_made : IsMadeBy task program made
@@ -57,6 +62,7 @@ abbrev pub IsProgramOf : Source → Goal → List ℕ → Envelope → Type 0
 IsProgramOf source.Marked g text e = (m : Marked) × IsGiven g text m × (e ≡ m.program)
 IsProgramOf _ g text e = IsUnmarked g text e
 
+-- what is made of a text's program is written as an envelope
 pub record HasEnvelopeOf (task : Giving) (g : Goal) (text out : List ℕ) : Type 0 where
   pub program : Envelope
   pub given : IsProgramOf task.form.source g text program
@@ -89,10 +95,34 @@ abbrev pub IsOf : Source → Giving → Named → List ℕ → Type 0
 IsOf source.Tree task of out = IsOfTree task of out
 IsOf _ task of out = IsOfText task of out
 
--- status 0 is only given where that is written which was asked for; with another nothing is written
-pub record IsAnswerOf (IsWritten : List ℕ → Type 0) (a : Answer) : Type 0 where
+-- a fault is told
+abbrev pub HasFault : Named → Answer → Type 0
+HasFault of a = (f : RunFault) × IsFaultTold of f a
+
+-- ... or that an input is no tree, and where that shows
+pub record IsNoTreeTold (of : Named) (a : Answer) : Type 0 where
+  pub path : List ℕ
+  pub no_tree : IsNoTree of.text.now path
+  pub status : a.status ≡ 3
+  pub out : a.out.items ≡ []
+  pub told : a.told.items ≡ no_tree_text of.name.now path
+
+abbrev pub IsUnanswered : Source → Named → Answer → Type 0
+IsUnanswered source.Tree of a = IsNoTreeTold of a ⊎ HasFault of a
+IsUnanswered _ of a = HasFault of a
+
+-- status 0 is only given where that is written which was asked for; with another nothing is, and it is told why
+pub record IsAnswerOf (IsWritten : List ℕ → Type 0) (IsTold : Answer → Type 0) (a : Answer) : Type 0 where
   pub well : IsWell a → IsWritten a.out.items
-  pub nothing : ¬ IsWell a → a.out.items ≡ []
+  pub fault : ¬ IsWell a → IsTold a
 
 abbrev pub IsGivenAnswer : Giving → Named → Answer → Type 0
-IsGivenAnswer task of a = IsAnswerOf (IsOf task.form.source task of) a
+IsGivenAnswer task of a = IsAnswerOf (IsOf task.form.source task of) (IsUnanswered task.form.source of) a
+
+-- from text to text, or otherwise
+abbrev pub IsAnsweredIf : (plain : Bool) → Rewriting → List ℕ → Named → Answer → Type 0
+IsAnsweredIf true task prefix of a = IsAnswered task prefix of a
+IsAnsweredIf false task prefix of a = IsGivenAnswer (giving_of task) of a
+
+abbrev pub IsAnsweredTo : Rewriting → List ℕ → Named → Answer → Type 0
+IsAnsweredTo task prefix of a = IsAnsweredIf (is_plain task.form) task prefix of a

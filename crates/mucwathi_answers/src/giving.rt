@@ -2,10 +2,11 @@
 ghost use Rattle.std.specs.Prelude.{◌≡◌, None, IfOk};
 ghost use Rattle.text_parser.specs.declared.programs.Goal.TheVariants as kinds;
 ghost use Rattle.mucwathi_arguments.specs.declared.task.Source.TheVariants as sources;
+ghost use Rattle.mucwathi_given.specs.Faults.{IsTreeFault};
 ghost use Rattle.mucwathi_given.specs.Given.{IsRead, IsReady};
 ghost use Rattle.mucwathi_marked.specs.Given.{IsUnmarked};
 ghost use Rattle.mucwathi_answers.specs.Answers.{IsAsked, goal_asked as is_asked};
-ghost use Rattle.mucwathi_answers.specs.Given.{HasEnvelopeOf, IsAnswerOf, IsAnsweredAs, IsEnvelopeOf, IsGivenAnswer, IsMadeBy, IsOfText, IsOfTree, IsProgramOf, IsRemarked, IsTextOfMade, IsWrittenAs, goal_of, order_given, with_settings as settings_in};
+ghost use Rattle.mucwathi_answers.specs.Given.{HasEnvelopeOf, HasFault, IsAnswerOf, IsAnsweredAs, IsEnvelopeOf, IsGivenAnswer, IsMadeBy, IsNoTreeTold, IsOfText, IsOfTree, IsProgramOf, IsRemarked, IsTextOfMade, IsUnanswered, IsWrittenAs, goal_of, order_given, with_settings as settings_in};
 
 use crate::answer::{Answer, DEPTH};
 use crate::goals::{further, goal_asked, may_be_module};
@@ -232,7 +233,7 @@ fn answer_program(
 ) -> Result<Answer, AllocError>
     requires ready { IsReady program }
     requires read { IsRead of.text.now program }
-    ensures { IfOk result (IsAnswerOf (IsOfTree task.now of.entry)) }
+    ensures { IfOk result (IsAnswerOf (IsOfTree task.now of.entry) (IsUnanswered sources.Tree of.entry)) }
 {
     match work_on_tree(alloc, task, program) {
         Ok(out) => Ok(Answer::of(alloc, out)),
@@ -240,21 +241,31 @@ fn answer_program(
     }
 }
 
-fn answer_tree_given(alloc: Global, task: &Giving, of: Named<'_>) -> Result<Answer, AllocError>
-    ensures { IfOk result (IsAnswerOf (IsOfTree task.now of.entry)) }
+// That an input is no tree, and where that shows.
+fn tell_unread(alloc: Global, of: Named<'_>, fault: TreeFault) -> Result<Answer, AllocError>
+    requires { IsTreeFault of.text.now fault }
+    ensures { IfOk result (IsNoTreeTold of.entry) }
 {
-    match read_tree(alloc, of.text) {
-        Ok(program) => answer_program(alloc, task, of, program),
-        Err(TreeFault::NotATree(path)) => {
+    match fault {
+        TreeFault::NotATree(path) => {
             let told = tell_no_tree(alloc, of.name, path.as_str())?;
             Ok(Answer::told(alloc, told, 3))
         }
-        Err(TreeFault::NoMemory) => Err(AllocError),
+        TreeFault::NoMemory => Err(AllocError),
+    }
+}
+
+fn answer_tree_given(alloc: Global, task: &Giving, of: Named<'_>) -> Result<Answer, AllocError>
+    ensures { IfOk result (IsAnswerOf (IsOfTree task.now of.entry) (IsUnanswered sources.Tree of.entry)) }
+{
+    match read_tree(alloc, of.text) {
+        Ok(program) => answer_program(alloc, task, of, program),
+        Err(fault) => tell_unread(alloc, of, fault),
     }
 }
 
 fn answer_text_given(alloc: Global, task: &Giving, of: Named<'_>) -> Result<Answer, AllocError>
-    ensures { IfOk result (IsAnswerOf (IsOfText task.now of.entry)) }
+    ensures { IfOk result (IsAnswerOf (IsOfText task.now of.entry) (HasFault of.entry)) }
 {
     match work_on(alloc, task, of) {
         Ok(out) => Ok(Answer::of(alloc, out)),
@@ -264,7 +275,7 @@ fn answer_text_given(alloc: Global, task: &Giving, of: Named<'_>) -> Result<Answ
 
 /// What is made of a program that is given as a text with marks or as an envelope, or is to be answered as an envelope.
 ///
-/// With status 0 it is written; with another nothing is.
+/// With status 0 it is written; with another nothing is, and what is told is a fault, or where an input is no tree.
 pub fn answer_given(alloc: Global, task: &Giving, of: Named<'_>) -> Result<Answer, AllocError>
     ensures { IfOk result (IsGivenAnswer task.now of.entry) }
 {

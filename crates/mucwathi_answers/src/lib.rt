@@ -11,6 +11,6 @@ mod rewriting;
 pub use answer::Answer;
 pub use giving::answer_given;
 pub use judging::answer_judging;
-pub use looking::{answer_names, answer_resolving, answer_showing, answer_tree};
+pub use looking::answer_looking;
 pub use mucwathi_report::Named;
 pub use rewriting::answer_rewriting;

@@ -4,11 +4,11 @@ ghost use Rattle.text_parser.specs.declared.programs.Goal.TheVariants as kinds;
 ghost use Rattle.mucwathi_lists.specs.Listed.{names_listed};
 ghost use Rattle.mucwathi_looks.specs.Looks.{IsUnlooked};
 ghost use Rattle.mucwathi_looks.specs.Trees.{HasTree};
-ghost use Rattle.mucwathi_answers.specs.declared.looking.Work.TheVariants as works;
 ghost use Rattle.mucwathi_answers.specs.Answers.{HasNameList, IsAsked, IsLooked, IsMemoryFault, IsShowFault, IsShown, IsUnshown, Shows, goal_asked as is_asked};
 
 use crate::answer::{Answer, DEPTH};
 use crate::goals::{further, goal_asked, may_be_module};
+use mucwathi_arguments::View;
 use mucwathi_commands::{Goal, RunFault};
 use mucwathi_lists::{FreeName, list_names};
 use mucwathi_looks::{free_names, mark_text, tree_of_text};
@@ -16,14 +16,6 @@ use mucwathi_report::Named;
 use mucwathi_show::show_text;
 use std::alloc::{AllocError, Global};
 use swc_tree_marks::PassError;
-
-#[derive(Clone, Copy)]
-enum Work {
-    Names,
-    Marks,
-    Tree,
-    Page,
-}
 
 fn tree(alloc: Global, of: Named<'_>, goal: Goal) -> Result<Vec<u8>, RunFault>
     ensures { MatchResult result (λ out. HasTree goal of.entry.text.now out.items) (IsUnlooked goal of.entry.text.now) }
@@ -53,30 +45,30 @@ fn names(alloc: Global, of: Named<'_>, goal: Goal) -> Result<Vec<u8>, RunFault>
 }
 
 // What is told of a text that is read as the goal has it.
-fn work_as(alloc: Global, work: Work, of: Named<'_>, goal: Goal) -> Result<Vec<u8>, RunFault>
-    ensures { MatchResult result (λ out. Shows work goal of.entry.text.now out.items) (IsUnshown work goal of.entry.text.now) }
+fn work_as(alloc: Global, view: View, of: Named<'_>, goal: Goal) -> Result<Vec<u8>, RunFault>
+    ensures { MatchResult result (λ out. Shows view goal of.entry.text.now out.items) (IsUnshown view goal of.entry.text.now) }
 {
-    match work {
-        Work::Marks => mark_text(alloc, goal, DEPTH, of.text),
-        Work::Tree => tree(alloc, of, goal),
-        Work::Page => show_text(alloc, goal, DEPTH, of.name, of.text),
-        Work::Names => names(alloc, of, goal),
+    match view {
+        View::Marks => mark_text(alloc, goal, DEPTH, of.text),
+        View::Tree => tree(alloc, of, goal),
+        View::Page => show_text(alloc, goal, DEPTH, of.name, of.text),
+        View::Names => names(alloc, of, goal),
     }
 }
 
 // The same as a module, where the text was not read as a script.
 fn work_as_module(
     alloc: Global,
-    work: Work,
+    view: View,
     goal: Option<Goal>,
     of: Named<'_>,
     fault: RunFault,
 ) -> Result<Vec<u8>, RunFault>
     requires asked { IsAsked goal of kinds.Module }
-    requires told { IsShowFault work goal of fault }
-    ensures { MatchResult result (λ out. IsShown work goal of.entry out.items) (IsShowFault work goal of.entry) }
+    requires told { IsShowFault view goal of fault }
+    ensures { MatchResult result (λ out. IsShown view goal of.entry out.items) (IsShowFault view goal of.entry) }
 {
-    match work_as(alloc, work, of, Goal::Module) {
+    match work_as(alloc, view, of, Goal::Module) {
         Ok(out) => Ok(out),
         Err(other) => Err(further(fault, other)),
     }
@@ -85,18 +77,18 @@ fn work_as_module(
 // The same where it is open as what it is read: as a script where it is one, and else as a module.
 fn work_open(
     alloc: Global,
-    work: Work,
+    view: View,
     goal: Option<Goal>,
     of: Named<'_>,
 ) -> Result<Vec<u8>, RunFault>
     requires { is_asked goal of ≡ None }
-    ensures { MatchResult result (λ out. IsShown work goal of.entry out.items) (IsShowFault work goal of.entry) }
+    ensures { MatchResult result (λ out. IsShown view goal of.entry out.items) (IsShowFault view goal of.entry) }
 {
-    match work_as(alloc, work, of, Goal::Script) {
+    match work_as(alloc, view, of, Goal::Script) {
         Ok(out) => Ok(out),
         Err(fault) => {
             if may_be_module(&fault) {
-                work_as_module(alloc, work, goal, of, fault)
+                work_as_module(alloc, view, goal, of, fault)
             } else {
                 Err(fault)
             }
@@ -106,64 +98,30 @@ fn work_open(
 
 fn work_on(
     alloc: Global,
-    work: Work,
+    view: View,
     goal: Option<Goal>,
     of: Named<'_>,
 ) -> Result<Vec<u8>, RunFault>
-    ensures { MatchResult result (λ out. IsShown work goal of.entry out.items) (IsShowFault work goal of.entry) }
+    ensures { MatchResult result (λ out. IsShown view goal of.entry out.items) (IsShowFault view goal of.entry) }
 {
     match goal_asked(goal, of) {
-        Some(asked) => work_as(alloc, work, of, asked),
-        None => work_open(alloc, work, goal, of),
+        Some(asked) => work_as(alloc, view, of, asked),
+        None => work_open(alloc, view, goal, of),
     }
 }
 
-fn answer(
+/// What is told of a text: with status 0 what was asked for; with another nothing is written, and the status is that of a fault, which
+/// tells of the text.
+pub fn answer_looking(
     alloc: Global,
-    work: Work,
+    view: View,
     goal: Option<Goal>,
     of: Named<'_>,
 ) -> Result<Answer, AllocError>
-    ensures { IfOk result (IsLooked work goal of.entry) }
+    ensures { IfOk result (IsLooked view goal of.entry) }
 {
-    match work_on(alloc, work, goal, of) {
+    match work_on(alloc, view, goal, of) {
         Ok(out) => Ok(Answer::of(alloc, out)),
         Err(fault) => Answer::fault(alloc, of, &fault),
     }
-}
-
-/// The free names of a text.
-pub fn answer_names(alloc: Global, goal: Option<Goal>, of: Named<'_>) -> Result<Answer, AllocError>
-    ensures { IfOk result (IsLooked works.Names goal of.entry) }
-{
-    answer(alloc, Work::Names, goal, of)
-}
-
-/// A text with the marks of its names.
-pub fn answer_resolving(
-    alloc: Global,
-    goal: Option<Goal>,
-    of: Named<'_>,
-) -> Result<Answer, AllocError>
-    ensures { IfOk result (IsLooked works.Marks goal of.entry) }
-{
-    answer(alloc, Work::Marks, goal, of)
-}
-
-/// The tree of a text as JSON.
-pub fn answer_tree(alloc: Global, goal: Option<Goal>, of: Named<'_>) -> Result<Answer, AllocError>
-    ensures { IfOk result (IsLooked works.Tree goal of.entry) }
-{
-    answer(alloc, Work::Tree, goal, of)
-}
-
-/// A text as a page for people.
-pub fn answer_showing(
-    alloc: Global,
-    goal: Option<Goal>,
-    of: Named<'_>,
-) -> Result<Answer, AllocError>
-    ensures { IfOk result (IsLooked works.Page goal of.entry) }
-{
-    answer(alloc, Work::Page, goal, of)
 }

@@ -6,8 +6,10 @@ ghost use Rattle.mucwathi_commands.specs.Comments.{IsRewrittenWith};
 ghost use Rattle.mucwathi_lists.specs.Listed.{changes_listed, lost_listed};
 ghost use Rattle.mucwathi_report.specs.Reports.{IsCoverReport};
 ghost use Rattle.mucwathi_answers.specs.Answers.{HasExplanation, HasList, HasMap, IsAnswered, IsAsked, IsMemoryFault, IsTold, IsWell, IsWorked, IsWrittenOut, goal_asked as is_asked, keeps_top, memory_for as memory_of, order_for as order_of};
+ghost use Rattle.mucwathi_answers.specs.Given.{IsAnsweredTo};
 
 use crate::answer::{Answer, DEPTH};
+use crate::giving::answer_given;
 use crate::goals::{further, goal_asked, may_be_module};
 use mucwathi_arguments::Rewriting;
 use mucwathi_commands::{
@@ -242,11 +244,8 @@ fn answer(
     }
 }
 
-/// What is made of a text, or told of it; each line of a list begins with the prefix.
-///
-/// With status 0 what is written is what was asked for (`IsRewrittenWith` of `mucwathi_commands`), or what is told in its place. With
-/// another nothing is written, and the status is that of a fault, which tells of the text.
-pub fn answer_rewriting(
+// What is made of a text, as a text.
+fn answer_text(
     alloc: Global,
     task: &Rewriting<'_>,
     prefix: &str,
@@ -257,5 +256,25 @@ pub fn answer_rewriting(
     match answer(alloc, task, prefix, of) {
         Ok(answer) => Ok(answer),
         Err(fault) => Answer::fault(alloc, of, &fault),
+    }
+}
+
+/// What is made of a text, or told of it; each line of a list begins with the prefix. Where a program is given or is to be answered
+/// otherwise than as a text, what is made of that.
+///
+/// With status 0 what is written is what was asked for (`IsRewrittenWith` of `mucwathi_commands`, `IsGivenAnswer`), or what is told in its
+/// place. With another nothing is written, and the status is that of a fault, which tells of the text.
+pub fn answer_rewriting(
+    alloc: Global,
+    task: &Rewriting<'_>,
+    prefix: &str,
+    of: Named<'_>,
+) -> Result<Answer, AllocError>
+    ensures { IfOk result (IsAnsweredTo task.now prefix.now of.entry) }
+{
+    if task.form.is_plain() {
+        answer_text(alloc, task, prefix, of)
+    } else {
+        answer_given(alloc, &task.giving(), of)
     }
 }

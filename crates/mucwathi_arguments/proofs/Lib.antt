@@ -1,0 +1,3 @@
+mod Found
+mod Rowed
+mod Rules

@@ -1,0 +1,4 @@
+pub mod Asked
+pub mod Misused
+pub mod Offered
+pub mod Rules

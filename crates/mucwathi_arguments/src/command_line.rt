@@ -1,13 +1,30 @@
 //! Words read by `clap`.
+ghost use Rattle.std.specs.Prelude.{◌≡◌, [], codes, map, unwrap_or, IfOk, IfSome, string_bytes};
+ghost use Rattle.clap.specs.Words.{all_of};
+ghost use Rattle.mucwathi_arguments.specs.Asked.{IsAskedBy, IsJudging, IsLooking, IsNameOf, IsRewriting, IsTarget, IsTaskOf, form_asked, goal_asked, resolving_asked, rows, said, settings_asked, source_asked, style_asked, top_asked};
+
 use crate::offers::program;
-use crate::task::{Form, Giving, Judging, Looking, Rewriting, Source, Target, Task};
+use crate::task::{Form, Giving, Judging, Looking, Rewriting, Source, Target, Task, View};
 use clap::error::ErrorKind;
 use clap::{ArgMatches, Error};
 use mucwathi_order::{Command, Goal, Settings, Style};
 use std::alloc::{AllocError, Global};
 
+// Whether an option was given that has no value.
+fn is_said(given: &ArgMatches<'_>, name: &str) -> bool
+    ensures { result ≡ said name.now (rows given.now) }
+{
+    match given.get_str(name) {
+        Some(word) => word == "true",
+        None => false,
+    }
+}
+
 // Resolving a program that is not given as a text.
-fn resolving_given(given: &ArgMatches<'_>, form: Form) -> Giving {
+fn resolving_given(given: &ArgMatches<'_>, form: Form) -> Giving
+    requires { form ≡ form_asked (rows given.now) }
+    ensures { result ≡ resolving_asked (rows given.now) }
+{
     Giving {
         command: None,
         goal: goal_of(given),
@@ -22,39 +39,47 @@ fn resolving_given(given: &ArgMatches<'_>, form: Form) -> Giving {
     }
 }
 
-fn resolving<'a>(given: &ArgMatches<'a>) -> Task<'a> {
+fn resolving<'a>(given: &ArgMatches<'a>) -> Task<'a>
+    ensures { IsTaskOf (codes "resolve") (rows given.now) result }
+{
     let form = form_of(given);
     if form.source != Source::Text {
         return Task::ResolveGiven(looking(given), resolving_given(given, form));
     }
     if form.json {
-        return Task::Tree(looking(given));
+        return Task::Look(View::Tree, looking(given));
     }
-    Task::Resolve(looking(given))
+    Task::Look(View::Marks, looking(given))
 }
 
-fn goal_of(given: &ArgMatches<'_>) -> Option<Goal> {
-    if given.get_flag("module") {
+fn goal_of(given: &ArgMatches<'_>) -> Option<Goal>
+    ensures { result ≡ goal_asked (rows given.now) }
+{
+    if is_said(given, "module") {
         return Some(Goal::Module);
     }
-    if given.get_flag("script") {
+    if is_said(given, "script") {
         return Some(Goal::Script);
     }
     None
 }
 
-fn style_of(given: &ArgMatches<'_>) -> Style {
-    if given.get_flag("compact") {
+fn style_of(given: &ArgMatches<'_>) -> Style
+    ensures { result ≡ style_asked (rows given.now) }
+{
+    if is_said(given, "compact") {
         return Style::Compact;
     }
-    if given.get_flag("print") {
+    if is_said(given, "print") {
         return Style::Lines;
     }
     Style::Kept
 }
 
-fn target_of<'a>(given: &ArgMatches<'a>) -> Target<'a> {
-    if given.get_flag("in-place") {
+fn target_of<'a>(given: &ArgMatches<'a>) -> Target<'a>
+    ensures { IsTarget (rows given.now) result }
+{
+    if is_said(given, "in-place") {
         return Target::Place;
     }
     match given.get_str("out") {
@@ -63,76 +88,103 @@ fn target_of<'a>(given: &ArgMatches<'a>) -> Target<'a> {
     }
 }
 
-fn form_of(given: &ArgMatches<'_>) -> Form {
-    let source = if given.get_flag("marks") {
-        Source::Marked
-    } else if given.get_flag("from-json") {
-        Source::Tree
-    } else {
-        Source::Text
-    };
-    Form {
-        source,
-        json: given.get_flag("json"),
+fn source_of(given: &ArgMatches<'_>) -> Source
+    ensures { result ≡ source_asked (rows given.now) }
+{
+    if is_said(given, "marks") {
+        return Source::Marked;
     }
+    if is_said(given, "from-json") {
+        return Source::Tree;
+    }
+    Source::Text
 }
 
-fn top_of(given: &ArgMatches<'_>) -> Option<bool> {
-    if given.get_flag("keep-top") {
+fn form_of(given: &ArgMatches<'_>) -> Form
+    ensures { result ≡ form_asked (rows given.now) }
+{
+    let source = source_of(given);
+    let json = is_said(given, "json");
+    Form { source, json }
+}
+
+fn top_of(given: &ArgMatches<'_>) -> Option<bool>
+    ensures { result ≡ top_asked (rows given.now) }
+{
+    if is_said(given, "keep-top") {
         return Some(true);
     }
-    if given.get_flag("mangle-top") {
+    if is_said(given, "mangle-top") {
         return Some(false);
     }
     None
 }
 
-fn files_of<'a>(alloc: Global, given: &ArgMatches<'a>) -> Result<Vec<&'a str>, AllocError> {
-    let mut files = Vec::new(alloc);
-    if let Some(words) = given.get_strs("file") {
-        for word in words {
-            files.push(*word)?;
-        }
+fn settings_of(given: &ArgMatches<'_>) -> Settings
+    ensures { result ≡ settings_asked (rows given.now) }
+{
+    let keep_class_names = is_said(given, "keep-class-names");
+    let ignore_eval = is_said(given, "ignore-eval");
+    Settings {
+        keep_class_names,
+        ignore_eval,
+        keep_top: false,
     }
-    Ok(files)
+}
+
+fn files_of<'a>(alloc: Global, given: &ArgMatches<'a>) -> Result<Vec<&'a str>, AllocError>
+    ensures { IfOk result (λ files. map (λ f. f.now) files.items ≡ unwrap_or (all_of (codes "file") (rows given.now)) []) }
+{
+    match given.get_strs("file") {
+        Some(words) => Vec::from_slice(alloc, words),
+        None => Ok(Vec::new(alloc)),
+    }
 }
 
 fn rewriting<'a>(
     alloc: Global,
     command: Command,
     given: &ArgMatches<'a>,
-) -> Result<Task<'a>, AllocError> {
-    let settings = Settings {
-        keep_class_names: given.get_flag("keep-class-names"),
-        ignore_eval: given.get_flag("ignore-eval"),
-        keep_top: false,
-    };
-    Ok(Task::Rewrite(Rewriting {
+) -> Result<Rewriting<'a>, AllocError>
+    ensures { IfOk result (λ r. (r.command ≡ command) × IsRewriting (rows given.now) r) }
+{
+    let files = files_of(alloc, given)?;
+    let lists = is_said(given, "list");
+    let explains = is_said(given, "explain");
+    Ok(Rewriting {
         command,
         goal: goal_of(given),
-        settings,
+        settings: settings_of(given),
         keep_top: top_of(given),
         style: style_of(given),
-        lists: given.get_flag("list"),
-        explains: given.get_flag("explain"),
+        lists,
+        explains,
         map: given.get_str("source-map"),
         target: target_of(given),
         form: form_of(given),
-        files: files_of(alloc, given)?,
-    }))
-}
-
-fn judging<'a>(given: &ArgMatches<'a>) -> Task<'a> {
-    Task::Judge(Judging {
-        goal: goal_of(given),
-        keep_top: given.get_flag("keep-top"),
-        spelling: !given.get_flag("any-spelling"),
-        before: given.get_str("before").unwrap_or(""),
-        after: given.get_str("after").unwrap_or(""),
+        files,
     })
 }
 
-fn looking<'a>(given: &ArgMatches<'a>) -> Looking<'a> {
+fn judging<'a>(given: &ArgMatches<'a>) -> Judging<'a>
+    ensures { IsJudging (rows given.now) result }
+{
+    let keep_top = is_said(given, "keep-top");
+    let any = is_said(given, "any-spelling");
+    let before = given.get_str("before").unwrap_or("");
+    let after = given.get_str("after").unwrap_or("");
+    Judging {
+        goal: goal_of(given),
+        keep_top,
+        spelling: !any,
+        before,
+        after,
+    }
+}
+
+fn looking<'a>(given: &ArgMatches<'a>) -> Looking<'a>
+    ensures { IsLooking (rows given.now) result }
+{
     Looking {
         goal: goal_of(given),
         file: given.get_str("file"),
@@ -140,7 +192,9 @@ fn looking<'a>(given: &ArgMatches<'a>) -> Looking<'a> {
 }
 
 // The command that a word names, if it rewrites texts.
-fn command_named(name: &str) -> Option<Command> {
+fn command_named(name: &str) -> Option<Command>
+    ensures { IfSome result (IsNameOf name.now) }
+{
     match name {
         "chain" => Some(Command::Chain),
         "mangle" => Some(Command::Mangle),
@@ -152,12 +206,14 @@ fn command_named(name: &str) -> Option<Command> {
 }
 
 // The task of a word that rewrites nothing, if it names one.
-fn looking_named<'a>(name: &str, given: &ArgMatches<'a>) -> Option<Task<'a>> {
+fn looking_named<'a>(name: &str, given: &ArgMatches<'a>) -> Option<Task<'a>>
+    ensures { IfSome result (IsTaskOf name.now (rows given.now)) }
+{
     match name {
-        "judge" => Some(judging(given)),
-        "names" => Some(Task::Names(looking(given))),
+        "judge" => Some(Task::Judge(judging(given))),
+        "names" => Some(Task::Look(View::Names, looking(given))),
         "resolve" => Some(resolving(given)),
-        "show" => Some(Task::Show(looking(given))),
+        "show" => Some(Task::Look(View::Page, looking(given))),
         _ => None,
     }
 }
@@ -166,9 +222,14 @@ fn task_named<'a>(
     alloc: Global,
     name: &str,
     given: &ArgMatches<'a>,
-) -> Result<Option<Task<'a>>, AllocError> {
+) -> Result<Option<Task<'a>>, AllocError>
+    ensures { IfOk result (λ task. IfSome task (IsTaskOf name.now (rows given.now))) }
+{
     match command_named(name) {
-        Some(command) => Ok(Some(rewriting(alloc, command, given)?)),
+        Some(command) => {
+            let task = rewriting(alloc, command, given)?;
+            Ok(Some(Task::Rewrite(task)))
+        }
         None => Ok(looking_named(name, given)),
     }
 }
@@ -178,7 +239,9 @@ fn task_named<'a>(
 /// # Errors
 ///
 /// What `clap` finds wrong, `--help` and `--version`: the error has the text to print and the status to end with.
-pub fn read_words<'a>(alloc: Global, words: &'a [String]) -> Result<Task<'a>, Error> {
+pub fn read_words<'a>(alloc: Global, words: &'a [String]) -> Result<Task<'a>, Error>
+    ensures { IfOk result (IsAskedBy (map string_bytes words.entry.now)) }
+{
     let matches = program(alloc)?.try_get_matches_from(words)?;
     if let Some((name, given)) = matches.subcommand()
         && let Some(task) = task_named(alloc, name, given)?

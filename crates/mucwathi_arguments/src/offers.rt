@@ -1,11 +1,17 @@
 //! The commands and their options, as `clap` is told them: one table, and the loops that go over it.
+ghost use Rattle.std.specs.Prelude.{◌≡◌, false, map, IfOk};
+ghost use Rattle.clap.specs.Words.{app_of, new_rule, rule_of, shape_of};
+ghost use Rattle.clap.specs.Walk.{is_empty};
+ghost use Rattle.mucwathi_arguments.specs.Offered.{offered};
+ghost use Rattle.mucwathi_arguments.specs.Rules.{IsLocal, command_for, rule_for, with_rules};
+
 use crate::version::VERSION;
 use clap::{Arg, ArgAction, Command as Parser};
 use std::alloc::{AllocError, Global};
 
 // What stands behind a word, or in its place.
 #[derive(Clone, Copy)]
-enum Shape {
+pub(crate) enum Shape {
     // Nothing: it was said or not.
     Flag,
     // A value, by what help calls it.
@@ -20,20 +26,20 @@ enum Shape {
 
 // An option or a file, and the options that it does not go with.
 #[derive(Clone, Copy)]
-struct Choice {
-    name: &'static str,
-    shape: Shape,
-    help: &'static str,
-    apart: &'static [&'static str],
+pub(crate) struct Choice {
+    pub(crate) name: &'static str,
+    pub(crate) shape: Shape,
+    pub(crate) help: &'static str,
+    pub(crate) apart: &'static [&'static str],
 }
 
 // A command.
 #[derive(Clone, Copy)]
-struct Offer {
-    name: &'static str,
-    about: &'static str,
-    example: &'static str,
-    choices: &'static [&'static [Choice]],
+pub(crate) struct Offer {
+    pub(crate) name: &'static str,
+    pub(crate) about: &'static str,
+    pub(crate) example: &'static str,
+    pub(crate) choices: &'static [&'static [Choice]],
 }
 
 const GOALS: &[Choice] = &[
@@ -203,7 +209,7 @@ const JUDGED: &[Choice] = &[
     },
 ];
 
-const OFFERS: &[Offer] = &[
+pub(crate) const OFFERS: &[Offer] = &[
     Offer {
         name: "chain",
         about: "Names apart, parentheses right",
@@ -260,8 +266,21 @@ const OFFERS: &[Offer] = &[
     },
 ];
 
-// What a word is, with what stands behind it.
-fn shaped<'a>(arg: Arg<'a>, choice: &Choice) -> Arg<'a> {
+// A word, which does not go with some others.
+fn named<'a>(alloc: Global, choice: &Choice) -> Result<Arg<'a>, AllocError>
+    ensures rule { IfOk result (λ a. rule_of a ≡ record (new_rule choice.now.name.now) { is_free = is_empty choice.now.apart.now }) }
+    ensures local { IfOk result (λ a. a.global ≡ false) }
+{
+    let arg = Arg::new(alloc, choice.name).help(choice.help);
+    arg.conflicts_with_all(choice.apart)
+}
+
+// What it is, with what stands behind it.
+fn shaped<'a>(arg: Arg<'a>, choice: &Choice) -> Arg<'a>
+    requires { rule_of arg ≡ record (new_rule choice.now.name.now) { is_free = is_empty choice.now.apart.now } }
+    ensures rule { rule_of result ≡ rule_for choice.now }
+    ensures local { result.global ≡ arg.entry.global }
+{
     match choice.shape {
         Shape::Flag => arg.long(choice.name).action(ArgAction::SetTrue),
         Shape::Value(shown) => arg
@@ -277,16 +296,22 @@ fn shaped<'a>(arg: Arg<'a>, choice: &Choice) -> Arg<'a> {
     }
 }
 
-fn option_of<'a>(alloc: Global, choice: &Choice) -> Result<Arg<'a>, AllocError> {
-    let arg = Arg::new(alloc, choice.name).help(choice.help);
-    shaped(arg, choice).conflicts_with_all(choice.apart)
+fn option_of<'a>(alloc: Global, choice: &Choice) -> Result<Arg<'a>, AllocError>
+    ensures rule { IfOk result (λ a. rule_of a ≡ rule_for choice.now) }
+    ensures local { IfOk result (λ a. a.global ≡ false) }
+{
+    let arg = named(alloc, choice)?;
+    Ok(shaped(arg, choice))
 }
 
 fn with_choices<'a>(
     alloc: Global,
     mut parser: Parser<'a>,
     choices: &[Choice],
-) -> Result<Parser<'a>, AllocError> {
+) -> Result<Parser<'a>, AllocError>
+    ensures app { IfOk result (λ p. app_of p ≡ with_rules (app_of parser.entry) (map rule_for choices.now)) }
+    ensures local { IsLocal parser.entry → IfOk result IsLocal }
+{
     for choice in choices {
         let option = option_of(alloc, choice)?;
         parser = parser.arg(option)?;
@@ -294,7 +319,10 @@ fn with_choices<'a>(
     Ok(parser)
 }
 
-fn parser_of<'a>(alloc: Global, offer: &Offer) -> Result<Parser<'a>, AllocError> {
+fn parser_of<'a>(alloc: Global, offer: &Offer) -> Result<Parser<'a>, AllocError>
+    ensures shape { IfOk result (λ p. shape_of p ≡ command_for offer.now) }
+    ensures local { IfOk result IsLocal }
+{
     let mut parser = Parser::new(alloc, offer.name)
         .about(offer.about)
         .after_help(offer.example);
@@ -309,7 +337,9 @@ fn parser_of<'a>(alloc: Global, offer: &Offer) -> Result<Parser<'a>, AllocError>
 /// # Errors
 ///
 /// `AllocError` where memory is refused.
-pub(crate) fn program<'a>(alloc: Global) -> Result<Parser<'a>, AllocError> {
+pub(crate) fn program<'a>(alloc: Global) -> Result<Parser<'a>, AllocError>
+    ensures { IfOk result (λ p. app_of p ≡ offered) }
+{
     let mut parser = Parser::new(alloc, "mucwathi")
         .version(VERSION)
         .about("JavaScript in, JavaScript out: names and parentheses, proved")

@@ -1,4 +1,7 @@
 //! What the words of a command line ask for.
+ghost use Rattle.std.specs.Prelude.{◌≡◌};
+ghost use Rattle.mucwathi_arguments.specs.Asked.{giving_of, is_plain as is_plain_form};
+
 use mucwathi_order::{Command, Goal, Settings, Style};
 
 /// Where the answers to files go.
@@ -32,8 +35,10 @@ pub struct Form {
 
 impl Form {
     /// From text to text.
-    pub fn is_plain(self) -> bool {
-        self.source == Source::Text && !self.json
+    pub fn is_plain(self) -> bool
+        ensures { result ≡ is_plain_form self }
+    {
+        matches!(self.source, Source::Text) && !self.json
     }
 }
 
@@ -72,7 +77,9 @@ pub struct Rewriting<'a> {
 
 impl Rewriting<'_> {
     /// The same of a program that is not given, or not answered, as a text.
-    pub fn giving(&self) -> Giving {
+    pub fn giving(&self) -> Giving
+        ensures { result ≡ giving_of self.now }
+    {
         Giving {
             command: Some(self.command),
             goal: self.goal,
@@ -102,19 +109,25 @@ pub struct Looking<'a> {
     pub file: Option<&'a str>,
 }
 
+/// What is told of a text.
+#[derive(Clone, Copy)]
+pub enum View {
+    /// Its free names.
+    Names,
+    /// The text with the marks of its names.
+    Marks,
+    /// Its tree as JSON, with these marks.
+    Tree,
+    /// The text as a page.
+    Page,
+}
+
 /// What is asked for.
 #[derive(Drop)]
 pub enum Task<'a> {
     Rewrite(Rewriting<'a>),
     Judge(Judging<'a>),
-    /// The free names of a text.
-    Names(Looking<'a>),
-    /// A text with the marks of its names.
-    Resolve(Looking<'a>),
-    /// The tree of a text as JSON, with these marks.
-    Tree(Looking<'a>),
-    /// The same of a program that is given otherwise.
+    Look(View, Looking<'a>),
+    /// Names get the marks of their scopes, of a program that is given otherwise than as a text.
     ResolveGiven(Looking<'a>, Giving),
-    /// A text as a page.
-    Show(Looking<'a>),
 }

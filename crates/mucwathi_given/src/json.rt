@@ -1,7 +1,8 @@
 //! Envelopes as JSON.
-ghost use Rattle.std.specs.Prelude.{◌≡◌, IfOk, string_bytes};
+ghost use Rattle.std.specs.Prelude.{◌≡◌, IfErr, IfOk, string_bytes};
 ghost use Rattle.jsbase_writer.specs.Envelopes.{envelope_text};
 ghost use Rattle.mucwathi_given.specs.Given.{IsRead, IsReadAs, IsReady};
+ghost use Rattle.mucwathi_given.specs.Faults.{IsShownFault, IsTreeFault, IsUnreadFault, NamesUnread, longer};
 
 use jsbase_programs::{Goal, read_program};
 use jsbase_reader::{Envelope, ReadError};
@@ -17,7 +18,9 @@ pub enum TreeFault {
     NoMemory,
 }
 
-fn fault_of(alloc: Global, error: ReadError) -> TreeFault {
+fn fault_of(alloc: Global, error: ReadError) -> TreeFault
+    ensures { IsShownFault error result }
+{
     match error {
         ReadError::Fault(path) => match path.to_text(alloc) {
             Ok(text) => TreeFault::NotATree(text),
@@ -30,6 +33,7 @@ fn fault_of(alloc: Global, error: ReadError) -> TreeFault {
 fn read_as(alloc: Global, goal: Goal, bytes: &[u8]) -> Result<Envelope, TreeFault>
     ensures read { IfOk result (IsReadAs goal bytes.now) }
     ensures ready { IfOk result IsReady }
+    ensures fault { IfErr result (IsUnreadFault goal bytes.now) }
 {
     match read_program(alloc, goal, bytes) {
         Ok(envelope) => Ok(envelope),
@@ -37,21 +41,28 @@ fn read_as(alloc: Global, goal: Goal, bytes: &[u8]) -> Result<Envelope, TreeFaul
     }
 }
 
-// Of two faults that which is further in.
-fn further(first: TreeFault, second: TreeFault) -> TreeFault {
-    match (&first, &second) {
-        (TreeFault::NotATree(one), TreeFault::NotATree(other)) if one.len() >= other.len() => first,
-        _ => second,
+// Of two paths that which is further in.
+fn further(first: String, second: String) -> String
+    ensures { string_bytes result ≡ longer (string_bytes first) (string_bytes second) }
+{
+    if first.len() >= second.len() {
+        first
+    } else {
+        second
     }
 }
 
-fn read_as_script(alloc: Global, bytes: &[u8], fault: TreeFault) -> Result<Envelope, TreeFault>
+// The same as of a script, where it is none of a module, as this path shows.
+fn read_as_script(alloc: Global, bytes: &[u8], path: String) -> Result<Envelope, TreeFault>
+    requires { NamesUnread bytes.now (string_bytes path) }
     ensures read { IfOk result (IsRead bytes.now) }
     ensures ready { IfOk result IsReady }
+    ensures fault { IfErr result (IsTreeFault bytes.now) }
 {
     match read_as(alloc, Goal::Script, bytes) {
         Ok(envelope) => Ok(envelope),
-        Err(other) => Err(further(fault, other)),
+        Err(TreeFault::NotATree(other)) => Err(TreeFault::NotATree(further(path, other))),
+        Err(TreeFault::NoMemory) => Err(TreeFault::NoMemory),
     }
 }
 
@@ -59,14 +70,16 @@ fn read_as_script(alloc: Global, bytes: &[u8], fault: TreeFault) -> Result<Envel
 ///
 /// # Errors
 ///
-/// `NotATree` where it is neither; `NoMemory`.
+/// `NotATree` where it is neither, with the longer of the two paths; `NoMemory`.
 pub fn read_tree(alloc: Global, bytes: &[u8]) -> Result<Envelope, TreeFault>
     ensures read { IfOk result (IsRead bytes.now) }
     ensures ready { IfOk result IsReady }
+    ensures fault { IfErr result (IsTreeFault bytes.now) }
 {
     match read_as(alloc, Goal::Module, bytes) {
         Ok(envelope) => Ok(envelope),
-        Err(fault) => read_as_script(alloc, bytes, fault),
+        Err(TreeFault::NotATree(path)) => read_as_script(alloc, bytes, path),
+        Err(TreeFault::NoMemory) => Err(TreeFault::NoMemory),
     }
 }
 

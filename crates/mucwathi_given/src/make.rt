@@ -1,6 +1,7 @@
 //! What the commands make of programs that are given with marks.
-ghost use Rattle.std.specs.Prelude.{◌≡◌, Some, IfOk};
+ghost use Rattle.std.specs.Prelude.{◌≡◌, Some, IfErr, IfOk};
 ghost use Rattle.mucwathi_given.specs.Given.{HasPairs, IsApart, IsAround, IsBare, IsMade, IsReady, IsResolved, IsShort, Then, keeps_top_by, config_of as config_by};
+ghost use Rattle.mucwathi_given.specs.Refusals.{InTurn, IsCauseOf, IsNotApart, IsNotShort, IsUnmade, IsUnpaired, IsUnresolved};
 
 use jsbase_reader::Envelope;
 use mucwathi_settings::Command;
@@ -41,6 +42,7 @@ fn keeps_top(said: Option<bool>, program: &Node) -> bool
 fn resolve(alloc: Global, given: Envelope) -> Result<Envelope, PassError>
     ensures around { IfOk result (IsAround given) }
     ensures made { IsReady given → IfOk result (IsResolved given) }
+    ensures refused { IfErr result (IsUnresolved given) }
 {
     let Envelope {
         mut globals,
@@ -66,6 +68,7 @@ fn resolve(alloc: Global, given: Envelope) -> Result<Envelope, PassError>
 fn set_apart(alloc: Global, given: Envelope) -> Result<Envelope, PassError>
     ensures around { IfOk result (IsAround given) }
     ensures made { IfOk result (IsApart given) }
+    ensures refused { IfErr result (IsNotApart given) }
 {
     let config = config_of(&given);
     let Envelope {
@@ -92,6 +95,7 @@ fn set_apart(alloc: Global, given: Envelope) -> Result<Envelope, PassError>
 fn shorten(alloc: Global, given: Envelope) -> Result<Envelope, PassError>
     ensures around { IfOk result (IsAround given) }
     ensures made { IfOk result (IsShort given) }
+    ensures refused { IfErr result (IsNotShort given) }
 {
     let config = config_of(&given);
     let keeps = keeps_top(given.keep_top, &given.tree);
@@ -119,6 +123,7 @@ fn shorten(alloc: Global, given: Envelope) -> Result<Envelope, PassError>
 fn pair(alloc: Global, given: Envelope) -> Result<Envelope, PassError>
     ensures around { IfOk result (IsAround given) }
     ensures made { IfOk result (HasPairs given) }
+    ensures refused { IfErr result (IsUnpaired given) }
 {
     let tree = fix_parens(alloc, None::<&mut NoComments>, given.tree)?;
     Ok(Envelope { tree, ..given })
@@ -127,6 +132,7 @@ fn pair(alloc: Global, given: Envelope) -> Result<Envelope, PassError>
 fn bare(alloc: Global, given: Envelope) -> Result<Envelope, PassError>
     ensures around { IfOk result (IsAround given) }
     ensures made { IfOk result (IsBare given) }
+    ensures refused { IfErr result (IsUnpaired given) }
 {
     let tree = remove_parens(alloc, None::<&mut NoComments>, given.tree)?;
     Ok(Envelope { tree, ..given })
@@ -135,6 +141,7 @@ fn bare(alloc: Global, given: Envelope) -> Result<Envelope, PassError>
 fn set_apart_and_pair(alloc: Global, given: Envelope) -> Result<Envelope, PassError>
     ensures around { IfOk result (IsAround given) }
     ensures made { IfOk result (Then IsApart HasPairs given) }
+    ensures refused { IfErr result (InTurn IsNotApart IsApart IsUnpaired given) }
 {
     let renamed = set_apart(alloc, given)?;
     pair(alloc, renamed)
@@ -143,6 +150,7 @@ fn set_apart_and_pair(alloc: Global, given: Envelope) -> Result<Envelope, PassEr
 fn shorten_and_pair(alloc: Global, given: Envelope) -> Result<Envelope, PassError>
     ensures around { IfOk result (IsAround given) }
     ensures made { IfOk result (Then IsShort HasPairs given) }
+    ensures refused { IfErr result (InTurn IsNotShort IsShort IsUnpaired given) }
 {
     let renamed = shorten(alloc, given)?;
     pair(alloc, renamed)
@@ -151,6 +159,7 @@ fn shorten_and_pair(alloc: Global, given: Envelope) -> Result<Envelope, PassErro
 fn chain(alloc: Global, given: Envelope) -> Result<Envelope, PassError>
     ensures around { IfOk result (IsAround given) }
     ensures made { IsReady given → IfOk result (Then IsResolved (Then IsApart HasPairs) given) }
+    ensures refused { IsReady given → IfErr result (InTurn IsUnresolved IsResolved (InTurn IsNotApart IsApart IsUnpaired) given) }
 {
     let resolved = resolve(alloc, given)?;
     set_apart_and_pair(alloc, resolved)
@@ -159,13 +168,15 @@ fn chain(alloc: Global, given: Envelope) -> Result<Envelope, PassError>
 fn mangle(alloc: Global, given: Envelope) -> Result<Envelope, PassError>
     ensures around { IfOk result (IsAround given) }
     ensures made { IsReady given → IfOk result (Then IsResolved (Then IsShort HasPairs) given) }
+    ensures refused { IsReady given → IfErr result (InTurn IsUnresolved IsResolved (InTurn IsNotShort IsShort IsUnpaired) given) }
 {
     let resolved = resolve(alloc, given)?;
     shorten_and_pair(alloc, resolved)
 }
 
 fn make(alloc: Global, command: Command, given: Envelope) -> Result<Envelope, PassError>
-    ensures { IsReady given → IfOk result (IsMade (Some command) given) }
+    ensures made { IsReady given → IfOk result (IsMade (Some command) given) }
+    ensures refused { IsReady given → IfErr result (IsCauseOf command given) }
 {
     match command {
         Command::Chain => chain(alloc, given),
@@ -183,13 +194,16 @@ fn make(alloc: Global, command: Command, given: Envelope) -> Result<Envelope, Pa
 ///
 /// # Errors
 ///
-/// Those of the passes; `TypesLeft` where there is a command and declarations of types stand in the program.
+/// `TypesLeft` where there is a command and declarations of types stand in the program. Else `NoMemory`; `MarksSpent` where there are
+/// more scopes than marks left; `CounterSpent` where for an id no counter gives a free text; `NotAssignable` where a parenthesised target
+/// takes no value.
 pub fn make_given(
     alloc: Global,
     command: Option<Command>,
     given: Envelope,
 ) -> Result<Envelope, PassError>
-    ensures { IsReady given → IfOk result (IsMade command given) }
+    ensures made { IsReady given → IfOk result (IsMade command given) }
+    ensures refused { IsReady given → IfErr result (IsUnmade command given) }
 {
     match command {
         None => resolve(alloc, given),

@@ -3,4 +3,4 @@ mod Noted
 pub mod Signed
 mod Standing
 mod Texts
-mod Unlooked
+pub mod Unlooked

@@ -3,3 +3,4 @@ pub mod Others
 pub mod Ready
 pub mod Rows
 pub mod Writing
+mod Texts

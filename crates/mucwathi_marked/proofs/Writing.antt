@@ -1,7 +1,6 @@
 -- How an answer is written.
-use Rattle.std.proofs.Common.{◌≡◌, ℕ, Bool, false, List, [], ◌∷◌, ◌||◌, Some, None, length, map, refl, sym, ap, ◌∙◌, subst}
+use Rattle.std.proofs.Common.{◌≡◌, ℕ, Bool, false, List, [], ◌∷◌, ◌||◌, Some, None, map, refl, sym, ap, ◌∙◌, subst}
 use Rattle.std.specs.List.{list_any}
-use Rattle.std.proofs.lemmas.List.{length-map}
 use Rattle.swc_tree_node.specs.declared.node.Node.{Node}
 use Rattle.swc_tree_walk.specs.declared.identifiers.Site.{Site}
 use Rattle.swc_tree_scoping.specs.Places.{program_place}
@@ -21,7 +20,7 @@ use Rattle.mucwathi_signs.specs.declared.sign.Sign.{Sign}
 use Rattle.mucwathi_signs.specs.Signed.{IsSigned}
 use Rattle.mucwathi_given.specs.Given.{IsMade}
 use Rattle.mucwathi_looks.specs.Signs.{AreSigns, has_marks, signs_between}
-use Rattle.mucwathi_marked.specs.Answered.{AreWrittenBehind, IsEditedFor, IsPrinted, IsRemade, IsWrittenFor, with_settings}
+use Rattle.mucwathi_marked.specs.Answered.{AreWrittenBehind, IsEditedFor, IsPrinted, IsRemade, IsWrittenFor, name_of, with_settings}
 
 pub any_among : (ss : List Site) → list_any (λ n. has_marks (site_of n)) ss ≡ list_any has_marks (map site_of ss)
 any_among [] = refl
@@ -35,10 +34,10 @@ pub behind_those : (t : Node) (found names : List Site) (again : Node) (text pla
 behind_those t found names again text plain out same all is h =
     subst (λ l. AreWrittenBehind l again plain out) (ap (λ (l : List Site). map site_of l) same ∙ all) (subst (λ l. AreWrittenBehind (map site_of names) again l out) is h)
 
-pub written_behind : (names : List Site) (again : Node) (found places : List Site) (made signs : List Sign) (plain out : List ℕ) → places ≡ found → map site_of found ≡ sites program_place again → length found ≡ length names
+pub written_behind : (names : List Site) (again : Node) (found places : List Site) (made signs : List Sign) (plain out : List ℕ) → places ≡ found → map site_of found ≡ sites program_place again → map name_of (map site_of names) ≡ map name_of (map site_of places)
     → AreSigns (signs_between (map site_of names) (map site_of places)) made → signs ≡ made → IsSigned 0 signs plain out → AreWrittenBehind (map site_of names) again plain out
-written_behind names again found places made signs plain out same all many are is written = record {
-  as_many = sym (ap length all) ∙ length-map found site_of ∙ many ∙ sym (length-map names site_of);
+written_behind names again found places made signs plain out same all texts are is written = record {
+  same = texts ∙ ap (λ (l : List Site). map name_of (map site_of l)) same ∙ ap (map name_of) all;
   signs = signs;
   are = subst (λ (l : List Sign). AreSigns (signs_between (map site_of names) (sites program_place again)) l) (sym is)
       (subst (λ l. AreSigns (signs_between (map site_of names) l) made) (ap (λ (l : List Site). map site_of l) same ∙ all) are);

@@ -1,5 +1,5 @@
 -- Texts that are written with the marks of their names.
-use Rattle.std.specs.Prelude.{◌≡◌, ◌⊎◌, ℕ, false, List, Some, None, length}
+use Rattle.std.specs.Prelude.{◌≡◌, ◌⊎◌, ℕ, false, List, Some, None, map}
 use Rattle.std.specs.List.{list_any}
 use Rattle.swc_tree_marks.specs.declared.ident.Ident.{Ident}
 use Rattle.swc_tree_node.specs.declared.node.Node.{Node}
@@ -21,9 +21,12 @@ use Rattle.mucwathi_looks.specs.Signs.{AreSigns, has_marks, signs_between, signs
 use Rattle.mucwathi_marked.specs.declared.given.Marked.{Marked}
 use Rattle.mucwathi_marked.specs.Given.{IsGiven}
 
--- the marks of names are written into a text, behind those of the same number of the program that it is read as
+abbrev pub name_of : Standing × Ident → List ℕ
+name_of s = s.1.sym
+
+-- the marks of names are written into a text, behind the same names of the program that it is read as
 pub record AreWrittenBehind (names : List (Standing × Ident)) (again : Node) (plain out : List ℕ) : Type 0 where
-  pub as_many : length (sites program_place again) ≡ length names
+  pub same : map name_of names ≡ map name_of (sites program_place again)
   pub signs : List Sign
   pub are : AreSigns (signs_between names (sites program_place again)) signs
   pub written : IsSigned 0 signs plain out

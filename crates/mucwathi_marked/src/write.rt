@@ -1,8 +1,8 @@
 //! Programs written as texts, with the marks of their names.
-ghost use Rattle.std.specs.Prelude.{◌≡◌, Some, IfOk, map};
+ghost use Rattle.std.specs.Prelude.{◌≡◌, Some, IfOk, IsTrue, map};
 ghost use Rattle.swc_tree_walk.specs.Sites.{site_of};
 ghost use Rattle.mucwathi_given.specs.Given.{IsMade, IsReady};
-ghost use Rattle.mucwathi_marked.specs.Answered.{AreWrittenBehind, IsEditedFor, IsMarkedFor, IsPrinted, IsRemade, IsRewrittenMarked, IsWrittenFor, with_settings as settings_in};
+ghost use Rattle.mucwathi_marked.specs.Answered.{AreWrittenBehind, IsEditedFor, IsMarkedFor, IsPrinted, IsRemade, IsRewrittenMarked, IsWrittenFor, name_of, with_settings as settings_in};
 
 use crate::given::give_marked;
 use mucwathi_commands::{edit, print};
@@ -12,13 +12,34 @@ use mucwathi_looks::{any_is_marked, signs_at};
 use mucwathi_order::{Goal, Order, Settings};
 use mucwathi_signs::put_signs;
 use std::alloc::Global;
-use swc_tree_marks::PassError;
+use swc_tree_marks::{Ident, PassError};
 use swc_tree_node::Node;
 use swc_tree_walk::{Site, sites};
 use text_printer::Layout;
 use text_source::{TextFault, read_text};
 
-// The marks of names, written behind those of the program that a text is read as.
+fn has_text_of(one: &Ident, other: &Ident) -> bool
+    ensures { IsTrue result → one.now.sym ≡ other.now.sym }
+{
+    one.sym == other.sym
+}
+
+// Whether names have the texts of others, one by one.
+fn have_same_texts(names: &[Site<'_>], places: &[Site<'_>]) -> bool
+    ensures { IsTrue result → map name_of (map site_of names.now) ≡ map name_of (map site_of places.now) }
+{
+    if names.len() != places.len() {
+        return false;
+    }
+    'sites: for i in 0..names.len() {
+        if !has_text_of(names[i].ident, places[i].ident) {
+            return false;
+        }
+    }
+    true
+}
+
+// The marks of names, written behind the same names of the program that a text is read as.
 fn mark_behind(
     alloc: Global,
     plain: &[u8],
@@ -27,11 +48,12 @@ fn mark_behind(
 ) -> Result<Vec<u8>, RunFault>
     ensures { IfOk result (λ out. AreWrittenBehind (map site_of names.now) again.now plain.now out.items) }
 {
-    let places = sites(alloc, again)?;
-    if places.len() != names.len() {
+    let found = sites(alloc, again)?;
+    let places = found.as_slice();
+    if !have_same_texts(names, places) {
         return Err(RunFault::NotWritten);
     }
-    let signs = signs_at(alloc, names, places.as_slice())?;
+    let signs = signs_at(alloc, names, places)?;
     let out = put_signs(alloc, plain, signs.as_slice())?;
     Ok(out)
 }

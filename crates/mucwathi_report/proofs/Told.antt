@@ -1,15 +1,9 @@
 -- Lines and what is behind them.
-use Rattle.std.proofs.Common.{◌≡◌, ℕ, ◌+◌, ◌<◌, ◌≤◌, List, [], ◌∷◌, ◌++◌, Option, map, drop, length, get_or, refl, sym, ap, ◌∙◌, subst}
+use Rattle.std.proofs.Common.{◌≡◌, ℕ, ◌+◌, ◌<◌, ◌≤◌, List, [], ◌∷◌, ◌++◌, Option, map, drop, length, get_or, sym, ap, ◌∙◌, subst}
 use Rattle.std.specs.Borrow.{Bor}
 use Rattle.std.specs.List.{flat_map}
 use Rattle.std.proofs.lemmas.List.{append_assoc, append-nil, drop_all, drop_more}
-use Rattle.mucwathi_report.specs.Reports.{Grows, IsReport, line_of, place_text}
-
-pub grows_not : (old : List ℕ) → Grows old old
-grows_not old = ([], sym (append-nil old))
-
-pub grows_on : (old now new : List ℕ) → Grows old now → Grows now new → Grows old new
-grows_on old now new one more = (one.0 ++ more.0, more.1 ∙ ap (λ l. l ++ more.0) one.1 ∙ append_assoc old one.0 more.0)
+use Rattle.mucwathi_report.specs.Reports.{IsReport, IsShown, line_of, place_text}
 
 -- the parts from one on
 abbrev left : List (Bor (List ℕ)) → ℕ → List ℕ
@@ -27,8 +21,5 @@ parts_done parts i now all ended h = sym (append-nil now) ∙ ap (λ (l : List (
 pub line_done : (parts : List (Bor (List ℕ))) (old now new : List ℕ) → now ≡ old ++ left parts 0 → new ≡ now ++ 10 ∷ [] → new ≡ old ++ line_of (map (λ (p : Bor (List ℕ)). p.now) parts)
 line_done parts old now new is made = made ∙ ap (λ l. l ++ 10 ∷ []) is ∙ append_assoc old (left parts 0) (10 ∷ [])
 
-pub reported : (name text : List ℕ) (at : Option ℕ) (sentence place now out : List ℕ) → place ≡ place_text text at → now ≡ line_of (name ∷ place ∷ sentence ∷ []) → Grows now out → IsReport name text at sentence out
-reported name text at sentence place now out is made grows = record {
-  rest = grows.0;
-  told = grows.1 ∙ ap (λ l. l ++ grows.0) (made ∙ ap (λ p. line_of (name ∷ p ∷ sentence ∷ [])) is);
-}
+pub reported : (name text : List ℕ) (at : Option ℕ) (sentence place now out : List ℕ) → place ≡ place_text text at → now ≡ line_of (name ∷ place ∷ sentence ∷ []) → IsShown text at now out → IsReport name text at sentence out
+reported name text at sentence place now out is made shown = subst (λ l. IsShown text at l out) (made ∙ ap (λ p. line_of (name ∷ p ∷ sentence ∷ [])) is) shown

@@ -1,2 +1,3 @@
+pub mod Excerpts
 pub mod Reports
 pub mod Status

@@ -4,8 +4,6 @@ use Rattle.std.specs.List.{flat_map}
 use Rattle.swc_base_alpha.specs.declared.verdict.Why.{Why}
 use Rattle.swc_base_alpha.specs.declared.verdict.Why.TheVariants as why
 use Rattle.swc_base_covers.specs.declared.gap.Cause.{Cause}
-use Rattle.swc_base_alpha.specs.declared.verdict.Why.{Why}
-use Rattle.swc_base_alpha.specs.declared.verdict.Why.TheVariants as why
 use Rattle.swc_base_covers.specs.declared.gap.Cause.TheVariants as cause
 use Rattle.swc_tree_marks.specs.declared.error.PassError.{PassError}
 use Rattle.swc_tree_marks.specs.declared.error.PassError.TheVariants as refusal
@@ -17,6 +15,7 @@ use Rattle.mucwathi_faults.specs.declared.fault.JudgeFault.{JudgeFault}
 use Rattle.mucwathi_faults.specs.declared.fault.JudgeFault.TheVariants as judging
 use Rattle.mucwathi_faults.specs.declared.fault.RunFault.{RunFault}
 use Rattle.mucwathi_faults.specs.declared.fault.RunFault.TheVariants as running
+use Rattle.mucwathi_report.specs.Excerpts.{AddsExcerpt}
 use Rattle.mucwathi_report.specs.declared.reports.Named.{Named}
 
 -- texts one behind another, and a line end
@@ -45,10 +44,14 @@ cause_text cause.Variable = codes "a var passes a scope that declares its name"
 cause_text cause.Parameter = codes "two parameters have one name"
 cause_text cause.Eval = codes "eval or arguments is declared"
 
--- `a.js:2:7: what it is`, and something behind it, as the line that it tells of
-pub record IsReport (name text : List ℕ) (at : Option ℕ) (sentence out : List ℕ) : Type 0 where
-  pub rest : List ℕ
-  pub told : out ≡ line_of (name ∷ place_text text at ∷ sentence ∷ []) ++ rest
+-- a place is shown behind what was told of it, if there is one
+abbrev pub IsShown : List ℕ → Option ℕ → (old new : List ℕ) → Type 0
+IsShown text None old new = new ≡ old
+IsShown text (Some at) old new = AddsExcerpt text at old new
+
+-- `a.js:2:7: what it is`, the line that it tells of, and a caret under the place
+abbrev pub IsReport : (name text : List ℕ) → Option ℕ → (sentence out : List ℕ) → Type 0
+IsReport name text at sentence out = IsShown text at (line_of (name ∷ place_text text at ∷ sentence ∷ [])) out
 
 -- why a pass is refused
 abbrev pub refusal_text : PassError → List ℕ
@@ -70,6 +73,10 @@ abbrev pub IsJudgeFaultReport : (before after : Named) → JudgeFault → List �
 IsJudgeFaultReport before after (judging.Before f) out = IsFaultReport before.name.now before.text.now (running.Text f) out
 IsJudgeFaultReport before after (judging.After f) out = IsFaultReport after.name.now after.text.now (running.Text f) out
 IsJudgeFaultReport before after (judging.Refused e) out = IsFaultReport after.name.now after.text.now (running.Refused e) out
+
+-- what is told of an input that is no tree: the path of what is wrong in it
+abbrev pub no_tree_text : (name path : List ℕ) → List ℕ
+no_tree_text name path = line_of (name ∷ codes ": not a tree: " ∷ path ∷ [])
 
 -- how two programs differ
 abbrev pub why_text : Why → List ℕ
@@ -94,9 +101,3 @@ pub record IsDifferenceReport (before after : Named) (d : TextDifference) (out :
 abbrev pub IsCoverReport : List ℕ → List ℕ → Option CoverGap → List ℕ → Type 0
 IsCoverReport name text None out = out ≡ line_of (name ∷ codes ": the promise covers it" ∷ [])
 IsCoverReport name text (Some gap) out = IsReport name text gap.at (codes "the promise does not cover it: " ++ cause_text gap.cause) out
-
--- ---- one part after another
-
--- something is added
-abbrev pub Grows : List ℕ → List ℕ → Type 0
-Grows old new = (rest : List ℕ) × (new ≡ old ++ rest)

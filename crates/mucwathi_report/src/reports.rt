@@ -1,6 +1,6 @@
 //! Reports, as compilers give them: `file:line:column: what it is`, the line, and a caret.
 ghost use Rattle.std.specs.Prelude.{◌≡◌, ◌++◌, [], ◌∷◌, codes, Some, IfOk, OnOk, map, string_bytes};
-ghost use Rattle.mucwathi_report.specs.Reports.{Grows, IsCoverReport, IsDifferenceReport, IsFaultReport, IsJudgeFaultReport, IsReport, line_of, place_text, refusal_text};
+ghost use Rattle.mucwathi_report.specs.Reports.{IsCoverReport, IsDifferenceReport, IsFaultReport, IsJudgeFaultReport, IsReport, IsShown, line_of, no_tree_text, place_text, refusal_text};
 ghost use Rattle.mucwathi_faults.specs.declared.fault.RunFault.TheVariants as running;
 
 use crate::excerpt::add_excerpt;
@@ -56,7 +56,7 @@ fn place_at(alloc: Global, text: &[u8], at: usize) -> Result<String, AllocError>
 
 // Shows a place, if there is one.
 fn show(text: &[u8], at: Option<usize>, out: &mut Vec<u8>) -> Result<(), AllocError>
-    ensures { OnOk result (Grows out.old.items out.new.items) }
+    ensures { OnOk result (IsShown text.now at out.old.items out.new.items) }
 {
     match at {
         Some(at) => add_excerpt(text, at, out),
@@ -124,7 +124,9 @@ pub fn tell_fault(alloc: Global, of: Named<'_>, fault: &RunFault) -> Result<Vec<
 }
 
 /// That an input is no envelope, by the path of what is wrong in it first.
-pub fn tell_no_tree(alloc: Global, name: &str, path: &str) -> Result<Vec<u8>, AllocError> {
+pub fn tell_no_tree(alloc: Global, name: &str, path: &str) -> Result<Vec<u8>, AllocError>
+    ensures { IfOk result (λ out. out.items ≡ no_tree_text name.now path.now) }
+{
     tell_line(alloc, &[name, ": not a tree: ", path])
 }
 

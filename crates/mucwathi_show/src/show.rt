@@ -1,9 +1,11 @@
 //! Texts as pages.
-ghost use Rattle.std.specs.Prelude.{◌≡◌, Some, IfOk};
+ghost use Rattle.std.specs.Prelude.{◌≡◌, Some, MatchResult};
 ghost use Rattle.swc_tree_scoping.specs.declared.places.Scope.TheVariants as scope;
 ghost use Rattle.swc_tree_scoping.specs.Places.{opened, program_place};
 ghost use Rattle.text_source.specs.Texts.{IsTextOf};
+ghost use Rattle.mucwathi_looks.specs.Looks.{IsLookRefusal, IsUnlooked};
 ghost use Rattle.mucwathi_page.specs.Shown.{IsPage};
+ghost use Rattle.mucwathi_show.specs.Unshown.{IsUnshown, chain_order};
 
 use crate::variables::uses_of;
 use mucwathi_faults::RunFault;
@@ -26,7 +28,9 @@ struct Source<'a> {
 }
 
 // What a chain gives anew.
-fn chain_of(goal: Goal, depth: u32) -> Order {
+fn chain_of(goal: Goal, depth: u32) -> Order
+    ensures { result ≡ chain_order goal depth }
+{
     Order {
         command: Command::Chain,
         goal,
@@ -48,7 +52,7 @@ fn draw(
     program: Node,
 ) -> Result<Vec<u8>, PassError>
     requires { opened program_place program ≡ Some scope.Program }
-    ensures { IfOk result (λ out. IsPage of.entry.text.now out.items) }
+    ensures { MatchResult result (λ out. IsPage of.entry.text.now out.items) (IsLookRefusal program) }
 {
     let mut globals = own_marks(alloc)?;
     let resolved = resolve(alloc, &mut globals, program)?;
@@ -66,7 +70,7 @@ fn draw_source(
     program: Node,
 ) -> Result<Vec<u8>, RunFault>
     requires { IsTextOf goal program of.text.now }
-    ensures { IfOk result (λ out. IsPage of.entry.text.now out.items) }
+    ensures { MatchResult result (λ out. IsPage of.entry.text.now out.items) (IsUnlooked goal of.entry.text.now) }
 {
     match draw(alloc, of, changes, program) {
         Ok(out) => Ok(out),
@@ -74,11 +78,27 @@ fn draw_source(
     }
 }
 
+// A page with a text, of which is known what a chain gives anew.
+fn show(
+    alloc: Global,
+    goal: Goal,
+    depth: u32,
+    of: Source<'_>,
+    changes: &[Change],
+) -> Result<Vec<u8>, RunFault>
+    ensures { MatchResult result (λ out. IsPage of.entry.text.now out.items) (IsUnlooked goal of.entry.text.now) }
+{
+    match read_text(alloc, goal, depth, of.text) {
+        Ok(program) => draw_source(alloc, goal, of, changes, program),
+        Err(fault) => Err(RunFault::of_text(fault)),
+    }
+}
+
 /// A page with a text, each variable of which has a colour of its own: between its tags, in `pre`, it has the text. Who points at a name sees its uses, and what a chain calls it.
 ///
 /// # Errors
 ///
-/// `Text` where the text is not read; `Refused` where memory is refused, or marks are spent.
+/// `Text` where the text is not read; else those of a chain of it (`rewrite_text`).
 pub fn show_text(
     alloc: Global,
     goal: Goal,
@@ -86,17 +106,17 @@ pub fn show_text(
     name: &str,
     text: &[u8],
 ) -> Result<Vec<u8>, RunFault>
-    ensures { IfOk result (λ out. IsPage text.now out.items) }
+    ensures { MatchResult result (λ out. IsPage text.now out.items) (IsUnshown goal depth text.now) }
 {
-    let changes = list_changes(alloc, &chain_of(goal, depth), text)?;
-    match read_text(alloc, goal, depth, text) {
-        Ok(program) => draw_source(
+    let order = chain_of(goal, depth);
+    match list_changes(alloc, &order, text) {
+        Ok(changes) => show(
             alloc,
             goal,
+            depth,
             Source { name, text },
             changes.as_slice(),
-            program,
         ),
-        Err(fault) => Err(RunFault::of_text(fault)),
+        Err(fault) => Err(fault),
     }
 }

@@ -1,2 +1,3 @@
+mod Blanking
 mod Cutting
 mod Signing

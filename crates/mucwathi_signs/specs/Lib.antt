@@ -1,2 +1,3 @@
+pub mod Blanked
 pub mod Cut
 pub mod Signed

@@ -1,5 +1,6 @@
 //! Signs put into a text, and taken out of it.
 ghost use Rattle.std.specs.Prelude.{◌≡◌, ◌≤◌, ◌++◌, [], length, IfOk, OnOk};
+ghost use Rattle.mucwathi_signs.specs.Blanked.{IsBlanked, is_between, is_covered};
 ghost use Rattle.mucwathi_signs.specs.Signed.{IsPut, IsSigned, more_marks, sign_text};
 
 use crate::find::Found;
@@ -71,17 +72,23 @@ pub fn put_signs(alloc: Global, text: &[u8], signs: &[Sign]) -> Result<Vec<u8>, 
     Ok(out)
 }
 
-/// A text with blanks in the place of signs that were found in it, so that all else stays where it is.
-pub fn blank_signs(alloc: Global, text: &[u8], signs: &[Found]) -> Result<Vec<u8>, AllocError> {
-    let mut out = Vec::new(alloc);
-    let mut from = 0;
-    for sign in signs {
-        out.extend_from_slice(text.get(from..sign.from).unwrap_or(&[]))?;
-        for _ in sign.from..sign.to {
-            out.push(b' ')?;
-        }
-        from = sign.to;
+// Puts blanks into the place of bytes, as far as there are some.
+fn blank(text: &mut [u8], from: usize, to: usize)
+    ensures { IsBlanked (is_between from to) text.old text.new }
+{
+    let end = to.min(text.len());
+    'bytes: for i in from..end {
+        text[i] = b' ';
     }
-    out.extend_from_slice(text.get(from..).unwrap_or(&[]))?;
+}
+
+/// A text with blanks in the place of signs that were found in it, so that all else stays where it is.
+pub fn blank_signs(alloc: Global, text: &[u8], signs: &[Found]) -> Result<Vec<u8>, AllocError>
+    ensures { IfOk result (λ out. IsBlanked (is_covered signs.now) text.now out.items) }
+{
+    let mut out = Vec::from_slice(alloc, text)?;
+    for sign in signs {
+        blank(out.as_mut_slice(), sign.from, sign.to);
+    }
     Ok(out)
 }

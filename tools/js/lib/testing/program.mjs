@@ -83,6 +83,7 @@ const FILES = {
   'several files want a place': inFolder((folder) => {
     expect(run(folder, ['chain', 'a.js', 'b.js']), 2, { stderr: 'mucwathi: several files want --in-place or --out FOLDER\n' });
     expect(run(folder, ['chain', '--in-place']), 2, { stderr: 'mucwathi: --in-place and --out want files\n' });
+    expect(run(folder, ['chain', '--in-place', '--source-map', 'a.js', 'a.js']), 2, { stderr: 'mucwathi: --source-map would write over a file that is read\n' });
     expect(run(folder, ['chain', '--source-map', 'm', 'a.js', 'b.js']), 2, { stderr: /^mucwathi: / });
   }),
   '--list tells the file where there are several': inFolder((folder) => {

@@ -8,5 +8,8 @@ answer_program-requires-clause-ready c = c.in-Ok.ensures.ready
 pub answer_program-requires-clause-read : goal.answer_program-requires-clause-read
 answer_program-requires-clause-read c = c.in-Ok.ensures.read
 
-pub returns-in_ok-told-in-Err-NotATree : goal.returns-in_ok-told-in-Err-NotATree
-returns-in_ok-told-in-Err-NotATree c = answer_none (IsOfTree c.args.task.now c.args.of) c.told.result c.told.ensures.status c.told.ensures.out
+pub tell_unread-requires : goal.tell_unread-requires
+tell_unread-requires c = c.in-Err.ensures.fault
+
+pub returns-in-Err : goal.returns-in-Err
+returns-in-Err c = answer_none (IsOfTree c.args.task.now c.args.of) c.args.of c.tell_unread.result c.tell_unread.ensures

@@ -1,4 +1,4 @@
-use Rattle.std.proofs.Common.{IfOk, Some, subst, sym}
+use Rattle.std.proofs.Common.{IfOk, subst, sym}
 use Rattle.mucwathi_marked.specs.Answered.{IsRewrittenMarked}
 use Rattle.mucwathi_answers.specs.Given.{IsRemarked}
 use Rattle.mucwathi_answers.proofs.giving.text_of.Goals as goal

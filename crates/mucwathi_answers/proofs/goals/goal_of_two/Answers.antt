@@ -1,4 +1,3 @@
-use Rattle.std.proofs.Common.{sym, ◌∙◌}
 use Rattle.mucwathi_answers.proofs.Worked.{goal_or}
 use Rattle.mucwathi_answers.proofs.goals.goal_of_two.Goals as goal
 

@@ -5,4 +5,4 @@ pub returns-in-Ok : goal.returns-in-Ok
 returns-in-Ok c = (_, c.requires.asked, c.in-Ok.ensures)
 
 pub returns-in-Err : goal.returns-in-Err
-returns-in-Err c = told_either c.args.work c.args.goal c.args.of c.args.fault c.in-Err.other c.further.result c.further.ensures c.requires.told (_, c.requires.asked, c.in-Err.ensures)
+returns-in-Err c = told_either c.args.view c.args.goal c.args.of c.args.fault c.in-Err.other c.further.result c.further.ensures c.requires.told (_, c.requires.asked, c.in-Err.ensures)

@@ -1,4 +1,8 @@
 use Rattle.mucwathi_given.specs.Given.{HasPairs, IsApart, IsResolved, Then}
+use Rattle.std.proofs.Common.{inl}
+use Rattle.std.proofs.lemmas.Result.{err_from_is_err_and}
+use Rattle.mucwathi_given.specs.Refusals.{InTurn, IsNotApart, IsUnpaired, IsUnresolved}
+use Rattle.mucwathi_given.proofs.Refused.{second_refused}
 use Rattle.mucwathi_given.proofs.Making.{then_around, then_made}
 use Rattle.mucwathi_given.proofs.make.chain.Goals as goal
 
@@ -8,3 +12,12 @@ returns-clause-around c = then_around c.args.given c.in_ok-resolved.resolved c.s
 pub returns-clause-made : goal.returns-clause-made
 returns-clause-made c = λ ready.
     then_made IsResolved (Then IsApart HasPairs) c.args.given c.in_ok-resolved.resolved c.set_apart_and_pair.result (c.in_ok-resolved.ensures.made ready) c.in_ok-resolved.ensures.around c.set_apart_and_pair.ensures.made
+
+pub returns-in_err-resolved-clause-refused : goal.returns-in_err-resolved-clause-refused
+returns-in_err-resolved-clause-refused c = λ ready.
+    let refused = err_from_is_err_and c.from_residual.result c.from_residual.ensures.1 in
+    rw (refused.1, refused.2) (inl c.in_err-resolved.ensures.refused)
+
+pub returns-clause-refused : goal.returns-clause-refused
+returns-clause-refused c = λ ready.
+    second_refused IsUnresolved IsResolved (InTurn IsNotApart IsApart IsUnpaired) c.args.given c.in_ok-resolved.resolved c.set_apart_and_pair.result (c.in_ok-resolved.ensures.made ready) c.set_apart_and_pair.ensures.refused

@@ -1,4 +1,4 @@
-use Rattle.std.proofs.Common.{refl, ◌∙◌, arith}
+use Rattle.std.proofs.Common.{◌∙◌, arith}
 use Rattle.mucwathi_marked.proofs.Rows.{end_more, ends_done}
 use Rattle.mucwathi_marked.proofs.behind.ends_among.Goals as goal
 

@@ -1,4 +1,4 @@
-use Rattle.std.proofs.Common.{Ok, Err, rules, sym, ◌∙◌}
+use Rattle.std.proofs.Common.{rules, sym, ◌∙◌}
 use Rattle.std.proofs.lemmas.List.Sorted.{answers_always}
 use Rattle.mucwathi_marked.proofs.Named.{found_at, found_nowhere}
 use Rattle.mucwathi_marked.proofs.contexts.marks_behind.Goals as goal

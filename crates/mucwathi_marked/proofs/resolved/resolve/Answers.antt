@@ -7,7 +7,7 @@ use Rattle.mucwathi_marked.proofs.resolved.resolve.Goals as goal
 pub returns : goal.returns
 returns c = record {
   made = c.in_ok-made.made;
-  is_made = c.in_ok-made.ensures c.requires;
+  is_made = c.in_ok-made.ensures.made c.requires;
   signs = c.as_slice-3.result.now;
   are =
       own_signs c.in_ok-made.made.tree (map site_of c.as_slice.result.now) (map site_of c.as_slice-2.result.now) c.in_ok-signs.signs.items c.as_slice-3.result.now

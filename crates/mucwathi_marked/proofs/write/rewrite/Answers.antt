@@ -1,7 +1,6 @@
 use Rattle.std.proofs.Common.{subst, sym}
 use Rattle.std.proofs.lemmas.Result.{IfOk-weaker}
-use Rattle.swc_tree_node.specs.declared.node.Node.{Node}
-use Rattle.mucwathi_given.specs.Given.{IsMade, IsReady}
+use Rattle.mucwathi_given.specs.Given.{IsReady}
 use Rattle.mucwathi_marked.specs.Answered.{IsRemade, IsWrittenFor}
 use Rattle.mucwathi_marked.proofs.Ready.{settings_ready}
 use Rattle.mucwathi_marked.proofs.Writing.{remade}

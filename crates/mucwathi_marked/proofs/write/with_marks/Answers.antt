@@ -1,4 +1,4 @@
-use Rattle.std.proofs.Common.{List, map, ap, inl, inr, refl, sym, ◌∙◌, subst}
+use Rattle.std.proofs.Common.{map, inl, inr, refl, subst}
 use Rattle.std.proofs.lemmas.Result.{IfOk-weaker}
 use Rattle.swc_tree_walk.specs.Sites.{site_of}
 use Rattle.text_source.specs.Texts.{SpansAreOf}

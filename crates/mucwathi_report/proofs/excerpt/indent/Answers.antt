@@ -1,8 +1,11 @@
-use Rattle.mucwathi_report.proofs.Told.{grows_not, grows_on}
+use Rattle.std.proofs.Common.{arith}
+use Rattle.mucwathi_report.proofs.Blanks.{blanks_done, blanks_more}
 use Rattle.mucwathi_report.proofs.excerpt.indent.Goals as goal
 
-pub loop-byte-init : goal.loop-byte-init
-loop-byte-init c = grows_not c.args.out.now.items
+pub bytes-preserved : goal.bytes-preserved
+bytes-preserved c =
+    let l = c.bytes in
+    blanks_more c.args.part.now _ l.out.items c.add_blank.new.out.items l.i _ (omega arith) c.in_ok-add_blank.ensures l.invariant
 
-pub loop-byte-preserved : goal.loop-byte-preserved
-loop-byte-preserved c = grows_on c.args.out.now.items c.loop-byte.out.items c.add_blank.new.out.items c.loop-byte.invariant c.in_ok-add_blank.ensures
+pub returns : goal.returns
+returns c = blanks_done c.args.part.now _ c.bytes.out.items c.bytes.i (omega arith) c.bytes.invariant

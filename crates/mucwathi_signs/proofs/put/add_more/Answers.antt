@@ -1,4 +1,4 @@
-use Rattle.std.proofs.Common.{string_bytes, ◌∙◌}
+use Rattle.std.proofs.Common.{◌∙◌}
 use Rattle.mucwathi_signs.proofs.Signing.{one_more}
 use Rattle.mucwathi_signs.proofs.put.add_more.Goals as goal
 
