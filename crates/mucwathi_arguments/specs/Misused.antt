@@ -55,7 +55,7 @@ maps_over task = option_map_or (λ map. list_any (λ f. bytes_eq f.now map.now) 
 abbrev pub fills_folder : Rewriting → Bool
 fills_folder task = writes task && is_folder task.target
 
--- each answer that is written has a place of its own
+-- answers have places, and no two share standard output, a map or a name in a folder; a map goes over no file that is read
 pub record IsUsable (task : Rewriting) : Type 0 where
   pub placed : lacks_files task ≡ false
   pub apart : shares_output task ≡ false

@@ -129,7 +129,7 @@ fn goes_into_folder(task: &Rewriting<'_>) -> bool
 /// What of a task over files can't be done, whatever they hold: answers have no place, or several would go to one, or a map would go over
 /// what is read. None where all can.
 ///
-/// Where it is none, each answer that is written has a place of its own: no two files of a folder have one name.
+/// Where it is none, no two answers that are written go to standard output, into one map, or under one name into a folder.
 pub fn misuse_of<'a>(task: &Rewriting<'a>) -> Option<Misuse<'a>>
     ensures { IsMisuseTold task.now result }
 {
