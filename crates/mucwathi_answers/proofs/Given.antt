@@ -1,5 +1,5 @@
 -- What is answered for a program that was given.
-use Rattle.std.proofs.Common.{◌≡◌, ℕ, List, inl, true, false, sym, subst, ◌∙◌, Result, Ok, Err, IfOk, refl, arith}
+use Rattle.std.proofs.Common.{◌≡◌, ◌⊎◌, ℕ, List, inl, inr, true, false, sym, subst, ◌∙◌, Result, Ok, Err, IfErr, IfOk, MatchResult, refl, arith}
 use Rattle.std.specs.Prelude.{Bool, Vec}
 use Rattle.jsbase_reader.specs.declared.envelope.Envelope.{Envelope}
 use Rattle.text_parser.specs.declared.programs.Goal.{Goal}
@@ -9,11 +9,14 @@ use Rattle.mucwathi_arguments.specs.declared.task.Rewriting.{Rewriting}
 use Rattle.mucwathi_arguments.specs.declared.task.Source.{Source}
 use Rattle.mucwathi_arguments.specs.declared.task.Source.TheVariants as source
 use Rattle.mucwathi_faults.specs.declared.fault.RunFault.{RunFault}
+use Rattle.mucwathi_faults.specs.declared.fault.RunFault.TheVariants.{NotKept, NotWritten, Refused, Text}
+use Rattle.mucwathi_commands.specs.Faults.{IsWriteFault}
 use Rattle.mucwathi_given.specs.Given.{IsReady}
 use Rattle.mucwathi_marked.specs.Given.{IsUnmarked}
+use Rattle.mucwathi_marked.specs.Refused.{IsUnread}
 use Rattle.mucwathi_report.specs.declared.reports.Named.{Named}
 use Rattle.mucwathi_answers.specs.Answers.{IsAnswered, IsAsked, IsFaultTold, IsWell}
-use Rattle.mucwathi_answers.specs.Given.{HasFault, IsAnswerOf, IsAnsweredAs, IsAnsweredIf, IsAnsweredTo, IsGivenAnswer, IsNoTreeTold, IsOf, IsOfText, IsProgramOf, IsUnanswered, with_settings}
+use Rattle.mucwathi_answers.specs.Given.{HasFault, IsAnswerOf, IsAnsweredAs, IsAnsweredIf, IsAnsweredTo, IsGivenAnswer, IsMadeBy, IsNoProgram, IsNoText, IsNoTreeTold, IsOf, IsOfText, IsProgramOf, IsTextFault, IsUnanswered, IsUnansweredAs, with_settings}
 use Rattle.mucwathi_answers.specs.declared.answer.Answer.{Answer}
 use Rattle.mucwathi_answers.proofs.Worked.{fault_status}
 
@@ -21,9 +24,36 @@ pub settings_ready : (task : Giving) (e : Envelope) → IsReady e → IsReady (w
 settings_ready task e h = record { program = h.program; marks = h.marks }
 
 module _ {Z : Type 0} (task : Giving) (of : Named) where
-  pub answered_as : (g : Goal) (r : Result (Vec ℕ Z) RunFault) → IsAsked task.goal of g → IfOk r (λ out. IsAnsweredAs task.form.json task g of.text.now out.items) → IfOk r (λ out. IsOfText task of out.items)
+  pub answered_as : (g : Goal) (r : Result (Vec ℕ Z) RunFault) → IsAsked task.goal of g → MatchResult r (λ out. IsAnsweredAs task.form.json task g of.text.now out.items) (IsUnansweredAs task.form.json task g of.text.now)
+      → MatchResult r (λ out. IsOfText task of out.items) (IsTextFault task of)
   answered_as g (Ok out) asked h = (g, asked, h)
-  answered_as g (Err f) asked h = tt
+  answered_as g (Err f) asked h = (g, asked, h)
+
+module _ (task : Giving) (of : Named) where
+  pub told_either : (f g r : RunFault) → (r ≡ f) ⊎ (r ≡ g) → IsTextFault task of f → IsTextFault task of g → IsTextFault task of r
+  told_either f g r (inl is) one other = subst (IsTextFault task of) (sym is) one
+  told_either f g r (inr is) one other = subst (IsTextFault task of) (sym is) other
+
+-- what is said of both ends, and of one
+module _ {X E : Type 0} (P : X → Type 0) (Q : E → Type 0) where
+  pub both_ends : (r : Result X E) → IfOk r P → IfErr r Q → MatchResult r P Q
+  both_ends (Ok x) h k = h
+  both_ends (Err e) h k = k
+
+  pub well_end : (r : Result X E) → MatchResult r P Q → IfOk r P
+  well_end (Ok x) h = h
+  well_end (Err e) h = tt
+
+  pub other_end : (r : Result X E) → MatchResult r P Q → IfErr r Q
+  other_end (Ok x) h = tt
+  other_end (Err e) h = h
+
+-- what is said of a fault of what was made of a program
+pub no_text : (task : Giving) (program made : Envelope) → IsMadeBy task program made → (f : RunFault) → IsWriteFault f → IsNoText task program f
+no_text task program made is (Text f) h = h
+no_text task program made is (Refused e) h = inl h
+no_text task program made is NotWritten h = (made, is)
+no_text task program made is NotKept h = (made, is)
 
 module _ (P : List ℕ → Type 0) (Q : Answer → Type 0) where
   pub answer_well : (a : Answer) (out : List ℕ) → a.out.items ≡ out → IsWell a → P out → IsAnswerOf P Q a
@@ -34,16 +64,21 @@ module _ (P : List ℕ → Type 0) (Q : Answer → Type 0) where
   answer_fault of f (Err e) so is = tt
 
 module _ (P : List ℕ → Type 0) where
-  pub answer_none : {E : Type 0} (of : Named) (r : Result Answer E) → IfOk r (IsNoTreeTold of) → IfOk r (IsAnswerOf P (IsUnanswered source.Tree of))
-  answer_none of (Ok a) h = record { well = λ (well : a.status ≡ 0). absurd (omega (arith, h.status, well)); fault = λ other. inl h }
-  answer_none of (Err e) h = tt
+  pub answer_none : {E : Type 0} (task : Giving) (of : Named) (r : Result Answer E) → IfOk r (IsNoTreeTold of) → IfOk r (IsAnswerOf P (IsUnanswered source.Tree task of))
+  answer_none task of (Ok a) h = record { well = λ (well : a.status ≡ 0). absurd (omega (arith, h.status, well)); fault = λ other. inl h }
+  answer_none task of (Err e) h = tt
 
 pub not_marked : {E : Type 0} (s : Source) (g : Goal) (text : List ℕ) (r : Result Envelope E) → (s ≡ source.Marked → ⊥) → IfOk r (IsUnmarked g text) → IfOk r (IsProgramOf s g text)
 not_marked source.Marked g text r other h = absurd (other refl)
 not_marked source.Text g text r other h = h
 not_marked source.Tree g text r other h = h
 
-pub of_text : {E : Type 0} (s : Source) (task : Giving) (of : Named) (r : Result Answer E) → (s ≡ source.Tree → ⊥) → IfOk r (IsAnswerOf (IsOfText task of) (HasFault of)) → IfOk r (IsAnswerOf (IsOf s task of) (IsUnanswered s of))
+pub no_program : {X : Type 0} (s : Source) (text : List ℕ) (r : Result X RunFault) → (s ≡ source.Marked → ⊥) → IfErr r (IsUnread text) → IfErr r (IsNoProgram s text)
+no_program source.Marked text r other h = absurd (other refl)
+no_program source.Text text r other h = h
+no_program source.Tree text r other h = h
+
+pub of_text : {E : Type 0} (s : Source) (task : Giving) (of : Named) (r : Result Answer E) → (s ≡ source.Tree → ⊥) → IfOk r (IsAnswerOf (IsOfText task of) (HasFault (IsTextFault task of) of)) → IfOk r (IsAnswerOf (IsOf s task of) (IsUnanswered s task of))
 of_text source.Tree task of r other h = absurd (other refl)
 of_text source.Text task of r other h = h
 of_text source.Marked task of r other h = h

@@ -14,7 +14,7 @@ pub memory_unlooked : (g : Goal) (text : List ℕ) (f : RunFault) → IsMemoryFa
 memory_unlooked g text f is = subst (IsUnlooked g text) (sym is) (inl refl)
 
 module _ {Z : Type 0} (v : View) (given : Option Goal) (of : Named) where
-  pub shown_as : (g : Goal) (r : Result (Vec ℕ Z) RunFault) → IsAsked given of g → MatchResult r (λ out. Shows v g of.text.now out.items) (IsUnshown v g of.text.now)
+  pub shown_as : (g : Goal) (r : Result (Vec ℕ Z) RunFault) → IsAsked given of g → MatchResult r (λ out. Shows v g of out.items) (IsUnshown v g of.text.now)
       → MatchResult r (λ out. IsShown v given of out.items) (IsShowFault v given of)
   shown_as g (Ok out) asked h = (g, asked, h)
   shown_as g (Err f) asked h = (g, asked, h)

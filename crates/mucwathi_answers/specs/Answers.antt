@@ -33,7 +33,7 @@ use Rattle.mucwathi_looks.specs.Marked.{HasSigns}
 use Rattle.mucwathi_looks.specs.Names.{HasFreeNames}
 use Rattle.mucwathi_looks.specs.Trees.{HasTree}
 use Rattle.mucwathi_map.specs.Map.{IsMap}
-use Rattle.mucwathi_page.specs.Shown.{IsPage}
+use Rattle.mucwathi_show.specs.Shown.{IsShown as IsShownPage}
 use Rattle.mucwathi_show.specs.Unshown.{IsUnshown as IsPageUnshown}
 use Rattle.mucwathi_report.specs.declared.reports.Named.{Named}
 use Rattle.mucwathi_report.specs.Reports.{IsCoverReport, IsDifferenceReport, IsFaultReport, IsJudgeFaultReport}
@@ -159,11 +159,11 @@ abbrev pub HasNameList : Goal → List ℕ → List ℕ → Type 0
 HasNameList goal text out = (names : List FreeName) × HasFreeNames goal text names × (out ≡ names_listed text names)
 
 -- what is shown of a text, as what it is read: its tree, the text with marks or in a page, or its free names
-abbrev pub Shows : View → Goal → List ℕ → List ℕ → Type 0
-Shows view.Tree goal text out = HasTree goal text out
-Shows view.Marks goal text out = HasSigns goal text out
-Shows view.Page goal text out = IsPage text out
-Shows view.Names goal text out = HasNameList goal text out
+abbrev pub Shows : View → Goal → Named → List ℕ → Type 0
+Shows view.Tree goal of out = HasTree goal of.text.now out
+Shows view.Marks goal of out = HasSigns goal of.text.now out
+Shows view.Page goal of out = IsShownPage goal 4000 of.name.now of.text.now out
+Shows view.Names goal of out = HasNameList goal of.text.now out
 
 -- ... and why nothing is
 abbrev pub IsUnshown : View → Goal → List ℕ → RunFault → Type 0
@@ -172,7 +172,7 @@ IsUnshown _ goal text f = IsUnlooked goal text f
 
 -- so it is of a text, as what it is read
 abbrev pub IsShown : View → Option Goal → Named → List ℕ → Type 0
-IsShown v given of out = (goal : Goal) × IsAsked given of goal × Shows v goal of.text.now out
+IsShown v given of out = (goal : Goal) × IsAsked given of goal × Shows v goal of out
 
 abbrev pub IsShowFault : View → Option Goal → Named → RunFault → Type 0
 IsShowFault v given of f = (goal : Goal) × IsAsked given of goal × IsUnshown v goal of.text.now f

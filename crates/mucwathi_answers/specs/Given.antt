@@ -1,6 +1,8 @@
 -- What is answered to a task over programs that are not given, or not answered, as texts.
 use Rattle.std.specs.Option.{option_or}
 use Rattle.std.specs.Prelude.{◌≡◌, ◌⊎◌, ◌||◌, ℕ, Bool, false, true, List, [], Option, Some, None}
+use Rattle.swc_tree_marks.specs.declared.error.PassError.{PassError}
+use Rattle.swc_tree_marks.specs.declared.error.PassError.TheVariants as refusal
 use Rattle.swc_tree_node.specs.declared.node.Node.{Node, out-Node}
 use Rattle.swc_tree_node.specs.declared.node.Node.TheOpen.{Node-F}
 use Rattle.swc_tree_node.specs.declared.kind.Kind.TheVariants as kind
@@ -17,11 +19,14 @@ use Rattle.mucwathi_arguments.specs.declared.task.Rewriting.{Rewriting}
 use Rattle.mucwathi_arguments.specs.declared.task.Source.{Source}
 use Rattle.mucwathi_arguments.specs.declared.task.Source.TheVariants as source
 use Rattle.mucwathi_faults.specs.declared.fault.RunFault.{RunFault}
+use Rattle.mucwathi_faults.specs.declared.fault.RunFault.TheVariants.{NotKept, NotWritten, Refused, Text}
 use Rattle.mucwathi_given.specs.Faults.{IsNoTree}
 use Rattle.mucwathi_given.specs.Given.{IsMade, IsRead}
+use Rattle.mucwathi_given.specs.Refusals.{IsUnmade}
 use Rattle.mucwathi_marked.specs.declared.given.Marked.{Marked}
 use Rattle.mucwathi_marked.specs.Answered.{IsPrinted, IsResolvedMarked, IsRewrittenMarked}
 use Rattle.mucwathi_marked.specs.Given.{IsGiven, IsUnmarked}
+use Rattle.mucwathi_marked.specs.Refused.{IsUngiven, IsUnread, IsUnresolvedMarked, IsUnrewrittenMarked}
 use Rattle.mucwathi_report.specs.Reports.{no_tree_text}
 use Rattle.mucwathi_report.specs.declared.reports.Named.{Named}
 use Rattle.mucwathi_answers.specs.Answers.{IsAnswered, IsAsked, IsFaultTold, IsWell, keeps_top, settings_for}
@@ -95,9 +100,58 @@ abbrev pub IsOf : Source → Giving → Named → List ℕ → Type 0
 IsOf source.Tree task of out = IsOfTree task of out
 IsOf _ task of out = IsOfText task of out
 
--- a fault is told
-abbrev pub HasFault : Named → Answer → Type 0
-HasFault of a = (f : RunFault) × IsFaultTold of f a
+-- ---- why nothing is
+
+-- no program is given, as the text is not read
+abbrev pub IsNoProgram : Source → List ℕ → RunFault → Type 0
+IsNoProgram source.Marked text f = IsUngiven text f
+IsNoProgram _ text f = IsUnread text f
+
+-- nothing is made of a program
+abbrev pub IsUnmadeBy : Giving → Envelope → PassError → Type 0
+IsUnmadeBy task program e = (e ≡ refusal.NoMemory) ⊎ IsUnmade task.command (with_settings task program) e
+
+abbrev pub IsRefusal : Giving → Envelope → RunFault → Type 0
+IsRefusal task program (Refused e) = IsUnmadeBy task program e
+IsRefusal task program (Text f) = ⊥
+IsRefusal task program NotWritten = ⊥
+IsRefusal task program NotKept = ⊥
+
+-- ... or what is made of it has no text
+abbrev pub IsNoText : Giving → Envelope → RunFault → Type 0
+IsNoText task program (Refused e) = IsUnmadeBy task program e
+IsNoText task program (Text f) = ⊥
+IsNoText task program NotWritten = (made : Envelope) × IsMadeBy task program made
+IsNoText task program NotKept = (made : Envelope) × IsMadeBy task program made
+
+abbrev pub IsUnwrittenAs : Bool → Giving → Envelope → RunFault → Type 0
+IsUnwrittenAs true task program f = IsRefusal task program f
+IsUnwrittenAs false task program f = IsNoText task program f
+
+-- there is no envelope of what is made of a text's program
+abbrev pub IsNoEnvelope : Giving → Goal → List ℕ → RunFault → Type 0
+IsNoEnvelope task g text f = IsNoProgram task.form.source text f ⊎ ((program : Envelope) × IsProgramOf task.form.source g text program × IsRefusal task program f)
+
+-- ... or no text with marks
+abbrev pub IsUnremarked : Option Command → Giving → Goal → List ℕ → RunFault → Type 0
+IsUnremarked None task g text f = IsUnresolvedMarked g text f
+IsUnremarked (Some command) task g text f = IsUnrewrittenMarked (order_given task command g) text f
+
+abbrev pub IsUnansweredAs : Bool → Giving → Goal → List ℕ → RunFault → Type 0
+IsUnansweredAs true task g text f = IsNoEnvelope task g text f
+IsUnansweredAs false task g text f = IsUnremarked task.command task g text f
+
+-- a fault tells why, of a text as what it is read
+abbrev pub IsTextFault : Giving → Named → RunFault → Type 0
+IsTextFault task of f = (g : Goal) × IsAsked task.goal of g × IsUnansweredAs task.form.json task g of.text.now f
+
+-- ... or of the program of an envelope that was read
+abbrev pub IsProgramFault : Giving → Named → RunFault → Type 0
+IsProgramFault task of f = (program : Envelope) × IsRead of.text.now program × IsUnwrittenAs task.form.json task program f
+
+-- such a fault is told
+abbrev pub HasFault : (RunFault → Type 0) → Named → Answer → Type 0
+HasFault TellsWhy of a = (f : RunFault) × TellsWhy f × IsFaultTold of f a
 
 -- ... or that an input is no tree, and where that shows
 pub record IsNoTreeTold (of : Named) (a : Answer) : Type 0 where
@@ -107,9 +161,9 @@ pub record IsNoTreeTold (of : Named) (a : Answer) : Type 0 where
   pub out : a.out.items ≡ []
   pub told : a.told.items ≡ no_tree_text of.name.now path
 
-abbrev pub IsUnanswered : Source → Named → Answer → Type 0
-IsUnanswered source.Tree of a = IsNoTreeTold of a ⊎ HasFault of a
-IsUnanswered _ of a = HasFault of a
+abbrev pub IsUnanswered : Source → Giving → Named → Answer → Type 0
+IsUnanswered source.Tree task of a = IsNoTreeTold of a ⊎ HasFault (IsProgramFault task of) of a
+IsUnanswered _ task of a = HasFault (IsTextFault task of) of a
 
 -- status 0 is only given where that is written which was asked for; with another nothing is, and it is told why
 pub record IsAnswerOf (IsWritten : List ℕ → Type 0) (IsTold : Answer → Type 0) (a : Answer) : Type 0 where
@@ -117,7 +171,7 @@ pub record IsAnswerOf (IsWritten : List ℕ → Type 0) (IsTold : Answer → Typ
   pub fault : ¬ IsWell a → IsTold a
 
 abbrev pub IsGivenAnswer : Giving → Named → Answer → Type 0
-IsGivenAnswer task of a = IsAnswerOf (IsOf task.form.source task of) (IsUnanswered task.form.source of) a
+IsGivenAnswer task of a = IsAnswerOf (IsOf task.form.source task of) (IsUnanswered task.form.source task of) a
 
 -- from text to text, or otherwise
 abbrev pub IsAnsweredIf : (plain : Bool) → Rewriting → List ℕ → Named → Answer → Type 0

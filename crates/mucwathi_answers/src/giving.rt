@@ -1,12 +1,13 @@
 //! What is made of a program that is given, or answered, otherwise than as a text.
-ghost use Rattle.std.specs.Prelude.{◌≡◌, None, IfOk};
+ghost use Rattle.std.specs.Prelude.{◌≡◌, None, IfErr, IfOk, MatchResult};
 ghost use Rattle.text_parser.specs.declared.programs.Goal.TheVariants as kinds;
 ghost use Rattle.mucwathi_arguments.specs.declared.task.Source.TheVariants as sources;
 ghost use Rattle.mucwathi_given.specs.Faults.{IsTreeFault};
 ghost use Rattle.mucwathi_given.specs.Given.{IsRead, IsReady};
 ghost use Rattle.mucwathi_marked.specs.Given.{IsUnmarked};
+ghost use Rattle.mucwathi_marked.specs.Refused.{IsUngiven, IsUnread};
 ghost use Rattle.mucwathi_answers.specs.Answers.{IsAsked, goal_asked as is_asked};
-ghost use Rattle.mucwathi_answers.specs.Given.{HasEnvelopeOf, HasFault, IsAnswerOf, IsAnsweredAs, IsEnvelopeOf, IsGivenAnswer, IsMadeBy, IsNoTreeTold, IsOfText, IsOfTree, IsProgramOf, IsRemarked, IsTextOfMade, IsUnanswered, IsWrittenAs, goal_of, order_given, with_settings as settings_in};
+ghost use Rattle.mucwathi_answers.specs.Given.{HasEnvelopeOf, HasFault, IsAnswerOf, IsAnsweredAs, IsEnvelopeOf, IsGivenAnswer, IsMadeBy, IsNoEnvelope, IsNoProgram, IsNoText, IsNoTreeTold, IsOfText, IsOfTree, IsProgramOf, IsRefusal, IsRemarked, IsTextFault, IsTextOfMade, IsUnanswered, IsUnansweredAs, IsUnmadeBy, IsUnremarked, IsUnwrittenAs, IsWrittenAs, goal_of, order_given, with_settings as settings_in};
 
 use crate::answer::{Answer, DEPTH};
 use crate::goals::{further, goal_asked, may_be_module};
@@ -38,7 +39,7 @@ fn with_settings(task: &Giving, program: Envelope) -> Envelope
 
 fn made(alloc: Global, task: &Giving, program: Envelope) -> Result<Envelope, PassError>
     requires { IsReady program }
-    ensures { IfOk result (IsMadeBy task.now program) }
+    ensures { MatchResult result (IsMadeBy task.now program) (IsUnmadeBy task.now program) }
 {
     let given = with_settings(task, program);
     make_given(alloc, task.command, given)
@@ -47,7 +48,7 @@ fn made(alloc: Global, task: &Giving, program: Envelope) -> Result<Envelope, Pas
 // The envelope of what is made of it, as JSON.
 fn write_made(alloc: Global, task: &Giving, program: Envelope) -> Result<Vec<u8>, PassError>
     requires { IsReady program }
-    ensures { IfOk result (λ out. IsEnvelopeOf task.now program out.items) }
+    ensures { MatchResult result (λ out. IsEnvelopeOf task.now program out.items) (IsUnmadeBy task.now program) }
 {
     let made = made(alloc, task, program)?;
     let json = write_tree(alloc, &made)?;
@@ -56,7 +57,7 @@ fn write_made(alloc: Global, task: &Giving, program: Envelope) -> Result<Vec<u8>
 
 fn envelope(alloc: Global, task: &Giving, program: Envelope) -> Result<Vec<u8>, RunFault>
     requires { IsReady program }
-    ensures { IfOk result (λ out. IsEnvelopeOf task.now program out.items) }
+    ensures { MatchResult result (λ out. IsEnvelopeOf task.now program out.items) (IsRefusal task.now program) }
 {
     match write_made(alloc, task, program) {
         Ok(out) => Ok(out),
@@ -68,6 +69,7 @@ fn envelope(alloc: Global, task: &Giving, program: Envelope) -> Result<Vec<u8>, 
 fn marked_program(alloc: Global, text: &[u8], goal: Goal) -> Result<Envelope, RunFault>
     ensures program { IfOk result (IsProgramOf sources.Marked goal text.now) }
     ensures ready { IfOk result IsReady }
+    ensures fault { IfErr result (IsUngiven text.now) }
 {
     let marked = give_marked(alloc, goal, DEPTH, text)?;
     Ok(marked.program)
@@ -77,6 +79,7 @@ fn marked_program(alloc: Global, text: &[u8], goal: Goal) -> Result<Envelope, Ru
 fn plain_program(alloc: Global, text: &[u8], goal: Goal) -> Result<Envelope, RunFault>
     ensures program { IfOk result (IsUnmarked goal text.now) }
     ensures ready { IfOk result IsReady }
+    ensures fault { IfErr result (IsUnread text.now) }
 {
     give_text(alloc, goal, DEPTH, text)
 }
@@ -85,6 +88,7 @@ fn plain_program(alloc: Global, text: &[u8], goal: Goal) -> Result<Envelope, Run
 fn program_of(alloc: Global, source: Source, text: &[u8], goal: Goal) -> Result<Envelope, RunFault>
     ensures program { IfOk result (IsProgramOf source goal text.now) }
     ensures ready { IfOk result IsReady }
+    ensures fault { IfErr result (IsNoProgram source text.now) }
 {
     match source {
         Source::Marked => marked_program(alloc, text, goal),
@@ -94,7 +98,7 @@ fn program_of(alloc: Global, source: Source, text: &[u8], goal: Goal) -> Result<
 
 // The envelope of what is made of a text.
 fn envelope_of(alloc: Global, task: &Giving, text: &[u8], goal: Goal) -> Result<Vec<u8>, RunFault>
-    ensures { IfOk result (λ out. HasEnvelopeOf task.now goal text.now out.items) }
+    ensures { MatchResult result (λ out. HasEnvelopeOf task.now goal text.now out.items) (IsNoEnvelope task.now goal text.now) }
 {
     let program = program_of(alloc, task.form.source, text, goal)?;
     envelope(alloc, task, program)
@@ -119,7 +123,7 @@ fn order_for(task: &Giving, command: Command, goal: Goal) -> Order
 
 // What is made of a text with marks, as such a text.
 fn text_of(alloc: Global, task: &Giving, text: &[u8], goal: Goal) -> Result<Vec<u8>, RunFault>
-    ensures { IfOk result (λ out. IsRemarked task.now.command task.now goal text.now out.items) }
+    ensures { MatchResult result (λ out. IsRemarked task.now.command task.now goal text.now out.items) (IsUnremarked task.now.command task.now goal text.now) }
 {
     match task.command {
         None => resolve_marked(alloc, goal, DEPTH, text),
@@ -131,7 +135,7 @@ fn text_of(alloc: Global, task: &Giving, text: &[u8], goal: Goal) -> Result<Vec<
 }
 
 fn work_as(alloc: Global, task: &Giving, text: &[u8], goal: Goal) -> Result<Vec<u8>, RunFault>
-    ensures { IfOk result (λ out. IsAnsweredAs task.now.form.json task.now goal text.now out.items) }
+    ensures { MatchResult result (λ out. IsAnsweredAs task.now.form.json task.now goal text.now out.items) (IsUnansweredAs task.now.form.json task.now goal text.now) }
 {
     if task.form.json {
         envelope_of(alloc, task, text, goal)
@@ -147,8 +151,9 @@ fn work_as_module(
     of: Named<'_>,
     fault: RunFault,
 ) -> Result<Vec<u8>, RunFault>
-    requires { IsAsked task.now.goal of kinds.Module }
-    ensures { IfOk result (λ out. IsOfText task.now of.entry out.items) }
+    requires asked { IsAsked task.now.goal of kinds.Module }
+    requires told { IsTextFault task.now of fault }
+    ensures { MatchResult result (λ out. IsOfText task.now of.entry out.items) (IsTextFault task.now of.entry) }
 {
     match work_as(alloc, task, of.text, Goal::Module) {
         Ok(out) => Ok(out),
@@ -159,7 +164,7 @@ fn work_as_module(
 // The same where it is open as what it is read: as a script where it is one, and else as a module.
 fn work_open(alloc: Global, task: &Giving, of: Named<'_>) -> Result<Vec<u8>, RunFault>
     requires { is_asked task.now.goal of ≡ None }
-    ensures { IfOk result (λ out. IsOfText task.now of.entry out.items) }
+    ensures { MatchResult result (λ out. IsOfText task.now of.entry out.items) (IsTextFault task.now of.entry) }
 {
     match work_as(alloc, task, of.text, Goal::Script) {
         Ok(out) => Ok(out),
@@ -174,7 +179,7 @@ fn work_open(alloc: Global, task: &Giving, of: Named<'_>) -> Result<Vec<u8>, Run
 }
 
 fn work_on(alloc: Global, task: &Giving, of: Named<'_>) -> Result<Vec<u8>, RunFault>
-    ensures { IfOk result (λ out. IsOfText task.now of.entry out.items) }
+    ensures { MatchResult result (λ out. IsOfText task.now of.entry out.items) (IsTextFault task.now of.entry) }
 {
     match goal_asked(task.goal, of) {
         Some(goal) => work_as(alloc, task, of.text, goal),
@@ -202,7 +207,7 @@ fn layout_of(style: Style) -> Layout {
 // What is made of an envelope's program, as a text.
 fn text_of_tree(alloc: Global, task: &Giving, program: Envelope) -> Result<Vec<u8>, RunFault>
     requires { IsReady program }
-    ensures { IfOk result (λ out. IsTextOfMade task.now program out.items) }
+    ensures { MatchResult result (λ out. IsTextOfMade task.now program out.items) (IsNoText task.now program) }
 {
     match made(alloc, task, program) {
         Ok(made) => {
@@ -216,7 +221,7 @@ fn text_of_tree(alloc: Global, task: &Giving, program: Envelope) -> Result<Vec<u
 // What is made of an envelope.
 fn work_on_tree(alloc: Global, task: &Giving, program: Envelope) -> Result<Vec<u8>, RunFault>
     requires { IsReady program }
-    ensures { IfOk result (λ out. IsWrittenAs task.now.form.json task.now program out.items) }
+    ensures { MatchResult result (λ out. IsWrittenAs task.now.form.json task.now program out.items) (IsUnwrittenAs task.now.form.json task.now program) }
 {
     if task.form.json {
         envelope(alloc, task, program)
@@ -233,7 +238,7 @@ fn answer_program(
 ) -> Result<Answer, AllocError>
     requires ready { IsReady program }
     requires read { IsRead of.text.now program }
-    ensures { IfOk result (IsAnswerOf (IsOfTree task.now of.entry) (IsUnanswered sources.Tree of.entry)) }
+    ensures { IfOk result (IsAnswerOf (IsOfTree task.now of.entry) (IsUnanswered sources.Tree task.now of.entry)) }
 {
     match work_on_tree(alloc, task, program) {
         Ok(out) => Ok(Answer::of(alloc, out)),
@@ -256,7 +261,7 @@ fn tell_unread(alloc: Global, of: Named<'_>, fault: TreeFault) -> Result<Answer,
 }
 
 fn answer_tree_given(alloc: Global, task: &Giving, of: Named<'_>) -> Result<Answer, AllocError>
-    ensures { IfOk result (IsAnswerOf (IsOfTree task.now of.entry) (IsUnanswered sources.Tree of.entry)) }
+    ensures { IfOk result (IsAnswerOf (IsOfTree task.now of.entry) (IsUnanswered sources.Tree task.now of.entry)) }
 {
     match read_tree(alloc, of.text) {
         Ok(program) => answer_program(alloc, task, of, program),
@@ -265,7 +270,7 @@ fn answer_tree_given(alloc: Global, task: &Giving, of: Named<'_>) -> Result<Answ
 }
 
 fn answer_text_given(alloc: Global, task: &Giving, of: Named<'_>) -> Result<Answer, AllocError>
-    ensures { IfOk result (IsAnswerOf (IsOfText task.now of.entry) (HasFault of.entry)) }
+    ensures { IfOk result (IsAnswerOf (IsOfText task.now of.entry) (HasFault (IsTextFault task.now of.entry) of.entry)) }
 {
     match work_on(alloc, task, of) {
         Ok(out) => Ok(Answer::of(alloc, out)),

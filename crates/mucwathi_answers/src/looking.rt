@@ -46,7 +46,7 @@ fn names(alloc: Global, of: Named<'_>, goal: Goal) -> Result<Vec<u8>, RunFault>
 
 // What is told of a text that is read as the goal has it.
 fn work_as(alloc: Global, view: View, of: Named<'_>, goal: Goal) -> Result<Vec<u8>, RunFault>
-    ensures { MatchResult result (λ out. Shows view goal of.entry.text.now out.items) (IsUnshown view goal of.entry.text.now) }
+    ensures { MatchResult result (λ out. Shows view goal of.entry out.items) (IsUnshown view goal of.entry.text.now) }
 {
     match view {
         View::Marks => mark_text(alloc, goal, DEPTH, of.text),

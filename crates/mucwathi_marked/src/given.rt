@@ -1,9 +1,11 @@
 //! Texts read with their marks.
-ghost use Rattle.std.specs.Prelude.{◌≡◌, Contains, IfOk, IsTrue};
+ghost use Rattle.std.specs.Prelude.{◌≡◌, ℕ, Contains, IfErr, IfOk, IsTrue, List, MatchResult};
 ghost use Rattle.std.specs.List.{All};
+ghost use Rattle.mucwathi_signs.specs.Cut.{AreWritten};
 ghost use Rattle.mucwathi_signs.specs.Signed.{IsMarked};
 ghost use Rattle.mucwathi_passes.specs.Passes.{own_table};
 ghost use Rattle.mucwathi_commands.specs.Written.{IsReadAs};
+ghost use Rattle.mucwathi_marked.specs.Refused.{IsUngiven, IsUnread};
 ghost use Rattle.mucwathi_marked.specs.Given.{HasMarks, IsGiven, IsOwn, IsUnmarked, Rise, ends, marks_of, signed};
 
 use crate::behind::{are_behind, ends_of, rise};
@@ -43,7 +45,7 @@ fn envelope_of(globals: Globals, tree: Node) -> Envelope
 }
 
 fn read(alloc: Global, goal: Goal, depth: u32, text: &[u8]) -> Result<Node, RunFault>
-    ensures { IfOk result (λ tree. IsReadAs goal tree text.now) }
+    ensures { MatchResult result (λ tree. IsReadAs goal tree text.now) (IsUnread text.now) }
 {
     match read_text(alloc, goal, depth, text) {
         Ok(tree) => Ok(tree),
@@ -57,7 +59,7 @@ fn read(alloc: Global, goal: Goal, depth: u32, text: &[u8]) -> Result<Node, RunF
 ///
 /// `Text` where the text is not read; `Refused` where memory is.
 pub fn give_text(alloc: Global, goal: Goal, depth: u32, text: &[u8]) -> Result<Envelope, RunFault>
-    ensures { IfOk result (IsUnmarked goal text.now) }
+    ensures { MatchResult result (IsUnmarked goal text.now) (IsUnread text.now) }
 {
     let tree = read(alloc, goal, depth, text)?;
     let globals = own_globals(alloc)?;
@@ -74,18 +76,11 @@ fn own_globals(alloc: Global) -> Result<Globals, AllocError>
 }
 
 // Of what looks like signs that which stands behind identifiers.
-fn behind_names(
-    alloc: Global,
-    found: Vec<Found>,
-    ends: &[usize],
-) -> Result<Vec<Found>, AllocError> {
-    let mut signs = Vec::new(alloc);
-    for sign in found {
-        if ends.binary_search(&sign.from).is_ok() {
-            signs.push(sign)?;
-        }
-    }
-    Ok(signs)
+fn behind_names(mut found: Vec<Found>, ends: &[usize]) -> Vec<Found>
+    ensures { (text : List ℕ) → AreWritten text found.items → AreWritten text result.items }
+{
+    found.retain(|sign| ends.binary_search(&sign.from).is_ok());
+    found
 }
 
 fn with_marks(signs: &[Sign], tree: Node) -> Result<Node, AllocError>
@@ -96,17 +91,32 @@ fn with_marks(signs: &[Sign], tree: Node) -> Result<Node, AllocError>
     Ok(marked)
 }
 
-// What looks like signs and stands behind names; a text is read first with blanks in their place, so that faults are where they are.
-fn signs_in(alloc: Global, goal: Goal, depth: u32, text: &[u8]) -> Result<Vec<Found>, RunFault> {
+// Reads a text with blanks in the place of signs, so that faults are where they are.
+fn read_blank(
+    alloc: Global,
+    goal: Goal,
+    depth: u32,
+    text: &[u8],
+    signs: &[Found],
+) -> Result<Node, RunFault>
+    requires { AreWritten text.now signs.now }
+    ensures { IfErr result (IsUngiven text.now) }
+{
+    let blank = blank_signs(alloc, text, signs)?;
+    read(alloc, goal, depth, blank.as_slice())
+}
+
+// What looks like signs and stands behind names.
+fn signs_in(alloc: Global, goal: Goal, depth: u32, text: &[u8]) -> Result<Vec<Found>, RunFault>
+    ensures { IfErr result (IsUngiven text.now) }
+{
     let found = find_signs(alloc, text)?;
-    let blank = blank_signs(alloc, text, found.as_slice())?;
-    let tree = read(alloc, goal, depth, blank.as_slice())?;
+    let tree = read_blank(alloc, goal, depth, text, found.as_slice())?;
     let ends = ends_of(alloc, &tree)?;
     let count = found.len();
-    let signs = behind_names(alloc, found, &ends)?;
+    let signs = behind_names(found, &ends);
     if signs.len() < count {
-        let blank = blank_signs(alloc, text, signs.as_slice())?;
-        let _tree = read(alloc, goal, depth, blank.as_slice())?;
+        let _tree = read_blank(alloc, goal, depth, text, signs.as_slice())?;
     }
     Ok(signs)
 }
@@ -141,6 +151,7 @@ fn signed_program(alloc: Global, signs: &[Sign], tree: Node) -> Result<Envelope,
     ensures tree { IfOk result (λ made. made.tree ≡ signed signs.now tree) }
     ensures marks { IfOk result (λ made. HasMarks (marks_of signs.now) made.globals) }
     ensures own { IfOk result IsOwn }
+    ensures fault { (text : List ℕ) → IfErr result (IsUngiven text) }
 {
     match are_signs(alloc, &tree, signs) {
         Ok(true) => match program_of(alloc, signs, tree) {
@@ -162,7 +173,7 @@ fn give_cut(
     cut: Cut,
 ) -> Result<Marked, RunFault>
     requires { IsMarked 0 cut.signs.items cut.text.items text.now }
-    ensures { IfOk result (IsGiven goal text.now) }
+    ensures { MatchResult result (IsGiven goal text.now) (IsUngiven text.now) }
 {
     let Cut { text: plain, signs } = cut;
     match read_text(alloc, goal, depth, plain.as_slice()) {
@@ -187,9 +198,9 @@ fn give_cut(
 ///
 /// # Errors
 ///
-/// `Text` where the text is not read; `Refused` where memory is.
+/// `Text` where the text is not read with blanks in the place of its marks; `Refused` where memory is.
 pub fn give_marked(alloc: Global, goal: Goal, depth: u32, text: &[u8]) -> Result<Marked, RunFault>
-    ensures { IfOk result (IsGiven goal text.now) }
+    ensures { MatchResult result (IsGiven goal text.now) (IsUngiven text.now) }
 {
     let found = signs_in(alloc, goal, depth, text)?;
     match cut_signs(alloc, text, found) {

@@ -1,7 +1,9 @@
 //! Texts some of whose names have marks, resolved.
-ghost use Rattle.std.specs.Prelude.{IfOk};
+ghost use Rattle.std.specs.Prelude.{None, MatchResult};
 ghost use Rattle.mucwathi_given.specs.Given.{IsReady};
+ghost use Rattle.mucwathi_given.specs.Refusals.{IsUnmade};
 ghost use Rattle.mucwathi_marked.specs.Answered.{HasSignsOf, IsResolvedMarked};
+ghost use Rattle.mucwathi_marked.specs.Refused.{IsUnresolvedMarked};
 
 use crate::given::give_marked;
 use mucwathi_faults::RunFault;
@@ -15,7 +17,7 @@ use swc_tree_walk::sites;
 
 fn resolve(alloc: Global, text: &[u8], program: Envelope) -> Result<Vec<u8>, PassError>
     requires { IsReady program }
-    ensures { IfOk result (λ out. HasSignsOf program text.now out.items) }
+    ensures { MatchResult result (λ out. HasSignsOf program text.now out.items) (IsUnmade None program) }
 {
     let made = make_given(alloc, None, program)?;
     let names = sites(alloc, &made.tree)?;
@@ -36,7 +38,7 @@ pub fn resolve_marked(
     depth: u32,
     text: &[u8],
 ) -> Result<Vec<u8>, RunFault>
-    ensures { IfOk result (λ out. IsResolvedMarked goal text.now out.items) }
+    ensures { MatchResult result (λ out. IsResolvedMarked goal text.now out.items) (IsUnresolvedMarked goal text.now) }
 {
     let marked = give_marked(alloc, goal, depth, text)?;
     let program = marked.program;

@@ -1,7 +1,9 @@
 //! Programs written as texts, with the marks of their names.
-ghost use Rattle.std.specs.Prelude.{◌≡◌, Some, IfOk, IsTrue, map};
+ghost use Rattle.std.specs.Prelude.{◌≡◌, Some, IsTrue, MatchResult, map};
 ghost use Rattle.swc_tree_walk.specs.Sites.{site_of};
 ghost use Rattle.mucwathi_given.specs.Given.{IsMade, IsReady};
+ghost use Rattle.mucwathi_commands.specs.Faults.{IsWriteFault};
+ghost use Rattle.mucwathi_marked.specs.Refused.{IsWantOfMemory, IsUnmadeBy, IsUnmadeOf, IsUnrewrittenMarked};
 ghost use Rattle.mucwathi_marked.specs.Answered.{AreWrittenBehind, IsEditedFor, IsMarkedFor, IsPrinted, IsRemade, IsRewrittenMarked, IsWrittenFor, name_of, with_settings as settings_in};
 
 use crate::given::give_marked;
@@ -46,7 +48,7 @@ fn mark_behind(
     names: &[Site<'_>],
     again: &Node,
 ) -> Result<Vec<u8>, RunFault>
-    ensures { IfOk result (λ out. AreWrittenBehind (map site_of names.now) again.now plain.now out.items) }
+    ensures { MatchResult result (λ out. AreWrittenBehind (map site_of names.now) again.now plain.now out.items) IsWriteFault }
 {
     let found = sites(alloc, again)?;
     let places = found.as_slice();
@@ -66,7 +68,7 @@ fn with_marks(
     tree: &Node,
     plain: Vec<u8>,
 ) -> Result<Vec<u8>, RunFault>
-    ensures { IfOk result (λ out. IsMarkedFor goal tree.now plain.items out.items) }
+    ensures { MatchResult result (λ out. IsMarkedFor goal tree.now plain.items out.items) IsWriteFault }
 {
     let found = sites(alloc, tree)?;
     let names = found.as_slice();
@@ -92,7 +94,7 @@ pub fn print_given(
     layout: Layout,
     tree: &Node,
 ) -> Result<Vec<u8>, RunFault>
-    ensures { IfOk result (λ out. IsPrinted goal tree.now out.items) }
+    ensures { MatchResult result (λ out. IsPrinted goal tree.now out.items) IsWriteFault }
 {
     let plain = print(alloc, goal, layout, tree)?;
     with_marks(alloc, goal, depth, tree, plain)
@@ -106,7 +108,7 @@ fn edit_given(
     source: &Node,
     answer: &Node,
 ) -> Result<Vec<u8>, RunFault>
-    ensures { IfOk result (λ out. IsEditedFor order.now.goal source.now answer.now text.now out.items) }
+    ensures { MatchResult result (λ out. IsEditedFor order.now.goal source.now answer.now text.now out.items) IsWriteFault }
 {
     let plain = edit(alloc, order.goal, text, source, answer)?;
     with_marks(alloc, order.goal, order.depth, answer, plain)
@@ -120,7 +122,7 @@ fn write(
     source: &Node,
     answer: &Node,
 ) -> Result<Vec<u8>, RunFault>
-    ensures { IfOk result (λ out. IsWrittenFor order.now source.now answer.now text.now out.items) }
+    ensures { MatchResult result (λ out. IsWrittenFor order.now source.now answer.now text.now out.items) IsWriteFault }
 {
     match order.style.layout() {
         Some(layout) => print_given(alloc, order.goal, order.depth, layout, answer),
@@ -130,7 +132,7 @@ fn write(
 
 fn make(alloc: Global, order: &Order, program: Envelope) -> Result<Envelope, RunFault>
     requires { IsReady program }
-    ensures { IfOk result (IsMade (Some order.now.command) program) }
+    ensures { MatchResult result (IsMade (Some order.now.command) program) (IsUnmadeBy order.now.command program) }
 {
     match make_given(alloc, Some(order.command), program) {
         Ok(made) => Ok(made),
@@ -139,7 +141,7 @@ fn make(alloc: Global, order: &Order, program: Envelope) -> Result<Envelope, Run
 }
 
 fn copy(tree: &Node) -> Result<Node, RunFault>
-    ensures { IfOk result (λ copy. copy ≡ tree.now) }
+    ensures { MatchResult result (λ copy. copy ≡ tree.now) IsWantOfMemory }
 {
     match tree.clone() {
         Ok(copy) => Ok(copy),
@@ -167,7 +169,7 @@ fn rewrite(
     program: Envelope,
 ) -> Result<Vec<u8>, RunFault>
     requires { IsReady program }
-    ensures { IfOk result (λ out. IsRemade order.now program text.now out.items) }
+    ensures { MatchResult result (λ out. IsRemade order.now program text.now out.items) (IsUnmadeOf order.now program) }
 {
     let source = copy(&program.tree)?;
     let given = with_settings(program, &order.settings);
@@ -181,7 +183,7 @@ fn rewrite(
 ///
 /// Those of `rewrite_text`.
 pub fn rewrite_marked(alloc: Global, order: &Order, text: &[u8]) -> Result<Vec<u8>, RunFault>
-    ensures { IfOk result (λ out. IsRewrittenMarked order.now text.now out.items) }
+    ensures { MatchResult result (λ out. IsRewrittenMarked order.now text.now out.items) (IsUnrewrittenMarked order.now text.now) }
 {
     let marked = give_marked(alloc, order.goal, order.depth, text)?;
     let program = marked.program;

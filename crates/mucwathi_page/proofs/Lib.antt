@@ -1,1 +1,2 @@
+mod Drawing
 mod Showing

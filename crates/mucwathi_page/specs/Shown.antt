@@ -1,6 +1,6 @@
 -- Texts shown as HTML.
 use Rattle.std.specs.List.{list_any}
-use Rattle.std.specs.Prelude.{◌≡◌, ◌≢◌, ℕ, ◌≤◌, Bool, false, ◌==◌, List, [], ◌∷◌, ◌++◌, codes, length, take}
+use Rattle.std.specs.Prelude.{◌≡◌, ◌≢◌, ℕ, Bool, false, ◌==◌, List, [], ◌∷◌, ◌++◌, codes}
 
 -- whether a tag ends among bytes
 abbrev pub has_end : List ℕ → Bool
@@ -16,29 +16,10 @@ pub data Shows : List ℕ → List ℕ → Type 0 where
   quote : (html text : List ℕ) → Shows html text → Shows (codes "&quot;" ++ html) (34 ∷ text)
   tag : (inside html text : List ℕ) → has_end inside ≡ false → Shows html text → Shows (60 ∷ inside ++ 62 ∷ html) text
 
--- HTML was added that shows a text
-pub record Adds (old new text : List ℕ) : Type 0 where
-  pub html : List ℕ
-  pub whole : new ≡ old ++ html
-  pub shown : Shows html text
-
--- where the text was shown up to a place, it is up to another
-pub record GoesOn (text : List ℕ) (from : ℕ) (old new : List ℕ) (to : ℕ) : Type 0 where
-  pub within : to ≤ length text
-  pub shown : (first : List ℕ) → Adds first old (take from text) → Adds first new (take to text)
-
--- the tag is the last, before the text begins
-abbrev pub EndsOpen : List ℕ → Type 0
-EndsOpen head = (before : List ℕ) × (head ≡ before ++ codes "<pre>" ++ 10 ∷ [])
-
--- what begins with its end was added
-abbrev pub AddsBehind : List ℕ → List ℕ → Type 0
-AddsBehind old new = (after : List ℕ) × (new ≡ old ++ codes "</pre>" ++ after)
-
 -- a page shows the text in its `pre`; the line end right behind that tag is none of it
 pub record IsPage (text page : List ℕ) : Type 0 where
   pub before : List ℕ
   pub html : List ℕ
   pub after : List ℕ
-  pub whole : page ≡ before ++ codes "<pre>" ++ 10 ∷ html ++ codes "</pre>" ++ after
+  pub whole : page ≡ before ++ (codes "<pre>" ++ (10 ∷ (html ++ (codes "</pre>" ++ after))))
   pub shown : Shows html text

@@ -1,6 +1,8 @@
 //! The page.
-ghost use Rattle.std.specs.Prelude.{◌≡◌, ◌≤◌, [], ◌∷◌, length, IfOk, OnOk};
-ghost use Rattle.mucwathi_page.specs.Shown.{Adds, AddsBehind, EndsOpen, GoesOn, IsPage, has_end as ends_tag};
+ghost use Rattle.std.specs.Prelude.{◌≡◌, ◌≤◌, ◌++◌, length, IfOk, OnOk};
+ghost use Rattle.std.specs.List.{All};
+ghost use Rattle.mucwathi_page.specs.Drawn.{EndsNoTag, as_html, class_text, drawn, end_of, escaped, head_text, foot_text, hue as colour, named, near as nearest, new_text, page_text, tag_text, up_to};
+ghost use Rattle.mucwathi_page.specs.Shown.{IsPage};
 
 use std::alloc::{AllocError, Global};
 
@@ -12,7 +14,7 @@ pub struct Use<'a> {
     /// How many bytes are before what is behind it.
     pub to: usize,
     /// The number of its variable.
-    pub variable: u32,
+    pub variable: usize,
     /// The mark of its scope.
     pub mark: u32,
     /// What it is called anew, if it is.
@@ -54,7 +56,7 @@ for (const name of names) {
 
 // Adds a byte of a text as HTML.
 fn add_byte(out: &mut Vec<u8>, byte: u8) -> Result<(), AllocError>
-    ensures { OnOk result (Adds out.old.items out.new.items (byte ∷ [])) }
+    ensures { OnOk result (out.new.items ≡ out.old.items ++ escaped byte) }
 {
     if byte == b'&' {
         out.extend_from_slice(b"&amp;")?;
@@ -72,7 +74,7 @@ fn add_byte(out: &mut Vec<u8>, byte: u8) -> Result<(), AllocError>
 
 // Adds a part of a text as HTML.
 fn add_text(out: &mut Vec<u8>, part: &[u8]) -> Result<(), AllocError>
-    ensures { OnOk result (Adds out.old.items out.new.items part.now) }
+    ensures { OnOk result (out.new.items ≡ out.old.items ++ as_html part.now) }
 {
     for byte in part {
         add_byte(out, *byte)?;
@@ -83,40 +85,46 @@ fn add_text(out: &mut Vec<u8>, part: &[u8]) -> Result<(), AllocError>
 // The mark of names that nothing declares.
 const FREE: u32 = 1;
 
-// What a tag tells of a name: its colour goes by its variable, a golden section of the circle on from one to the next.
-fn tag_of(alloc: Global, each: &Use<'_>) -> Result<Vec<u8>, AllocError> {
-    let class = if each.mark == FREE { " class=free" } else { "" };
+// The colour of a variable, in degrees: a golden section of the circle on from one to the next.
+fn hue(variable: usize) -> usize
+    ensures { result ≡ colour variable }
+{
+    variable % 360 * 137 % 360
+}
+
+// Names that nothing declares are of a class.
+fn class_of(mark: u32) -> &'static str
+    ensures { result.now ≡ class_text mark }
+{
+    if mark == FREE { " class=free" } else { "" }
+}
+
+// Adds what a name is called anew, if it is.
+fn add_new(out: &mut Vec<u8>, new: Option<&str>) -> Result<(), AllocError>
+    ensures { OnOk result (out.new.items ≡ out.old.items ++ new_text new.entry) }
+{
+    if let Some(new) = new {
+        out.extend_from_slice(b" data-new=\"")?;
+        add_text(out, new.as_bytes())?;
+        out.push(b'"')?;
+    }
+    Ok(())
+}
+
+// What a tag tells of a name.
+fn tag_of(alloc: Global, each: &Use<'_>) -> Result<Vec<u8>, AllocError>
+    ensures tag { IfOk result (λ tag. tag.items ≡ tag_text each.now) }
+    ensures inside { IfOk result (λ tag. EndsNoTag each.now) }
+{
+    let class = class_of(each.mark);
     let (variable, mark) = (each.variable, each.mark);
-    let hue = u64::from(variable) * 137 % 360;
+    let hue = hue(variable);
     let data = format!(in alloc;
         "b{class} data-of={variable} data-scope={mark} style=\"--hue:{hue}\""
     )?;
     let mut tag = data.into_bytes();
-    if let Some(new) = each.new {
-        tag.extend_from_slice(b" data-new=\"")?;
-        add_text(&mut tag, new.as_bytes())?;
-        tag.push(b'"')?;
-    }
+    add_new(&mut tag, each.new)?;
     Ok(tag)
-}
-
-fn has_end(tag: &[u8]) -> bool
-    ensures { result ≡ ends_tag tag.now }
-{
-    tag.iter().any(|byte| *byte == b'>')
-}
-
-// Adds a tag, unless it would end too early.
-fn add_tag(out: &mut Vec<u8>, tag: &[u8]) -> Result<(), AllocError>
-    ensures { OnOk result (Adds out.old.items out.new.items []) }
-{
-    if has_end(tag) {
-        return Ok(());
-    }
-    out.push(b'<')?;
-    out.extend_from_slice(tag)?;
-    out.push(b'>')?;
-    Ok(())
 }
 
 // Adds a name in its tags.
@@ -126,17 +134,22 @@ fn add_named(
     each: &Use<'_>,
     out: &mut Vec<u8>,
 ) -> Result<(), AllocError>
-    ensures { OnOk result (Adds out.old.items out.new.items name.now) }
+    ensures named { OnOk result (out.new.items ≡ out.old.items ++ named each.now name.now) }
+    ensures inside { OnOk result (EndsNoTag each.now) }
 {
     let tag = tag_of(alloc, each)?;
-    add_tag(out, tag.as_slice())?;
+    out.push(b'<')?;
+    out.extend_from_slice(tag.as_slice())?;
+    out.push(b'>')?;
     add_text(out, name)?;
-    add_tag(out, b"/b")
+    out.extend_from_slice(b"</b>")?;
+    Ok(())
 }
 
 // The nearest place to one between two others.
 fn near(at: usize, low: usize, high: usize) -> usize
     requires { low ≤ high }
+    ensures nearest { result ≡ nearest at low high }
     ensures low { low ≤ result }
     ensures high { result ≤ high }
 {
@@ -152,7 +165,10 @@ fn add_name(
     out: &mut Vec<u8>,
 ) -> Result<usize, AllocError>
     requires { from ≤ length text.now }
-    ensures { IfOk result (GoesOn text.now from out.old.items out.new.items) }
+    ensures within { IfOk result (λ to. to ≤ length text.now) }
+    ensures place { IfOk result (λ to. to ≡ end_of text.now from each.now) }
+    ensures added { OnOk result (out.new.items ≡ out.old.items ++ up_to text.now from each.now) }
+    ensures inside { OnOk result (EndsNoTag each.now) }
 {
     let begin = near(each.from, from, text.len());
     let end = near(each.to, begin, text.len());
@@ -167,7 +183,8 @@ fn add_names(
     uses: &[Use<'_>],
     out: &mut Vec<u8>,
 ) -> Result<(), AllocError>
-    ensures { OnOk result (Adds out.old.items out.new.items text.now) }
+    ensures drawn { OnOk result (out.new.items ≡ out.old.items ++ drawn text.now 0 uses.now) }
+    ensures inside { OnOk result (All EndsNoTag uses.now) }
 {
     let mut from = 0;
     for each in uses {
@@ -178,7 +195,7 @@ fn add_names(
 
 // Adds what is before the text.
 fn add_head(out: &mut Vec<u8>, name: &str) -> Result<(), AllocError>
-    ensures { OnOk result (EndsOpen out.new.items) }
+    ensures { OnOk result (out.new.items ≡ out.old.items ++ head_text name.now) }
 {
     out.extend_from_slice(b"<!DOCTYPE html>\n<html lang=en><meta charset=utf-8><title>")?;
     add_text(out, name.as_bytes())?;
@@ -191,7 +208,7 @@ fn add_head(out: &mut Vec<u8>, name: &str) -> Result<(), AllocError>
 
 // Adds what is behind it.
 fn add_foot(out: &mut Vec<u8>) -> Result<(), AllocError>
-    ensures { OnOk result (AddsBehind out.old.items out.new.items) }
+    ensures { OnOk result (out.new.items ≡ out.old.items ++ foot_text) }
 {
     out.extend_from_slice(b"</pre>")?;
     out.extend_from_slice(
@@ -204,7 +221,8 @@ fn add_foot(out: &mut Vec<u8>) -> Result<(), AllocError>
 
 /// The page of a text of that name, with the names in it: between its tags, in `pre`, it has the text.
 pub fn page(alloc: Global, name: &str, text: &[u8], uses: &[Use<'_>]) -> Result<Vec<u8>, AllocError>
-    ensures { IfOk result (λ page. IsPage text.now page.items) }
+    ensures drawn { IfOk result (λ page. page.items ≡ page_text name.now text.now uses.now) }
+    ensures shown { IfOk result (λ page. IsPage text.now page.items) }
 {
     let mut out = Vec::new(alloc);
     add_head(&mut out, name)?;

@@ -1,1 +1,4 @@
+pub mod Coloured
+pub mod Numbered
+pub mod Shown
 pub mod Unshown

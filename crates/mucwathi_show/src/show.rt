@@ -2,9 +2,9 @@
 ghost use Rattle.std.specs.Prelude.{◌≡◌, Some, MatchResult};
 ghost use Rattle.swc_tree_scoping.specs.declared.places.Scope.TheVariants as scope;
 ghost use Rattle.swc_tree_scoping.specs.Places.{opened, program_place};
-ghost use Rattle.text_source.specs.Texts.{IsTextOf};
+ghost use Rattle.text_source.specs.Texts.{IsTextOf, SpansAreOf};
 ghost use Rattle.mucwathi_looks.specs.Looks.{IsLookRefusal, IsUnlooked};
-ghost use Rattle.mucwathi_page.specs.Shown.{IsPage};
+ghost use Rattle.mucwathi_show.specs.Shown.{IsShown, ShowsNames, ShowsText};
 ghost use Rattle.mucwathi_show.specs.Unshown.{IsUnshown, chain_order};
 
 use crate::variables::uses_of;
@@ -52,7 +52,7 @@ fn draw(
     program: Node,
 ) -> Result<Vec<u8>, PassError>
     requires { opened program_place program ≡ Some scope.Program }
-    ensures { MatchResult result (λ out. IsPage of.entry.text.now out.items) (IsLookRefusal program) }
+    ensures { MatchResult result (λ out. ShowsNames program changes.now of.entry.name.now of.entry.text.now out.items) (IsLookRefusal program) }
 {
     let mut globals = own_marks(alloc)?;
     let resolved = resolve(alloc, &mut globals, program)?;
@@ -69,8 +69,9 @@ fn draw_source(
     changes: &[Change],
     program: Node,
 ) -> Result<Vec<u8>, RunFault>
-    requires { IsTextOf goal program of.text.now }
-    ensures { MatchResult result (λ out. IsPage of.entry.text.now out.items) (IsUnlooked goal of.entry.text.now) }
+    requires read { IsTextOf goal program of.text.now }
+    requires stands { SpansAreOf goal program of.text.now }
+    ensures { MatchResult result (λ out. ShowsText goal changes.now of.entry.name.now of.entry.text.now out.items) (IsUnlooked goal of.entry.text.now) }
 {
     match draw(alloc, of, changes, program) {
         Ok(out) => Ok(out),
@@ -86,7 +87,7 @@ fn show(
     of: Source<'_>,
     changes: &[Change],
 ) -> Result<Vec<u8>, RunFault>
-    ensures { MatchResult result (λ out. IsPage of.entry.text.now out.items) (IsUnlooked goal of.entry.text.now) }
+    ensures { MatchResult result (λ out. ShowsText goal changes.now of.entry.name.now of.entry.text.now out.items) (IsUnlooked goal of.entry.text.now) }
 {
     match read_text(alloc, goal, depth, of.text) {
         Ok(program) => draw_source(alloc, goal, of, changes, program),
@@ -94,7 +95,8 @@ fn show(
     }
 }
 
-/// A page with a text, each variable of which has a colour of its own: between its tags, in `pre`, it has the text. Who points at a name sees its uses, and what a chain calls it.
+/// A page with a text, each variable of which has a colour of its own: between its tags, in `pre`, it has the text. Who points at a name sees its uses, and what a chain calls it: its tag has the number
+/// of its variable, the mark of its scope, and the new name.
 ///
 /// # Errors
 ///
@@ -106,7 +108,7 @@ pub fn show_text(
     name: &str,
     text: &[u8],
 ) -> Result<Vec<u8>, RunFault>
-    ensures { MatchResult result (λ out. IsPage text.now out.items) (IsUnshown goal depth text.now) }
+    ensures { MatchResult result (λ out. IsShown goal depth name.now text.now out.items) (IsUnshown goal depth text.now) }
 {
     let order = chain_of(goal, depth);
     match list_changes(alloc, &order, text) {

@@ -15,8 +15,8 @@ pub struct Cut {
     pub signs: Vec<Sign>,
 }
 
-// Whether a text has just what is written for marks from one place to another.
-fn is_written(
+/// Whether a text has just what is written for marks from one place to another.
+pub(crate) fn is_written(
     alloc: Global,
     text: &[u8],
     from: usize,

@@ -1,4 +1,8 @@
 //! Signs found in a text.
+ghost use Rattle.std.specs.Prelude.{IfOk, OnOk};
+ghost use Rattle.mucwathi_signs.specs.Cut.{AreWritten};
+
+use crate::cut::is_written;
 use std::alloc::{AllocError, Global};
 
 /// What looks like a sign in a text: where it begins and ends, and its marks, the oldest first.
@@ -89,15 +93,48 @@ fn sign_at(alloc: Global, text: &[u8], from: usize) -> Result<Option<Found>, All
     Ok(Some(Found { from, to, marks }))
 }
 
-/// What looks like a sign in a text, one after another: `#`, digits, and more digits behind points, right behind what may be a name.
+// Adds a sign, if it is written in the text as its marks are.
+fn add_written(
+    alloc: Global,
+    text: &[u8],
+    sign: Found,
+    found: &mut Vec<Found>,
+) -> Result<(), AllocError>
+    requires { AreWritten text.now found.old.items }
+    ensures { OnOk result (AreWritten text.now found.new.items) }
+{
+    if is_written(alloc, text, sign.from, sign.to, sign.marks.as_slice())? {
+        found.push(sign)?;
+    }
+    Ok(())
+}
+
+// Adds the sign that begins at a place, if one does.
+fn add_sign_at(
+    alloc: Global,
+    text: &[u8],
+    from: usize,
+    found: &mut Vec<Found>,
+) -> Result<(), AllocError>
+    requires { AreWritten text.now found.old.items }
+    ensures { OnOk result (AreWritten text.now found.new.items) }
+{
+    match sign_at(alloc, text, from)? {
+        Some(sign) => add_written(alloc, text, sign, found),
+        None => Ok(()),
+    }
+}
+
+/// What looks like a sign in a text, one after another: `#`, digits, and more digits behind points, right behind what may be a name. Each is
+/// written there as its marks are.
 ///
 /// It may stand in a string or a comment: who has read the text knows.
-pub fn find_signs(alloc: Global, text: &[u8]) -> Result<Vec<Found>, AllocError> {
+pub fn find_signs(alloc: Global, text: &[u8]) -> Result<Vec<Found>, AllocError>
+    ensures { IfOk result (λ found. AreWritten text.now found.items) }
+{
     let mut found = Vec::new(alloc);
     for i in 0..text.len() {
-        if let Some(sign) = sign_at(alloc, text, i)? {
-            found.push(sign)?;
-        }
+        add_sign_at(alloc, text, i, &mut found)?;
     }
     Ok(found)
 }

@@ -12,4 +12,4 @@ pub tell_unread-requires : goal.tell_unread-requires
 tell_unread-requires c = c.in-Err.ensures.fault
 
 pub returns-in-Err : goal.returns-in-Err
-returns-in-Err c = answer_none (IsOfTree c.args.task.now c.args.of) c.args.of c.tell_unread.result c.tell_unread.ensures
+returns-in-Err c = answer_none (IsOfTree c.args.task.now c.args.of) c.args.task.now c.args.of c.tell_unread.result c.tell_unread.ensures

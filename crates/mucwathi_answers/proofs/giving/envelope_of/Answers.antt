@@ -1,5 +1,5 @@
-use Rattle.std.proofs.lemmas.Result.{IfOk-weaker}
-use Rattle.mucwathi_answers.specs.Given.{HasEnvelopeOf, IsEnvelopeOf}
+use Rattle.std.proofs.Common.{inr}
+use Rattle.std.proofs.lemmas.Result.{MatchResult-weaker}
 use Rattle.mucwathi_answers.proofs.giving.envelope_of.Goals as goal
 
 pub envelope-requires : goal.envelope-requires
@@ -7,5 +7,5 @@ envelope-requires c = c.in_ok-program.ensures.ready
 
 pub returns : goal.returns
 returns c =
-    IfOk-weaker c.envelope.result (λ out. IsEnvelopeOf c.args.task.now c.in_ok-program.program out.items) (λ out. HasEnvelopeOf c.args.task.now c.args.goal c.args.text.now out.items)
-    (λ out h. record { program = c.in_ok-program.program; given = c.in_ok-program.ensures.program; made = h }) c.envelope.ensures
+    MatchResult-weaker c.envelope.result c.envelope.ensures (λ out h. record { program = c.in_ok-program.program; given = c.in_ok-program.ensures.program; made = h })
+    (λ f h. inr (c.in_ok-program.program, c.in_ok-program.ensures.program, h))

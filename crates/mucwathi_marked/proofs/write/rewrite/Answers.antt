@@ -1,8 +1,8 @@
 use Rattle.std.proofs.Common.{subst, sym}
-use Rattle.std.proofs.lemmas.Result.{IfOk-weaker}
+use Rattle.std.proofs.lemmas.Result.{MatchResult-weaker}
 use Rattle.mucwathi_given.specs.Given.{IsReady}
-use Rattle.mucwathi_marked.specs.Answered.{IsRemade, IsWrittenFor}
 use Rattle.mucwathi_marked.proofs.Ready.{settings_ready}
+use Rattle.mucwathi_marked.proofs.Unread.{unwritten_made}
 use Rattle.mucwathi_marked.proofs.Writing.{remade}
 use Rattle.mucwathi_marked.proofs.write.rewrite.Goals as goal
 
@@ -11,5 +11,6 @@ make-requires c = subst IsReady (sym c.with_settings-given.ensures) (settings_re
 
 pub returns : goal.returns
 returns c =
-    IfOk-weaker c.write.result (λ out. IsWrittenFor c.args.order.now c.in_ok-source.source c.in_ok-made.made.tree c.args.text.now out.items) (λ out. IsRemade c.args.order.now c.args.program c.args.text.now out.items)
-    (λ out h. remade c.args.order.now c.args.program c.with_settings-given.result c.in_ok-made.made c.in_ok-source.source c.args.text.now out.items c.with_settings-given.ensures c.in_ok-made.ensures c.in_ok-source.ensures h) c.write.ensures
+    MatchResult-weaker c.write.result c.write.ensures
+    (λ out h. remade c.args.order.now c.args.program c.with_settings-given.result c.in_ok-made.made c.in_ok-source.source c.args.text.now out.items c.with_settings-given.ensures c.in_ok-made.ensures c.in_ok-source.ensures h)
+    (unwritten_made c.args.order.now c.args.program c.with_settings-given.result c.in_ok-made.made c.with_settings-given.ensures c.in_ok-made.ensures)

@@ -1,6 +1,6 @@
-use Rattle.std.proofs.Common.{subst}
-use Rattle.std.proofs.lemmas.Result.{IfOk-weaker}
-use Rattle.mucwathi_marked.specs.Answered.{IsRemade, IsRewrittenMarked}
+use Rattle.std.proofs.Common.{inr, subst}
+use Rattle.std.proofs.lemmas.Result.{MatchResult-weaker}
+use Rattle.mucwathi_marked.specs.Answered.{IsRemade}
 use Rattle.mucwathi_marked.proofs.Ready.{given_ready}
 use Rattle.mucwathi_marked.proofs.write.rewrite_marked.Goals as goal
 
@@ -11,5 +11,6 @@ pub returns : goal.returns
 returns c =
     let order = c.args.order.now in
     let given = c.in_ok-marked.marked in
-    IfOk-weaker c.rewrite.result (λ out. IsRemade order given.program c.as_slice.result.now out.items) (λ out. IsRewrittenMarked order c.args.text.now out.items)
-    (λ out h. record { given = given; is_given = c.in_ok-marked.ensures; remade = subst (λ l. IsRemade order given.program l out.items) c.as_slice.ensures.value h }) c.rewrite.ensures
+    MatchResult-weaker c.rewrite.result c.rewrite.ensures
+    (λ out h. record { given = given; is_given = c.in_ok-marked.ensures; remade = subst (λ l. IsRemade order given.program l out.items) c.as_slice.ensures.value h })
+    (λ f h. inr (record { given = given; is_given = c.in_ok-marked.ensures; refused = h }))
