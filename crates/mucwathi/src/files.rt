@@ -72,6 +72,14 @@ fn not_created(new: String, error: io::Error) -> Unwritten {
     }
 }
 
+// Why nothing is written over a file that is read.
+fn read_already(path: String) -> Unwritten {
+    Unwritten {
+        stands: Some(path),
+        error: io::Error::other("it is the file that is read"),
+    }
+}
+
 // Fills a new file, and puts it into the place of another.
 fn fill_and_replace(
     rt: &HostRuntime,
@@ -100,6 +108,14 @@ fn write_beside(rt: &HostRuntime, path: &str, out: &[u8]) -> Result<(), Unwritte
     }
 }
 
+/// Whether both names lead to one file, be it through links.
+pub(crate) fn is_same_file(rt: &HostRuntime, one: &str, other: &str) -> bool {
+    match (fs::canonicalize(rt, one), fs::canonicalize(rt, other)) {
+        (Ok(one), Ok(other)) => one == other,
+        _ => false,
+    }
+}
+
 /// Writes the whole of a file, or nothing: a fault leaves the old one. A link stays one.
 pub(crate) fn write_whole(rt: &HostRuntime, path: &str, out: &[u8]) -> Result<(), Unwritten> {
     match fs::canonicalize(rt, path) {
@@ -108,17 +124,21 @@ pub(crate) fn write_whole(rt: &HostRuntime, path: &str, out: &[u8]) -> Result<()
     }
 }
 
-/// Writes a file of the same name into a folder, whole as well.
+/// Writes a file of the same name into a folder, whole as well, and never over the file itself. Tells where.
 pub(crate) fn write_into(
     rt: &HostRuntime,
     folder: &str,
     path: &str,
     out: &[u8],
-) -> Result<(), Unwritten> {
+) -> Result<String, Unwritten> {
     let alloc = rt.alloc();
     let name = last_name(path);
     let to = format!(in alloc; "{folder}/{name}")?;
-    write_whole(rt, to.as_str(), out)
+    if is_same_file(rt, to.as_str(), path) {
+        return Err(read_already(to));
+    }
+    write_whole(rt, to.as_str(), out)?;
+    Ok(to)
 }
 
 /// Writes to standard output.

@@ -1,5 +1,5 @@
 //! Tasks done.
-use crate::files::{Unwritten, read, tell, write_into, write_out, write_whole};
+use crate::files::{Unwritten, is_same_file, read, tell, write_into, write_out, write_whole};
 use mucwathi_answers::{
     Answer, Named, answer_given, answer_judging, answer_looking, answer_rewriting,
 };
@@ -48,25 +48,39 @@ fn give(rt: &HostRuntime, name: &str, answer: Result<Answer, AllocError>) -> u8 
     }
 }
 
-fn put_out(rt: &HostRuntime, out: &[u8]) -> Result<(), Unwritten> {
+fn put_out(rt: &HostRuntime, out: &[u8]) -> Result<Option<String>, Unwritten> {
     write_out(rt, out)?;
-    Ok(())
+    Ok(None)
 }
 
-// Where an answer goes that is not told but written.
+fn put_in_place(rt: &HostRuntime, path: &str, out: &[u8]) -> Result<Option<String>, Unwritten> {
+    write_whole(rt, path, out)?;
+    Ok(None)
+}
+
+fn put_into(
+    rt: &HostRuntime,
+    folder: &str,
+    path: &str,
+    out: &[u8],
+) -> Result<Option<String>, Unwritten> {
+    Ok(Some(write_into(rt, folder, path, out)?))
+}
+
+// Writes an answer that is not told where it goes. Tells into which file, if it is another than was read.
 fn put(
     rt: &HostRuntime,
     target: Target<'_>,
     file: Option<&str>,
     out: &[u8],
-) -> Result<(), Unwritten> {
+) -> Result<Option<String>, Unwritten> {
     let Some(path) = file else {
         return put_out(rt, out);
     };
     match target {
         Target::Output => put_out(rt, out),
-        Target::Place => write_whole(rt, path, out),
-        Target::Folder(folder) => write_into(rt, folder, path, out),
+        Target::Place => put_in_place(rt, path, out),
+        Target::Folder(folder) => put_into(rt, folder, path, out),
     }
 }
 
@@ -95,17 +109,40 @@ fn put_map(rt: &HostRuntime, path: &str, map: &[u8]) -> u8 {
     }
 }
 
+fn is_one_file(rt: &HostRuntime, path: &str, other: Option<&str>) -> bool {
+    match other {
+        Some(other) => is_same_file(rt, path, other),
+        None => false,
+    }
+}
+
+// Writes the map that goes with an answer, unless its place is that of the answer, or the file that was read.
+fn put_other_map(
+    rt: &HostRuntime,
+    path: &str,
+    file: Option<&str>,
+    written: Option<&str>,
+    map: &[u8],
+) -> u8 {
+    if is_one_file(rt, path, file) || is_one_file(rt, path, written) {
+        let taken = io::Error::other("it is the file that is read, or written");
+        return tell_failure(rt, path, "not written", &taken);
+    }
+    put_map(rt, path, map)
+}
+
 // Tells what is told of an answer, and writes what is written where it goes.
 fn put_answer(rt: &HostRuntime, task: &Rewriting<'_>, file: Option<&str>, answer: &Answer) -> u8 {
     tell(rt, answer.told.as_slice());
     if answer.status != 0 {
         return answer.status;
     }
-    if let Err(fault) = put(rt, task.target, file, answer.out.as_slice()) {
-        return tell_unwritten(rt, place_of(task.target, name_of(file)), &fault);
-    }
+    let written = match put(rt, task.target, file, answer.out.as_slice()) {
+        Ok(written) => written,
+        Err(fault) => return tell_unwritten(rt, place_of(task.target, name_of(file)), &fault),
+    };
     match task.map {
-        Some(path) => put_map(rt, path, answer.map.as_slice()),
+        Some(path) => put_other_map(rt, path, file, written.as_deref(), answer.map.as_slice()),
         None => 0,
     }
 }

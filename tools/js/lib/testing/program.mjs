@@ -80,6 +80,19 @@ const FILES = {
     writeFileSync(join(folder, 'out/a.js'), '');
     expect(run(folder, ['chain', '--out', 'out', 'a.js', 'out/a.js']), 2, { stderr: 'mucwathi: a.js: two files would be written to one of this name\n' });
   }),
+  'nothing is written over a file that is read, but in place': inFolder((folder, text) => {
+    symlinkSync('a.js', join(folder, 'link.js'));
+    const over = (name) => ({ stderr: `${name}: not written: it is the file that is read\n` });
+    expect(run(folder, ['chain', '--out', '.', 'a.js']), 4, over('./a.js'));
+    const taken = (name) => ({ stderr: `${name}: not written: it is the file that is read, or written\n` });
+    for (const map of ['./a.js', 'link.js']) {
+      expect(run(folder, ['chain', '--source-map', map, 'a.js']), 4, { stdout: CHAINED, ...taken(map) });
+    }
+    assert.equal(text('a.js'), SOURCE);
+    mkdirSync(join(folder, 'out'));
+    expect(run(folder, ['chain', '--out', 'out', '--source-map', 'out/a.js', 'a.js']), 4, taken('out/a.js'));
+    assert.equal(text('out/a.js'), CHAINED);
+  }),
   'several files want a place': inFolder((folder) => {
     expect(run(folder, ['chain', 'a.js', 'b.js']), 2, { stderr: 'mucwathi: several files want --in-place or --out FOLDER\n' });
     expect(run(folder, ['chain', '--in-place']), 2, { stderr: 'mucwathi: --in-place and --out want files\n' });
@@ -102,7 +115,7 @@ const FILES = {
   'a source map leads from each name to what it was': inFolder((folder, text) => {
     const source = 'var long = 1;\nfunction f(one, { two }) {\n  return "\u{1f600}" + one + two + long\n}\n';
     writeFileSync(join(folder, 'c.js'), source);
-    expect(run(folder, ['mangle', '--compact', '--mangle-top', '--source-map', 'c.map', '--out', '.', 'c.js']), 0, {});
+    expect(run(folder, ['mangle', '--compact', '--mangle-top', '--source-map', 'c.map', '--in-place', 'c.js']), 0, {});
     const found = segmentsOf(JSON.parse(text('c.map'))).filter(({ name }) => name !== null);
     const [written, read] = [text('c.js'), source].map((each) => each.split('\n'));
     assert.deepEqual(new Set(found.map(({ name }) => name)), new Set(['long', 'one', 'two', 'f']));
