@@ -80,7 +80,7 @@ const FILES = {
     writeFileSync(join(folder, 'out/a.js'), '');
     expect(run(folder, ['chain', '--out', 'out', 'a.js', 'out/a.js']), 2, { stderr: 'mucwathi: a.js: two files would be written to one of this name\n' });
   }),
-  'nothing is written over a file that is read, but in place': inFolder((folder, text) => {
+  'no answer goes over its source, but in place, and no map': inFolder((folder, text) => {
     symlinkSync('a.js', join(folder, 'link.js'));
     const over = (name) => ({ stderr: `${name}: not written: it is the file that is read\n` });
     expect(run(folder, ['chain', '--out', '.', 'a.js']), 4, over('./a.js'));
