@@ -1,8 +1,10 @@
 //! Files read and written.
 use mucwathi_arguments::last_name;
-use std::alloc::AllocError;
+use std::alloc::{AllocError, Global};
+use std::collections::HashSet;
 use std::fs::File;
 use std::io::{Read, Write};
+use std::path::PathBuf;
 use std::{fs, io};
 
 /// Why a file is not written.
@@ -72,14 +74,6 @@ fn not_created(new: String, error: io::Error) -> Unwritten {
     }
 }
 
-// Why nothing is written over a file that is read.
-fn read_already(path: String) -> Unwritten {
-    Unwritten {
-        stands: Some(path),
-        error: io::Error::other("it is the file that is read"),
-    }
-}
-
 // Fills a new file, and puts it into the place of another.
 fn fill_and_replace(
     rt: &HostRuntime,
@@ -108,11 +102,36 @@ fn write_beside(rt: &HostRuntime, path: &str, out: &[u8]) -> Result<(), Unwritte
     }
 }
 
-/// Whether both names lead to one file, be it through links.
-pub(crate) fn is_same_file(rt: &HostRuntime, one: &str, other: &str) -> bool {
-    match (fs::canonicalize(rt, one), fs::canonicalize(rt, other)) {
-        (Ok(one), Ok(other)) => one == other,
-        _ => false,
+/// The files that are read or written, each by the name that all links lead to.
+#[derive(Drop)]
+pub(crate) struct Taken {
+    files: HashSet<PathBuf>,
+}
+
+impl Taken {
+    /// Some files that are read. One that is not there is not taken.
+    pub(crate) fn of(rt: &HostRuntime, files: &[&str]) -> Result<Taken, AllocError> {
+        let mut taken = Taken {
+            files: HashSet::new(rt.alloc()),
+        };
+        for file in files.iter() {
+            taken.add(rt, *file)?;
+        }
+        Ok(taken)
+    }
+
+    fn add(&mut self, rt: &HostRuntime, file: &str) -> Result<(), AllocError> {
+        if let Ok(real) = fs::canonicalize(rt, file) {
+            self.files.insert(real)?;
+        }
+        Ok(())
+    }
+
+    fn has(&self, rt: &HostRuntime, file: &str) -> bool {
+        match fs::canonicalize(rt, file) {
+            Ok(real) => self.files.contains(&real),
+            Err(_) => false,
+        }
     }
 }
 
@@ -124,21 +143,41 @@ pub(crate) fn write_whole(rt: &HostRuntime, path: &str, out: &[u8]) -> Result<()
     }
 }
 
-/// Writes a file of the same name into a folder, whole as well, and never over the file itself. Tells where.
+// Why nothing is written over a file.
+fn taken_already(alloc: Global, path: &str) -> Result<Unwritten, AllocError> {
+    Ok(Unwritten {
+        stands: Some(path.to_string(alloc)?),
+        error: io::Error::other("it is a file that is read, or written already"),
+    })
+}
+
+/// Writes the whole of a file as well, but over none that is taken. It is taken then.
+pub(crate) fn write_untaken(
+    rt: &HostRuntime,
+    taken: &mut Taken,
+    path: &str,
+    out: &[u8],
+) -> Result<(), Unwritten> {
+    if taken.has(rt, path) {
+        return Err(taken_already(rt.alloc(), path)?);
+    }
+    write_whole(rt, path, out)?;
+    taken.add(rt, path)?;
+    Ok(())
+}
+
+/// Writes a file of the same name into a folder, whole, but over none that is taken.
 pub(crate) fn write_into(
     rt: &HostRuntime,
+    taken: &mut Taken,
     folder: &str,
     path: &str,
     out: &[u8],
-) -> Result<String, Unwritten> {
+) -> Result<(), Unwritten> {
     let alloc = rt.alloc();
     let name = last_name(path);
     let to = format!(in alloc; "{folder}/{name}")?;
-    if is_same_file(rt, to.as_str(), path) {
-        return Err(read_already(to));
-    }
-    write_whole(rt, to.as_str(), out)?;
-    Ok(to)
+    write_untaken(rt, taken, to.as_str(), out)
 }
 
 /// Writes to standard output.

@@ -1,5 +1,7 @@
 //! Tasks done.
-use crate::files::{Unwritten, is_same_file, read, tell, write_into, write_out, write_whole};
+use crate::files::{
+    Taken, Unwritten, read, tell, write_into, write_out, write_untaken, write_whole,
+};
 use mucwathi_answers::{
     Answer, Named, answer_given, answer_judging, answer_looking, answer_rewriting,
 };
@@ -48,39 +50,26 @@ fn give(rt: &HostRuntime, name: &str, answer: Result<Answer, AllocError>) -> u8 
     }
 }
 
-fn put_out(rt: &HostRuntime, out: &[u8]) -> Result<Option<String>, Unwritten> {
+fn put_out(rt: &HostRuntime, out: &[u8]) -> Result<(), Unwritten> {
     write_out(rt, out)?;
-    Ok(None)
+    Ok(())
 }
 
-fn put_in_place(rt: &HostRuntime, path: &str, out: &[u8]) -> Result<Option<String>, Unwritten> {
-    write_whole(rt, path, out)?;
-    Ok(None)
-}
-
-fn put_into(
-    rt: &HostRuntime,
-    folder: &str,
-    path: &str,
-    out: &[u8],
-) -> Result<Option<String>, Unwritten> {
-    Ok(Some(write_into(rt, folder, path, out)?))
-}
-
-// Writes an answer that is not told where it goes. Tells into which file, if it is another than was read.
+// Writes an answer that is not told where it goes.
 fn put(
     rt: &HostRuntime,
+    taken: &mut Taken,
     target: Target<'_>,
     file: Option<&str>,
     out: &[u8],
-) -> Result<Option<String>, Unwritten> {
+) -> Result<(), Unwritten> {
     let Some(path) = file else {
         return put_out(rt, out);
     };
     match target {
         Target::Output => put_out(rt, out),
-        Target::Place => put_in_place(rt, path, out),
-        Target::Folder(folder) => put_into(rt, folder, path, out),
+        Target::Place => write_whole(rt, path, out),
+        Target::Folder(folder) => write_into(rt, taken, folder, path, out),
     }
 }
 
@@ -102,53 +91,38 @@ fn tell_unwritten(rt: &HostRuntime, place: &str, fault: &Unwritten) -> u8 {
     tell_failure(rt, name, "not written", &fault.error)
 }
 
-fn put_map(rt: &HostRuntime, path: &str, map: &[u8]) -> u8 {
-    match write_whole(rt, path, map) {
+// Writes the map that goes with an answer.
+fn put_map(rt: &HostRuntime, taken: &mut Taken, path: &str, map: &[u8]) -> u8 {
+    match write_untaken(rt, taken, path, map) {
         Ok(()) => 0,
         Err(fault) => tell_unwritten(rt, path, &fault),
     }
 }
 
-fn is_one_file(rt: &HostRuntime, path: &str, other: Option<&str>) -> bool {
-    match other {
-        Some(other) => is_same_file(rt, path, other),
-        None => false,
-    }
-}
-
-// Writes the map that goes with an answer, unless its place is that of the answer, or the file that was read.
-fn put_other_map(
-    rt: &HostRuntime,
-    path: &str,
-    file: Option<&str>,
-    written: Option<&str>,
-    map: &[u8],
-) -> u8 {
-    if is_one_file(rt, path, file) || is_one_file(rt, path, written) {
-        let taken = io::Error::other("it is the file that is read, or written");
-        return tell_failure(rt, path, "not written", &taken);
-    }
-    put_map(rt, path, map)
-}
-
 // Tells what is told of an answer, and writes what is written where it goes.
-fn put_answer(rt: &HostRuntime, task: &Rewriting<'_>, file: Option<&str>, answer: &Answer) -> u8 {
+fn put_answer(
+    rt: &HostRuntime,
+    taken: &mut Taken,
+    task: &Rewriting<'_>,
+    file: Option<&str>,
+    answer: &Answer,
+) -> u8 {
     tell(rt, answer.told.as_slice());
     if answer.status != 0 {
         return answer.status;
     }
-    let written = match put(rt, task.target, file, answer.out.as_slice()) {
-        Ok(written) => written,
-        Err(fault) => return tell_unwritten(rt, place_of(task.target, name_of(file)), &fault),
-    };
+    if let Err(fault) = put(rt, taken, task.target, file, answer.out.as_slice()) {
+        return tell_unwritten(rt, place_of(task.target, name_of(file)), &fault);
+    }
     match task.map {
-        Some(path) => put_other_map(rt, path, file, written.as_deref(), answer.map.as_slice()),
+        Some(path) => put_map(rt, taken, path, answer.map.as_slice()),
         None => 0,
     }
 }
 
 fn rewrite_text(
     rt: &HostRuntime,
+    taken: &mut Taken,
     task: &Rewriting<'_>,
     prefix: &str,
     file: Option<&str>,
@@ -161,14 +135,20 @@ fn rewrite_text(
         return give(rt, name, answer);
     }
     match answer {
-        Ok(answer) => put_answer(rt, task, file, &answer),
+        Ok(answer) => put_answer(rt, taken, task, file, &answer),
         Err(_) => tell_no_memory(rt, name),
     }
 }
 
-fn rewrite_one(rt: &HostRuntime, task: &Rewriting<'_>, prefix: &str, file: Option<&str>) -> u8 {
+fn rewrite_one(
+    rt: &HostRuntime,
+    taken: &mut Taken,
+    task: &Rewriting<'_>,
+    prefix: &str,
+    file: Option<&str>,
+) -> u8 {
     match read_told(rt, file) {
-        Ok(text) => rewrite_text(rt, task, prefix, file, text.as_slice()),
+        Ok(text) => rewrite_text(rt, taken, task, prefix, file, text.as_slice()),
         Err(status) => status,
     }
 }
@@ -188,14 +168,14 @@ fn tell_progress(rt: &HostRuntime, done: usize, count: usize, file: &str) {
     }
 }
 
-fn rewrite_each(rt: &HostRuntime, task: &Rewriting<'_>) -> u8 {
+fn rewrite_each(rt: &HostRuntime, taken: &mut Taken, task: &Rewriting<'_>) -> u8 {
     let mut status = 0;
     let mut number: usize = 0;
     for file in task.files.iter() {
         number = number.saturating_add(1);
         tell_progress(rt, number, task.files.len(), *file);
         let done = match prefix_for(rt.alloc(), task.files.len(), *file) {
-            Ok(prefix) => rewrite_one(rt, task, prefix.as_str(), Some(*file)),
+            Ok(prefix) => rewrite_one(rt, taken, task, prefix.as_str(), Some(*file)),
             Err(_) => tell_no_memory(rt, *file),
         };
         if status < done {
@@ -210,10 +190,13 @@ fn rewrite(rt: &HostRuntime, task: &Rewriting<'_>) -> u8 {
         let _ = eprintln!(rt; "mucwathi: {misuse}");
         return USAGE;
     }
+    let Ok(mut taken) = Taken::of(rt, task.files.as_slice()) else {
+        return tell_no_memory(rt, "mucwathi");
+    };
     if task.files.is_empty() {
-        return rewrite_one(rt, task, "", None);
+        return rewrite_one(rt, &mut taken, task, "", None);
     }
-    rewrite_each(rt, task)
+    rewrite_each(rt, &mut taken, task)
 }
 
 fn judge_texts(rt: &HostRuntime, task: &Judging<'_>, before: &[u8], after: &[u8]) -> u8 {

@@ -4,14 +4,14 @@ use Rattle.swc_tree_marks.specs.declared.error.PassError.{PassError}
 use Rattle.swc_tree_node.specs.declared.node.Node.{Node}
 use Rattle.swc_tree_node.specs.declared.slot.Content.TheVariants as content
 use Rattle.swc_tree_node.specs.declared.slot.Slot.TheVariants as slot
-use Rattle.swc_base_alpha.specs.Verdict.{IsCleanProgram, IsJudgeRefusal, TellsWhy}
+use Rattle.swc_base_alpha.specs.Verdict.{IsCleanProgram, IsJudgeRefusal}
 use Rattle.swc_base_plain_form.proofs.Fitting.{plain_fits}
 use Rattle.swc_base_plain_form.proofs.Kept.{clean}
 use Rattle.text_parser.specs.declared.programs.Goal.{Goal}
 use Rattle.text_source.specs.Texts.{class_of}
 use Rattle.mucwathi_faults.specs.declared.fault.JudgeFault.{JudgeFault}
 use Rattle.mucwathi_faults.specs.declared.fault.JudgeFault.TheVariants.{After, Before, Refused}
-use Rattle.mucwathi_commands.specs.Judged.{IsAfterFault, IsBeforeFault, IsJudgeFault, IsRead, IsUnjudged, IsUnsaid, as_compared, why_in}
+use Rattle.mucwathi_commands.specs.Judged.{IsAfterFault, IsBeforeFault, IsJudgeFault, IsRead, IsSaid, IsUnsaid, as_compared}
 use Rattle.mucwathi_commands.specs.declared.judge.TextDifference.{TextDifference}
 use Rattle.mucwathi_faults.proofs.Programs.{is_program}
 
@@ -27,10 +27,10 @@ clean_compared spelling t u is h = subst IsCleanProgram (sym is) (compared spell
 
 -- what is said of two programs as they are compared
 pub compared_said : (keep_top spelling : Bool) (first second one other : Node) (r : Result (Option TextDifference) PassError) → one ≡ as_compared spelling first → other ≡ as_compared spelling second
-    → MatchResult r (λ said. TellsWhy keep_top one other (why_in said)) (IsJudgeRefusal one other)
-    → MatchResult r (λ said. TellsWhy keep_top (as_compared spelling first) (as_compared spelling second) (why_in said)) (IsUnsaid spelling first second)
+    → MatchResult r (IsSaid keep_top one other) (IsJudgeRefusal one other)
+    → MatchResult r (IsSaid keep_top (as_compared spelling first) (as_compared spelling second)) (IsUnsaid spelling first second)
 compared_said keep_top spelling first second one other (Ok said) is also h =
-    subst (λ t. TellsWhy keep_top t (as_compared spelling second) (why_in said)) is (subst (λ u. TellsWhy keep_top one u (why_in said)) also h)
+    subst (λ t. IsSaid keep_top t (as_compared spelling second) said) is (subst (λ u. IsSaid keep_top one u said) also h)
 compared_said keep_top spelling first second one other (Err e) is also h =
     inr (subst (λ t. IsJudgeRefusal t (as_compared spelling second) e) is (subst (λ u. IsJudgeRefusal one u e) also h))
 

@@ -1,9 +1,12 @@
 -- What is said of two texts.
-use Rattle.std.specs.Prelude.{◌≡◌, ◌⊎◌, Bool, true, false, ℕ, List, Option, option_map}
+use Rattle.std.specs.Prelude.{◌≡◌, ◌-◌, ◌⊎◌, Bool, true, false, ℕ, List, Option, IfSome, option_map}
 use Rattle.swc_tree_marks.specs.declared.error.PassError.{PassError}
 use Rattle.swc_tree_marks.specs.declared.error.PassError.TheVariants as refusal
+use Rattle.swc_tree_marks.specs.declared.span.Span.{Span}
 use Rattle.swc_tree_node.specs.declared.node.Node.{Node}
+use Rattle.swc_tree_grammar.specs.Normal.{normal_form}
 use Rattle.swc_tree_scoping.specs.WellScoped.{IsClean}
+use Rattle.swc_base_alpha.specs.Shown.{Shows}
 use Rattle.swc_base_alpha.specs.Verdict.{IsJudgeRefusal, TellsWhy}
 use Rattle.swc_base_alpha.specs.declared.verdict.Why.{Why}
 use Rattle.swc_base_plain_form.specs.PlainForm.{plain_form}
@@ -35,13 +38,27 @@ abbrev pub as_compared : Bool → Node → Node
 as_compared true t = t
 as_compared false t = plain_form t
 
--- the texts are those of two programs, of which it is told that they are one but for names, or the first condition of that that fails
+-- a difference is told with where it shows, by how many bytes are before that in each text; bytes are counted from 1 in spans
+pub record IsPlaced (t u : Node) (d : TextDifference) : Type 0 where
+  pub one : Span
+  pub other : Span
+  pub shows : Shows (normal_form t) (normal_form u) d.why one other
+  pub before : d.before ≡ one.lo - 1
+  pub after : d.after ≡ other.lo - 1
+
+-- what is said of two programs as they are compared
+pub record IsSaid (keep_top : Bool) (t u : Node) (said : Option TextDifference) : Type 0 where
+  pub tells : TellsWhy keep_top t u (why_in said)
+  pub places : IfSome said (IsPlaced t u)
+
+-- the texts are those of two programs, of which it is told that they are one but for names, or the first condition of that that fails,
+-- and where that shows
 pub record IsJudged (rules : Rules) (g : Goal) (before : List ℕ) (h : Goal) (after : List ℕ) (said : Option TextDifference) : Type 0 where
   pub first : Node
   pub second : Node
   pub read_first : IsRead g before first
   pub read_second : IsRead h after second
-  pub tells : TellsWhy rules.keep_top (as_compared rules.spelling first) (as_compared rules.spelling second) (why_in said)
+  pub tells : IsSaid rules.keep_top (as_compared rules.spelling first) (as_compared rules.spelling second) said
 
 -- memory was refused, or the judge of the two as they are compared
 abbrev pub IsUnsaid : Bool → Node → Node → PassError → Type 0

@@ -1,7 +1,10 @@
 //! Two texts compared.
-ghost use Rattle.std.specs.Prelude.{◌≡◌, ℕ, List, IsTrue, IfOk, MatchResult};
-ghost use Rattle.swc_base_alpha.specs.Verdict.{IsCleanProgram, IsJudgeRefusal, TellsWhy, word_in};
-ghost use Rattle.mucwathi_commands.specs.Judged.{IsAfterFault, IsBeforeFault, IsJudgeFault, IsJudged, IsRead, IsUnread, IsUnsaid, as_compared, why_in};
+ghost use Rattle.std.specs.Prelude.{◌≡◌, ℕ, List, IfOk, IfSome, MatchResult};
+ghost use Rattle.swc_tree_grammar.specs.Normal.{normal_form};
+ghost use Rattle.swc_tree_node.specs.declared.node.Node.{Node as Node'};
+ghost use Rattle.swc_base_alpha.specs.Shown.{Shows};
+ghost use Rattle.swc_base_alpha.specs.Verdict.{IsCleanProgram, IsJudgeRefusal, word_in};
+ghost use Rattle.mucwathi_commands.specs.Judged.{IsAfterFault, IsBeforeFault, IsJudgeFault, IsJudged, IsPlaced, IsRead, IsSaid, IsUnread, IsUnsaid, as_compared, why_in};
 
 use crate::places::bytes_before;
 use mucwathi_faults::JudgeFault;
@@ -91,7 +94,8 @@ fn read_after(alloc: Global, depth: u32, given: &NamedText<'_>) -> Result<Node, 
 
 // Where a cause shows in both texts.
 fn difference_of(cause: Option<Cause>) -> Option<TextDifference>
-    ensures { why_in result ≡ word_in cause }
+    ensures why { why_in result ≡ word_in cause }
+    ensures places { (t u : Node') → IfSome cause (λ c. Shows (normal_form t) (normal_form u) c.why c.before c.after) → IfSome result (IsPlaced t u) }
 {
     match cause {
         None => None,
@@ -122,7 +126,7 @@ fn judge_compared(
 ) -> Result<Option<TextDifference>, PassError>
     requires before { IsCleanProgram first }
     requires after { IsCleanProgram second }
-    ensures { MatchResult result (λ said. TellsWhy keep_top first second (why_in said)) (IsJudgeRefusal first second) }
+    ensures { MatchResult result (IsSaid keep_top first second) (IsJudgeRefusal first second) }
 {
     match why_different(alloc, keep_top, first, second) {
         Ok(cause) => Ok(difference_of(cause)),
@@ -139,7 +143,7 @@ fn judge(
 ) -> Result<Option<TextDifference>, PassError>
     requires before { IsCleanProgram first }
     requires after { IsCleanProgram second }
-    ensures { MatchResult result (λ said. TellsWhy rules.now.keep_top (as_compared rules.now.spelling first) (as_compared rules.now.spelling second) (why_in said)) (IsUnsaid rules.now.spelling first second) }
+    ensures { MatchResult result (IsSaid rules.now.keep_top (as_compared rules.now.spelling first) (as_compared rules.now.spelling second)) (IsUnsaid rules.now.spelling first second) }
 {
     let one = compared(alloc, rules.spelling, first)?;
     let other = compared(alloc, rules.spelling, second)?;

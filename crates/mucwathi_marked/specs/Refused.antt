@@ -67,11 +67,12 @@ IsUnmadeBy c program NotKept = ⊥
 abbrev pub IsRefusedOrder : Order → Envelope → PassError → Type 0
 IsRefusedOrder order program e = IsUnmade (Some order.command) (with_settings order.settings program) e
 
--- what a command makes of it is not written, or memory was refused, or the command
+-- what a command makes of it is not written
 pub record IsUnwrittenMade (order : Order) (program : Envelope) : Type 0 where
   pub made : Envelope
   pub is_made : IsMade (Some order.command) (with_settings order.settings program) made
 
+-- ... or memory was refused, or the command
 abbrev pub IsUnmadeOf : Order → Envelope → RunFault → Type 0
 IsUnmadeOf order program (Text f) = ⊥
 IsUnmadeOf order program (Refused e) = (e ≡ refusal.NoMemory) ⊎ IsRefusedOrder order program e

@@ -17,7 +17,7 @@ use Rattle.swc_base_rename_laws.specs.NewNames.{no_name, outline}
 use Rattle.swc_base_rename_laws.proofs.Outline.{layer, out_is, outline_identifier, outline_list, outline_span, outline_tree}
 
 -- a node of which the layer is known
-rolled : (t : Node) (y : Node-F Node) → out-Node t ≡ y → t ≡ roll-Node y
+pub rolled : (t : Node) (y : Node-F Node) → out-Node t ≡ y → t ≡ roll-Node y
 rolled t y e = sym (roll-out-Node t) ∙ ap roll-Node e
 
 layers : (t u : Node) (y : Node-F Node) → outline t ≡ outline u → out-Node t ≡ y → layer y ≡ layer (out-Node u)

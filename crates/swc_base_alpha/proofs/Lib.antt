@@ -3,7 +3,10 @@ pub mod CatchTexts
 pub mod FirstWord
 pub mod Forms
 pub mod Judged
+pub mod Passed
 pub mod Remarked
+pub mod Shapes
+pub mod Showing
 pub mod SideBySide
 pub mod Steps
 pub mod Tables

@@ -4,3 +4,6 @@ pub mod Pairs
 pub mod Partners
 pub mod Judged
 pub mod CatchTexts
+pub mod Shapes
+pub mod Among
+pub mod Shown

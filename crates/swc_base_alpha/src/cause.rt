@@ -1,42 +1,38 @@
 //! Why two normal forms are not the same, and the spans of what shows it.
-ghost use Rattle.std.specs.Prelude.{◌≡◌, IfOk};
+ghost use Rattle.std.specs.Prelude.{◌≡◌, IfOk, IfSome, MatchOption, length};
+ghost use Rattle.swc_tree_walk.specs.Sites.{site_of};
+ghost use Rattle.swc_base_alpha.specs.Pairs.{pairs};
+ghost use Rattle.swc_base_rename_laws.specs.NewNames.{outline};
+ghost use Rattle.swc_base_alpha.specs.Shown.{FailsAt, PairsAsk, Shows, ShowsIn};
 ghost use Rattle.swc_base_alpha.specs.Verdict.{word_in};
 
 use crate::pairs::{Question, first_apart};
-use crate::partners::first_split;
+use crate::partners::{Found, first_joined, first_split};
 use crate::shape::shape_apart;
 use crate::spans::{NOWHERE, Spans, Unplaced};
 use crate::verdict::{Cause, Why};
 use std::alloc::{AllocError, Global};
-use swc_tree_marks::{DUMMY_SP, Span};
 use swc_tree_node::Node;
 use swc_tree_walk::Site;
 
-// The number of the identifiers at which a word shows.
-fn shows_at<'a>(
+// The identifiers at which a word shows.
+fn shown_at<'a>(
     alloc: Global,
     why: Why,
     ones: &[Site<'a>],
     others: &[Site<'a>],
-) -> Result<Option<usize>, AllocError> {
-    if ones.len() != others.len() {
-        return Ok(None);
-    }
+) -> Result<Found<'a>, AllocError>
+    requires { length ones.now ≡ length others.now }
+    ensures { IfOk result (λ found. MatchOption found (PairsAsk why (pairs ones.now others.now)) (λ f. FailsAt (PairsAsk why) (pairs ones.now others.now) (site_of f.0) (site_of f.1))) }
+{
     match why {
         Why::Shape => Ok(None),
         Why::Name => Ok(first_apart(Question::Others, ones, others)),
         Why::Free => Ok(first_apart(Question::Free, ones, others)),
         Why::Split => first_split(alloc, ones, others),
-        Why::Joined => first_split(alloc, others, ones),
+        Why::Joined => first_joined(alloc, ones, others),
         Why::Top => Ok(first_apart(Question::Top, ones, others)),
         Why::Reads | Why::Caught => Ok(first_apart(Question::Names, ones, others)),
-    }
-}
-
-fn span_at(sites: &[Site<'_>], index: usize) -> Span {
-    match sites.get(index) {
-        Some(site) => site.ident.span,
-        None => DUMMY_SP,
     }
 }
 
@@ -50,11 +46,16 @@ pub fn names_shown<'a>(
     why: Why,
     ones: &[Site<'a>],
     others: &[Site<'a>],
-) -> Result<Spans, AllocError> {
-    match shows_at(alloc, why, ones, others)? {
-        Some(index) => Ok(Spans {
-            before: span_at(ones, index),
-            after: span_at(others, index),
+) -> Result<Spans, AllocError>
+    ensures { length ones.now ≡ length others.now → ¬ PairsAsk why (pairs ones.now others.now) → IfOk result (λ spans. ShowsIn why (pairs ones.now others.now) spans.before spans.after) }
+{
+    if ones.len() != others.len() {
+        return Ok(NOWHERE);
+    }
+    match shown_at(alloc, why, ones, others)? {
+        Some((one, other)) => Ok(Spans {
+            before: one.ident.span,
+            after: other.ident.span,
         }),
         None => Ok(NOWHERE),
     }
@@ -71,7 +72,8 @@ pub fn cause_among<'a>(
     ones: &[Site<'a>],
     others: &[Site<'a>],
 ) -> Result<Option<Cause>, AllocError>
-    ensures { IfOk result (λ cause. word_in cause ≡ found) }
+    ensures word { IfOk result (λ cause. word_in cause ≡ found) }
+    ensures shown { length ones.now ≡ length others.now → IfSome found (λ w. ¬ PairsAsk w (pairs ones.now others.now)) → IfOk result (λ cause. IfSome cause (λ c. ShowsIn c.why (pairs ones.now others.now) c.before c.after)) }
 {
     let Some(why) = found else {
         return Ok(None);
@@ -80,19 +82,26 @@ pub fn cause_among<'a>(
     Ok(Some(Cause { why, before, after }))
 }
 
-/// That two normal forms have other outlines, with what shows it.
-pub fn cause_of_shape(first: &Node, second: &Node) -> Cause
-    ensures { result.why ≡ Why.Shape }
+// That two normal forms have other outlines, and where it shows.
+fn shape_at(spans: Spans) -> Cause
+    ensures why { result.why ≡ Why.Shape }
+    ensures before { result.before ≡ spans.before }
+    ensures after { result.after ≡ spans.after }
 {
-    let Spans { before, after } = shape_apart(
-        first,
-        second,
-        NOWHERE,
-        Unplaced::IsUnknown,
-    ).unwrap_or(NOWHERE);
     Cause {
         why: Why::Shape,
-        before,
-        after,
+        before: spans.before,
+        after: spans.after,
+    }
+}
+
+/// That two normal forms have other outlines, with what shows it.
+pub fn cause_of_shape(first: &Node, second: &Node) -> Cause
+    ensures why { result.why ≡ Why.Shape }
+    ensures shows { ¬ (outline first.now ≡ outline second.now) → Shows first.now second.now result.why result.before result.after }
+{
+    match shape_apart(first, second, NOWHERE, Unplaced::IsUnknown) {
+        Some(spans) => shape_at(spans),
+        None => shape_at(NOWHERE),
     }
 }

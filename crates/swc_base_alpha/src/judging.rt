@@ -1,5 +1,5 @@
 //! Whether two programs are one but for names, and if not, why.
-ghost use Rattle.std.specs.Prelude.{◌≡◌, ◌||◌, ◌↔◌, true, false, IsTrue, IfOk, IfErr, IsErrOf, map};
+ghost use Rattle.std.specs.Prelude.{◌≡◌, ◌||◌, ◌↔◌, true, false, IsTrue, IfOk, IfErr, IfSome, IsErrOf, map};
 ghost use Rattle.swc_tree_marks.specs.declared.error.PassError.TheVariants as error;
 ghost use Rattle.swc_tree_node.specs.declared.node.Node.{Node as Node'};
 ghost use Rattle.swc_tree_scoping.specs.Places.{program_place};
@@ -8,6 +8,7 @@ ghost use Rattle.swc_tree_walk.specs.Sites.{site_of, sites as sites_in};
 ghost use Rattle.swc_tree_grammar.specs.Normal.{normal_form as form};
 ghost use Rattle.swc_base_rename_laws.specs.NewNames.{outline};
 ghost use Rattle.swc_base_alpha.specs.Judged.{Concludes, IsOrdinary, IsOwnAnswer, IsRefused};
+ghost use Rattle.swc_base_alpha.specs.Shown.{Shows};
 ghost use Rattle.swc_base_alpha.specs.Verdict.{HasPaths, IsCleanProgram, IsJudgeRefusal, IsRead, IsUncaught, Tells, TellsWhy, word_in};
 
 use crate::caught::is_caught;
@@ -57,6 +58,7 @@ fn names_differ(
 ) -> Result<Option<Cause>, PassError>
     requires { outline first ≡ outline second }
     ensures decides { IsOrdinary first → IsOrdinary second → IfOk result (λ cause. Concludes keep_top (IsTrue reads) first second (word_in cause)) }
+    ensures shows { IsOrdinary first → IsOrdinary second → IfOk result (λ cause. IfSome cause (λ c. Shows first second c.why c.before c.after)) }
     ensures refusal { IfErr result (IsRefused first second) }
 {
     let first = resolved(alloc, first)?;
@@ -83,6 +85,7 @@ fn forms_differ(
     second: Node,
 ) -> Result<Option<Cause>, PassError>
     ensures decides { IsOrdinary first → IsOrdinary second → IfOk result (λ cause. Concludes keep_top (IsTrue reads) first second (word_in cause)) }
+    ensures shows { IsOrdinary first → IsOrdinary second → IfOk result (λ cause. IfSome cause (λ c. Shows first second c.why c.before c.after)) }
     ensures refusal { IfErr result (IsRefused first second) }
 {
     if !same_outline(&first, &second) {
@@ -111,6 +114,7 @@ fn first_cause(
     after: Node,
 ) -> Result<Option<Cause>, PassError>
     ensures decides { (stand_in before || stand_in after) ≡ false → IsCleanProgram before → IsCleanProgram after → IfOk result (λ cause. Concludes keep_top (IsRead before after) (form before) (form after) (word_in cause)) }
+    ensures shows { (stand_in before || stand_in after) ≡ false → IsCleanProgram before → IsCleanProgram after → IfOk result (λ cause. IfSome cause (λ c. Shows (form before) (form after) c.why c.before c.after)) }
     ensures refusal { IfErr result (IsRefused (form before) (form after)) }
 {
     normal_form_is_clean();
@@ -139,6 +143,7 @@ pub fn why_different(
     after: Node,
 ) -> Result<Option<Cause>, PassError>
     ensures why { IsCleanProgram before → IsCleanProgram after → IfOk result (λ cause. TellsWhy keep_top before after (word_in cause)) }
+    ensures shows { IsCleanProgram before → IsCleanProgram after → IfOk result (λ cause. IfSome cause (λ c. Shows (form before) (form after) c.why c.before c.after)) }
     ensures types { (stand_in before || stand_in after) ≡ true → IsErrOf result error.TypesLeft }
     ensures refusal { IfErr result (IsJudgeRefusal before after) }
 {

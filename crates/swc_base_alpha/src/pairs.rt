@@ -1,8 +1,9 @@
 //! Two lists of identifiers beside one another.
-ghost use Rattle.std.specs.Prelude.{◌≡◌, ◌↔◌, ◌<◌, [], ◌∷◌, IsTrue, MatchOption, length};
+ghost use Rattle.std.specs.Prelude.{◌≡◌, ◌↔◌, [], ◌∷◌, IsTrue, MatchOption, length};
 ghost use Rattle.swc_tree_scoping.specs.Scopes.{is_name as names};
 ghost use Rattle.swc_tree_walk.specs.Sites.{site_of};
 ghost use Rattle.swc_base_alpha.specs.Pairs.{EachPair, IsFreeAlike, IsTopAlike, Meets, pairs};
+ghost use Rattle.swc_base_alpha.specs.Shown.{FailsAt};
 
 use swc_tree_marks::Ident;
 use swc_tree_walk::Site;
@@ -80,14 +81,20 @@ fn are_alike(question: Question, one: &Site<'_>, other: &Site<'_>) -> bool
     }
 }
 
-/// The number of the first two identifiers beside one another that are not as they are asked to be, if there are such.
-pub fn first_apart(question: Question, ones: &[Site<'_>], others: &[Site<'_>]) -> Option<usize>
+/// The first two identifiers beside one another that are not as they are asked to be, if there are such.
+pub fn first_apart<'a>(
+    question: Question,
+    ones: &[Site<'a>],
+    others: &[Site<'a>],
+) -> Option<(Site<'a>, Site<'a>)>
     requires { length ones.now ≡ length others.now }
-    ensures { MatchOption result (EachPair (Meets question) (pairs ones.now others.now)) (λ i. (i < length ones.now) × ¬ EachPair (Meets question) (pairs ones.now others.now)) }
+    ensures { MatchOption result (EachPair (Meets question) (pairs ones.now others.now)) (λ found. FailsAt (EachPair (Meets question)) (pairs ones.now others.now) (site_of found.0) (site_of found.1) × ¬ EachPair (Meets question) (pairs ones.now others.now)) }
 {
     for i in 0..ones.len() {
-        if !are_alike(question, &ones[i], &others[i]) {
-            return Some(i);
+        let one = ones[i];
+        let other = others[i];
+        if !are_alike(question, &one, &other) {
+            return Some((one, other));
         }
     }
     None

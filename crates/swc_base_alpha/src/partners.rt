@@ -1,9 +1,11 @@
 //! Whether names that have one id in one list have one in another beside it.
-ghost use Rattle.std.specs.Prelude.{◌≡◌, ◌↔◌, ◌<◌, IsTrue, None, IfOk, MatchOption, OnOk, length};
+ghost use Rattle.std.specs.Prelude.{◌≡◌, ◌↔◌, IsTrue, None, IfOk, MatchOption, OnOk, length};
 ghost use Rattle.swc_tree_renaming.specs.Apart.{SameId};
 ghost use Rattle.swc_tree_walk.specs.Sites.{site_of};
 ghost use Rattle.swc_base_alpha.specs.Pairs.{StaysOne, pairs};
 ghost use Rattle.swc_base_alpha.specs.Partners.{Agrees, Id, table_of, with_pair};
+ghost use Rattle.swc_base_alpha.specs.Shown.{FailsAt, PairsAsk};
+ghost use Rattle.swc_base_alpha.specs.declared.verdict.Why.TheVariants as why;
 
 use crate::pairs::is_name;
 use std::alloc::{AllocError, Global};
@@ -63,7 +65,10 @@ impl<'a> Partners<'a> {
     }
 }
 
-/// The number of the first name that stands beside one with another id than an earlier name of its own id does, if there is such.
+/// Two of the lists that stand beside one another, if there are such as are looked for.
+pub type Found<'a> = Option<(Site<'a>, Site<'a>)>;
+
+/// The first name that stands beside one with another id than an earlier name of its own id does, with that, if there is such.
 ///
 /// It costs the logarithm of how many ids there are, for each name.
 ///
@@ -74,18 +79,35 @@ pub fn first_split<'a>(
     alloc: Global,
     ones: &[Site<'a>],
     others: &[Site<'a>],
-) -> Result<Option<usize>, AllocError>
+) -> Result<Found<'a>, AllocError>
     requires { length ones.now ≡ length others.now }
-    ensures { IfOk result (λ found. MatchOption found (StaysOne (pairs ones.now others.now)) (λ i. (i < length ones.now) × ¬ StaysOne (pairs ones.now others.now))) }
+    ensures { IfOk result (λ found. MatchOption found (StaysOne (pairs ones.now others.now)) (λ f. FailsAt StaysOne (pairs ones.now others.now) (site_of f.0) (site_of f.1) × ¬ StaysOne (pairs ones.now others.now))) }
 {
     let mut partners = Partners::new(alloc);
     for i in 0..ones.len() {
-        let agree = partners.see(&ones[i], &others[i])?;
+        let one = ones[i];
+        let other = others[i];
+        let agree = partners.see(&one, &other)?;
         if !agree {
-            return Ok(Some(i));
+            return Ok(Some((one, other)));
         }
     }
     Ok(None)
+}
+
+/// The first name that has another id than one that stands beside it, of which an earlier had the id.
+pub fn first_joined<'a>(
+    alloc: Global,
+    ones: &[Site<'a>],
+    others: &[Site<'a>],
+) -> Result<Found<'a>, AllocError>
+    requires { length ones.now ≡ length others.now }
+    ensures { IfOk result (λ found. MatchOption found (PairsAsk why.Joined (pairs ones.now others.now)) (λ f. FailsAt (PairsAsk why.Joined) (pairs ones.now others.now) (site_of f.0) (site_of f.1))) }
+{
+    match first_split(alloc, others, ones)? {
+        Some((other, one)) => Ok(Some((one, other))),
+        None => Ok(None),
+    }
 }
 
 /// Whether names that have one id in the first list stand beside names that have one id in the second.

@@ -1,4 +1,8 @@
 //! Spans by which nodes are found again: a normal form keeps those of what stands in it.
+ghost use Rattle.std.specs.Prelude.{◌≡◌, Some};
+ghost use Rattle.swc_tree_node.specs.declared.node.Node.{out-Node};
+ghost use Rattle.swc_base_alpha.specs.Shapes as spec;
+
 use swc_tree_marks::{DUMMY_SP, Span};
 use swc_tree_node::Node;
 
@@ -24,26 +28,57 @@ pub enum Unplaced {
     IsUnknown,
 }
 
-/// The span of a node itself, if it has one.
-pub fn own_span(node: &Node) -> Option<Span> {
-    match node {
+// The span that a field is.
+fn field_span(field: &Node) -> Option<Span>
+    ensures { result ≡ spec.field_span (out-Node field.now) }
+{
+    match field {
         Node::Span(span) => Some(*span),
-        Node::Identifier(_, ident) => Some(ident.get().span),
-        Node::Tree(_, fields) => match fields.get(0) {
-            Some(Node::Span(span)) => Some(*span),
-            _ => None,
-        },
         _ => None,
     }
 }
 
-/// The span of a node, or `near` where it has none.
-pub fn span_of(node: &Node, near: Span, unplaced: Unplaced) -> Span {
-    let Some(own) = own_span(node) else {
-        return near;
-    };
-    match unplaced {
-        Unplaced::IsMade if own == DUMMY_SP => near,
-        _ => own,
+fn first_span(fields: &[Node]) -> Option<Span>
+    ensures { result ≡ spec.first_span fields.now }
+{
+    match fields {
+        [first, ..] => field_span(first),
+        [] => None,
+    }
+}
+
+/// The span of a node itself, if it has one.
+pub fn own_span(node: &Node) -> Option<Span>
+    ensures { result ≡ spec.own_span (out-Node node.now) }
+{
+    match node {
+        Node::Span(span) => Some(*span),
+        Node::Identifier(_, ident) => Some(ident.get().span),
+        Node::Tree(_, fields) => first_span(fields.as_slice()),
+        _ => None,
+    }
+}
+
+// The first of two spans, if it is one of source text.
+fn placed(own: Span, round: Span) -> Span
+    ensures { result ≡ spec.span_or Unplaced.IsMade round (Some own) }
+{
+    if own.lo == 0 && own.hi == 0 {
+        round
+    } else {
+        own
+    }
+}
+
+/// The span of a node, or that round it where it has none.
+pub fn span_of(node: &Node, round: Span, unplaced: Unplaced) -> Span
+    ensures { result ≡ spec.span_or unplaced round (spec.own_span (out-Node node.now)) }
+{
+    match own_span(node) {
+        None => round,
+        Some(own) => match unplaced {
+            Unplaced::IsMade => placed(own, round),
+            Unplaced::IsUnknown => own,
+        },
     }
 }

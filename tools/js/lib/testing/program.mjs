@@ -80,11 +80,10 @@ const FILES = {
     writeFileSync(join(folder, 'out/a.js'), '');
     expect(run(folder, ['chain', '--out', 'out', 'a.js', 'out/a.js']), 2, { stderr: 'mucwathi: a.js: two files would be written to one of this name\n' });
   }),
-  'no answer goes over its source, but in place, and no map': inFolder((folder, text) => {
+  'nothing goes over a file that is read, but in place, or written already': inFolder((folder, text) => {
+    const taken = (name) => ({ stderr: `${name}: not written: it is a file that is read, or written already\n` });
     symlinkSync('a.js', join(folder, 'link.js'));
-    const over = (name) => ({ stderr: `${name}: not written: it is the file that is read\n` });
-    expect(run(folder, ['chain', '--out', '.', 'a.js']), 4, over('./a.js'));
-    const taken = (name) => ({ stderr: `${name}: not written: it is the file that is read, or written\n` });
+    expect(run(folder, ['chain', '--out', '.', 'a.js']), 4, taken('./a.js'));
     for (const map of ['./a.js', 'link.js']) {
       expect(run(folder, ['chain', '--source-map', map, 'a.js']), 4, { stdout: CHAINED, ...taken(map) });
     }
@@ -92,6 +91,17 @@ const FILES = {
     mkdirSync(join(folder, 'out'));
     expect(run(folder, ['chain', '--out', 'out', '--source-map', 'out/a.js', 'a.js']), 4, taken('out/a.js'));
     assert.equal(text('out/a.js'), CHAINED);
+  }),
+  'nothing goes over what another link leads to': inFolder((folder, text) => {
+    const taken = (name) => ({ stderr: `${name}: not written: it is a file that is read, or written already\n` });
+    mkdirSync(join(folder, 'out'));
+    symlinkSync('../b.js', join(folder, 'out/a.js'));
+    expect(run(folder, ['chain', '--out', 'out', 'a.js', 'b.js']), 4, taken('out/a.js'));
+    assert.deepEqual([text('b.js'), text('out/b.js')], ['((b))', 'b']);
+    rmSync(join(folder, 'out/a.js'));
+    symlinkSync('b.js', join(folder, 'out/a.js'));
+    expect(run(folder, ['chain', '--out', 'out', 'a.js', 'b.js']), 4, taken('out/b.js'));
+    assert.equal(text('out/b.js'), CHAINED);
   }),
   'several files want a place': inFolder((folder) => {
     expect(run(folder, ['chain', 'a.js', 'b.js']), 2, { stderr: 'mucwathi: several files want --in-place or --out FOLDER\n' });
