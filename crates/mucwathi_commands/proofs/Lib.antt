@@ -1,4 +1,5 @@
 mod Covered
 mod Judged
 mod More
+mod Nearest
 pub mod Rewritten

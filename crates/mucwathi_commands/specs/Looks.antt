@@ -1,8 +1,13 @@
 -- What is told of a text.
-use Rattle.std.specs.Prelude.{◌≡◌, ℕ, List, Option, Some, None, option_map}
+use Rattle.std.specs.Prelude.{◌≡◌, ◌-◌, ℕ, List, Option, Some, None, option_map}
 use Rattle.swc_tree_marks.specs.declared.error.PassError.TheVariants as refusal
 use Rattle.swc_tree_node.specs.declared.node.Node.{Node}
+use Rattle.swc_tree_scoping.specs.Places.{Path, program_place}
+use Rattle.swc_tree_grammar.specs.Blocks.{no_span}
+use Rattle.swc_base_alpha.specs.Shapes.{nearest}
+use Rattle.swc_base_alpha.specs.declared.spans.Unplaced.TheVariants as unplaced
 use Rattle.swc_base_covers.specs.Covered.{Asks, IsCovered, causes}
+use Rattle.swc_base_covers.specs.Shown.{ShownAt, ShownFirst}
 use Rattle.swc_base_covers.specs.declared.gap.Cause.{Cause}
 use Rattle.swc_base_covers.specs.declared.gap.Gap.{Gap}
 use Rattle.swc_base_early_errors.specs.Errors.{IsFirst}
@@ -27,11 +32,21 @@ abbrev pub TellsCause : Config → Node → Option Cause → Type 0
 TellsCause config t None = IsCovered config t
 TellsCause config t (Some cause) = ¬ IsCovered config t × IsFirst (Asks config t) causes cause
 
--- the text is that of a program of which it is told whether it is covered
+-- so many bytes are before the first node at which a cause shows, or before what has a span round it; or it shows at none
+abbrev pub IsPlaceOf : Cause → Node → Option ℕ → Type 0
+IsPlaceOf c t None = (p : Path) → ¬ ShownAt c program_place t p
+IsPlaceOf c t (Some n) = (p : Path) × ShownFirst c program_place t p × (n ≡ (nearest unplaced.IsUnknown no_span t p).lo - 1)
+
+abbrev pub HasPlace : Node → Option CoverGap → Type 0
+HasPlace t None = Unit {0}
+HasPlace t (Some gap) = IsPlaceOf gap.cause t gap.at
+
+-- the text is that of a program of which it is told whether it is covered, and where what it lacks shows
 pub record IsCoverTold (goal : Goal) (s : Settings) (text : List ℕ) (gap : Option CoverGap) : Type 0 where
   pub source : Node
   pub read : IsReadAs goal source text
   pub tells : TellsCause (config_of s) source (cause_in gap)
+  pub place : HasPlace source gap
 
 -- the text is not read, or memory was refused
 abbrev pub IsUncovered : List ℕ → RunFault → Type 0

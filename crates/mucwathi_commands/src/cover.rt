@@ -1,7 +1,10 @@
 //! Whether a text is promised anything.
 ghost use Rattle.std.specs.Prelude.{◌≡◌, MatchResult};
 ghost use Rattle.mucwathi_commands.specs.Written.{IsReadAs};
-ghost use Rattle.mucwathi_commands.specs.Looks.{IsCoverTold, IsUncovered, cause_in, cause_of};
+ghost use Rattle.swc_base_covers.specs.Covered.{HasPath};
+ghost use Rattle.swc_base_covers.specs.Shown.{IsShown};
+ghost use Rattle.swc_base_covers.specs.declared.gap.Cause.{Cause as Cause'};
+ghost use Rattle.mucwathi_commands.specs.Looks.{HasPlace, IsCoverTold, IsPlaceOf, IsUncovered, cause_in, cause_of};
 
 use crate::places::place_at;
 use mucwathi_faults::RunFault;
@@ -16,19 +19,30 @@ use text_source::read_text;
 #[derive(Clone, Copy, Debug, PartialEq, Eq)]
 pub struct CoverGap {
     pub cause: Cause,
-    /// How many bytes are before the place where it shows, if that is known.
+    /// How many bytes are before the first place where it shows, if it does at a node.
     pub at: Option<usize>,
+}
+
+// How many bytes are before what stands at a path, where there is one.
+fn place_of(source: &Node, path: &Option<Vec<usize>>) -> Option<usize>
+    ensures { (cause : Cause') → IsShown cause source.now path.now → IsPlaceOf cause source.now result }
+{
+    match path {
+        None => None,
+        Some(path) => Some(place_at(source, path.as_slice())),
+    }
 }
 
 // A gap, and where it shows in the text.
 fn gap_of(source: &Node, gap: Option<Gap>) -> Option<CoverGap>
-    ensures { cause_in result ≡ cause_of gap }
+    ensures cause { cause_in result ≡ cause_of gap }
+    ensures place { HasPath source.now gap → HasPlace source.now result }
 {
     match gap {
         None => None,
         Some(gap) => Some(CoverGap {
             cause: gap.cause,
-            at: place_at(source, &gap.path),
+            at: place_of(source, &gap.path),
         }),
     }
 }

@@ -9,7 +9,8 @@ use Rattle.swc_tree_scoping.specs.declared.places.Place.{Place}
 use Rattle.swc_tree_scoping.specs.Places.{Path, child, given, place_at, place_below, program_place}
 use Rattle.swc_tree_scoping.specs.WellScoped.{IsClean}
 use Rattle.swc_tree_walk.specs.Nodes.{HasNode, node_at}
-use Rattle.swc_base_covers.specs.Causes.{has_context, has_marks}
+use Rattle.swc_base_covers.specs.Causes.{has_context}
+use Rattle.swc_base_covers.specs.Shown.{has_marks}
 
 of_some : {A : Type 0} (a b : A) → Some a ≡ Some b → a ≡ b
 of_some a b h = cc

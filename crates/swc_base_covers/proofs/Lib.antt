@@ -1,4 +1,4 @@
 mod Contexts
 mod Decided
 mod Lists
-mod Steps
+mod Seeking

@@ -1,5 +1,5 @@
 -- What the parts of the decision answer.
-use Rattle.std.specs.Prelude.{ℕ, Bool, true, false, ◌++◌, Option, Some, None, List, [], ◌∷◌}
+use Rattle.std.specs.Prelude.{Bool, false, ◌++◌, Option, Some, None, List, [], ◌∷◌}
 use Rattle.swc_tree_node.specs.declared.node.Node.{Node}
 use Rattle.swc_tree_node.specs.declared.node.Node.TheOpen.{Node-F}
 use Rattle.swc_base_rename_substitution.specs.declared.config.Config.{Config}
@@ -11,6 +11,7 @@ use Rattle.swc_base_early_errors.specs.declared.scripts.ScriptFault.TheVariants 
 use Rattle.swc_base_covers.specs.declared.gap.Cause.{Cause}
 use Rattle.swc_base_covers.specs.declared.gap.Cause.TheVariants as cause
 use Rattle.swc_base_covers.specs.Covered.{Asks}
+use Rattle.swc_base_covers.specs.Shown.{has_marks}
 
 -- the cause that an early error of names is
 abbrev pub name_cause : NameError → Cause
@@ -28,10 +29,6 @@ script_cause script.GlobalValue = cause.Global
 script_cause script.RepeatedParameter = cause.Repeated
 
 -- an identifier that has a context
-abbrev pub has_marks : List ℕ → Bool
-has_marks [] = false
-has_marks _ = true
-
 abbrev pub has_context : Node-F Node → Bool
 has_context (Node-F.Identifier k i) = has_marks i.ctxt
 has_context _ = false

@@ -1,17 +1,17 @@
 -- Of which programs a chain of passes promises something: what is asked of one, and the first of it that fails.
-use Rattle.std.specs.Prelude.{◌≡◌, false, IsTrue, Option, Some, None, List, [], ◌∷◌, ℕ, Vec, is_some}
+use Rattle.std.specs.Prelude.{◌≡◌, false, IsTrue, Option, Some, None, List, [], ◌∷◌}
 use Rattle.swc_tree_node.specs.declared.node.Node.{Node}
 use Rattle.swc_tree_scoping.specs.Resolved.{is_script}
 use Rattle.swc_tree_scoping.specs.WellScoped.{IsClean, NoEarlyErrorOfNames}
 use Rattle.swc_tree_spaces.specs.Spaces.{has_types}
 use Rattle.swc_tree_renaming.specs.Apart.{IsPlainIfScript}
-use Rattle.swc_tree_walk.specs.Nodes.{node_at}
 use Rattle.swc_tree_grammar.specs.Writable.{Writable}
 use Rattle.swc_base_rename_substitution.specs.declared.config.Config.{Config}
 use Rattle.swc_base_rename_units.specs.Eval.{HasEval}
 use Rattle.swc_base_early_errors.specs.Errors.{AsksOfNames, AsksOfScripts, IsFirst}
 use Rattle.swc_base_early_errors.specs.declared.errors.NameError.TheVariants as name
 use Rattle.swc_base_early_errors.specs.declared.scripts.ScriptFault.TheVariants as script
+use Rattle.swc_base_covers.specs.Shown.{IsShown}
 use Rattle.swc_base_covers.specs.declared.gap.Cause.{Cause}
 use Rattle.swc_base_covers.specs.declared.gap.Cause.TheVariants as cause
 use Rattle.swc_base_covers.specs.declared.gap.Gap.{Gap}
@@ -30,15 +30,6 @@ pub record IsCovered (config : Config) (t : Node) : Type 0 where
   pub unread : ¬ IsRead config t
   pub plain : IsPlainIfScript t
   pub fair : NoEarlyErrorOfNames t
-
--- something stands at a path
-abbrev pub Stands : Node → List ℕ → Type 0
-Stands t p = IsTrue (is_some (node_at t p))
-
--- ... at that which is told, if there is one
-abbrev pub IsThere : {Z : Type 0} → Node → Option (Vec ℕ Z) → Type 0
-IsThere t None = Unit {0}
-IsThere t (Some p) = Stands t p.items
 
 -- what is asked, by the word for its lack
 abbrev pub Asks : Config → Node → Cause → Type 0
@@ -67,7 +58,7 @@ abbrev pub Tells : Config → Node → Option Gap → Type 0
 Tells config t None = IsCovered config t
 Tells config t (Some gap) = ¬ IsCovered config t × IsFirst (Asks config t) causes gap.cause
 
--- where it shows something stands
+-- where it shows first, if it does at a node
 abbrev pub HasPath : Node → Option Gap → Type 0
 HasPath t None = Unit {0}
-HasPath t (Some gap) = IsThere t gap.path
+HasPath t (Some gap) = IsShown gap.cause t gap.path

@@ -1,2 +1,4 @@
 pub mod Causes
 pub mod Covered
+pub mod Shown
+pub mod Sought

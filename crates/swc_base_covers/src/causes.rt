@@ -6,7 +6,8 @@ ghost use Rattle.swc_tree_scoping.specs.declared.places.Scope.TheVariants as sco
 ghost use Rattle.swc_tree_scoping.specs.Places.{opened, program_place};
 ghost use Rattle.swc_tree_scoping.specs.WellScoped.{IsClean};
 ghost use Rattle.swc_tree_renaming.specs.Apart.{IsPlainIfScript, is_goal};
-ghost use Rattle.swc_base_covers.specs.Causes.{Decides, DecidesNames, has_marks, name_cause as of_names, script_cause as of_scripts, tree_causes};
+ghost use Rattle.swc_base_covers.specs.Shown.{has_marks};
+ghost use Rattle.swc_base_covers.specs.Causes.{Decides, DecidesNames, name_cause as of_names, script_cause as of_scripts, tree_causes};
 ghost use Rattle.swc_base_covers.specs.Covered.{Asks, IsRead, causes};
 
 use crate::gap::Cause;
@@ -36,7 +37,8 @@ impl Finder for Marked {
     }
 }
 
-fn has_any(marks: &[Mark]) -> bool
+/// Whether there are any.
+pub(crate) fn has_any(marks: &[Mark]) -> bool
     ensures { result ≡ has_marks marks.now }
 {
     match marks {

@@ -4,7 +4,8 @@ ghost use Rattle.swc_tree_marks.specs.declared.error.PassError.TheVariants as er
 ghost use Rattle.swc_tree_node.specs.declared.slot.Slot.{Slot};
 ghost use Rattle.swc_tree_node.specs.Fits.{Fits};
 ghost use Rattle.swc_tree_renaming.specs.Apart.{is_goal};
-ghost use Rattle.swc_base_covers.specs.Covered.{HasPath, IsThere, Tells};
+ghost use Rattle.swc_base_covers.specs.Covered.{HasPath, Tells};
+ghost use Rattle.swc_base_covers.specs.Shown.{IsShown};
 
 use crate::causes::first_cause;
 use crate::gap::{Cause, Gap};
@@ -17,7 +18,7 @@ use swc_tree_node::Node;
 // A gap, and where it shows.
 fn gap_of(alloc: Global, cause: Cause, program: &Node) -> Result<Gap, AllocError>
     ensures cause { IfOk result (λ gap. gap.cause ≡ cause) }
-    ensures path { IfOk result (λ gap. IsThere program.now gap.path) }
+    ensures path { IfOk result (λ gap. IsShown gap.cause program.now gap.path) }
 {
     let path = first_shown(alloc, cause, program)?;
     Ok(Gap { cause, path })

@@ -37,6 +37,7 @@ pub enum Cause {
 #[derive(Debug, Drop)]
 pub struct Gap {
     pub cause: Cause,
-    /// Where it shows: numbers of children, from the root; of `Types`, `Context` and `Reads`, the first node that is to blame.
+    /// Where it shows: numbers of children, from the root, to the first declaration of a type, identifier with a context, reader, function
+    /// in a block, label before a function, or name `eval` or `arguments` that is bound; none where it shows at no node of its own.
     pub path: Option<Vec<usize>>,
 }

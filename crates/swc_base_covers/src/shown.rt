@@ -1,9 +1,14 @@
 //! Where a cause shows.
-//!
-//! The paths are no part of what decides: contracts say that something stands there, rows that it is to blame.
-ghost use Rattle.std.specs.Prelude.{IfOk, IsTrue};
-ghost use Rattle.swc_base_covers.specs.Covered.{IsThere, Stands};
+ghost use Rattle.std.specs.Prelude.{◌≡◌, IfOk, OnOk, slice_get};
+ghost use Rattle.swc_tree_node.specs.declared.node.Node.{Tree, out-Node};
+ghost use Rattle.swc_tree_node.specs.declared.node.Node.TheOpen.{Node-F};
+ghost use Rattle.swc_tree_scoping.specs.Places.{given};
+ghost use Rattle.swc_base_rename_units.specs.Eval.{is_eval as is_named_eval, reads_names as is_reading};
+ghost use Rattle.swc_base_covers.specs.Shown as spec;
+ghost use Rattle.swc_base_covers.specs.Shown.{IsShown};
+ghost use Rattle.swc_base_covers.specs.Sought.{IsSought, IsSoughtBelow};
 
+use crate::causes::has_any;
 use crate::gap::Cause;
 use std::alloc::{AllocError, Global};
 use swc_tree_marks::Ident;
@@ -15,56 +20,102 @@ use swc_tree_scoping::{
 
 // Whether an expression is the identifier `eval`, bare or in parentheses and sequences of one.
 #[cycle(is_eval)]
-fn is_eval(node: &Node) -> bool {
+fn is_eval(node: &Node) -> bool
+    ensures { result ≡ is_named_eval node.now }
+{
     match node {
         Node::Identifier(Kind::Ident, ident) => ident.get().sym.as_str() == "eval",
-        Node::List(items) => items.len() == 1 && is_eval_at(items.as_slice(), 0),
-        Node::Tree(Kind::ParenExpr, fields) => is_eval_at(fields.as_slice(), paren_expr::EXPR),
-        Node::Tree(Kind::SeqExpr, fields) => is_eval_at(fields.as_slice(), seq_expr::EXPRS),
+        Node::List(items) => {
+            let items = items.as_slice();
+            items.len() == 1 && is_eval(&items[0])
+        }
+        Node::Tree(kind, fields) => is_eval_within(*kind, fields.as_slice()),
         _ => false,
     }
 }
 
 #[cycle(is_eval)]
-fn is_eval_at(nodes: &[Node], index: usize) -> bool {
-    match nodes.get(index) {
-        Some(node) => is_eval(node),
+fn is_eval_within(kind: Kind, fields: &[Node]) -> bool
+    ensures { result ≡ is_named_eval (Tree kind fields.now) }
+{
+    let inner = match kind {
+        Kind::ParenExpr => fields.get(paren_expr::EXPR),
+        Kind::SeqExpr => fields.get(seq_expr::EXPRS),
+        _ => None,
+    };
+    match inner {
+        Some(inner) => is_eval(inner),
         None => false,
     }
 }
 
-// Whether a label stands before a function declaration.
-fn labels_function(fields: &[Node]) -> bool {
-    matches!(
-        fields.get(labeled_stmt::BODY),
-        Some(Node::Tree(Kind::FnDecl, _))
-    )
-}
-
-// Whether a cause shows at a node of a kind.
-fn shows_at_tree(cause: Cause, kind: Kind, fields: &[Node]) -> bool {
-    match cause {
-        Cause::Types => matches!(
-            kind,
-            Kind::TsInterfaceDecl | Kind::TsTypeAliasDecl | Kind::TsEnumDecl | Kind::TsModuleDecl
-        ),
-        Cause::Reads => match kind {
-            Kind::WithStmt => true,
-            Kind::CallExpr => is_eval_at(fields, call_expr::CALLEE),
-            _ => false,
+// Whether a tree is a call of `eval`, or a `with`.
+fn reads_names(kind: Kind, fields: &[Node]) -> bool
+    ensures { result ≡ is_reading (Node-F.Tree kind fields.now) }
+{
+    match kind {
+        Kind::CallExpr => match fields.get(call_expr::CALLEE) {
+            Some(callee) => is_eval(callee),
+            None => false,
         },
-        Cause::Label => matches!(kind, Kind::LabeledStmt) && labels_function(fields),
+        Kind::WithStmt => true,
         _ => false,
     }
 }
 
-// Whether a cause shows at an identifier in its place.
-fn shows_at_name(cause: Cause, place: Place, ident: &Ident) -> bool {
+fn declares_type(kind: Kind) -> bool
+    ensures { result ≡ spec.declares_type kind }
+{
+    matches!(
+        kind,
+        Kind::TsInterfaceDecl | Kind::TsTypeAliasDecl | Kind::TsEnumDecl | Kind::TsModuleDecl
+    )
+}
+
+fn declares_function(node: &Node) -> bool
+    ensures { result ≡ spec.declares_function (out-Node node.now) }
+{
+    match node {
+        Node::Tree(Kind::FnDecl, _) => true,
+        _ => false,
+    }
+}
+
+// Whether a label stands before a function declaration.
+fn labels_function(kind: Kind, fields: &[Node]) -> bool
+    ensures { result ≡ spec.labels_function kind fields.now }
+{
+    match kind {
+        Kind::LabeledStmt => match fields.get(labeled_stmt::BODY) {
+            Some(body) => declares_function(body),
+            None => false,
+        },
+        _ => false,
+    }
+}
+
+// Whether a cause shows at a tree of a kind.
+fn shows_at_tree(cause: Cause, kind: Kind, fields: &[Node]) -> bool
+    ensures { result ≡ spec.shows_tree cause kind fields.now }
+{
     match cause {
-        Cause::Context => !ident.ctxt.marks().is_empty(),
-        Cause::Function => matches!(place.standing, Standing::SloppyFunction),
+        Cause::Types => declares_type(kind),
+        Cause::Reads => reads_names(kind, fields),
+        Cause::Label => labels_function(kind, fields),
+        _ => false,
+    }
+}
+
+// Whether a cause shows at an identifier that stands so.
+fn shows_at_name(cause: Cause, standing: Standing, ident: &Ident) -> bool
+    ensures { result ≡ spec.shows_name cause standing ident.now }
+{
+    match cause {
+        Cause::Context => has_any(ident.ctxt.marks()),
+        Cause::Function => matches!(standing, Standing::SloppyFunction),
         Cause::Eval => {
-            is_binding(place.standing) && matches!(ident.sym.as_str(), "eval" | "arguments")
+            is_binding(standing)
+                && (ident.sym.as_str() == "eval" || ident.sym.as_str() == "arguments")
         }
         _ => false,
     }
@@ -72,14 +123,11 @@ fn shows_at_name(cause: Cause, place: Place, ident: &Ident) -> bool {
 
 // Goes on to the first node at which a cause shows, and whether there is one; the path leads there then.
 #[cycle(seek)]
-fn seek(
-    cause: Cause,
-    node: &Node,
-    place: Place,
-    path: &mut Vec<usize>,
-) -> Result<bool, AllocError> {
+fn seek(cause: Cause, node: &Node, place: Place, path: &mut Vec<usize>) -> Result<bool, AllocError>
+    ensures { IfOk result (IsSought cause place node.now path.old.items path.new.items) }
+{
     match node {
-        Node::Identifier(_, ident) => Ok(shows_at_name(cause, place, ident.get())),
+        Node::Identifier(_, ident) => Ok(shows_at_name(cause, place.standing, ident.get())),
         Node::List(items) => seek_below(cause, items.as_slice(), places_of_items(place), path),
         Node::Tree(kind, fields) => {
             let fields = fields.as_slice();
@@ -98,7 +146,9 @@ fn seek_below(
     nodes: &[Node],
     places: PlacesBelow,
     path: &mut Vec<usize>,
-) -> Result<bool, AllocError> {
+) -> Result<bool, AllocError>
+    ensures { IfOk result (IsSoughtBelow cause places nodes.now path.old.items path.new.items) }
+{
     for i in 0..nodes.len() {
         let node = &nodes[i];
         if !node.may_hold_names() {
@@ -113,21 +163,7 @@ fn seek_below(
     Ok(false)
 }
 
-// Whether something stands at a path.
-fn stands_at(tree: &Node, path: &[usize]) -> bool
-    ensures { IsTrue result → Stands tree.now path.now }
-{
-    let mut node = tree;
-    for i in path {
-        match node.children().get(*i) {
-            Some(child) => node = child,
-            None => return false,
-        }
-    }
-    true
-}
-
-/// Where a cause shows first in a program, if that can be said.
+/// Where a cause shows first in a program, if it shows at a node.
 ///
 /// # Errors
 ///
@@ -137,11 +173,10 @@ pub fn first_shown(
     cause: Cause,
     program: &Node,
 ) -> Result<Option<Vec<usize>>, AllocError>
-    ensures { IfOk result (IsThere program.now) }
+    ensures { IfOk result (IsShown cause program.now) }
 {
     let mut path = Vec::new(alloc);
-    let found = seek(cause, program, PROGRAM_PLACE, &mut path)?;
-    if found && stands_at(program, path.as_slice()) {
+    if seek(cause, program, PROGRAM_PLACE, &mut path)? {
         return Ok(Some(path));
     }
     Ok(None)

@@ -16,7 +16,8 @@ returns-in-Ok c =
     record {
       source = c.args.source.now;
       read = c.requires;
-      tells = subst (TellsCause (config_of c.args.settings.now) c.args.source.now) (sym c.gap_of.ensures) (cause_told (config_of c.args.settings.now) c.args.source.now c.in-Ok.gap same);
+      tells = subst (TellsCause (config_of c.args.settings.now) c.args.source.now) (sym c.gap_of.ensures.cause) (cause_told (config_of c.args.settings.now) c.args.source.now c.in-Ok.gap same);
+      place = c.gap_of.ensures.place c.in-Ok.ensures.path;
     }
 
 pub returns-in-Err : goal.returns-in-Err
