@@ -2,7 +2,8 @@
 
 Of random trees, each beside itself with one node exchanged: something else stands at a path of both exactly if the outlines differ, and the span
 that is told for the first such path is that of the last node on the way that has one. Of random programs, about half of them spoilt: a cause
-shows at a path exactly if what is asked by its word does not hold.
+shows at a path exactly if what is asked by its word does not hold. Of random clean programs whose nodes have a span each: an identifier that the normal
+form made is said to stand where the program's own scope binds its text, and each other where it stands.
 """
 import argparse
 import itertools
@@ -12,7 +13,9 @@ import sys
 import covers_programs
 import lawbook
 import random_trees
+import scoping
 import trees
+from antt_values import Rec
 from lawbook import D
 
 NO_SPAN = (0, 0)
@@ -84,6 +87,41 @@ def program_faults(count, seed):
     print('%d programs: %s' % (count, told))
 
 
+def placed(t, numbers):
+    """the tree with a span of its own at each place of one"""
+    if t[0] == 'Span':
+        n = next(numbers)
+        return ('Span', Rec(lo=n, hi=n))
+    if t[0] == 'Identifier':
+        n = next(numbers)
+        return ('Identifier', t[1], Rec(span=Rec(lo=n, hi=n), ctxt=t[2].ctxt, sym=t[2].sym))
+    return trees.with_kids(t, [placed(child, numbers) for child in trees.kids(t)]) if t[0] in ('List', 'Tree') else t
+
+
+def bindings(t):
+    """of each text that the program's own scope binds the spans of where it does"""
+    spans = {}
+    for standing, ident in D.all.swc_tree_walk.Sites.sites(D.all.swc_tree_scoping.Places.program_place, scoping.resolved(D.all, t)):
+        if D.all.swc_tree_scoping.Scopes.is_binding(standing) and ident.ctxt == (2,):
+            spans.setdefault(ident.sym, []).append(numbers(ident.span))
+    return spans
+
+
+def place_faults(count, seed):
+    normal_form, shown, made = D.all.swc_tree_grammar.Normal.normal_form, D.all.swc_base_alpha.Shown, 0
+    for way, t, _ in covers_programs.programs(argparse.Namespace(programs=2 * count, seed=seed, biggest=40)):
+        if way != 'as made':
+            continue
+        t = placed(t, itertools.count(1))
+        here, sites = bindings(t), D.all.swc_tree_walk.Sites.sites(D.all.swc_tree_scoping.Places.program_place, scoping.resolved(D.all, normal_form(t)))
+        for site in sites:
+            told, own = numbers(shown.place_in('IsMade', sites, site)), numbers(site[1].span)
+            made += own == NO_SPAN
+            if told != own and (own != NO_SPAN or told not in here.get(site[1].sym, ())) or told == NO_SPAN:
+                yield '%r of %r' % (site, t)
+    print('%d programs, in which %d identifiers are made' % (count, made))
+
+
 def main():
     parser = argparse.ArgumentParser(description=__doc__, formatter_class=argparse.RawDescriptionHelpFormatter)
     parser.add_argument('checkout')
@@ -92,7 +130,9 @@ def main():
     options = parser.parse_args()
     lawbook.load(options.checkout)
     random, r, faults = random_trees.Random(options.seed), chance.Random(options.seed), 0
-    for fault in itertools.chain(tree_faults(random, r, options.trees), program_faults(options.trees, options.seed)):
+    for fault in itertools.chain(
+        tree_faults(random, r, options.trees), program_faults(options.trees, options.seed), place_faults(options.trees, options.seed)
+    ):
         faults += 1
         print(fault[:400])
     print('%d faults' % faults)

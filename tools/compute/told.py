@@ -17,14 +17,14 @@ SOURCES = {
         'IsMapOf': '5b718a79ac85', 'IsName': '852d64fead21', 'IsNumber': '40d289b7be41', 'IsNumberOf': '6a95f14d7bd2', 'TellsOf': '9003b6ff31f5'},
     'mucwathi_map': {'IsMap': '3b2ecb8ba51c', 'TellsNodes': '67d22f019ca8', 'TellsWritten': '2d47d7eac5bd'},
     'mucwathi_signs': {'IsMarked': 'cf9e2dfe4299'},
-    'mucwathi_marked': {'Rise': '5a3d812840d9', 'HasMarks': '7737b4f6f2b6', 'IsGiven': 'e77d34a0eb50'},
+    'mucwathi_marked': {'Rise': '5a3d812840d9', 'HasMarks': '7737b4f6f2b6', 'IsGiven': '591bce625a89'},
     'mucwathi_commands': {'IsReadAs': '78fddd8f22fb'},
 }
 TYPES = ('AreMappings', 'IsMarked', 'IsNumber')
 # these say how the code keeps names and places, or belong to other calls
-PASSED_OVER = ('Looks', 'Marked', 'Names', 'Trees', 'Cut', 'Comments', 'Faults', 'Judged', 'AddsMappings', 'AddsName', 'AddsNumber', 'AddsWay', 'AreMarked',
-               'Continues', 'GoesToLine', 'HasNames', 'HasNumber', 'IsKept', 'IsMark', 'IsNoneOrMap', 'IsPosition', 'IsPut', 'IsRefusedFor', 'IsRefusedText',
-               'IsRewritten', 'IsSigned', 'IsWantOfMemory', 'IsWritten', 'Notes')
+PASSED_OVER = ('Looks', 'Marked', 'Names', 'Trees', 'Cut', 'Comments', 'Faults', 'Judged', 'Answered', 'Blanked', 'Refused', 'Signs', 'AddsMappings', 'AddsName', 'AddsNumber', 'AddsWay', 'AreMarked',
+               'Continues', 'GoesToLine', 'HasNames', 'HasNumber', 'IsKept', 'IsMark', 'IsNoneOrMap', 'IsOwn', 'IsPosition', 'IsPut', 'IsRefusedFor', 'IsRefusedText',
+               'IsRewritten', 'IsSigned', 'IsUnmarked', 'IsWantOfMemory', 'IsWritten', 'Notes')
 
 
 def check_sources(checkout):
@@ -163,7 +163,7 @@ def HasMarks(marks, table):
 
 
 def IsGiven(D, source, text, plain, program, table):
-    """of a source, and of some way to cut signs out"""
+    """of a source, and of some way to cut signs out, but for the settings that stand round the program"""
     G = D.mucwathi_marked.Given
     if not (IsReadAs(D, source, plain) and SpansAreOf(D, source, plain)):
         return False

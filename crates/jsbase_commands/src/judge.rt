@@ -13,7 +13,7 @@ use jsbase_form::{Step, path_to};
 use jsbase_reader::{Versions, read_versions};
 use jsbase_writer::{write_difference, write_same};
 use std::alloc::{AllocError, Global};
-use swc_base_alpha::{Cause, Difference, Verdict, Why, difference, why_different};
+use swc_base_alpha::{Cause, Difference, Unplaced, Verdict, Why, difference, why_different};
 use swc_base_plain_form::plain_form;
 use swc_tree_marks::{NoMemory, PassError};
 use swc_tree_node::Node;
@@ -61,7 +61,7 @@ fn tell(alloc: Global, kind: Kind, input: &[u8], versions: Versions) -> Result<S
     } = versions;
     let before = compared(alloc, spelling, before)?;
     let after = compared(alloc, spelling, after)?;
-    match why_different(alloc, keep_top, before, after)? {
+    match why_different(alloc, keep_top, Unplaced::IsUnknown, before, after)? {
         None => Ok(write_same(alloc)?),
         Some(cause) => Ok(tell_difference(alloc, kind, input, cause)?),
     }

@@ -4,7 +4,7 @@ use std::alloc::{AllocError, Global};
 use std::collections::HashSet;
 use std::fs::File;
 use std::io::{Read, Write};
-use std::path::PathBuf;
+use std::path::{Path, PathBuf};
 use std::{fs, io};
 
 /// Why a file is not written.
@@ -102,14 +102,40 @@ fn write_beside(rt: &HostRuntime, path: &str, out: &[u8]) -> Result<(), Unwritte
     }
 }
 
-/// The files that are read or written, each by the name that all links lead to.
+// The name of a file that is not there: that of its folder, and its own.
+fn name_in_folder(rt: &HostRuntime, path: Path<'_>) -> io::Result<PathBuf> {
+    let folder = match path.parent() {
+        Some(folder) => folder.as_os_str(),
+        None => "",
+    };
+    let folder = if folder.is_empty() { "." } else { folder };
+    let real = fs::canonicalize(rt, folder)?;
+    let own = path.file_name().unwrap_or("");
+    Ok(real.join(rt.alloc(), own)?)
+}
+
+// The name of a file to which all links to it lead.
+fn real_name(rt: &HostRuntime, path: &str) -> io::Result<PathBuf> {
+    match fs::canonicalize(rt, path) {
+        Ok(real) => Ok(real),
+        Err(error) => {
+            if error.kind() == io::ErrorKind::NotFound {
+                name_in_folder(rt, Path::new(path))
+            } else {
+                Err(error)
+            }
+        }
+    }
+}
+
+/// The files that are read or written, each by the name to which all links lead.
 #[derive(Drop)]
 pub(crate) struct Taken {
     files: HashSet<PathBuf>,
 }
 
 impl Taken {
-    /// Some files that are read. One that is not there is not taken.
+    /// Some files that are read. One that can't be found is not taken: it is not read either.
     pub(crate) fn of(rt: &HostRuntime, files: &[&str]) -> Result<Taken, AllocError> {
         let mut taken = Taken {
             files: HashSet::new(rt.alloc()),
@@ -120,17 +146,21 @@ impl Taken {
         Ok(taken)
     }
 
-    fn add(&mut self, rt: &HostRuntime, file: &str) -> Result<(), AllocError> {
-        if let Ok(real) = fs::canonicalize(rt, file) {
-            self.files.insert(real)?;
-        }
+    fn note(&mut self, real: PathBuf) -> Result<(), AllocError> {
+        self.files.insert(real)?;
         Ok(())
     }
 
-    fn has(&self, rt: &HostRuntime, file: &str) -> bool {
+    fn add(&mut self, rt: &HostRuntime, file: &str) -> Result<(), AllocError> {
         match fs::canonicalize(rt, file) {
-            Ok(real) => self.files.contains(&real),
-            Err(_) => false,
+            Ok(real) => self.note(real),
+            Err(error) => {
+                if error.kind() == io::ErrorKind::OutOfMemory {
+                    Err(AllocError)
+                } else {
+                    Ok(())
+                }
+            }
         }
     }
 }
@@ -151,18 +181,20 @@ fn taken_already(alloc: Global, path: &str) -> Result<Unwritten, AllocError> {
     })
 }
 
-/// Writes the whole of a file as well, but over none that is taken. It is taken then.
+/// Writes the whole of a file as well, but over none that is taken. It is taken then. Nothing is written for which memory is refused.
 pub(crate) fn write_untaken(
     rt: &HostRuntime,
     taken: &mut Taken,
     path: &str,
     out: &[u8],
 ) -> Result<(), Unwritten> {
-    if taken.has(rt, path) {
+    let real = real_name(rt, path)?;
+    if taken.files.contains(&real) {
         return Err(taken_already(rt.alloc(), path)?);
     }
-    write_whole(rt, path, out)?;
-    taken.add(rt, path)?;
+    taken.files.reserve(1)?;
+    write_beside(rt, real.to_string_lossy(), out)?;
+    taken.note(real)?;
     Ok(())
 }
 

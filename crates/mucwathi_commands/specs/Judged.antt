@@ -8,6 +8,7 @@ use Rattle.swc_tree_grammar.specs.Normal.{normal_form}
 use Rattle.swc_tree_scoping.specs.WellScoped.{IsClean}
 use Rattle.swc_base_alpha.specs.Shown.{Shows}
 use Rattle.swc_base_alpha.specs.Verdict.{IsJudgeRefusal, TellsWhy}
+use Rattle.swc_base_alpha.specs.declared.spans.Unplaced.TheVariants as unplaced
 use Rattle.swc_base_alpha.specs.declared.verdict.Why.{Why}
 use Rattle.swc_base_plain_form.specs.PlainForm.{plain_form}
 use Rattle.text_reader.specs.declared.fault.TextFault.{TextFault}
@@ -42,7 +43,7 @@ as_compared false t = plain_form t
 pub record IsPlaced (t u : Node) (d : TextDifference) : Type 0 where
   pub one : Span
   pub other : Span
-  pub shows : Shows (normal_form t) (normal_form u) d.why one other
+  pub shows : Shows unplaced.IsMade (normal_form t) (normal_form u) d.why one other
   pub before : d.before ≡ one.lo - 1
   pub after : d.after ≡ other.lo - 1
 

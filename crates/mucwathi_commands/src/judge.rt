@@ -10,7 +10,7 @@ use crate::places::bytes_before;
 use mucwathi_faults::JudgeFault;
 use mucwathi_order::Goal;
 use std::alloc::Global;
-use swc_base_alpha::{Cause, Why, why_different};
+use swc_base_alpha::{Cause, Unplaced, Why, why_different};
 use swc_base_plain_form::plain_form;
 use swc_tree_marks::{NoMemory, PassError};
 use swc_tree_node::Node;
@@ -95,7 +95,7 @@ fn read_after(alloc: Global, depth: u32, given: &NamedText<'_>) -> Result<Node, 
 // Where a cause shows in both texts.
 fn difference_of(cause: Option<Cause>) -> Option<TextDifference>
     ensures why { why_in result ≡ word_in cause }
-    ensures places { (t u : Node') → IfSome cause (λ c. Shows (normal_form t) (normal_form u) c.why c.before c.after) → IfSome result (IsPlaced t u) }
+    ensures places { (t u : Node') → IfSome cause (λ c. Shows Unplaced.IsMade (normal_form t) (normal_form u) c.why c.before c.after) → IfSome result (IsPlaced t u) }
 {
     match cause {
         None => None,
@@ -128,7 +128,7 @@ fn judge_compared(
     requires after { IsCleanProgram second }
     ensures { MatchResult result (IsSaid keep_top first second) (IsJudgeRefusal first second) }
 {
-    match why_different(alloc, keep_top, first, second) {
+    match why_different(alloc, keep_top, Unplaced::IsMade, first, second) {
         Ok(cause) => Ok(difference_of(cause)),
         Err(error) => Err(error),
     }

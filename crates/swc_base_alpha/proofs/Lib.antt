@@ -2,6 +2,7 @@ pub mod Aligned
 pub mod CatchTexts
 pub mod FirstWord
 pub mod Forms
+pub mod Found
 pub mod Judged
 pub mod Passed
 pub mod Remarked

@@ -19,6 +19,7 @@ use Rattle.swc_base_alpha.specs.Shown.{PairsAsk, Shows, ShowsIn}
 use Rattle.swc_base_alpha.specs.Side.{Seen, side}
 use Rattle.swc_base_alpha.specs.Verdict.{IsCleanProgram, IsFirstToFail, words}
 use Rattle.swc_base_alpha.specs.declared.differs.Rules.{Rules}
+use Rattle.swc_base_alpha.specs.declared.spans.Unplaced.{Unplaced}
 use Rattle.swc_base_alpha.specs.declared.verdict.Cause.{Cause}
 use Rattle.swc_base_alpha.specs.declared.verdict.Why.{Why}
 use Rattle.swc_base_alpha.specs.declared.verdict.Why.TheVariants as why
@@ -47,11 +48,11 @@ not_asked rules xs ys None h = tt
 not_asked rules xs ys (Some w) h = λ all. failing (ListAsks rules xs ys) words w h (asked rules xs ys w all)
 
 -- two identifiers show it, so that it is not the outline
-module _ (t u first second : Node) (own : IsOwnAnswer t first) (own_too : IsOwnAnswer u second) where
+module _ (unplaced : Unplaced) (t u first second : Node) (own : IsOwnAnswer t first) (own_too : IsOwnAnswer u second) where
   abbrev Shown : Why → Span → Span → Type 0
-  Shown w before after = ShowsIn w (side (sites program_place first) (sites program_place second)) before after
+  Shown w before after = ShowsIn unplaced w (sites program_place first) (sites program_place second) before after
 
-  by_word : (w : Why) (before after : Span) → Shown w before after → Shows t u w before after
+  by_word : (w : Why) (before after : Span) → Shown w before after → Shows unplaced t u w before after
   by_word why.Shape before after h = absurd (h.first.fails tt)
   by_word why.Name before after h = record { first = first; second = second; own = own; own_too = own_too; shows = h }
   by_word why.Free before after h = record { first = first; second = second; own = own; own_too = own_too; shows = h }
@@ -61,27 +62,27 @@ module _ (t u first second : Node) (own : IsOwnAnswer t first) (own_too : IsOwnA
   by_word why.Reads before after h = record { first = first; second = second; own = own; own_too = own_too; shows = h }
   by_word why.Caught before after h = record { first = first; second = second; own = own; own_too = own_too; shows = h }
 
-  by_cause : (xs ys : List Seen) → xs ≡ sites program_place first → ys ≡ sites program_place second → (cause : Option Cause) → IfSome cause (λ c. ShowsIn c.why (side xs ys) c.before c.after) → IfSome cause (λ c. Shows t u c.why c.before c.after)
+  by_cause : (xs ys : List Seen) → xs ≡ sites program_place first → ys ≡ sites program_place second → (cause : Option Cause) → IfSome cause (λ c. ShowsIn unplaced c.why xs ys c.before c.after) → IfSome cause (λ c. Shows unplaced t u c.why c.before c.after)
   by_cause xs ys e f None h = tt
-  by_cause xs ys e f (Some c) h = by_word c.why c.before c.after (subst (λ xs. ShowsIn c.why (side xs (sites program_place second)) c.before c.after) e (subst (λ ys. ShowsIn c.why (side xs ys) c.before c.after) f h))
+  by_cause xs ys e f (Some c) h = by_word c.why c.before c.after (subst (λ xs. ShowsIn unplaced c.why xs (sites program_place second) c.before c.after) e (subst (λ ys. ShowsIn unplaced c.why xs ys c.before c.after) f h))
 
   pub names_show : (rules : Rules) (a b ones others : List Site) (found : Option Why) (cause : Option Cause) → outline first ≡ outline second
       → map site_of a ≡ sites program_place first → map site_of b ≡ sites program_place second → map site_of ones ≡ sites program_place first → map site_of others ≡ sites program_place second
       → Decides (ListAsks rules (map site_of a) (map site_of b)) words found
-      → (length ones ≡ length others → IfSome found (λ w. ¬ PairsAsk w (pairs ones others)) → IfSome cause (λ c. ShowsIn c.why (pairs ones others) c.before c.after))
-      → IfSome cause (λ c. Shows t u c.why c.before c.after)
+      → (length ones ≡ length others → IfSome found (λ w. ¬ PairsAsk w (pairs ones others)) → IfSome cause (λ c. ShowsIn unplaced c.why (map site_of ones) (map site_of others) c.before c.after))
+      → IfSome cause (λ c. Shows unplaced t u c.why c.before c.after)
   names_show rules a b ones others found cause shape one other too also decides told =
       let again : Decides (ListAsks rules (map site_of ones) (map site_of others)) words found
       = subst (λ xs. Decides (ListAsks rules xs (map site_of others)) words found) (one ∙ sym too) (subst (λ ys. Decides (ListAsks rules (map site_of a) ys) words found) (other ∙ sym also) decides) in
       by_cause (map site_of ones) (map site_of others) too also cause (told (one_length first second ones others shape too also) (not_asked rules (map site_of ones) (map site_of others) found again))
 
 -- of the normal forms of two programs
-pub first_shown : NormalFormIsClean → NormalFormAddsNoTypes → NormalFormIsProgram → TypesAreTold → (before after first second : Node) → first ≡ normal_form before → second ≡ normal_form after
+pub first_shown : NormalFormIsClean → NormalFormAddsNoTypes → NormalFormIsProgram → TypesAreTold → (unplaced : Unplaced) (before after first second : Node) → first ≡ normal_form before → second ≡ normal_form after
     → (has_types before || has_types after) ≡ false → IsCleanProgram before → IsCleanProgram after → (r : Result (Option Cause) PassError)
-    → (IsOrdinary first → IsOrdinary second → IfOk r (λ cause. IfSome cause (λ c. Shows first second c.why c.before c.after))) → IfOk r (λ cause. IfSome cause (λ c. Shows (normal_form before) (normal_form after) c.why c.before c.after))
-first_shown cleans untyped opens told before after first second e f none here there (Err x) h = tt
-first_shown cleans untyped opens told before after first second e f none here there (Ok cause) h =
+    → (IsOrdinary first → IsOrdinary second → IfOk r (λ cause. IfSome cause (λ c. Shows unplaced first second c.why c.before c.after))) → IfOk r (λ cause. IfSome cause (λ c. Shows unplaced (normal_form before) (normal_form after) c.why c.before c.after))
+first_shown cleans untyped opens told unplaced before after first second e f none here there (Err x) h = tt
+first_shown cleans untyped opens told unplaced before after first second e f none here there (Ok cause) h =
     let (one, other) = none_of_both (has_types before) (has_types after) none in
-    subst (λ u. IfSome cause (λ c. Shows (normal_form before) u c.why c.before c.after)) f
-    (subst (λ t. IfSome cause (λ c. Shows t second c.why c.before c.after)) e
+    subst (λ u. IfSome cause (λ c. Shows unplaced (normal_form before) u c.why c.before c.after)) f
+    (subst (λ t. IfSome cause (λ c. Shows unplaced t second c.why c.before c.after)) e
     (h (ordinary cleans untyped opens told before first e here one) (ordinary cleans untyped opens told after second f there other)))

@@ -1,13 +1,14 @@
 //! Why two normal forms are not the same, and the spans of what shows it.
-ghost use Rattle.std.specs.Prelude.{◌≡◌, IfOk, IfSome, MatchOption, length};
+ghost use Rattle.std.specs.Prelude.{◌≡◌, IfOk, IfSome, MatchOption, length, map};
 ghost use Rattle.swc_tree_walk.specs.Sites.{site_of};
 ghost use Rattle.swc_base_alpha.specs.Pairs.{pairs};
 ghost use Rattle.swc_base_rename_laws.specs.NewNames.{outline};
 ghost use Rattle.swc_base_alpha.specs.Shown.{FailsAt, PairsAsk, Shows, ShowsIn};
 ghost use Rattle.swc_base_alpha.specs.Verdict.{word_in};
 
-use crate::pairs::{Question, first_apart};
-use crate::partners::{Found, first_joined, first_split};
+use crate::pairs::{Found, Question, first_apart};
+use crate::partners::{first_joined, first_split};
+use crate::places::place_in;
 use crate::shape::shape_apart;
 use crate::spans::{NOWHERE, Spans, Unplaced};
 use crate::verdict::{Cause, Why};
@@ -36,26 +37,27 @@ fn shown_at<'a>(
     }
 }
 
-/// The spans of the identifiers at which a word shows.
+/// The spans of the identifiers at which a word shows: `unplaced` says what it means that one has none.
 ///
 /// # Errors
 ///
 /// Where memory was refused.
 pub fn names_shown<'a>(
     alloc: Global,
+    unplaced: Unplaced,
     why: Why,
     ones: &[Site<'a>],
     others: &[Site<'a>],
 ) -> Result<Spans, AllocError>
-    ensures { length ones.now ≡ length others.now → ¬ PairsAsk why (pairs ones.now others.now) → IfOk result (λ spans. ShowsIn why (pairs ones.now others.now) spans.before spans.after) }
+    ensures { length ones.now ≡ length others.now → ¬ PairsAsk why (pairs ones.now others.now) → IfOk result (λ spans. ShowsIn unplaced why (map site_of ones.now) (map site_of others.now) spans.before spans.after) }
 {
     if ones.len() != others.len() {
         return Ok(NOWHERE);
     }
     match shown_at(alloc, why, ones, others)? {
         Some((one, other)) => Ok(Spans {
-            before: one.ident.span,
-            after: other.ident.span,
+            before: place_in(&one, ones, unplaced),
+            after: place_in(&other, others, unplaced),
         }),
         None => Ok(NOWHERE),
     }
@@ -68,17 +70,18 @@ pub fn names_shown<'a>(
 /// Where memory was refused.
 pub fn cause_among<'a>(
     alloc: Global,
+    unplaced: Unplaced,
     found: Option<Why>,
     ones: &[Site<'a>],
     others: &[Site<'a>],
 ) -> Result<Option<Cause>, AllocError>
     ensures word { IfOk result (λ cause. word_in cause ≡ found) }
-    ensures shown { length ones.now ≡ length others.now → IfSome found (λ w. ¬ PairsAsk w (pairs ones.now others.now)) → IfOk result (λ cause. IfSome cause (λ c. ShowsIn c.why (pairs ones.now others.now) c.before c.after)) }
+    ensures shown { length ones.now ≡ length others.now → IfSome found (λ w. ¬ PairsAsk w (pairs ones.now others.now)) → IfOk result (λ cause. IfSome cause (λ c. ShowsIn unplaced c.why (map site_of ones.now) (map site_of others.now) c.before c.after)) }
 {
     let Some(why) = found else {
         return Ok(None);
     };
-    let Spans { before, after } = names_shown(alloc, why, ones, others)?;
+    let Spans { before, after } = names_shown(alloc, unplaced, why, ones, others)?;
     Ok(Some(Cause { why, before, after }))
 }
 
@@ -96,11 +99,11 @@ fn shape_at(spans: Spans) -> Cause
 }
 
 /// That two normal forms have other outlines, with what shows it.
-pub fn cause_of_shape(first: &Node, second: &Node) -> Cause
+pub fn cause_of_shape(unplaced: Unplaced, first: &Node, second: &Node) -> Cause
     ensures why { result.why ≡ Why.Shape }
-    ensures shows { ¬ (outline first.now ≡ outline second.now) → Shows first.now second.now result.why result.before result.after }
+    ensures shows { ¬ (outline first.now ≡ outline second.now) → Shows unplaced first.now second.now result.why result.before result.after }
 {
-    match shape_apart(first, second, NOWHERE, Unplaced::IsUnknown) {
+    match shape_apart(first, second, NOWHERE, unplaced) {
         Some(spans) => shape_at(spans),
         None => shape_at(NOWHERE),
     }

@@ -17,6 +17,7 @@ use crate::differs::{Rules, sites_differ};
 use crate::outline::same_outline;
 use crate::own::resolved;
 use crate::shown::difference;
+use crate::spans::Unplaced;
 use crate::verdict::{Cause, Verdict};
 use std::alloc::{AllocError, Global};
 use swc_base_normal_form::normal_form;
@@ -52,13 +53,14 @@ fn are_caught<'a>(
 fn names_differ(
     alloc: Global,
     keep_top: bool,
+    unplaced: Unplaced,
     reads: bool,
     first: Node,
     second: Node,
 ) -> Result<Option<Cause>, PassError>
     requires { outline first ≡ outline second }
     ensures decides { IsOrdinary first → IsOrdinary second → IfOk result (λ cause. Concludes keep_top (IsTrue reads) first second (word_in cause)) }
-    ensures shows { IsOrdinary first → IsOrdinary second → IfOk result (λ cause. IfSome cause (λ c. Shows first second c.why c.before c.after)) }
+    ensures shows { IsOrdinary first → IsOrdinary second → IfOk result (λ cause. IfSome cause (λ c. Shows unplaced first second c.why c.before c.after)) }
     ensures refusal { IfErr result (IsRefused first second) }
 {
     let first = resolved(alloc, first)?;
@@ -72,7 +74,7 @@ fn names_differ(
         caught,
     };
     let found = sites_differ(alloc, rules, ones.as_slice(), others.as_slice())?;
-    let cause = cause_among(alloc, found, ones.as_slice(), others.as_slice())?;
+    let cause = cause_among(alloc, unplaced, found, ones.as_slice(), others.as_slice())?;
     Ok(cause)
 }
 
@@ -80,18 +82,19 @@ fn names_differ(
 fn forms_differ(
     alloc: Global,
     keep_top: bool,
+    unplaced: Unplaced,
     reads: bool,
     first: Node,
     second: Node,
 ) -> Result<Option<Cause>, PassError>
     ensures decides { IsOrdinary first → IsOrdinary second → IfOk result (λ cause. Concludes keep_top (IsTrue reads) first second (word_in cause)) }
-    ensures shows { IsOrdinary first → IsOrdinary second → IfOk result (λ cause. IfSome cause (λ c. Shows first second c.why c.before c.after)) }
+    ensures shows { IsOrdinary first → IsOrdinary second → IfOk result (λ cause. IfSome cause (λ c. Shows unplaced first second c.why c.before c.after)) }
     ensures refusal { IfErr result (IsRefused first second) }
 {
     if !same_outline(&first, &second) {
-        return Ok(Some(cause_of_shape(&first, &second)));
+        return Ok(Some(cause_of_shape(unplaced, &first, &second)));
     }
-    names_differ(alloc, keep_top, reads, first, second)
+    names_differ(alloc, keep_top, unplaced, reads, first, second)
 }
 
 fn have_types(before: &Node, after: &Node) -> bool
@@ -110,11 +113,12 @@ fn are_read(before: &Node, after: &Node) -> bool
 fn first_cause(
     alloc: Global,
     keep_top: bool,
+    unplaced: Unplaced,
     before: Node,
     after: Node,
 ) -> Result<Option<Cause>, PassError>
     ensures decides { (stand_in before || stand_in after) ≡ false → IsCleanProgram before → IsCleanProgram after → IfOk result (λ cause. Concludes keep_top (IsRead before after) (form before) (form after) (word_in cause)) }
-    ensures shows { (stand_in before || stand_in after) ≡ false → IsCleanProgram before → IsCleanProgram after → IfOk result (λ cause. IfSome cause (λ c. Shows (form before) (form after) c.why c.before c.after)) }
+    ensures shows { (stand_in before || stand_in after) ≡ false → IsCleanProgram before → IsCleanProgram after → IfOk result (λ cause. IfSome cause (λ c. Shows unplaced (form before) (form after) c.why c.before c.after)) }
     ensures refusal { IfErr result (IsRefused (form before) (form after)) }
 {
     normal_form_is_clean();
@@ -124,14 +128,15 @@ fn first_cause(
     let reads = are_read(&before, &after);
     let first = normal_form(alloc, before)?;
     let second = normal_form(alloc, after)?;
-    forms_differ(alloc, keep_top, reads, first, second)
+    forms_differ(alloc, keep_top, unplaced, reads, first, second)
 }
 
 /// Why two programs are not the same but for the choice of the names that they bind, if they are not: the word of `judge`, and the
 /// spans of what shows it.
 ///
-/// Both are given up, so that neither is copied; `difference` tells where it shows to whoever has them still or again. It costs time
-/// in step with the size of the programs but for the logarithm of how many ids they have.
+/// Both are given up, so that neither is copied; `difference` tells where it shows to whoever has them still or again. Of programs that
+/// were read from texts all has a place, and what has none in their normal forms is made (`Unplaced::IsMade`). It costs time in step
+/// with the size of the programs but for the logarithm of how many ids they have.
 ///
 /// # Errors
 ///
@@ -139,18 +144,19 @@ fn first_cause(
 pub fn why_different(
     alloc: Global,
     keep_top: bool,
+    unplaced: Unplaced,
     before: Node,
     after: Node,
 ) -> Result<Option<Cause>, PassError>
     ensures why { IsCleanProgram before → IsCleanProgram after → IfOk result (λ cause. TellsWhy keep_top before after (word_in cause)) }
-    ensures shows { IsCleanProgram before → IsCleanProgram after → IfOk result (λ cause. IfSome cause (λ c. Shows (form before) (form after) c.why c.before c.after)) }
+    ensures shows { IsCleanProgram before → IsCleanProgram after → IfOk result (λ cause. IfSome cause (λ c. Shows unplaced (form before) (form after) c.why c.before c.after)) }
     ensures types { (stand_in before || stand_in after) ≡ true → IsErrOf result error.TypesLeft }
     ensures refusal { IfErr result (IsJudgeRefusal before after) }
 {
     if have_types(&before, &after) {
         return Err(PassError::TypesLeft);
     }
-    let cause = first_cause(alloc, keep_top, before, after)?;
+    let cause = first_cause(alloc, keep_top, unplaced, before, after)?;
     Ok(cause)
 }
 
@@ -184,7 +190,7 @@ pub fn judge(
     }
     let first = before.clone()?;
     let second = after.clone()?;
-    let found = first_cause(alloc, keep_top, first, second)?;
+    let found = first_cause(alloc, keep_top, Unplaced::IsUnknown, first, second)?;
     match found {
         None => Ok(Verdict::Same),
         Some(cause) => Ok(Verdict::Differs(difference(alloc, cause, before, after)?)),

@@ -16,6 +16,7 @@ mod own;
 mod pairs;
 mod partners;
 mod paths;
+mod places;
 mod shape;
 mod shown;
 mod spans;
@@ -26,6 +27,7 @@ ghost use Rattle.swc_base_alpha.specs.Side.{SitesAreAligned};
 pub use judging::{judge, why_different};
 pub use outline::same_outline;
 pub use shown::difference;
+pub use spans::Unplaced;
 pub use verdict::{Cause, Difference, Verdict, Why};
 
 /// The identifiers of two trees of one outline stand side by side in their lists exactly if at one path.

@@ -21,10 +21,11 @@ pub enum Question {
     Names,
 }
 
-// The judge's marks: of free names, and of the program's own scope.
+// The judge's mark of free names.
 const UNRESOLVED: u32 = 1;
 
-const TOP: u32 = 2;
+/// The judge's mark of the program's own scope.
+pub const TOP: u32 = 2;
 
 /// Whether a site is one of a name: a binding or a reference.
 pub fn is_name(site: &Site<'_>) -> bool
@@ -81,12 +82,11 @@ fn are_alike(question: Question, one: &Site<'_>, other: &Site<'_>) -> bool
     }
 }
 
+/// Two of the lists that stand beside one another, if there are such as are looked for.
+pub type Found<'a> = Option<(Site<'a>, Site<'a>)>;
+
 /// The first two identifiers beside one another that are not as they are asked to be, if there are such.
-pub fn first_apart<'a>(
-    question: Question,
-    ones: &[Site<'a>],
-    others: &[Site<'a>],
-) -> Option<(Site<'a>, Site<'a>)>
+pub fn first_apart<'a>(question: Question, ones: &[Site<'a>], others: &[Site<'a>]) -> Found<'a>
     requires { length ones.now ≡ length others.now }
     ensures { MatchOption result (EachPair (Meets question) (pairs ones.now others.now)) (λ found. FailsAt (EachPair (Meets question)) (pairs ones.now others.now) (site_of found.0) (site_of found.1) × ¬ EachPair (Meets question) (pairs ones.now others.now)) }
 {

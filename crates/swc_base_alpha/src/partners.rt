@@ -7,7 +7,7 @@ ghost use Rattle.swc_base_alpha.specs.Partners.{Agrees, Id, table_of, with_pair}
 ghost use Rattle.swc_base_alpha.specs.Shown.{FailsAt, PairsAsk};
 ghost use Rattle.swc_base_alpha.specs.declared.verdict.Why.TheVariants as why;
 
-use crate::pairs::is_name;
+use crate::pairs::{Found, is_name};
 use std::alloc::{AllocError, Global};
 use std::collections::BTreeMap;
 use swc_tree_marks::{Ident, JsWord, SyntaxContext};
@@ -65,9 +65,6 @@ impl<'a> Partners<'a> {
     }
 }
 
-/// Two of the lists that stand beside one another, if there are such as are looked for.
-pub type Found<'a> = Option<(Site<'a>, Site<'a>)>;
-
 /// The first name that stands beside one with another id than an earlier name of its own id does, with that, if there is such.
 ///
 /// It costs the logarithm of how many ids there are, for each name.
@@ -96,6 +93,10 @@ pub fn first_split<'a>(
 }
 
 /// The first name that has another id than one that stands beside it, of which an earlier had the id.
+///
+/// # Errors
+///
+/// Where memory was refused.
 pub fn first_joined<'a>(
     alloc: Global,
     ones: &[Site<'a>],

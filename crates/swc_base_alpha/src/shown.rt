@@ -30,7 +30,8 @@ fn names_apart(alloc: Global, why: Why, first: Node, second: Node) -> Result<Spa
     let second = resolved_again(alloc, second)?;
     let ones = sites(alloc, &first)?;
     let others = sites(alloc, &second)?;
-    Ok(names_shown(alloc, why, ones.as_slice(), others.as_slice())?)
+    let (ones, others) = (ones.as_slice(), others.as_slice());
+    Ok(names_shown(alloc, Unplaced::IsMade, why, ones, others)?)
 }
 
 // The numbers of the nodes at which it shows, as spans.

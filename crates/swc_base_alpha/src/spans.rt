@@ -22,7 +22,7 @@ pub const NOWHERE: Spans = Spans {
 /// What it says of a node that its span is that of no source text.
 #[derive(Clone, Copy)]
 pub enum Unplaced {
-    /// That a normal form made it, so the span round it stands for it: all others have numbers.
+    /// That a normal form made it, as all that came in has a place: the span round it stands for it, and of a name that of its binding.
     IsMade,
     /// Nothing: it came so.
     IsUnknown,
@@ -59,8 +59,8 @@ pub fn own_span(node: &Node) -> Option<Span>
     }
 }
 
-// The first of two spans, if it is one of source text.
-fn placed(own: Span, round: Span) -> Span
+/// The first of two spans, if it is one of source text.
+pub fn placed(own: Span, round: Span) -> Span
     ensures { result ≡ spec.span_or Unplaced.IsMade round (Some own) }
 {
     if own.lo == 0 && own.hi == 0 {

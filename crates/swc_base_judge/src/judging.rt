@@ -7,7 +7,7 @@ ghost use Rattle.swc_base_alpha.specs.Verdict.{HasPaths, IsJudgeRefusal, IsThere
 
 use crate::judged::Judged;
 use std::alloc::Global;
-use swc_base_alpha::{Cause, Difference, Verdict, difference, why_different};
+use swc_base_alpha::{Cause, Difference, Unplaced, Verdict, difference, why_different};
 use swc_tree::{NoMemory, PassError};
 
 // Where a cause shows, in copies of two programs.
@@ -47,7 +47,7 @@ pub fn judge_programs<P: Judged>(
     }
     let first = before.to_node(alloc)?;
     let second = after.to_node(alloc)?;
-    match why_different(alloc, keep_top, first, second)? {
+    match why_different(alloc, keep_top, Unplaced::IsUnknown, first, second)? {
         None => Ok(Verdict::Same),
         Some(cause) => Ok(Verdict::Differs(place::<P>(alloc, cause, before, after)?)),
     }

@@ -13,5 +13,5 @@ returns-clause-refusal c =
 
 pub returns-clause-shows : goal.returns-clause-shows
 returns-clause-shows c = λ none here there.
-    first_shown c.normal_form_is_clean.ensures c.normal_form_adds_no_types.ensures c.normal_form_is_program.ensures c.types_are_told.ensures c.args.before c.args.after c.in_ok-first.first c.in_ok-second.second
+    first_shown c.normal_form_is_clean.ensures c.normal_form_adds_no_types.ensures c.normal_form_is_program.ensures c.types_are_told.ensures c.args.unplaced c.args.before c.args.after c.in_ok-first.first c.in_ok-second.second
     c.in_ok-first.ensures c.in_ok-second.ensures none here there c.forms_differ.result c.forms_differ.ensures.shows

@@ -28,7 +28,7 @@ returns-clause-decides c = λ here there.
 
 pub returns-clause-shows : goal.returns-clause-shows
 returns-clause-shows c = λ here there.
-    names_show c.args.first c.args.second c.in_ok-first.first c.in_ok-second.second (c.in_ok-first.ensures.resolved here.no_types here.opens) (c.in_ok-second.ensures.resolved there.no_types there.opens)
+    names_show c.args.unplaced c.args.first c.args.second c.in_ok-first.first c.in_ok-second.second (c.in_ok-first.ensures.resolved here.no_types here.opens) (c.in_ok-second.ensures.resolved there.no_types there.opens)
     (record { keep_top = c.args.keep_top; reads = c.args.reads; caught = c.in_ok-caught.caught }) c.as_slice-3.result.now c.as_slice-4.result.now c.as_slice-5.result.now c.as_slice-6.result.now c.in_ok-found.found c.in_ok-cause.cause
     (c.in_ok-first.ensures.outline ∙ c.requires ∙ sym c.in_ok-second.ensures.outline) (ap (map site_of) c.as_slice-3.ensures.value ∙ c.in_ok-ones.ensures.all) (ap (map site_of) c.as_slice-4.ensures.value ∙ c.in_ok-others.ensures.all)
     (ap (map site_of) c.as_slice-5.ensures.value ∙ c.in_ok-ones.ensures.all) (ap (map site_of) c.as_slice-6.ensures.value ∙ c.in_ok-others.ensures.all) c.in_ok-found.ensures c.in_ok-cause.ensures.shown
