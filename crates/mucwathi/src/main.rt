@@ -5,6 +5,7 @@ mod files;
 mod run;
 
 use anyhow::Result;
+use clap::error::ErrorKind;
 use mucwathi_arguments::{Error, read_words};
 use run::{NOT_READ, REFUSED, USAGE, run};
 use std::env;
@@ -24,7 +25,11 @@ fn tell(rt: &HostRuntime, error: &Error) -> u8 {
     if error.print(rt).is_err() {
         return NOT_READ;
     }
-    if error.use_stderr() { USAGE } else { 0 }
+    match error.kind() {
+        ErrorKind::OutOfMemory => REFUSED,
+        ErrorKind::DisplayHelp | ErrorKind::DisplayVersion => 0,
+        _ => USAGE,
+    }
 }
 
 // Does what the words ask, and tells the status to end with.
