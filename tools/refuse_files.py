@@ -45,13 +45,15 @@ def run(words, files, environment):
 
 
 def faults(status, told, found, before, whole):
-    """what is wrong with how a run ended"""
+    """what is wrong with how a run ended: of a file that goes into a folder the folder is told"""
     for name in set(found) | set(whole):
-        is_whole = found.get(name) == whole.get(name)
-        if not is_whole and found.get(name) != before.get(name):
+        if found.get(name) not in (whole.get(name), before.get(name)):
             yield '%s is cut' % name
-        if is_whole and before.get(name) != whole.get(name) and any(line.startswith(name + ': not written') for line in told.split('\n')):
-            yield '%s is written, and told not to be' % name
+    unwritten = [line.split(': not written')[0] for line in told.split('\n') if ': not written' in line]
+    for place in set(unwritten):
+        lacking = [name for name in whole if place in (name, os.path.dirname(name)) and found.get(name) != whole[name]]
+        if len(lacking) < unwritten.count(place):
+            yield '%s is told not to be written, and is' % place
     if (status == 0) != (found == whole) or status not in (0, 4, 5):
         yield 'status %d' % status
 

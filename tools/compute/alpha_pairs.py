@@ -77,12 +77,19 @@ def told(options, words, line):
     return None if answer['same'] else answer['why']
 
 
-def main():
-    parser = argparse.ArgumentParser(description=__doc__, formatter_class=argparse.RawDescriptionHelpFormatter)
+def parser_of(text):
+    """a parser with the options by which pairs are made"""
+    parser = argparse.ArgumentParser(description=text, formatter_class=argparse.RawDescriptionHelpFormatter)
     parser.add_argument('checkout')
     parser.add_argument('--pairs', type=int, default=300)
     parser.add_argument('--seed', type=int, default=1)
     parser.add_argument('--biggest', type=int, default=40)
+    parser.set_defaults(respelled=False)
+    return parser
+
+
+def main():
+    parser = parser_of(__doc__)
     parser.add_argument('--respelled', action='store_true')
     parser.add_argument('--program')
     options = parser.parse_args()

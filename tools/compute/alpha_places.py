@@ -4,7 +4,6 @@ The random pairs of `alpha_pairs.py`, with a span of its own for each node that 
 tells have to lead to the spans that the definitions tell: of the first nodes at which the outlines of the normal forms differ, or of the first two
 identifiers with which it fails what the word asks.
 """
-import argparse
 import collections
 import itertools
 import json
@@ -95,14 +94,9 @@ def fault(options, before, after, keep_top):
 
 
 def main():
-    parser = argparse.ArgumentParser(description=__doc__, formatter_class=argparse.RawDescriptionHelpFormatter)
-    parser.add_argument('checkout')
-    parser.add_argument('--pairs', type=int, default=300)
-    parser.add_argument('--seed', type=int, default=1)
-    parser.add_argument('--biggest', type=int, default=40)
+    parser = alpha_pairs.parser_of(__doc__)
     parser.add_argument('--program', required=True)
     options = parser.parse_args()
-    options.respelled = False
     lawbook.load(options.checkout)
     counts, faults = collections.Counter(), 0
     for _, before, after, keep_top, _ in alpha_pairs.pairs(options):
