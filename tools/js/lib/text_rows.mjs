@@ -1,6 +1,6 @@
 // Holds the rows of crates/gate_text/stdin against acorn's trees: `node tools/js/lib/text_rows.mjs` tells of each row whose answer is
 // another, `--write` writes what acorn has where a row wants `?`. What is refused has to be refused by both, but where
-// the line before a row says `# acorn ..`. How a row is written stands in crates/gate_text_rows/src/lib.rt.
+// the line before a row says `# acorn ..`. How a row is written stands in crates/gate_text/src/main.rt.
 import { readFileSync, writeFileSync } from 'node:fs';
 import { structs } from './table.mjs';
 import { treeOf } from './tree.mjs';

@@ -1,6 +1,6 @@
 use Rattle.std.proofs.Common.{◌∙◌, arith, length-set}
-use Rattle.gate_text_rows.proofs.Others.{set_other}
-use Rattle.gate_text_rows.proofs.shifts.+shift_at.Goals as goal
+use Rattle.gate_text.proofs.Others.{set_other}
+use Rattle.gate_text.proofs.shifts.+shift_at.Goals as goal
 
 pub shift_below-loop-i-preserved : goal.shift_below-loop-i-preserved
 shift_below-loop-i-preserved t c =
